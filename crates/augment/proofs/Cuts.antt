@@ -3,10 +3,10 @@ use Rattle.std.proofs.Common.{ℕ, zero, suc, Bool, true, false, not, ◌==◌, 
 use Rattle.std.proofs.Common.{ap, sym, subst, inl, inr, ◌∙◌}
 use Rattle.std.proofs.lemmas.Bool.{eq-eqb, ne_eqb, eqb-false, not-true, cases_lt, cases_eq, and_from, and_parts}
 use Rattle.std.proofs.lemmas.Bool.{and_right}
-use Rattle.place_sums.specs.Sums.{total, when}
+use Rattle.finite_sums.specs.Sums.{total, when}
 use Rattle.circulation.specs.Network.{Network, IsFlow, IsCut, IsTight, inflow, outflow, enters, leaves, cut_in, cut_out}
-use Rattle.place_sums.proofs.Totals.{total_same, total_le, total_zero, total_add, total_change, total_exchange}
-use Rattle.place_sums.proofs.Totals.{total_pick}
+use Rattle.finite_sums.proofs.Totals.{total_same, total_le, total_zero, total_add, total_change, total_exchange}
+use Rattle.finite_sums.proofs.Totals.{total_pick}
 
 -- a test of a sum is a test of each term
 when-total : (b : Bool) (n : ℕ) (f : ℕ → ℕ) → when b (total n f) ≡ total n (λ k. when b (f k))

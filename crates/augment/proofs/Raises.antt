@@ -1,12 +1,12 @@
 -- What a round and a raise leave.
 use Rattle.std.proofs.Common.{◌≤◌, ◌-◌, ℕ, Bool, not, nat_lt, ◌==◌, ◌&&◌, ◌≡◌, ◌+◌, ◌*◌, ◌<◌, slice_index, arith, ap}
 use Rattle.std.proofs.Common.{sym, subst}
-use Rattle.place_sums.specs.Sums.{when}
+use Rattle.finite_sums.specs.Sums.{when}
 use Rattle.circulation.specs.Network.{IsFlow, HasEnds}
 use Rattle.circulation.specs.Contents.{Contents, network, flow_of, arcs, IsCirculation}
-use Rattle.circulation.specs.Residual.{is_back, IsPushed}
+use Rattle.circulation.specs.Residual.{is_backward, IsPushed}
 use Rattle.augment.specs.Search.{node_at, step_at, IsTree, IsClosed, HasTree, SameButScratch}
-use Rattle.augment.specs.Raised.{open_arcs, HasWayOut, IsGreatestCut, position_of, SameButFlow, not_reached}
+use Rattle.augment.specs.Raised.{open_arcs, HasPathOut, IsGreatestCut, position_of, SameButFlow, not_reached}
 use Rattle.augment.proofs.Trees.{tight_cut, greatest_cut}
 use Rattle.augment.proofs.Rises.{remaining_rise}
 use Rattle.augment.proofs.Visits.{arc-forward, way-forward}
@@ -18,7 +18,7 @@ over_same c d r least size rest t = subst
     (λ (x : Contents). IsTree (network x) (flow_of x) r least (position_of d) (node_at d) (step_at d) size) rest t
 
 -- a search over rooms of 1 that misses the tail leaves the greatest tight cut
-pub stopped_cut : (c d : Contents) (r size : ℕ) → r < arcs c → SameButScratch c d → HasWayOut (network c) r →
+pub stopped_cut : (c d : Contents) (r size : ℕ) → r < arcs c → SameButScratch c d → HasPathOut (network c) r →
     IsCirculation d → HasTree d r 1 size → position_of d (slice_index c.from r) ≡ 0 →
     IsClosed (network c) (flow_of c) r 1 (position_of d) → IsGreatestCut (network c) (flow_of c) r (not_reached d)
 stopped_cut c d r size b rest way kept t none closed =
@@ -40,8 +40,8 @@ pushed_first old new step first last amount r p b is =
     let arc = arc-forward r (step first) is in
     let way = way-forward r (step first) is in
     let on = p.on first (omega arith) b in
-    let at = subst (λ (a : ℕ). new a + when (is_back (step first)) amount ≡ old a + when
-    (not (is_back (step first))) amount) arc on in
+    let at = subst (λ (a : ℕ). new a + when (is_backward (step first)) amount ≡ old a + when
+    (not (is_backward (step first))) amount) arc on in
     let done = subst (λ (t : Bool). new r + when t amount ≡ old r + when (not t) amount) way at in
     omega (arith, done)
 

@@ -5,9 +5,9 @@ use Rattle.std.proofs.Math.Nat.{mul-le-mul_left, mul-le-mul_right, pow-suc}
 use Rattle.std.proofs.Math.Pow.{pow_mono}
 use Rattle.std.proofs.lemmas.Bool.{eq-eqb, ne_eqb, eqb-false, lt-ltb, le-ltb, ltb-true, not-true, cases_lt, cases_eq}
 use Rattle.std.proofs.lemmas.Bool.{and_from, and_parts, and_right, and_left, both_ways}
-use Rattle.place_sums.specs.Sums.{total, when}
+use Rattle.finite_sums.specs.Sums.{total, when}
 use Rattle.circulation.specs.Network.{Network, IsFlow, HasEnds, enters, leaves}
-use Rattle.place_sums.proofs.Totals.{total_le, total_add, total_change, term_le_total}
+use Rattle.finite_sums.proofs.Totals.{total_le, total_add, total_change, term_le_total}
 use Rattle.augment.specs.Raised.{open_arcs}
 use Rattle.augment.specs.Search.{IsTree, IsClosed}
 use Rattle.augment.proofs.Cuts.{crossing}

@@ -3,7 +3,7 @@ use Rattle.std.proofs.Common.{ℕ, Bool, true, false, ◌≡◌, ◌≢◌, ◌+
 use Rattle.std.proofs.Common.{arith, ap, sym, subst, ◌∙◌}
 use Rattle.std.proofs.lemmas.Bool.{eq-eqb, ne_eqb}
 use Rattle.circulation.specs.Network.{Network}
-use Rattle.circulation.specs.Residual.{arc_of, is_back, by_way, start_of, end_of, room_of}
+use Rattle.circulation.specs.Residual.{arc_of, is_backward, by_direction, start_of, end_of, room_of}
 use Rattle.circulation.specs.Contents.{Contents, network, flow_of, arcs, IsCirculation}
 use Rattle.augment.specs.Search.{HasTree, IsTried, IsExpanded, IsVisitedBy, Grows}
 use Rattle.augment.specs.Raised.{position_of}
@@ -30,11 +30,11 @@ expanded_out : (w : Network) (g : ℕ → ℕ) (r least a : ℕ) (position : ℕ
     IsTried w g r least position (2 * a) → a ≢ r → g a + least ≤ w.upper a → 0 < position (w.to a)
 expanded_out w g r least a position tried ne room =
     let arc : arc_of (2 * a) ≡ a = omega arith in
-    let forth : is_back (2 * a) ≡ false = ne_eqb (2 * a % 2) 1 (λ e. absurd (omega (arith, e))) in
+    let forth : is_backward (2 * a) ≡ false = ne_eqb (2 * a % 2) 1 (λ e. absurd (omega (arith, e))) in
     let end : end_of w (2 * a) ≡ w.to a =
-    ap (λ (t : Bool). by_way t (w.to (arc_of (2 * a))) (w.from (arc_of (2 * a)))) forth ∙ ap w.to arc in
+    ap (λ (t : Bool). by_direction t (w.to (arc_of (2 * a))) (w.from (arc_of (2 * a)))) forth ∙ ap w.to arc in
     let some : room_of w g (2 * a) ≡ w.upper a - g a =
-    ap (λ (t : Bool). by_way t (w.upper (arc_of (2 * a)) - g (arc_of (2 * a)))
+    ap (λ (t : Bool). by_direction t (w.upper (arc_of (2 * a)) - g (arc_of (2 * a)))
     (g (arc_of (2 * a)) - w.lower (arc_of (2 * a)))) forth
     ∙ ap (λ (x : ℕ). w.upper x - g x) arc in
     subst (λ (v : ℕ). 0 < position v) end (tried (λ e. ne (sym arc ∙ e)) (omega (arith, some, room)))
@@ -43,11 +43,11 @@ expanded_in : (w : Network) (g : ℕ → ℕ) (r least a : ℕ) (position : ℕ 
     IsTried w g r least position (2 * a + 1) → a ≢ r → w.lower a + least ≤ g a → 0 < position (w.from a)
 expanded_in w g r least a position tried ne room =
     let arc : arc_of (2 * a + 1) ≡ a = omega arith in
-    let back : is_back (2 * a + 1) ≡ true = eq-eqb ((2 * a + 1) % 2) 1 (omega arith) in
+    let back : is_backward (2 * a + 1) ≡ true = eq-eqb ((2 * a + 1) % 2) 1 (omega arith) in
     let end : end_of w (2 * a + 1) ≡ w.from a =
-    ap (λ (t : Bool). by_way t (w.to (arc_of (2 * a + 1))) (w.from (arc_of (2 * a + 1)))) back ∙ ap w.from arc in
+    ap (λ (t : Bool). by_direction t (w.to (arc_of (2 * a + 1))) (w.from (arc_of (2 * a + 1)))) back ∙ ap w.from arc in
     let some : room_of w g (2 * a + 1) ≡ g a - w.lower a =
-    ap (λ (t : Bool). by_way t (w.upper (arc_of (2 * a + 1)) - g (arc_of (2 * a + 1)))
+    ap (λ (t : Bool). by_direction t (w.upper (arc_of (2 * a + 1)) - g (arc_of (2 * a + 1)))
     (g (arc_of (2 * a + 1)) - w.lower (arc_of (2 * a + 1)))) back
     ∙ ap (λ (x : ℕ). g x - w.lower x) arc in
     subst (λ (v : ℕ). 0 < position v) end (tried (λ e. ne (sym arc ∙ e)) (omega (arith, some, room)))
@@ -56,14 +56,14 @@ expanded_in w g r least a position tried ne room =
 start_out : (w : Network) (a : ℕ) → start_of w (2 * a) ≡ w.from a
 start_out w a =
     let arc : arc_of (2 * a) ≡ a = omega arith in
-    ap (λ (t : Bool). by_way t (w.from (arc_of (2 * a))) (w.to (arc_of (2 * a))))
+    ap (λ (t : Bool). by_direction t (w.from (arc_of (2 * a))) (w.to (arc_of (2 * a))))
     (ne_eqb (2 * a % 2) 1 (λ e. absurd (omega (arith, e))))
     ∙ ap w.from arc
 
 start_in : (w : Network) (a : ℕ) → start_of w (2 * a + 1) ≡ w.to a
 start_in w a =
     let arc : arc_of (2 * a + 1) ≡ a = omega arith in
-    ap (λ (t : Bool). by_way t (w.from (arc_of (2 * a + 1))) (w.to (arc_of (2 * a + 1))))
+    ap (λ (t : Bool). by_direction t (w.from (arc_of (2 * a + 1))) (w.to (arc_of (2 * a + 1))))
     (eq-eqb ((2 * a + 1) % 2) 1 (omega arith))
     ∙ ap w.to arc
 

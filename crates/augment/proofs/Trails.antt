@@ -5,7 +5,7 @@ use Rattle.std.proofs.lemmas.Bool.{cases_eq, cases_lt}
 use Rattle.std.proofs.lemmas.List.{get_or-set_other, get_or-set_same}
 use Rattle.circulation.specs.Network.{Network, HasEnds}
 use Rattle.circulation.specs.Contents.{Contents, network, flow_of, arcs, step_of}
-use Rattle.circulation.specs.Residual.{arc_of, is_back, by_way, start_of, end_of, room_of, IsClosedWalk}
+use Rattle.circulation.specs.Residual.{arc_of, is_backward, by_direction, start_of, end_of, room_of, IsClosedWalk}
 use Rattle.augment.specs.Search.{IsTree, HasTree, node_at, step_at}
 use Rattle.augment.specs.Raised.{position_of}
 use Rattle.augment.proofs.Trees.{start_within, tree_size}
@@ -55,7 +55,8 @@ trail_start w g r most position step last inside marked space positive = record 
 }
 
 -- two steps over one arc have the same ends
-same_ends : (p q : Bool) (x y : ℕ) → (by_way p x y ≡ by_way q x y) ⊎ (by_way p x y ≡ by_way q y x)
+same_ends : (p q : Bool) (x y : ℕ) → (by_direction p x y ≡ by_direction q x y) ⊎
+    (by_direction p x y ≡ by_direction q y x)
 same_ends true true x y = inl refl
 same_ends true false x y = inr refl
 same_ends false true x y = inr refl
@@ -65,9 +66,9 @@ same_ends false false x y = inl refl
 start_is_end : (w : Network) (s t : ℕ) → arc_of s ≡ arc_of t →
     (start_of w s ≡ start_of w t) ⊎ (start_of w s ≡ end_of w t)
 start_is_end w s t e =
-    let P : ℕ → Type 0 = λ a. (by_way (is_back s) (w.from a) (w.to a) ≡ start_of w t) ⊎
-    (by_way (is_back s) (w.from a) (w.to a) ≡ end_of w t) in
-    subst P (sym e) (same_ends (is_back s) (is_back t) (w.from (arc_of t)) (w.to (arc_of t)))
+    let P : ℕ → Type 0 = λ a. (by_direction (is_backward s) (w.from a) (w.to a) ≡ start_of w t) ⊎
+    (by_direction (is_backward s) (w.from a) (w.to a) ≡ end_of w t) in
+    subst P (sym e) (same_ends (is_backward s) (is_backward t) (w.from (arc_of t)) (w.to (arc_of t)))
 
 -- the lesser of two is at most the first
 min_left : (x y : ℕ) → min x y ≤ x
@@ -181,13 +182,15 @@ pub trail_closed : (w : Network) (g : ℕ → ℕ) (r most : ℕ) (position step
     step' first' ≡ s → ((i : ℕ) → first ≤ i → step' i ≡ step i) → IsClosedWalk w g step' first' last amount
 trail_closed w g r most position step step' first first' last amount s ends b is t most_fits step_is at others =
     let arc : arc_of (step' first') ≡ r = ap arc_of at ∙ arc-forward r s step_is in
-    let way : is_back (step' first') ≡ false = ap is_back at ∙ way-forward r s step_is in
+    let way : is_backward (step' first') ≡ false = ap is_backward at ∙ way-forward r s step_is in
     let starts : start_of w (step' first') ≡ w.from r =
-    ap (λ (p : Bool). by_way p (w.from (arc_of (step' first'))) (w.to (arc_of (step' first')))) way ∙ ap w.from arc in
+    ap (λ (p : Bool). by_direction p (w.from (arc_of (step' first'))) (w.to (arc_of (step' first')))) way ∙
+    ap w.from arc in
     let arrives : end_of w (step' first') ≡ w.to r =
-    ap (λ (p : Bool). by_way p (w.to (arc_of (step' first'))) (w.from (arc_of (step' first')))) way ∙ ap w.to arc in
+    ap (λ (p : Bool). by_direction p (w.to (arc_of (step' first'))) (w.from (arc_of (step' first')))) way ∙
+    ap w.to arc in
     let own_room : room_of w g (step' first') ≡ w.upper r - g r =
-    ap (λ (p : Bool). by_way p (w.upper (arc_of (step' first')) - g (arc_of (step' first')))
+    ap (λ (p : Bool). by_direction p (w.upper (arc_of (step' first')) - g (arc_of (step' first')))
     (g (arc_of (step' first')) - w.lower (arc_of (step' first')))) way ∙ ap (λ (a : ℕ). w.upper a - g a) arc in
     record {
       some = omega (arith, t.within);

@@ -4,13 +4,13 @@ use Rattle.std.proofs.Common.{List, [], ◌∷◌, refl, arith, ap, sym, subst, 
 use Rattle.std.proofs.lemmas.Bool.{eq-eqb, ne_eqb, eqb-true, eqb-false, lt-ltb, le-ltb, ltb-true, ltb-false, not-true}
 use Rattle.std.proofs.lemmas.Bool.{cases_lt, cases_eq, cases_Bool, and_from, and_parts, and_cases, and_left, and_right}
 use Rattle.std.proofs.lemmas.Bool.{both_ways}
-use Rattle.place_sums.specs.Sums.{total, when}
+use Rattle.finite_sums.specs.Sums.{total, when}
 use Rattle.circulation.specs.Network.{Network, IsFlow, HasEnds, IsTight, LeadsOut}
-use Rattle.circulation.specs.Residual.{arc_of, is_back, by_way, start_of}
-use Rattle.place_sums.proofs.Totals.{total_change, total_most, total_pick}
-use Rattle.circulation.proofs.Scans.{by_way_both}
+use Rattle.circulation.specs.Residual.{arc_of, is_backward, by_direction, start_of}
+use Rattle.finite_sums.proofs.Totals.{total_change, total_most, total_pick}
+use Rattle.circulation.proofs.Scans.{by_direction_both}
 use Rattle.augment.specs.Search.{IsBranch, IsTree, IsClosed, Grows}
-use Rattle.augment.specs.Raised.{HasWayOut}
+use Rattle.augment.specs.Raised.{HasPathOut}
 use Rattle.augment.proofs.Cuts.{IsSaturated, tight-from_closed, saturated-from_tight}
 
 -- a test counts at most 1
@@ -72,7 +72,7 @@ tree_start w g r least position node step b root here none = record {
 
 -- a step starts at a node
 pub start_within : (w : Network) (s : ℕ) → HasEnds w → arc_of s < w.arcs → start_of w s ≤ w.nodes
-start_within w s ends b = by_way_both (is_back s) (w.from (arc_of s)) (w.to (arc_of s)) w.nodes
+start_within w s ends b = by_direction_both (is_backward s) (w.from (arc_of s)) (w.to (arc_of s)) w.nodes
     (ends.from_in (arc_of s) b) (ends.to_in (arc_of s) b)
 
 -- a branch stays when more nodes are reached
@@ -144,7 +144,7 @@ tree_next w g r least old position node node' step step' size s v ends t b none 
       ];
     }
 
--- one more node is behind those before
+-- one more node is after those before
 pub grows_next : (nodes : ℕ) (old new : ℕ → ℕ) (size v : ℕ) → old v ≡ 0 → new v ≡ size + 1 →
     ((u : ℕ) → u ≤ nodes → u ≢ v → new u ≡ old u) → Grows nodes old new size (size + 1)
 grows_next nodes old new size v none here others = record {
@@ -211,7 +211,7 @@ not_in_set nodes position v b out e = elim (and_cases (nat_lt v nodes) (position
 
 -- where the search reached all that it could and not the tail, the nodes that it did not reach are a tight cut
 pub tight_cut : (w : Network) (g : ℕ → ℕ) (r : ℕ) (position node step : ℕ → ℕ) (size : ℕ) → r < w.arcs → HasEnds w →
-    IsFlow w g → HasWayOut w r → IsTree w g r 1 position node step size → IsClosed w g r 1 position →
+    IsFlow w g → HasPathOut w r → IsTree w g r 1 position node step size → IsClosed w g r 1 position →
     position (w.from r) ≡ 0 → IsTight w g r (λ v. nat_lt v w.nodes && (position v == 0))
 tight_cut w g r position node step size b ends flow way t closed none =
     let head : 0 < position (w.to r) = omega (arith, ap position t.root, (t.placed 0 t.some).1) in
@@ -266,8 +266,8 @@ tight_cut w g r position node step size b ends flow way t closed none =
 
 -- no step with room leads into a set whose arcs have none
 blocked : (back : Bool) (w : Network) (g : ℕ → ℕ) (r least a : ℕ) (z : ℕ → Bool) → IsSaturated w g r z → a < w.arcs →
-    a ≢ r → 0 < least → z (by_way back (w.from a) (w.to a)) ≡ false →
-    least ≤ by_way back (w.upper a - g a) (g a - w.lower a) → z (by_way back (w.to a) (w.from a)) ≡ false
+    a ≢ r → 0 < least → z (by_direction back (w.from a) (w.to a)) ≡ false →
+    least ≤ by_direction back (w.upper a - g a) (g a - w.lower a) → z (by_direction back (w.to a) (w.from a)) ≡ false
 blocked false w g r least a z s b ne p out room = elim (cases_Bool (z (w.to a))) [
   | inl e ↦ absurd (omega (arith, s.full a b (and_from (z (w.to a)) (not (z (w.from a))) e (ap not out))))
   | inr e ↦ e
@@ -292,7 +292,7 @@ reached_outside (suc n) w g r position node step size z ends t s head k b c = el
       (position (start_of w (step k)) - 1) (omega (arith, branch.marked, branch.before))
       (omega (arith, branch.marked, there.0)) in
       let start : z (start_of w (step k)) ≡ false = sym (ap z there.1) ∙ earlier in
-      sym (ap z branch.enters) ∙ blocked (is_back (step k)) w g r 1 (arc_of (step k)) z s branch.arc branch.other
+      sym (ap z branch.enters) ∙ blocked (is_backward (step k)) w g r 1 (arc_of (step k)) z s branch.arc branch.other
       (omega arith) start branch.room
 ]
 

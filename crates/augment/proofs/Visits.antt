@@ -4,7 +4,7 @@ use Rattle.std.proofs.Common.{slice_set, refl, arith, sym, subst, inl, inr, ◌�
 use Rattle.std.proofs.lemmas.Bool.{cases_eq, eq-eqb, ne_eqb}
 use Rattle.std.proofs.lemmas.List.{get_or-set_other, get_or-set_same, length-set}
 use Rattle.circulation.specs.Contents.{Contents, network, flow_of, arcs, IsCirculation}
-use Rattle.circulation.specs.Residual.{arc_of, is_back, start_of, end_of, room_of}
+use Rattle.circulation.specs.Residual.{arc_of, is_backward, start_of, end_of, room_of}
 use Rattle.augment.specs.Search.{node_at, step_at, HasTree, IsVisitedBy}
 use Rattle.augment.specs.Raised.{position_of}
 use Rattle.augment.proofs.Trees.{tree_next, grows_next, grows_none, start_within}
@@ -132,9 +132,9 @@ pub arc-forward : (a s : ℕ) → s ≡ 2 * a → arc_of s ≡ a
 arc-forward a s e = omega arith
 
 -- a forward step is forward
-pub way-forward : (a s : ℕ) → s ≡ 2 * a → is_back s ≡ false
+pub way-forward : (a s : ℕ) → s ≡ 2 * a → is_backward s ≡ false
 way-forward a s e = ne_eqb (s % 2) 1 (λ f. absurd (omega arith))
 
 -- a backward step is backward
-pub way-back : (a s : ℕ) → s ≡ 2 * a + 1 → is_back s ≡ true
+pub way-back : (a s : ℕ) → s ≡ 2 * a + 1 → is_backward s ≡ true
 way-back a s e = eq-eqb (s % 2) 1 (omega arith)

@@ -1,11 +1,11 @@
 -- What a raise answers and leaves.
 use Rattle.std.specs.Prelude.{ℕ, ◌≡◌, ◌<◌, ◌≤◌, nat_lt, ◌==◌, ◌&&◌, true, Bool, List, slice_index}
-use Rattle.place_sums.specs.Sums.{total, when}
+use Rattle.finite_sums.specs.Sums.{total, when}
 use Rattle.circulation.specs.Network.{Network, IsFlow, IsTight, LeadsOut}
 use Rattle.circulation.specs.Contents.{Contents}
 
 -- the head of the arc r is the outside node, or a path leads from it there that has forward room in every flow
-pub record HasWayOut (w : Network) (r : ℕ) : Type 0 where
+pub record HasPathOut (w : Network) (r : ℕ) : Type 0 where
   pub path : List ℕ
   pub leads : LeadsOut w r (w.to r) path
 

@@ -1,6 +1,6 @@
 -- A search through the residual graph, by the words in which it keeps what it reached.
 use Rattle.std.specs.Prelude.{ℕ, ◌≡◌, ◌≢◌, ◌+◌, ◌-◌, ◌*◌, ◌<◌, ◌≤◌, nat_lt, slice_index, slice_set}
-use Rattle.place_sums.specs.Sums.{total, when}
+use Rattle.finite_sums.specs.Sums.{total, when}
 use Rattle.circulation.specs.Network.{Network}
 use Rattle.circulation.specs.Contents.{Contents, network, flow_of}
 use Rattle.circulation.specs.Residual.{arc_of, start_of, end_of, room_of}
@@ -53,7 +53,7 @@ pub record IsExpanded (w : Network) (g : ℕ → ℕ) (r least : ℕ) (position 
 abbrev pub IsClosed : Network → (ℕ → ℕ) → ℕ → ℕ → (ℕ → ℕ) → Type 0
 IsClosed w g r least position = (v : ℕ) → v ≤ w.nodes → 0 < position v → IsExpanded w g r least position v
 
--- nodes may have been added, each behind those that were there
+-- nodes may have been added, each after those that were there
 pub record Grows (nodes : ℕ) (old new : ℕ → ℕ) (size more : ℕ) : Type 0 where
   pub same : (v : ℕ) → v ≤ nodes → 0 < old v → new v ≡ old v
   pub fresh : (v : ℕ) → v ≤ nodes → old v ≡ 0 → 0 < new v → size < new v

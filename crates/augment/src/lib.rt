@@ -12,7 +12,7 @@
 
 ghost use Rattle.std.specs.Prelude.{◌≡◌, ◌+◌, ◌*◌, ◌<◌, ◌≤◌, slice_index, IsTrue, ◌↔◌};
 ghost use Rattle.circulation.specs.Contents.{arcs, flow_of, network, IsCirculation};
-ghost use Rattle.augment.specs.Raised.{HasWayOut, open_arcs, CanCarry, CarriesAtMost, IsGreatestCut, IsReached};
+ghost use Rattle.augment.specs.Raised.{HasPathOut, open_arcs, CanCarry, CarriesAtMost, IsGreatestCut, IsReached};
 ghost use Rattle.augment.specs.Raised.{SameButFlow, not_reached};
 
 mod raising;
@@ -22,13 +22,13 @@ mod tracing;
 
 use crate::raising::run_phases;
 use crate::scratch::position;
-use circulation::Lent;
+use circulation::CirculationMut;
 use std::sync::ledger::Ledger;
 use steps::Steps;
 
 /// Whether the last search of `raise` came to a node, as long as no scratch word was written since.
 /// After Stopped the basin nodes to which it did not come are the greatest tight cut of the arc.
-pub fn reached(circ: &Lent<'_>, node: u32) -> bool
+pub fn reached(circ: &CirculationMut<'_>, node: u32) -> bool
     requires { node ≤ circ.now.nodes }
     ensures { IsTrue result ↔ IsReached circ.now node }
 {
@@ -49,10 +49,15 @@ pub enum Raised {
 /// Raises the flow on an arc to `want`, or to the greatest that the bounds allow, in units of 1,000 cubic
 /// metres. Supplies and bounds stay. Where the flow is at least `want` already, nothing changes and
 /// the answer is Met. Each search that finds a walk ticks `searches` once, and nothing else does.
-pub fn raise<L: Ledger>(circ: &mut Lent<'_>, arc: u32, want: u64, searches: &mut Steps<L>) -> Raised
+pub fn raise<L: Ledger>(
+    circ: &mut CirculationMut<'_>,
+    arc: u32,
+    want: u64,
+    searches: &mut Steps<L>,
+) -> Raised
     requires arc { arc < arcs circ.old }
     requires want { want ≤ slice_index circ.old.upper arc }
-    requires way_out { HasWayOut (network circ.old) arc }
+    requires path_out { HasPathOut (network circ.old) arc }
 
     ensures kept { IsCirculation circ.new }
     ensures rest { SameButFlow circ.old circ.new }

@@ -3,19 +3,19 @@ ghost use Rattle.std.specs.Prelude.{min, ◌≡◌, true, false, ℕ, ◌+◌, �
 ghost use Rattle.circulation.specs.Contents.{arcs, flow_of, network, IsCirculation};
 ghost use Rattle.circulation.specs.Network.{IsFlow};
 ghost use Rattle.augment.specs.Search.{SameButScratch};
-ghost use Rattle.augment.specs.Raised.{HasWayOut, open_arcs, CarriesAtMost, IsGreatestCut, SameButFlow, not_reached};
+ghost use Rattle.augment.specs.Raised.{HasPathOut, open_arcs, CarriesAtMost, IsGreatestCut, SameButFlow, not_reached};
 
 use crate::reached;
 use crate::searching::search;
 use crate::tracing::trace;
-use circulation::Lent;
+use circulation::CirculationMut;
 use std::sync::ledger::Ledger;
 use steps::Steps;
 
 /// One search over rooms of at least `least`, and one push along the walk that it finds. Answers whether
 /// it found one.
 fn round<L: Ledger>(
-    circ: &mut Lent<'_>,
+    circ: &mut CirculationMut<'_>,
     arc: u32,
     want: u64,
     least: u64,
@@ -25,7 +25,7 @@ fn round<L: Ledger>(
     requires want { want ≤ slice_index circ.old.upper arc }
     requires less { flow_of circ.old arc < want }
     requires least { 0 < least }
-    requires way_out { HasWayOut (network circ.old) arc }
+    requires path_out { HasPathOut (network circ.old) arc }
     requires kept { IsCirculation circ.old }
     ensures kept { IsCirculation circ.new }
     ensures rest { SameButFlow circ.old circ.new }
@@ -54,10 +54,16 @@ fn round<L: Ledger>(
 
 /// One phase: raises the flow over rooms of at least `least`, until it is what is wanted or no walk is
 /// left. Then it can rise by less than `least` for each arc that may carry anything, so the next phase has few pushes.
-fn phase<L: Ledger>(circ: &mut Lent<'_>, arc: u32, want: u64, least: u64, searches: &mut Steps<L>)
+fn phase<L: Ledger>(
+    circ: &mut CirculationMut<'_>,
+    arc: u32,
+    want: u64,
+    least: u64,
+    searches: &mut Steps<L>,
+)
     requires arc { arc < arcs circ.old }
     requires want { want ≤ slice_index circ.old.upper arc }
-    requires way_out { HasWayOut (network circ.old) arc }
+    requires path_out { HasPathOut (network circ.old) arc }
     requires limit { flow_of circ.old arc ≤ want }
     requires least { 0 < least }
     requires rise { (h : ℕ → ℕ) → IsFlow (network circ.old) h → h arc ≤ want →
@@ -100,7 +106,7 @@ fn first_phase(missing: u64) -> (u64, u32)
 
 /// All phases of a raise, each with half the room of the one before.
 pub fn run_phases<L: Ledger>(
-    circ: &mut Lent<'_>,
+    circ: &mut CirculationMut<'_>,
     arc: u32,
     want: u64,
     missing: u64,
@@ -108,7 +114,7 @@ pub fn run_phases<L: Ledger>(
 )
     requires arc { arc < arcs circ.old }
     requires want { want ≤ slice_index circ.old.upper arc }
-    requires way_out { HasWayOut (network circ.old) arc }
+    requires path_out { HasPathOut (network circ.old) arc }
     requires some { 0 < missing }
     requires missing { flow_of circ.old arc + missing ≡ want }
     requires kept { IsCirculation circ.old }

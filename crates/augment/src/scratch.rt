@@ -4,10 +4,10 @@ ghost use Rattle.circulation.specs.Contents.{step_of, IsCirculation};
 ghost use Rattle.augment.specs.Search.{with_node, SameButScratch};
 ghost use Rattle.augment.specs.Raised.{position_of};
 
-use circulation::Lent;
+use circulation::CirculationMut;
 
 /// A scratch word.
-pub fn word(circ: &Lent<'_>, at: usize) -> u64
+pub fn word(circ: &CirculationMut<'_>, at: usize) -> u64
     requires at { at < 4 * circ.now.nodes + 8 }
     requires kept { IsCirculation circ.now }
     ensures { result ≡ step_of circ.now at }
@@ -16,7 +16,7 @@ pub fn word(circ: &Lent<'_>, at: usize) -> u64
 }
 
 /// Writes a scratch word.
-pub fn set_word(circ: &mut Lent<'_>, at: usize, value: u64)
+pub fn set_word(circ: &mut CirculationMut<'_>, at: usize, value: u64)
     requires at { at < 4 * circ.old.nodes + 8 }
     requires kept { IsCirculation circ.old }
     ensures kept { IsCirculation circ.new }
@@ -26,7 +26,7 @@ pub fn set_word(circ: &mut Lent<'_>, at: usize, value: u64)
 }
 
 /// The position of a node among those reached, from 1 on, or 0 for a node that was not reached.
-pub fn position(circ: &Lent<'_>, node: u32) -> u64
+pub fn position(circ: &CirculationMut<'_>, node: u32) -> u64
     requires node { node ≤ circ.now.nodes }
     requires kept { IsCirculation circ.now }
     ensures { result ≡ position_of circ.now node }
@@ -35,7 +35,7 @@ pub fn position(circ: &Lent<'_>, node: u32) -> u64
 }
 
 /// Reaches a node by a step, unless it was reached before. Takes and answers how many were reached.
-pub fn visit(circ: &mut Lent<'_>, node: u32, step: u64, size: usize) -> usize
+pub fn visit(circ: &mut CirculationMut<'_>, node: u32, step: u64, size: usize) -> usize
     requires node { node ≤ circ.old.nodes }
     requires room { position_of circ.old node ≡ 0 → size ≤ circ.old.nodes }
     requires kept { IsCirculation circ.old }
@@ -56,7 +56,7 @@ pub fn visit(circ: &mut Lent<'_>, node: u32, step: u64, size: usize) -> usize
 }
 
 /// Marks no node as reached.
-pub fn clear(circ: &mut Lent<'_>)
+pub fn clear(circ: &mut CirculationMut<'_>)
     requires kept { IsCirculation circ.old }
     ensures kept { IsCirculation circ.new }
     ensures rest { SameButScratch circ.old circ.new }

@@ -6,11 +6,18 @@ ghost use Rattle.augment.specs.Search.{IsTried, IsExpanded, IsClosed, HasTree, I
 ghost use Rattle.augment.specs.Raised.{position_of, IsReached};
 
 use crate::scratch::{clear, position, visit, word};
-use circulation::Lent;
+use circulation::CirculationMut;
 use circulation::residual::{arc_of_step, room};
 
 /// Visits the node that a step enters, if the step has enough room and doesn't go over `arc`.
-fn try_step(circ: &mut Lent<'_>, arc: u32, least: u64, step: u64, end: u32, size: usize) -> usize
+fn try_step(
+    circ: &mut CirculationMut<'_>,
+    arc: u32,
+    least: u64,
+    step: u64,
+    end: u32,
+    size: usize,
+) -> usize
     requires step { arc_of step < arcs circ.old }
     requires end { end_of (network circ.old) step ≡ end }
     requires marked { IsReached circ.old (start_of (network circ.old) step) }
@@ -33,7 +40,7 @@ fn try_step(circ: &mut Lent<'_>, arc: u32, least: u64, step: u64, end: u32, size
 }
 
 /// Visits the nodes to which the steps of a node's row lead, until the tail of `arc` is reached.
-fn scan(circ: &mut Lent<'_>, arc: u32, least: u64, node: u32, size: usize) -> usize
+fn scan(circ: &mut CirculationMut<'_>, arc: u32, least: u64, node: u32, size: usize) -> usize
     requires arc { arc < arcs circ.old }
     requires node { node ≤ circ.old.nodes }
     requires marked { IsReached circ.old node }
@@ -57,7 +64,7 @@ fn scan(circ: &mut Lent<'_>, arc: u32, least: u64, node: u32, size: usize) -> us
 }
 
 /// Reaches the head of the arc alone.
-fn plant(circ: &mut Lent<'_>, arc: u32, least: u64)
+fn plant(circ: &mut CirculationMut<'_>, arc: u32, least: u64)
     requires arc { arc < arcs circ.old }
     requires kept { IsCirculation circ.old }
     ensures kept { IsCirculation circ.new }
@@ -73,7 +80,7 @@ fn plant(circ: &mut Lent<'_>, arc: u32, least: u64)
 /// Searches over rooms of at least `least` from the head of an arc, never over the arc itself, until
 /// its tail is reached or nothing more can be. Nodes are scanned in the order in which they were
 /// reached. The answer is how many were reached.
-pub fn search(circ: &mut Lent<'_>, arc: u32, least: u64) -> usize
+pub fn search(circ: &mut CirculationMut<'_>, arc: u32, least: u64) -> usize
     requires arc { arc < arcs circ.old }
     requires kept { IsCirculation circ.old }
     ensures kept { IsCirculation circ.new }

@@ -6,7 +6,7 @@ ghost use Rattle.augment.specs.Search.{HasTree, SameButScratch};
 ghost use Rattle.augment.specs.Raised.{IsReached};
 
 use crate::scratch::{position, set_word, word};
-use circulation::Lent;
+use circulation::CirculationMut;
 use circulation::residual::{room, start};
 
 /// Where a walk begins among the scratch words, up to their end, and how much it can carry.
@@ -18,7 +18,7 @@ pub struct Walk {
 
 /// Writes the walk that goes over the arc and then along the tree from its head to its tail. It carries
 /// the least of its rooms, and at most `most`.
-pub fn trace(circ: &mut Lent<'_>, arc: u32, most: u64) -> Walk
+pub fn trace(circ: &mut CirculationMut<'_>, arc: u32, most: u64) -> Walk
     requires arc { arc < arcs circ.old }
     requires positive { 0 < most }
     requires most { flow_of circ.old arc + most ≤ slice_index circ.old.upper arc }

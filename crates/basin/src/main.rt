@@ -20,7 +20,7 @@ use std::sync::ledger::{Blank, Ledger};
 use steps::Steps;
 use water_edge::{FileShelf, Shelf, Sink, StdSink};
 
-/// The words behind the program's name. None of them where one is no text.
+/// The words after the program's name. None of them where one is no text.
 fn words<R: Env + AllocGlobal>(rt: &R) -> Result<Vec<String>, ()> {
     let mut words = Vec::new(rt.alloc());
     match std::env::args(rt) {
@@ -53,14 +53,14 @@ fn serve<S: Shelf, K: Sink, E: Sink, L: Ledger>(
 ) -> ExitCode
     requires { ServesFiles (S.serves shelf.old) (command_of (map string_bytes words.now)) }
     ensures { (status : Status) × (exit_status result ≡ code_of status)
-        × Ends (command_of (map string_bytes words.now)) status (S.told shelf.old)
+        × Ends (command_of (map string_bytes words.now)) status (S.known shelf.old)
         (Rose (S.faults shelf.old) (S.faults shelf.new)) (Rose (K.faults out.old) (K.faults out.new))
         (E.taken err.old) (E.taken err.new) (E.faults err.old) (E.faults err.new)
-        × Completes (command_of (map string_bytes words.now)) status (S.told shelf.old)
+        × Completes (command_of (map string_bytes words.now)) status (S.known shelf.old)
         (Rose (S.faults shelf.old) (S.faults shelf.new)) (Rose (K.faults out.old) (K.faults out.new))
-        × WritesFor (command_of (map string_bytes words.now)) status (S.told shelf.old) (K.taken out.old)
+        × WritesFor (command_of (map string_bytes words.now)) status (S.known shelf.old) (K.taken out.old)
         (K.taken out.new) searches.old searches.new
-        × (IsQuiet status → K.handed out.new ≡ K.taken out.new) }
+        × (IsQuiet status → K.flushed out.new ≡ K.taken out.new) }
 {
     let status = basin_main(alloc, words, shelf, out, err, searches);
     ExitCode::from(status.code())

@@ -1,4 +1,4 @@
--- Behind the files of `why`: the cause of how it ends, what it leaves on out, and its pushes.
+-- After the files of `why`: the cause of how it ends, what it leaves on out, and its pushes.
 use Rattle.std.proofs.Common.{◌≡◌, ℕ, ◌≤◌, sym, ◌∙◌, subst, arith, List, [], ◌∷◌, Option, Some, None}
 use Rattle.std.proofs.Common.{length-append}
 use Rattle.std.specs.Prelude.{IfSome, slice_index}
@@ -17,9 +17,9 @@ use Rattle.basin_cli.specs.Actions.{EndsAsking, IsAnswered}
 use Rattle.basin_cli.specs.Command.{Files}
 use Rattle.basin_cli.specs.Ending.{status_of}
 use Rattle.basin_cli.specs.Explained.{HasMonth, HasRight, IsAbout, PushesUpTo}
-use Rattle.basin_cli.specs.Bytes.{AreSpelled, IsGoodBasin, IsGoodSeries, Told, series_told}
+use Rattle.basin_cli.specs.Bytes.{AreSpelled, IsGoodBasin, IsGoodSeries, KnownFiles, known_series}
 use Rattle.basin_cli.specs.Out.{MayWrite}
-use Rattle.basin_cli.specs.Outcome.{HasExplainingCause, IsAsked, IsOutsideRun, IsShortIn, IsUnknownRight, WritesAccount}
+use Rattle.basin_cli.specs.Outcome.{HasExplainingCause, IsAsked, IsOutsideRun, IsShortIn, IsUnknownRight, WritesBook}
 use Rattle.basin_cli.specs.Reading.{OfBoth}
 use Rattle.basin_cli.specs.Series.{AreLoaded, IsBasinText, IsSeriesText}
 use Rattle.water_model.proofs.Histories.{last_follows}
@@ -27,7 +27,7 @@ use Rattle.basin_cli.proofs.Explained.{one_answer}
 use Rattle.basin_cli.proofs.Judged.{good_series, spelled_by}
 use Rattle.basin_cli.proofs.OneSeries.{one_basin, one_series, same_partial}
 
--- Behind the files.
+-- After the files.
 
 -- the run has the month of a record
 month_of : (b : Basin) (series : Inflows) (month : Month) (name : List ℕ) (right : ℕ) (m : MonthRecord) →
@@ -37,20 +37,20 @@ month_of b series month name right m about =
     let follows = last_follows b series is.before m is.partial in (
       m.index,
       record {
-        within = omega (arith, follows.behind.index, is.partial.within, length-append is.before (m ∷ []));
-        is = sym follows.behind.month ∙ is.is;
+        within = omega (arith, follows.after.index, is.partial.within, length-append is.before (m ∷ []));
+        is = sym follows.after.month ∙ is.is;
       },
     )
 
 -- what holds of the bytes that are read holds as far as they are told
-behind_both : (t o : Option (List ℕ)) (b : Basin) (series : Inflows) (P : List ℕ → List ℕ → Type 0) →
+after_both : (t o : Option (List ℕ)) (b : Basin) (series : Inflows) (P : List ℕ → List ℕ → Type 0) →
     IsSeriesOf b series →
     IfSome t (IsBasinText b) → IfSome o (IsSeriesText b series) →
     ((bytes s : List ℕ) → AreSpelled bytes s b series → P bytes s) →
     IfSome t (λ bytes. IsGoodBasin bytes × IfSome o (λ s. IsGoodSeries bytes s × P bytes s))
-behind_both None o b series P fits from_basin from_series holds = tt
-behind_both (Some bytes) None b series P fits from_basin from_series holds = (from_basin.good, tt)
-behind_both (Some bytes) (Some s) b series P fits from_basin from_series holds = (
+after_both None o b series P fits from_basin from_series holds = tt
+after_both (Some bytes) None b series P fits from_basin from_series holds = (from_basin.good, tt)
+after_both (Some bytes) (Some s) b series P fits from_basin from_series holds = (
   from_basin.good,
   (
     good_series bytes s b series from_basin from_series,
@@ -71,8 +71,8 @@ not_short : (month : Month) (name bytes s : List ℕ) (b : Basin) (series : Infl
 not_short month name bytes s b series right m valid spelled about met is =
     let same : is.basin ≡ b = one_basin bytes is.basin b is.spelled.basin_spelled spelled.basin_spelled in
     let moved = subst (λ c. IsAbout c is.series month name is.right is.last) same is.about in
-    let series_told = subst (λ c. SpellsSeries c s is.series) same is.spelled.series_spelled in
-    let other = one_series b s is.series series series_told spelled.series_spelled in
+    let known_series = subst (λ c. SpellsSeries c s is.series) same is.spelled.series_spelled in
+    let other = one_series b s is.series series known_series spelled.series_spelled in
     let along : IsAbout b series month name is.right is.last = record {
       named = moved.named;
       of_month = record {
@@ -85,12 +85,12 @@ not_short month name bytes s b series right m valid spelled about met is =
     let short = one_answer b series month name is.right right is.last m valid along about is.short in
     omega (arith, short, met)
 
-pub asking_cause : (told : Told) (files : Files) (month : Month) (name : List ℕ) (b : Basin) (series : Inflows)
+pub asking_cause : (known : KnownFiles) (files : Files) (month : Month) (name : List ℕ) (b : Basin) (series : Inflows)
     (how : Ending) (read write : Type 0) →
-    IsValidBasin b → IsSeriesOf b series → AreLoaded told files b series → EndsAsking b series month name how write →
-    HasExplainingCause files month name how told read write
-asking_cause told files month name b series ending.Done read write valid fits loaded ends =
-    behind_both (told files.basin) (series_told told files.series) b series (IsShortIn month name) fits
+    IsValidBasin b → IsSeriesOf b series → AreLoaded known files b series → EndsAsking b series month name how write →
+    HasExplainingCause files month name how known read write
+asking_cause known files month name b series ending.Done read write valid fits loaded ends =
+    after_both (known files.basin) (known_series known files.series) b series (IsShortIn month name) fits
     loaded.from_basin loaded.from_series
     (λ bytes s spelled. record {
       basin = b;
@@ -102,8 +102,8 @@ asking_cause told files month name b series ending.Done read write valid fits lo
           ends.2;
       short = ends.3;
     })
-asking_cause told files month name b series ending.Met read write valid fits loaded ends =
-    behind_both (told files.basin) (series_told told files.series) b series (λ bytes s. IsAsked month name bytes ×
+asking_cause known files month name b series ending.Met read write valid fits loaded ends =
+    after_both (known files.basin) (known_series known files.series) b series (λ bytes s. IsAsked month name bytes ×
     (IsShortIn month name bytes s → ⊥))
     fits loaded.from_basin loaded.from_series
     (λ bytes s spelled. (
@@ -111,23 +111,24 @@ asking_cause told files month name b series ending.Met read write valid fits loa
           (ends.0, ends.2.named),
       not_short month name bytes s b series ends.0 ends.1 valid spelled ends.2 ends.3,
     ))
-asking_cause told files month name b series ending.WriteFault read write valid fits loaded ends = (
+asking_cause known files month name b series ending.WriteFault read write valid fits loaded ends = (
   ends.0,
-  behind_both (told files.basin) (series_told told files.series) b series (λ bytes _. IsAsked month name bytes) fits
+  after_both (known files.basin) (known_series known files.series) b series (λ bytes _. IsAsked month name bytes) fits
       loaded.from_basin loaded.from_series
       (λ bytes s spelled. is_asked month name bytes b spelled.basin_spelled ends.1 ends.2),
 )
-asking_cause told files month name b series (ending.ScriptRefused script.OutsideRun line) read write valid fits loaded
+asking_cause known files month name b series (ending.ScriptRefused script.OutsideRun line) read write valid fits loaded
     ends = (
       ends.0,
-      behind_both (told files.basin) (series_told told files.series) b series (λ bytes _. IsOutsideRun month bytes) fits
+      after_both (known files.basin) (known_series known files.series) b series (λ bytes _. IsOutsideRun month bytes)
+          fits
           loaded.from_basin loaded.from_series
           (λ bytes s spelled. record { basin = b; spelled = spelled.basin_spelled; outside = ends.1 }),
     )
-asking_cause told files month name b series (ending.ScriptRefused script.NoSuchName line) read write valid fits loaded
+asking_cause known files month name b series (ending.ScriptRefused script.NoSuchName line) read write valid fits loaded
     ends = (
       ends.0,
-      behind_both (told files.basin) (series_told told files.series) b series
+      after_both (known files.basin) (known_series known files.series) b series
           (λ bytes _. IsUnknownRight month name bytes) fits loaded.from_basin loaded.from_series
           (λ bytes s spelled. record {
             basin = b;
@@ -136,22 +137,23 @@ asking_cause told files month name b series (ending.ScriptRefused script.NoSuchN
             unknown = ends.2;
           }),
     )
-asking_cause told files month name b series ending.OutOfMemory read write valid fits loaded ends = tt
-asking_cause told files month name b series other read write valid fits loaded ends = absurd ends
+asking_cause known files month name b series ending.OutOfMemory read write valid fits loaded ends = tt
+asking_cause known files month name b series other read write valid fits loaded ends = absurd ends
 
 -- what is left on out
-pub asking_writes : (asked : Account) (told : Told) (files : Files) (month : Month) (name : List ℕ) (b : Basin) (series : Inflows)
+pub asking_writes : (asked : Account) (known : KnownFiles) (files : Files) (month : Month) (name : List ℕ) (b : Basin)
+    (series : Inflows)
     (how : Ending) (old new : Option (List ℕ)) →
-    IsSeriesOf b series → AreLoaded told files b series →
+    IsSeriesOf b series → AreLoaded known files b series →
     (MayWrite (status_of how) → IsAnswered asked b series month name how old new) →
-    OfBoth told files
-    (λ bytes s. MayWrite (status_of how) → WritesAccount asked (status_of how) month name bytes s old new)
-asking_writes asked told files month name b series how old new fits loaded answers =
-    of_both (told files.basin) (series_told told files.series) loaded.from_basin loaded.from_series
+    OfBoth known files
+    (λ bytes s. MayWrite (status_of how) → WritesBook asked (status_of how) month name bytes s old new)
+asking_writes asked known files month name b series how old new fits loaded answers =
+    of_both (known files.basin) (known_series known files.series) loaded.from_basin loaded.from_series
   where
     of_both : (t o : Option (List ℕ)) → IfSome t (IsBasinText b) → IfSome o (IsSeriesText b series) →
         IfSome t (λ bytes. IfSome o (λ s. MayWrite (status_of how) →
-        WritesAccount asked (status_of how) month name bytes s old new))
+        WritesBook asked (status_of how) month name bytes s old new))
     of_both None o from_basin from_series = tt
     of_both (Some bytes) None from_basin from_series = tt
     of_both (Some bytes) (Some s) from_basin from_series = λ may.
@@ -169,10 +171,11 @@ asking_writes asked told files month name b series how old new fits loaded answe
         })
 
 -- and how often searches pushed
-pub asking_solves : (told : Told) (files : Files) (month : Month) (b : Basin) (series : Inflows) (before now : ℕ) →
-    AreLoaded told files b series → PushesUpTo b month before now →
-    IfSome (told files.basin) (λ bytes. (c : Basin) → Spells bytes c → PushesUpTo c month before now)
-asking_solves told files month b series before now loaded pushes = of_told (told files.basin) loaded.from_basin
+pub asking_solves : (known : KnownFiles) (files : Files) (month : Month) (b : Basin) (series : Inflows)
+    (before now : ℕ) →
+    AreLoaded known files b series → PushesUpTo b month before now →
+    IfSome (known files.basin) (λ bytes. (c : Basin) → Spells bytes c → PushesUpTo c month before now)
+asking_solves known files month b series before now loaded pushes = of_told (known files.basin) loaded.from_basin
   where
     of_told : (t : Option (List ℕ)) → IfSome t (IsBasinText b) →
         IfSome t (λ bytes. (c : Basin) → Spells bytes c → PushesUpTo c month before now)

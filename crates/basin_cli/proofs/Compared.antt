@@ -8,20 +8,20 @@ use Rattle.water_model.specs.Valid.{IsValidBasin}
 use Rattle.water_model.specs.declared.types.Basin.{Basin}
 use Rattle.water_model.specs.declared.types.Inflows.{Inflows}
 use Rattle.water_model.specs.declared.types.MonthRecord.{MonthRecord}
-use Rattle.month_fold.specs.Runs.{RunSeen, StandsFor, run_pushes}
+use Rattle.month_fold.specs.Runs.{RunView, RunStandsFor, run_pushes}
 use Rattle.injury.specs.Common.{common_rights}
 use Rattle.injury.specs.Injuries.{injuries, injuries_of, injured_row, compared_row, comparison_text}
-use Rattle.injury.proofs.Growing.{common_few, injuries_more, injuries_few}
+use Rattle.injury.proofs.Growing.{common_bounded, injuries_more, injuries_bounded}
 use Rattle.injury.proofs.Put.{injuries-count}
 use Rattle.basin_cli.specs.Compared.{AreCompared, IsTextOfComparison}
 use Rattle.basin_cli.proofs.Written.{whole_run}
 use Rattle.senior_hold.specs.MonthNetwork.{month_pushes}
 
 -- one month more of both runs
-pub compared_more : (b c : Basin) (first second first' second' : RunSeen) (m n : MonthRecord) (before after : List ℕ)
+pub compared_more : (b c : Basin) (first second first' second' : RunView) (m n : MonthRecord) (before after : List ℕ)
     (injured count : ℕ)
     (so_far : AreCompared b c first second before injured) → first'.basin ≡ b → second'.basin ≡ c →
-    StandsFor first' (so_far.records ++ m ∷ []) → StandsFor second' (so_far.others ++ n ∷ []) →
+    RunStandsFor first' (so_far.records ++ m ∷ []) → RunStandsFor second' (so_far.others ++ n ∷ []) →
     count ≡ length (injuries_of (common_rights b c) m n) →
     after ≡ before ++ flat_map (injured_row b) (injuries_of (common_rights b c) m n) →
     AreCompared b c first' second' after (injured + count)
@@ -55,19 +55,19 @@ compared_more b c first second first' second' m n before after injured count so_
     more = injuries_more b c so_far.records so_far.others m n so_far.abreast
 
 -- the two runs stay abreast
-pub done_more : (first second : RunSeen) (records others : List MonthRecord) (m n : MonthRecord) →
+pub done_more : (first second : RunView) (records others : List MonthRecord) (m n : MonthRecord) →
     length records ≡ length others →
-    StandsFor first (records ++ m ∷ []) → StandsFor second (others ++ n ∷ []) → second.done ≡ first.done
+    RunStandsFor first (records ++ m ∷ []) → RunStandsFor second (others ++ n ∷ []) → second.done ≡ first.done
 done_more first second records others m n abreast stands stands' =
     omega (arith, stands.done, stands'.done, length-append records (m ∷ []), length-append others (n ∷ []))
 
 -- the count of injuries stays small
-pub few_injuries : (b c : Basin) (first second : RunSeen) (m n : MonthRecord) (bytes : List ℕ) (injured count : ℕ) →
+pub bounded_injuries : (b c : Basin) (first second : RunView) (m n : MonthRecord) (bytes : List ℕ) (injured count : ℕ) →
     IsValidBasin b →
     AreCompared b c first second bytes injured → first.done < b.months →
     count ≡ length (injuries_of (common_rights b c) m n) →
     injured + count ≤ 2402000
-few_injuries b c first second m n bytes injured count valid so_far left number =
+bounded_injuries b c first second m n bytes injured count valid so_far left number =
     let run = valid.run.months.1 in
     omega (
       arith,
@@ -75,15 +75,15 @@ few_injuries b c first second m n bytes injured count valid so_far left number =
       so_far.number,
       so_far.first_stands.done,
       injuries-count (common_rights b c) m n,
-      injuries_few b c so_far.records so_far.others,
-      common_few b c valid,
+      injuries_bounded b c so_far.records so_far.others,
+      common_bounded b c valid,
       mul-le-mul {n₁ = length so_far.records} {m₁ = length (common_rights b c)} {n₂ = 1200} {m₂ =
-          2000} (omega (arith, so_far.first_stands.done)) (common_few b c valid),
+          2000} (omega (arith, so_far.first_stands.done)) (common_bounded b c valid),
     )
 
 -- before the first month nobody is injured
-pub none_compared : (b c : Basin) (first second : RunSeen) (bytes : List ℕ) → first.basin ≡ b → second.basin ≡ c →
-    StandsFor first [] → StandsFor second [] → bytes ≡ [] → AreCompared b c first second bytes 0
+pub none_compared : (b c : Basin) (first second : RunView) (bytes : List ℕ) → first.basin ≡ b → second.basin ≡ c →
+    RunStandsFor first [] → RunStandsFor second [] → bytes ≡ [] → AreCompared b c first second bytes 0
 unfolding injuries
 none_compared b c first second bytes same same' stands stands' nothing = record {
   first_basin = same;
@@ -98,7 +98,7 @@ none_compared b c first second bytes same same' stands stands' nothing = record 
 }
 
 -- all months of both runs, and the counts
-pub whole_comparison : (b c : Basin) (series other : Inflows) (first second : RunSeen) (before after : List ℕ)
+pub whole_comparison : (b c : Basin) (series other : Inflows) (first second : RunView) (before after : List ℕ)
     (injured : ℕ) →
     first.series ≡ series → second.series ≡ other →
     first.done ≡ b.months → second.done ≡ c.months → AreCompared b c first second before injured →

@@ -10,11 +10,11 @@ use Rattle.basin_cli.specs.declared.ending.Ending.TheVariants as ending
 use Rattle.basin_cli.specs.declared.ending.File.TheVariants as file
 use Rattle.basin_cli.specs.declared.ending.SecondFinding.TheVariants as of_second
 use Rattle.basin_cli.specs.declared.ending.SeriesFinding.{SeriesFinding}
-use Rattle.basin_cli.specs.Bytes.{IsGoodBasin, IsGoodSeries, IsRefusedFor, IsSeriesRefusedFor, IsTooLong, Told}
-use Rattle.basin_cli.specs.Bytes.{series_told}
+use Rattle.basin_cli.specs.Bytes.{IsGoodBasin, IsGoodSeries, IsRefusedFor, IsSeriesRefusedFor, IsTooLong, KnownFiles}
+use Rattle.basin_cli.specs.Bytes.{known_series}
 use Rattle.basin_cli.specs.Command.{Files}
 use Rattle.basin_cli.specs.Comparison.{HaveSameMonths, AreOfOneRun, AreOfOtherRuns, IsGoodSecond, IsGoodForBoth}
-use Rattle.basin_cli.specs.Comparison.{SomebodyIsInjured, HasComparingCause, ComparesBehind, IsComparedAs}
+use Rattle.basin_cli.specs.Comparison.{SomebodyIsInjured, HasComparingCause, ComparesAfter, IsComparedAs}
 use Rattle.basin_cli.specs.Ending.{status_of, finding_of}
 use Rattle.basin_cli.proofs.OneSeries.{one_basin}
 
@@ -94,44 +94,46 @@ abbrev Answered : Ending → Type 0 → Type 0 → List ℕ → List ℕ → Lis
 Answered how read write bytes other series = (read → ⊥) → (write → ⊥) →
     IsComparedAs (status_of how) (SomebodyIsInjured bytes other series)
 
-module _ (files : Files) (second : List ℕ) (told : Told) (read write : Type 0) where
-  failed : (how : Ending) → read → ComparesBehind told files second (status_of how) read write
+module _ (files : Files) (second : List ℕ) (known : KnownFiles) (read write : Type 0) where
+  failed : (how : Ending) → read → ComparesAfter known files second (status_of how) read write
   failed how is =
-      always (told files.basin) (told second) (series_told told files.series) (Answered how read write)
+      always (known files.basin) (known second) (known_series known files.series) (Answered how read write)
       (λ _ _ _ no_read _. absurd (no_read is))
 
-  pub comparing : (how : Ending) → HasComparingCause files second how told read write →
-      ComparesBehind told files second (status_of how) read write
+  pub comparing : (how : Ending) → HasComparingCause files second how known read write →
+      ComparesAfter known files second (status_of how) read write
   comparing ending.Done h =
-      by_series (told files.basin) (told second) (series_told told files.series) (Answered ending.Done read write)
+      by_series (known files.basin) (known second) (known_series known files.series) (Answered ending.Done read write)
       (λ bytes other series. IsGoodForBoth bytes other series × (SomebodyIsInjured bytes other series → ⊥)) h
       (λ _ _ _ is _ _ _. inr (inl (refl, is.1)))
   comparing ending.Injured h =
-      by_series (told files.basin) (told second) (series_told told files.series) (Answered ending.Injured read write)
+      by_series (known files.basin) (known second) (known_series known files.series)
+      (Answered ending.Injured read write)
       (λ bytes other series. IsGoodForBoth bytes other series × SomebodyIsInjured bytes other series) h
       (λ _ _ _ is _ _ _. inr (inr (refl, is.1)))
   comparing ending.WriteFault h =
-      always (told files.basin) (told second) (series_told told files.series) (Answered ending.WriteFault read write)
+      always (known files.basin) (known second) (known_series known files.series)
+      (Answered ending.WriteFault read write)
       (λ _ _ _ _ no_write. absurd (no_write h.0))
   comparing (ending.BasinRefused finding) h =
-      not_good (told files.basin) (told second) (series_told told files.series)
+      not_good (known files.basin) (known second) (known_series known files.series)
       (Answered (ending.BasinRefused finding) read write) (IsRefusedFor finding) (no_refusal finding) h
   comparing (ending.SecondRefused (of_second.Basin finding)) h =
-      by_first (told files.basin) (told second) (series_told told files.series)
+      by_first (known files.basin) (known second) (known_series known files.series)
       (Answered (ending.SecondRefused (of_second.Basin finding)) read write)
       (λ _ other. IsRefusedFor finding other) h (λ _ other is good. no_refusal finding other is good.good)
   comparing (ending.SecondRefused of_second.OtherRun) h =
-      by_first (told files.basin) (told second) (series_told told files.series)
+      by_first (known files.basin) (known second) (known_series known files.series)
       (Answered (ending.SecondRefused of_second.OtherRun) read write)
       (λ bytes other. IsGoodBasin other × AreOfOtherRuns bytes other) h
       (λ bytes other is good. one_or_other bytes other is.1 good.one_run)
   comparing (ending.SeriesRefused finding) h =
-      by_series (told files.basin) (told second) (series_told told files.series)
+      by_series (known files.basin) (known second) (known_series known files.series)
       (Answered (ending.SeriesRefused finding) read write)
       (λ bytes _ series. IsSeriesRefusedFor finding bytes series) h
       (λ bytes _ series is good _ _. absurd (no_series_refusal finding bytes series is good.first))
   comparing (ending.SecondRefused (of_second.Series finding)) h =
-      by_series (told files.basin) (told second) (series_told told files.series)
+      by_series (known files.basin) (known second) (known_series known files.series)
       (Answered (ending.SecondRefused (of_second.Series finding)) read write)
       (λ bytes other series. IsGoodSeries bytes series × IsSeriesRefusedFor finding other series) h
       (λ _ other series is good _ _. absurd (no_series_refusal finding other series is.1 good.second))
@@ -139,18 +141,19 @@ module _ (files : Files) (second : List ℕ) (told : Told) (read write : Type 0)
   comparing (ending.ReadFault file.SecondBasin) h = failed (ending.ReadFault file.SecondBasin) h.0
   comparing (ending.ReadFault file.Series) h = failed (ending.ReadFault file.Series) h.0
   comparing (ending.InputTooLong file.Basin) h =
-      not_good (told files.basin) (told second) (series_told told files.series)
+      not_good (known files.basin) (known second) (known_series known files.series)
       (Answered (ending.InputTooLong file.Basin) read write) IsTooLong not_long h
   comparing (ending.InputTooLong file.SecondBasin) h =
-      by_first (told files.basin) (told second) (series_told told files.series)
+      by_first (known files.basin) (known second) (known_series known files.series)
       (Answered (ending.InputTooLong file.SecondBasin) read write)
       (λ _ other. IsTooLong other) h (λ _ other is good. not_long other is good.good)
   comparing (ending.InputTooLong file.Series) h =
-      by_series (told files.basin) (told second) (series_told told files.series)
+      by_series (known files.basin) (known second) (known_series known files.series)
       (Answered (ending.InputTooLong file.Series) read write)
       (λ _ _ series. IsTooLong series) h
       (λ _ _ series is good _ _. absurd (omega (arith, is.beyond, good.first.within)))
   comparing ending.OutOfMemory h =
-      always (told files.basin) (told second) (series_told told files.series) (Answered ending.OutOfMemory read write)
+      always (known files.basin) (known second) (known_series known files.series)
+      (Answered ending.OutOfMemory read write)
       (λ _ _ _ _ _. inl refl)
   comparing other h = absurd h

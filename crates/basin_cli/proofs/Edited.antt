@@ -4,7 +4,7 @@ use Rattle.std.proofs.Common.{inl, inr}
 use Rattle.std.specs.Prelude.{IfSome, IsErr, IsOk, Ok, Err, Bool, true, false, if◌then◌else◌, Result, codes}
 use Rattle.std.specs.Str.{bytes_eq}
 use Rattle.edit_script.specs.Lines.{edit_of, inflow_of, want_of}
-use Rattle.edit_script.specs.Scripts.{Reading, ended, edits_from, edits_of_lines, in_front, lines_of, numbered}
+use Rattle.edit_script.specs.Scripts.{Reading, ended, edits_from, edits_of_lines, in_prefix, lines_of, numbered}
 use Rattle.edit_script.specs.Scripts.{script_of}
 use Rattle.edit_script.specs.declared.refused.ScriptFault.{ScriptFault}
 use Rattle.edit_script.specs.declared.refused.ScriptRefused.TheVariants as refused
@@ -15,12 +15,12 @@ use Rattle.basin_cli.specs.declared.ending.Ending.{Ending}
 use Rattle.basin_cli.specs.declared.ending.Ending.TheVariants as ending
 use Rattle.basin_cli.specs.declared.status.Status.{Status}
 use Rattle.basin_cli.specs.declared.status.Status.TheVariants as status
-use Rattle.basin_cli.specs.Bytes.{AreSpelled, Told, file_limit, series_told}
+use Rattle.basin_cli.specs.Bytes.{AreSpelled, KnownFiles, file_limit, known_series}
 use Rattle.basin_cli.specs.Command.{Files}
 use Rattle.basin_cli.specs.Edited.{EditLeaves, EditPushes, EditWrites, EndsEditing, HasEditingCause, IsGoodScript}
 use Rattle.basin_cli.specs.Edited.{IsScriptRefusedFor, LeavesScript, PushesOfScript}
 use Rattle.basin_cli.specs.Series.{AreLoaded}
-use Rattle.basin_cli.proofs.Judged.{behind, of_both}
+use Rattle.basin_cli.proofs.Judged.{after, of_both}
 use Rattle.basin_cli.proofs.OneSeries.{one_basin}
 
 -- A script asks for the same of two series of a basin: they have their gauges and wants in the same places.
@@ -44,12 +44,12 @@ module _ (b : Basin) (series other : Inflows) (fits : IsSeriesOf b series) (fits
     where
       by_end : edits_from b series (number + 1) (next ∷ lines) ≡ edits_from b other (number + 1) (next ∷ lines) →
           (t : Bool) →
-          (if t then ended [] (number + 1) (next ∷ lines) else in_front (numbered number (edit_of b series line))
+          (if t then ended [] (number + 1) (next ∷ lines) else in_prefix (numbered number (edit_of b series line))
           (edits_from b series (number + 1) (next ∷ lines)))
-          ≡ (if t then ended [] (number + 1) (next ∷ lines) else in_front (numbered number (edit_of b other line))
+          ≡ (if t then ended [] (number + 1) (next ∷ lines) else in_prefix (numbered number (edit_of b other line))
           (edits_from b other (number + 1) (next ∷ lines)))
-      by_end behind true = refl
-      by_end behind false = rw (same_edit line, behind) refl
+      by_end after true = refl
+      by_end after false = rw (same_edit line, after) refl
 
   same_lines : (lines : List (List ℕ)) → edits_of_lines b series lines ≡ edits_of_lines b other lines
   same_lines [] = refl
@@ -77,30 +77,31 @@ refused_not_good bytes s text fault line is good =
     never_ok (Ok x) y e h = cc
     never_ok (Err x) y e h = cc
 
--- Behind the files of `edit`.
+-- After the files of `edit`.
 
-pub editing_cause : (told : Told) (files : Files) (script text : List ℕ) (b : Basin) (series : Inflows) (how : Ending)
+pub editing_cause : (known : KnownFiles) (files : Files) (script text : List ℕ) (b : Basin) (series : Inflows)
+    (how : Ending)
     (read write : Type 0) →
-    IsSeriesOf b series → AreLoaded told files b series → length text ≤ file_limit →
-    IfSome (told script) (λ bytes. text ≡ bytes) →
-    EndsEditing b series text how write → HasEditingCause files script how told read write
-editing_cause told files script text b series ending.Done read write fits loaded within is ends =
-    behind (told files.basin) (series_told told files.series) (told script) b series text IsGoodScript fits
+    IsSeriesOf b series → AreLoaded known files b series → length text ≤ file_limit →
+    IfSome (known script) (λ bytes. text ≡ bytes) →
+    EndsEditing b series text how write → HasEditingCause files script how known read write
+editing_cause known files script text b series ending.Done read write fits loaded within is ends =
+    after (known files.basin) (known_series known files.series) (known script) b series text IsGoodScript fits
     loaded.from_basin loaded.from_series is
     (λ bytes s spelled. record { within = within; basin = b; series = series; spelled = spelled; reads = ends })
-editing_cause told files script text b series ending.WriteFault read write fits loaded within is ends = (
+editing_cause known files script text b series ending.WriteFault read write fits loaded within is ends = (
   ends.0,
-  behind (told files.basin) (series_told told files.series) (told script) b series text IsGoodScript fits
+  after (known files.basin) (known_series known files.series) (known script) b series text IsGoodScript fits
       loaded.from_basin loaded.from_series is
       (λ bytes s spelled. record { within = within; basin = b; series = series; spelled = spelled; reads = ends.1 }),
 )
-editing_cause told files script text b series (ending.ScriptRefused fault line) read write fits loaded within is ends =
-    behind (told files.basin) (series_told told files.series) (told script) b series text
+editing_cause known files script text b series (ending.ScriptRefused fault line) read write fits loaded within is ends =
+    after (known files.basin) (known_series known files.series) (known script) b series text
     (IsScriptRefusedFor fault line) fits
     loaded.from_basin loaded.from_series is
     (λ bytes s spelled. record { within = within; basin = b; series = series; spelled = spelled; first = ends })
-editing_cause told files script text b series ending.OutOfMemory read write fits loaded within is ends = tt
-editing_cause told files script text b series other read write fits loaded within is ends = absurd ends
+editing_cause known files script text b series ending.OutOfMemory read write fits loaded within is ends = tt
+editing_cause known files script text b series other read write fits loaded within is ends = absurd ends
 
 -- what is left on out
 leaves_told : (status : Status) (bytes s : List ℕ) (b : Basin) (series : Inflows) (text : List ℕ)
@@ -112,13 +113,13 @@ leaves_told status.OutOfMemory bytes s b series text old new spelled (inr shows)
 leaves_told other bytes s b series text old new spelled left =
     λ may. record { basin = b; series = series; spelled = spelled; shows = left may }
 
-pub editing_writes : (told : Told) (files : Files) (script text : List ℕ) (b : Basin) (series : Inflows)
+pub editing_writes : (known : KnownFiles) (files : Files) (script text : List ℕ) (b : Basin) (series : Inflows)
     (status : Status) (old new : Option (List ℕ)) →
-    IsSeriesOf b series → AreLoaded told files b series → IfSome (told script) (λ bytes. text ≡ bytes) →
+    IsSeriesOf b series → AreLoaded known files b series → IfSome (known script) (λ bytes. text ≡ bytes) →
     LeavesScript status b series text old new →
-    EditWrites told files script status old new
-editing_writes told files script text b series status old new fits loaded is left =
-    of_both (told files.basin) (series_told told files.series) (told script) b series text
+    EditWrites known files script status old new
+editing_writes known files script text b series status old new fits loaded is left =
+    of_both (known files.basin) (known_series known files.series) (known script) b series text
     (λ bytes s t. EditLeaves status bytes s t old new) fits
     loaded.from_basin loaded.from_series is
     (λ bytes s spelled. leaves_told status bytes s b series text old new spelled left)
@@ -138,13 +139,13 @@ pushes_same bytes s text b series before now spelled pushes c other also =
       refused = λ bad. moved.refused (subst (λ (r : Reading). IsErr r) (sym script) bad);
     }
 
-pub editing_pushes : (told : Told) (files : Files) (script text : List ℕ) (b : Basin) (series : Inflows)
+pub editing_pushes : (known : KnownFiles) (files : Files) (script text : List ℕ) (b : Basin) (series : Inflows)
     (before now : ℕ) → IsSeriesOf b series →
-    AreLoaded told files b series → IfSome (told script) (λ bytes. text ≡ bytes) →
+    AreLoaded known files b series → IfSome (known script) (λ bytes. text ≡ bytes) →
     PushesOfScript b series text before now →
-    EditPushes told files script before now
-editing_pushes told files script text b series before now fits loaded is pushes =
-    of_both (told files.basin) (series_told told files.series) (told script) b series text
+    EditPushes known files script before now
+editing_pushes known files script text b series before now fits loaded is pushes =
+    of_both (known files.basin) (known_series known files.series) (known script) b series text
     (λ bytes s t. (c : Basin) (other : Inflows) → AreSpelled bytes s c other → PushesOfScript c other t before now) fits
     loaded.from_basin loaded.from_series is
     (λ bytes s spelled. pushes_same bytes s text b series before now spelled pushes)

@@ -8,12 +8,12 @@ use Rattle.cut_cert.specs.Sets.{cut_at}
 use Rattle.call_list.proofs.Months.{last_can_be_found}
 use Rattle.plan_residual.specs.Residual.{HasPlan}
 use Rattle.water_model.specs.History.{HasReaches}
-use Rattle.month_fold.specs.Runs.{RunSeen}
+use Rattle.month_fold.specs.Runs.{RunView}
 use Rattle.result_text.specs.Range.{FitsText}
 use Rattle.result_text.proofs.Whole.{FitsText-follows}
 use Rattle.water_text.specs.declared.month.Month.{Month}
 use Rattle.water_model.proofs.Histories.{last_follows}
-use Rattle.water_model.proofs.Lists.{get_behind}
+use Rattle.water_model.proofs.Lists.{get_after}
 use Rattle.water_model.specs.Cuts.{IsReach}
 use Rattle.water_model.specs.History.{Follows, IsPartialHistory, IsShort}
 use Rattle.water_model.specs.Hydrology.{run_month}
@@ -29,16 +29,16 @@ use Rattle.basin_cli.specs.declared.explaining.Account.TheVariants as account
 use Rattle.basin_cli.proofs.Asked.{one_index, one_right}
 
 -- the last record of a run is one of the month with its index
-pub last_record : (b : Basin) (series : Inflows) (run : RunSeen) (index : ℕ) → run.basin ≡ b → run.series ≡ series →
+pub last_record : (b : Basin) (series : Inflows) (run : RunView) (index : ℕ) → run.basin ≡ b → run.series ≡ series →
     run.done ≡ index + 1 →
     (last : HasLast run) → IsRecordOf b series (run_month b index) run.last
 last_record b series run index same fits done last = record {
   before = last.before;
   partial = partial;
   reaches = rw (← same) last.stands.reaches;
-  is = follows.behind.month
+  is = follows.after.month
       ∙ ap (run_month b)
-      (omega (arith, follows.behind.index, done, last.stands.done, length-append last.before (run.last ∷ [])));
+      (omega (arith, follows.after.index, done, last.stands.done, length-append last.before (run.last ∷ [])));
 }
   where
     partial : IsPartialHistory b series (last.before ++ run.last ∷ [])
@@ -50,7 +50,7 @@ last_record b series run index same fits done last = record {
 -- which has the reaches, and lines that can be written
 pub record_reaches : (b : Basin) (series : Inflows) (month : Month) (m : MonthRecord) → IsRecordOf b series month m →
     HasReaches b m
-record_reaches b series month m is = is.reaches (length is.before) m (get_behind is.before [] m)
+record_reaches b series month m is = is.reaches (length is.before) m (get_after is.before [] m)
 
 pub record_fits : (b : Basin) (series : Inflows) (month : Month) (m : MonthRecord) → IsValidBasin b →
     IsRecordOf b series month m → FitsText b m
@@ -110,20 +110,20 @@ one_answer b series month name right other m n valid one two short =
     second = last_follows b series two.of_month.before n two.of_month.partial
 
     index : m.index ≡ n.index
-    index = one_index b month m.index n.index valid (sym first.behind.month ∙ one.of_month.is)
-        (sym second.behind.month ∙ two.of_month.is)
+    index = one_index b month m.index n.index valid (sym first.after.month ∙ one.of_month.is)
+        (sym second.after.month ∙ two.of_month.is)
 
     place : length one.of_month.before ≡ length two.of_month.before
-    place = sym first.behind.index ∙ (index ∙ second.behind.index)
+    place = sym first.after.index ∙ (index ∙ second.after.index)
 
     outcome : HaveSameOutcome m n
     outcome =
         one_outcome b series (one.of_month.before ++ m ∷ []) (two.of_month.before ++ n ∷ []) valid one.of_month.partial
         two.of_month.partial
         (omega (arith, place, length-append one.of_month.before (m ∷ []), length-append two.of_month.before (n ∷ [])))
-        (length one.of_month.before) m n (get_behind one.of_month.before [] m)
+        (length one.of_month.before) m n (get_after one.of_month.before [] m)
         (subst (λ k. slice_get (two.of_month.before ++ n ∷ []) k ≡ Some n) (sym place)
-        (get_behind two.of_month.before [] n))
+        (get_after two.of_month.before [] n))
 
     along : IsShort n right
     along = omega

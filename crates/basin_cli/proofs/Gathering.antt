@@ -1,4 +1,4 @@
--- Behind the files of an ensemble.
+-- After the files of an ensemble.
 use Rattle.std.proofs.Common.{ℕ, ◌+◌, ◌*◌, ◌≤◌, subst, List, Option, Some, None}
 use Rattle.std.specs.Prelude.{IfSome}
 use Rattle.basin_file.specs.BasinFaults.{Spells}
@@ -12,7 +12,7 @@ use Rattle.basin_cli.specs.declared.ending.Ending.TheVariants as ending
 use Rattle.basin_cli.specs.Actions.{LeavesTraces}
 use Rattle.basin_cli.specs.Command.{Files}
 use Rattle.basin_cli.specs.Ending.{status_of}
-use Rattle.basin_cli.specs.Bytes.{Told, series_told}
+use Rattle.basin_cli.specs.Bytes.{KnownFiles, known_series}
 use Rattle.basin_cli.specs.Out.{MayWrite}
 use Rattle.basin_cli.specs.Outcome.{HasEnsembleCause, HasTrialCause, IsOfYears, WritesEnsemble}
 use Rattle.basin_cli.specs.Reading.{OfBoth}
@@ -26,29 +26,29 @@ of_years None b whole text = tt
 of_years (Some bytes) b whole text = record { basin = b; spelled = text.spelled; whole = whole }
 
 -- the cause of how an ensemble ends
-pub gathering_cause : (told : Told) (files : Files) (b : Basin) (series : Inflows) (how : Ending)
+pub gathering_cause : (known : KnownFiles) (files : Files) (b : Basin) (series : Inflows) (how : Ending)
     (read write : Type 0) → HasWholeYears b →
-    AreLoaded told files b series → HasTrialCause how write → HasEnsembleCause files how told read write
-gathering_cause told files b series ending.Done read write whole loaded ends = (
-  of_years (told files.basin) b whole loaded.from_basin,
-  accepted (told files.basin) (series_told told files.series)
+    AreLoaded known files b series → HasTrialCause how write → HasEnsembleCause files how known read write
+gathering_cause known files b series ending.Done read write whole loaded ends = (
+  of_years (known files.basin) b whole loaded.from_basin,
+  accepted (known files.basin) (known_series known files.series)
       b series loaded.from_basin loaded.from_series,
 )
-gathering_cause told files b series ending.WriteFault read write whole loaded ends = (
+gathering_cause known files b series ending.WriteFault read write whole loaded ends = (
   ends,
-  of_years (told files.basin) b whole loaded.from_basin,
-  accepted (told files.basin) (series_told told files.series) b series loaded.from_basin loaded.from_series,
+  of_years (known files.basin) b whole loaded.from_basin,
+  accepted (known files.basin) (known_series known files.series) b series loaded.from_basin loaded.from_series,
 )
-gathering_cause told files b series ending.OutOfMemory read write whole loaded ends = tt
-gathering_cause told files b series other read write whole loaded ends = absurd ends
+gathering_cause known files b series ending.OutOfMemory read write whole loaded ends = tt
+gathering_cause known files b series other read write whole loaded ends = absurd ends
 
 -- what is left on out
-pub gathering_writes : (told : Told) (files : Files) (b : Basin) (series : Inflows) (how : Ending)
+pub gathering_writes : (known : KnownFiles) (files : Files) (b : Basin) (series : Inflows) (how : Ending)
     (old new : Option (List ℕ)) →
-    IsSeriesOf b series → AreLoaded told files b series → LeavesTraces b series how old new →
-    OfBoth told files (λ bytes s. MayWrite (status_of how) → WritesEnsemble (status_of how) bytes s old new)
-gathering_writes told files b series how old new fits loaded leaves =
-    of_both (told files.basin) (series_told told files.series) loaded.from_basin loaded.from_series
+    IsSeriesOf b series → AreLoaded known files b series → LeavesTraces b series how old new →
+    OfBoth known files (λ bytes s. MayWrite (status_of how) → WritesEnsemble (status_of how) bytes s old new)
+gathering_writes known files b series how old new fits loaded leaves =
+    of_both (known files.basin) (known_series known files.series) loaded.from_basin loaded.from_series
   where
     of_both : (t o : Option (List ℕ)) → IfSome t (IsBasinText b) → IfSome o (IsSeriesText b series) →
         IfSome t (λ bytes. IfSome o (λ s. MayWrite (status_of how) → WritesEnsemble (status_of how) bytes s old new))
@@ -66,9 +66,9 @@ gathering_writes told files b series how old new fits loaded leaves =
         })
 
 -- and how often searches pushed
-pub gathering_pushes : (told : Option (List ℕ)) (b : Basin) (before now : ℕ) → IfSome told (IsBasinText b) →
+pub gathering_pushes : (known : Option (List ℕ)) (b : Basin) (before now : ℕ) → IfSome known (IsBasinText b) →
     now ≤ before + years_of b * run_pushes b →
-    IfSome told (λ bytes. (c : Basin) → Spells bytes c → now ≤ before + years_of c * run_pushes c)
+    IfSome known (λ bytes. (c : Basin) → Spells bytes c → now ≤ before + years_of c * run_pushes c)
 gathering_pushes None b before now text pushes = tt
 gathering_pushes (Some bytes) b before now text pushes =
     λ c spelled. subst (λ (d : Basin). now ≤ before + years_of d * run_pushes d)

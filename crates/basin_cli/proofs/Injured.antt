@@ -18,11 +18,11 @@ use Rattle.injury.proofs.OneText.{one_list}
 use Rattle.basin_cli.specs.declared.ending.Ending.{Ending}
 use Rattle.basin_cli.specs.declared.ending.Ending.TheVariants as ending
 use Rattle.basin_cli.specs.declared.ending.SecondFinding.TheVariants as of_second
-use Rattle.basin_cli.specs.declared.pairs.Pair.{Pair}
-use Rattle.basin_cli.specs.Bytes.{AreSpelled, IsGoodBasin, Told, series_told}
+use Rattle.basin_cli.specs.declared.pairs.BasinPair.{BasinPair}
+use Rattle.basin_cli.specs.Bytes.{AreSpelled, IsGoodBasin, KnownFiles, known_series}
 use Rattle.basin_cli.specs.Command.{Files}
 use Rattle.basin_cli.specs.Compared.{Compares, ending_with}
-use Rattle.basin_cli.specs.Comparison.{IsGoodSecond, IsGoodForBoth, SomebodyIsInjured, BehindBoth, HasComparingCause}
+use Rattle.basin_cli.specs.Comparison.{IsGoodSecond, IsGoodForBoth, SomebodyIsInjured, AfterBoth, HasComparingCause}
 use Rattle.basin_cli.specs.Comparison.{WritesComparison, ComparisonWrites, ComparisonPushes}
 use Rattle.basin_cli.specs.Ending.{status_of}
 use Rattle.basin_cli.specs.Out.{MayWrite}
@@ -119,17 +119,18 @@ ends_not how n e not_done not_injured = by_test (n == 0) e
     by_test false f = not_injured f
 
 -- what holds of what is told of the files
-module _ (told : Told) (files : Files) (second : List ℕ) (pair : Pair) (paired : ArePaired told files second pair) where
-  behind : (t o s : Option (List ℕ)) (P : List ℕ → List ℕ → List ℕ → Type 0) → IfSome t (IsBasinText pair.first.basin) →
+module _ (known : KnownFiles) (files : Files) (second : List ℕ) (pair : BasinPair)
+    (paired : ArePaired known files second pair) where
+  after : (t o s : Option (List ℕ)) (P : List ℕ → List ℕ → List ℕ → Type 0) → IfSome t (IsBasinText pair.first.basin) →
       IfSome o (IsBasinText pair.second.basin) →
       IfSome s (IsSeriesText pair.first.basin pair.first.series) →
       IfSome s (IsSeriesText pair.second.basin pair.second.series) →
       ((x y z : List ℕ) → IsGoodForBoth x y z → AreSpelled x z pair.first.basin pair.first.series →
       AreSpelled y z pair.second.basin pair.second.series → P x y z) →
       IfSome t (λ x. IsGoodBasin x × IfSome o (λ y. IsGoodSecond x y × IfSome s (P x y)))
-  behind None o s P first other series other_series holds = tt
-  behind (Some x) None s P first other series other_series holds = (first.good, tt)
-  behind (Some x) (Some y) s P first other series other_series holds =
+  after None o s P first other series other_series holds = tt
+  after (Some x) None s P first other series other_series holds = (first.good, tt)
+  after (Some x) (Some y) s P first other series other_series holds =
       (first.good, (good_second, by_series s series other_series))
     where
       good_second : IsGoodSecond x y
@@ -169,12 +170,12 @@ module _ (told : Told) (files : Files) (second : List ℕ) (pair : Pair) (paired
           (spelled_by x z pair.first.basin pair.first.series paired.fits first one)
           (spelled_by y z pair.second.basin pair.second.series paired.second_fits other two)
 
-  behind_both : (P : List ℕ → List ℕ → List ℕ → Type 0) →
+  after_both : (P : List ℕ → List ℕ → List ℕ → Type 0) →
       ((x y z : List ℕ) → IsGoodForBoth x y z → AreSpelled x z pair.first.basin pair.first.series →
       AreSpelled y z pair.second.basin pair.second.series → P x y z) →
-      BehindBoth told files second P
-  behind_both P holds =
-      behind (told files.basin) (told second) (series_told told files.series) P paired.loaded.from_basin
+      AfterBoth known files second P
+  after_both P holds =
+      after (known files.basin) (known second) (known_series known files.series) P paired.loaded.from_basin
       paired.second_loaded.from_basin
       paired.loaded.from_series paired.second_loaded.from_series holds
 
@@ -182,10 +183,10 @@ module _ (told : Told) (files : Files) (second : List ℕ) (pair : Pair) (paired
   pub cause : (how : Ending) (read write : Type 0) (old new : Option (List ℕ)) →
       (MayWrite (status_of how) →
       Compares pair.first.basin pair.second.basin pair.first.series pair.second.series how write old new) →
-      ((MayWrite (status_of how) → ⊥) → how ≡ ending.OutOfMemory) → HasComparingCause files second how told read write
+      ((MayWrite (status_of how) → ⊥) → how ≡ ending.OutOfMemory) → HasComparingCause files second how known read write
   cause ending.Done read write old new compares memory =
       let all = compares tt in
-      behind_both _ (λ x y z good spelled second_spelled. (
+      after_both _ (λ x y z good spelled second_spelled. (
         good,
         nobody x y z pair.first.basin pair.second.basin pair.first.series pair.second.series all.records all.others
             paired.valid paired.second_valid
@@ -195,14 +196,14 @@ module _ (told : Told) (files : Files) (second : List ℕ) (pair : Pair) (paired
   cause ending.Injured read write old new compares memory =
       let all = compares tt in
       let found = ends_injured (injuries pair.first.basin pair.second.basin all.records all.others) all.ends in
-      behind_both _ (λ x y z good spelled second_spelled. (
+      after_both _ (λ x y z good spelled second_spelled. (
         good,
         somebody x y z pair.first.basin pair.second.basin pair.first.series pair.second.series all.records all.others
             paired.valid paired.second_valid
             spelled second_spelled all.first_keeps.history all.second_keeps.history found.1.0 found.0 found.1.1,
       ))
   cause ending.WriteFault read write old new compares memory =
-      ((compares tt).ends, behind_both IsGoodForBoth (λ _ _ _ good _ _. good))
+      ((compares tt).ends, after_both IsGoodForBoth (λ _ _ _ good _ _. good))
   cause ending.OutOfMemory read write old new compares memory = tt
   cause (ending.Refuted refuted) read write old new compares memory =
       let all = compares tt in
@@ -235,9 +236,9 @@ module _ (told : Told) (files : Files) (second : List ℕ) (pair : Pair) (paired
   pub writes : (how : Ending) (write : Type 0) (old new : Option (List ℕ)) →
       (MayWrite (status_of how) →
       Compares pair.first.basin pair.second.basin pair.first.series pair.second.series how write old new) →
-      ComparisonWrites told files second (status_of how) old new
+      ComparisonWrites known files second (status_of how) old new
   writes how write old new compares =
-      by_told (told files.basin) (told second) (series_told told files.series) paired.loaded.from_basin
+      by_told (known files.basin) (known second) (known_series known files.series) paired.loaded.from_basin
       paired.second_loaded.from_basin
       paired.loaded.from_series paired.second_loaded.from_series
     where
@@ -272,9 +273,9 @@ module _ (told : Told) (files : Files) (second : List ℕ) (pair : Pair) (paired
 
   -- and how often its searches push
   pub pushes : (before now : ℕ) → now ≤ before + (run_pushes pair.first.basin + run_pushes pair.second.basin) →
-      ComparisonPushes told files second before now
+      ComparisonPushes known files second before now
   pushes before now l =
-      by_told (told files.basin) (told second) paired.loaded.from_basin paired.second_loaded.from_basin
+      by_told (known files.basin) (known second) paired.loaded.from_basin paired.second_loaded.from_basin
     where
       by_told : (t o : Option (List ℕ)) → IfSome t (IsBasinText pair.first.basin) →
           IfSome o (IsBasinText pair.second.basin) →

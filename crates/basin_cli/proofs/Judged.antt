@@ -24,7 +24,7 @@ use Rattle.basin_cli.specs.Actions.{EndsChecking}
 use Rattle.basin_cli.specs.Answer.{EndsAnswer, IsAnswerFor, IsAnswerTo, LeavesAnswer, answered, ending_of}
 use Rattle.basin_cli.specs.Command.{Files}
 use Rattle.basin_cli.specs.Ending.{status_of}
-use Rattle.basin_cli.specs.Bytes.{AreSpelled, IsGoodBasin, IsGoodSeries, Told, series_told}
+use Rattle.basin_cli.specs.Bytes.{AreSpelled, IsGoodBasin, IsGoodSeries, KnownFiles, known_series}
 use Rattle.basin_cli.specs.Out.{Leaves, MayWrite}
 use Rattle.basin_cli.specs.Outcome.{IsHistoryText, IsReachesText, IsRefuted, IsYes, HasCheckingCause, WritesAnswer}
 use Rattle.basin_cli.specs.Reading.{OfBoth}
@@ -57,13 +57,13 @@ pub is_no_text : (bytes s text : List ℕ) (b : Basin) (series : Inflows) (refut
 is_no_text bytes s text b series refuted valid spelled bad is =
     let same : is.basin ≡ b = one_basin bytes is.basin b is.spelled.basin_spelled spelled.basin_spelled in
     let moved = subst (λ c. IsHistory c is.series is.records) same is.history in
-    let told = subst (λ c. text ≡ text_bytes c is.records) same is.text in
-    let series_told = subst (λ c. SpellsSeries c s is.series) same is.spelled.series_spelled in
+    let known = subst (λ c. text ≡ text_bytes c is.records) same is.text in
+    let known_series = subst (λ c. SpellsSeries c s is.series) same is.spelled.series_spelled in
     let history =
     same_history b is.series series is.records
-    (one_series b s is.series series series_told spelled.series_spelled) moved in
+    (one_series b s is.series series known_series spelled.series_spelled) moved in
     never (text_verdict b series text) bad
-    ((yes_exactly_for_histories b series text valid spelled.fits).1 (is.records, history, told))
+    ((yes_exactly_for_histories b series text valid spelled.fits).1 (is.records, history, known))
   where
     never : (verdict : Result (List Item) Refuted) → verdict ≡ Err refuted → IsOk verdict → ⊥
     never (Ok items) e good = cc
@@ -93,12 +93,12 @@ pub is_audited : (bytes s text : List ℕ) (b : Basin) (series : Inflows) → Ar
 is_audited bytes s text b series spelled is =
     let of = is.of_history in
     let same : of.basin ≡ b = one_basin bytes of.basin b of.spelled.basin_spelled spelled.basin_spelled in
-    let series_told = subst (λ c. SpellsSeries c s of.series) same of.spelled.series_spelled in
+    let known_series = subst (λ c. SpellsSeries c s of.series) same of.spelled.series_spelled in
     record {
       records = of.records;
       history =
           same_history b of.series series of.records
-          (one_series b s of.series series series_told spelled.series_spelled)
+          (one_series b s of.series series known_series spelled.series_spelled)
           (subst (λ c. IsHistory c of.series of.records) same of.history);
       reaches = subst (λ c. HaveReaches c of.records) same is.reaches;
       text = subst (λ c. text ≡ text_bytes c of.records) same of.text;
@@ -132,7 +132,7 @@ is_no asked bytes s text b series refuted valid spelled is =
     no_yes question.Check h = is_no_text bytes s text b series refuted valid spelled h
     no_yes question.Audit h = is_not_audited bytes s text b series refuted valid spelled h
 
--- Behind the files of a command.
+-- After the files of a command.
 
 -- what a file without a fault spells is valid
 pub spelled_by : (bytes s : List ℕ) (b : Basin) (series : Inflows) → IsSeriesOf b series → IsBasinText b bytes →
@@ -153,33 +153,33 @@ pub good_series : (bytes s : List ℕ) (b : Basin) (series : Inflows) → IsBasi
 good_series bytes s b series basin_text series_text =
     record { basin = b; spelled = basin_text.spelled; within = series_text.within; sound = series_text.sound }
 
--- what follows for told bytes from what is known of them holds as far as they are told
-pub behind_told : (t o r : Option (List ℕ)) (b : Basin) (series : Inflows) (Q : List ℕ → Type 0) (P : List ℕ → List ℕ →
+-- what follows for known bytes from what is known of them holds as far as they are told
+pub after_told : (t o r : Option (List ℕ)) (b : Basin) (series : Inflows) (Q : List ℕ → Type 0) (P : List ℕ → List ℕ →
     List ℕ → Type 0) →
     IsSeriesOf b series → IfSome t (IsBasinText b) → IfSome o (IsSeriesText b series) → IfSome r Q →
     ((bytes s text : List ℕ) → AreSpelled bytes s b series → Q text → P bytes s text) →
     IfSome t (λ bytes. IsGoodBasin bytes × IfSome o (λ s. IsGoodSeries bytes s × IfSome r (P bytes s)))
-behind_told None o r b series Q P fits from_basin from_series known holds = tt
-behind_told (Some bytes) None r b series Q P fits from_basin from_series known holds = (from_basin.good, tt)
-behind_told (Some bytes) (Some s) None b series Q P fits from_basin from_series known holds =
+after_told None o r b series Q P fits from_basin from_series is_known holds = tt
+after_told (Some bytes) None r b series Q P fits from_basin from_series is_known holds = (from_basin.good, tt)
+after_told (Some bytes) (Some s) None b series Q P fits from_basin from_series is_known holds =
     (from_basin.good, (good_series bytes s b series from_basin from_series, tt))
-behind_told (Some bytes) (Some s) (Some text) b series Q P fits from_basin from_series known holds = (
+after_told (Some bytes) (Some s) (Some text) b series Q P fits from_basin from_series is_known holds = (
   from_basin.good,
   (
     good_series bytes s b series from_basin from_series,
-    holds bytes s text (spelled_by bytes s b series fits from_basin from_series) known,
+    holds bytes s text (spelled_by bytes s b series fits from_basin from_series) is_known,
   ),
 )
 
 -- what holds of the bytes that are read holds as far as they are told
-pub behind : (t o r : Option (List ℕ)) (b : Basin) (series : Inflows) (text : List ℕ) (P : List ℕ → List ℕ → List ℕ →
+pub after : (t o r : Option (List ℕ)) (b : Basin) (series : Inflows) (text : List ℕ) (P : List ℕ → List ℕ → List ℕ →
     Type 0) → IsSeriesOf b series →
     IfSome t (IsBasinText b) → IfSome o (IsSeriesText b series) → IfSome r (λ bytes. text ≡ bytes) →
     ((bytes s : List ℕ) → AreSpelled bytes s b series → P bytes s text) →
     IfSome t (λ bytes. IsGoodBasin bytes × IfSome o (λ s. IsGoodSeries bytes s × IfSome r (P bytes s)))
-behind t o r b series text P fits from_basin from_series is holds =
-    behind_told t o r b series (λ bytes. text ≡ bytes) P fits from_basin from_series is
-    (λ bytes s told spelled same. subst (P bytes s) same (holds bytes s spelled))
+after t o r b series text P fits from_basin from_series is holds =
+    after_told t o r b series (λ bytes. text ≡ bytes) P fits from_basin from_series is
+    (λ bytes s known spelled same. subst (P bytes s) same (holds bytes s spelled))
 
 pub accepted : (t o : Option (List ℕ)) (b : Basin) (series : Inflows) → IfSome t (IsBasinText b) →
     IfSome o (IsSeriesText b series) →
@@ -192,16 +192,17 @@ accepted (Some bytes) (Some s) b series from_basin from_series =
 -- The answer to a result, which is read as it is checked.
 
 -- how a check ends whose answer is told
-pub answer_ends : (asked : Question) (b : Basin) (series : Inflows) (told : Option (List ℕ)) (answer : Result ℕ Refuted)
+pub answer_ends : (asked : Question) (b : Basin) (series : Inflows) (known : Option (List ℕ))
+    (answer : Result ℕ Refuted)
     (how : Ending) (read write : Type 0) →
-    IsAnswerTo asked b series told answer → EndsAnswer answer how write →
-    EndsChecking asked b series told how read write
-answer_ends asked b series told answer ending.WriteFault read write is h = h
-answer_ends asked b series told answer other read write is h =
-    subst (λ how. EndsChecking asked b series told how read write) (sym h) (by_answer answer is)
+    IsAnswerTo asked b series known answer → EndsAnswer answer how write →
+    EndsChecking asked b series known how read write
+answer_ends asked b series known answer ending.WriteFault read write is h = h
+answer_ends asked b series known answer other read write is h =
+    subst (λ how. EndsChecking asked b series known how read write) (sym h) (by_answer answer is)
   where
-    by_answer : (a : Result ℕ Refuted) → IsAnswerTo asked b series told a →
-        EndsChecking asked b series told (ending_of a) read write
+    by_answer : (a : Result ℕ Refuted) → IsAnswerTo asked b series known a →
+        EndsChecking asked b series known (ending_of a) read write
     by_answer (Ok months) is = (months, is)
     by_answer (Err refuted) is = is
 
@@ -216,57 +217,58 @@ answer_writes answer other write h = subst (λ how. MayWrite (status_of how)) (s
     by_answer (Err refuted) = tt
 
 -- and what is told of it
-pub answer_leaves : (asked : Question) (b : Basin) (series : Inflows) (told : Option (List ℕ))
+pub answer_leaves : (asked : Question) (b : Basin) (series : Inflows) (known : Option (List ℕ))
     (answer : Result ℕ Refuted) (how : Ending) (old new : Option (List ℕ)) →
-    IsAnswerTo asked b series told answer → Leaves (status_of how) (answered asked answer) old new →
-    IfSome told (λ text. MayWrite (status_of how) → LeavesAnswer asked b series text (status_of how) old new)
+    IsAnswerTo asked b series known answer → Leaves (status_of how) (answered asked answer) old new →
+    IfSome known (λ text. MayWrite (status_of how) → LeavesAnswer asked b series text (status_of how) old new)
 answer_leaves asked b series None answer how old new is left = tt
 answer_leaves asked b series (Some text) answer how old new is left = λ may.
     record { answer = answer; is = is; written = left }
 
 -- where no part could be read, nothing is told
-pub unread_leaves : (asked : Question) (b : Basin) (series : Inflows) (told : Option (List ℕ)) (how : Ending)
+pub unread_leaves : (asked : Question) (b : Basin) (series : Inflows) (known : Option (List ℕ)) (how : Ending)
     (old new : Option (List ℕ)) →
     how ≡ ending.ReadFault file.Result →
-    IfSome told (λ text. MayWrite (status_of how) → LeavesAnswer asked b series text (status_of how) old new)
+    IfSome known (λ text. MayWrite (status_of how) → LeavesAnswer asked b series text (status_of how) old new)
 unread_leaves asked b series None how old new is = tt
 unread_leaves asked b series (Some text) how old new is = λ may.
     absurd (subst (λ how. MayWrite (status_of how)) is may)
 
 -- a failure that came later
-pub ends_later : (asked : Question) (b : Basin) (series : Inflows) (told : Option (List ℕ)) (how : Ending)
+pub ends_later : (asked : Question) (b : Basin) (series : Inflows) (known : Option (List ℕ)) (how : Ending)
     (read later write : Type 0) →
     (read → later) →
-    EndsChecking asked b series told how read write → EndsChecking asked b series told how later write
-ends_later asked b series told ending.Done read later write since h = h
-ends_later asked b series told (ending.Refuted refuted) read later write since h = h
-ends_later asked b series told (ending.ReadFault file.Result) read later write since h = since h
-ends_later asked b series told ending.WriteFault read later write since h = h
-ends_later asked b series told ending.OutOfMemory read later write since h = tt
-ends_later asked b series told other read later write since h = absurd h
+    EndsChecking asked b series known how read write → EndsChecking asked b series known how later write
+ends_later asked b series known ending.Done read later write since h = h
+ends_later asked b series known (ending.Refuted refuted) read later write since h = h
+ends_later asked b series known (ending.ReadFault file.Result) read later write since h = since h
+ends_later asked b series known ending.WriteFault read later write since h = h
+ends_later asked b series known ending.OutOfMemory read later write since h = tt
+ends_later asked b series known other read later write since h = absurd h
 
 -- the cause of how a check or an audit ends
-pub checking_cause : (asked : Question) (told : Told) (files : Files) (result : List ℕ) (b : Basin) (series : Inflows)
+pub checking_cause : (asked : Question) (known : KnownFiles) (files : Files) (result : List ℕ) (b : Basin)
+    (series : Inflows)
     (how : Ending) (read write : Type 0) →
-    IsValidBasin b → IsSeriesOf b series → AreLoaded told files b series →
-    EndsChecking asked b series (told result) how read write →
-    HasCheckingCause asked files result how told read write
-checking_cause asked told files result b series ending.Done read write valid fits loaded ends =
-    behind_told (told files.basin) (series_told told files.series) (told result) b series
+    IsValidBasin b → IsSeriesOf b series → AreLoaded known files b series →
+    EndsChecking asked b series (known result) how read write →
+    HasCheckingCause asked files result how known read write
+checking_cause asked known files result b series ending.Done read write valid fits loaded ends =
+    after_told (known files.basin) (known_series known files.series) (known result) b series
     (λ text. IsAnswerFor asked b series text (Ok ends.0)) (IsYes asked)
     fits loaded.from_basin loaded.from_series ends.1
     (λ bytes s text spelled good. is_yes asked bytes s text b series ends.0 valid spelled good)
-checking_cause asked told files result b series (ending.Refuted refuted) read write valid fits loaded ends =
-    behind_told (told files.basin) (series_told told files.series) (told result) b series
+checking_cause asked known files result b series (ending.Refuted refuted) read write valid fits loaded ends =
+    after_told (known files.basin) (known_series known files.series) (known result) b series
     (λ text. IsAnswerFor asked b series text (Err refuted)) (IsRefuted asked refuted)
     fits loaded.from_basin loaded.from_series ends
     (λ bytes s text spelled bad. is_no asked bytes s text b series refuted valid spelled bad)
-checking_cause asked told files result b series (ending.ReadFault file.Result) read write valid fits loaded ends =
-    (ends, accepted (told files.basin) (series_told told files.series) b series loaded.from_basin loaded.from_series)
-checking_cause asked told files result b series ending.WriteFault read write valid fits loaded ends =
-    (ends, accepted (told files.basin) (series_told told files.series) b series loaded.from_basin loaded.from_series)
-checking_cause asked told files result b series ending.OutOfMemory read write valid fits loaded ends = tt
-checking_cause asked told files result b series other read write valid fits loaded ends = absurd ends
+checking_cause asked known files result b series (ending.ReadFault file.Result) read write valid fits loaded ends =
+    (ends, accepted (known files.basin) (known_series known files.series) b series loaded.from_basin loaded.from_series)
+checking_cause asked known files result b series ending.WriteFault read write valid fits loaded ends =
+    (ends, accepted (known files.basin) (known_series known files.series) b series loaded.from_basin loaded.from_series)
+checking_cause asked known files result b series ending.OutOfMemory read write valid fits loaded ends = tt
+checking_cause asked known files result b series other read write valid fits loaded ends = absurd ends
 
 -- what a check leaves on out
 pub of_told : (t o r : Option (List ℕ)) (b : Basin) (series : Inflows) (Q : List ℕ → Type 0) (P : List ℕ → List ℕ →
@@ -274,11 +276,11 @@ pub of_told : (t o r : Option (List ℕ)) (b : Basin) (series : Inflows) (Q : Li
     IsSeriesOf b series → IfSome t (IsBasinText b) → IfSome o (IsSeriesText b series) → IfSome r Q →
     ((bytes s text : List ℕ) → AreSpelled bytes s b series → Q text → P bytes s text) →
     IfSome t (λ bytes. IfSome o (λ s. IfSome r (P bytes s)))
-of_told None o r b series Q P fits from_basin from_series known holds = tt
-of_told (Some bytes) None r b series Q P fits from_basin from_series known holds = tt
-of_told (Some bytes) (Some s) None b series Q P fits from_basin from_series known holds = tt
-of_told (Some bytes) (Some s) (Some text) b series Q P fits from_basin from_series known holds =
-    holds bytes s text (spelled_by bytes s b series fits from_basin from_series) known
+of_told None o r b series Q P fits from_basin from_series is_known holds = tt
+of_told (Some bytes) None r b series Q P fits from_basin from_series is_known holds = tt
+of_told (Some bytes) (Some s) None b series Q P fits from_basin from_series is_known holds = tt
+of_told (Some bytes) (Some s) (Some text) b series Q P fits from_basin from_series is_known holds =
+    holds bytes s text (spelled_by bytes s b series fits from_basin from_series) is_known
 
 pub of_both : (t o r : Option (List ℕ)) (b : Basin) (series : Inflows) (text : List ℕ) (P : List ℕ → List ℕ → List ℕ →
     Type 0) → IsSeriesOf b series →
@@ -287,18 +289,19 @@ pub of_both : (t o r : Option (List ℕ)) (b : Basin) (series : Inflows) (text :
     IfSome t (λ bytes. IfSome o (λ s. IfSome r (P bytes s)))
 of_both t o r b series text P fits from_basin from_series is holds =
     of_told t o r b series (λ bytes. text ≡ bytes) P fits from_basin from_series is
-    (λ bytes s told spelled same. subst (P bytes s) same (holds bytes s spelled))
+    (λ bytes s known spelled same. subst (P bytes s) same (holds bytes s spelled))
 
-pub checking_writes : (asked : Question) (told : Told) (files : Files) (result : List ℕ) (b : Basin) (series : Inflows)
+pub checking_writes : (asked : Question) (known : KnownFiles) (files : Files) (result : List ℕ) (b : Basin)
+    (series : Inflows)
     (how : Ending) (old new : Option (List ℕ)) →
-    IsSeriesOf b series → AreLoaded told files b series →
-    IfSome (told result) (λ text. MayWrite (status_of how) →
+    IsSeriesOf b series → AreLoaded known files b series →
+    IfSome (known result) (λ text. MayWrite (status_of how) →
     LeavesAnswer asked b series text (status_of how) old new) →
-    OfBoth told files
-    (λ bytes s. IfSome (told result) (λ r. MayWrite (status_of how) →
+    OfBoth known files
+    (λ bytes s. IfSome (known result) (λ r. MayWrite (status_of how) →
     WritesAnswer asked (status_of how) bytes s r old new))
-checking_writes asked told files result b series how old new fits loaded leaves =
-    of_told (told files.basin) (series_told told files.series) (told result) b series
+checking_writes asked known files result b series how old new fits loaded leaves =
+    of_told (known files.basin) (known_series known files.series) (known result) b series
     (λ text. MayWrite (status_of how) → LeavesAnswer asked b series text (status_of how) old new)
     (λ bytes s r. MayWrite (status_of how) → WritesAnswer asked (status_of how) bytes s r old new) fits
     loaded.from_basin loaded.from_series leaves

@@ -17,6 +17,6 @@ pub mod Gathering
 pub mod Edited
 pub mod FoundBytes
 pub mod Idle
-pub mod Handed
+pub mod Flushed
 pub mod Parts
 pub mod Unread

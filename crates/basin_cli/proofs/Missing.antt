@@ -8,7 +8,7 @@ use Rattle.std.specs.Option.{option_or}
 use Rattle.water_text.specs.Months.{IsMonth}
 use Rattle.water_text.specs.declared.month.Month.{Month}
 use Rattle.water_model.specs.Hydrology.{run_month}
-use Rattle.water_model.specs.Places.{numbers_from}
+use Rattle.water_model.specs.Indices.{numbers_from}
 use Rattle.water_model.specs.Valid.{IsValidBasin, IsValidNode, IsValidRight}
 use Rattle.water_model.specs.declared.types.Basin.{Basin}
 use Rattle.water_model.specs.declared.types.Node.{Node}
@@ -19,7 +19,7 @@ use Rattle.water_model.proofs.Balance.{entry_holds}
 use Rattle.std.proofs.lemmas.Option.{slice_get_within}
 use Rattle.std.proofs.lemmas.Bool.{ltb-true}
 use Rattle.inflow_file.specs.SeriesFaults.{series_fault, table_fault, first_fault, record_fault, missing, missing_of}
-use Rattle.inflow_file.specs.SeriesFaults.{body_of, tells_kinds, entries_of, due, amount_for}
+use Rattle.inflow_file.specs.SeriesFaults.{body_of, has_kinds, entries_of, due, amount_for}
 use Rattle.inflow_file.specs.Columns.{column_numbers, count_of_both, is_column}
 use Rattle.inflow_file.specs.CsvRecords.{records_of, is_header}
 use Rattle.inflow_file.specs.declared.refused.SeriesFault.{SeriesFault}
@@ -94,13 +94,13 @@ missing_is_told : (b : Basin) (month : Month) (n : ℕ) → IsMonth month → n 
     IsTold b (missing_of b month n)
 missing_is_told b month n calendar inside = by_test (nat_lt n (length b.nodes)) refl
   where
-    behind : (n m k : ℕ) → nat_lt n m ≡ false → n < m + k → n - m < k
-    behind n m k e l = grind (arith, nat_tests)
+    after : (n m k : ℕ) → nat_lt n m ≡ false → n < m + k → n - m < k
+    after n m k e l = grind (arith, nat_tests)
 
     by_test : (t : Bool) → nat_lt n (length b.nodes) ≡ t →
         IsTold b (if t then refused.Missing month n else refused.MissingWant month (n - length b.nodes))
     by_test true e = (calendar, ltb-true n (length b.nodes) e)
-    by_test false e = (calendar, behind n (length b.nodes) (length b.rights) e inside)
+    by_test false e = (calendar, after n (length b.nodes) (length b.rights) e inside)
 
 missing_told : (b : Basin) (rows : List (List (List ℕ))) (e : SeriesRefused) → IsValidBasin b →
     missing b (entries_of b rows) ≡ Some e → IsTold b e
@@ -153,7 +153,7 @@ refusal_told b text e valid h = by_rows (records_of text) h
     by_rows : (rows : List (List (List ℕ))) → table_fault b rows ≡ Some e → IsTold b e
     by_rows [] h = let same : refused.Record fault.Header 1 ≡ e = cc in
         subst (λ (x : SeriesRefused). IsTold b x) same tt
-    by_rows (header ∷ rows) h = by_header (is_header header || tells_kinds b header) (body_of b (header ∷ rows)) h
+    by_rows (header ∷ rows) h = by_header (is_header header || has_kinds b header) (body_of b (header ∷ rows)) h
 
 -- a node of a valid basin has a name, and so has a right
 pub name_there : (b : Basin) (node : ℕ) (n : Node) → IsValidBasin b → slice_get b.nodes node ≡ Some n →

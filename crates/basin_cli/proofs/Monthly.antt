@@ -7,10 +7,10 @@ use Rattle.std.proofs.KnownBytes.{Appends-trans}
 use Rattle.std.proofs.lemmas.Grind.{flat_map-append}
 use Rattle.std.proofs.lemmas.List.{take-append-drop, take-append-le}
 use Rattle.std.proofs.Math.Seq.{take-append-add}
-use Rattle.water_edge.proofs.Puts.{PutsFront}
+use Rattle.water_edge.proofs.Puts.{PutsPrefix}
 use Rattle.water_edge.specs.Edge.{Puts}
-use Rattle.basin_cli.specs.Listed.{IsFrontOf, begun_with}
-use Rattle.basin_cli.proofs.Written.{all_but_last, front_behind}
+use Rattle.basin_cli.specs.Listed.{IsPrefixOf, begun_with}
+use Rattle.basin_cli.proofs.Written.{all_but_last, prefix_after}
 
 -- the lines of one month more
 pub begun_more : {X : Type 0} (head : List ℕ) (lines : X → List ℕ) (months : List X) (e : X) →
@@ -36,30 +36,30 @@ pub head_begun : {X : Type 0} (head : List ℕ) (lines : X → List ℕ) (start 
     Appends start now head → Appends start now (begun_with head lines [])
 head_begun head lines start now puts = subst (λ bytes. Appends start now bytes) (sym (begun_none head lines)) puts
 
--- a front of the lines of a month was put
-pub month_front : {X : Type 0} (head tail : List ℕ) (lines : X → List ℕ) (months : List X) (e : X) (are_all : Type 0)
+-- a prefix of the lines of a month was put
+pub month_prefix : {X : Type 0} (head tail : List ℕ) (lines : X → List ℕ) (months : List X) (e : X) (are_all : Type 0)
     (start mid now : Option (List ℕ)) →
-    Appends start mid (begun_with head lines months) → PutsFront mid now (lines e) →
-    IsFrontOf head tail lines (months ++ e ∷ []) are_all start now
-month_front head tail lines months e are_all start mid now before front = record {
-  count = length (begun_with head lines months) + front.0;
+    Appends start mid (begun_with head lines months) → PutsPrefix mid now (lines e) →
+    IsPrefixOf head tail lines (months ++ e ∷ []) are_all start now
+month_prefix head tail lines months e are_all start mid now before prefix = record {
+  count = length (begun_with head lines months) + prefix.0;
   whole = λ _. rw (all_but_last months e) (omega arith);
   last = inr (rw (begun_more head lines months e)
-      (omega (arith, front.1, length-append (begun_with head lines months) (lines e))));
+      (omega (arith, prefix.1, length-append (begun_with head lines months) (lines e))));
   text =
       rw (begun_more head lines months e)
-      (front_behind start mid now (begun_with head lines months) (lines e) tail front.0 front.1 before front.2);
+      (prefix_after start mid now (begun_with head lines months) (lines e) tail prefix.0 prefix.1 before prefix.2);
 }
 
--- a front of the head
-pub head_front : {X : Type 0} (head tail : List ℕ) (lines : X → List ℕ) (are_all : Type 0)
+-- a prefix of the head
+pub head_prefix : {X : Type 0} (head tail : List ℕ) (lines : X → List ℕ) (are_all : Type 0)
     (start now : Option (List ℕ)) →
-    PutsFront start now head → IsFrontOf head tail lines [] are_all start now
-head_front head tail lines are_all start now front = record {
-  count = front.0;
+    PutsPrefix start now head → IsPrefixOf head tail lines [] are_all start now
+head_prefix head tail lines are_all start now prefix = record {
+  count = prefix.0;
   whole = λ some. absurd (omega (arith, some));
-  last = inr (rw (begun_none head lines) front.1);
-  text = rw (begun_none head lines) (rw (take-append-le front.0 head tail front.1) front.2);
+  last = inr (rw (begun_none head lines) prefix.1);
+  text = rw (begun_none head lines) (rw (take-append-le prefix.0 head tail prefix.1) prefix.2);
 }
 
 -- what is begun with some of the months is no longer than with all
@@ -74,17 +74,17 @@ begun_grows head lines months n =
       length-append (begun_with head lines (take n months)) (flat_map lines (drop n months)),
     )
 
--- a front of the tail
-pub tail_front : {X : Type 0} (head tail : List ℕ) (lines : X → List ℕ) (months : List X) (are_all : Type 0)
+-- a prefix of the tail
+pub tail_prefix : {X : Type 0} (head tail : List ℕ) (lines : X → List ℕ) (months : List X) (are_all : Type 0)
     (start mid now : Option (List ℕ)) → are_all →
-    Appends start mid (begun_with head lines months) → PutsFront mid now tail →
-    IsFrontOf head tail lines months are_all start now
-tail_front head tail lines months are_all start mid now all before front = record {
-  count = length (begun_with head lines months) + front.0;
+    Appends start mid (begun_with head lines months) → PutsPrefix mid now tail →
+    IsPrefixOf head tail lines months are_all start now
+tail_prefix head tail lines months are_all start mid now all before prefix = record {
+  count = length (begun_with head lines months) + prefix.0;
   whole = λ _. (let less = begun_grows head lines months (length months - 1) in omega (arith, less));
   last = inl all;
-  text = rw (take-append-add (begun_with head lines months) tail front.0)
-      (Appends-trans start mid now (begun_with head lines months) (take front.0 tail) before front.2);
+  text = rw (take-append-add (begun_with head lines months) tail prefix.0)
+      (Appends-trans start mid now (begun_with head lines months) (take prefix.0 tail) before prefix.2);
 }
 
 -- a text of three things that are others by name alone

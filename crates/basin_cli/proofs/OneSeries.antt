@@ -93,7 +93,7 @@ same_partial b series other records same partial = record {
         m.index < b.months
     in_run i m at f = omega (
       arith,
-      f.behind.index,
+      f.after.index,
       length-take i records,
       slice_get_within records i m at,
       partial.within,

@@ -8,9 +8,9 @@ use Rattle.basin_cli.specs.declared.ending.Ending.{Ending}
 use Rattle.basin_cli.specs.declared.ending.Ending.TheVariants as ending
 use Rattle.basin_cli.specs.declared.ending.File.TheVariants as file
 use Rattle.basin_cli.specs.declared.ending.SecondFinding.TheVariants as of_second
-use Rattle.basin_cli.specs.Bytes.{IsGoodBasin, IsTooLong, Told, file_limit, series_told}
+use Rattle.basin_cli.specs.Bytes.{IsGoodBasin, IsTooLong, KnownFiles, file_limit, known_series}
 use Rattle.basin_cli.specs.Command.{Files}
-use Rattle.basin_cli.specs.Comparison.{HaveSameMonths, IsGoodSecond, StopsComparing, BehindFirst, BehindBoth}
+use Rattle.basin_cli.specs.Comparison.{HaveSameMonths, IsGoodSecond, StopsComparing, AfterFirst, AfterBoth}
 use Rattle.basin_cli.specs.Comparison.{ComparisonWrites, WritesComparison}
 use Rattle.basin_cli.specs.Ending.{status_of}
 use Rattle.basin_cli.specs.Out.{MayWrite}
@@ -39,10 +39,10 @@ joined None A B f h = tt
 joined (Some bytes) A B f h = f bytes h
 
 -- a later shelf tells the same, and a count that rose since then rose since the beginning
-same_series : (told later : Told) (name : Option (List ℕ)) → ((n : List ℕ) → later n ≡ told n) →
-    series_told later name ≡ series_told told name
-same_series told later None same = refl
-same_series told later (Some name) same = same name
+same_series : (known later : KnownFiles) (name : Option (List ℕ)) → ((n : List ℕ) → later n ≡ known n) →
+    known_series later name ≡ known_series known name
+same_series known later None same = refl
+same_series known later (Some name) same = same name
 
 both_since : (first second : Basin) (name o : Option (List ℕ)) (read since : Type 0) (how : Ending) → (read → since) →
     BothSeriesReadEnd first second name o read how → BothSeriesReadEnd first second name o since how
@@ -56,19 +56,19 @@ both_since first second name o read since how rose h = absurd h
 pub rose_since : (start mid now : ℕ) → start ≤ mid → Rose mid now → Rose start now
 rose_since start mid now l rose = omega arith
 
-module _ (files : Files) (second : List ℕ) (told : Told) (read : Type 0) where
-  module _ (b c : Basin) (first_text : IfSome (told files.basin) (IsBasinText b))
-      (second_text : IfSome (told second) (IsBasinText c)) where
+module _ (files : Files) (second : List ℕ) (known : KnownFiles) (read : Type 0) where
+  module _ (b c : Basin) (first_text : IfSome (known files.basin) (IsBasinText b))
+      (second_text : IfSome (known second) (IsBasinText c)) where
     both_told : (G : List ℕ → List ℕ → Type 0) →
         ((bytes other : List ℕ) → IsBasinText b bytes → IsBasinText c other → G bytes other) →
-        BehindFirst told files second G
+        AfterFirst known files second G
     both_told G f =
-        joined (told files.basin) (IsBasinText b) (λ bytes. IsGoodBasin bytes × IfSome (told second) (G bytes))
+        joined (known files.basin) (IsBasinText b) (λ bytes. IsGoodBasin bytes × IfSome (known second) (G bytes))
         (λ bytes is.
-        (is.good, joined (told second) (IsBasinText c) (G bytes) (λ other also. f bytes other is also) second_text))
+        (is.good, joined (known second) (IsBasinText c) (G bytes) (λ other also. f bytes other is also) second_text))
         first_text
 
-    good_second : HaveSameMonths b c → BehindFirst told files second IsGoodSecond
+    good_second : HaveSameMonths b c → AfterFirst known files second IsGoodSecond
     good_second same = both_told IsGoodSecond (λ bytes other text other_text. record {
       good = other_text.good;
       one_run = record {
@@ -80,9 +80,9 @@ module _ (files : Files) (second : List ℕ) (told : Told) (read : Type 0) where
       };
     })
 
-    pub other_run : (how : Ending) → IsOtherRun b c how → StopsComparing files second how told read
+    pub other_run : (how : Ending) → IsOtherRun b c how → StopsComparing files second how known read
     other_run how is =
-        subst (λ how. StopsComparing files second how told read) (sym is.0)
+        subst (λ how. StopsComparing files second how known read) (sym is.0)
         (both_told _ (λ bytes other text other_text. (
           other_text.good,
           record {
@@ -94,11 +94,11 @@ module _ (files : Files) (second : List ℕ) (told : Told) (read : Type 0) where
           },
         )))
 
-    behind_both : (Q : List ℕ → List ℕ → List ℕ → Type 0) (S : List ℕ → Type 0) → HaveSameMonths b c →
-        IfSome (series_told told files.series) S →
+    after_both : (Q : List ℕ → List ℕ → List ℕ → Type 0) (S : List ℕ → Type 0) → HaveSameMonths b c →
+        IfSome (known_series known files.series) S →
         ((bytes other series : List ℕ) → IsBasinText b bytes → IsBasinText c other → S series → Q bytes other series) →
-        BehindBoth told files second Q
-    behind_both Q S same h f =
+        AfterBoth known files second Q
+    after_both Q S same h f =
         both_told _ (λ bytes other text other_text. (
           record {
             good = other_text.good;
@@ -110,15 +110,15 @@ module _ (files : Files) (second : List ℕ) (told : Told) (read : Type 0) where
               same = same;
             };
           },
-          joined (series_told told files.series) S (Q bytes other)
+          joined (known_series known files.series) S (Q bytes other)
               (λ series is. f bytes other series text other_text is) h,
         ))
 
     series_stops : (how : Ending) → HaveSameMonths b c →
-        BothSeriesReadEnd b c files.series (series_told told files.series) read how →
-        StopsComparing files second how told read
+        BothSeriesReadEnd b c files.series (known_series known files.series) read how →
+        StopsComparing files second how known read
     series_stops (ending.SeriesRefused finding) same h =
-        behind_both _ _ same h
+        after_both _ _ same h
         (λ bytes other series text other_text is. record {
           basin = b;
           spelled = text.spelled;
@@ -127,43 +127,43 @@ module _ (files : Files) (second : List ℕ) (told : Told) (read : Type 0) where
               is.1;
         })
     series_stops (ending.SecondRefused (of_second.Series finding)) same h =
-        behind_both _ _ same h (λ bytes other series text other_text is. (
+        after_both _ _ same h (λ bytes other series text other_text is. (
           record { basin = b; spelled = text.spelled; within = is.0; sound = is.1.0 },
           record { basin = c; spelled = other_text.spelled; within = is.0; first = is.1.1 },
         ))
     series_stops (ending.ReadFault file.Series) same h = (h.0, h.1, good_second same)
-    series_stops (ending.InputTooLong file.Series) same h = behind_both _ IsTooLong same h (λ _ _ _ _ _ is. is)
+    series_stops (ending.InputTooLong file.Series) same h = after_both _ IsTooLong same h (λ _ _ _ _ _ is. is)
     series_stops ending.OutOfMemory same h = tt
     series_stops how same h = absurd h
 
-    pub series_stops_later : (later : Told) (since : Type 0) (how : Ending) → ((n : List ℕ) → later n ≡ told n) →
+    pub series_stops_later : (later : KnownFiles) (since : Type 0) (how : Ending) → ((n : List ℕ) → later n ≡ known n) →
         (since → read) → HaveSameMonths b c →
-        BothSeriesReadEnd b c files.series (series_told later files.series) since how →
-        StopsComparing files second how told read
+        BothSeriesReadEnd b c files.series (known_series later files.series) since how →
+        StopsComparing files second how known read
     series_stops_later later since how same_told rose same h =
         series_stops how same
-        (both_since b c files.series (series_told told files.series) since read how rose
+        (both_since b c files.series (known_series known files.series) since read how rose
         (subst (λ (o : Option (List ℕ)). BothSeriesReadEnd b c files.series o since how)
-        (same_series told later files.series same_told) h))
+        (same_series known later files.series same_told) h))
 
 -- where a file is refused, nothing may be written
-never_writes : (told : Told) (files : Files) (second : List ℕ) (how : Ending) (read : Type 0) →
-    StopsComparing files second how told read → MayWrite (status_of how) → ⊥
-never_writes told files second (ending.BasinRefused finding) read h may = may
-never_writes told files second (ending.SeriesRefused finding) read h may = may
-never_writes told files second (ending.SecondRefused (of_second.Basin finding)) read h may = may
-never_writes told files second (ending.SecondRefused of_second.OtherRun) read h may = may
-never_writes told files second (ending.SecondRefused (of_second.Series finding)) read h may = may
-never_writes told files second (ending.ReadFault file) read h may = may
-never_writes told files second (ending.InputTooLong file) read h may = may
-never_writes told files second ending.OutOfMemory read h may = may
-never_writes told files second how read h may = h
+never_writes : (known : KnownFiles) (files : Files) (second : List ℕ) (how : Ending) (read : Type 0) →
+    StopsComparing files second how known read → MayWrite (status_of how) → ⊥
+never_writes known files second (ending.BasinRefused finding) read h may = may
+never_writes known files second (ending.SeriesRefused finding) read h may = may
+never_writes known files second (ending.SecondRefused (of_second.Basin finding)) read h may = may
+never_writes known files second (ending.SecondRefused of_second.OtherRun) read h may = may
+never_writes known files second (ending.SecondRefused (of_second.Series finding)) read h may = may
+never_writes known files second (ending.ReadFault file) read h may = may
+never_writes known files second (ending.InputTooLong file) read h may = may
+never_writes known files second ending.OutOfMemory read h may = may
+never_writes known files second how read h may = h
 
-pub refused_writes : (told : Told) (files : Files) (second : List ℕ) (how : Ending) (read : Type 0)
+pub refused_writes : (known : KnownFiles) (files : Files) (second : List ℕ) (how : Ending) (read : Type 0)
     (old new : Option (List ℕ)) →
-    StopsComparing files second how told read → ComparisonWrites told files second (status_of how) old new
-refused_writes told files second how read old new h =
-    by_told (told files.basin) (told second) (series_told told files.series)
+    StopsComparing files second how known read → ComparisonWrites known files second (status_of how) old new
+refused_writes known files second how read old new h =
+    by_told (known files.basin) (known second) (known_series known files.series)
   where
     by_told : (t o s : Option (List ℕ)) →
         IfSome t (λ bytes. IfSome o
@@ -172,4 +172,4 @@ refused_writes told files second how read old new h =
     by_told None o s = tt
     by_told (Some bytes) None s = tt
     by_told (Some bytes) (Some other) None = tt
-    by_told (Some bytes) (Some other) (Some series) = λ may. absurd (never_writes told files second how read h may)
+    by_told (Some bytes) (Some other) (Some series) = λ may. absurd (never_writes known files second how read h may)

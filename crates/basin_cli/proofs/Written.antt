@@ -22,12 +22,12 @@ use Rattle.water_model.proofs.Greatest.{cuts_make_greatest, cuts_let_nobody_get_
 use Rattle.water_model.proofs.Parts.{no_fraction_helps, whole_units_are_greatest}
 use Rattle.water_model.proofs.Sheltered.{histories_leave_nothing, called_rights_get_nothing}
 use Rattle.water_model.proofs.Sheltered.{cuts_let_nothing_outside_help}
-use Rattle.month_fold.specs.Runs.{RunSeen, StandsFor, run_pushes}
+use Rattle.month_fold.specs.Runs.{RunView, RunStandsFor, run_pushes}
 use Rattle.result_text.specs.Begun.{begun_bytes}
 use Rattle.result_text.specs.Range.{FitsText}
 use Rattle.result_text.proofs.Whole.{FitsText-follows, Puts-head, Puts-month, Puts-tail, begun-head, begun-more}
 use Rattle.result_text.proofs.Whole.{text-begun}
-use Rattle.water_edge.proofs.Puts.{PutsFront}
+use Rattle.water_edge.proofs.Puts.{PutsPrefix}
 use Rattle.water_edge.specs.Edge.{Puts}
 use Rattle.basin_cli.specs.Written.{IsWritten, IsWrittenRun, StopsWriting}
 use Rattle.basin_cli.specs.Headline.{KeepsPriority, deliveries_of}
@@ -36,8 +36,8 @@ use Rattle.std.proofs.KnownBytes.{Appends-trans}
 use Rattle.senior_hold.specs.MonthNetwork.{month_pushes}
 
 -- the lines of the last of some months can be written
-pub last_fits : (b : Basin) (run : RunSeen) (records : List MonthRecord) (m : MonthRecord) → run.basin ≡ b →
-    StandsFor run (records ++ m ∷ []) → FitsText b m
+pub last_fits : (b : Basin) (run : RunView) (records : List MonthRecord) (m : MonthRecord) → run.basin ≡ b →
+    RunStandsFor run (records ++ m ∷ []) → FitsText b m
 last_fits b run records m same stands =
     subst (λ c. FitsText c m) same
     (FitsText-follows run.basin run.series records m stands.valid
@@ -45,8 +45,8 @@ last_fits b run records m same stands =
     (omega (arith, stands.partial.within, length-append records (m ∷ []))))
 
 -- all months of a run keep the priority of rights
-pub whole_run : (b : Basin) (series : Inflows) (run : RunSeen) (records : List MonthRecord) → run.basin ≡ b →
-    run.series ≡ series → StandsFor run records → run.done ≡ b.months → KeepsPriority b series records
+pub whole_run : (b : Basin) (series : Inflows) (run : RunView) (records : List MonthRecord) → run.basin ≡ b →
+    run.series ≡ series → RunStandsFor run records → run.done ≡ b.months → KeepsPriority b series records
 whole_run b series run records same fits stands done =
     let valid : IsValidBasin b = rw (← same) stands.valid in
     let partial : IsPartialHistory b series records = rw (← same, ← fits) stands.partial in
@@ -72,14 +72,14 @@ whole_run b series run records same fits stands done =
     }
 
 -- a run that went through one month more has done one month more
-pub stood_done : (run next : RunSeen) (records : List MonthRecord) (m : MonthRecord) → StandsFor run records →
-    StandsFor next (records ++ m ∷ []) → next.done ≡ run.done + 1
+pub stood_done : (run next : RunView) (records : List MonthRecord) (m : MonthRecord) → RunStandsFor run records →
+    RunStandsFor next (records ++ m ∷ []) → next.done ≡ run.done + 1
 stood_done run next records m was is = omega (arith, was.done, is.done, length-append records (m ∷ []))
 
 -- the lines of one month more
-month_written : (b : Basin) (run : RunSeen) (records : List MonthRecord) (m : MonthRecord)
+month_written : (b : Basin) (run : RunView) (records : List MonthRecord) (m : MonthRecord)
     (start mid now : Option (List ℕ)) →
-    run.basin ≡ b → Appends start mid (begun_bytes b records) → StandsFor run (records ++ m ∷ []) →
+    run.basin ≡ b → Appends start mid (begun_bytes b records) → RunStandsFor run (records ++ m ∷ []) →
     Appends mid now (flat_map (whole_line b) (items_of_month b m)) → IsWritten b run start now
 month_written b run records m start mid now same text stands puts = record {
   basin = same;
@@ -92,7 +92,7 @@ month_written b run records m start mid now same text stands puts = record {
     done = Ok tt
 
 -- before the first month a run has the head alone
-pub head_written : (b : Basin) (run : RunSeen) (start now : Option (List ℕ)) → run.basin ≡ b → StandsFor run [] →
+pub head_written : (b : Basin) (run : RunView) (start now : Option (List ℕ)) → run.basin ≡ b → RunStandsFor run [] →
     Appends start now (flat_map (whole_line b) (items_of_head b)) → IsWritten b run start now
 head_written b run start now same stands puts = record {
   basin = same;
@@ -104,8 +104,8 @@ head_written b run start now same stands puts = record {
     done : Result (Unit {0}) (Unit {0})
     done = Ok tt
 
--- behind all months the tail makes the text
-tail_written : (b : Basin) (series : Inflows) (run : RunSeen) (start mid now : Option (List ℕ)) →
+-- after all months the tail makes the text
+tail_written : (b : Basin) (series : Inflows) (run : RunView) (start mid now : Option (List ℕ)) →
     run.series ≡ series → run.done ≡ b.months → IsWritten b run start mid →
     Appends mid now (flat_map (whole_line b) (items_of_tail b)) → IsWrittenRun b series start now
 tail_written b series run start mid now fits all written puts = record {
@@ -124,15 +124,15 @@ pub stopped : {E : Type 0} (r : Result (Unit {0}) E) (P : Type 0) → P → OnEr
 stopped (Ok u) P p = tt
 stopped (Err x) P p = p
 
--- a front of the second piece stands behind the first, whatever goes on with it
-pub front_behind : (start mid now : Option (List ℕ)) (a lines rest : List ℕ) (k : ℕ) → k ≤ length lines →
+-- a prefix of the second piece stands after the first, whatever goes on with it
+pub prefix_after : (start mid now : Option (List ℕ)) (a lines rest : List ℕ) (k : ℕ) → k ≤ length lines →
     Appends start mid a →
     Appends mid now (take k lines) → Appends start now (take (length a + k) ((a ++ lines) ++ rest))
-front_behind start mid now a lines rest k few before behind =
+prefix_after start mid now a lines rest k bounded before later =
     rw (
       take-append-le (length a + k) (a ++ lines) rest (omega (arith, length-append a lines)),
       take-append-add a lines k,
-    ) (Appends-trans start mid now a (take k lines) before behind)
+    ) (Appends-trans start mid now a (take k lines) before later)
 
 -- the months before the last are as many as stand before it
 pub all_but_last : {X : Type 0} (records : List X) (m : X) →
@@ -141,45 +141,45 @@ all_but_last records m =
     let count : length (records ++ m ∷ []) - 1 ≡ length records = omega (arith, length-append records (m ∷ [])) in
     rw count (take-append-le (length records) records (m ∷ []) (omega arith) ∙ take-length records)
 
-month_stops : (b : Basin) (series : Inflows) (run : RunSeen) (records : List MonthRecord) (m : MonthRecord)
+month_stops : (b : Basin) (series : Inflows) (run : RunView) (records : List MonthRecord) (m : MonthRecord)
     (start mid now : Option (List ℕ)) (before after : ℕ) → run.basin ≡ b → run.series ≡ series →
-    StandsFor run (records ++ m ∷ []) → Appends start mid (begun_bytes b records) →
-    PutsFront mid now (flat_map (whole_line b) (items_of_month b m)) → after ≤ before + run.done * month_pushes b →
+    RunStandsFor run (records ++ m ∷ []) → Appends start mid (begun_bytes b records) →
+    PutsPrefix mid now (flat_map (whole_line b) (items_of_month b m)) → after ≤ before + run.done * month_pushes b →
     StopsWriting b series start now before after
-month_stops b series run records m start mid now before after same fits stands text front pushes = record {
+month_stops b series run records m start mid now before after same fits stands text prefix pushes = record {
   records = records ++ m ∷ [];
   partial = rw (← same, ← fits) stands.partial;
   reaches = rw (← same) stands.reaches;
-  count = length (begun_bytes b records) + front.0;
+  count = length (begun_bytes b records) + prefix.0;
   whole = λ _. rw (all_but_last records m) (omega arith);
-  last = inr (rw (begun-more b records m) (omega (arith, front.1, length-append (begun_bytes b records) lines)));
+  last = inr (rw (begun-more b records m) (omega (arith, prefix.1, length-append (begun_bytes b records) lines)));
   text = rw (text-begun b (records ++ m ∷ []), begun-more b records m)
-      (front_behind start mid now (begun_bytes b records) lines (flat_map (whole_line b) (items_of_tail b)) front.0
-      front.1 text
-      front.2);
+      (prefix_after start mid now (begun_bytes b records) lines (flat_map (whole_line b) (items_of_tail b)) prefix.0
+      prefix.1 text
+      prefix.2);
   pushes = rw (← stands.done) pushes;
 }
   where
     lines : List ℕ
     lines = flat_map (whole_line b) (items_of_month b m)
 
--- a front of the lines of a month was put
-pub month_stopped : (b : Basin) (series : Inflows) (run : RunSeen) (records : List MonthRecord) (m : MonthRecord)
+-- a prefix of the lines of a month was put
+pub month_stopped : (b : Basin) (series : Inflows) (run : RunView) (records : List MonthRecord) (m : MonthRecord)
     (start mid now : Option (List ℕ)) (done at after : ℕ) → run.basin ≡ b → run.series ≡ series →
-    StandsFor run (records ++ m ∷ []) → Appends start mid (begun_bytes b records) →
-    PutsFront mid now (flat_map (whole_line b) (items_of_month b m)) → run.done ≡ done + 1 →
+    RunStandsFor run (records ++ m ∷ []) → Appends start mid (begun_bytes b records) →
+    PutsPrefix mid now (flat_map (whole_line b) (items_of_month b m)) → run.done ≡ done + 1 →
     after ≤ at + month_pushes b →
     (before : ℕ) → at ≤ before + done * month_pushes b → StopsWriting b series start now before after
-month_stopped b series run records m start mid now done at after same fits stands text front next pushes before sofar =
-    month_stops b series run records m start mid now before after same fits stands text front
+month_stopped b series run records m start mid now done at after same fits stands text prefix next pushes before sofar =
+    month_stops b series run records m start mid now before after same fits stands text prefix
     (rw next (omega (arith, add-mul done 1 (month_pushes b), sofar, pushes)))
 
--- the lines of a month were put, or a front of them
-pub month_put : {E : Type 0} (b : Basin) (series : Inflows) (run : RunSeen) (records : List MonthRecord)
+-- the lines of a month were put, or a prefix of them
+pub month_put : {E : Type 0} (b : Basin) (series : Inflows) (run : RunView) (records : List MonthRecord)
     (m : MonthRecord)
     (start mid now : Option (List ℕ)) (r : Result (Unit {0}) E) (done at after : ℕ) → run.basin ≡ b →
     run.series ≡ series →
-    StandsFor run (records ++ m ∷ []) → Appends start mid (begun_bytes b records) →
+    RunStandsFor run (records ++ m ∷ []) → Appends start mid (begun_bytes b records) →
     Puts mid now r (flat_map (whole_line b) (items_of_month b m)) → run.done ≡ done + 1 → after ≤ at + month_pushes b →
     OnOk r (IsWritten b run start now) ×
     OnErr r ((before : ℕ) → at ≤ before + done * month_pushes b → StopsWriting b series start now before after)
@@ -188,19 +188,19 @@ month_put b series run records m start mid now (Ok u) done at after same fits st
 month_put b series run records m start mid now (Err e) done at after same fits stands text puts next pushes =
     (tt, month_stopped b series run records m start mid now done at after same fits stands text puts next pushes)
 
-pub head_stops : (b : Basin) (series : Inflows) (run : RunSeen) (start now : Option (List ℕ)) (before : ℕ) →
+pub head_stops : (b : Basin) (series : Inflows) (run : RunView) (start now : Option (List ℕ)) (before : ℕ) →
     run.basin ≡ b →
-    run.series ≡ series → StandsFor run [] → PutsFront start now (flat_map (whole_line b) (items_of_head b)) →
+    run.series ≡ series → RunStandsFor run [] → PutsPrefix start now (flat_map (whole_line b) (items_of_head b)) →
     StopsWriting b series start now before before
-head_stops b series run start now before same fits stands front = record {
+head_stops b series run start now before same fits stands prefix = record {
   records = [];
   partial = rw (← same, ← fits) stands.partial;
   reaches = rw (← same) stands.reaches;
-  count = front.0;
+  count = prefix.0;
   whole = λ some. absurd (omega (arith, some));
-  last = inr (rw (begun-head b) front.1);
-  text = rw (text-begun b [], begun-head b) (rw (take-append-le front.0 (flat_map (whole_line b) (items_of_head b))
-      (flat_map (whole_line b) (items_of_tail b)) front.1) front.2);
+  last = inr (rw (begun-head b) prefix.1);
+  text = rw (text-begun b [], begun-head b) (rw (take-append-le prefix.0 (flat_map (whole_line b) (items_of_head b))
+      (flat_map (whole_line b) (items_of_tail b)) prefix.1) prefix.2);
   pushes = omega arith;
 }
 
@@ -221,27 +221,27 @@ begun_grows b records n =
           (flat_map (whole_line b) (flat_map (items_of_month b) (drop n records))),
     )
 
-pub tail_stops : (b : Basin) (series : Inflows) (run : RunSeen) (start mid now : Option (List ℕ)) (before after : ℕ) →
+pub tail_stops : (b : Basin) (series : Inflows) (run : RunView) (start mid now : Option (List ℕ)) (before after : ℕ) →
     run.series ≡ series → run.done ≡ b.months → IsWritten b run start mid →
-    PutsFront mid now (flat_map (whole_line b) (items_of_tail b)) → after ≤ before + run_pushes b →
+    PutsPrefix mid now (flat_map (whole_line b) (items_of_tail b)) → after ≤ before + run_pushes b →
     StopsWriting b series start now before after
-tail_stops b series run start mid now before after fits all written front pushes = record {
+tail_stops b series run start mid now before after fits all written prefix pushes = record {
   records = written.records;
   partial = rw (← written.basin, ← fits) written.stands.partial;
   reaches = rw (← written.basin) written.stands.reaches;
-  count = length (begun_bytes b written.records) + front.0;
+  count = length (begun_bytes b written.records) + prefix.0;
   whole = λ _. (let less = begun_grows b written.records (length written.records - 1) in omega (arith, less));
   last = inl (sym written.stands.done ∙ all);
-  text = rw (text-begun b written.records) (rw (take-append-add (begun_bytes b written.records) tail front.0)
-      (Appends-trans start mid now (begun_bytes b written.records) (take front.0 tail) written.text front.2));
+  text = rw (text-begun b written.records) (rw (take-append-add (begun_bytes b written.records) tail prefix.0)
+      (Appends-trans start mid now (begun_bytes b written.records) (take prefix.0 tail) written.text prefix.2));
   pushes = rw (← written.stands.done, all) pushes;
 }
   where
     tail : List ℕ
     tail = flat_map (whole_line b) (items_of_tail b)
 
--- the tail was put, or a front of it
-pub tail_put : {E : Type 0} (b : Basin) (series : Inflows) (run : RunSeen) (start mid now : Option (List ℕ))
+-- the tail was put, or a prefix of it
+pub tail_put : {E : Type 0} (b : Basin) (series : Inflows) (run : RunView) (start mid now : Option (List ℕ))
     (r : Result (Unit {0}) E) (before after : ℕ) → run.series ≡ series → run.done ≡ b.months →
     IsWritten b run start mid → Puts mid now r (flat_map (whole_line b) (items_of_tail b)) →
     after ≤ before + run_pushes b →

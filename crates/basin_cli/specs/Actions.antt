@@ -1,4 +1,4 @@
--- How the actions of commands may end, behind their files.
+-- How the actions of commands may end, after their files.
 use Rattle.std.specs.Prelude.{◌≡◌, ℕ, ◌≤◌, List, ⊤, Ok, Err, Option, slice_index}
 use Rattle.edit_script.specs.declared.refused.ScriptFault.TheVariants as script
 use Rattle.index_seq.specs.Text.{ensemble_text}
@@ -19,13 +19,13 @@ use Rattle.basin_cli.specs.Ending.{status_of}
 use Rattle.basin_cli.specs.Explained.{EndsExplaining, Explains, HasMonth, HasRight, IsAbout, IsRecordOf}
 use Rattle.basin_cli.specs.Out.{Leaves, MayWrite}
 
--- out was left with the text of some records of which this holds, or with a front of it
+-- out was left with the text of some records of which this holds, or with a prefix of it
 abbrev pub LeavesRecords : (List MonthRecord → Type 0) → (List MonthRecord → List ℕ) → Ending → Option (List ℕ) →
     Option (List ℕ) → Type 0
 LeavesRecords P text how old new =
     MayWrite (status_of how) → (records : List MonthRecord) × P records × Leaves (status_of how) (text records) old new
 
--- out was left with how often each yearly delivery came in some traces, or with a front of it
+-- out was left with how often each yearly delivery came in some traces, or with a prefix of it
 abbrev pub LeavesTraces : Basin → Inflows → Ending → Option (List ℕ) → Option (List ℕ) → Type 0
 LeavesTraces b series how old new =
     MayWrite (status_of how) → (traces : List (List MonthRecord)) × AreTraces b series traces ×
@@ -34,14 +34,14 @@ LeavesTraces b series how old new =
 -- how the checking of a result may end, by the answer to its bytes where they are told. `read` and `write` say that
 -- the shelf's and out's count of faults rose
 abbrev pub EndsChecking : Question → Basin → Inflows → Option (List ℕ) → Ending → Type 0 → Type 0 → Type 0
-EndsChecking asked b series told ending.Done read write = (months : ℕ) × IsAnswerTo asked b series told (Ok months)
-EndsChecking asked b series told (ending.Refuted refuted) read write = IsAnswerTo asked b series told (Err refuted)
-EndsChecking asked b series told (ending.ReadFault file.Result) read write = read
-EndsChecking asked b series told ending.WriteFault read write = write
-EndsChecking asked b series told ending.OutOfMemory read write = ⊤
-EndsChecking asked b series told other read write = ⊥
+EndsChecking asked b series known ending.Done read write = (months : ℕ) × IsAnswerTo asked b series known (Ok months)
+EndsChecking asked b series known (ending.Refuted refuted) read write = IsAnswerTo asked b series known (Err refuted)
+EndsChecking asked b series known (ending.ReadFault file.Result) read write = read
+EndsChecking asked b series known ending.WriteFault read write = write
+EndsChecking asked b series known ending.OutOfMemory read write = ⊤
+EndsChecking asked b series known other read write = ⊥
 
--- how the answer about a right in the month of this index ends, and what it leaves on out: its text, or a front of it
+-- how the answer about a right in the month of this index ends, and what it leaves on out: its text, or a prefix of it
 pub record AnswersAt (asked : Account) (b : Basin) (series : Inflows) (index right : ℕ) (how : Ending) (write : Type 0)
     (old new : Option (List ℕ)) : Type 0 where
   pub last : MonthRecord
@@ -65,7 +65,7 @@ EndsAsking b series month name (ending.ScriptRefused script.NoSuchName line) wri
 EndsAsking b series month name ending.OutOfMemory write = ⊤
 EndsAsking b series month name other write = ⊥
 
--- out was left with the answer about a right and a record of the month, or with a front of it
+-- out was left with the answer about a right and a record of the month, or with a prefix of it
 pub record IsAnswered (asked : Account) (b : Basin) (series : Inflows) (month : Month) (name : List ℕ) (how : Ending)
     (old new : Option (List ℕ)) : Type 0 where
   pub right : ℕ

@@ -3,7 +3,7 @@ use Rattle.std.specs.Prelude.{◌≡◌, ℕ, ◌++◌, List, codes, Option, IfS
 use Rattle.std.specs.Fmt.{decimal}
 use Rattle.cert_check.specs.Audit.{IsAuditAnswer}
 use Rattle.cert_check.specs.KindNames.{kind_name}
-use Rattle.cert_check.specs.Pieces.{IsAudit, PiecesSeen}
+use Rattle.cert_check.specs.Pieces.{IsAudit, PiecesView}
 use Rattle.cert_check.specs.Standing.{IsAnswer}
 use Rattle.cert_check.specs.Whole.{text_verdict}
 use Rattle.cert_check.specs.declared.refuted.Refuted.{Refuted}
@@ -34,14 +34,14 @@ IsAnswerFor question.Audit b series text answer = IsAuditAnswer b series text an
 
 -- and so of a text, where its bytes are told
 abbrev pub IsAnswerTo : Question → Basin → Inflows → Option (List ℕ) → Result ℕ Refuted → Type 0
-IsAnswerTo asked b series told answer = IfSome told (λ text. IsAnswerFor asked b series text answer)
+IsAnswerTo asked b series known answer = IfSome known (λ text. IsAnswerFor asked b series text answer)
 
 -- a checker can answer the question: for an audit it was opened as one
-abbrev pub CanAnswer : Question → PiecesSeen → Type 0
+abbrev pub CanAnswer : Question → PiecesView → Type 0
 CanAnswer question.Check checker = ⊤
 CanAnswer question.Audit checker = IsAudit checker
 
--- the answer to some bytes is put, or a front of its line
+-- the answer to some bytes is put, or a prefix of its line
 pub record LeavesAnswer (asked : Question) (b : Basin) (series : Inflows) (text : List ℕ) (status : Status)
     (old new : Option (List ℕ)) : Type 0 where
   pub answer : Result ℕ Refuted

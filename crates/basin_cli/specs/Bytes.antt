@@ -52,13 +52,13 @@ pub record AreSpelled (bytes series_bytes : List ℕ) (basin : Basin) (series : 
   pub fits : IsSeriesOf basin series
 
 -- what a shelf tells under a name
-abbrev pub Told : Type 0
-Told = List ℕ → Option (List ℕ)
+abbrev pub KnownFiles : Type 0
+KnownFiles = List ℕ → Option (List ℕ)
 
 -- the bytes of a series. Without a file they are the header of the table alone
-abbrev pub series_told : Told → Option (List ℕ) → Option (List ℕ)
-series_told told None = Some header
-series_told told (Some name) = told name
+abbrev pub known_series : KnownFiles → Option (List ℕ) → Option (List ℕ)
+known_series known None = Some header
+known_series known (Some name) = known name
 
 -- the basin and series that bytes spell, and records of a run of them
 pub record IsRunOf (bytes series_bytes : List ℕ) (basin : Basin) (records : List MonthRecord) : Type 0 where

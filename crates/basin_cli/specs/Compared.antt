@@ -1,6 +1,6 @@
 -- The runs of two basins, compared month by month.
 use Rattle.std.specs.Prelude.{◌≡◌, ℕ, List, length, flat_map, Option, ◌==◌, if◌then◌else◌}
-use Rattle.month_fold.specs.Runs.{RunSeen, StandsFor}
+use Rattle.month_fold.specs.Runs.{RunView, RunStandsFor}
 use Rattle.water_model.specs.declared.types.Basin.{Basin}
 use Rattle.water_model.specs.declared.types.Inflows.{Inflows}
 use Rattle.water_model.specs.declared.types.MonthRecord.{MonthRecord}
@@ -13,13 +13,13 @@ use Rattle.basin_cli.specs.Out.{Leaves}
 use Rattle.basin_cli.specs.Headline.{KeepsPriority}
 
 -- two runs went through equally many months, and the bytes are the rows of the injuries in them, which were counted
-pub record AreCompared (b c : Basin) (first second : RunSeen) (bytes : List ℕ) (injured : ℕ) : Type 0 where
+pub record AreCompared (b c : Basin) (first second : RunView) (bytes : List ℕ) (injured : ℕ) : Type 0 where
   pub first_basin : first.basin ≡ b
   pub second_basin : second.basin ≡ c
   pub records : List MonthRecord
   pub others : List MonthRecord
-  pub first_stands : StandsFor first records
-  pub second_stands : StandsFor second others
+  pub first_stands : RunStandsFor first records
+  pub second_stands : RunStandsFor second others
   pub abreast : length records ≡ length others
   pub rows : bytes ≡ flat_map (injured_row b) (injuries b c records others)
   pub number : injured ≡ length (injuries b c records others)
@@ -33,7 +33,7 @@ pub record IsTextOfComparison (b c : Basin) (series other : Inflows) (bytes : Li
   pub text : bytes ≡ comparison_text b c records others
   pub number : injured ≡ length (injuries b c records others)
 
--- how a comparison with so many injuries ends, unless it can't be written
+-- how a comparison with a given number of injuries ends, unless it can't be written
 abbrev pub ending_with : ℕ → Ending
 ending_with injured = if injured == 0 then ending.Done else ending.Injured
 

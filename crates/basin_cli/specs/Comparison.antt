@@ -15,7 +15,7 @@ use Rattle.basin_cli.specs.declared.ending.Ending.TheVariants as ending
 use Rattle.basin_cli.specs.declared.ending.File.TheVariants as file
 use Rattle.basin_cli.specs.declared.ending.SecondFinding.TheVariants as of_second
 use Rattle.basin_cli.specs.Bytes.{AreSpelled, IsGoodBasin, IsGoodSeries, IsRefusedFor, IsRunOf, IsSeriesRefusedFor}
-use Rattle.basin_cli.specs.Bytes.{IsTooLong, Told, series_told}
+use Rattle.basin_cli.specs.Bytes.{IsTooLong, KnownFiles, known_series}
 use Rattle.basin_cli.specs.Command.{Files}
 use Rattle.basin_cli.specs.Out.{Leaves, MayWrite}
 
@@ -66,62 +66,63 @@ pub record SomebodyIsInjured (bytes second_bytes series_bytes : List ℕ) : Type
   pub is_injury : IsInjury first second records others injury
 
 -- the first basin is good, and this holds of its bytes and those of the second, as far as they are told
-abbrev pub BehindFirst : Told → Files → List ℕ → (List ℕ → List ℕ → Type 0) → Type 0
-BehindFirst told files second P =
-    IfSome (told files.basin) (λ bytes. IsGoodBasin bytes × IfSome (told second) (P bytes))
+abbrev pub AfterFirst : KnownFiles → Files → List ℕ → (List ℕ → List ℕ → Type 0) → Type 0
+AfterFirst known files second P =
+    IfSome (known files.basin) (λ bytes. IsGoodBasin bytes × IfSome (known second) (P bytes))
 
 -- both basins are good and of one run, and this holds of their bytes and those of the series
-abbrev pub BehindBoth : Told → Files → List ℕ → (List ℕ → List ℕ → List ℕ → Type 0) → Type 0
-BehindBoth told files second P =
-    BehindFirst told files second (λ bytes second_bytes. IsGoodSecond bytes second_bytes ×
-    IfSome (series_told told files.series) (P bytes second_bytes))
+abbrev pub AfterBoth : KnownFiles → Files → List ℕ → (List ℕ → List ℕ → List ℕ → Type 0) → Type 0
+AfterBoth known files second P =
+    AfterFirst known files second (λ bytes second_bytes. IsGoodSecond bytes second_bytes ×
+    IfSome (known_series known files.series) (P bytes second_bytes))
 
 -- the cause of an ending at which a file of a comparison is not read or refused
-abbrev pub StopsComparing : Files → List ℕ → Ending → Told → Type 0 → Type 0
-StopsComparing files second (ending.BasinRefused finding) told read = IfSome (told files.basin) (IsRefusedFor finding)
-StopsComparing files second (ending.SecondRefused (of_second.Basin finding)) told read =
-    BehindFirst told files second (λ _ other. IsRefusedFor finding other)
-StopsComparing files second (ending.SecondRefused of_second.OtherRun) told read =
-    BehindFirst told files second (λ bytes other. IsGoodBasin other × AreOfOtherRuns bytes other)
-StopsComparing files second (ending.SeriesRefused finding) told read =
-    BehindBoth told files second (λ bytes _ series. IsSeriesRefusedFor finding bytes series)
-StopsComparing files second (ending.SecondRefused (of_second.Series finding)) told read =
-    BehindBoth told files second (λ bytes other series. IsGoodSeries bytes series ×
+abbrev pub StopsComparing : Files → List ℕ → Ending → KnownFiles → Type 0 → Type 0
+StopsComparing files second (ending.BasinRefused finding) known read = IfSome (known files.basin) (IsRefusedFor finding)
+StopsComparing files second (ending.SecondRefused (of_second.Basin finding)) known read =
+    AfterFirst known files second (λ _ other. IsRefusedFor finding other)
+StopsComparing files second (ending.SecondRefused of_second.OtherRun) known read =
+    AfterFirst known files second (λ bytes other. IsGoodBasin other × AreOfOtherRuns bytes other)
+StopsComparing files second (ending.SeriesRefused finding) known read =
+    AfterBoth known files second (λ bytes _ series. IsSeriesRefusedFor finding bytes series)
+StopsComparing files second (ending.SecondRefused (of_second.Series finding)) known read =
+    AfterBoth known files second (λ bytes other series. IsGoodSeries bytes series ×
     IsSeriesRefusedFor finding other series)
-StopsComparing files second (ending.ReadFault file.Basin) told read = read
-StopsComparing files second (ending.ReadFault file.SecondBasin) told read = read × IfSome (told files.basin) IsGoodBasin
-StopsComparing files second (ending.ReadFault file.Series) told read = read × IsSome files.series ×
-    BehindFirst told files second IsGoodSecond
-StopsComparing files second (ending.InputTooLong file.Basin) told read = IfSome (told files.basin) IsTooLong
-StopsComparing files second (ending.InputTooLong file.SecondBasin) told read =
-    BehindFirst told files second (λ _ other. IsTooLong other)
-StopsComparing files second (ending.InputTooLong file.Series) told read =
-    BehindBoth told files second (λ _ _ series. IsTooLong series)
-StopsComparing files second ending.OutOfMemory told read = ⊤
-StopsComparing files second other told read = ⊥
+StopsComparing files second (ending.ReadFault file.Basin) known read = read
+StopsComparing files second (ending.ReadFault file.SecondBasin) known read = read ×
+    IfSome (known files.basin) IsGoodBasin
+StopsComparing files second (ending.ReadFault file.Series) known read = read × IsSome files.series ×
+    AfterFirst known files second IsGoodSecond
+StopsComparing files second (ending.InputTooLong file.Basin) known read = IfSome (known files.basin) IsTooLong
+StopsComparing files second (ending.InputTooLong file.SecondBasin) known read =
+    AfterFirst known files second (λ _ other. IsTooLong other)
+StopsComparing files second (ending.InputTooLong file.Series) known read =
+    AfterBoth known files second (λ _ _ series. IsTooLong series)
+StopsComparing files second ending.OutOfMemory known read = ⊤
+StopsComparing files second other known read = ⊥
 
 -- the cause of an ending of a comparison: it answers no exactly where somebody is injured
-abbrev pub HasComparingCause : Files → List ℕ → Ending → Told → Type 0 → Type 0 → Type 0
-HasComparingCause files second ending.Done told read write =
-    BehindBoth told files second (λ bytes other series. IsGoodForBoth bytes other series ×
+abbrev pub HasComparingCause : Files → List ℕ → Ending → KnownFiles → Type 0 → Type 0 → Type 0
+HasComparingCause files second ending.Done known read write =
+    AfterBoth known files second (λ bytes other series. IsGoodForBoth bytes other series ×
     (SomebodyIsInjured bytes other series → ⊥))
-HasComparingCause files second ending.Injured told read write =
-    BehindBoth told files second (λ bytes other series. IsGoodForBoth bytes other series ×
+HasComparingCause files second ending.Injured known read write =
+    AfterBoth known files second (λ bytes other series. IsGoodForBoth bytes other series ×
     SomebodyIsInjured bytes other series)
-HasComparingCause files second ending.WriteFault told read write = write × BehindBoth told files second IsGoodForBoth
-HasComparingCause files second how told read write = StopsComparing files second how told read
+HasComparingCause files second ending.WriteFault known read write = write × AfterBoth known files second IsGoodForBoth
+HasComparingCause files second how known read write = StopsComparing files second how known read
 
 -- a comparison is done where nobody is injured, and answers no where somebody is
 abbrev pub IsComparedAs : Status → Type 0 → Type 0
 IsComparedAs how injured =
     (how ≡ status.OutOfMemory) ⊎ (((how ≡ status.Done) × (injured → ⊥)) ⊎ ((how ≡ status.No) × injured))
 
--- told bytes that are accepted, and no fault of the shelf or of out: the basins are compared, unless memory ran out
-abbrev pub ComparesBehind : Told → Files → List ℕ → Status → Type 0 → Type 0 → Type 0
-ComparesBehind told files second how read write =
-    IfSome (told files.basin) (λ bytes. IsGoodBasin bytes →
-    IfSome (told second) (λ other. IsGoodSecond bytes other →
-    IfSome (series_told told files.series) (λ series. IsGoodForBoth bytes other series →
+-- known bytes that are accepted, and no fault of the shelf or of out: the basins are compared, unless memory ran out
+abbrev pub ComparesAfter : KnownFiles → Files → List ℕ → Status → Type 0 → Type 0 → Type 0
+ComparesAfter known files second how read write =
+    IfSome (known files.basin) (λ bytes. IsGoodBasin bytes →
+    IfSome (known second) (λ other. IsGoodSecond bytes other →
+    IfSome (known_series known files.series) (λ series. IsGoodForBoth bytes other series →
     (read → ⊥) → (write → ⊥) → IsComparedAs how (SomebodyIsInjured bytes other series))))
 
 -- What `compare` leaves on out: the comparison of a run of the first basin with one of the second, each with the
@@ -137,18 +138,18 @@ pub record WritesComparison (how : Status) (bytes second_bytes series_bytes : Li
   pub written : Leaves how (comparison_text first second records others) old new
 
 -- this holds of what is told of all three files
-abbrev pub OfThree : Told → Files → List ℕ → (List ℕ → List ℕ → List ℕ → Type 0) → Type 0
-OfThree told files second P =
-    IfSome (told files.basin)
-    (λ bytes. IfSome (told second) (λ other. IfSome (series_told told files.series) (P bytes other)))
+abbrev pub OfThree : KnownFiles → Files → List ℕ → (List ℕ → List ℕ → List ℕ → Type 0) → Type 0
+OfThree known files second P =
+    IfSome (known files.basin)
+    (λ bytes. IfSome (known second) (λ other. IfSome (known_series known files.series) (P bytes other)))
 
-abbrev pub ComparisonWrites : Told → Files → List ℕ → Status → Option (List ℕ) → Option (List ℕ) → Type 0
-ComparisonWrites told files second how old new =
-    OfThree told files second (λ bytes other series. MayWrite how → WritesComparison how bytes other series old new)
+abbrev pub ComparisonWrites : KnownFiles → Files → List ℕ → Status → Option (List ℕ) → Option (List ℕ) → Type 0
+ComparisonWrites known files second how old new =
+    OfThree known files second (λ bytes other series. MayWrite how → WritesComparison how bytes other series old new)
 
 -- searches push at most so often as the bounds of both runs allow
-abbrev pub ComparisonPushes : Told → Files → List ℕ → ℕ → ℕ → Type 0
-ComparisonPushes told files second before now =
-    IfSome (told files.basin) (λ bytes. IfSome (told second) (λ other.
+abbrev pub ComparisonPushes : KnownFiles → Files → List ℕ → ℕ → ℕ → Type 0
+ComparisonPushes known files second before now =
+    IfSome (known files.basin) (λ bytes. IfSome (known second) (λ other.
     (first second : Basin) → Spells bytes first → Spells other second →
     now ≤ before + (run_pushes first + run_pushes second)))

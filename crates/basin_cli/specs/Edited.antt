@@ -15,10 +15,10 @@ use Rattle.basin_cli.specs.declared.ending.Ending.TheVariants as ending
 use Rattle.basin_cli.specs.declared.ending.File.TheVariants as file
 use Rattle.basin_cli.specs.declared.status.Status.{Status}
 use Rattle.basin_cli.specs.declared.status.Status.TheVariants.{Done, WriteFault, OutOfMemory}
-use Rattle.basin_cli.specs.Bytes.{AreSpelled, IsTooLong, Told, file_limit}
+use Rattle.basin_cli.specs.Bytes.{AreSpelled, IsTooLong, KnownFiles, file_limit}
 use Rattle.basin_cli.specs.Command.{Files}
 use Rattle.basin_cli.specs.Out.{MayWrite}
-use Rattle.basin_cli.specs.Reading.{AreAccepted, BehindSeries, CompletesBehind, IsDone, OfBoth, StopsReading}
+use Rattle.basin_cli.specs.Reading.{AreAccepted, AfterSeries, CompletesAfter, IsDone, OfBoth, StopsReading}
 
 -- the bytes of a script are within the limit, and ask for something of the basin and series that other bytes spell
 pub record IsGoodScript (bytes series_bytes script : List ℕ) : Type 0 where
@@ -37,24 +37,24 @@ pub record IsScriptRefusedFor (fault : ScriptFault) (line : ℕ) (bytes series_b
   pub first : script_of basin series script ≡ Err (refused.Refused fault line)
 
 -- the cause of an ending of `edit`
-abbrev pub HasEditingCause : Files → List ℕ → Ending → Told → Type 0 → Type 0 → Type 0
-HasEditingCause files script ending.Done told read write = BehindSeries told files script IsGoodScript
-HasEditingCause files script ending.WriteFault told read write = write × BehindSeries told files script IsGoodScript
-HasEditingCause files script (ending.ScriptRefused fault line) told read write =
-    BehindSeries told files script (IsScriptRefusedFor fault line)
-HasEditingCause files script (ending.ReadFault file.Script) told read write = read × AreAccepted told files
-HasEditingCause files script (ending.InputTooLong file.Script) told read write =
-    BehindSeries told files script (λ _ _ bytes. IsTooLong bytes)
-HasEditingCause files script other told read write = StopsReading files other told read
+abbrev pub HasEditingCause : Files → List ℕ → Ending → KnownFiles → Type 0 → Type 0 → Type 0
+HasEditingCause files script ending.Done known read write = AfterSeries known files script IsGoodScript
+HasEditingCause files script ending.WriteFault known read write = write × AfterSeries known files script IsGoodScript
+HasEditingCause files script (ending.ScriptRefused fault line) known read write =
+    AfterSeries known files script (IsScriptRefusedFor fault line)
+HasEditingCause files script (ending.ReadFault file.Script) known read write = read × AreAccepted known files
+HasEditingCause files script (ending.InputTooLong file.Script) known read write =
+    AfterSeries known files script (λ _ _ bytes. IsTooLong bytes)
+HasEditingCause files script other known read write = StopsReading files other known read
 
--- told bytes that are accepted, and no fault of the shelf or of out: the call is done, unless memory ran out
-abbrev pub EditsBehind : Told → Files → List ℕ → Status → Type 0 → Type 0 → Type 0
-EditsBehind told files script status read write =
-    CompletesBehind told files (λ bytes series. IfSome (told script) (λ text. IsGoodScript bytes series text →
+-- known bytes that are accepted, and no fault of the shelf or of out: the call is done, unless memory ran out
+abbrev pub EditsAfter : KnownFiles → Files → List ℕ → Status → Type 0 → Type 0 → Type 0
+EditsAfter known files script status read write =
+    CompletesAfter known files (λ bytes series. IfSome (known script) (λ text. IsGoodScript bytes series text →
     (read → ⊥) → (write → ⊥) → IsDone status))
 
--- What is left on out: for each `show` the lines of its month, of the series as it is by then, and behind them how many
--- were shown. After a fault of out a front is left of the months shown so far, or of the whole; and where memory ran
+-- What is left on out: for each `show` the lines of its month, of the series as it is by then, and after them how many
+-- were shown. After a fault of out a prefix is left of the months shown so far, or of the whole; and where memory ran
 -- out the whole lines of the months shown so far, and nothing else.
 abbrev pub LeavesShows : Status → Basin → Inflows → List Edit → Option (List ℕ) → Option (List ℕ) → Type 0
 LeavesShows Done b series edits old new = AnswersWhole b series edits (Ok tt) old new
@@ -86,9 +86,9 @@ abbrev pub EditLeaves : Status → List ℕ → List ℕ → List ℕ → Option
 EditLeaves OutOfMemory bytes series script old new = (new ≡ old) ⊎ WritesShows OutOfMemory bytes series script old new
 EditLeaves status bytes series script old new = MayWrite status → WritesShows status bytes series script old new
 
-abbrev pub EditWrites : Told → Files → List ℕ → Status → Option (List ℕ) → Option (List ℕ) → Type 0
-EditWrites told files script status old new =
-    OfBoth told files (λ bytes series. IfSome (told script) (λ text. EditLeaves status bytes series text old new))
+abbrev pub EditWrites : KnownFiles → Files → List ℕ → Status → Option (List ℕ) → Option (List ℕ) → Type 0
+EditWrites known files script status old new =
+    OfBoth known files (λ bytes series. IfSome (known script) (λ text. EditLeaves status bytes series text old new))
 
 -- Searches push at most so often as the cost of the script allows, in months that are solved: a month before the first
 -- change is solved once. A script that is refused has no push.
@@ -96,9 +96,9 @@ pub record PushesOfScript (b : Basin) (series : Inflows) (script : List ℕ) (be
   pub asked : (edits : List Edit) → script_of b series script ≡ Ok edits → now ≤ before + cost edits * month_pushes b
   pub refused : IsErr (script_of b series script) → now ≡ before
 
-abbrev pub EditPushes : Told → Files → List ℕ → ℕ → ℕ → Type 0
-EditPushes told files script before now =
-    OfBoth told files (λ bytes series. IfSome (told script) (λ text.
+abbrev pub EditPushes : KnownFiles → Files → List ℕ → ℕ → ℕ → Type 0
+EditPushes known files script before now =
+    OfBoth known files (λ bytes series. IfSome (known script) (λ text.
     (b : Basin) (s : Inflows) → AreSpelled bytes series b s → PushesOfScript b s text before now))
 
 -- how the reading of a script's bytes may end without what they ask for

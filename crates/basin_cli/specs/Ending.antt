@@ -122,7 +122,7 @@ abbrev pub CanBeSpelledOfSecond : SecondFinding → Type 0
 CanBeSpelledOfSecond (of_second.Series finding) = CanBeSpelled finding
 CanBeSpelledOfSecond finding = ⊤
 
-abbrev pub CanBeTold : Ending → Type 0
-CanBeTold (ending.SeriesRefused finding) = CanBeSpelled finding
-CanBeTold (ending.SecondRefused finding) = CanBeSpelledOfSecond finding
-CanBeTold ending = ⊤
+abbrev pub CanBePrinted : Ending → Type 0
+CanBePrinted (ending.SeriesRefused finding) = CanBeSpelled finding
+CanBePrinted (ending.SecondRefused finding) = CanBeSpelledOfSecond finding
+CanBePrinted ending = ⊤

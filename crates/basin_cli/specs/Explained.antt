@@ -6,7 +6,7 @@ use Rattle.call_list.specs.Helping.{IsHelpingText}
 use Rattle.cut_book.specs.Book.{book_bytes, terms}
 use Rattle.cut_book.specs.Entries.{balance_of, brought, kept}
 use Rattle.water_model.specs.History.{HaveReaches}
-use Rattle.month_fold.specs.Runs.{RunSeen, StandsFor}
+use Rattle.month_fold.specs.Runs.{RunView, RunStandsFor}
 use Rattle.senior_hold.specs.MonthNetwork.{month_pushes}
 use Rattle.water_model.specs.Basin.{right_name}
 use Rattle.water_model.specs.Cuts.{IsReach, cut_bound}
@@ -56,7 +56,7 @@ pub record IsAbout (b : Basin) (series : Inflows) (month : Month) (name : List �
 
 -- the account of a right that is short: what the lines of its book bring, less what they keep, is the bound that its
 -- reach puts on it, and this is what it was delivered
-pub record IsAccountOf (b : Basin) (m : MonthRecord) (right : ℕ) (reach : List Bool) : Type 0 where
+pub record IsBookOfReach (b : Basin) (m : MonthRecord) (right : ℕ) (reach : List Bool) : Type 0 where
   pub is_reach : IsReach b m.month m.supply m.delivered right reach
   pub bound : pos (sum_by brought (terms b m right reach)) -ℤ pos (sum_by kept (terms b m right reach))
       ≡ cut_bound b m.month m.supply m.delivered right reach
@@ -70,7 +70,7 @@ met_line month name = codes "met " ++ month_digits month ++ codes " " ++ name ++
 -- the account of its core
 abbrev pub TellsShort : Account → Basin → MonthRecord → ℕ → List ℕ → Type 0
 TellsShort account.Reach b m right text =
-    (reach : List Bool) × IsAccountOf b m right reach × (text ≡ book_bytes b m right reach)
+    (reach : List Bool) × IsBookOfReach b m right reach × (text ≡ book_bytes b m right reach)
 TellsShort account.Core b m right text = IsHelpingText b m right text
 
 -- the text that answers why a right got no more in a month, or where one more unit would help it: that, where it is
@@ -80,9 +80,9 @@ pub record Explains (asked : Account) (b : Basin) (m : MonthRecord) (right : ℕ
   pub met : slice_index m.want right ≤ slice_index m.delivered right → text ≡ met_line m.month (right_name b right)
 
 -- a run whose last record is of its last month
-pub record HasLast (run : RunSeen) : Type 0 where
+pub record HasLast (run : RunView) : Type 0 where
   pub before : List MonthRecord
-  pub stands : StandsFor run (before ++ run.last ∷ [])
+  pub stands : RunStandsFor run (before ++ run.last ∷ [])
 
 -- searches push at most so often as the bound of a month allows, for each month up to this one, and not at all where
 -- the run of the basin hasn't it

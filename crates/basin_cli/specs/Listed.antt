@@ -4,7 +4,7 @@ use Rattle.std.specs.Io.KnownBytes.{Appends}
 use Rattle.std.specs.List.{flat_map}
 use Rattle.call_list.specs.Lists.{head_bytes, month_bytes, tail_bytes}
 use Rattle.call_list.specs.Whole.{AreFoundIn, MonthFound, list_bytes, records_of}
-use Rattle.month_fold.specs.Runs.{RunSeen, StandsFor}
+use Rattle.month_fold.specs.Runs.{RunView, RunStandsFor}
 use Rattle.senior_hold.specs.MonthNetwork.{month_pushes}
 use Rattle.water_model.specs.History.{HaveReaches, IsPartialHistory}
 use Rattle.water_model.specs.declared.types.Basin.{Basin}
@@ -13,13 +13,13 @@ use Rattle.basin_cli.specs.Headline.{KeepsPriority}
 use Rattle.basin_cli.specs.declared.status.Status.{Status}
 use Rattle.basin_cli.specs.declared.status.Status.TheVariants.{Done, WriteFault}
 
--- the front of a text that was written month by month: its head, and the lines of some months
+-- the prefix of a text that was written month by month: its head, and the lines of some months
 abbrev pub begun_with : {X : Type 0} → List ℕ → (X → List ℕ) → List X → List ℕ
 begun_with head lines months = head ++ flat_map lines months
 
--- Where such writing stopped: all of these months but the last stand behind what out had taken, and of the last one a
+-- Where such writing stopped: all of these months but the last stand after what out had taken, and of the last one a
 -- front; no line of the tail stands before all months do.
-pub record IsFrontOf {X : Type 0} (head tail : List ℕ) (lines : X → List ℕ) (months : List X) (are_all : Type 0)
+pub record IsPrefixOf {X : Type 0} (head tail : List ℕ) (lines : X → List ℕ) (months : List X) (are_all : Type 0)
     (old now : Option (List ℕ)) : Type 0 where
   pub count : ℕ
   pub whole : 0 < length months → length (begun_with head lines (take (length months - 1) months)) ≤ count
@@ -30,16 +30,16 @@ pub record IsFrontOf {X : Type 0} (head tail : List ℕ) (lines : X → List ℕ
 abbrev pub lines_in_list : Basin → MonthFound → List ℕ
 lines_in_list b e = month_bytes b e.month e.found
 
--- behind what out had taken stand the first line and the lines of the months that a run went through, by what one more
+-- after what out had taken stand the first line and the lines of the months that a run went through, by what one more
 -- unit of water would do in each
-pub record IsListed (b : Basin) (run : RunSeen) (old now : Option (List ℕ)) : Type 0 where
+pub record IsListed (b : Basin) (run : RunView) (old now : Option (List ℕ)) : Type 0 where
   pub basin : run.basin ≡ b
   pub months : List MonthFound
   pub found : AreFoundIn b months
-  pub stands : StandsFor run (records_of months)
+  pub stands : RunStandsFor run (records_of months)
   pub text : Appends old now (begun_with (head_bytes b) (lines_in_list b) months)
 
--- behind what out had taken stands the list of the calls of records that keep the priority of rights. It is determined
+-- after what out had taken stands the list of the calls of records that keep the priority of rights. It is determined
 -- by the basin and the series: `call_list` has that as a law
 pub record IsWholeList (b : Basin) (series : Inflows) (old now : Option (List ℕ)) : Type 0 where
   pub months : List MonthFound
@@ -47,14 +47,14 @@ pub record IsWholeList (b : Basin) (series : Inflows) (old now : Option (List �
   pub keeps : KeepsPriority b series (records_of months)
   pub text : Appends old now (list_bytes b months)
 
--- Where writing stopped: of the months of a run that were solved all but the last stand behind what out had taken, and
--- of the last one a front. No month is solved of which nothing could be written.
+-- Where writing stopped: of the months of a run that were solved all but the last stand after what out had taken, and
+-- of the last one a prefix. No month is solved of which nothing could be written.
 pub record StopsListing (b : Basin) (series : Inflows) (old now : Option (List ℕ)) (before after : ℕ) : Type 0 where
   pub months : List MonthFound
   pub found : AreFoundIn b months
   pub partial : IsPartialHistory b series (records_of months)
   pub reaches : HaveReaches b (records_of months)
-  pub front : IsFrontOf (head_bytes b) (tail_bytes b) (lines_in_list b) months (length months ≡ b.months) old now
+  pub prefix : IsPrefixOf (head_bytes b) (tail_bytes b) (lines_in_list b) months (length months ≡ b.months) old now
   pub pushes : after ≤ before + length months * month_pushes b
 
 -- what a list of calls leaves on out: its whole text, or after a fault of out as far as it was written

@@ -12,7 +12,7 @@ MayWrite No = ⊤
 MayWrite WriteFault = ⊤
 MayWrite status = ⊥
 
--- of `edit` also want of memory, which may come behind months that were shown
+-- of `edit` also want of memory, which may come after months that were shown
 abbrev pub MayShow : Status → Type 0
 MayShow OutOfMemory = ⊤
 MayShow status = MayWrite status
@@ -59,7 +59,7 @@ abbrev pub IsUnread : Option Command → Status → (List ℕ → Option ℕ) �
 IsUnread (Some (check asked files result)) status old new = WithoutMemory status (AsksNot files result old new)
 IsUnread command status old new = ⊤
 
--- the text is appended to out, or after a fault of out a front of it
+-- the text is appended to out, or after a fault of out a prefix of it
 abbrev pub Leaves : Status → List ℕ → Option (List ℕ) → Option (List ℕ) → Type 0
 Leaves WriteFault text old new = (count : ℕ) × Appends old new (take count text)
 Leaves status text old new = Appends old new text

@@ -33,15 +33,15 @@ use Rattle.basin_cli.specs.Command.{upgrade}
 use Rattle.basin_cli.specs.Ending.{status_of, line_of}
 use Rattle.basin_cli.specs.Explained.{Explains, HasMonth, HasRight, IsAbout, PushesUpTo}
 use Rattle.basin_cli.specs.Headline.{HasGreatestPlans, HasGreatestPlansInParts}
-use Rattle.basin_cli.specs.Bytes.{AreSpelled, IsGoodBasin, IsSeriesRefusedFor, IsTooLong, Told}
+use Rattle.basin_cli.specs.Bytes.{AreSpelled, IsGoodBasin, IsSeriesRefusedFor, IsTooLong, KnownFiles}
 use Rattle.basin_cli.specs.Out.{Leaves, MayWrite}
 use Rattle.basin_cli.specs.Listed.{LeavesList}
 use Rattle.basin_cli.specs.Written.{LeavesRun}
-use Rattle.basin_cli.specs.Reading.{AreAccepted, BehindBasin, BehindBoth, BehindSeries, CompletesBehind, IsDone}
+use Rattle.basin_cli.specs.Reading.{AreAccepted, AfterBasin, AfterBoth, AfterSeries, CompletesAfter, IsDone}
 use Rattle.basin_cli.specs.Reading.{IsJudged, OfBoth, StopsReading}
-use Rattle.basin_cli.specs.Edited.{HasEditingCause, EditsBehind, EditWrites, EditPushes}
-use Rattle.basin_cli.specs.Upgrading.{HasUpgradingCause, UpgradesBehind, UpgradeWrites}
-use Rattle.basin_cli.specs.Comparison.{HasComparingCause, ComparesBehind, ComparisonWrites, ComparisonPushes}
+use Rattle.basin_cli.specs.Edited.{HasEditingCause, EditsAfter, EditWrites, EditPushes}
+use Rattle.basin_cli.specs.Upgrading.{HasUpgradingCause, UpgradesAfter, UpgradeWrites}
+use Rattle.basin_cli.specs.Comparison.{HasComparingCause, ComparesAfter, ComparisonWrites, ComparisonPushes}
 use Rattle.month_fold.specs.Runs.{run_pushes}
 
 -- A result's bytes are the text of a history of the basin and series that other bytes spell, whoever wrote it. So the
@@ -121,19 +121,19 @@ pub record IsPartYear (bytes : List ℕ) : Type 0 where
   pub part : HasWholeYears basin → ⊥
 
 -- the cause of an ending of a command that solves the months of a basin and writes what it found
-abbrev pub HasSolvingCause : Files → Ending → Told → Type 0 → Type 0 → Type 0
-HasSolvingCause files ending.Done told read write = AreAccepted told files
-HasSolvingCause files ending.WriteFault told read write = write × AreAccepted told files
-HasSolvingCause files other told read write = StopsReading files other told read
+abbrev pub HasSolvingCause : Files → Ending → KnownFiles → Type 0 → Type 0 → Type 0
+HasSolvingCause files ending.Done known read write = AreAccepted known files
+HasSolvingCause files ending.WriteFault known read write = write × AreAccepted known files
+HasSolvingCause files other known read write = StopsReading files other known read
 
 -- the cause of an ending of a check or an audit
-abbrev pub HasCheckingCause : Question → Files → List ℕ → Ending → Told → Type 0 → Type 0 → Type 0
-HasCheckingCause asked files result ending.Done told read write = BehindSeries told files result (IsYes asked)
-HasCheckingCause asked files result (ending.Refuted refuted) told read write =
-    BehindSeries told files result (IsRefuted asked refuted)
-HasCheckingCause asked files result ending.WriteFault told read write = write × AreAccepted told files
-HasCheckingCause asked files result (ending.ReadFault file.Result) told read write = read × AreAccepted told files
-HasCheckingCause asked files result other told read write = StopsReading files other told read
+abbrev pub HasCheckingCause : Question → Files → List ℕ → Ending → KnownFiles → Type 0 → Type 0 → Type 0
+HasCheckingCause asked files result ending.Done known read write = AfterSeries known files result (IsYes asked)
+HasCheckingCause asked files result (ending.Refuted refuted) known read write =
+    AfterSeries known files result (IsRefuted asked refuted)
+HasCheckingCause asked files result ending.WriteFault known read write = write × AreAccepted known files
+HasCheckingCause asked files result (ending.ReadFault file.Result) known read write = read × AreAccepted known files
+HasCheckingCause asked files result other known read write = StopsReading files other known read
 
 -- the cause of an ending of a trial
 abbrev pub HasTrialCause : Ending → Type 0 → Type 0
@@ -142,89 +142,89 @@ HasTrialCause ending.WriteFault write = write
 HasTrialCause ending.OutOfMemory write = ⊤
 HasTrialCause other write = ⊥
 
--- the cause of an ending at which the files of an ensemble are not read or refused: the years are counted behind the
+-- the cause of an ending at which the files of an ensemble are not read or refused: the years are counted after the
 -- basin and before the series
-abbrev pub StopsReadingYears : Files → Ending → Told → Type 0 → Type 0
-StopsReadingYears files ending.PartYear told read = IfSome (told files.basin) IsPartYear
-StopsReadingYears files (ending.SeriesRefused finding) told read = IfSome (told files.basin) IsOfYears ×
-    BehindBasin told files (IsSeriesRefusedFor finding)
-StopsReadingYears files (ending.ReadFault file.Series) told read =
-    IfSome (told files.basin) IsOfYears × read × IsSome files.series × IfSome (told files.basin) IsGoodBasin
-StopsReadingYears files (ending.InputTooLong file.Series) told read =
-    IfSome (told files.basin) IsOfYears × BehindBasin told files (λ _ bytes. IsTooLong bytes)
-StopsReadingYears files other told read = StopsReading files other told read
+abbrev pub StopsReadingYears : Files → Ending → KnownFiles → Type 0 → Type 0
+StopsReadingYears files ending.PartYear known read = IfSome (known files.basin) IsPartYear
+StopsReadingYears files (ending.SeriesRefused finding) known read = IfSome (known files.basin) IsOfYears ×
+    AfterBasin known files (IsSeriesRefusedFor finding)
+StopsReadingYears files (ending.ReadFault file.Series) known read =
+    IfSome (known files.basin) IsOfYears × read × IsSome files.series × IfSome (known files.basin) IsGoodBasin
+StopsReadingYears files (ending.InputTooLong file.Series) known read =
+    IfSome (known files.basin) IsOfYears × AfterBasin known files (λ _ bytes. IsTooLong bytes)
+StopsReadingYears files other known read = StopsReading files other known read
 
 -- the cause of an ending of `ensemble`
-abbrev pub HasEnsembleCause : Files → Ending → Told → Type 0 → Type 0 → Type 0
-HasEnsembleCause files ending.Done told read write = IfSome (told files.basin) IsOfYears × AreAccepted told files
-HasEnsembleCause files ending.WriteFault told read write = write × IfSome (told files.basin) IsOfYears ×
-    AreAccepted told files
-HasEnsembleCause files other told read write = StopsReadingYears files other told read
+abbrev pub HasEnsembleCause : Files → Ending → KnownFiles → Type 0 → Type 0 → Type 0
+HasEnsembleCause files ending.Done known read write = IfSome (known files.basin) IsOfYears × AreAccepted known files
+HasEnsembleCause files ending.WriteFault known read write = write × IfSome (known files.basin) IsOfYears ×
+    AreAccepted known files
+HasEnsembleCause files other known read write = StopsReadingYears files other known read
 
 -- the cause of an ending of `why` or `where`
-abbrev pub HasExplainingCause : Files → Month → List ℕ → Ending → Told → Type 0 → Type 0 → Type 0
-HasExplainingCause files month name ending.Done told read write = BehindBoth told files (IsShortIn month name)
-HasExplainingCause files month name ending.Met told read write =
-    BehindBoth told files (λ bytes series. IsAsked month name bytes × (IsShortIn month name bytes series → ⊥))
-HasExplainingCause files month name ending.WriteFault told read write = write ×
-    BehindBoth told files (λ bytes _. IsAsked month name bytes)
-HasExplainingCause files month name (ending.ScriptRefused script.OutsideRun line) told read write =
-    (line ≡ 0) × BehindBoth told files (λ bytes _. IsOutsideRun month bytes)
-HasExplainingCause files month name (ending.ScriptRefused script.NoSuchName line) told read write =
-    (line ≡ 0) × BehindBoth told files (λ bytes _. IsUnknownRight month name bytes)
-HasExplainingCause files month name other told read write = StopsReading files other told read
+abbrev pub HasExplainingCause : Files → Month → List ℕ → Ending → KnownFiles → Type 0 → Type 0 → Type 0
+HasExplainingCause files month name ending.Done known read write = AfterBoth known files (IsShortIn month name)
+HasExplainingCause files month name ending.Met known read write =
+    AfterBoth known files (λ bytes series. IsAsked month name bytes × (IsShortIn month name bytes series → ⊥))
+HasExplainingCause files month name ending.WriteFault known read write = write ×
+    AfterBoth known files (λ bytes _. IsAsked month name bytes)
+HasExplainingCause files month name (ending.ScriptRefused script.OutsideRun line) known read write =
+    (line ≡ 0) × AfterBoth known files (λ bytes _. IsOutsideRun month bytes)
+HasExplainingCause files month name (ending.ScriptRefused script.NoSuchName line) known read write =
+    (line ≡ 0) × AfterBoth known files (λ bytes _. IsUnknownRight month name bytes)
+HasExplainingCause files month name other known read write = StopsReading files other known read
 
-abbrev pub HasCauseFor : Command → Ending → Told → Type 0 → Type 0 → Type 0
-HasCauseFor (run files) e told read write = HasSolvingCause files e told read write
-HasCauseFor (check asked files result) e told read write = HasCheckingCause asked files result e told read write
-HasCauseFor (report files) e told read write = HasSolvingCause files e told read write
-HasCauseFor (trial number size) e told read write = HasTrialCause e write
-HasCauseFor (compare files second) e told read write = HasComparingCause files second e told read write
-HasCauseFor (why asked files month name) e told read write = HasExplainingCause files month name e told read write
-HasCauseFor (calls files) e told read write = HasSolvingCause files e told read write
-HasCauseFor (ensemble files) e told read write = HasEnsembleCause files e told read write
-HasCauseFor (edit files script) e told read write = HasEditingCause files script e told read write
-HasCauseFor (upgrade basin) e told read write = HasUpgradingCause basin e told read write
+abbrev pub HasCauseFor : Command → Ending → KnownFiles → Type 0 → Type 0 → Type 0
+HasCauseFor (run files) e known read write = HasSolvingCause files e known read write
+HasCauseFor (check asked files result) e known read write = HasCheckingCause asked files result e known read write
+HasCauseFor (report files) e known read write = HasSolvingCause files e known read write
+HasCauseFor (trial number size) e known read write = HasTrialCause e write
+HasCauseFor (compare files second) e known read write = HasComparingCause files second e known read write
+HasCauseFor (why asked files month name) e known read write = HasExplainingCause files month name e known read write
+HasCauseFor (calls files) e known read write = HasSolvingCause files e known read write
+HasCauseFor (ensemble files) e known read write = HasEnsembleCause files e known read write
+HasCauseFor (edit files script) e known read write = HasEditingCause files script e known read write
+HasCauseFor (upgrade basin) e known read write = HasUpgradingCause basin e known read write
 
-abbrev pub EndingHasCause : Option Command → Ending → Told → Type 0 → Type 0 → Type 0
-EndingHasCause None e told read write = e ≡ ending.Usage
-EndingHasCause (Some command) e told read write = HasCauseFor command e told read write
+abbrev pub EndingHasCause : Option Command → Ending → KnownFiles → Type 0 → Type 0 → Type 0
+EndingHasCause None e known read write = e ≡ ending.Usage
+EndingHasCause (Some command) e known read write = HasCauseFor command e known read write
 
--- a front of the line is appended, and all of it unless the count of faults rose
-pub record Tells (old new : Option (List ℕ)) (before now : ℕ) (line : List ℕ) : Type 0 where
+-- a prefix of the line is appended, and all of it unless the count of faults rose
+pub record WritesErrLine (old new : Option (List ℕ)) (before now : ℕ) (line : List ℕ) : Type 0 where
   pub count : ℕ
   pub within : count ≤ length line
   pub appended : Appends old new (take count line)
   pub cut : count < length line → Rose before now
 
--- the status is that of an ending that has its cause, and err got that ending's line, or a front of it
-pub record Ends (command : Option Command) (status : Status) (told : Told) (read write : Type 0)
+-- the status is that of an ending that has its cause, and err got that ending's line, or a prefix of it
+pub record Ends (command : Option Command) (status : Status) (known : KnownFiles) (read write : Type 0)
     (err_old err_new : Option (List ℕ)) (err_before err_now : ℕ) : Type 0 where
   pub how : Ending
   pub status_is : status ≡ status_of how
-  pub cause : EndingHasCause command how told read write
-  pub tells : Tells err_old err_new err_before err_now (line_of how)
+  pub cause : EndingHasCause command how known read write
+  pub tells : WritesErrLine err_old err_new err_before err_now (line_of how)
 
-abbrev pub Completes : Option Command → Status → Told → Type 0 → Type 0 → Type 0
-Completes None status told read write = ⊤
-Completes (Some (run files)) status told read write =
-    CompletesBehind told files (λ _ _. (read → ⊥) → (write → ⊥) → IsDone status)
-Completes (Some (report files)) status told read write =
-    CompletesBehind told files (λ _ _. (read → ⊥) → (write → ⊥) → IsDone status)
-Completes (Some (trial number size)) status told read write = (write → ⊥) → IsDone status
-Completes (Some (check asked files result)) status told read write =
-    CompletesBehind told files (λ bytes series. IfSome (told result) (λ text.
+abbrev pub Completes : Option Command → Status → KnownFiles → Type 0 → Type 0 → Type 0
+Completes None status known read write = ⊤
+Completes (Some (run files)) status known read write =
+    CompletesAfter known files (λ _ _. (read → ⊥) → (write → ⊥) → IsDone status)
+Completes (Some (report files)) status known read write =
+    CompletesAfter known files (λ _ _. (read → ⊥) → (write → ⊥) → IsDone status)
+Completes (Some (trial number size)) status known read write = (write → ⊥) → IsDone status
+Completes (Some (check asked files result)) status known read write =
+    CompletesAfter known files (λ bytes series. IfSome (known result) (λ text.
     (read → ⊥) → (write → ⊥) → IsJudged status (IsYes asked bytes series text)))
-Completes (Some (compare files second)) status told read write = ComparesBehind told files second status read write
-Completes (Some (calls files)) status told read write =
-    CompletesBehind told files (λ _ _. (read → ⊥) → (write → ⊥) → IsDone status)
-Completes (Some (why asked files month name)) status told read write =
-    CompletesBehind told files (λ bytes series. IsAsked month name bytes →
+Completes (Some (compare files second)) status known read write = ComparesAfter known files second status read write
+Completes (Some (calls files)) status known read write =
+    CompletesAfter known files (λ _ _. (read → ⊥) → (write → ⊥) → IsDone status)
+Completes (Some (why asked files month name)) status known read write =
+    CompletesAfter known files (λ bytes series. IsAsked month name bytes →
     (read → ⊥) → (write → ⊥) → IsJudged status (IsShortIn month name bytes series))
-Completes (Some (ensemble files)) status told read write =
-    CompletesBehind told files (λ bytes _. IsOfYears bytes → (read → ⊥) → (write → ⊥) → IsDone status)
-Completes (Some (edit files script)) status told read write = EditsBehind told files script status read write
-Completes (Some (upgrade basin)) status told read write = UpgradesBehind told basin status read write
+Completes (Some (ensemble files)) status known read write =
+    CompletesAfter known files (λ bytes _. IsOfYears bytes → (read → ⊥) → (write → ⊥) → IsDone status)
+Completes (Some (edit files script)) status known read write = EditsAfter known files script status read write
+Completes (Some (upgrade basin)) status known read write = UpgradesAfter known basin status read write
 
 -- what `run` leaves on out: the text of a run of what the bytes spell, or after a fault of out as far as it was written
 pub record WritesRun (status : Status) (bytes series_bytes : List ℕ) (old new : Option (List ℕ))
@@ -270,7 +270,7 @@ pub record WritesTrial (status : Status) (number size : ℕ) (old new : Option (
 
 -- what `why` and `where` leave on out: where the right is short in the month, the book of its reach, or where one more
 -- unit would help it; and else that it is met, by a run of what the bytes spell up to that month
-pub record WritesAccount (asked : Account) (status : Status) (month : Month) (name bytes series_bytes : List ℕ)
+pub record WritesBook (asked : Account) (status : Status) (month : Month) (name bytes series_bytes : List ℕ)
     (old new : Option (List ℕ)) : Type 0 where
   pub basin : Basin
   pub series : Inflows
@@ -293,50 +293,50 @@ pub record WritesEnsemble (status : Status) (bytes series_bytes : List ℕ) (old
   pub written : Leaves status (ensemble_text basin traces) old new
 
 -- `before` and `after` count the pushes
-abbrev pub WritesFor : Option Command → Status → Told → Option (List ℕ) → Option (List ℕ) → ℕ → ℕ → Type 0
-WritesFor None status told old new before after = ⊤
-WritesFor (Some (run files)) status told old new before after =
-    OfBoth told files (λ bytes series. MayWrite status → WritesRun status bytes series old new before after)
-WritesFor (Some (check asked files result)) status told old new before after =
-    OfBoth told files
-    (λ bytes series. IfSome (told result)
+abbrev pub WritesFor : Option Command → Status → KnownFiles → Option (List ℕ) → Option (List ℕ) → ℕ → ℕ → Type 0
+WritesFor None status known old new before after = ⊤
+WritesFor (Some (run files)) status known old new before after =
+    OfBoth known files (λ bytes series. MayWrite status → WritesRun status bytes series old new before after)
+WritesFor (Some (check asked files result)) status known old new before after =
+    OfBoth known files
+    (λ bytes series. IfSome (known result)
     (λ text. MayWrite status → WritesAnswer asked status bytes series text old new))
-WritesFor (Some (report files)) status told old new before after =
-    OfBoth told files (λ bytes series. MayWrite status → WritesReport status bytes series old new)
-WritesFor (Some (trial number size)) status told old new before after = MayWrite status →
+WritesFor (Some (report files)) status known old new before after =
+    OfBoth known files (λ bytes series. MayWrite status → WritesReport status bytes series old new)
+WritesFor (Some (trial number size)) status known old new before after = MayWrite status →
     WritesTrial status number size old new
-WritesFor (Some (compare files second)) status told old new before after =
-    ComparisonWrites told files second status old new
-WritesFor (Some (why asked files month name)) status told old new before after =
-    OfBoth told files (λ bytes series. MayWrite status → WritesAccount asked status month name bytes series old new)
-WritesFor (Some (calls files)) status told old new before after =
-    OfBoth told files (λ bytes series. MayWrite status → WritesCalls status bytes series old new before after)
-WritesFor (Some (edit files script)) status told old new before after = EditWrites told files script status old new
-WritesFor (Some (upgrade basin)) status told old new before after = UpgradeWrites told basin status old new
-WritesFor (Some (ensemble files)) status told old new before after =
-    OfBoth told files (λ bytes series. MayWrite status → WritesEnsemble status bytes series old new)
+WritesFor (Some (compare files second)) status known old new before after =
+    ComparisonWrites known files second status old new
+WritesFor (Some (why asked files month name)) status known old new before after =
+    OfBoth known files (λ bytes series. MayWrite status → WritesBook asked status month name bytes series old new)
+WritesFor (Some (calls files)) status known old new before after =
+    OfBoth known files (λ bytes series. MayWrite status → WritesCalls status bytes series old new before after)
+WritesFor (Some (edit files script)) status known old new before after = EditWrites known files script status old new
+WritesFor (Some (upgrade basin)) status known old new before after = UpgradeWrites known basin status old new
+WritesFor (Some (ensemble files)) status known old new before after =
+    OfBoth known files (λ bytes series. MayWrite status → WritesEnsemble status bytes series old new)
 
 -- searches push at most so often as the bound of a month allows, for each month of the basin that the bytes spell
-abbrev pub PushesOf : Told → Files → ℕ → ℕ → Type 0
-PushesOf told files before now =
-    IfSome (told files.basin) (λ bytes. (basin : Basin) → Spells bytes basin → now ≤ before + run_pushes basin)
+abbrev pub PushesOf : KnownFiles → Files → ℕ → ℕ → Type 0
+PushesOf known files before now =
+    IfSome (known files.basin) (λ bytes. (basin : Basin) → Spells bytes basin → now ≤ before + run_pushes basin)
 
 -- and a check or an audit searches for nothing
-abbrev pub PushesFor : Option Command → Told → ℕ → ℕ → Type 0
-PushesFor None told before now = now ≡ before
-PushesFor (Some (run files)) told before now = PushesOf told files before now
-PushesFor (Some (check asked files result)) told before now = now ≡ before
-PushesFor (Some (report files)) told before now = PushesOf told files before now
-PushesFor (Some (trial number size)) told before now = now ≤ before + run_pushes (generated number size)
-PushesFor (Some (compare files second)) told before now = ComparisonPushes told files second before now
-PushesFor (Some (calls files)) told before now = PushesOf told files before now
-PushesFor (Some (why asked files month name)) told before now =
-    IfSome (told files.basin) (λ bytes. (basin : Basin) → Spells bytes basin → PushesUpTo basin month before now)
-PushesFor (Some (ensemble files)) told before now =
-    IfSome (told files.basin) (λ bytes. (basin : Basin) → Spells bytes basin →
+abbrev pub PushesFor : Option Command → KnownFiles → ℕ → ℕ → Type 0
+PushesFor None known before now = now ≡ before
+PushesFor (Some (run files)) known before now = PushesOf known files before now
+PushesFor (Some (check asked files result)) known before now = now ≡ before
+PushesFor (Some (report files)) known before now = PushesOf known files before now
+PushesFor (Some (trial number size)) known before now = now ≤ before + run_pushes (generated number size)
+PushesFor (Some (compare files second)) known before now = ComparisonPushes known files second before now
+PushesFor (Some (calls files)) known before now = PushesOf known files before now
+PushesFor (Some (why asked files month name)) known before now =
+    IfSome (known files.basin) (λ bytes. (basin : Basin) → Spells bytes basin → PushesUpTo basin month before now)
+PushesFor (Some (ensemble files)) known before now =
+    IfSome (known files.basin) (λ bytes. (basin : Basin) → Spells bytes basin →
     now ≤ before + years_of basin * run_pushes basin)
-PushesFor (Some (edit files script)) told before now = EditPushes told files script before now
-PushesFor (Some (upgrade basin)) told before now = now ≡ before
+PushesFor (Some (edit files script)) known before now = EditPushes known files script before now
+PushesFor (Some (upgrade basin)) known before now = now ≡ before
 
 -- the statuses that leave err alone
 abbrev pub IsQuiet : Status → Type 0

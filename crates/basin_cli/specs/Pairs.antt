@@ -9,8 +9,8 @@ use Rattle.basin_cli.specs.declared.ending.Ending.{Ending}
 use Rattle.basin_cli.specs.declared.ending.Ending.TheVariants as ending
 use Rattle.basin_cli.specs.declared.ending.File.TheVariants as file
 use Rattle.basin_cli.specs.declared.ending.SecondFinding.TheVariants as of_second
-use Rattle.basin_cli.specs.declared.pairs.Pair.{Pair}
-use Rattle.basin_cli.specs.Bytes.{IsRefusedFor, IsTooLong, Told, file_limit}
+use Rattle.basin_cli.specs.declared.pairs.BasinPair.{BasinPair}
+use Rattle.basin_cli.specs.Bytes.{IsRefusedFor, IsTooLong, KnownFiles, file_limit}
 use Rattle.basin_cli.specs.Command.{Files}
 use Rattle.basin_cli.specs.Comparison.{HaveSameMonths}
 use Rattle.basin_cli.specs.Ending.{finding_of}
@@ -28,11 +28,11 @@ SecondEnds bytes other = ⊥
 
 -- how the reading of the second basin may end, where its bytes are told or not
 abbrev pub SecondReadEnds : Option (List ℕ) → Type 0 → Ending → Type 0
-SecondReadEnds told read (ending.SecondRefused (of_second.Basin finding)) = IfSome told (IsRefusedFor finding)
-SecondReadEnds told read (ending.ReadFault file.SecondBasin) = read
-SecondReadEnds told read (ending.InputTooLong file.SecondBasin) = IfSome told IsTooLong
-SecondReadEnds told read ending.OutOfMemory = ⊤
-SecondReadEnds told read other = ⊥
+SecondReadEnds known read (ending.SecondRefused (of_second.Basin finding)) = IfSome known (IsRefusedFor finding)
+SecondReadEnds known read (ending.ReadFault file.SecondBasin) = read
+SecondReadEnds known read (ending.InputTooLong file.SecondBasin) = IfSome known IsTooLong
+SecondReadEnds known read ending.OutOfMemory = ⊤
+SecondReadEnds known read other = ⊥
 
 -- the runs have other months, and the call says so
 abbrev pub IsOtherRun : Basin → Basin → Ending → Type 0
@@ -49,22 +49,23 @@ BothSeriesEnd first second bytes other = ⊥
 
 -- how the reading of a series for both basins may end, where its bytes are told or not
 abbrev pub BothSeriesReadEnd : Basin → Basin → Option (List ℕ) → Option (List ℕ) → Type 0 → Ending → Type 0
-BothSeriesReadEnd first second name told read (ending.SeriesRefused finding) =
-    IfSome told (λ bytes. (length bytes ≤ file_limit) × BothSeriesEnd first second bytes (ending.SeriesRefused finding))
-BothSeriesReadEnd first second name told read (ending.SecondRefused (of_second.Series finding)) =
-    IfSome told (λ bytes. (length bytes ≤ file_limit) ×
+BothSeriesReadEnd first second name known read (ending.SeriesRefused finding) =
+    IfSome known (λ bytes. (length bytes ≤ file_limit) × BothSeriesEnd first second bytes
+    (ending.SeriesRefused finding))
+BothSeriesReadEnd first second name known read (ending.SecondRefused (of_second.Series finding)) =
+    IfSome known (λ bytes. (length bytes ≤ file_limit) ×
     BothSeriesEnd first second bytes (ending.SecondRefused (of_second.Series finding)))
-BothSeriesReadEnd first second name told read (ending.ReadFault file.Series) = read × IsSome name
-BothSeriesReadEnd first second name told read (ending.InputTooLong file.Series) = IfSome told IsTooLong
-BothSeriesReadEnd first second name told read ending.OutOfMemory = ⊤
-BothSeriesReadEnd first second name told read other = ⊥
+BothSeriesReadEnd first second name known read (ending.ReadFault file.Series) = read × IsSome name
+BothSeriesReadEnd first second name known read (ending.InputTooLong file.Series) = IfSome known IsTooLong
+BothSeriesReadEnd first second name known read ending.OutOfMemory = ⊤
+BothSeriesReadEnd first second name known read other = ⊥
 
--- two basins of one run, each with its series, are what the told bytes of the files spell
-pub record ArePaired (told : Told) (files : Files) (second : List ℕ) (pair : Pair) : Type 0 where
+-- two basins of one run, each with its series, are what the known bytes of the files spell
+pub record ArePaired (known : KnownFiles) (files : Files) (second : List ℕ) (pair : BasinPair) : Type 0 where
   pub valid : IsValidBasin pair.first.basin
   pub second_valid : IsValidBasin pair.second.basin
   pub months : HaveSameMonths pair.first.basin pair.second.basin
   pub fits : IsSeriesOf pair.first.basin pair.first.series
   pub second_fits : IsSeriesOf pair.second.basin pair.second.series
-  pub loaded : AreLoaded told files pair.first.basin pair.first.series
-  pub second_loaded : AreLoaded told (second_files files second) pair.second.basin pair.second.series
+  pub loaded : AreLoaded known files pair.first.basin pair.first.series
+  pub second_loaded : AreLoaded known (second_files files second) pair.second.basin pair.second.series

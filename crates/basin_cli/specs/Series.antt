@@ -11,15 +11,15 @@ use Rattle.basin_cli.specs.declared.ending.File.{File}
 use Rattle.basin_cli.specs.declared.ending.File.TheVariants as file
 use Rattle.basin_cli.specs.Command.{Files}
 use Rattle.basin_cli.specs.Ending.{finding_of}
-use Rattle.basin_cli.specs.Bytes.{IsTooLong, IsGoodBasin, IsRefusedFor, Told, file_limit, series_told}
+use Rattle.basin_cli.specs.Bytes.{IsTooLong, IsGoodBasin, IsRefusedFor, KnownFiles, file_limit, known_series}
 use Rattle.basin_cli.specs.Outcome.{IsPartYear}
 
 -- how the reading of a file may end without its bytes
 abbrev pub FileEnds : File → Option (List ℕ) → Type 0 → Ending → Type 0
-FileEnds file told read (ending.ReadFault named) = (named ≡ file) × read
-FileEnds file told read (ending.InputTooLong named) = (named ≡ file) × IfSome told IsTooLong
-FileEnds file told read ending.OutOfMemory = ⊤
-FileEnds file told read other = ⊥
+FileEnds file known read (ending.ReadFault named) = (named ≡ file) × read
+FileEnds file known read (ending.InputTooLong named) = (named ≡ file) × IfSome known IsTooLong
+FileEnds file known read ending.OutOfMemory = ⊤
+FileEnds file known read other = ⊥
 
 -- how a basin's bytes may be refused
 abbrev pub BasinEnds : List ℕ → Ending → Type 0
@@ -29,16 +29,16 @@ BasinEnds bytes other = ⊥
 
 -- how the reading of a basin may end, where its bytes are told or not
 abbrev pub BasinReadEnds : Option (List ℕ) → Type 0 → Ending → Type 0
-BasinReadEnds told read (ending.BasinRefused finding) = IfSome told (IsRefusedFor finding)
-BasinReadEnds told read (ending.ReadFault file.Basin) = read
-BasinReadEnds told read (ending.InputTooLong file.Basin) = IfSome told IsTooLong
-BasinReadEnds told read ending.OutOfMemory = ⊤
-BasinReadEnds told read other = ⊥
+BasinReadEnds known read (ending.BasinRefused finding) = IfSome known (IsRefusedFor finding)
+BasinReadEnds known read (ending.ReadFault file.Basin) = read
+BasinReadEnds known read (ending.InputTooLong file.Basin) = IfSome known IsTooLong
+BasinReadEnds known read ending.OutOfMemory = ⊤
+BasinReadEnds known read other = ⊥
 
 -- how the reading of a basin whose run is to be one of whole years may end
 abbrev pub YearsReadEnds : Option (List ℕ) → Type 0 → Ending → Type 0
-YearsReadEnds told read ending.PartYear = IfSome told IsPartYear
-YearsReadEnds told read other = BasinReadEnds told read other
+YearsReadEnds known read ending.PartYear = IfSome known IsPartYear
+YearsReadEnds known read other = BasinReadEnds known read other
 
 -- how the bytes of a basin's series may be refused
 abbrev pub SeriesEnds : Basin → List ℕ → Ending → Type 0
@@ -60,15 +60,15 @@ pub record IsSeriesText (b : Basin) (series : Inflows) (bytes : List ℕ) : Type
 -- how the reading of a series may end, where its bytes are told or not. Without a file it is the header alone, and no
 -- reading fails
 abbrev pub SeriesReadEnds : Basin → Option (List ℕ) → Option (List ℕ) → Type 0 → Ending → Type 0
-SeriesReadEnds b name told read (ending.SeriesRefused finding) =
-    IfSome told (λ bytes. (length bytes ≤ file_limit) ×
+SeriesReadEnds b name known read (ending.SeriesRefused finding) =
+    IfSome known (λ bytes. (length bytes ≤ file_limit) ×
     (option_and_then (finding_of b) (series_fault b bytes) ≡ Some finding))
-SeriesReadEnds b name told read (ending.ReadFault file.Series) = read × IsSome name
-SeriesReadEnds b name told read (ending.InputTooLong file.Series) = IfSome told IsTooLong
-SeriesReadEnds b name told read ending.OutOfMemory = ⊤
-SeriesReadEnds b name told read other = ⊥
+SeriesReadEnds b name known read (ending.ReadFault file.Series) = read × IsSome name
+SeriesReadEnds b name known read (ending.InputTooLong file.Series) = IfSome known IsTooLong
+SeriesReadEnds b name known read ending.OutOfMemory = ⊤
+SeriesReadEnds b name known read other = ⊥
 
--- the basin and the series are what the told bytes of the files spell
-pub record AreLoaded (told : Told) (files : Files) (b : Basin) (series : Inflows) : Type 0 where
-  pub from_basin : IfSome (told files.basin) (IsBasinText b)
-  pub from_series : IfSome (series_told told files.series) (IsSeriesText b series)
+-- the basin and the series are what the known bytes of the files spell
+pub record AreLoaded (known : KnownFiles) (files : Files) (b : Basin) (series : Inflows) : Type 0 where
+  pub from_basin : IfSome (known files.basin) (IsBasinText b)
+  pub from_series : IfSome (known_series known files.series) (IsSeriesText b series)

@@ -5,7 +5,7 @@ use Rattle.water_edge.specs.declared.shelf.Shelf
 use Rattle.water_edge.specs.declared.sink.Sink
 use Rattle.basin_cli.specs.declared.ending.Ending.{Ending}
 use Rattle.basin_cli.specs.Command.{Command}
-use Rattle.basin_cli.specs.Ending.{CanBeTold, status_of}
+use Rattle.basin_cli.specs.Ending.{CanBePrinted, status_of}
 use Rattle.basin_cli.specs.Out.{IsIdle, IsUnread, MayLeave}
 use Rattle.basin_cli.specs.Outcome.{EndingHasCause, IsQuiet, PushesFor, WritesFor}
 
@@ -14,12 +14,12 @@ use Rattle.basin_cli.specs.Outcome.{EndingHasCause, IsQuiet, PushesFor, WritesFo
 -- the pushes.
 pub record Serves {S K : Type 0} (shelf : Shelf.Ghosts S) (sink : Sink.Ghosts K) (command : Option Command)
     (how : Ending) (shelf_old shelf_new : S) (old new : K) (before after : ℕ) : Type 0 where
-  pub cause : EndingHasCause command how (shelf.told shelf_old)
+  pub cause : EndingHasCause command how (shelf.known shelf_old)
       (Rose (shelf.faults shelf_old) (shelf.faults shelf_new)) (Rose (sink.faults old) (sink.faults new))
-  pub can_be_told : CanBeTold how
-  pub writes : WritesFor command (status_of how) (shelf.told shelf_old) (sink.taken old) (sink.taken new) before after
+  pub can_be_printed : CanBePrinted how
+  pub writes : WritesFor command (status_of how) (shelf.known shelf_old) (sink.taken old) (sink.taken new) before after
   pub out_stays : (MayLeave command (status_of how) → ⊥) → new ≡ old
-  pub handed : IsQuiet (status_of how) → sink.handed new ≡ sink.taken new
+  pub flushed : IsQuiet (status_of how) → sink.flushed new ≡ sink.taken new
   pub unread : IsUnread command (status_of how) (shelf.asked shelf_old) (shelf.asked shelf_new)
   pub idle : IsIdle command (status_of how) → after ≡ before
-  pub pushes : PushesFor command (shelf.told shelf_old) before after
+  pub pushes : PushesFor command (shelf.known shelf_old) before after

@@ -8,7 +8,7 @@ use Rattle.basin_cli.specs.declared.ending.Ending.{Ending}
 use Rattle.basin_cli.specs.declared.ending.Ending.TheVariants as ending
 use Rattle.basin_cli.specs.declared.ending.File.TheVariants as file
 use Rattle.basin_cli.specs.declared.status.Status.{Status}
-use Rattle.basin_cli.specs.Bytes.{IsGoodBasin, IsRefusedFor, IsTooLong, Told}
+use Rattle.basin_cli.specs.Bytes.{IsGoodBasin, IsRefusedFor, IsTooLong, KnownFiles}
 use Rattle.basin_cli.specs.Out.{Leaves, MayWrite}
 use Rattle.basin_cli.specs.Reading.{IsDone}
 
@@ -22,22 +22,22 @@ pub record IsUpgradeOf (bytes text : List ℕ) : Type 0 where
   pub sound : file_fault text ≡ None
 
 -- the cause of an ending of `upgrade`
-abbrev pub HasUpgradingCause : List ℕ → Ending → Told → Type 0 → Type 0 → Type 0
-HasUpgradingCause name ending.Done told read write = IfSome (told name) IsGoodBasin
-HasUpgradingCause name ending.WriteFault told read write = write × IfSome (told name) IsGoodBasin
-HasUpgradingCause name (ending.BasinRefused finding) told read write = IfSome (told name) (IsRefusedFor finding)
-HasUpgradingCause name (ending.ReadFault file.Basin) told read write = read
-HasUpgradingCause name (ending.InputTooLong file.Basin) told read write = IfSome (told name) IsTooLong
-HasUpgradingCause name ending.OutOfMemory told read write = ⊤
-HasUpgradingCause name other told read write = ⊥
+abbrev pub HasUpgradingCause : List ℕ → Ending → KnownFiles → Type 0 → Type 0 → Type 0
+HasUpgradingCause name ending.Done known read write = IfSome (known name) IsGoodBasin
+HasUpgradingCause name ending.WriteFault known read write = write × IfSome (known name) IsGoodBasin
+HasUpgradingCause name (ending.BasinRefused finding) known read write = IfSome (known name) (IsRefusedFor finding)
+HasUpgradingCause name (ending.ReadFault file.Basin) known read write = read
+HasUpgradingCause name (ending.InputTooLong file.Basin) known read write = IfSome (known name) IsTooLong
+HasUpgradingCause name ending.OutOfMemory known read write = ⊤
+HasUpgradingCause name other known read write = ⊥
 
--- told bytes that are accepted, and no fault of the shelf or of out: the call is done, unless memory ran out
-abbrev pub UpgradesBehind : Told → List ℕ → Status → Type 0 → Type 0 → Type 0
-UpgradesBehind told name status read write =
-    IfSome (told name) (λ bytes. IsGoodBasin bytes → (read → ⊥) → (write → ⊥) → IsDone status)
+-- known bytes that are accepted, and no fault of the shelf or of out: the call is done, unless memory ran out
+abbrev pub UpgradesAfter : KnownFiles → List ℕ → Status → Type 0 → Type 0 → Type 0
+UpgradesAfter known name status read write =
+    IfSome (known name) (λ bytes. IsGoodBasin bytes → (read → ⊥) → (write → ⊥) → IsDone status)
 
--- out was left with such a text, or after a fault of out with a front of it
-abbrev pub UpgradeWrites : Told → List ℕ → Status → Option (List ℕ) → Option (List ℕ) → Type 0
-UpgradeWrites told name status old new =
-    IfSome (told name) (λ bytes. MayWrite status → (text : List ℕ) × IsUpgradeOf bytes text ×
+-- out was left with such a text, or after a fault of out with a prefix of it
+abbrev pub UpgradeWrites : KnownFiles → List ℕ → Status → Option (List ℕ) → Option (List ℕ) → Type 0
+UpgradeWrites known name status old new =
+    IfSome (known name) (λ bytes. MayWrite status → (text : List ℕ) × IsUpgradeOf bytes text ×
     Leaves status text old new)

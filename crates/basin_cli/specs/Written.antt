@@ -2,7 +2,7 @@
 use Rattle.std.specs.Prelude.{◌≡◌, ◌⊎◌, ℕ, ◌+◌, ◌-◌, ◌*◌, ◌<◌, ◌≤◌, List, length, take, Option, ⊤}
 use Rattle.std.specs.Io.KnownBytes.{Appends}
 use Rattle.water_model.specs.History.{HaveReaches}
-use Rattle.month_fold.specs.Runs.{RunSeen, StandsFor}
+use Rattle.month_fold.specs.Runs.{RunView, RunStandsFor}
 use Rattle.result_text.specs.Begun.{begun_bytes}
 use Rattle.senior_hold.specs.MonthNetwork.{month_pushes}
 use Rattle.water_model.specs.History.{IsPartialHistory}
@@ -14,21 +14,21 @@ use Rattle.basin_cli.specs.Headline.{KeepsPriority}
 use Rattle.basin_cli.specs.declared.status.Status.{Status}
 use Rattle.basin_cli.specs.declared.status.Status.TheVariants.{Done, WriteFault}
 
--- behind what out had taken stand the head and the lines of the months that a run went through
-pub record IsWritten (b : Basin) (run : RunSeen) (old now : Option (List ℕ)) : Type 0 where
+-- after what out had taken stand the head and the lines of the months that a run went through
+pub record IsWritten (b : Basin) (run : RunView) (old now : Option (List ℕ)) : Type 0 where
   pub basin : run.basin ≡ b
   pub records : List MonthRecord
-  pub stands : StandsFor run records
+  pub stands : RunStandsFor run records
   pub text : Appends old now (begun_bytes b records)
 
--- behind what out had taken stands the text of records that keep the priority of rights
+-- after what out had taken stands the text of records that keep the priority of rights
 pub record IsWrittenRun (b : Basin) (series : Inflows) (old now : Option (List ℕ)) : Type 0 where
   pub records : List MonthRecord
   pub keeps : KeepsPriority b series records
   pub text : Appends old now (text_bytes b records)
 
--- Where writing stopped: of the first months of a run all but the last stand behind what out had taken, and of the last
--- one a front; no line of the tail stands before all months do. No month is solved of which nothing could be written.
+-- Where writing stopped: of the first months of a run all but the last stand after what out had taken, and of the last
+-- one a prefix; no line of the tail stands before all months do. No month is solved of which nothing could be written.
 pub record StopsWriting (b : Basin) (series : Inflows) (old now : Option (List ℕ)) (before after : ℕ) : Type 0 where
   pub records : List MonthRecord
   pub partial : IsPartialHistory b series records

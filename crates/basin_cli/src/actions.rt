@@ -1,4 +1,4 @@
-//! What commands do behind their files: they solve the months of a basin and write what was found, or check a result.
+//! What commands do after their files: they solve the months of a basin and write what was found, or check a result.
 ghost use Rattle.std.specs.Prelude.{◌≡◌, ◌+◌, ◌*◌, ◌≤◌, ◌++◌, [], codes, length, IfOk};
 ghost use Rattle.std.specs.Fmt.{decimal};
 ghost use Rattle.basin_gen.specs.Generator.{generated};
@@ -21,7 +21,7 @@ ghost use Rattle.month_fold.specs.Runs.{run_pushes};
 
 use crate::checking::Question;
 use crate::ending::Ending;
-use crate::handing::put_whole;
+use crate::flushing::put_whole;
 use crate::listing::list_run;
 use crate::writing::write_run;
 use basin_gen::make;
@@ -54,7 +54,7 @@ pub fn run_basin<K: Sink, L: Ledger>(
     ensures out_stays { (MayWrite (status_of result) → ⊥) → out.new ≡ out.old }
     ensures idle { (MayWrite (status_of result) → ⊥) → searches.new ≡ searches.old }
     ensures pushes { searches.new ≤ searches.old + run_pushes basin.now }
-    ensures handed { IsQuiet (status_of result) → K.handed out.new ≡ K.taken out.new }
+    ensures flushed { IsQuiet (status_of result) → K.flushed out.new ≡ K.taken out.new }
 {
     let mut run = match Run::open(alloc, basin, series) {
         Ok(run) => run,
@@ -83,7 +83,7 @@ pub fn list_basin<K: Sink, L: Ledger>(
     ensures out_stays { (MayWrite (status_of result) → ⊥) → out.new ≡ out.old }
     ensures idle { (MayWrite (status_of result) → ⊥) → searches.new ≡ searches.old }
     ensures pushes { searches.new ≤ searches.old + run_pushes basin.now }
-    ensures handed { IsQuiet (status_of result) → K.handed out.new ≡ K.taken out.new }
+    ensures flushed { IsQuiet (status_of result) → K.flushed out.new ≡ K.taken out.new }
 {
     let mut finder = match CallFinder::open(alloc, basin) {
         Ok(finder) => finder,
@@ -115,7 +115,7 @@ pub fn report_basin<K: Sink, L: Ledger>(
     ensures out_stays { (MayWrite (status_of result) → ⊥) → out.new ≡ out.old }
     ensures idle { (MayWrite (status_of result) → ⊥) → searches.new ≡ searches.old }
     ensures pushes { searches.new ≤ searches.old + run_pushes basin.now }
-    ensures handed { IsQuiet (status_of result) → K.handed out.new ≡ K.taken out.new }
+    ensures flushed { IsQuiet (status_of result) → K.flushed out.new ≡ K.taken out.new }
 {
     match period_report(alloc, basin, series, out, searches) {
         Ok(()) => match out.flush() {
@@ -128,7 +128,7 @@ pub fn report_basin<K: Sink, L: Ledger>(
 }
 
 /// Solves the record of a basin's gauges once from each of its years, and puts how often each yearly delivery came.
-pub fn gather_basin<K: Sink, L: Ledger>(
+pub fn ensemble_basin<K: Sink, L: Ledger>(
     alloc: Global,
     basin: &Basin,
     series: &Inflows,
@@ -143,7 +143,7 @@ pub fn gather_basin<K: Sink, L: Ledger>(
     ensures out_stays { (MayWrite (status_of result) → ⊥) → out.new ≡ out.old }
     ensures idle { IsRefusal (status_of result) → ⊥ }
     ensures pushes { searches.new ≤ searches.old + years_of basin.now * run_pushes basin.now }
-    ensures handed { IsQuiet (status_of result) → K.handed out.new ≡ K.taken out.new }
+    ensures flushed { IsQuiet (status_of result) → K.flushed out.new ≡ K.taken out.new }
 {
     match ensemble_report(alloc, basin, series, out, searches) {
         Ok(()) => match out.flush() {
@@ -156,7 +156,7 @@ pub fn gather_basin<K: Sink, L: Ledger>(
 }
 
 /// Makes the basin of a number and a size, solves its months and puts a summary of them.
-pub fn try_basin<K: Sink, L: Ledger>(
+pub fn trial_basin<K: Sink, L: Ledger>(
     alloc: Global,
     number: u32,
     size: u32,
@@ -171,7 +171,7 @@ pub fn try_basin<K: Sink, L: Ledger>(
     ensures out_stays { (MayWrite (status_of result) → ⊥) → out.new ≡ out.old }
     ensures idle { (MayWrite (status_of result) → ⊥) → searches.new ≡ searches.old }
     ensures pushes { searches.new ≤ searches.old + run_pushes (generated number size) }
-    ensures handed { IsQuiet (status_of result) → K.handed out.new ≡ K.taken out.new }
+    ensures flushed { IsQuiet (status_of result) → K.flushed out.new ≡ K.taken out.new }
 {
     let (basin, series) = match make(alloc, number, size) {
         Ok(made) => made,
@@ -244,14 +244,14 @@ fn judged(answer: &Result<u32, Refuted>) -> Ending
 }
 
 /// Puts the answer to a checked or audited text. It takes no memory.
-pub fn tell_answer<K: Sink>(
+pub fn print_answer<K: Sink>(
     question: Question,
     answer: &Result<u32, Refuted>,
     out: &mut K,
 ) -> Ending
     ensures ends { EndsAnswer answer.now result (Rose (K.faults out.old) (K.faults out.new)) }
     ensures leaves { Leaves (status_of result) (answered question answer.now) (K.taken out.old) (K.taken out.new) }
-    ensures handed { IsQuiet (status_of result) → K.handed out.new ≡ K.taken out.new }
+    ensures flushed { IsQuiet (status_of result) → K.flushed out.new ≡ K.taken out.new }
 {
     let mut line = Line::new();
     put_answer(&mut line, question, answer);

@@ -11,7 +11,7 @@ ghost use Rattle.basin_cli.specs.Ending.{status_of};
 ghost use Rattle.basin_cli.specs.Out.{MayWrite};
 ghost use Rattle.basin_cli.specs.Outcome.{IsQuiet};
 
-use crate::actions::tell_answer;
+use crate::actions::print_answer;
 use crate::ending::{Ending, File};
 use cert_check::{PieceChecker, Refuted};
 use std::alloc::{AllocError, Global};
@@ -63,7 +63,7 @@ fn finish(question: Question, checker: &PieceChecker) -> Result<u32, Refuted>
 }
 
 /// The answer to the result of this name, which is read in parts from its first byte on. Where a line is at fault, no
-/// part behind the one that ends it is read. ReadFault comes where the reading of a part failed.
+/// part after the one that ends it is read. ReadFault comes where the reading of a part failed.
 ///
 /// It takes no memory.
 pub fn answer_parts<S: Shelf>(
@@ -76,10 +76,10 @@ pub fn answer_parts<S: Shelf>(
     requires first { StandsForText checker.old [] }
     requires room { bytes_left checker.old < 2 ^ 64 }
     requires can { CanAnswer question checker.old }
-    ensures same { SameShelf (S.told shelf.old) (S.told shelf.new) (S.serves shelf.old) (S.serves shelf.new) }
+    ensures same { SameShelf (S.known shelf.old) (S.known shelf.new) (S.serves shelf.old) (S.serves shelf.new) }
     ensures later { S.faults shelf.old ≤ S.faults shelf.new }
     ensures answer { IfOk result
-        (IsAnswerTo question checker.old.basin checker.old.series (S.told shelf.old name.now)) }
+        (IsAnswerTo question checker.old.basin checker.old.series (S.known shelf.old name.now)) }
     ensures fault { IfErr result (λ e. (e ≡ ending.ReadFault file.Result) ×
         Rose (S.faults shelf.old) (S.faults shelf.new)) }
 {
@@ -116,20 +116,20 @@ pub fn check_file<S: Shelf, K: Sink>(
     requires series { IsSeriesOf basin.now series.now }
     requires serves { S.serves shelf.old name.now }
     ensures later { S.faults shelf.old ≤ S.faults shelf.new }
-    ensures ends { EndsChecking question basin.now series.now (S.told shelf.old name.now) result
+    ensures ends { EndsChecking question basin.now series.now (S.known shelf.old name.now) result
         (Rose (S.faults shelf.old) (S.faults shelf.new)) (Rose (K.faults out.old) (K.faults out.new)) }
-    ensures leaves { IfSome (S.told shelf.old name.now) (λ text. MayWrite (status_of result) →
+    ensures leaves { IfSome (S.known shelf.old name.now) (λ text. MayWrite (status_of result) →
         LeavesAnswer question basin.now series.now text (status_of result) (K.taken out.old) (K.taken out.new)) }
     ensures out_stays { (MayWrite (status_of result) → ⊥) → out.new ≡ out.old }
     ensures unread { result ≡ ending.OutOfMemory → shelf.new ≡ shelf.old }
-    ensures handed { IsQuiet (status_of result) → K.handed out.new ≡ K.taken out.new }
+    ensures flushed { IsQuiet (status_of result) → K.flushed out.new ≡ K.taken out.new }
 {
     let mut checker = match open_checker(alloc, question, basin, series) {
         Ok(checker) => checker,
         Err(_) => return Ending::OutOfMemory,
     };
     match answer_parts(question, shelf, name, &mut checker) {
-        Ok(answer) => tell_answer(question, &answer, out),
+        Ok(answer) => print_answer(question, &answer, out),
         Err(ending) => ending,
     }
 }

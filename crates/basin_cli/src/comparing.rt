@@ -2,7 +2,7 @@
 ghost use Rattle.std.specs.Prelude.{[], ◌≡◌, ◌+◌, ◌-◌, ◌<◌, ◌≤◌, ◌++◌, length, flat_map, IfOk, OnOk};
 ghost use Rattle.water_model.specs.Valid.{IsValidBasin, IsSeriesOf};
 ghost use Rattle.water_text.specs.Months.{IsMonth};
-ghost use Rattle.month_fold.specs.Runs.{StandsFor, run_pushes};
+ghost use Rattle.month_fold.specs.Runs.{RunStandsFor, run_pushes};
 ghost use Rattle.injury.specs.Common.{common_rights, HaveDeliveries};
 ghost use Rattle.injury.specs.Injuries.{injuries_of, injured_row, compared_row};
 ghost use Rattle.water_edge.specs.Edge.{Rose};
@@ -15,7 +15,7 @@ ghost use Rattle.senior_hold.specs.MonthNetwork.{month_pushes};
 
 use crate::draft::Draft;
 use crate::ending::Ending;
-use crate::handing::put_whole;
+use crate::flushing::put_whole;
 use injury::{Pairing, put_compared};
 use month_fold::run::Run;
 use std::alloc::{AllocError, Global};
@@ -138,8 +138,8 @@ fn compare_runs<L: Ledger>(
     requires months { other.now.months ≡ basin.now.months }
     requires run { first.old.basin ≡ basin.now }
     requires other_run { second.old.basin ≡ other.now }
-    requires fresh { StandsFor first.old [] }
-    requires other_fresh { StandsFor second.old [] }
+    requires fresh { RunStandsFor first.old [] }
+    requires other_fresh { RunStandsFor second.old [] }
     ensures text { IfOk result
         (λ drafted. IsTextOfComparison basin.now other.now first.old.series second.old.series drafted.0.bytes
         drafted.1) }
@@ -183,7 +183,7 @@ pub fn text_of_comparison<L: Ledger>(
     )
 }
 
-/// How a comparison with so many injuries ends.
+/// How a comparison with a given number of injuries ends.
 fn ending_with(injured: u32) -> Ending
     ensures is { result ≡ ending_with injured }
     ensures idle { IsRefusal (status_of result) → ⊥ }
@@ -217,7 +217,7 @@ pub fn compare_basins<K: Sink, L: Ledger>(
     ensures memory { (MayWrite (status_of result) → ⊥) → result ≡ OutOfMemory }
     ensures idle { IsRefusal (status_of result) → ⊥ }
     ensures pushes { searches.new ≤ searches.old + (run_pushes basin.now + run_pushes other.now) }
-    ensures handed { IsQuiet (status_of result) → K.handed out.new ≡ K.taken out.new }
+    ensures flushed { IsQuiet (status_of result) → K.flushed out.new ≡ K.taken out.new }
 {
     let (text, injured) = match text_of_comparison(
         alloc,

@@ -45,7 +45,7 @@ impl Draft {
 impl Sink for Draft {
     ghost taken = { λ d. Some d.bytes };
 
-    ghost handed = { λ d. Some d.bytes };
+    ghost flushed = { λ d. Some d.bytes };
 
     ghost faults = { λ d. d.faults };
 

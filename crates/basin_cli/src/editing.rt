@@ -57,7 +57,7 @@ fn answer_edits<K: Sink, L: Ledger>(
     ensures leaves { LeavesShows (status_of result) basin.now series.now edits.now (K.taken out.old) (K.taken out.new) }
     ensures idle { IsRefusal (status_of result) → ⊥ }
     ensures pushes { searches.new ≤ searches.old + cost edits.now * month_pushes basin.now }
-    ensures handed { IsQuiet (status_of result) → K.handed out.new ≡ K.taken out.new }
+    ensures flushed { IsQuiet (status_of result) → K.flushed out.new ≡ K.taken out.new }
 {
     match put_shows(alloc, basin, series, edits, out, searches) {
         Ok(()) => match out.flush() {
@@ -91,7 +91,7 @@ pub fn edit_basin<K: Sink, L: Ledger>(
     ensures out_stays { (MayShow (status_of result) → ⊥) → out.new ≡ out.old }
     ensures idle { IsRefusal (status_of result) → searches.new ≡ searches.old }
     ensures pushes { PushesOfScript basin.now series.now text.now searches.old searches.new }
-    ensures handed { IsQuiet (status_of result) → K.handed out.new ≡ K.taken out.new }
+    ensures flushed { IsQuiet (status_of result) → K.flushed out.new ≡ K.taken out.new }
 {
     let edits = match accept_script(alloc, basin, series, text) {
         Ok(edits) => edits,

@@ -5,11 +5,11 @@ ghost use Rattle.water_text.specs.Months.{IsMonth, month_digits};
 ghost use Rattle.inflow_file.specs.FaultNames.{fault_name};
 ghost use Rattle.water_edge.specs.Edge.{Rose};
 ghost use Rattle.basin_cli.specs.Ending.{status_of, status_of_second, line_of, refusal_line, second_line, second_of};
-ghost use Rattle.basin_cli.specs.Ending.{series_line, file_name, script_fault_name, script_line, CanBeTold};
+ghost use Rattle.basin_cli.specs.Ending.{series_line, file_name, script_fault_name, script_line, CanBePrinted};
 ghost use Rattle.basin_cli.specs.Ending.{CanBeSpelled, CanBeSpelledOfSecond};
-ghost use Rattle.basin_cli.specs.Outcome.{IsQuiet, Tells};
+ghost use Rattle.basin_cli.specs.Outcome.{IsQuiet, WritesErrLine};
 
-use crate::handing::put_whole;
+use crate::flushing::put_whole;
 use crate::status::Status;
 use basin_tree::walk::Finding;
 use cert_check::Refuted;
@@ -104,7 +104,7 @@ pub enum Ending {
 
 impl Ending {
     /// Whether err is told of it.
-    pub fn is_told(&self) -> bool
+    pub fn has_line_on_err(&self) -> bool
         ensures { IsTrue result ↔ (IsQuiet (status_of self.now) → ⊥) }
     {
         !matches!(
@@ -190,7 +190,7 @@ fn put_missing(line: &mut Line, whose: &[u8], what: &[u8], month: Month, name: &
 fn put_series_refusal(line: &mut Line, whose: &[u8], finding: &SeriesFinding)
     requires empty { line.old ≡ [] }
     requires short { length whose.now ≤ 16 }
-    requires told { CanBeSpelled finding.now }
+    requires printable { CanBeSpelled finding.now }
     ensures { line.new ≡ series_line whose.now finding.now }
 {
     match finding {
@@ -208,7 +208,7 @@ fn put_series_refusal(line: &mut Line, whose: &[u8], finding: &SeriesFinding)
 #[tactic(auto, unfolding(crate::specs::Ending::second_line))]
 fn put_second_refusal(line: &mut Line, finding: &SecondFinding)
     requires empty { line.old ≡ [] }
-    requires told { CanBeSpelledOfSecond finding.now }
+    requires printable { CanBeSpelledOfSecond finding.now }
     ensures { line.new ≡ second_line finding.now }
 {
     match finding {
@@ -261,7 +261,7 @@ fn put_script_refusal(line: &mut Line, fault: ScriptFault, number: u64)
 #[tactic(auto, unfolding(crate::specs::Ending::line_of))]
 fn put_line(line: &mut Line, ending: &Ending)
     requires empty { line.old ≡ [] }
-    requires told { CanBeTold ending.now }
+    requires printable { CanBePrinted ending.now }
     ensures { line.new ≡ line_of ending.now }
 {
     match ending {
@@ -282,12 +282,12 @@ fn put_line(line: &mut Line, ending: &Ending)
     }
 }
 
-/// Puts the line of an ending to err. If err fails, a front of it stands there. It takes no memory.
-pub fn tell<E: Sink>(ending: &Ending, err: &mut E)
-    requires { CanBeTold ending.now }
-    ensures tells { Tells (E.taken err.old) (E.taken err.new) (E.faults err.old) (E.faults err.new)
+/// Puts the line of an ending to err. If err fails, a prefix of it stands there. It takes no memory.
+pub fn print_ending<E: Sink>(ending: &Ending, err: &mut E)
+    requires { CanBePrinted ending.now }
+    ensures tells { WritesErrLine (E.taken err.old) (E.taken err.new) (E.faults err.old) (E.faults err.new)
         (line_of ending.now) }
-    ensures handed { (Rose (E.faults err.old) (E.faults err.new) → ⊥) → E.handed err.new ≡ E.taken err.new }
+    ensures flushed { (Rose (E.faults err.old) (E.faults err.new) → ⊥) → E.flushed err.new ≡ E.taken err.new }
 {
     let mut line = Line::new();
     put_line(&mut line, ending);

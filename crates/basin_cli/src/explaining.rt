@@ -6,7 +6,7 @@ ghost use Rattle.water_text.specs.Months.{IsMonth};
 ghost use Rattle.water_model.specs.Valid.{IsValidBasin, IsSeriesOf};
 ghost use Rattle.rights_roll.specs.Rolls.{IsRollOf};
 ghost use Rattle.water_model.specs.History.{HasReaches, IsShort};
-ghost use Rattle.month_fold.specs.Runs.{HasMonths, StandsFor};
+ghost use Rattle.month_fold.specs.Runs.{HasMonths, RunStandsFor};
 ghost use Rattle.result_text.specs.Range.{FitsText};
 ghost use Rattle.senior_hold.specs.MonthNetwork.{month_pushes};
 ghost use Rattle.water_edge.specs.Edge.{HasCause, Puts, Rose};
@@ -78,9 +78,9 @@ fn right_named(basin: &Basin, name: &[u8]) -> Option<u32>
     }
 }
 
-/// Solves so many months of a run that had none yet.
+/// Solves a given number of months of a run that had none yet.
 fn solve_months<L: Ledger>(run: &mut Run, count: u32, searches: &mut Steps<L>)
-    requires first { StandsFor run.old [] }
+    requires first { RunStandsFor run.old [] }
     requires within { count ≤ run.old.basin.months }
     ensures basin { run.new.basin ≡ run.old.basin }
     ensures series { run.new.series ≡ run.old.series }
@@ -95,7 +95,7 @@ fn solve_months<L: Ledger>(run: &mut Run, count: u32, searches: &mut Steps<L>)
 
 /// Solves the months of a run up to the one of this index, whose record `month` then gives.
 fn solve_up_to<L: Ledger>(run: &mut Run, index: u32, searches: &mut Steps<L>)
-    requires first { StandsFor run.old [] }
+    requires first { RunStandsFor run.old [] }
     requires within { index < run.old.basin.months }
     ensures basin { run.new.basin ≡ run.old.basin }
     ensures series { run.new.series ≡ run.old.series }
@@ -121,7 +121,7 @@ fn put_met(line: &mut Line, month: Month, name: &Name)
 }
 
 /// Puts that a right is met, by one `put`. It takes no memory.
-fn tell_met<K: Sink>(sink: &mut K, month: Month, name: &Name) -> Result<(), SinkFailed>
+fn print_met<K: Sink>(sink: &mut K, month: Month, name: &Name) -> Result<(), SinkFailed>
     requires { IsMonth month }
     ensures text { Puts (K.taken sink.old) (K.taken sink.new) result (met_line month name.now) }
     ensures cause { HasCause (K.faults sink.old) (K.faults sink.new) (IsErr result) }
@@ -184,7 +184,7 @@ fn put_answer<K: Sink>(
     if is_short(month, right) {
         put_account(sink, account, finder, basin, roll, month, right)
     } else {
-        tell_met(sink, month.month, name_in(Space::Rights, basin, right))
+        print_met(sink, month.month, name_in(Space::Rights, basin, right))
     }
 }
 
@@ -223,7 +223,7 @@ fn answer<K: Sink>(
     ensures leaves { (text : List ℕ) × Explains account basin.now month.now right text ×
         Leaves (status_of result) text (K.taken out.old) (K.taken out.new) }
     ensures idle { IsRefusal (status_of result) → ⊥ }
-    ensures handed { IsQuiet (status_of result) → K.handed out.new ≡ K.taken out.new }
+    ensures flushed { IsQuiet (status_of result) → K.flushed out.new ≡ K.taken out.new }
 {
     match put_answer(out, account, finder, basin, roll, month, right) {
         Ok(()) => match out.flush() {
@@ -245,7 +245,7 @@ fn explain_in<K: Sink, L: Ledger>(
     searches: &mut Steps<L>,
 ) -> Ending
     requires finder { IsHelpFinderOf run.old.basin finder.old }
-    requires first { StandsFor run.old [] }
+    requires first { RunStandsFor run.old [] }
     requires index { index < run.old.basin.months }
     requires right { right < length run.old.basin.rights }
     ensures answers { MayWrite (status_of result) → AnswersAt account run.old.basin run.old.series index right result
@@ -254,7 +254,7 @@ fn explain_in<K: Sink, L: Ledger>(
     ensures out_stays { (MayWrite (status_of result) → ⊥) → out.new ≡ out.old }
     ensures idle { (MayWrite (status_of result) → ⊥) → searches.new ≡ searches.old }
     ensures pushes { searches.new ≤ searches.old + (index + 1) * month_pushes run.old.basin }
-    ensures handed { IsQuiet (status_of result) → K.handed out.new ≡ K.taken out.new }
+    ensures flushed { IsQuiet (status_of result) → K.flushed out.new ≡ K.taken out.new }
 {
     solve_up_to(run, index, searches);
     answer(
@@ -289,7 +289,7 @@ fn explain_at<K: Sink, L: Ledger>(
     ensures out_stays { (MayWrite (status_of result) → ⊥) → out.new ≡ out.old }
     ensures idle { (MayWrite (status_of result) → ⊥) → searches.new ≡ searches.old }
     ensures pushes { searches.new ≤ searches.old + (index + 1) * month_pushes basin.now }
-    ensures handed { IsQuiet (status_of result) → K.handed out.new ≡ K.taken out.new }
+    ensures flushed { IsQuiet (status_of result) → K.flushed out.new ≡ K.taken out.new }
 {
     let mut run = match Run::open(alloc, basin, series) {
         Ok(run) => run,
@@ -323,7 +323,7 @@ pub fn explain_right<K: Sink, L: Ledger>(
     ensures out_stays { (MayWrite (status_of result) → ⊥) → out.new ≡ out.old }
     ensures idle { (MayWrite (status_of result) → ⊥) → searches.new ≡ searches.old }
     ensures pushes { PushesUpTo basin.now month searches.old searches.new }
-    ensures handed { IsQuiet (status_of result) → K.handed out.new ≡ K.taken out.new }
+    ensures flushed { IsQuiet (status_of result) → K.flushed out.new ≡ K.taken out.new }
 {
     let Some(index) = index_of(basin, month) else {
         return Ending::ScriptRefused {

@@ -9,9 +9,9 @@ ghost use Rattle.water_text.specs.Months.{IsMonth};
 ghost use Rattle.water_model.specs.Basin.{node_name, right_name};
 ghost use Rattle.water_model.specs.Valid.{IsValidBasin, IsSeriesOf};
 ghost use Rattle.basin_cli.specs.Command.{ServesSeries, named};
-ghost use Rattle.basin_cli.specs.Ending.{CanBeTold};
+ghost use Rattle.basin_cli.specs.Ending.{CanBePrinted};
 ghost use Rattle.basin_cli.specs.Header.{header};
-ghost use Rattle.basin_cli.specs.Bytes.{file_limit, series_told};
+ghost use Rattle.basin_cli.specs.Bytes.{file_limit, known_series};
 ghost use Rattle.basin_cli.specs.Outcome.{StopsReadingYears};
 ghost use Rattle.basin_cli.specs.Reading.{StopsReading};
 ghost use Rattle.basin_cli.specs.Series.{AreLoaded, FileEnds, BasinEnds, BasinReadEnds, SeriesEnds, SeriesReadEnds};
@@ -38,13 +38,13 @@ pub fn read_file<S: Shelf>(
     file: File,
 ) -> Result<Vec<u8>, Ending>
     requires { S.serves shelf.old name.now }
-    ensures same { SameShelf (S.told shelf.old) (S.told shelf.new) (S.serves shelf.old) (S.serves shelf.new) }
+    ensures same { SameShelf (S.known shelf.old) (S.known shelf.new) (S.serves shelf.old) (S.serves shelf.new) }
     ensures later { S.faults shelf.old ≤ S.faults shelf.new }
     ensures asked { AsksFor (S.asked shelf.old) (S.asked shelf.new) name.now }
     ensures within { IfOk result (λ text. length text.items ≤ file_limit) }
-    ensures bytes { IfOk result (λ text. IfSome (S.told shelf.old name.now) (λ bytes. text.items ≡ bytes)) }
+    ensures bytes { IfOk result (λ text. IfSome (S.known shelf.old name.now) (λ bytes. text.items ≡ bytes)) }
     ensures ends { IfErr result
-        (λ e. FileEnds file (S.told shelf.old name.now) (Rose (S.faults shelf.old) (S.faults shelf.new)) e) }
+        (λ e. FileEnds file (S.known shelf.old name.now) (Rose (S.faults shelf.old) (S.faults shelf.new)) e) }
 {
     match shelf.read_whole(alloc, name, FILE_LIMIT) {
         Ok(text) => Ok(text),
@@ -81,13 +81,13 @@ pub fn accept_basin(alloc: Global, text: &[u8]) -> Result<Basin, Ending>
 /// The basin of the file with this name, or how the call ends.
 pub fn read_basin_file<S: Shelf>(alloc: Global, shelf: &mut S, name: &str) -> Result<Basin, Ending>
     requires { S.serves shelf.old name.now }
-    ensures same { SameShelf (S.told shelf.old) (S.told shelf.new) (S.serves shelf.old) (S.serves shelf.new) }
+    ensures same { SameShelf (S.known shelf.old) (S.known shelf.new) (S.serves shelf.old) (S.serves shelf.new) }
     ensures later { S.faults shelf.old ≤ S.faults shelf.new }
     ensures asked { AsksFor (S.asked shelf.old) (S.asked shelf.new) name.now }
     ensures valid { IfOk result IsValidBasin }
-    ensures text { IfOk result (λ basin. IfSome (S.told shelf.old name.now) (IsBasinText basin)) }
+    ensures text { IfOk result (λ basin. IfSome (S.known shelf.old name.now) (IsBasinText basin)) }
     ensures ends { IfErr result
-        (λ e. BasinReadEnds (S.told shelf.old name.now) (Rose (S.faults shelf.old) (S.faults shelf.new)) e) }
+        (λ e. BasinReadEnds (S.known shelf.old name.now) (Rose (S.faults shelf.old) (S.faults shelf.new)) e) }
 {
     let text = read_file(alloc, shelf, name, File::Basin)?;
     accept_basin(alloc, &text)
@@ -99,7 +99,7 @@ fn missing_inflow(basin: &Basin, month: Month, node: u32) -> Ending
     requires month { IsMonth month }
     requires node { node < length basin.now.nodes }
     ensures ending { result ≡ Ending.SeriesRefused (SeriesFinding.Missing month (node_name basin.now node)) }
-    ensures told { CanBeTold result }
+    ensures printable { CanBePrinted result }
 {
     match Name::read(basin.nodes[node as usize].name.bytes()) {
         Some(node) => Ending::SeriesRefused(SeriesFinding::Missing { month, node }),
@@ -113,7 +113,7 @@ fn missing_want(basin: &Basin, month: Month, right: u32) -> Ending
     requires month { IsMonth month }
     requires right { right < length basin.now.rights }
     ensures ending { result ≡ Ending.SeriesRefused (SeriesFinding.MissingWant month (right_name basin.now right)) }
-    ensures told { CanBeTold result }
+    ensures printable { CanBePrinted result }
 {
     match Name::read(basin.rights[right as usize].name.bytes()) {
         Some(right) => Ending::SeriesRefused(SeriesFinding::MissingWant { month, right }),
@@ -128,7 +128,7 @@ pub fn accept_series(alloc: Global, basin: &Basin, text: &[u8]) -> Result<Inflow
     ensures fits { IfOk result (λ series. IsSeriesOf basin.now series) }
     ensures sound { OnOk result (series_fault basin.now text.now ≡ None) }
     ensures ends { IfErr result (λ e. SeriesEnds basin.now text.now e) }
-    ensures told { IfErr result CanBeTold }
+    ensures printable { IfErr result CanBePrinted }
 {
     match read_inflows(alloc, basin, text) {
         Ok(series) => Ok(series),
@@ -148,7 +148,7 @@ fn header_alone(alloc: Global, basin: &Basin) -> Result<Inflows, Ending>
     ensures fits { IfOk result (λ series. IsSeriesOf basin.now series) }
     ensures text { IfOk result (λ series. IsSeriesText basin.now series header) }
     ensures ends { IfErr result (λ e. SeriesEnds basin.now header e) }
-    ensures told { IfErr result CanBeTold }
+    ensures printable { IfErr result CanBePrinted }
 {
     accept_series(alloc, basin, HEADER)
 }
@@ -162,19 +162,19 @@ fn read_series<S: Shelf>(
 ) -> Result<Inflows, Ending>
     requires basin { IsValidBasin basin.now }
     requires serves { ServesSeries (S.serves shelf.old) (option_map (λ n. n.now) name) }
-    ensures same { SameShelf (S.told shelf.old) (S.told shelf.new) (S.serves shelf.old) (S.serves shelf.new) }
+    ensures same { SameShelf (S.known shelf.old) (S.known shelf.new) (S.serves shelf.old) (S.serves shelf.new) }
     ensures later { S.faults shelf.old ≤ S.faults shelf.new }
     ensures asked { (other : List ℕ) → Some other ≢ option_map (λ n. n.now) name.entry →
         S.asked shelf.new other ≡ S.asked shelf.old other }
     ensures fits { IfOk result (λ series. IsSeriesOf basin.now series) }
     ensures text { IfOk result
-        (λ series. IfSome (series_told (S.told shelf.old) (option_map (λ n. n.now) name.entry))
+        (λ series. IfSome (known_series (S.known shelf.old) (option_map (λ n. n.now) name.entry))
         (IsSeriesText basin.now series)) }
     ensures ends { IfErr result
         (λ e. SeriesReadEnds basin.now (option_map (λ n. n.now) name.entry)
-        (series_told (S.told shelf.old) (option_map (λ n. n.now) name.entry))
+        (known_series (S.known shelf.old) (option_map (λ n. n.now) name.entry))
         (Rose (S.faults shelf.old) (S.faults shelf.new)) e) }
-    ensures told { IfErr result CanBeTold }
+    ensures printable { IfErr result CanBePrinted }
 {
     match name {
         None => header_alone(alloc, basin),
@@ -196,16 +196,16 @@ pub struct Loaded {
 pub fn read_inputs<S: Shelf>(alloc: Global, shelf: &mut S, inputs: Inputs) -> Result<Loaded, Ending>
     requires basin { S.serves shelf.old inputs.basin.now }
     requires series { ServesSeries (S.serves shelf.old) (option_map (λ n. n.now) inputs.series) }
-    ensures same { SameShelf (S.told shelf.old) (S.told shelf.new) (S.serves shelf.old) (S.serves shelf.new) }
+    ensures same { SameShelf (S.known shelf.old) (S.known shelf.new) (S.serves shelf.old) (S.serves shelf.new) }
     ensures later { S.faults shelf.old ≤ S.faults shelf.new }
     ensures asked { (other : List ℕ) → other ≢ (named inputs.entry).basin → Some other ≢ (named inputs.entry).series →
         S.asked shelf.new other ≡ S.asked shelf.old other }
     ensures valid { IfOk result (λ files. IsValidBasin files.basin) }
     ensures fits { IfOk result (λ files. IsSeriesOf files.basin files.series) }
-    ensures loaded { IfOk result (λ files. AreLoaded (S.told shelf.old) (named inputs.entry) files.basin files.series) }
+    ensures loaded { IfOk result (λ files. AreLoaded (S.known shelf.old) (named inputs.entry) files.basin files.series) }
     ensures stops { IfErr result
-        (λ e. StopsReading (named inputs.entry) e (S.told shelf.old) (Rose (S.faults shelf.old) (S.faults shelf.new))) }
-    ensures told { IfErr result CanBeTold }
+        (λ e. StopsReading (named inputs.entry) e (S.known shelf.old) (Rose (S.faults shelf.old) (S.faults shelf.new))) }
+    ensures printable { IfErr result CanBePrinted }
 {
     let basin = read_basin_file(alloc, shelf, inputs.basin)?;
     let series = read_series(alloc, shelf, inputs.series, &basin)?;
@@ -215,13 +215,13 @@ pub fn read_inputs<S: Shelf>(alloc: Global, shelf: &mut S, inputs: Inputs) -> Re
 /// The basin of the file with this name, whose run is one of whole years, or how the call ends.
 fn read_years<S: Shelf>(alloc: Global, shelf: &mut S, name: &str) -> Result<Basin, Ending>
     requires { S.serves shelf.old name.now }
-    ensures same { SameShelf (S.told shelf.old) (S.told shelf.new) (S.serves shelf.old) (S.serves shelf.new) }
+    ensures same { SameShelf (S.known shelf.old) (S.known shelf.new) (S.serves shelf.old) (S.serves shelf.new) }
     ensures later { S.faults shelf.old ≤ S.faults shelf.new }
     ensures valid { IfOk result IsValidBasin }
     ensures whole { IfOk result HasWholeYears }
-    ensures text { IfOk result (λ basin. IfSome (S.told shelf.old name.now) (IsBasinText basin)) }
+    ensures text { IfOk result (λ basin. IfSome (S.known shelf.old name.now) (IsBasinText basin)) }
     ensures ends { IfErr result
-        (λ e. YearsReadEnds (S.told shelf.old name.now) (Rose (S.faults shelf.old) (S.faults shelf.new)) e) }
+        (λ e. YearsReadEnds (S.known shelf.old name.now) (Rose (S.faults shelf.old) (S.faults shelf.new)) e) }
 {
     let basin = read_basin_file(alloc, shelf, name)?;
     if basin.months % 12 == 0 {
@@ -235,16 +235,16 @@ fn read_years<S: Shelf>(alloc: Global, shelf: &mut S, name: &str) -> Result<Basi
 pub fn read_record<S: Shelf>(alloc: Global, shelf: &mut S, inputs: Inputs) -> Result<Loaded, Ending>
     requires basin { S.serves shelf.old inputs.basin.now }
     requires series { ServesSeries (S.serves shelf.old) (option_map (λ n. n.now) inputs.series) }
-    ensures same { SameShelf (S.told shelf.old) (S.told shelf.new) (S.serves shelf.old) (S.serves shelf.new) }
+    ensures same { SameShelf (S.known shelf.old) (S.known shelf.new) (S.serves shelf.old) (S.serves shelf.new) }
     ensures later { S.faults shelf.old ≤ S.faults shelf.new }
     ensures valid { IfOk result (λ files. IsValidBasin files.basin) }
     ensures whole { IfOk result (λ files. HasWholeYears files.basin) }
     ensures fits { IfOk result (λ files. IsSeriesOf files.basin files.series) }
-    ensures loaded { IfOk result (λ files. AreLoaded (S.told shelf.old) (named inputs.entry) files.basin files.series) }
+    ensures loaded { IfOk result (λ files. AreLoaded (S.known shelf.old) (named inputs.entry) files.basin files.series) }
     ensures stops { IfErr result
-        (λ e. StopsReadingYears (named inputs.entry) e (S.told shelf.old)
+        (λ e. StopsReadingYears (named inputs.entry) e (S.known shelf.old)
         (Rose (S.faults shelf.old) (S.faults shelf.new))) }
-    ensures told { IfErr result CanBeTold }
+    ensures printable { IfErr result CanBePrinted }
 {
     let basin = read_years(alloc, shelf, inputs.basin)?;
     let series = read_series(alloc, shelf, inputs.series, &basin)?;

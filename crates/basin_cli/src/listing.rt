@@ -5,7 +5,7 @@ ghost use Rattle.call_list.specs.Found.{IsFoundIn};
 ghost use Rattle.call_list.specs.Lists.{month_bytes};
 ghost use Rattle.result_text.specs.Range.{FitsText};
 ghost use Rattle.water_edge.specs.Edge.{HasCause, Puts};
-ghost use Rattle.month_fold.specs.Runs.{StandsFor, run_pushes};
+ghost use Rattle.month_fold.specs.Runs.{RunStandsFor, run_pushes};
 ghost use Rattle.basin_cli.specs.Listed.{IsListed, IsWholeList, StopsListing};
 ghost use Rattle.senior_hold.specs.MonthNetwork.{month_pushes};
 
@@ -54,7 +54,7 @@ fn list_month<K: Sink, L: Ledger>(
     out.flush()
 }
 
-/// Solves all months of a run that had none yet, and puts each one's lines behind its step.
+/// Solves all months of a run that had none yet, and puts each one's lines after its step.
 fn list_months<K: Sink, L: Ledger>(
     out: &mut K,
     finder: &mut CallFinder,
@@ -88,7 +88,7 @@ pub fn list_run<K: Sink, L: Ledger>(
     searches: &mut Steps<L>,
 ) -> Result<(), SinkFailed>
     ghost start: { Option (List ℕ) }
-    requires first { StandsFor run.old [] }
+    requires first { RunStandsFor run.old [] }
     requires finder { IsFinderOf run.old.basin finder.old }
     requires start { start ≡ K.taken out.old }
     ensures listed { OnOk result (IsWholeList run.old.basin run.old.series start (K.taken out.new)) }
@@ -96,7 +96,7 @@ pub fn list_run<K: Sink, L: Ledger>(
         (StopsListing run.old.basin run.old.series start (K.taken out.new) searches.old searches.new) }
     ensures cause { HasCause (K.faults out.old) (K.faults out.new) (IsErr result) }
     ensures pushes { searches.new ≤ searches.old + run_pushes run.old.basin }
-    ensures handed { OnOk result (K.handed out.new ≡ K.taken out.new) }
+    ensures flushed { OnOk result (K.flushed out.new ≡ K.taken out.new) }
 {
     put_head(out, run.basin())?;
     list_months(out, finder, run, searches)?;

@@ -3,10 +3,10 @@ ghost use Rattle.std.specs.Prelude.{◌≤◌, ◌↔◌, None, IfOk, IfErr, IfS
 ghost use Rattle.std.specs.Prelude.{option_map};
 ghost use Rattle.water_edge.specs.Edge.{Rose, SameShelf};
 ghost use Rattle.water_model.specs.Valid.{IsValidBasin, IsSeriesOf};
-ghost use Rattle.basin_cli.specs.Bytes.{file_limit, series_told};
+ghost use Rattle.basin_cli.specs.Bytes.{file_limit, known_series};
 ghost use Rattle.basin_cli.specs.Command.{ServesSeries, named};
 ghost use Rattle.basin_cli.specs.Comparison.{HaveSameMonths, StopsComparing};
-ghost use Rattle.basin_cli.specs.Ending.{CanBeTold};
+ghost use Rattle.basin_cli.specs.Ending.{CanBePrinted};
 ghost use Rattle.basin_cli.specs.Header.{header};
 ghost use Rattle.basin_cli.specs.Pairs.{ArePaired, BothSeriesEnd, BothSeriesReadEnd, IsOtherRun, SecondEnds};
 ghost use Rattle.basin_cli.specs.Pairs.{SecondReadEnds};
@@ -22,7 +22,7 @@ use water_model::types::{Basin, Inflows};
 
 /// Two basins, each with its series.
 #[derive(Drop)]
-pub struct Pair {
+pub struct BasinPair {
     pub first: Loaded,
     pub second: Loaded,
 }
@@ -43,12 +43,12 @@ fn accept_second(alloc: Global, text: &[u8]) -> Result<Basin, Ending>
 /// The second basin, of the file with this name, or how the call ends.
 fn read_second<S: Shelf>(alloc: Global, shelf: &mut S, name: &str) -> Result<Basin, Ending>
     requires { S.serves shelf.old name.now }
-    ensures same { SameShelf (S.told shelf.old) (S.told shelf.new) (S.serves shelf.old) (S.serves shelf.new) }
+    ensures same { SameShelf (S.known shelf.old) (S.known shelf.new) (S.serves shelf.old) (S.serves shelf.new) }
     ensures later { S.faults shelf.old ≤ S.faults shelf.new }
     ensures valid { IfOk result IsValidBasin }
-    ensures text { IfOk result (λ basin. IfSome (S.told shelf.old name.now) (IsBasinText basin)) }
+    ensures text { IfOk result (λ basin. IfSome (S.known shelf.old name.now) (IsBasinText basin)) }
     ensures ends { IfErr result
-        (SecondReadEnds (S.told shelf.old name.now) (Rose (S.faults shelf.old) (S.faults shelf.new))) }
+        (SecondReadEnds (S.known shelf.old name.now) (Rose (S.faults shelf.old) (S.faults shelf.new))) }
 {
     let text = read_file(alloc, shelf, name, File::SecondBasin)?;
     accept_second(alloc, &text)
@@ -81,17 +81,17 @@ fn read_basins<S: Shelf>(
 ) -> Result<(Basin, Basin), Ending>
     requires first { S.serves shelf.old inputs.basin.now }
     requires second { S.serves shelf.old second.now }
-    ensures same { SameShelf (S.told shelf.old) (S.told shelf.new) (S.serves shelf.old) (S.serves shelf.new) }
+    ensures same { SameShelf (S.known shelf.old) (S.known shelf.new) (S.serves shelf.old) (S.serves shelf.new) }
     ensures later { S.faults shelf.old ≤ S.faults shelf.new }
     ensures valid { IfOk result (λ basins. IsValidBasin basins.0) }
     ensures second_valid { IfOk result (λ basins. IsValidBasin basins.1) }
-    ensures text { IfOk result (λ basins. IfSome (S.told shelf.old inputs.entry.basin.now) (IsBasinText basins.0)) }
-    ensures second_text { IfOk result (λ basins. IfSome (S.told shelf.old second.now) (IsBasinText basins.1)) }
+    ensures text { IfOk result (λ basins. IfSome (S.known shelf.old inputs.entry.basin.now) (IsBasinText basins.0)) }
+    ensures second_text { IfOk result (λ basins. IfSome (S.known shelf.old second.now) (IsBasinText basins.1)) }
     ensures months { IfOk result (λ basins. HaveSameMonths basins.0 basins.1) }
     ensures stops { IfErr result
-        (λ e. StopsComparing (named inputs.entry) second.now e (S.told shelf.old)
+        (λ e. StopsComparing (named inputs.entry) second.now e (S.known shelf.old)
         (Rose (S.faults shelf.old) (S.faults shelf.new))) }
-    ensures told { IfErr result CanBeTold }
+    ensures printable { IfErr result CanBePrinted }
 {
     let basin = read_basin_file(alloc, shelf, inputs.basin)?;
     let other = read_second(alloc, shelf, second)?;
@@ -114,7 +114,7 @@ fn accept_for_both(
     ensures text { IfOk result (λ both. IsSeriesText first.now both.0 text.now) }
     ensures second_text { IfOk result (λ both. IsSeriesText second.now both.1 text.now) }
     ensures ends { IfErr result (BothSeriesEnd first.now second.now text.now) }
-    ensures told { IfErr result CanBeTold }
+    ensures printable { IfErr result CanBePrinted }
 {
     let series = accept_series(alloc, first, text)?;
     match accept_series(alloc, second, text) {
@@ -137,7 +137,7 @@ fn header_for_both(
     ensures text { IfOk result (λ both. IsSeriesText first.now both.0 header) }
     ensures second_text { IfOk result (λ both. IsSeriesText second.now both.1 header) }
     ensures ends { IfErr result (BothSeriesEnd first.now second.now header) }
-    ensures told { IfErr result CanBeTold }
+    ensures printable { IfErr result CanBePrinted }
 {
     accept_for_both(alloc, first, second, HEADER)
 }
@@ -153,21 +153,21 @@ fn read_for_both<S: Shelf>(
     requires first { IsValidBasin first.now }
     requires second { IsValidBasin second.now }
     requires serves { ServesSeries (S.serves shelf.old) (option_map (λ n. n.now) name) }
-    ensures same { SameShelf (S.told shelf.old) (S.told shelf.new) (S.serves shelf.old) (S.serves shelf.new) }
+    ensures same { SameShelf (S.known shelf.old) (S.known shelf.new) (S.serves shelf.old) (S.serves shelf.new) }
     ensures later { S.faults shelf.old ≤ S.faults shelf.new }
     ensures fits { IfOk result (λ both. IsSeriesOf first.now both.0) }
     ensures second_fits { IfOk result (λ both. IsSeriesOf second.now both.1) }
     ensures text { IfOk result
-        (λ both. IfSome (series_told (S.told shelf.old) (option_map (λ n. n.now) name.entry))
+        (λ both. IfSome (known_series (S.known shelf.old) (option_map (λ n. n.now) name.entry))
         (IsSeriesText first.now both.0)) }
     ensures second_text { IfOk result
-        (λ both. IfSome (series_told (S.told shelf.old) (option_map (λ n. n.now) name.entry))
+        (λ both. IfSome (known_series (S.known shelf.old) (option_map (λ n. n.now) name.entry))
         (IsSeriesText second.now both.1)) }
     ensures ends { IfErr result
         (BothSeriesReadEnd first.now second.now (option_map (λ n. n.now) name.entry)
-        (series_told (S.told shelf.old) (option_map (λ n. n.now) name.entry))
+        (known_series (S.known shelf.old) (option_map (λ n. n.now) name.entry))
         (Rose (S.faults shelf.old) (S.faults shelf.new))) }
-    ensures told { IfErr result CanBeTold }
+    ensures printable { IfErr result CanBePrinted }
 {
     match name {
         None => header_for_both(alloc, first, second),
@@ -184,19 +184,19 @@ pub fn read_pair<S: Shelf>(
     shelf: &mut S,
     inputs: Inputs,
     second: &str,
-) -> Result<Pair, Ending>
+) -> Result<BasinPair, Ending>
     requires basin { S.serves shelf.old inputs.basin.now }
     requires series { ServesSeries (S.serves shelf.old) (option_map (λ n. n.now) inputs.series) }
     requires second { S.serves shelf.old second.now }
-    ensures paired { IfOk result (λ pair. ArePaired (S.told shelf.old) (named inputs.entry) second.now pair) }
+    ensures paired { IfOk result (λ pair. ArePaired (S.known shelf.old) (named inputs.entry) second.now pair) }
     ensures stops { IfErr result
-        (λ e. StopsComparing (named inputs.entry) second.now e (S.told shelf.old)
+        (λ e. StopsComparing (named inputs.entry) second.now e (S.known shelf.old)
         (Rose (S.faults shelf.old) (S.faults shelf.new))) }
-    ensures told { IfErr result CanBeTold }
+    ensures printable { IfErr result CanBePrinted }
 {
     let (basin, other) = read_basins(alloc, shelf, inputs, second)?;
     match read_for_both(alloc, shelf, inputs.series, &basin, &other) {
-        Ok((series, other_series)) => Ok(Pair {
+        Ok((series, other_series)) => Ok(BasinPair {
             first: Loaded { basin, series },
             second: Loaded {
                 basin: other,

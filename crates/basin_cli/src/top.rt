@@ -8,12 +8,12 @@ ghost use Rattle.basin_cli.specs.Out.{IsIdle, IsUnread, MayLeave};
 ghost use Rattle.basin_cli.specs.Outcome.{Completes, Ends, IsQuiet, PushesFor, WritesFor};
 ghost use Rattle.basin_cli.specs.Serving.{Serves};
 
-use crate::actions::{gather_basin, list_basin, report_basin, run_basin, try_basin};
+use crate::actions::{ensemble_basin, list_basin, report_basin, run_basin, trial_basin};
 use crate::checking::{Question, check_file};
 use crate::command::{Inputs, Words, command};
 use crate::compare::do_compare;
 use crate::editing::edit_basin;
-use crate::ending::{Ending, File, tell};
+use crate::ending::{Ending, File, print_ending};
 use crate::explaining::{Account, explain_right};
 use crate::files::{read_file, read_inputs, read_record};
 use crate::status::Status;
@@ -160,7 +160,7 @@ fn do_ensemble<S: Shelf, K: Sink, L: Ledger>(
         Ok(files) => files,
         Err(ending) => return ending,
     };
-    gather_basin(alloc, &files.basin, &files.series, out, searches)
+    ensemble_basin(alloc, &files.basin, &files.series, out, searches)
 }
 
 /// `edit`: changes numbers of a basin's series as a script says, and puts the months that it shows.
@@ -216,7 +216,7 @@ fn decide<S: Shelf, K: Sink, L: Ledger>(
             alloc, inputs, script, shelf, out, searches,
         ),
         Some(Words::Upgrade(basin)) => do_upgrade(alloc, basin, shelf, out),
-        Some(Words::Trial { number, size }) => try_basin(alloc, number, size, out, searches),
+        Some(Words::Trial { number, size }) => trial_basin(alloc, number, size, out, searches),
         Some(Words::Compare { inputs, second }) => {
             do_compare(alloc, inputs, second, shelf, out, searches)
         }
@@ -231,7 +231,7 @@ fn decide<S: Shelf, K: Sink, L: Ledger>(
     }
 }
 
-/// All that the program does. The words are those behind the program's name, and `searches` counts the pushes of
+/// All that the program does. The words are those after the program's name, and `searches` counts the pushes of
 /// searches.
 pub fn basin_main<S: Shelf, K: Sink, E: Sink, L: Ledger>(
     alloc: Global,
@@ -244,27 +244,27 @@ pub fn basin_main<S: Shelf, K: Sink, E: Sink, L: Ledger>(
     // No other name is read than that of a file of the command.
     requires { ServesFiles (S.serves shelf.old) (command_of (map string_bytes words.now)) }
 
-    // The status is that of an ending that has its cause, and err got its line, or a front of it where err failed.
-    ensures ends { Ends (command_of (map string_bytes words.now)) result (S.told shelf.old)
+    // The status is that of an ending that has its cause, and err got its line, or a prefix of it where err failed.
+    ensures ends { Ends (command_of (map string_bytes words.now)) result (S.known shelf.old)
         (Rose (S.faults shelf.old) (S.faults shelf.new)) (Rose (K.faults out.old) (K.faults out.new))
         (E.taken err.old) (E.taken err.new) (E.faults err.old) (E.faults err.new) }
     // Where nothing is refused and nothing fails, the call is done; a result that is checked or audited is judged as
     // what it is, and a comparison answers no exactly where somebody is injured.
-    ensures complete { Completes (command_of (map string_bytes words.now)) result (S.told shelf.old)
+    ensures complete { Completes (command_of (map string_bytes words.now)) result (S.known shelf.old)
         (Rose (S.faults shelf.old) (S.faults shelf.new)) (Rose (K.faults out.old) (K.faults out.new)) }
 
     // The text of records that keep the priority of rights, the list of their calls, a report on them, the answer to a
     // result, the comparison of two such lists of records, or the months that a script shows; or after a fault of out a
     // front of it. The months of a run and of a list of calls are written as they are solved.
-    ensures writes { WritesFor (command_of (map string_bytes words.now)) result (S.told shelf.old) (K.taken out.old)
+    ensures writes { WritesFor (command_of (map string_bytes words.now)) result (S.known shelf.old) (K.taken out.old)
         (K.taken out.new) searches.old searches.new }
     ensures out_stays { (MayLeave (command_of (map string_bytes words.now)) result → ⊥) → out.new ≡ out.old }
     ensures err_stays { IsQuiet result → err.new ≡ err.old }
 
-    // Done and no come only where all that was put was handed on; err got its line handed on unless it failed.
-    ensures handed { IsQuiet result → K.handed out.new ≡ K.taken out.new }
-    ensures err_handed { (IsQuiet result → ⊥) → (Rose (E.faults err.old) (E.faults err.new) → ⊥) →
-        E.handed err.new ≡ E.taken err.new }
+    // Done and no come only where all that was put was flushed; err got its line handed on unless it failed.
+    ensures flushed { IsQuiet result → K.flushed out.new ≡ K.taken out.new }
+    ensures err_flushed { (IsQuiet result → ⊥) → (Rose (E.faults err.old) (E.faults err.new) → ⊥) →
+        E.flushed err.new ≡ E.taken err.new }
 
     // Want of memory says nothing of a result: nobody asked for it.
     ensures unread { IsUnread (command_of (map string_bytes words.now)) result (S.asked shelf.old) (S.asked shelf.new) }
@@ -273,11 +273,11 @@ pub fn basin_main<S: Shelf, K: Sink, E: Sink, L: Ledger>(
     // account want of memory comes before a month is solved, or not at all. Each month that is solved has at most so
     // many pushes as its bound allows, and a check or an audit has none.
     ensures idle { IsIdle (command_of (map string_bytes words.now)) result → searches.new ≡ searches.old }
-    ensures pushes { PushesFor (command_of (map string_bytes words.now)) (S.told shelf.old) searches.old searches.new }
+    ensures pushes { PushesFor (command_of (map string_bytes words.now)) (S.known shelf.old) searches.old searches.new }
 {
     let ending = decide(alloc, words, shelf, out, searches);
-    if ending.is_told() {
-        tell(&ending, err);
+    if ending.has_line_on_err() {
+        print_ending(&ending, err);
     }
     ending.status()
 }

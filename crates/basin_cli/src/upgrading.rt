@@ -5,7 +5,7 @@ ghost use Rattle.basin_cli.specs.Serving.{Serves};
 
 use crate::ending::Ending;
 use crate::files::read_basin_file;
-use crate::handing::put_whole;
+use crate::flushing::put_whole;
 use basin_file::upgraded;
 use std::alloc::Global;
 use water_edge::{Shelf, Sink};

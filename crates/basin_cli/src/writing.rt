@@ -1,7 +1,7 @@
 //! The result text of a run, written month by month.
 ghost use Rattle.std.specs.Prelude.{ℕ, List, [], ◌≡◌, ◌+◌, ◌*◌, ◌<◌, ◌≤◌, Option, IsErr, OnOk, OnErr};
 ghost use Rattle.water_edge.specs.Edge.{HasCause};
-ghost use Rattle.month_fold.specs.Runs.{StandsFor, run_pushes};
+ghost use Rattle.month_fold.specs.Runs.{RunStandsFor, run_pushes};
 ghost use Rattle.basin_cli.specs.Written.{IsWritten, IsWrittenRun, StopsWriting};
 ghost use Rattle.senior_hold.specs.MonthNetwork.{month_pushes};
 
@@ -34,7 +34,7 @@ fn write_month<K: Sink, L: Ledger>(
     out.flush()
 }
 
-/// Solves all months of a run that had none yet, and puts each one's lines behind its step.
+/// Solves all months of a run that had none yet, and puts each one's lines after its step.
 fn write_months<K: Sink, L: Ledger>(
     out: &mut K,
     run: &mut Run,
@@ -64,14 +64,14 @@ pub fn write_run<K: Sink, L: Ledger>(
     searches: &mut Steps<L>,
 ) -> Result<(), SinkFailed>
     ghost start: { Option (List ℕ) }
-    requires first { StandsFor run.old [] }
+    requires first { RunStandsFor run.old [] }
     requires start { start ≡ K.taken out.old }
     ensures written { OnOk result (IsWrittenRun run.old.basin run.old.series start (K.taken out.new)) }
     ensures stops { OnErr result
         (StopsWriting run.old.basin run.old.series start (K.taken out.new) searches.old searches.new) }
     ensures cause { HasCause (K.faults out.old) (K.faults out.new) (IsErr result) }
     ensures pushes { searches.new ≤ searches.old + run_pushes run.old.basin }
-    ensures handed { OnOk result (K.handed out.new ≡ K.taken out.new) }
+    ensures flushed { OnOk result (K.flushed out.new ≡ K.taken out.new) }
 {
     put_head(out, run.basin())?;
     write_months(out, run, searches)?;

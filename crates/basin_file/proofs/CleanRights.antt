@@ -10,14 +10,14 @@ use Rattle.std.specs.Option.{option_map_or, option_or}
 use Rattle.std.proofs.lemmas.Bool.{eq-eqb, le-ltb}
 use Rattle.toml.specs.Data.{Data, Members, no_members, member, as_array, as_str}
 use Rattle.toml_tree.specs.Items.{items_len}
-use Rattle.toml_tree.specs.Texts.{texts_behind, is_the_text, earlier_like}
-use Rattle.toml_tree.specs.Values.{whole_at}
+use Rattle.toml_tree.specs.Texts.{texts_after, is_the_text, earlier_like}
+use Rattle.toml_tree.specs.Values.{integer_at}
 use Rattle.water_text.specs.Days.{is_date}
 use Rattle.water_text.specs.Months.{month_after, month_within, read_month}
 use Rattle.water_text.specs.declared.month.Month.{Month}
 use Rattle.water_text.proofs.MonthLaws.{read_month-month_digits}
 use Rattle.water_model.specs.Basin.{node_name, link_name, reservoir_name, right_name}
-use Rattle.water_model.specs.Valid.{HasValidPlace, IsAreaTable, IsValidBasin, IsValidReservoir, IsValidReturn}
+use Rattle.water_model.specs.Valid.{HasValidSite, IsAreaTable, IsValidBasin, IsValidReservoir, IsValidReturn}
 use Rattle.water_model.specs.Valid.{IsValidRight, IsValidVolume}
 use Rattle.water_model.specs.declared.types.Basin.{Basin}
 use Rattle.water_model.specs.declared.types.Reservoir.{Reservoir}
@@ -34,7 +34,7 @@ use Rattle.river_net.specs.declared.refused.NetRefused.{NetRefused}
 use Rattle.rights_roll.specs.RollFaults.{roll_fault}
 use Rattle.rights_roll.specs.declared.RollRefused.{RollRefused}
 use Rattle.basin_tree.specs.declared.tables.BasinTable.TheVariants as which
-use Rattle.basin_tree.specs.declared.tables.Kind.TheVariants.{Whole}
+use Rattle.basin_tree.specs.declared.tables.Kind.TheVariants.{Integer}
 use Rattle.basin_tree.specs.declared.tables.Space.TheVariants.{Nodes, Links, Reservoirs, Diversions, Rights}
 use Rattle.basin_tree.specs.declared.walk.Finding.{Finding}
 use Rattle.basin_tree.specs.Entries.{items_at}
@@ -47,7 +47,8 @@ use Rattle.basin_file.specs.BasinFaults.{net_finding, roll_finding}
 use Rattle.basin_file.specs.Spelled.{basin_of}
 use Rattle.basin_file.specs.Upgraded.{basin_table, link_row, listed, node_row, number, reservoir_row, return_row}
 use Rattle.basin_file.specs.Upgraded.{right_row, row_of_kind, want_data}
-use Rattle.basin_file.proofs.CleanTables.{all_rights, before_less, d, few_rights, fits_at, format, i, keys, len_listed}
+use Rattle.basin_file.proofs.CleanTables.{all_rights, before_less, d, bounded_rights, fits_at, format, i, keys}
+use Rattle.basin_file.proofs.CleanTables.{len_listed}
 use Rattle.basin_file.proofs.CleanTables.{link_clean, map_same, node_clean, owns, reservoir_clean}
 use Rattle.basin_file.proofs.CleanTables.{right_named, sound_at, there_right, top_known, z}
 use Rattle.basin_file.proofs.Counts.{count_where-entries, counts_within}
@@ -66,7 +67,7 @@ module _ (b : Basin) (valid : IsValidBasin b) where
       IsClean (basin_table b) (record { table = which.Diversion; number = k + 1; row = right_row b r })
   diversion_clean k r at =
       let its = sound_at b valid which.Diversion k r at in
-      by r.kind refl its.0.0.place its.0.0.volume its.0.0 its.0.1 its.1
+      by r.kind refl its.0.0.index its.0.0.volume its.0.0 its.0.1 its.1
     where
       whole : slice_get b.rights k ≡ Some r
       whole =
@@ -81,24 +82,24 @@ module _ (b : Basin) (valid : IsValidBasin b) where
 
       volume_fits : (its : RightKind) (volume : Option ℕ) → IsValidVolume its volume →
           Fits (basin_table b)
-          (record { name = codes "volume"; is_required = false; kind = Whole 0 (16 * 10 ^ 9); since = 2 })
+          (record { name = codes "volume"; is_required = false; kind = Integer 0 (16 * 10 ^ 9); since = 2 })
           (option_map number volume)
-      volume_fits its None h = fits_none (basin_table b) (codes "volume") (Whole 0 (16 * 10 ^ 9)) 2
+      volume_fits its None h = fits_none (basin_table b) (codes "volume") (Integer 0 (16 * 10 ^ 9)) 2
       volume_fits its (Some n) h =
           fits_number (basin_table b) (codes "volume") false 2 0 (16 * 10 ^ 9) n (omega arith) h.1
 
-      by : (its : RightKind) → r.kind ≡ its → HasValidPlace b its → IsValidVolume its r.volume → IsValidRight b r →
+      by : (its : RightKind) → r.kind ≡ its → HasValidSite b its → IsValidVolume its r.volume → IsValidRight b r →
           is_date r.date ≡ true →
           is_in_table which.Diversion its ≡ true →
           IsClean (basin_table b) (record { table = which.Diversion; number = k + 1; row = row_of_kind b r its })
-      by (kind.Diversion node) e place volume h date is =
+      by (kind.Diversion node) e index volume h date is =
           clean_by (basin_table b)
           (record { table = which.Diversion; number = k + 1; row = row_of_kind b r (kind.Diversion node) })
           (format b valid) (
             fits_name (basin_table b) (codes "name") true 1 r.name h.name,
             (
               fits_reference (basin_table b) (codes "node") true 1 Nodes (node_name b node) node
-                  (node_named b valid node place),
+                  (node_named b valid node index),
               (
                 fits_date (basin_table b) (codes "date") true 1 r.date date,
                 (
@@ -124,15 +125,15 @@ module _ (b : Basin) (valid : IsValidBasin b) where
             canal = refl;
             late = refl;
             many = le-ltb 2000 (rights_before (basin_table b) which.Diversion + (k + 1))
-                (omega (arith, within, few_rights b valid));
+                (omega (arith, within, bounded_rights b valid));
             same = owns (basin_table b)
                 (record { table = which.Diversion; number = k + 1; row = row_of_kind b r (kind.Diversion node) }) Rights
                 r.name k refl refl
                 (right_named b valid k r whole) (omega arith);
             outlets = refl;
           })
-      by (kind.Instream link) e place volume h date is = cc
-      by (kind.Zone reservoir level) e place volume h date is = cc
+      by (kind.Instream link) e index volume h date is = cc
+      by (kind.Zone reservoir level) e index volume h date is = cc
 
   before_instreams : rights_before (basin_table b) which.Instream ≡ length (d b valid)
   before_instreams =
@@ -152,7 +153,7 @@ module _ (b : Basin) (valid : IsValidBasin b) where
   instream_clean : (k : ℕ) (r : Right) → slice_get (i b valid) k ≡ Some r →
       IsClean (basin_table b) (record { table = which.Instream; number = k + 1; row = right_row b r })
   instream_clean k r at =
-      let its = sound_at b valid which.Instream k r at in by r.kind refl its.0.0.place its.0.0 its.0.1 its.1
+      let its = sound_at b valid which.Instream k r at in by r.kind refl its.0.0.index its.0.0 its.0.1 its.1
     where
       whole : slice_get b.rights (length (d b valid) + k) ≡ Some r
       whole =
@@ -163,18 +164,18 @@ module _ (b : Basin) (valid : IsValidBasin b) where
       within : k < length (i b valid)
       within = slice_get_within (i b valid) k r at
 
-      by : (its : RightKind) → r.kind ≡ its → HasValidPlace b its → IsValidRight b r → is_date r.date ≡ true →
+      by : (its : RightKind) → r.kind ≡ its → HasValidSite b its → IsValidRight b r → is_date r.date ≡ true →
           is_in_table which.Instream its ≡ true →
           IsClean (basin_table b) (record { table = which.Instream; number = k + 1; row = row_of_kind b r its })
-      by (kind.Diversion node) e place h date is = cc
-      by (kind.Instream link) e place h date is =
+      by (kind.Diversion node) e index h date is = cc
+      by (kind.Instream link) e index h date is =
           clean_by (basin_table b)
           (record { table = which.Instream; number = k + 1; row = row_of_kind b r (kind.Instream link) })
           (format b valid) (
             fits_name (basin_table b) (codes "name") true 1 r.name h.name,
             (
               fits_reference (basin_table b) (codes "link") true 1 Links (link_name b link) link
-                  (link_named b valid link place),
+                  (link_named b valid link index),
               (
                 fits_date (basin_table b) (codes "date") true 1 r.date date,
                 (
@@ -190,7 +191,7 @@ module _ (b : Basin) (valid : IsValidBasin b) where
             canal = refl;
             late = refl;
             many = le-ltb 2000 (rights_before (basin_table b) which.Instream + (k + 1))
-                (omega (arith, before_instreams, within, few_rights b valid));
+                (omega (arith, before_instreams, within, bounded_rights b valid));
             same = owns (basin_table b)
                 (record { table = which.Instream; number = k + 1; row = row_of_kind b r (kind.Instream link) }) Rights
                 r.name
@@ -198,41 +199,41 @@ module _ (b : Basin) (valid : IsValidBasin b) where
                 (omega (arith, before_instreams));
             outlets = refl;
           })
-      by (kind.Zone reservoir level) e place h date is = cc
+      by (kind.Zone reservoir level) e index h date is = cc
 
   zone_clean : (k : ℕ) (r : Right) → slice_get (z b valid) k ≡ Some r →
       IsClean (basin_table b) (record { table = which.Zone; number = k + 1; row = right_row b r })
   zone_clean k r at =
-      let its = sound_at b valid which.Zone k r at in by r.kind refl its.0.0.place its.0.0 its.0.1 its.1
+      let its = sound_at b valid which.Zone k r at in by r.kind refl its.0.0.index its.0.0 its.0.1 its.1
     where
-      place_of : ℕ
-      place_of = length (d b valid ++ i b valid) + k
+      index_of : ℕ
+      index_of = length (d b valid ++ i b valid) + k
 
-      whole : slice_get b.rights place_of ≡ Some r
-      whole = ap (λ rs. slice_get rs place_of) (sym (all_rights b valid))
+      whole : slice_get b.rights index_of ≡ Some r
+      whole = ap (λ rs. slice_get rs index_of) (sym (all_rights b valid))
           ∙ there_right (d b valid ++ i b valid) (z b valid) k r at
 
       within : k < length (z b valid)
       within = slice_get_within (z b valid) k r at
 
-      low : rights_before (basin_table b) which.Zone + (k + 1 - 1) ≤ place_of
+      low : rights_before (basin_table b) which.Zone + (k + 1 - 1) ≤ index_of
       low = omega (arith, before_zones, length-append (d b valid) (i b valid))
 
-      by : (its : RightKind) → r.kind ≡ its → HasValidPlace b its → IsValidRight b r → is_date r.date ≡ true →
+      by : (its : RightKind) → r.kind ≡ its → HasValidSite b its → IsValidRight b r → is_date r.date ≡ true →
           is_in_table which.Zone its ≡ true →
           IsClean (basin_table b) (record { table = which.Zone; number = k + 1; row = row_of_kind b r its })
-      by (kind.Diversion node) e place h date is = cc
-      by (kind.Instream link) e place h date is = cc
-      by (kind.Zone reservoir level) e place h date is =
+      by (kind.Diversion node) e index h date is = cc
+      by (kind.Instream link) e index h date is = cc
+      by (kind.Zone reservoir level) e index h date is =
           clean_by (basin_table b)
           (record { table = which.Zone; number = k + 1; row = row_of_kind b r (kind.Zone reservoir level) })
           (format b valid) (
             fits_name (basin_table b) (codes "name") true 1 r.name h.name,
             (
               fits_reference (basin_table b) (codes "reservoir") true 1 Reservoirs (reservoir_name b reservoir)
-                  reservoir (reservoir_named b valid reservoir place.0),
+                  reservoir (reservoir_named b valid reservoir index.0),
               (
-                fits_number (basin_table b) (codes "level") true 1 1 16 level place.1 place.2,
+                fits_number (basin_table b) (codes "level") true 1 1 16 level index.1 index.2,
                 (
                   fits_date (basin_table b) (codes "date") true 1 r.date date,
                   (
@@ -249,11 +250,11 @@ module _ (b : Basin) (valid : IsValidBasin b) where
             canal = refl;
             late = refl;
             many = le-ltb 2000 (rights_before (basin_table b) which.Zone + (k + 1))
-                (omega (arith, before_zones, within, few_rights b valid));
+                (omega (arith, before_zones, within, bounded_rights b valid));
             same = owns (basin_table b)
                 (record { table = which.Zone; number = k + 1; row = row_of_kind b r (kind.Zone reservoir level) })
                 Rights r.name
-                place_of refl refl (right_named b valid place_of r whole) low;
+                index_of refl refl (right_named b valid index_of r whole) low;
             outlets = refl;
           })
 
@@ -279,7 +280,7 @@ module _ (b : Basin) (valid : IsValidBasin b) where
         canal = refl;
         late = refl;
         many = ap (λ (ts : List (Option (List ℕ))). nat_le 8 (earlier_like ts (k + 1 - 1))) texts
-            ∙ few (k + 1 - 1) (omega arith);
+            ∙ bounded (k + 1 - 1) (omega arith);
         same = refl;
         outlets = refl;
       })
@@ -290,10 +291,10 @@ module _ (b : Basin) (valid : IsValidBasin b) where
       h : IsValidReturn b row
       h = each_at (IsValidReturn b) b.returns k row at rows
 
-      texts : texts_behind (codes "diversion") (items_at (basin_table b) which.Return) ≡ map
+      texts : texts_after (codes "diversion") (items_at (basin_table b) which.Return) ≡ map
           (λ entry. Some (right_name b entry.right)) b.returns
       texts =
-          ap (λ (o : Option Data). texts_behind (codes "diversion") (items_in o)) (keys b valid).returns
+          ap (λ (o : Option Data). texts_after (codes "diversion") (items_in o)) (keys b valid).returns
           ∙ texts_listed (codes "diversion") (return_row b) (λ entry. right_name b entry.right) b.returns
           (λ entry. refl)
 
@@ -310,7 +311,7 @@ module _ (b : Basin) (valid : IsValidBasin b) where
       less : count_by (is_the_text (right_name b row.right))
           (take k (map (λ (entry : ReturnRow). Some (right_name b entry.right)) b.returns)) < 8
       less =
-          let front : count_by (is_the_text (right_name b row.right))
+          let prefix : count_by (is_the_text (right_name b row.right))
           (take k (map (λ (entry : ReturnRow). Some (right_name b entry.right)) b.returns))
           ≤ count_by (λ (entry : ReturnRow). entry.right == row.right) (take k b.returns) =
           subst (λ (entries : List ReturnRow). count_by (is_the_text (right_name b row.right))
@@ -325,7 +326,7 @@ module _ (b : Basin) (valid : IsValidBasin b) where
           (eq-eqb row.right row.right refl) in
           let most : count_by (λ (entry : ReturnRow). entry.right == row.right) b.returns ≤ 8 =
           subst (λ (n : ℕ). n ≤ 8) (count_where-entries (λ (entry : ReturnRow). entry.right == row.right) b.returns)
-          (valid.few.rows row.right h.right) in
+          (valid.bounded.rows row.right h.right) in
           omega arith
 
       text : slice_get (map (λ (entry : ReturnRow). Some (right_name b entry.right)) b.returns) k ≡ Some
@@ -337,9 +338,9 @@ module _ (b : Basin) (valid : IsValidBasin b) where
       below : (m : ℕ) → m < 8 → nat_le 8 m ≡ false
       below m l = grind (arith, nat_tests)
 
-      few : (n : ℕ) → n ≡ k →
+      bounded : (n : ℕ) → n ≡ k →
           nat_le 8 (earlier_like (map (λ (entry : ReturnRow). Some (right_name b entry.right)) b.returns) n) ≡ false
-      few n e =
+      bounded n e =
           ap (λ (m : ℕ). nat_le 8
           (earlier_like (map (λ (entry : ReturnRow). Some (right_name b entry.right)) b.returns) m)) e
           ∙ (ap (λ (o : Option (Option (List ℕ))). nat_le 8 (option_map_or (λ t. option_map_or
@@ -363,7 +364,7 @@ module _ (b : Basin) (valid : IsValidBasin b) where
                 valid.run.months.1),
             (
               fits_at (basin_table b) _ _ _ its.nodes
-                  (fits_some_tables (basin_table b) (codes "node") 1 node_row b.nodes valid.few.some_node),
+                  (fits_some_tables (basin_table b) (codes "node") 1 node_row b.nodes valid.bounded.some_node),
               (
                 fits_at (basin_table b) _ _ _ its.links
                     (fits_tables (basin_table b) (codes "link") 1 (link_row b) b.links),
@@ -402,7 +403,7 @@ module _ (b : Basin) (valid : IsValidBasin b) where
         known = top_known b;
         nodes = ap
             (λ (o : Option Data). option_map_or (λ items. items_len items == 0) (option_and_then as_array o) false)
-            its.nodes ∙ some_nodes b.nodes valid.few.some_node;
+            its.nodes ∙ some_nodes b.nodes valid.bounded.some_node;
         canal = refl;
         late = late;
         many = refl;
@@ -433,10 +434,10 @@ module _ (b : Basin) (valid : IsValidBasin b) where
       late : runs_late which.Top (basin_table b) ≡ false
       late =
           ap (λ (o : Option Data). option_map_or
-          (λ first. is_none (month_within first (whole_at (codes "months") 1 1200 1 (basin_table b) - 1)))
+          (λ first. is_none (month_within first (integer_at (codes "months") 1 1200 1 (basin_table b) - 1)))
           (read_month (unwrap_or (option_and_then as_str o) [])) false) (keys b valid).first
           ∙ (ap (λ (o : Option Month). option_map_or
-          (λ first. is_none (month_within first (whole_at (codes "months") 1 1200 1 (basin_table b) - 1))) o false)
+          (λ first. is_none (month_within first (integer_at (codes "months") 1 1200 1 (basin_table b) - 1))) o false)
           (read_month-month_digits b.first valid.run.first)
           ∙ (ap (λ (months : ℕ). is_none (month_within b.first (months - 1)))
           (whole_there (codes "months") 1 1200 1 (basin_table b) b.months (keys b valid).months valid.run.months.0

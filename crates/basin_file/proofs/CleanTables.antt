@@ -11,9 +11,9 @@ use Rattle.std.specs.Option.{option_map_or}
 use Rattle.toml.specs.Data.{Data, string, table, Members, no_members, get, get_item, get_member, as_bool}
 use Rattle.toml.specs.View.{items_of}
 use Rattle.toml_tree.specs.Items.{items_len}
-use Rattle.first_places.specs.Places.{first_from}
-use Rattle.toml_tree.specs.Texts.{texts_behind, is_the_text}
-use Rattle.toml_tree.specs.Values.{text_at, whole_of}
+use Rattle.first_index.specs.Indices.{first_from}
+use Rattle.toml_tree.specs.Texts.{texts_after, is_the_text}
+use Rattle.toml_tree.specs.Values.{text_at, integer_of}
 use Rattle.water_text.specs.Days.{is_date}
 use Rattle.water_model.specs.Basin.{is_outlet, node_name, link_name, reservoir_name, right_name}
 use Rattle.water_model.specs.Valid.{IsValidBasin, IsValidCarry, IsValidInflow, IsValidLink, IsValidNode}
@@ -29,13 +29,13 @@ use Rattle.water_model.specs.declared.types.Reservoir as reservoir
 use Rattle.water_model.specs.declared.types.Right.{Right}
 use Rattle.basin_tree.specs.declared.tables.BasinTable.{BasinTable}
 use Rattle.basin_tree.specs.declared.tables.BasinTable.TheVariants as which
-use Rattle.basin_tree.specs.declared.tables.Kind.TheVariants.{CalendarMonths, Inflow, Whole}
+use Rattle.basin_tree.specs.declared.tables.Kind.TheVariants.{CalendarMonths, Inflow, Integer}
 use Rattle.basin_tree.specs.declared.tables.Space.{Space}
 use Rattle.basin_tree.specs.declared.tables.Space.TheVariants.{Nodes, Links, Reservoirs, Rights}
 use Rattle.basin_tree.specs.Entries.{Entry}
 use Rattle.basin_tree.specs.KeyFaults.{format_of, has_unknown, is_known, names_in}
 use Rattle.basin_tree.specs.NameFaults.{is_outlet_at, own_space, repeats_name, rights_before, same_name, stands_before}
-use Rattle.basin_tree.specs.Places.{named_at, own_key, texts_of}
+use Rattle.basin_tree.specs.Indices.{named_at, own_key, texts_of}
 use Rattle.basin_tree.specs.Tables.{KeyRow, keys_of}
 use Rattle.basin_file.specs.BasinFaults.{is_in_table}
 use Rattle.basin_file.specs.Upgraded.{basin_table, closed_data, inflow_data, link_row, listed, node_row, per_day_data}
@@ -44,7 +44,7 @@ use Rattle.basin_file.proofs.Counts.{count_by-cons}
 use Rattle.basin_file.proofs.Fitting.{Fits, IsClean, and_false, clean_by, fits_gauged, fits_inflow, fits_monthly}
 use Rattle.basin_file.proofs.Fitting.{fits_months, fits_name, fits_none, fits_number, fits_points, fits_reference}
 use Rattle.basin_file.proofs.Fitting.{fits_truth, len_items, names_some}
-use Rattle.basin_file.proofs.Listed.{all_each, each_filter, items_in, place_found, rights_by_table, texts_listed}
+use Rattle.basin_file.proofs.Listed.{all_each, each_filter, items_in, index_found, rights_by_table, texts_listed}
 use Rattle.basin_file.proofs.Lists.{each_at, each_then}
 use Rattle.basin_file.proofs.TableKeys.{HasKeysOf, skip, table_keys}
 use Rattle.basin_file.proofs.TableSpells.{each_right, kind_name, link_named, node_named, reservoir_named, text_there}
@@ -95,8 +95,8 @@ one_passes : (t : Bool) → t ≡ true → (m n : ℕ) → n ≡ (if t then 1 el
 one_passes true e m n h = omega arith
 one_passes false e m n h = cc
 
-one_more : (t m n front whole : ℕ) → front ≡ t + m → whole ≡ t + n → m + 1 ≤ n → front + 1 ≤ whole
-one_more t m n front whole e f l = omega arith
+one_more : (t m n prefix whole : ℕ) → prefix ≡ t + m → whole ≡ t + n → m + 1 ≤ n → prefix + 1 ≤ whole
+one_more t m n prefix whole e f l = omega arith
 
 pub before_less : {X : Type 0} (p : X → Bool) (xs : List X) (k : ℕ) (x : X) → slice_get xs k ≡ Some x → p x ≡ true →
     count_by p (take k xs) + 1 ≤ count_by p xs
@@ -137,7 +137,7 @@ module _ (b : Basin) (valid : IsValidBasin b) where
   keys = table_keys b
 
   pub format : format_of (basin_table b) ≡ 2
-  format = ap (whole_of 1 2 1) keys.format
+  format = ap (integer_of 1 2 1) keys.format
 
   pub node_clean : (k : ℕ) (n : node.Node) → slice_get b.nodes k ≡ Some n →
       IsClean (basin_table b) (record { table = which.Node; number = k + 1; row = node_row n })
@@ -154,7 +154,7 @@ module _ (b : Basin) (valid : IsValidBasin b) where
         nodes = refl;
         canal = refl;
         late = refl;
-        many = le-ltb 2000 (k + 1) (omega (arith, within, valid.few.nodes));
+        many = le-ltb 2000 (k + 1) (omega (arith, within, valid.bounded.nodes));
         same = owns (basin_table b) (record { table = which.Node; number = k + 1; row = node_row n }) Nodes n.name k
             refl refl
             (ap (named_at (basin_table b) Nodes) (sym name) ∙ node_named b valid k within) (omega arith);
@@ -212,7 +212,7 @@ module _ (b : Basin) (valid : IsValidBasin b) where
             ∙ (ap (λ (o : Option Data). is_some (closed_data l.carry) && not (is_some o)) (link_per_day b l)
             ∙ canal l.carry);
         late = refl;
-        many = le-ltb 4000 (k + 1) (omega (arith, within, valid.few.links));
+        many = le-ltb 4000 (k + 1) (omega (arith, within, valid.bounded.links));
         same = owns (basin_table b) (record { table = which.Link; number = k + 1; row = link_row b l }) Links l.name k
             refl
             (text_there (codes "name") (link_row b l) l.name
@@ -223,9 +223,9 @@ module _ (b : Basin) (valid : IsValidBasin b) where
     where
       per_day_fits : (c : Carry) → IsValidCarry c →
           Fits (basin_table b)
-          (record { name = codes "per_day"; is_required = false; kind = Whole 0 (10 ^ 9); since = 1 })
+          (record { name = codes "per_day"; is_required = false; kind = Integer 0 (10 ^ 9); since = 1 })
           (per_day_data c)
-      per_day_fits River h = fits_none (basin_table b) (codes "per_day") (Whole 0 (10 ^ 9)) 1
+      per_day_fits River h = fits_none (basin_table b) (codes "per_day") (Integer 0 (10 ^ 9)) 1
       per_day_fits (Canal per_day shut) h =
           fits_number (basin_table b) (codes "per_day") false 1 0 (10 ^ 9) per_day (omega arith) h.0
 
@@ -278,7 +278,7 @@ module _ (b : Basin) (valid : IsValidBasin b) where
         canal = refl;
         late = refl;
         many = le-ltb 64 (items_len (items_of (map point_data v.area)))
-            (omega (arith, len_items point_data v.area, h.few_points));
+            (omega (arith, len_items point_data v.area, h.bounded_points));
         same = owns (basin_table b) (record { table = which.Reservoir; number = k + 1; row = reservoir_row b v })
             Reservoirs (node_name b v.node) k refl refl
             (ap (named_at (basin_table b) Reservoirs) (sym name) ∙ reservoir_named b valid k within) (omega arith);
@@ -299,10 +299,10 @@ module _ (b : Basin) (valid : IsValidBasin b) where
   pub all_rights : d ++ i ++ z ≡ b.rights
   all_rights = rights_by_table 0 b.rights valid.ranked
 
-  pub few_rights : length d + length i + length z ≤ 2000
-  few_rights =
+  pub bounded_rights : length d + length i + length z ≤ 2000
+  bounded_rights =
       let whole : length (d ++ i ++ z) ≡ length b.rights = ap (λ rs. length rs) all_rights in
-      omega (arith, whole, length-append (d ++ i) z, length-append d i, valid.few.rights)
+      omega (arith, whole, length-append (d ++ i) z, length-append d i, valid.bounded.rights)
 
   right_texts : texts_of (basin_table b) Rights ≡ map (λ r. Some r.name) b.rights
   right_texts =
@@ -314,9 +314,9 @@ module _ (b : Basin) (valid : IsValidBasin b) where
       names rs = map (λ r. Some r.name) rs
 
       texts : (t : BasinTable) (rs : List Right) {o : Option Data} → o ≡ listed (right_row b) rs →
-          texts_behind (codes "name") (items_in o) ≡ names rs
+          texts_after (codes "name") (items_in o) ≡ names rs
       texts t rs e =
-          ap (λ (o : Option Data). texts_behind (codes "name") (items_in o)) e
+          ap (λ (o : Option Data). texts_after (codes "name") (items_in o)) e
           ∙ texts_listed (codes "name") (right_row b) (λ r. r.name) rs (λ r. kind_name b r r.kind)
 
       three : (p q r : List (Option (List ℕ))) → p ≡ names d → q ≡ names i → r ≡ names z →
@@ -331,7 +331,7 @@ module _ (b : Basin) (valid : IsValidBasin b) where
       let name : right_name b k ≡ r.name = ap (λ (o : Option Right). unwrap_or (option_map (λ x. x.name) o) []) at in
       ap (named_at (basin_table b) Rights) (sym name)
       ∙ (ap (λ texts. first_from (is_the_text (right_name b k)) 0 texts) right_texts
-      ∙ place_found (λ r. r.name) b.rights k (slice_get_within b.rights k r at) valid.names.rights)
+      ∙ index_found (λ r. r.name) b.rights k (slice_get_within b.rights k r at) valid.names.rights)
 
   pub sound_at : (t : BasinTable) (k : ℕ) (r : Right) → slice_get (rights_in t b.rights) k ≡ Some r →
       (IsValidRight b r × (is_date r.date ≡ true)) × (is_in_table t r.kind ≡ true)

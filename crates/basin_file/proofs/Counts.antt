@@ -3,8 +3,8 @@ use Rattle.std.proofs.Common.{nat_lt, ◌≡◌, ℕ, zero, suc, ◌+◌, ◌<�
 use Rattle.std.proofs.Common.{false, Some, slice_get, if◌then◌else◌, count_by, refl, sym, ap, ◌∙◌, arith, nat_lt}
 use Rattle.std.proofs.lemmas.List.Sums.{sum_by-cons}
 use Rattle.std.proofs.lemmas.Bool.{ltb-false}
-use Rattle.place_sums.specs.Sums.{count_where}
-use Rattle.place_sums.proofs.Totals.{total_start, total_first}
+use Rattle.finite_sums.specs.Sums.{count_where}
+use Rattle.finite_sums.proofs.Totals.{total_start, total_first}
 use Rattle.water_model.specs.Lookups.{of_entry}
 use Rattle.basin_file.proofs.Lists.{Each, EachFrom}
 
@@ -21,14 +21,14 @@ count_where-entries p (x ∷ xs) =
     ∙ (ap (λ n. (if p x then 1 else 0) + n) (count_where-entries p xs) ∙ sym (count_by-cons p x xs))
 
 -- where fewer than the limit pass before each entry that passes, at most the limit pass
-pub few_pass : {X : Type 0} (p : X → Bool) (limit n : ℕ) (xs : List X) →
+pub bounded_pass : {X : Type 0} (p : X → Bool) (limit n : ℕ) (xs : List X) →
     ((k : ℕ) (x : X) → slice_get xs k ≡ Some x → p x ≡ true → n + count_by p (take k xs) < limit) → n ≤ limit →
     n + count_by p xs ≤ limit
-few_pass p limit n [] each low = omega arith
-few_pass p limit n (x ∷ xs) each low =
+bounded_pass p limit n [] each low = omega arith
+bounded_pass p limit n (x ∷ xs) each low =
     let one : ℕ = if p x then 1 else 0 in
     let rest : n + one + count_by p xs ≤ limit =
-    few_pass p limit (n + one) xs
+    bounded_pass p limit (n + one) xs
     (λ k y there passes. (let h : n + count_by p (take (suc k) (x ∷ xs)) < limit = each (suc k) y there passes in
     let same : count_by p (x ∷ take k xs) ≡ one + count_by p (take k xs) = count_by-cons p x (take k xs) in
     omega arith))
@@ -57,11 +57,12 @@ counts_within f g p q (suc n) (x ∷ xs) each =
     by false true h low = omega arith
     by false false h low = omega arith
 
--- where no entry's number, behind so many others, is past the limit, there are at most so many entries
-pub few_by : {X : Type 0} (limit before n : ℕ) (xs : List X) →
+-- where no entry's number, after a given number of others, is past the limit, there are at most a given number of
+-- entries
+pub bounded_by : {X : Type 0} (limit before n : ℕ) (xs : List X) →
     EachFrom (λ k x. nat_lt limit (before + (k + 1)) ≡ false) n xs → before + n ≤ limit → before + n + length xs ≤ limit
-few_by limit before n [] each low = omega arith
-few_by limit before n (x ∷ xs) each low =
+bounded_by limit before n [] each low = omega arith
+bounded_by limit before n (x ∷ xs) each low =
     let here : before + (n + 1) ≤ limit = ltb-false limit (before + (n + 1)) each.0 in
-    let rest : before + (n + 1) + length xs ≤ limit = few_by limit before (n + 1) xs each.1 here in
+    let rest : before + (n + 1) + length xs ≤ limit = bounded_by limit before (n + 1) xs each.1 here in
     omega arith

@@ -60,8 +60,8 @@ same_told keys n (key ∷ rest) e = by (nat_lt (position_or_len (bytes_eq key) k
   where
     by : (t : Bool) → nat_lt (position_or_len (bytes_eq key) keys) n ≡ t →
         (same_from keys (n + 1) rest ≡ Some roll.OutOfMemory → ⊥) → ⊥
-    by true low behind = (let h = rw low at e in cc)
-    by false high behind = behind (rw high at e)
+    by true low after = (let h = rw low at e in cc)
+    by false high after = after (rw high at e)
 
 map_told : (f : ℕ → RollRefused) → ((k : ℕ) → f k ≢ roll.OutOfMemory) → (o : Option ℕ) → IsTold (option_map f o)
 map_told f other None e = cc

@@ -24,17 +24,17 @@ use Rattle.water_model.specs.declared.types.AreaPoint.{AreaPoint}
 use Rattle.basin_tree.specs.declared.tables.BasinTable.{BasinTable}
 use Rattle.basin_tree.specs.declared.tables.BasinTable.TheVariants as which
 use Rattle.basin_tree.specs.declared.tables.Kind.{Kind}
-use Rattle.basin_tree.specs.declared.tables.Kind.TheVariants.{Tables, Whole, Truth, Name, Refers, MonthText, DateText}
+use Rattle.basin_tree.specs.declared.tables.Kind.TheVariants.{Tables, Integer, Truth, Name, Refers, MonthText, DateText}
 use Rattle.basin_tree.specs.declared.tables.Kind.TheVariants.{Monthly, Want, CalendarMonths, Inflow, Points}
 use Rattle.basin_tree.specs.declared.tables.Space.{Space}
-use Rattle.basin_tree.specs.Entries.{Entry, entries_behind, entries_in, entries_of, found_at}
+use Rattle.basin_tree.specs.Entries.{Entry, entries_after, entries_in, entries_of, found_at}
 use Rattle.basin_tree.specs.KeyFaults.{any_value, format_of, has_no_nodes, has_unknown, lacks_key, missing_key}
 use Rattle.basin_tree.specs.KeyFaults.{names_in, out_of_range, runs_late, shuts_no_canal, unknown_key, wrong_kind}
-use Rattle.basin_tree.specs.Kinds.{has_kind, is_listed, is_whole}
+use Rattle.basin_tree.specs.Kinds.{has_kind, is_listed, is_integer_value}
 use Rattle.basin_tree.specs.NameFaults.{bad_name, is_bad_name, names_none, no_such_name, outlet_reservoir, same_name}
 use Rattle.basin_tree.specs.NameFaults.{stands_at_outlet, too_many}
 use Rattle.basin_tree.specs.Order.{Pass, first_fault, passes, tree_fault}
-use Rattle.basin_tree.specs.Places.{named_at}
+use Rattle.basin_tree.specs.Indices.{named_at}
 use Rattle.basin_tree.specs.Ranges.{in_range, number_in, pair_in}
 use Rattle.basin_tree.specs.Tables.{KeyRow, keys_of, table_name}
 use Rattle.basin_tree.specs.Tables as tables
@@ -63,7 +63,7 @@ and_false true = refl
 and_false false = refl
 
 -- items of lists of numbers
-whole_items : (ns : List ℕ) → items_all is_whole (numbers ns) ≡ true
+whole_items : (ns : List ℕ) → items_all is_integer_value (numbers ns) ≡ true
 whole_items [] = refl
 whole_items (n ∷ ns) = whole_items ns
 
@@ -91,7 +91,7 @@ months_each from (true ∷ shut) low high =
     (between 1 from 12 low (omega arith), months_each (from + 1) shut (omega arith) (omega arith))
 months_each from (false ∷ shut) low high = months_each (from + 1) shut (omega arith) (omega arith)
 
-pair_items : (area : List AreaPoint) → items_all (is_listed is_whole 2) (items_of (map point_data area)) ≡ true
+pair_items : (area : List AreaPoint) → items_all (is_listed is_integer_value 2) (items_of (map point_data area)) ≡ true
 pair_items [] = refl
 pair_items (p ∷ area) = pair_items area
 
@@ -129,7 +129,8 @@ module _ (tree : Members) where
       record { present = and_false key.is_required; kinds = ap not p; ranges = ap not q; names = r; refers = s }
 
   pub fits_number : (name : List ℕ) (needed : Bool) (since least most n : ℕ) → least ≤ n → n ≤ most →
-      Fits tree (record { name = name; is_required = needed; kind = Whole least most; since = since }) (Some (number n))
+      Fits tree (record { name = name; is_required = needed; kind = Integer least most; since = since })
+      (Some (number n))
   fits_number name needed since least most n low high =
       fits_by _ (number n) refl (between least n most low high) refl refl
 
@@ -197,7 +198,7 @@ module _ (tree : Members) where
   fits_months name since shut len = by (numbers (shut_months 1 shut)) (whole_items (shut_months 1 shut))
       (ranged_items 1 12 (shut_months 1 shut) (months_each 1 shut (omega arith) (omega (arith, len))))
     where
-      by : (ds : Items) → items_all is_whole ds ≡ true → items_all (number_in 1 12) ds ≡ true →
+      by : (ds : Items) → items_all is_integer_value ds ≡ true → items_all (number_in 1 12) ds ≡ true →
           Fits tree (record { name = name; is_required = false; kind = CalendarMonths; since = since }) (some_items ds)
       by no_items p q = fits_none name CalendarMonths since
       by (item d ds) p q = fits_by _ (array (item d ds)) p q refl refl
@@ -295,7 +296,7 @@ find_lists f g (a ∷ lists) each = find_both f (g a) (flat_map g lists) each.0 
 
 find_rows : {X : Type 0} (f : Entry → Bool) (t : BasinTable) (row : X → Members) (n : ℕ) (xs : List X) →
     ((k : ℕ) (x : X) → slice_get xs k ≡ Some x → f (record { table = t; number = n + k + 1; row = row x }) ≡ false) →
-    find f (entries_behind t n (items_of (map (λ x. table (row x)) xs))) ≡ None
+    find f (entries_after t n (items_of (map (λ x. table (row x)) xs))) ≡ None
 find_rows f t row n [] each = refl
 find_rows {X = X} f t row n (x ∷ xs) each =
     let at : ℕ → Type 0 = λ m. f (record { table = t; number = m; row = row x }) ≡ false in
@@ -310,7 +311,7 @@ find_rows {X = X} f t row n (x ∷ xs) each =
 
 find_listed : {X : Type 0} (f : Entry → Bool) (t : BasinTable) (row : X → Members) (xs : List X) →
     ((k : ℕ) (x : X) → slice_get xs k ≡ Some x → f (record { table = t; number = 0 + k + 1; row = row x }) ≡ false) →
-    find f (entries_behind t 0 (items_in (listed row xs))) ≡ None
+    find f (entries_after t 0 (items_in (listed row xs))) ≡ None
 find_listed f t row [] each = refl
 find_listed f t row (x ∷ xs) each = find_rows f t row 0 (x ∷ xs) each
 
@@ -323,7 +324,7 @@ pub tidy_listed : {X : Type 0} (tree : Members) (t : BasinTable) (row : X → Me
     ((k : ℕ) (x : X) → slice_get xs k ≡ Some x → IsClean tree (record { table = t; number = k + 1; row = row x })) →
     IsTidy tree t
 tidy_listed tree t row xs at clean f none =
-    ap (λ (o : Option Data). find f (entries_behind t 0 (items_in o))) at
+    ap (λ (o : Option Data). find f (entries_after t 0 (items_in o))) at
     ∙ find_listed f t row xs (λ k x there.
     (let same : ℕ → Type 0 = λ m. f (record { table = t; number = m; row = row x }) ≡ false in
     subst same (omega arith) (none (record { table = t; number = k + 1; row = row x }) (clean k x there))))

@@ -14,7 +14,7 @@ use Rattle.water_model.specs.declared.types.Right.{Right}
 use Rattle.rights_roll.specs.RollFaults.{roll_fault, IsRollRefusal}
 use Rattle.rights_roll.specs.declared.RollRefused.{RollRefused}
 use Rattle.rights_roll.specs.declared.RollRefused.TheVariants as roll
-use Rattle.reservoirs.specs.AreaFaults.{fault_behind, table_fault}
+use Rattle.reservoirs.specs.AreaFaults.{fault_after, table_fault}
 use Rattle.reservoirs.specs.declared.TableRefused.{TableRefused}
 use Rattle.reservoirs.specs.declared.TableRefused.TheVariants as area
 use Rattle.reservoirs.proofs.Tables.{is_table}
@@ -42,15 +42,15 @@ roll_found rights returns (roll.ReturnParts right) finding refusal f =
 roll_found rights returns roll.OutOfMemory finding refusal f = cc
 
 -- an area table that is told as no fault has none
-no_memory_behind : (before : AreaPoint) (n : ℕ) (points : List AreaPoint) →
-    fault_behind before n points ≢ Some area.OutOfMemory
-no_memory_behind before n [] e = cc
-no_memory_behind before n (p ∷ points) e =
+no_memory_after : (before : AreaPoint) (n : ℕ) (points : List AreaPoint) →
+    fault_after before n points ≢ Some area.OutOfMemory
+no_memory_after before n [] e = cc
+no_memory_after before n (p ∷ points) e =
     elim (cases_Bool (nat_le p.storage before.storage)) [
       | inl low ↦ (let h = rw low at e in cc)
       | inr high ↦ elim (cases_Bool (nat_lt p.area before.area)) [
         | inl falls ↦ (let h = rw (high, falls) at e in cc)
-        | inr stays ↦ no_memory_behind p (n + 1) points (rw (high, stays) at e)
+        | inr stays ↦ no_memory_after p (n + 1) points (rw (high, stays) at e)
       ]
     ]
 
@@ -58,7 +58,7 @@ no_memory : (points : List AreaPoint) → table_fault points ≢ Some area.OutOf
 no_memory [] e = cc
 no_memory (p ∷ points) e =
     elim (cases_Bool (eqb p.storage 0)) [
-      | inl begins ↦ no_memory_behind p 1 points (rw begins at e)
+      | inl begins ↦ no_memory_after p 1 points (rw begins at e)
       | inr other ↦ (let h = rw other at e in cc)
     ]
 
@@ -95,7 +95,7 @@ pub valid_by : (b : Basin) → IsSoundBasin b → IsSoundNetwork b.nodes b.links
 valid_by b sound network roll tables = record {
   format = sound.format;
   run = sound.run;
-  few = sound.few;
+  bounded = sound.bounded;
   nodes = sound.nodes;
   links = sound.links;
   reservoirs = λ k d h. (let v = sound.reservoirs k d h in record {
@@ -103,7 +103,7 @@ valid_by b sound network roll tables = record {
     inner = v.inner;
     opening = v.opening;
     points = v.points;
-    few_points = v.few_points;
+    bounded_points = v.bounded_points;
     table = tables k d h;
     rate = v.rate;
   });

@@ -8,8 +8,8 @@ use Rattle.std.proofs.lemmas.Option.{slice_get-map, slice_get_within}
 use Rattle.std.proofs.lemmas.Slice.Eq.{bytes_eq-Decides}
 use Rattle.toml.specs.Data.{Data, table, Items, no_items, Members, as_array}
 use Rattle.toml.specs.View.{items_of}
-use Rattle.first_places.specs.Places.{first_from}
-use Rattle.toml_tree.specs.Texts.{texts_behind, is_the_text}
+use Rattle.first_index.specs.Indices.{first_from}
+use Rattle.toml_tree.specs.Texts.{texts_after, is_the_text}
 use Rattle.toml_tree.specs.Values.{text_at}
 use Rattle.water_model.specs.Lookups.{of_entry}
 use Rattle.water_model.specs.Valid.{AreRanked, is_diversion_kind, rank_of_kind}
@@ -20,9 +20,9 @@ use Rattle.water_model.proofs.Balance.{entry_at}
 use Rattle.basin_tree.specs.declared.tables.BasinTable.{BasinTable}
 use Rattle.basin_tree.specs.declared.tables.BasinTable.TheVariants.{Diversion, Instream, Zone}
 use Rattle.basin_tree.specs.declared.tables.Space.{Space}
-use Rattle.basin_tree.specs.Places.{named_at}
+use Rattle.basin_tree.specs.Indices.{named_at}
 use Rattle.basin_file.specs.BasinFaults.{is_in_table}
-use Rattle.basin_file.specs.Spelled.{number_at, rows_behind, small}
+use Rattle.basin_file.specs.Spelled.{number_at, rows_after, small}
 use Rattle.basin_file.specs.Upgraded.{listed, rights_in}
 use Rattle.basin_file.proofs.Lists.{Each}
 use Rattle.basin_file.proofs.OwnNames.{first_at, first_le}
@@ -33,24 +33,24 @@ items_in value = unwrap_or (option_and_then as_array value) no_items
 
 -- the rows of what is listed are those that were put
 rows_items : {X : Type 0} (row : X → Members) (xs : List X) →
-    rows_behind (items_of (map (λ x. table (row x)) xs)) ≡ map row xs
+    rows_after (items_of (map (λ x. table (row x)) xs)) ≡ map row xs
 rows_items row [] = refl
 rows_items row (x ∷ xs) = ap (λ rest. row x ∷ rest) (rows_items row xs)
 
-pub rows_listed : {X : Type 0} (row : X → Members) (xs : List X) → rows_behind (items_in (listed row xs)) ≡ map row xs
+pub rows_listed : {X : Type 0} (row : X → Members) (xs : List X) → rows_after (items_in (listed row xs)) ≡ map row xs
 rows_listed row [] = refl
 rows_listed row (x ∷ xs) = rows_items row (x ∷ xs)
 
 -- and so are their names
 texts_items : {X : Type 0} (key : List ℕ) (row : X → Members) (name : X → List ℕ) (xs : List X) →
     ((x : X) → text_at key (row x) ≡ Some (name x)) →
-    texts_behind key (items_of (map (λ x. table (row x)) xs)) ≡ map (λ x. Some (name x)) xs
+    texts_after key (items_of (map (λ x. table (row x)) xs)) ≡ map (λ x. Some (name x)) xs
 texts_items key row name [] each = refl
 texts_items key row name (x ∷ xs) each = rw (each x, texts_items key row name xs each) refl
 
 pub texts_listed : {X : Type 0} (key : List ℕ) (row : X → Members) (name : X → List ℕ) (xs : List X) →
     ((x : X) → text_at key (row x) ≡ Some (name x)) →
-    texts_behind key (items_in (listed row xs)) ≡ map (λ x. Some (name x)) xs
+    texts_after key (items_in (listed row xs)) ≡ map (λ x. Some (name x)) xs
 texts_listed key row name [] each = refl
 texts_listed key row name (x ∷ xs) each = texts_items key row name (x ∷ xs) each
 
@@ -59,9 +59,9 @@ abbrev pub HaveOwn : {X : Type 0} → (X → List ℕ) → List X → Type 0
 HaveOwn name xs = (i j : ℕ) → i < j → j < length xs → of_entry xs i name [] ≢ of_entry xs j name []
 
 -- so the name of an entry stands first at its place
-pub place_found : {X : Type 0} (name : X → List ℕ) (xs : List X) (k : ℕ) → k < length xs → HaveOwn name xs →
+pub index_found : {X : Type 0} (name : X → List ℕ) (xs : List X) (k : ℕ) → k < length xs → HaveOwn name xs →
     first_from (is_the_text (of_entry xs k name [])) 0 (map (λ x. Some (name x)) xs) ≡ Some k
-place_found {X = X} name xs k within own =
+index_found {X = X} name xs k within own =
     let it = entry_at xs k within in
     let first =
     first_le (is_the_text (name it.0)) 0 (map (λ x. Some (name x)) xs) k (Some (name it.0)) (text_there k it.0 it.1)
@@ -69,7 +69,7 @@ place_found {X = X} name xs k within own =
     let there = first_at (is_the_text (name it.0)) 0 (map (λ x. Some (name x)) xs) first.0 first.1 in
     rw (it.1)
     (first.1 ∙ ap Some
-    (place it.0 it.1 first.0 (omega (arith, first.2)) there.0 (omega (arith, there.2)) there.1 there.3 there.4))
+    (index it.0 it.1 first.0 (omega (arith, first.2)) there.0 (omega (arith, there.2)) there.1 there.3 there.4))
   where
     text_there : (i : ℕ) (x : X) → slice_get xs i ≡ Some x →
         slice_get (map (λ x. Some (name x)) xs) i ≡ Some (Some (name x))
@@ -81,9 +81,9 @@ place_found {X = X} name xs k within own =
         let is : text ≡ Some (name y) = cc in
         sym ((bytes_eq-Decides (name x) (name y)).0 (rw is at passes))
 
-    place : (x : X) → slice_get xs k ≡ Some x → (at : ℕ) → at ≤ k → (j : ℕ) → at ≡ j → (text : Option (List ℕ)) →
+    index : (x : X) → slice_get xs k ≡ Some x → (at : ℕ) → at ≤ k → (j : ℕ) → at ≡ j → (text : Option (List ℕ)) →
         slice_get (map (λ x. Some (name x)) xs) j ≡ Some text → is_the_text (name x) text ≡ true → at ≡ k
-    place x here at low j is text there passes =
+    index x here at low j is text there passes =
         elim (eq-or-lt_of_le low) [
           | inl same ↦ same
           | inr less ↦ (let before : j < k = omega arith in
@@ -96,7 +96,7 @@ place_found {X = X} name xs k within own =
 pub number_read : (tree : Members) (space : Space) (key : List ℕ) (row : Members) (q : List ℕ) (k : ℕ) →
     text_at key row ≡ Some q → named_at tree space q ≡ Some k → k < 4000 →
     number_at tree space key row ≡ k
-number_read tree space key row q k text named few = rw (text, named) (fits k few)
+number_read tree space key row q k text named bounded = rw (text, named) (fits k bounded)
   where
     fits : (n : ℕ) → n < 4000 → small n ≡ n
     fits n h = grind (arith, nat_tests)
@@ -128,7 +128,7 @@ passed : (which : BasinTable) (r : Right) (rights : List Right) → is_in_table 
     rights_in which (r ∷ rights) ≡ rights_in which rights
 passed which r rights e = rw e refl
 
--- behind a right of a later table no diversion stands
+-- after a right of a later table no diversion stands
 no_diversions : (least : ℕ) (rights : List Right) → AreRanked least rights → 1 ≤ least → rights_in Diversion rights ≡ []
 no_diversions least [] ranked low = refl
 no_diversions least (r ∷ rights) ranked low =
@@ -140,7 +140,7 @@ no_diversions least (r ∷ rights) ranked low =
     by (kind.Instream link) e l rest = passed Diversion r rights (ap (is_in_table Diversion) e) ∙ rest
     by (kind.Zone reservoir level) e l rest = passed Diversion r rights (ap (is_in_table Diversion) e) ∙ rest
 
--- nor an instream right behind a zone
+-- nor an instream right after a zone
 no_instream : (least : ℕ) (rights : List Right) → AreRanked least rights → 2 ≤ least → rights_in Instream rights ≡ []
 no_instream least [] ranked low = refl
 no_instream least (r ∷ rights) ranked low =
@@ -173,23 +173,23 @@ rights_by_table least (r ∷ rights) ranked =
 
     by : (its : RightKind) → r.kind ≡ its → AreRanked (rank_of_kind its) rights → d ++ i ++ z ≡ rights →
         rights_in Diversion (r ∷ rights) ++ rights_in Instream (r ∷ rights) ++ rights_in Zone (r ∷ rights) ≡ r ∷ rights
-    by (kind.Diversion node) e behind rest =
+    by (kind.Diversion node) e after rest =
         joined (rights_in Diversion (r ∷ rights)) (rights_in Instream (r ∷ rights)) (rights_in Zone (r ∷ rights))
         (r ∷ d) i z (r ∷ rights)
         (kept Diversion r rights (ap (is_in_table Diversion) e))
         (passed Instream r rights (ap (is_in_table Instream) e))
         (passed Zone r rights (ap (is_in_table Zone) e)) (ap (λ rs. r ∷ rs) rest)
-    by (kind.Instream link) e behind rest =
-        let none = no_diversions 1 rights behind (omega arith) in
+    by (kind.Instream link) e after rest =
+        let none = no_diversions 1 rights after (omega arith) in
         joined (rights_in Diversion (r ∷ rights)) (rights_in Instream (r ∷ rights)) (rights_in Zone (r ∷ rights)) []
         (r ∷ i) z (r ∷ rights)
         (passed Diversion r rights (ap (is_in_table Diversion) e) ∙ none)
         (kept Instream r rights (ap (is_in_table Instream) e))
         (passed Zone r rights (ap (is_in_table Zone) e))
         (ap (λ rs. r ∷ rs) (joined [] i z d i z rights (sym none) refl refl rest))
-    by (kind.Zone reservoir level) e behind rest =
-        let none = no_diversions 2 rights behind (omega arith) in
-        let nor = no_instream 2 rights behind (omega arith) in
+    by (kind.Zone reservoir level) e after rest =
+        let none = no_diversions 2 rights after (omega arith) in
+        let nor = no_instream 2 rights after (omega arith) in
         joined (rights_in Diversion (r ∷ rights)) (rights_in Instream (r ∷ rights)) (rights_in Zone (r ∷ rights)) [] []
         (r ∷ z) (r ∷ rights)
         (passed Diversion r rights (ap (is_in_table Diversion) e) ∙ none)
@@ -213,20 +213,20 @@ diversion_same least (r ∷ rights) ranked k within =
         ((k : ℕ) → k < length (rights_in Diversion rights) →
         slice_get (rights_in Diversion rights) k ≡ slice_get rights k) →
         slice_get (rights_in Diversion (r ∷ rights)) k ≡ slice_get (r ∷ rights) k
-    by (kind.Diversion node) e behind zero within rest =
+    by (kind.Diversion node) e after zero within rest =
         ap (λ rs. slice_get rs 0) (kept Diversion r rights (ap (is_in_table Diversion) e))
-    by (kind.Diversion node) e behind (suc k) within rest =
+    by (kind.Diversion node) e after (suc k) within rest =
         let here = kept Diversion r rights (ap (is_in_table Diversion) e) in
         let len : length (rights_in Diversion (r ∷ rights)) ≡ suc (length (rights_in Diversion rights)) =
         ap (λ rs. length rs) here in
         ap (λ rs. slice_get rs (suc k)) here ∙ rest k (omega arith)
-    by (kind.Instream link) e behind k within rest =
+    by (kind.Instream link) e after k within rest =
         absurd (none_there k (rights_in Diversion (r ∷ rights))
-        (passed Diversion r rights (ap (is_in_table Diversion) e) ∙ no_diversions 1 rights behind (omega arith))
+        (passed Diversion r rights (ap (is_in_table Diversion) e) ∙ no_diversions 1 rights after (omega arith))
         within)
-    by (kind.Zone reservoir level) e behind k within rest =
+    by (kind.Zone reservoir level) e after k within rest =
         absurd (none_there k (rights_in Diversion (r ∷ rights))
-        (passed Diversion r rights (ap (is_in_table Diversion) e) ∙ no_diversions 2 rights behind (omega arith))
+        (passed Diversion r rights (ap (is_in_table Diversion) e) ∙ no_diversions 2 rights after (omega arith))
         within)
 
 -- and stands among them
@@ -242,22 +242,22 @@ diversion_within least (r ∷ rights) ranked k is =
         ((k : ℕ) → of_entry rights k (λ r. is_diversion_kind r.kind) false ≡ true →
         k < length (rights_in Diversion rights)) →
         k < length (rights_in Diversion (r ∷ rights))
-    by (kind.Diversion node) e behind zero is rest =
+    by (kind.Diversion node) e after zero is rest =
         let len : length (rights_in Diversion (r ∷ rights)) ≡ suc (length (rights_in Diversion rights)) =
         ap (λ rs. length rs) (kept Diversion r rights (ap (is_in_table Diversion) e)) in
         omega arith
-    by (kind.Diversion node) e behind (suc k) is rest =
+    by (kind.Diversion node) e after (suc k) is rest =
         let within = rest k is in
         let len : length (rights_in Diversion (r ∷ rights)) ≡ suc (length (rights_in Diversion rights)) =
         ap (λ rs. length rs) (kept Diversion r rights (ap (is_in_table Diversion) e)) in
         omega arith
-    by (kind.Instream link) e behind zero is rest = let never : false ≡ true = ap is_diversion_kind (sym e) ∙ is in cc
-    by (kind.Instream link) e behind (suc k) is rest =
-        absurd (none_there k (rights_in Diversion rights) (no_diversions 1 rights behind (omega arith)) (rest k is))
-    by (kind.Zone reservoir level) e behind zero is rest = let never : false ≡ true =
+    by (kind.Instream link) e after zero is rest = let never : false ≡ true = ap is_diversion_kind (sym e) ∙ is in cc
+    by (kind.Instream link) e after (suc k) is rest =
+        absurd (none_there k (rights_in Diversion rights) (no_diversions 1 rights after (omega arith)) (rest k is))
+    by (kind.Zone reservoir level) e after zero is rest = let never : false ≡ true =
         ap is_diversion_kind (sym e) ∙ is in cc
-    by (kind.Zone reservoir level) e behind (suc k) is rest =
-        absurd (none_there k (rights_in Diversion rights) (no_diversions 2 rights behind (omega arith)) (rest k is))
+    by (kind.Zone reservoir level) e after (suc k) is rest =
+        absurd (none_there k (rights_in Diversion rights) (no_diversions 2 rights after (omega arith)) (rest k is))
 
 -- so no two diversions have one name where no two rights have
 pub diversions_own : (least : ℕ) (rights : List Right) → AreRanked least rights → HaveOwn (λ r. r.name) rights →

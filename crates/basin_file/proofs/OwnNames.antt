@@ -10,7 +10,7 @@ use Rattle.std.proofs.lemmas.Slice.Eq.{bytes_eq-Decides}
 use Rattle.std.specs.Option.{option_map_or}
 use Rattle.toml.specs.Data.{Members}
 use Rattle.toml_tree.specs.Items.{items_len}
-use Rattle.first_places.specs.Places.{first_from}
+use Rattle.first_index.specs.Indices.{first_from}
 use Rattle.toml_tree.specs.Texts.{is_the_text}
 use Rattle.toml_tree.specs.Values.{text_at}
 use Rattle.water_text.specs.Names.{is_name}
@@ -22,7 +22,7 @@ use Rattle.basin_tree.specs.declared.tables.BasinTable.TheVariants.{Diversion, I
 use Rattle.basin_tree.specs.declared.tables.Space.{Space}
 use Rattle.basin_tree.specs.declared.tables.Space.TheVariants.{Rights}
 use Rattle.basin_tree.specs.NameFaults.{own_space, rights_before}
-use Rattle.basin_tree.specs.Places.{own_key, texts_in, texts_of, named_at}
+use Rattle.basin_tree.specs.Indices.{own_key, texts_in, texts_of, named_at}
 use Rattle.basin_file.specs.Spelled.{name_at, rows_in}
 use Rattle.basin_file.proofs.Lists.{Each, EachFrom, from_at, from_map, from_append}
 use Rattle.basin_file.proofs.Passed.{IsListed, HasNoFault, IsFine, fine_rows}
@@ -77,8 +77,8 @@ pub same_text : (tree : Members) (space : Space) (q r : List ℕ) (at : ℕ) →
 same_text tree space q r at one other =
     let a = first_at (is_the_text q) 0 (texts_of tree space) at one in
     let b = first_at (is_the_text r) 0 (texts_of tree space) at other in
-    let place : a.0 ≡ b.0 = omega (arith, a.2, b.2) in
-    let text : slice_get (texts_of tree space) a.0 ≡ Some b.1 = rw place b.3 in
+    let index : a.0 ≡ b.0 = omega (arith, a.2, b.2) in
+    let text : slice_get (texts_of tree space) a.0 ≡ Some b.1 = rw index b.3 in
     let same : a.1 ≡ b.1 = cc (a.3, text) in
     by a.1 a.4 (rw same b.4)
   where
@@ -145,11 +145,11 @@ own_names {X = X} name entries texts same own i j before within equal =
     let one = entry_at entries i (omega arith) in
     let other = entry_at entries j within in
     let names : name one.0 ≡ name other.0 = rw (one.1, other.1) at equal in
-    own_texts texts own i j (name one.0) before (text_at_place i one.0 one.1)
-    (rw names (text_at_place j other.0 other.1))
+    own_texts texts own i j (name one.0) before (text_at_index i one.0 one.1)
+    (rw names (text_at_index j other.0 other.1))
   where
-    text_at_place : (k : ℕ) (x : X) → slice_get entries k ≡ Some x → slice_get texts k ≡ Some (Some (name x))
-    text_at_place k x there = rw (← same) (rw (slice_get-map (λ y. Some (name y)) entries k) (rw there refl))
+    text_at_index : (k : ℕ) (x : X) → slice_get entries k ≡ Some x → slice_get texts k ≡ Some (Some (name x))
+    text_at_index k x there = rw (← same) (rw (slice_get-map (λ y. Some (name y)) entries k) (rw there refl))
 
 -- the names of the entries that rows spell
 pub names_of_rows : {X : Type 0} (spells : Members → X) (name : X → List ℕ) (key : List ℕ) (rows : List Members) →

@@ -16,7 +16,7 @@ use Rattle.basin_tree.specs.declared.tables.BasinTable.{BasinTable}
 use Rattle.basin_tree.specs.declared.tables.BasinTable.TheVariants.{Top, Node, Link, Reservoir, Diversion, Instream}
 use Rattle.basin_tree.specs.declared.tables.BasinTable.TheVariants.{Zone, Return}
 use Rattle.basin_tree.specs.declared.tables.Kind.TheVariants.{Tables}
-use Rattle.basin_tree.specs.Entries.{Entry, entry_at, entries_behind, entries_in, entries_of, items_at, found_at}
+use Rattle.basin_tree.specs.Entries.{Entry, entry_at, entries_after, entries_in, entries_of, items_at, found_at}
 use Rattle.basin_tree.specs.KeyFaults.{format_of, is_known, has_unknown, unknown_key, missing_key, wrong_kind}
 use Rattle.basin_tree.specs.KeyFaults.{out_of_range, lacks_key, has_no_nodes, shuts_no_canal, any_value}
 use Rattle.basin_tree.specs.Kinds.{has_kind}
@@ -24,7 +24,7 @@ use Rattle.basin_tree.specs.NameFaults.{is_bad_name, bad_name, too_many, same_na
 use Rattle.basin_tree.specs.NameFaults.{stands_at_outlet, outlet_reservoir}
 use Rattle.basin_tree.specs.Order.{Pass, found_by, first_fault, passes, tree_fault}
 use Rattle.basin_tree.specs.Tables.{keys_of, table_name, listed}
-use Rattle.basin_file.specs.Spelled.{rows_behind, rows_in}
+use Rattle.basin_file.specs.Spelled.{rows_after, rows_in}
 use Rattle.basin_file.proofs.Lists.{Each, EachFrom, from_then, from_with}
 
 pub or_none : {X : Type 0} (a b : Option X) → option_or a b ≡ None → (a ≡ None) × (b ≡ None)
@@ -166,19 +166,19 @@ all_tables tree none Return h = tables_at tree none Return 9 false refl
 -- each entry of a table passes a test that finds nothing, by its place
 rows_pass : (f : Entry → Bool) (table : BasinTable) (n : ℕ) (items : Items) →
     items_all (λ x. is_some (as_table x)) items ≡ true →
-    find f (entries_behind table n items) ≡ None →
-    EachFrom (λ k row. f (record { table = table; number = k + 1; row = row }) ≡ false) n (rows_behind items)
+    find f (entries_after table n items) ≡ None →
+    EachFrom (λ k row. f (record { table = table; number = k + 1; row = row }) ≡ false) n (rows_after items)
 rows_pass f table n no_items tables e = tt
 rows_pass f table n (item d ds) tables e =
-    let both = find_append f (entry_at table (n + 1) d) (entries_behind table (n + 1) ds) e in
+    let both = find_append f (entry_at table (n + 1) d) (entries_after table (n + 1) ds) e in
     let each = and_parts (is_some (as_table d)) (items_all (λ x. is_some (as_table x)) ds) tables in
     by (as_table d) each.0 both.0 (rows_pass f table (n + 1) ds each.1 both.1)
   where
     by : (o : Option Members) → is_some o ≡ true →
         find f (option_map_or (λ row. record { table = table; number = n + 1; row = row } ∷ []) o []) ≡ None →
-        EachFrom (λ k row. f (record { table = table; number = k + 1; row = row }) ≡ false) (n + 1) (rows_behind ds) →
+        EachFrom (λ k row. f (record { table = table; number = k + 1; row = row }) ≡ false) (n + 1) (rows_after ds) →
         EachFrom (λ k row. f (record { table = table; number = k + 1; row = row }) ≡ false) n
-        (option_to_list o ++ rows_behind ds)
+        (option_to_list o ++ rows_after ds)
     by None some here rest = cc
     by (Some row) some here rest = ((find_cons f (record { table = table; number = n + 1; row = row }) [] here).0, rest)
 
@@ -195,7 +195,7 @@ pub record IsFine (tree : Members) (table : BasinTable) (k : ℕ) (row : Members
   pub present : lacks_key table row ≡ false
   pub kinds : any_value (λ kind d. not (has_kind (format_of tree) kind d)) table row ≡ false
   pub names : any_value is_bad_name table row ≡ false
-  pub few : too_many tree (record { table = table; number = k + 1; row = row }) ≡ false
+  pub bounded : too_many tree (record { table = table; number = k + 1; row = row }) ≡ false
   pub own : same_name tree (record { table = table; number = k + 1; row = row }) ≡ false
   pub refers : any_value (names_none tree) table row ≡ false
   pub inner : stands_at_outlet table tree row ≡ false
@@ -211,7 +211,7 @@ fine_rows tree none table is_listed =
           (or_parts (lacks_key table row || has_no_nodes table row) (shuts_no_canal table row) p.0.0.0.1).0).0;
       kinds = p.0.0.1;
       names = p.0.1.0;
-      few = p.0.1.1;
+      bounded = p.0.1.1;
       own = p.1.0;
       refers = p.1.1.0;
       inner = p.1.1.1;

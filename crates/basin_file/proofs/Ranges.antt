@@ -10,7 +10,7 @@ use Rattle.std.specs.Option.{option_map_or}
 use Rattle.std.specs.Str.Parse.{digits_value}
 use Rattle.toml.specs.Data.{Data, Items, no_items, item, get_item, as_array, as_integer, as_str}
 use Rattle.toml_tree.specs.Items.{items_len}
-use Rattle.toml_tree.specs.Values.{is_between, ranged, whole_of, month_number, monthly_of}
+use Rattle.toml_tree.specs.Values.{is_between, ranged, integer_of, month_number, monthly_of}
 use Rattle.water_text.specs.Shapes.{has_shape}
 use Rattle.water_text.specs.Months.{IsMonth, is_month, read_month, month_after, month_within}
 use Rattle.water_text.specs.declared.month.Month.{Month}
@@ -37,7 +37,7 @@ ranged_in least most default (negsuc n) low high = (low, high)
 
 -- a number that is spelled lies in its range where the default does
 pub whole_in : (least most default : ℕ) (value : Option Data) → least ≤ default → default ≤ most →
-    (least ≤ whole_of least most default value) × (whole_of least most default value ≤ most)
+    (least ≤ integer_of least most default value) × (integer_of least most default value ≤ most)
 whole_in least most default value low high = by (option_and_then as_integer value)
   where
     by : (o : Option ℤ) → (least ≤ option_map_or (ranged least most default) o default) ×
@@ -49,7 +49,7 @@ month_number_most : (most : ℕ) (value : Option Data) (month : ℕ) → month_n
 month_number_most most value month = by (option_and_then as_array value)
   where
     by : (o : Option Items) →
-        option_map_or (λ items. whole_of 0 most 0 (get_item month items)) o (whole_of 0 most 0 value) ≤ most
+        option_map_or (λ items. integer_of 0 most 0 (get_item month items)) o (integer_of 0 most 0 value) ≤ most
     by None = (whole_in 0 most 0 value (omega arith) (omega arith)).1
     by (Some items) = (whole_in 0 most 0 (get_item month items) (omega arith) (omega arith)).1
 
@@ -80,13 +80,13 @@ points_valid value = each_all IsValidPoint (area_of value) (by (option_and_then 
     by (Some items) = points items
 
 -- an area table has at most 64 points where its list has
-pub few_points : (value : Option Data) →
+pub bounded_points : (value : Option Data) →
     option_map_or (λ points. nat_lt 64 (items_len points)) (option_and_then as_array value) false ≡ false →
     length (area_of value) ≤ 64
-few_points value e = by (option_and_then as_array value) e
+bounded_points value e = by (option_and_then as_array value) e
   where
-    few : (n : ℕ) → nat_lt 64 n ≡ false → n ≤ 64
-    few n e = grind (arith, nat_tests)
+    bounded : (n : ℕ) → nat_lt 64 n ≡ false → n ≤ 64
+    bounded n e = grind (arith, nat_tests)
 
     len : (items : Items) → length (points_in items) ≡ items_len items
     len no_items = refl
@@ -95,7 +95,7 @@ few_points value e = by (option_and_then as_array value) e
     by : (a : Option Items) → option_map_or (λ points. nat_lt 64 (items_len points)) a false ≡ false →
         length (option_map_or points_in a no_area) ≤ 64
     by None e = omega arith
-    by (Some items) e = rw (len items) (few (items_len items) e)
+    by (Some items) e = rw (len items) (bounded (items_len items) e)
 
 pub inflow_valid : (value : Option Data) → IsValidInflow (inflow_of value)
 inflow_valid value = by (option_and_then as_str value)

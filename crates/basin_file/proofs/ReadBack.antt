@@ -11,7 +11,7 @@ use Rattle.std.specs.Option.{option_map_or}
 use Rattle.std.specs.Str.Parse.{digits_value}
 use Rattle.toml.specs.Data.{array, Items, no_items, item, get_item}
 use Rattle.toml.specs.View.{items_of}
-use Rattle.toml_tree.specs.Values.{whole_of, month_number, monthly_of}
+use Rattle.toml_tree.specs.Values.{integer_of, month_number, monthly_of}
 use Rattle.water_text.specs.Days.{is_date, read_day}
 use Rattle.water_text.specs.Months.{IsMonth, month_digits}
 use Rattle.water_text.specs.Names.{is_name}
@@ -33,7 +33,7 @@ use Rattle.basin_file.specs.Upgraded.{shut_months, some_items}
 use Rattle.basin_file.proofs.Texts.{short_date}
 
 -- a number within its range
-pub whole_read : (least most default n : ℕ) → least ≤ n → n ≤ most → whole_of least most default (Some (number n)) ≡ n
+pub whole_read : (least most default n : ℕ) → least ≤ n → n ≤ most → integer_of least most default (Some (number n)) ≡ n
 whole_read least most default n low high = rw (between least n most low high) refl
   where
     between : (least n most : ℕ) → least ≤ n → n ≤ most → (nat_le least n && nat_le n most) ≡ true
@@ -41,10 +41,10 @@ whole_read least most default n low high = rw (between least n most low high) re
 
 -- twelve numbers, each at its place
 item_read : (most : ℕ) (ns : List ℕ) (k : ℕ) → k < length ns → get_or ns k 0 ≤ most →
-    whole_of 0 most 0 (get_item k (numbers ns)) ≡ get_or ns k 0
-item_read most [] k within few = absurd (omega arith)
-item_read most (n ∷ ns) zero within few = whole_read 0 most 0 n (omega arith) few
-item_read most (n ∷ ns) (suc k) within few = item_read most ns k (omega arith) few
+    integer_of 0 most 0 (get_item k (numbers ns)) ≡ get_or ns k 0
+item_read most [] k within bounded = absurd (omega arith)
+item_read most (n ∷ ns) zero within bounded = whole_read 0 most 0 n (omega arith) bounded
+item_read most (n ∷ ns) (suc k) within bounded = item_read most ns k (omega arith) bounded
 
 pub monthly_read : (most : ℕ) (ns : List ℕ) → IsMonthly most ns → monthly_of most (Some (array (numbers ns))) ≡ ns
 unfolding monthly_of
@@ -73,42 +73,42 @@ area_read (p ∷ area) h =
       area_read area (All-tail IsValidPoint p area h),
     ) refl
 
--- the months in which a canal is shut: those behind a month don't name it
-other_month : (n month : ℕ) → 1 ≤ n → n ≤ 12 → month < n → (whole_of 1 12 0 (Some (number n)) == month) ≡ false
+-- the months in which a canal is shut: those after a month don't name it
+other_month : (n month : ℕ) → 1 ≤ n → n ≤ 12 → month < n → (integer_of 1 12 0 (Some (number n)) == month) ≡ false
 other_month n month low high less = rw (whole_read 1 12 0 n low high) (other n month less)
   where
     other : (n month : ℕ) → month < n → (n == month) ≡ false
     other n month less = grind (arith, nat_tests)
 
-this_month : (n : ℕ) → 1 ≤ n → n ≤ 12 → (whole_of 1 12 0 (Some (number n)) == n) ≡ true
+this_month : (n : ℕ) → 1 ≤ n → n ≤ 12 → (integer_of 1 12 0 (Some (number n)) == n) ≡ true
 this_month n low high = rw (whole_read 1 12 0 n low high) (same n)
   where
     same : (n : ℕ) → (n == n) ≡ true
     same n = grind (arith, nat_tests)
 
-later_month : (n month : ℕ) → 1 ≤ n → n ≤ 12 → n < month → (whole_of 1 12 0 (Some (number n)) == month) ≡ false
+later_month : (n month : ℕ) → 1 ≤ n → n ≤ 12 → n < month → (integer_of 1 12 0 (Some (number n)) == month) ≡ false
 later_month n month low high less = rw (whole_read 1 12 0 n low high) (other n month less)
   where
     other : (n month : ℕ) → n < month → (n == month) ≡ false
     other n month less = grind (arith, nat_tests)
 
-not_behind : (from month : ℕ) (shut : List Bool) → 1 ≤ from → from + length shut ≤ 13 → month < from →
-    items_any (λ x. whole_of 1 12 0 (Some x) == month) (numbers (shut_months from shut)) ≡ false
-not_behind from month [] low high less = refl
-not_behind from month (true ∷ shut) low high less =
+not_after : (from month : ℕ) (shut : List Bool) → 1 ≤ from → from + length shut ≤ 13 → month < from →
+    items_any (λ x. integer_of 1 12 0 (Some x) == month) (numbers (shut_months from shut)) ≡ false
+not_after from month [] low high less = refl
+not_after from month (true ∷ shut) low high less =
     rw (other_month from month low (omega arith) less)
-    (not_behind (from + 1) month shut (omega arith) (omega arith) (omega arith))
-not_behind from month (false ∷ shut) low high less =
-    not_behind (from + 1) month shut (omega arith) (omega arith) (omega arith)
+    (not_after (from + 1) month shut (omega arith) (omega arith) (omega arith))
+not_after from month (false ∷ shut) low high less =
+    not_after (from + 1) month shut (omega arith) (omega arith) (omega arith)
 
 month_read : (from k month : ℕ) (shut : List Bool) → 1 ≤ from → from + length shut ≤ 13 → k < length shut →
     month ≡ from + k →
-    get_or shut k false ≡ items_any (λ x. whole_of 1 12 0 (Some x) == month) (numbers (shut_months from shut))
+    get_or shut k false ≡ items_any (λ x. integer_of 1 12 0 (Some x) == month) (numbers (shut_months from shut))
 month_read from k month [] low high within is = absurd (omega arith)
 month_read from zero month (true ∷ shut) low high within is =
     let same : month ≡ from = omega arith in rw same (rw (this_month from low (omega arith)) refl)
 month_read from zero month (false ∷ shut) low high within is =
-    sym (not_behind (from + 1) month shut (omega arith) (omega arith) (omega arith))
+    sym (not_after (from + 1) month shut (omega arith) (omega arith) (omega arith))
 month_read from (suc k) month (true ∷ shut) low high within is =
     rw (later_month from month low (omega arith) (omega arith))
     (month_read (from + 1) k month shut (omega arith) (omega arith) (omega arith) (omega arith))
@@ -116,7 +116,7 @@ month_read from (suc k) month (false ∷ shut) low high within is =
     month_read (from + 1) k month shut (omega arith) (omega arith) (omega arith) (omega arith)
 
 listed_month : (month : ℕ) (ds : Items) →
-    option_map_or (lists_month month) (some_items ds) false ≡ items_any (λ x. whole_of 1 12 0 (Some x) == month) ds
+    option_map_or (lists_month month) (some_items ds) false ≡ items_any (λ x. integer_of 1 12 0 (Some x) == month) ds
 listed_month month no_items = refl
 listed_month month (item d ds) = refl
 

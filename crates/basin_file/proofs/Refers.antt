@@ -8,8 +8,8 @@ use Rattle.std.specs.Option.{option_map_or}
 use Rattle.toml.specs.Data.{Data, Items, no_items, item, Members, get_item, get_member, as_str, as_table}
 use Rattle.toml.specs.Data as toml
 use Rattle.toml_tree.specs.Items.{items_all, items_len}
-use Rattle.first_places.specs.Places.{first_from}
-use Rattle.toml_tree.specs.Texts.{texts_behind, is_the_text}
+use Rattle.first_index.specs.Indices.{first_from}
+use Rattle.toml_tree.specs.Texts.{texts_after, is_the_text}
 use Rattle.toml_tree.specs.Values.{text_at}
 use Rattle.water_text.specs.Names.{is_name}
 use Rattle.basin_tree.specs.declared.tables.BasinTable.{BasinTable}
@@ -19,9 +19,9 @@ use Rattle.basin_tree.specs.Entries.{items_at}
 use Rattle.basin_tree.specs.KeyFaults.{format_of}
 use Rattle.basin_tree.specs.Kinds.{has_kind}
 use Rattle.basin_tree.specs.NameFaults.{is_bad_name, names_none}
-use Rattle.basin_tree.specs.Places.{own_key, texts_in, texts_of, named_at}
+use Rattle.basin_tree.specs.Indices.{own_key, texts_in, texts_of, named_at}
 use Rattle.basin_tree.specs.Tables.{KeyRow, keys_of}
-use Rattle.basin_file.specs.Spelled.{small, number_at, rows_behind, rows_in}
+use Rattle.basin_file.specs.Spelled.{small, number_at, rows_after, rows_in}
 use Rattle.basin_file.proofs.Passed.{IsListed, HasNoFault, IsFine, all_tables, any_none}
 
 -- the value at a required key of a fine row, and that it is of its kind
@@ -82,41 +82,41 @@ refers_there tree table k row i key space at fine =
     by q (Some at) e same some = (q, at, same, e)
 
 -- the items of a list of tables are its rows
-pub texts_behind-rows : (key : List ℕ) (items : Items) → items_all (λ x. is_some (as_table x)) items ≡ true →
-    texts_behind key items ≡ map (text_at key) (rows_behind items)
-texts_behind-rows key no_items e = refl
-texts_behind-rows key (item d ds) e =
+pub texts_after-rows : (key : List ℕ) (items : Items) → items_all (λ x. is_some (as_table x)) items ≡ true →
+    texts_after key items ≡ map (text_at key) (rows_after items)
+texts_after-rows key no_items e = refl
+texts_after-rows key (item d ds) e =
     let each = and_parts (is_some (as_table d)) (items_all (λ x. is_some (as_table x)) ds) e in
-    by d each.0 (texts_behind-rows key ds each.1)
+    by d each.0 (texts_after-rows key ds each.1)
   where
-    by : (d : Data) → is_some (as_table d) ≡ true → texts_behind key ds ≡ map (text_at key) (rows_behind ds) →
-        texts_behind key (item d ds) ≡ map (text_at key) (option_to_list (as_table d) ++ rows_behind ds)
+    by : (d : Data) → is_some (as_table d) ≡ true → texts_after key ds ≡ map (text_at key) (rows_after ds) →
+        texts_after key (item d ds) ≡ map (text_at key) (option_to_list (as_table d) ++ rows_after ds)
     by (toml.table row) some rest = ap (λ texts. text_at key row ∷ texts) rest
     by _ some rest = cc
 
 pub length-rows : (items : Items) → items_all (λ x. is_some (as_table x)) items ≡ true →
-    length (rows_behind items) ≡ items_len items
+    length (rows_after items) ≡ items_len items
 length-rows no_items e = refl
 length-rows (item d ds) e =
     let each = and_parts (is_some (as_table d)) (items_all (λ x. is_some (as_table x)) ds) e in
     by (as_table d) each.0 (length-rows ds each.1)
   where
-    by : (o : Option Members) → is_some o ≡ true → length (rows_behind ds) ≡ items_len ds →
-        length (option_to_list o ++ rows_behind ds) ≡ suc (items_len ds)
+    by : (o : Option Members) → is_some o ≡ true → length (rows_after ds) ≡ items_len ds →
+        length (option_to_list o ++ rows_after ds) ≡ suc (items_len ds)
     by None some rest = cc
     by (Some row) some rest = ap suc rest
 
 -- the item at a place is the row there
 pub get_item-rows : (n : ℕ) (items : Items) → items_all (λ x. is_some (as_table x)) items ≡ true →
-    option_and_then as_table (get_item n items) ≡ slice_get (rows_behind items) n
+    option_and_then as_table (get_item n items) ≡ slice_get (rows_after items) n
 get_item-rows n no_items e = refl
 get_item-rows n (item d ds) e =
     let each = and_parts (is_some (as_table d)) (items_all (λ x. is_some (as_table x)) ds) e in
     by n (as_table d) refl each.0 (λ m. get_item-rows m ds each.1)
   where
     by : (n : ℕ) (o : Option Members) → as_table d ≡ o → is_some o ≡ true →
-        ((m : ℕ) → option_and_then as_table (get_item m ds) ≡ slice_get (rows_behind ds) m) →
-        option_and_then as_table (get_item n (item d ds)) ≡ slice_get (option_to_list o ++ rows_behind ds) n
+        ((m : ℕ) → option_and_then as_table (get_item m ds) ≡ slice_get (rows_after ds) m) →
+        option_and_then as_table (get_item n (item d ds)) ≡ slice_get (option_to_list o ++ rows_after ds) n
     by n None same some rest = cc
     by zero (Some row) same some rest = same
     by (suc m) (Some row) same some rest = rest m
@@ -134,7 +134,7 @@ first_in p n (x ∷ xs) at e =
 pub texts_in-rows : (tree : Members) → HasNoFault tree → (table : BasinTable) → IsListed table →
     texts_in tree table ≡ map (text_at (own_key table)) (rows_in tree table)
 texts_in-rows tree none table is_listed =
-    texts_behind-rows (own_key table) (items_at tree table) (all_tables tree none table is_listed)
+    texts_after-rows (own_key table) (items_at tree table) (all_tables tree none table is_listed)
 
 pub length-rows_in : (tree : Members) → HasNoFault tree → (table : BasinTable) → IsListed table →
     length (rows_in tree table) ≡ items_len (items_at tree table)
@@ -155,7 +155,7 @@ number_within tree space key row q at text named =
 pub number_is : (tree : Members) (space : Space) (key : List ℕ) (row : Members) (q : List ℕ) (at : ℕ) →
     text_at key row ≡ Some q → named_at tree space q ≡ Some at → length (texts_of tree space) ≤ 4000 →
     number_at tree space key row ≡ at
-number_is tree space key row q at text named few =
+number_is tree space key row q at text named bounded =
     let within : at < 0 + length (texts_of tree space) = first_in (is_the_text q) 0 (texts_of tree space) at named in
     rw (text, named) (fits at (omega arith))
   where

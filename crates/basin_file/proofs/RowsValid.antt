@@ -11,7 +11,7 @@ use Rattle.std.proofs.lemmas.Bool.{or_parts, not-false}
 use Rattle.toml.specs.Data.{Data, Items, no_items, Members, get, get_item, get_member, as_array, as_bool, as_table}
 use Rattle.toml.specs.Data as toml
 use Rattle.toml_tree.specs.Items.{items_all, items_len}
-use Rattle.toml_tree.specs.Values.{text_at, whole_at}
+use Rattle.toml_tree.specs.Values.{text_at, integer_at}
 use Rattle.water_text.specs.Names.{is_name}
 use Rattle.water_model.specs.Basin.{is_outlet}
 use Rattle.water_model.specs.Lookups.{of_entry}
@@ -30,7 +30,7 @@ use Rattle.basin_tree.specs.KeyFaults.{format_of, missing_key, wrong_kind, lacks
 use Rattle.basin_tree.specs.KeyFaults.{has_no_nodes, shuts_no_canal}
 use Rattle.basin_tree.specs.Kinds.{has_kind}
 use Rattle.basin_tree.specs.NameFaults.{is_outlet_at, rights_before}
-use Rattle.basin_tree.specs.Places.{own_key, texts_in, texts_of}
+use Rattle.basin_tree.specs.Indices.{own_key, texts_in, texts_of}
 use Rattle.basin_tree.specs.Tables.{KeyRow, keys_of}
 use Rattle.basin_file.specs.Sound.{IsSoundReservoir}
 use Rattle.basin_file.specs.Spelled.{name_at, rows_in, number_at, node_of, link_of, reservoir_of}
@@ -42,9 +42,9 @@ use Rattle.basin_file.proofs.Months.{series_wants}
 use Rattle.basin_file.proofs.Refers.{name_there, refers_there, texts_in-rows}
 use Rattle.basin_file.proofs.Refers.{length-rows_in, get_item-rows, number_within, number_is}
 use Rattle.basin_file.proofs.OwnNames.{own_name}
-use Rattle.basin_file.proofs.Ranges.{whole_in, volume_valid, monthly_in, points_valid, few_points, inflow_valid}
+use Rattle.basin_file.proofs.Ranges.{whole_in, volume_valid, monthly_in, points_valid, bounded_points, inflow_valid}
 use Rattle.basin_file.proofs.Ranges.{carry_valid}
-use Rattle.basin_file.proofs.Counts.{few_by}
+use Rattle.basin_file.proofs.Counts.{bounded_by}
 
 -- at least one node is listed
 some_items : (format : ℕ) (o : Option Data) → not (is_some o) ≡ false →
@@ -64,11 +64,11 @@ some_items format (Some d) p k n = by (as_array d) (not-false _ k) n
     by (Some items) e n = positive (items_len items) n
 
 -- the right at a place among the diversions is one
-front_diversion : (tree : Members) (rows : List Members) (more others : List Right) (k : ℕ) → k < length rows →
+prefix_diversion : (tree : Members) (rows : List Members) (more others : List Right) (k : ℕ) → k < length rows →
     of_entry (map (diversion_of tree) rows ++ more ++ others) k (λ r. is_diversion_kind r.kind) false ≡ true
-front_diversion tree [] more others k h = absurd (omega arith)
-front_diversion tree (members ∷ rows) more others zero h = refl
-front_diversion tree (members ∷ rows) more others (suc k) h = front_diversion tree rows more others k (omega arith)
+prefix_diversion tree [] more others k h = absurd (omega arith)
+prefix_diversion tree (members ∷ rows) more others zero h = refl
+prefix_diversion tree (members ∷ rows) more others (suc k) h = prefix_diversion tree rows more others k (omega arith)
 
 module _ (tree : Members) (none : HasNoFault tree) where
   pub fine : (table : BasinTable) → IsListed table → EachFrom (IsFine tree table) 0 (rows_in tree table)
@@ -84,46 +84,46 @@ module _ (tree : Members) (none : HasNoFault tree) where
   length_texts table is_listed =
       rw (texts_in-rows tree none table is_listed) (length-map (rows_in tree table) (text_at (own_key table)))
 
-  pub few_nodes : length (rows_in tree Node) ≤ 2000
-  few_nodes =
-      let h : 0 + 0 + length (rows_in tree Node) ≤ 2000 = few_by 2000 0 0 (rows_in tree Node)
+  pub bounded_nodes : length (rows_in tree Node) ≤ 2000
+  bounded_nodes =
+      let h : 0 + 0 + length (rows_in tree Node) ≤ 2000 = bounded_by 2000 0 0 (rows_in tree Node)
       (from_then (IsFine tree Node) (λ k members. nat_lt 2000 (0 + (k + 1)) ≡ false) 0 (rows_in tree Node)
-      (λ k members fine. rw zero-add fine.few) (fine Node tt)) (omega arith) in
+      (λ k members fine. rw zero-add fine.bounded) (fine Node tt)) (omega arith) in
       omega arith
 
-  pub few_links : length (rows_in tree Link) ≤ 4000
-  few_links =
-      let h : 0 + 0 + length (rows_in tree Link) ≤ 4000 = few_by 4000 0 0 (rows_in tree Link)
+  pub bounded_links : length (rows_in tree Link) ≤ 4000
+  bounded_links =
+      let h : 0 + 0 + length (rows_in tree Link) ≤ 4000 = bounded_by 4000 0 0 (rows_in tree Link)
       (from_then (IsFine tree Link) (λ k members. nat_lt 4000 (0 + (k + 1)) ≡ false) 0 (rows_in tree Link)
-      (λ k members fine. rw zero-add fine.few) (fine Link tt)) (omega arith) in
+      (λ k members fine. rw zero-add fine.bounded) (fine Link tt)) (omega arith) in
       omega arith
 
-  pub few_diversions : 0 + 0 + length (rows_in tree Diversion) ≤ 2000
-  few_diversions = few_by 2000 0 0 (rows_in tree Diversion)
+  pub bounded_diversions : 0 + 0 + length (rows_in tree Diversion) ≤ 2000
+  bounded_diversions = bounded_by 2000 0 0 (rows_in tree Diversion)
       (from_then (IsFine tree Diversion) (λ k members. nat_lt 2000 (0 + (k + 1)) ≡ false) 0 (rows_in tree Diversion)
-      (λ k members fine. fine.few) (fine Diversion tt)) (omega arith)
+      (λ k members fine. fine.bounded) (fine Diversion tt)) (omega arith)
 
-  few_instreams : rights_before tree Instream + 0 + length (rows_in tree Instream) ≤ 2000
-  few_instreams =
+  bounded_instreams : rights_before tree Instream + 0 + length (rows_in tree Instream) ≤ 2000
+  bounded_instreams =
       let count = length-rows_in tree none Diversion tt in
-      let low = few_diversions in
-      few_by 2000 (rights_before tree Instream) 0 (rows_in tree Instream)
+      let low = bounded_diversions in
+      bounded_by 2000 (rights_before tree Instream) 0 (rows_in tree Instream)
       (from_then (IsFine tree Instream) (λ k members. nat_lt 2000 (rights_before tree Instream + (k + 1)) ≡ false) 0
-      (rows_in tree Instream) (λ k members fine. fine.few) (fine Instream tt)) (omega arith)
+      (rows_in tree Instream) (λ k members fine. fine.bounded) (fine Instream tt)) (omega arith)
 
-  few_zones : rights_before tree Zone + 0 + length (rows_in tree Zone) ≤ 2000
-  few_zones =
+  bounded_zones : rights_before tree Zone + 0 + length (rows_in tree Zone) ≤ 2000
+  bounded_zones =
       let count = length-rows_in tree none Instream tt in
-      let low = few_instreams in
-      few_by 2000 (rights_before tree Zone) 0 (rows_in tree Zone)
+      let low = bounded_instreams in
+      bounded_by 2000 (rights_before tree Zone) 0 (rows_in tree Zone)
       (from_then (IsFine tree Zone) (λ k members. nat_lt 2000 (rights_before tree Zone + (k + 1)) ≡ false) 0
-      (rows_in tree Zone) (λ k members fine. fine.few) (fine Zone tt)) (omega arith)
+      (rows_in tree Zone) (λ k members fine. fine.bounded) (fine Zone tt)) (omega arith)
 
-  pub few_rights : length (rights_of tree) ≤ 2000
-  few_rights =
+  pub bounded_rights : length (rights_of tree) ≤ 2000
+  bounded_rights =
       let diversions = length-rows_in tree none Diversion tt in
       let instreams = length-rows_in tree none Instream tt in
-      let low = few_zones in
+      let low = bounded_zones in
       rw (
         length-append,
         length-append,
@@ -216,8 +216,8 @@ module _ (tree : Members) (none : HasNoFault tree) where
       by None = refl
       by (Some d) = row_truth d
 
-  pub few_node_texts : length (texts_of tree Nodes) ≤ 4000
-  few_node_texts = let same = length_texts Node tt in let few = few_nodes in omega arith
+  pub bounded_node_texts : length (texts_of tree Nodes) ≤ 4000
+  bounded_node_texts = let same = length_texts Node tt in let bounded = bounded_nodes in omega arith
 
   pub reservoir_sound : (k : ℕ) (members : Members) → IsFine tree Reservoir k members →
       IsSoundReservoir (basin_of tree) (reservoir_of tree members)
@@ -225,15 +225,15 @@ module _ (tree : Members) (none : HasNoFault tree) where
     node = number Reservoir k members 0 (codes "node") Nodes _ refl fine node_texts;
     inner =
         (let there = refers_there tree Reservoir k members 0 (codes "node") Nodes refl fine in
-        rw (number_is tree Nodes (codes "node") members there.0 there.1 there.2 there.3 few_node_texts)
+        rw (number_is tree Nodes (codes "node") members there.0 there.1 there.2 there.3 bounded_node_texts)
         (outlet_at there.1 ∙ (rw (there.2, there.3) at fine.inner)));
     opening = (whole_in 0 (16 * 10 ^ 9) 0 (get_member (codes "opening") members) (omega arith) (omega arith)).1;
     points = points_valid (get_member (codes "area") members);
-    few_points = few_points (get_member (codes "area") members) fine.few;
+    bounded_points = bounded_points (get_member (codes "area") members) fine.bounded;
     rate = monthly_in 10000 (get_member (codes "rate") members);
   }
 
-  order_most : (members : Members) → whole_at (codes "order") 0 1000000 0 members ≤ 1000000
+  order_most : (members : Members) → integer_at (codes "order") 0 1000000 0 members ≤ 1000000
   order_most members = (whole_in 0 1000000 0 (get_member (codes "order") members) (omega arith) (omega arith)).1
 
   pub diversion_valid : (k : ℕ) (members : Members) → IsFine tree Diversion k members →
@@ -241,7 +241,7 @@ module _ (tree : Members) (none : HasNoFault tree) where
   diversion_valid k members fine = record {
     name = (name_of_row Diversion k members refl fine).1;
     order = order_most members;
-    place = number Diversion k members 1 (codes "node") Nodes _ refl fine node_texts;
+    index = number Diversion k members 1 (codes "node") Nodes _ refl fine node_texts;
     want = monthly_in (10 ^ 9) (get_member (codes "want") members);
     volume = volume_valid (kind.Diversion (number_at tree Nodes (codes "node") members)) refl
         (get_member (codes "volume") members);
@@ -253,7 +253,7 @@ module _ (tree : Members) (none : HasNoFault tree) where
   instream_valid k members fine = record {
     name = (name_of_row Instream k members refl fine).1;
     order = order_most members;
-    place = number Instream k members 1 (codes "link") Links _ refl fine link_texts;
+    index = number Instream k members 1 (codes "link") Links _ refl fine link_texts;
     want = monthly_in (10 ^ 9) (get_member (codes "want") members);
     volume = tt;
     series = series_wants (get_member (codes "want") members);
@@ -264,7 +264,7 @@ module _ (tree : Members) (none : HasNoFault tree) where
   zone_valid k members fine = record {
     name = (name_of_row Zone k members refl fine).1;
     order = order_most members;
-    place =
+    index =
         (let level = whole_in 1 16 1 (get_member (codes "level") members) (omega arith) (omega arith) in
         (number Zone k members 1 (codes "reservoir") Reservoirs _ refl fine reservoir_texts, level.0, level.1));
     want = monthly_in (10 ^ 9) (get_member (codes "want") members);
@@ -284,7 +284,7 @@ module _ (tree : Members) (none : HasNoFault tree) where
         (let own = own_diversion k members fine in
         let same = length-map (rows_in tree Diversion) (diversion_of tree) in
         rw (length-append, length-append) (omega arith));
-    diversion = front_diversion tree (rows_in tree Diversion) _ _ _ (own_diversion k members fine);
+    diversion = prefix_diversion tree (rows_in tree Diversion) _ _ _ (own_diversion k members fine);
     node = number Return k members 1 (codes "node") Nodes _ refl fine node_texts;
     part = whole_in 1 10000 1 (get_member (codes "part") members) (omega arith) (omega arith);
     lag = whole_in 1 120 1 (get_member (codes "lag") members) (omega arith) (omega arith);

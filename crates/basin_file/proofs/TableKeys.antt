@@ -10,7 +10,7 @@ use Rattle.basin_tree.specs.declared.tables.BasinTable.TheVariants.{Diversion, I
 use Rattle.basin_file.specs.Upgraded.{basin_table, link_row, listed, node_row, number, reservoir_row, return_row}
 use Rattle.basin_file.specs.Upgraded.{right_row, rights_in, with_some}
 
--- behind another key that may stand
+-- after another key that may stand
 pub skip : (k key : List ℕ) (o : Option Data) (rest : Members) → is_eq (slice_cmp nat_cmp k key) ≡ false →
     get_member k (with_some key o rest) ≡ get_member k rest
 skip k key None rest other = refl

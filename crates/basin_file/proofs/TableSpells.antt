@@ -4,9 +4,9 @@ use Rattle.std.proofs.Common.{List, [], ◌∷◌, length, map, slice_get, repli
 use Rattle.std.specs.Prelude.{Option, Some, None, option_map, option_and_then, unwrap_or, if◌then◌else◌}
 use Rattle.std.proofs.lemmas.Bool.{not-false}
 use Rattle.toml.specs.Data.{Data, string, array, Members, no_members, member, get_member, as_str}
-use Rattle.first_places.specs.Places.{first_from}
-use Rattle.toml_tree.specs.Texts.{texts_behind, is_the_text}
-use Rattle.toml_tree.specs.Values.{monthly_of, text_at, whole_at, whole_of}
+use Rattle.first_index.specs.Indices.{first_from}
+use Rattle.toml_tree.specs.Texts.{texts_after, is_the_text}
+use Rattle.toml_tree.specs.Values.{monthly_of, text_at, integer_at, integer_of}
 use Rattle.water_text.specs.Days.{is_date}
 use Rattle.water_text.specs.Names.{is_name}
 use Rattle.water_text.specs.declared.day.Day.{Day}
@@ -14,7 +14,7 @@ use Rattle.water_text.specs.declared.month.Month.{Month}
 use Rattle.water_model.specs.Basin.{node_name, link_name, reservoir_name, right_name}
 use Rattle.water_model.specs.Lookups.{of_entry}
 use Rattle.water_model.specs.Rights.{has_bad_date}
-use Rattle.water_model.specs.Valid.{HasValidPlace, IsMonthly, IsValidBasin, IsValidLink, IsValidNode, IsValidReservoir}
+use Rattle.water_model.specs.Valid.{HasValidSite, IsMonthly, IsValidBasin, IsValidLink, IsValidNode, IsValidReservoir}
 use Rattle.water_model.specs.Valid.{IsValidReturn, IsValidRight, IsValidVolume, is_diversion_kind}
 use Rattle.water_model.specs.declared.types.AreaPoint.{AreaPoint}
 use Rattle.water_model.specs.declared.types.Basin.{Basin}
@@ -28,20 +28,20 @@ use Rattle.water_model.specs.declared.types.Right.{Right}
 use Rattle.water_model.specs.declared.types.RightKind.{RightKind}
 use Rattle.water_model.specs.declared.types.RightKind.TheVariants as kind
 use Rattle.water_model.proofs.Balance.{entry_at}
-use Rattle.water_model.proofs.Entries.{few_reservoirs}
-use Rattle.basin_tree.specs.Places.{named_at, texts_of}
+use Rattle.water_model.proofs.Entries.{bounded_reservoirs}
+use Rattle.basin_tree.specs.Indices.{named_at, texts_of}
 use Rattle.basin_tree.specs.declared.tables.BasinTable.{BasinTable}
 use Rattle.basin_tree.specs.declared.tables.BasinTable.TheVariants as which
 use Rattle.basin_tree.specs.declared.tables.Space.TheVariants.{Nodes, Links, Reservoirs, Diversions}
 use Rattle.basin_file.specs.BasinFaults.{is_in_table}
 use Rattle.basin_file.specs.Spelled.{basin_of, carry_of, date_of, diversion_of, first_of, instream_of, is_series}
 use Rattle.basin_file.specs.Spelled.{link_of, name_at, name_of, node_of, number_at, reservoir_of, return_of, right_of}
-use Rattle.basin_file.specs.Spelled.{rights_of, rows_behind, rows_in, volume_of, zone_of}
+use Rattle.basin_file.specs.Spelled.{rights_of, rows_after, rows_in, volume_of, zone_of}
 use Rattle.basin_file.specs.Upgraded.{basin_table, closed_data, day_text, link_row, listed, node_row, number, numbers}
 use Rattle.basin_file.specs.Upgraded.{per_day_data, reservoir_row, return_row, right_row, rights_in, row_of_kind}
 use Rattle.basin_file.specs.Upgraded.{want_data}
 use Rattle.basin_file.proofs.Listed.{HaveOwn, all_each, diversion_same, diversion_within, diversions_own, each_filter}
-use Rattle.basin_file.proofs.Listed.{items_in, joined, map_back, number_read, place_found, rights_by_table, rows_listed}
+use Rattle.basin_file.proofs.Listed.{items_in, joined, map_back, number_read, index_found, rights_by_table, rows_listed}
 use Rattle.basin_file.proofs.Listed.{texts_listed}
 use Rattle.basin_file.proofs.Lists.{Each, each_at, each_then}
 use Rattle.basin_file.proofs.Months.{series_wants}
@@ -50,7 +50,7 @@ use Rattle.basin_file.proofs.ReadBack.{name_read, volume_read, whole_read}
 use Rattle.basin_file.proofs.TableKeys.{HasKeysOf, skip, table_keys, there}
 use Rattle.water_model.proofs.Lists.{once}
 
--- a link's keys behind those that it may lack, and these
+-- a link's keys after those that it may lack, and these
 abbrev pub link_end : Basin → link.Link → Members
 link_end b l = member (codes "to") (string (node_name b l.to)) no_members
 
@@ -114,9 +114,9 @@ name_there key row text at good = ap (λ (o : Option Data). name_of (unwrap_or (
 
 pub whole_there : (key : List ℕ) (least most default : ℕ) (row : Members) (n : ℕ) →
     get_member key row ≡ Some (number n) → least ≤ n → n ≤ most →
-    whole_at key least most default row ≡ n
+    integer_at key least most default row ≡ n
 whole_there key least most default row n at low high =
-    ap (whole_of least most default) at ∙ whole_read least most default n low high
+    ap (integer_of least most default) at ∙ whole_read least most default n low high
 
 -- wants, which stand in the table or in the series
 want_read : (r : Right) → IsMonthly (10 ^ 9) r.want → (r.series ≡ true → r.want ≡ replicate 12 0) →
@@ -183,17 +183,17 @@ module _ (b : Basin) (valid : IsValidBasin b) where
   pub node_named : (k : ℕ) → k < length b.nodes → named_at (basin_table b) Nodes (node_name b k) ≡ Some k
   node_named k within =
       ap (λ texts. first_from (is_the_text (node_name b k)) 0 texts) texts
-      ∙ place_found (λ n. n.name) b.nodes k within valid.names.nodes
+      ∙ index_found (λ n. n.name) b.nodes k within valid.names.nodes
     where
       texts : texts_of (basin_table b) Nodes ≡ map (λ n. Some n.name) b.nodes
       texts =
-          ap (λ (o : Option Data). texts_behind (codes "name") (items_in o)) keys.nodes
+          ap (λ (o : Option Data). texts_after (codes "name") (items_in o)) keys.nodes
           ∙ texts_listed (codes "name") node_row (λ n. n.name) b.nodes (λ n. refl)
 
   pub link_named : (k : ℕ) → k < length b.links → named_at (basin_table b) Links (link_name b k) ≡ Some k
   link_named k within =
       ap (λ texts. first_from (is_the_text (link_name b k)) 0 texts) texts
-      ∙ place_found (λ l. l.name) b.links k within valid.names.links
+      ∙ index_found (λ l. l.name) b.links k within valid.names.links
     where
       each : (l : link.Link) → text_at (codes "name") (link_row b l) ≡ Some l.name
       each l = text_there (codes "name") (link_row b l) l.name
@@ -201,7 +201,7 @@ module _ (b : Basin) (valid : IsValidBasin b) where
 
       texts : texts_of (basin_table b) Links ≡ map (λ l. Some l.name) b.links
       texts =
-          ap (λ (o : Option Data). texts_behind (codes "name") (items_in o)) keys.links
+          ap (λ (o : Option Data). texts_after (codes "name") (items_in o)) keys.links
           ∙ texts_listed (codes "name") (link_row b) (λ l. l.name) b.links each
 
   -- a name is that of one node, and so that of one reservoir
@@ -225,11 +225,11 @@ module _ (b : Basin) (valid : IsValidBasin b) where
       named_at (basin_table b) Reservoirs (reservoir_name b k) ≡ Some k
   reservoir_named k within =
       ap (λ texts. first_from (is_the_text (reservoir_name b k)) 0 texts) texts
-      ∙ place_found (λ v. node_name b v.node) b.reservoirs k within reservoirs_own
+      ∙ index_found (λ v. node_name b v.node) b.reservoirs k within reservoirs_own
     where
       texts : texts_of (basin_table b) Reservoirs ≡ map (λ v. Some (node_name b v.node)) b.reservoirs
       texts =
-          ap (λ (o : Option Data). texts_behind (codes "node") (items_in o)) keys.reservoirs
+          ap (λ (o : Option Data). texts_after (codes "node") (items_in o)) keys.reservoirs
           ∙ texts_listed (codes "node") (reservoir_row b) (λ v. node_name b v.node) b.reservoirs (λ v. refl)
 
   pub diversion_named : (k : ℕ) → of_entry b.rights k (λ r. is_diversion_kind r.kind) false ≡ true →
@@ -239,7 +239,7 @@ module _ (b : Basin) (valid : IsValidBasin b) where
       (texts_of (basin_table b) Diversions))
       (sym (diversion_same 0 b.rights valid.ranked k within))
       ∙ (ap (λ texts. first_from (is_the_text (of_entry ours k (λ r. r.name) [])) 0 texts) texts
-      ∙ place_found (λ r. r.name) ours k within (diversions_own 0 b.rights valid.ranked valid.names.rights))
+      ∙ index_found (λ r. r.name) ours k within (diversions_own 0 b.rights valid.ranked valid.names.rights))
     where
       ours : List Right
       ours = rights_in which.Diversion b.rights
@@ -249,7 +249,7 @@ module _ (b : Basin) (valid : IsValidBasin b) where
 
       texts : texts_of (basin_table b) Diversions ≡ map (λ r. Some r.name) ours
       texts =
-          ap (λ (o : Option Data). texts_behind (codes "name") (items_in o)) keys.diversions
+          ap (λ (o : Option Data). texts_after (codes "name") (items_in o)) keys.diversions
           ∙ texts_listed (codes "name") (right_row b) (λ r. r.name) ours (λ r. kind_name b r r.kind)
 
   -- so a text that is such a name is read as the place
@@ -258,7 +258,7 @@ module _ (b : Basin) (valid : IsValidBasin b) where
       number_at (basin_table b) Nodes key row ≡ k
   node_at key row k at within =
       number_read (basin_table b) Nodes key row (node_name b k) k (text_there key row (node_name b k) at)
-      (node_named k within) (omega (arith, valid.few.nodes))
+      (node_named k within) (omega (arith, valid.bounded.nodes))
 
   node_back : (n : node.Node) → IsValidNode n → node_of (node_row n) ≡ n
   node_back n h =
@@ -294,56 +294,56 @@ module _ (b : Basin) (valid : IsValidBasin b) where
 
   diversion_back : (r : Right) → IsValidRight b r → is_date r.date ≡ true → is_in_table which.Diversion r.kind ≡ true →
       diversion_of (basin_table b) (right_row b r) ≡ r
-  diversion_back r h date is = by r.kind refl h.place h.volume is
+  diversion_back r h date is = by r.kind refl h.index h.volume is
     where
       last : Members
       last = member (codes "want") (want_data r) no_members
 
-      by : (its : RightKind) → r.kind ≡ its → HasValidPlace b its → IsValidVolume its r.volume →
+      by : (its : RightKind) → r.kind ≡ its → HasValidSite b its → IsValidVolume its r.volume →
           is_in_table which.Diversion its ≡ true →
           diversion_of (basin_table b) (row_of_kind b r its) ≡ r
-      by (kind.Diversion node) e place volume is =
+      by (kind.Diversion node) e index volume is =
           right_there _ _ (row_of_kind b r (kind.Diversion node)) b r h date refl refl refl
           (skip (codes "want") (codes "volume") (option_map number r.volume) last refl)
           (ap (λ (n : ℕ). kind.Diversion n)
-          (node_at (codes "node") (row_of_kind b r (kind.Diversion node)) node refl place) ∙ sym e)
+          (node_at (codes "node") (row_of_kind b r (kind.Diversion node)) node refl index) ∙ sym e)
           (ap volume_of (there (codes "volume") (option_map number r.volume) last refl refl)
           ∙ volume_read (kind.Diversion node) r.volume volume)
-      by (kind.Instream link) e place volume is = cc
-      by (kind.Zone reservoir level) e place volume is = cc
+      by (kind.Instream link) e index volume is = cc
+      by (kind.Zone reservoir level) e index volume is = cc
 
   instream_back : (r : Right) → IsValidRight b r → is_date r.date ≡ true → is_in_table which.Instream r.kind ≡ true →
       instream_of (basin_table b) (right_row b r) ≡ r
-  instream_back r h date is = by r.kind refl h.place h.volume is
+  instream_back r h date is = by r.kind refl h.index h.volume is
     where
-      by : (its : RightKind) → r.kind ≡ its → HasValidPlace b its → IsValidVolume its r.volume →
+      by : (its : RightKind) → r.kind ≡ its → HasValidSite b its → IsValidVolume its r.volume →
           is_in_table which.Instream its ≡ true →
           instream_of (basin_table b) (row_of_kind b r its) ≡ r
-      by (kind.Diversion node) e place volume is = cc
-      by (kind.Instream link) e place volume is =
+      by (kind.Diversion node) e index volume is = cc
+      by (kind.Instream link) e index volume is =
           right_there _ None (row_of_kind b r (kind.Instream link)) b r h date refl refl refl refl
           (ap (λ (n : ℕ). kind.Instream n)
           (number_read (basin_table b) Links (codes "link") (row_of_kind b r (kind.Instream link)) (link_name b link)
-          link refl (link_named link place) (omega (arith, valid.few.links)))
+          link refl (link_named link index) (omega (arith, valid.bounded.links)))
           ∙ sym e)
           (no_volume (kind.Instream link) r.volume refl volume)
-      by (kind.Zone reservoir level) e place volume is = cc
+      by (kind.Zone reservoir level) e index volume is = cc
 
   zone_back : (r : Right) → IsValidRight b r → is_date r.date ≡ true → is_in_table which.Zone r.kind ≡ true →
       zone_of (basin_table b) (right_row b r) ≡ r
-  zone_back r h date is = by r.kind refl h.place h.volume is
+  zone_back r h date is = by r.kind refl h.index h.volume is
     where
-      by : (its : RightKind) → r.kind ≡ its → HasValidPlace b its → IsValidVolume its r.volume →
+      by : (its : RightKind) → r.kind ≡ its → HasValidSite b its → IsValidVolume its r.volume →
           is_in_table which.Zone its ≡ true →
           zone_of (basin_table b) (row_of_kind b r its) ≡ r
-      by (kind.Diversion node) e place volume is = cc
-      by (kind.Instream link) e place volume is = cc
-      by (kind.Zone reservoir level) e place volume is =
+      by (kind.Diversion node) e index volume is = cc
+      by (kind.Instream link) e index volume is = cc
+      by (kind.Zone reservoir level) e index volume is =
           right_there _ None (row_of_kind b r (kind.Zone reservoir level)) b r h date refl refl refl refl
           (zone (number_read (basin_table b) Reservoirs (codes "reservoir")
           (row_of_kind b r (kind.Zone reservoir level)) (reservoir_name b reservoir) reservoir refl
-          (reservoir_named reservoir place.0) (omega (arith, place.0, few_reservoirs b valid)))
-          (whole_there (codes "level") 1 16 1 (row_of_kind b r (kind.Zone reservoir level)) level refl place.1 place.2)
+          (reservoir_named reservoir index.0) (omega (arith, index.0, bounded_reservoirs b valid)))
+          (whole_there (codes "level") 1 16 1 (row_of_kind b r (kind.Zone reservoir level)) level refl index.1 index.2)
           ∙ sym e)
           (no_volume (kind.Zone reservoir level) r.volume refl volume)
         where
@@ -355,7 +355,7 @@ module _ (b : Basin) (valid : IsValidBasin b) where
       same_return row _ _ _ _
       (number_read (basin_table b) Diversions (codes "diversion") (return_row b row) (right_name b row.right) row.right
       refl
-      (diversion_named row.right h.diversion) (omega (arith, h.right, valid.few.rights)))
+      (diversion_named row.right h.diversion) (omega (arith, h.right, valid.bounded.rights)))
       (node_at (codes "node") (return_row b row) row.node refl h.node)
       (whole_there (codes "part") 1 10000 1 (return_row b row) row.part refl h.part.0 h.part.1)
       (whole_there (codes "lag") 1 120 1 (return_row b row) row.lag refl h.lag.0 h.lag.1)
@@ -363,7 +363,7 @@ module _ (b : Basin) (valid : IsValidBasin b) where
   -- the entries of each table
   nodes_back : map node_of (rows_in (basin_table b) which.Node) ≡ b.nodes
   nodes_back =
-      ap (λ (o : Option Data). map node_of (rows_behind (items_in o))) keys.nodes
+      ap (λ (o : Option Data). map node_of (rows_after (items_in o))) keys.nodes
       ∙ (ap (λ rows. map node_of rows) (rows_listed node_row b.nodes)
       ∙ map_back node_of node_row b.nodes
       (each_then IsValidNode (λ n. node_of (node_row n) ≡ n) b.nodes node_back
@@ -371,7 +371,7 @@ module _ (b : Basin) (valid : IsValidBasin b) where
 
   links_back : map (link_of (basin_table b)) (rows_in (basin_table b) which.Link) ≡ b.links
   links_back =
-      ap (λ (o : Option Data). map (link_of (basin_table b)) (rows_behind (items_in o))) keys.links
+      ap (λ (o : Option Data). map (link_of (basin_table b)) (rows_after (items_in o))) keys.links
       ∙ (ap (λ rows. map (link_of (basin_table b)) rows) (rows_listed (link_row b) b.links)
       ∙ map_back (link_of (basin_table b)) (link_row b) b.links
       (each_then (IsValidLink b) (λ l. link_of (basin_table b) (link_row b l) ≡ l) b.links link_back
@@ -379,7 +379,7 @@ module _ (b : Basin) (valid : IsValidBasin b) where
 
   reservoirs_back : map (reservoir_of (basin_table b)) (rows_in (basin_table b) which.Reservoir) ≡ b.reservoirs
   reservoirs_back =
-      ap (λ (o : Option Data). map (reservoir_of (basin_table b)) (rows_behind (items_in o))) keys.reservoirs
+      ap (λ (o : Option Data). map (reservoir_of (basin_table b)) (rows_after (items_in o))) keys.reservoirs
       ∙ (ap (λ rows. map (reservoir_of (basin_table b)) rows) (rows_listed (reservoir_row b) b.reservoirs)
       ∙ map_back (reservoir_of (basin_table b)) (reservoir_row b) b.reservoirs
       (each_then (IsValidReservoir b) (λ v. reservoir_of (basin_table b) (reservoir_row b v) ≡ v) b.reservoirs
@@ -388,7 +388,7 @@ module _ (b : Basin) (valid : IsValidBasin b) where
 
   returns_back : map (return_of (basin_table b)) (rows_in (basin_table b) which.Return) ≡ b.returns
   returns_back =
-      ap (λ (o : Option Data). map (return_of (basin_table b)) (rows_behind (items_in o))) keys.returns
+      ap (λ (o : Option Data). map (return_of (basin_table b)) (rows_after (items_in o))) keys.returns
       ∙ (ap (λ rows. map (return_of (basin_table b)) rows) (rows_listed (return_row b) b.returns)
       ∙ map_back (return_of (basin_table b)) (return_row b) b.returns
       (each_then (IsValidReturn b) (λ row. return_of (basin_table b) (return_row b row) ≡ row) b.returns return_back
@@ -398,7 +398,7 @@ module _ (b : Basin) (valid : IsValidBasin b) where
   some_rights : (table : BasinTable) (spells : Members → Right) →
       ((r : Right) → IsValidRight b r → is_date r.date ≡ true → is_in_table table r.kind ≡ true →
       spells (right_row b r) ≡ r) →
-      map spells (rows_behind (items_in (listed (right_row b) (rights_in table b.rights)))) ≡ rights_in table b.rights
+      map spells (rows_after (items_in (listed (right_row b) (rights_in table b.rights)))) ≡ rights_in table b.rights
   some_rights table spells back =
       ap (λ rows. map spells rows) (rows_listed (right_row b) (rights_in table b.rights))
       ∙ map_back spells (right_row b) (rights_in table b.rights)
@@ -411,11 +411,11 @@ module _ (b : Basin) (valid : IsValidBasin b) where
   rights_back =
       joined _ _ _ (rights_in which.Diversion b.rights) (rights_in which.Instream b.rights)
       (rights_in which.Zone b.rights) b.rights
-      (ap (λ (o : Option Data). map (diversion_of (basin_table b)) (rows_behind (items_in o))) keys.diversions
+      (ap (λ (o : Option Data). map (diversion_of (basin_table b)) (rows_after (items_in o))) keys.diversions
       ∙ some_rights which.Diversion (diversion_of (basin_table b)) diversion_back)
-      (ap (λ (o : Option Data). map (instream_of (basin_table b)) (rows_behind (items_in o))) keys.instreams
+      (ap (λ (o : Option Data). map (instream_of (basin_table b)) (rows_after (items_in o))) keys.instreams
       ∙ some_rights which.Instream (instream_of (basin_table b)) instream_back)
-      (ap (λ (o : Option Data). map (zone_of (basin_table b)) (rows_behind (items_in o))) keys.zones
+      (ap (λ (o : Option Data). map (zone_of (basin_table b)) (rows_after (items_in o))) keys.zones
       ∙ some_rights which.Zone (zone_of (basin_table b)) zone_back)
       (rights_by_table 0 b.rights valid.ranked)
 
@@ -443,7 +443,7 @@ pub table_spells : (b : Basin) → IsValidBasin b → basin_of (basin_table b) �
 table_spells b valid =
     let its = table_keys b in
     same_basin b _ _ _ _ _ _ _ _ _
-    (ap (whole_of 1 2 1) its.format)
+    (ap (integer_of 1 2 1) its.format)
     (ap (λ (o : Option Data). first_of (unwrap_or (option_and_then as_str o) [])) its.first
     ∙ first_read b.first valid.run.first)
     (whole_there (codes "months") 1 1200 1 (basin_table b) b.months its.months valid.run.months.0 valid.run.months.1)

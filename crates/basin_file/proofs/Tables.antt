@@ -34,10 +34,10 @@ listed-put key [] ms h = cc
 listed-put key (v ∷ values) ms h = refl
 
 -- a key that comes before the others stands in front
-pub with_member-front : (key : List ℕ) (d : Data) (ms : Members) → is_before key ms ≡ true →
+pub with_member-prefix : (key : List ℕ) (d : Data) (ms : Members) → is_before key ms ≡ true →
     with_member key d ms ≡ member key d ms
-with_member-front key d no_members h = refl
-with_member-front key d (member other e rest) h = by_order (slice_cmp nat_cmp key other) h
+with_member-prefix key d no_members h = refl
+with_member-prefix key d (member other e rest) h = by_order (slice_cmp nat_cmp key other) h
   where
     by_order : (o : Ordering) → is_lt o ≡ true →
         match_ordering o (member key d (member other e rest)) (member other d rest)
@@ -46,10 +46,10 @@ with_member-front key d (member other e rest) h = by_order (slice_cmp nat_cmp ke
     by_order Equal l = cc
     by_order Greater l = cc
 
-pub with_option-front : (key : List ℕ) (o : Option Data) (ms : Members) → is_before key ms ≡ true →
+pub with_option-prefix : (key : List ℕ) (o : Option Data) (ms : Members) → is_before key ms ≡ true →
     with_option key o ms ≡ with_some key o ms
-with_option-front key None ms h = refl
-with_option-front key (Some d) ms h = with_member-front key d ms h
+with_option-prefix key None ms h = refl
+with_option-prefix key (Some d) ms h = with_member-prefix key d ms h
 
 is_before-some : (k key : List ℕ) (o : Option Data) (rest : Members) → is_lt (slice_cmp nat_cmp k key) ≡ true →
     is_before k rest ≡ true →
@@ -66,18 +66,18 @@ last_is : (v r z : Option Data) (year : Data) →
     (with_some (codes "return") r (member (codes "year_start") year (with_some (codes "zone") z no_members)))
 last_is v r z year =
     ap (λ ms. with_option (codes "reservoir") v (with_option (codes "return") r ms)) years
-    ∙ ap (with_option (codes "reservoir") v) (with_option-front (codes "return") r behind refl)
-    ∙ with_option-front (codes "reservoir") v (with_some (codes "return") r behind)
-    (is_before-some (codes "reservoir") (codes "return") r behind refl refl)
+    ∙ ap (with_option (codes "reservoir") v) (with_option-prefix (codes "return") r after refl)
+    ∙ with_option-prefix (codes "reservoir") v (with_some (codes "return") r after)
+    (is_before-some (codes "reservoir") (codes "return") r after refl refl)
   where
-    behind : Members
-    behind = member (codes "year_start") year (with_some (codes "zone") z no_members)
+    after : Members
+    after = member (codes "year_start") year (with_some (codes "zone") z no_members)
 
     years : with_member (codes "year_start") year (with_option (codes "zone") z no_members) ≡ member
         (codes "year_start") year (with_some (codes "zone") z no_members)
     years =
-        ap (with_member (codes "year_start") year) (with_option-front (codes "zone") z no_members refl)
-        ∙ with_member-front (codes "year_start") year (with_some (codes "zone") z no_members)
+        ap (with_member (codes "year_start") year) (with_option-prefix (codes "zone") z no_members refl)
+        ∙ with_member-prefix (codes "year_start") year (with_some (codes "zone") z no_members)
         (is_before-some (codes "year_start") (codes "zone") z no_members refl refl)
 
 whole_is : (d i l n v r z : Option Data) (first format months year : Data) (last : Members) →
@@ -96,18 +96,18 @@ whole_is d i l n v r z first format months year last is =
     ∙ ap (λ ms. with_option (codes "diversion") d
     (with_member (codes "first_month") first
     (with_member (codes "format") format (with_option (codes "instream") i ms))))
-    (with_option-front (codes "link") l from_months refl)
+    (with_option-prefix (codes "link") l from_months refl)
     ∙ ap (λ ms. with_option (codes "diversion") d
     (with_member (codes "first_month") first (with_member (codes "format") format ms)))
-    (with_option-front (codes "instream") i from_links
+    (with_option-prefix (codes "instream") i from_links
     (is_before-some (codes "instream") (codes "link") l from_months refl refl))
     ∙ ap (λ ms. with_option (codes "diversion") d (with_member (codes "first_month") first ms))
-    (with_member-front (codes "format") format from_instream
+    (with_member-prefix (codes "format") format from_instream
     (is_before-some (codes "format") (codes "instream") i from_links refl
     (is_before-some (codes "format") (codes "link") l from_months refl refl)))
     ∙ ap (with_option (codes "diversion") d)
-    (with_member-front (codes "first_month") first (member (codes "format") format from_instream) refl)
-    ∙ with_option-front (codes "diversion") d
+    (with_member-prefix (codes "first_month") first (member (codes "format") format from_instream) refl)
+    ∙ with_option-prefix (codes "diversion") d
     (member (codes "first_month") first (member (codes "format") format from_instream)) refl
   where
     from_nodes : Members
@@ -135,8 +135,8 @@ whole_is d i l n v r z first format months year last is =
     middle : with_member (codes "months") months (with_option (codes "node") n last) ≡ from_months
     middle =
         ap (with_member (codes "months") months)
-        (with_option-front (codes "node") n last (before_last (codes "node") refl refl refl))
-        ∙ with_member-front (codes "months") months from_nodes
+        (with_option-prefix (codes "node") n last (before_last (codes "node") refl refl refl))
+        ∙ with_member-prefix (codes "months") months from_nodes
         (is_before-some (codes "months") (codes "node") n last refl (before_last (codes "months") refl refl refl))
 
 pub put_in_order : (d i l n v r z : Option Data) (first format months year : Data) →

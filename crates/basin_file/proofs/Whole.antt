@@ -9,11 +9,11 @@ use Rattle.std.proofs.lemmas.Option.{slice_get-map, slice_get_within}
 use Rattle.std.proofs.lemmas.Slice.Eq.{bytes_eq-Decides}
 use Rattle.std.proofs.lemmas.Bool.{eqb-true, or_parts}
 use Rattle.toml.specs.Data.{Members, get_member}
-use Rattle.toml_tree.specs.Texts.{texts_behind, is_the_text, earlier_like}
-use Rattle.toml_tree.specs.Values.{text_at, text_or_empty, whole_at, whole_of}
+use Rattle.toml_tree.specs.Texts.{texts_after, is_the_text, earlier_like}
+use Rattle.toml_tree.specs.Values.{text_at, text_or_empty, integer_at, integer_of}
 use Rattle.water_model.specs.Basin.{node_name, link_name, right_name, node_of_reservoir}
 use Rattle.water_model.specs.Valid.{HasValidFormat, IsValidNode, IsValidLink, IsValidRight, IsValidReturn, IsValidRun}
-use Rattle.water_model.specs.Valid.{HasFewEntries, HasOwnNames, AreRanked, rank_of_kind, rows_of}
+use Rattle.water_model.specs.Valid.{HasBoundedEntries, HasOwnNames, AreRanked, rank_of_kind, rows_of}
 use Rattle.water_model.specs.Valid.{IsAlwaysOpen}
 use Rattle.water_model.specs.declared.types.ReturnRow.{ReturnRow}
 use Rattle.water_model.specs.declared.types.Right.{Right}
@@ -26,7 +26,7 @@ use Rattle.basin_tree.specs.declared.tables.Space.TheVariants.{Nodes, Links, Res
 use Rattle.basin_tree.specs.Entries.{items_at}
 use Rattle.basin_tree.specs.KeyFaults.{format_of, unknown_key, out_of_range}
 use Rattle.basin_tree.specs.KeyFaults.{any_value}
-use Rattle.basin_tree.specs.Places.{texts_in, texts_of, named_at}
+use Rattle.basin_tree.specs.Indices.{texts_in, texts_of, named_at}
 use Rattle.basin_tree.specs.Ranges.{in_range, ends_late}
 use Rattle.basin_tree.specs.Tables.{keys_of}
 use Rattle.basin_file.specs.Sound.{IsSoundReservoir, IsSoundBasin}
@@ -36,14 +36,15 @@ use Rattle.basin_file.proofs.Lists.{Each, EachFrom, each_all, each_append, each_
 use Rattle.basin_file.proofs.Passed.{IsListed, HasNoFault, IsFine, absent, all_tables}
 use Rattle.basin_file.proofs.Passed.{top_passes}
 use Rattle.basin_file.proofs.Months.{always_open, no_text}
-use Rattle.basin_file.proofs.Refers.{there_at, refers_there, texts_behind-rows, texts_in-rows}
+use Rattle.basin_file.proofs.Refers.{there_at, refers_there, texts_after-rows, texts_in-rows}
 use Rattle.basin_file.proofs.Refers.{number_is}
 use Rattle.basin_file.proofs.OwnNames.{own_texts, own_names, names_of_rows, same_text, table_own, rights_own}
 use Rattle.basin_file.proofs.Ranges.{whole_in}
 use Rattle.basin_file.proofs.Ranges.{first_valid, run_ends}
-use Rattle.basin_file.proofs.Counts.{count_where-entries, few_pass, counts_within}
-use Rattle.basin_file.proofs.RowsValid.{fine, fine_at, length_texts, few_nodes, few_links, few_diversions, few_rights}
-use Rattle.basin_file.proofs.RowsValid.{some_node, name_of_row, node_valid, link_valid, few_node_texts}
+use Rattle.basin_file.proofs.Counts.{count_where-entries, bounded_pass, counts_within}
+use Rattle.basin_file.proofs.RowsValid.{fine, fine_at, length_texts, bounded_nodes, bounded_links, bounded_diversions}
+use Rattle.basin_file.proofs.RowsValid.{bounded_rights}
+use Rattle.basin_file.proofs.RowsValid.{some_node, name_of_row, node_valid, link_valid, bounded_node_texts}
 use Rattle.basin_file.proofs.RowsValid.{reservoir_sound, diversion_valid, instream_valid, zone_valid, return_valid}
 
 ranked_more : (g : Members → Right) (n : ℕ) → ((members : Members) → rank_of_kind (g members).kind ≡ n) →
@@ -57,9 +58,9 @@ ranked_more g n same (members ∷ rows) least others low rest = (
 )
 
 module _ (tree : Members) (none : HasNoFault tree) where
-  few_diversion_texts : length (texts_of tree Diversions) ≤ 4000
-  few_diversion_texts =
-      let same = length_texts tree none Diversion tt in let few = few_diversions tree none in omega arith
+  bounded_diversion_texts : length (texts_of tree Diversions) ≤ 4000
+  bounded_diversion_texts =
+      let same = length_texts tree none Diversion tt in let bounded = bounded_diversions tree none in omega arith
 
   -- a members's diversion is the one that its text names
   right_is : (k : ℕ) (members : Members) → IsFine tree Return k members →
@@ -68,25 +69,25 @@ module _ (tree : Members) (none : HasNoFault tree) where
   right_is k members fine =
       let there = refers_there tree Return k members 0 (codes "diversion") Diversions refl fine in
       let same =
-      number_is tree Diversions (codes "diversion") members there.0 there.1 there.2 there.3 few_diversion_texts in
+      number_is tree Diversions (codes "diversion") members there.0 there.1 there.2 there.3 bounded_diversion_texts in
       (there.0, there.2, rw same there.3)
 
   abbrev is_row_of : ℕ → ReturnRow → Bool
   is_row_of right row = row.right == right
 
-  texts_of_rows : texts_behind (codes "diversion") (items_at tree Return) ≡ map (text_at (codes "diversion"))
+  texts_of_rows : texts_after (codes "diversion") (items_at tree Return) ≡ map (text_at (codes "diversion"))
       (rows_in tree Return)
-  texts_of_rows = texts_behind-rows (codes "diversion") (items_at tree Return) (all_tables tree none Return tt)
+  texts_of_rows = texts_after-rows (codes "diversion") (items_at tree Return) (all_tables tree none Return tt)
 
   -- fewer than 8 rows stand before a members with its text
-  few_like : (k : ℕ) (members : Members) (q : List ℕ) → IsFine tree Return k members →
+  bounded_like : (k : ℕ) (members : Members) (q : List ℕ) → IsFine tree Return k members →
       slice_get (rows_in tree Return) k ≡ Some members →
       text_at (codes "diversion") members ≡ Some q →
       count_by (is_the_text q) (take k (map (text_at (codes "diversion")) (rows_in tree Return))) < 8
-  few_like k members q fine there text = by (k + 1 - 1) (omega arith) fine.few
+  bounded_like k members q fine there text = by (k + 1 - 1) (omega arith) fine.bounded
     where
-      few : (n : ℕ) → nat_le 8 n ≡ false → n < 8
-      few n e = grind (arith, nat_tests)
+      bounded : (n : ℕ) → nat_le 8 n ≡ false → n < 8
+      bounded n e = grind (arith, nat_tests)
 
       texts : List (Option (List ℕ))
       texts = map (text_at (codes "diversion")) (rows_in tree Return)
@@ -95,15 +96,15 @@ module _ (tree : Members) (none : HasNoFault tree) where
       text_there = rw (slice_get-map (text_at (codes "diversion")) (rows_in tree Return) k) (rw there (rw text refl))
 
       by : (n : ℕ) → n ≡ k →
-          nat_le 8 (earlier_like (texts_behind (codes "diversion") (items_at tree Return)) n) ≡ false →
+          nat_le 8 (earlier_like (texts_after (codes "diversion") (items_at tree Return)) n) ≡ false →
           count_by (is_the_text q) (take k texts) < 8
-      by n same e = few (count_by (is_the_text q) (take k texts)) (rw (same, texts_of_rows, text_there) at e)
+      by n same e = bounded (count_by (is_the_text q) (take k texts)) (rw (same, texts_of_rows, text_there) at e)
 
   -- fewer than 8 rows of its diversion stand before a members
-  few_before : (right k : ℕ) (entry : ReturnRow) →
+  bounded_before : (right k : ℕ) (entry : ReturnRow) →
       slice_get (map (return_of tree) (rows_in tree Return)) k ≡ Some entry → is_row_of right entry ≡ true →
       0 + count_by (is_row_of right) (take k (map (return_of tree) (rows_in tree Return))) < 8
-  few_before right k entry there is_row =
+  bounded_before right k entry there is_row =
       let len = length-map (rows_in tree Return) (return_of tree) in
       let members =
       entry_at (rows_in tree Return) k (let h =
@@ -121,7 +122,7 @@ module _ (tree : Members) (none : HasNoFault tree) where
       (rows_in tree Return)
       (each_from (IsFine tree Return) _ 0 (rows_in tree Return)
       (λ j other fine_other. alike j other fine_other text.0 (rw its at text.2)) (module_fine)) in
-      let few = few_like k members.0 text.0 fine members.1 text.1 in
+      let bounded = bounded_like k members.0 text.0 fine members.1 text.1 in
       omega arith
     where
       module_fine : EachFrom (IsFine tree Return) 0 (rows_in tree Return)
@@ -136,10 +137,11 @@ module _ (tree : Members) (none : HasNoFault tree) where
           let same : q ≡ text.0 = same_text tree Diversions q text.0 right named (rw its at text.2) in
           rw text.1 ((bytes_eq-Decides q text.0).1 same)
 
-  few_rows : (right : ℕ) → rows_of (basin_of tree) right ≤ 8
-  few_rows right =
+  bounded_rows : (right : ℕ) → rows_of (basin_of tree) right ≤ 8
+  bounded_rows right =
       let h : 0 + count_by (is_row_of right) (map (return_of tree) (rows_in tree Return)) ≤ 8 =
-      few_pass (is_row_of right) 8 0 (map (return_of tree) (rows_in tree Return)) (few_before right) (omega arith) in
+      bounded_pass (is_row_of right) 8 0 (map (return_of tree) (rows_in tree Return)) (bounded_before right)
+      (omega arith) in
       rw (count_where-entries (is_row_of right) (map (return_of tree) (rows_in tree Return))) (omega arith)
 
   nodes_own : (i j : ℕ) → i < j → j < length (basin_of tree).nodes →
@@ -201,7 +203,7 @@ module _ (tree : Members) (none : HasNoFault tree) where
   node_is k members fine =
       let there = refers_there tree Reservoir k members 0 (codes "node") Nodes refl fine in
       let same =
-      number_is tree Nodes (codes "node") members there.0 there.1 there.2 there.3 (few_node_texts tree none) in
+      number_is tree Nodes (codes "node") members there.0 there.1 there.2 there.3 (bounded_node_texts tree none) in
       (there.0, there.2, rw same there.3)
 
   reservoirs_own : (i j : ℕ) → i < j → j < length (basin_of tree).reservoirs →
@@ -222,12 +224,12 @@ module _ (tree : Members) (none : HasNoFault tree) where
       let same : text.0 ≡ text2.0 =
       same_text tree Nodes text.0 text2.0 (reservoir_of tree one.0).node text.2 (text2.2 ∙ sym nodes) in
       own_texts (texts_of tree Reservoirs) (table_own tree none Reservoir tt Reservoirs refl) i j text.0 before
-      (place i one.0 text.0 one.1 text.1) (rw same (place j other.0 text2.0 other.1 text2.1))
+      (index i one.0 text.0 one.1 text.1) (rw same (index j other.0 text2.0 other.1 text2.1))
     where
-      place : (k : ℕ) (members : Members) (q : List ℕ) → slice_get (rows_in tree Reservoir) k ≡ Some members →
+      index : (k : ℕ) (members : Members) (q : List ℕ) → slice_get (rows_in tree Reservoir) k ≡ Some members →
           text_at (codes "node") members ≡ Some q →
           slice_get (texts_of tree Reservoirs) k ≡ Some (Some q)
-      place k members q there text =
+      index k members q there text =
           rw (texts_in-rows tree none Reservoir tt)
           (rw (slice_get-map (text_at (codes "node")) (rows_in tree Reservoir) k) (rw there (rw text refl)))
 
@@ -248,17 +250,17 @@ module _ (tree : Members) (none : HasNoFault tree) where
       record {
         first = first_valid (text_or_empty (codes "first_month") tree);
         months = months;
-        ends = run_ends (text_or_empty (codes "first_month") tree) (whole_at (codes "months") 1 1200 1 tree) months.0
+        ends = run_ends (text_or_empty (codes "first_month") tree) (integer_at (codes "months") 1 1200 1 tree) months.0
             months.1 late.1;
       }
 
-  few_entries : HasFewEntries (basin_of tree)
-  few_entries = record {
+  bounded_entries : HasBoundedEntries (basin_of tree)
+  bounded_entries = record {
     some_node = rw (length-map (rows_in tree Node) node_of) (some_node tree none);
-    nodes = rw (length-map (rows_in tree Node) node_of) (few_nodes tree none);
-    links = rw (length-map (rows_in tree Link) (link_of tree)) (few_links tree none);
-    rights = few_rights tree none;
-    rows = λ right h. few_rows right;
+    nodes = rw (length-map (rows_in tree Node) node_of) (bounded_nodes tree none);
+    links = rw (length-map (rows_in tree Link) (link_of tree)) (bounded_links tree none);
+    rights = bounded_rights tree none;
+    rows = λ right h. bounded_rows right;
   }
 
   names_own : HasOwnNames (basin_of tree)
@@ -280,9 +282,9 @@ module _ (tree : Members) (none : HasNoFault tree) where
       (ranked_more (zone_of tree) 2 (λ members. refl) (rows_in tree Zone) m2 [] (omega arith) (λ m3 low3. tt)))))
 
   -- in format 1 no water year begins with another month than October
-  october : format_of tree ≡ 1 → whole_at (codes "year_start") 1 12 10 tree ≡ 10
+  october : format_of tree ≡ 1 → integer_at (codes "year_start") 1 12 10 tree ≡ 10
   october first =
-      ap (whole_of 1 12 10)
+      ap (integer_of 1 12 10)
       (absent 1 Top (codes "year_start") tree (rw first at (top_passes (unknown_key tree) tree none.keys)) refl)
 
   -- and no right has a volume
@@ -337,7 +339,7 @@ module _ (tree : Members) (none : HasNoFault tree) where
   sound_basin = record {
     format = format_valid;
     run = run_valid;
-    few = few_entries;
+    bounded = bounded_entries;
     nodes = each_all _ _ (each_valid IsValidNode Node tt node_of (node_valid tree none));
     links =
         each_all _ _ (each_valid (λ l. IsValidLink (basin_of tree) l) Link tt (link_of tree) (link_valid tree none));

@@ -72,7 +72,7 @@ area_finding number (area.NotRising point) = Some (found fault.TableRising table
 area_finding number (area.AreaFalls point) = Some (found fault.TableArea table.Reservoir number)
 area_finding number area.OutOfMemory = None
 
--- the first reservoir whose area table is at fault, behind n others
+-- the first reservoir whose area table is at fault, after n others
 abbrev pub areas_fault : ℕ → List Reservoir → Option Finding
 areas_fault n [] = None
 areas_fault n (v ∷ reservoirs) =

@@ -6,13 +6,13 @@ use Rattle.std.specs.List.{range_with_len}
 use Rattle.std.specs.Option.{option_map_or}
 use Rattle.toml.specs.Data.{Data, Items, no_items, item, get_item, Members, get_member, as_bool, as_str, as_array}
 use Rattle.toml.specs.Data.{as_table}
-use Rattle.toml_tree.specs.Values.{whole_of, whole_at, monthly_of, text_or_empty}
+use Rattle.toml_tree.specs.Values.{integer_of, integer_at, monthly_of, text_or_empty}
 use Rattle.water_text.specs.Days.{read_day}
 use Rattle.water_text.specs.Months.{read_month}
 use Rattle.water_text.specs.Names.{is_name}
 use Rattle.water_text.specs.declared.day.Day.{Day}
 use Rattle.water_text.specs.declared.month.Month.{Month}
-use Rattle.basin_tree.specs.Ranges.{most_amount, most_stored}
+use Rattle.basin_tree.specs.Ranges.{max_amount, max_stored}
 use Rattle.water_model.specs.declared.types.AreaPoint.{AreaPoint}
 use Rattle.water_model.specs.declared.types.Basin.{Basin}
 use Rattle.water_model.specs.declared.types.Carry.{Carry}
@@ -28,7 +28,7 @@ use Rattle.water_model.specs.declared.types.RightKind.{RightKind}
 use Rattle.water_model.specs.declared.types.RightKind.TheVariants as kind
 use Rattle.basin_tree.specs.Entries.{items_at}
 use Rattle.basin_tree.specs.KeyFaults.{format_of}
-use Rattle.basin_tree.specs.Places.{named_at}
+use Rattle.basin_tree.specs.Indices.{named_at}
 use Rattle.basin_tree.specs.declared.tables.BasinTable.{BasinTable}
 use Rattle.basin_tree.specs.declared.tables.BasinTable.TheVariants.{Node, Link, Reservoir, Diversion, Instream, Zone}
 use Rattle.basin_tree.specs.declared.tables.BasinTable.TheVariants.{Return}
@@ -36,13 +36,13 @@ use Rattle.basin_tree.specs.declared.tables.Space.{Space}
 use Rattle.basin_tree.specs.declared.tables.Space.TheVariants.{Nodes, Links, Reservoirs, Diversions}
 
 -- the tables in a list
-abbrev pub rows_behind : Items → List Members
-rows_behind no_items = []
-rows_behind (item d ds) = option_to_list (as_table d) ++ rows_behind ds
+abbrev pub rows_after : Items → List Members
+rows_after no_items = []
+rows_after (item d ds) = option_to_list (as_table d) ++ rows_after ds
 
 -- the entries of a table, each by its keys and values
 abbrev pub rows_in : Members → BasinTable → List Members
-rows_in tree table = rows_behind (items_at tree table)
+rows_in tree table = rows_after (items_at tree table)
 
 abbrev pub name_of : List ℕ → List ℕ
 name_of text = if is_name text then text else codes "-"
@@ -70,7 +70,7 @@ date_of text = unwrap_or (read_day text) (record { year = 0; month = 0; day = 0 
 
 -- a text stands for a gauge
 abbrev pub inflow_of : Option Data → Inflow
-inflow_of value = option_map_or (λ text. Gauged) (option_and_then as_str value) (Monthly (monthly_of most_amount value))
+inflow_of value = option_map_or (λ text. Gauged) (option_and_then as_str value) (Monthly (monthly_of max_amount value))
 
 abbrev pub items_any : (Data → Bool) → Items → Bool
 items_any test no_items = false
@@ -78,7 +78,7 @@ items_any test (item d ds) = test d || items_any test ds
 
 -- whether a list of calendar months has a month, from 1 for January
 abbrev pub lists_month : ℕ → Data → Bool
-lists_month month d = option_map_or (items_any (λ x. whole_of 1 12 0 (Some x) == month)) (as_array d) false
+lists_month month d = option_map_or (items_any (λ x. integer_of 1 12 0 (Some x) == month)) (as_array d) false
 
 -- for each calendar month whether a canal is shut in it. A canal that doesn't say so never is
 unfoldable pub shut_of : Option Data → List Bool
@@ -86,12 +86,12 @@ shut_of closed = map (λ i. option_map_or (lists_month (i + 1)) closed false) (r
 
 -- a link that gives no amount a day is a river
 abbrev pub carry_of : Option Data → Option Data → Carry
-carry_of per_day closed = option_map_or (λ d. Canal (whole_of 0 most_amount 0 (Some d)) (shut_of closed)) per_day River
+carry_of per_day closed = option_map_or (λ d. Canal (integer_of 0 max_amount 0 (Some d)) (shut_of closed)) per_day River
 
 abbrev pub point_in : Items → AreaPoint
 point_in pair = record {
-  storage = whole_of 0 most_stored 0 (get_item 0 pair);
-  area = whole_of 0 most_amount 0 (get_item 1 pair);
+  storage = integer_of 0 max_stored 0 (get_item 0 pair);
+  area = integer_of 0 max_amount 0 (get_item 1 pair);
 }
 
 abbrev pub points_in : Items → List AreaPoint
@@ -123,14 +123,14 @@ link_of tree row = record {
 abbrev pub reservoir_of : Members → Members → reservoir.Reservoir
 reservoir_of tree row = record {
   node = number_at tree Nodes (codes "node") row;
-  opening = whole_at (codes "opening") 0 most_stored 0 row;
+  opening = integer_at (codes "opening") 0 max_stored 0 row;
   area = area_of (get_member (codes "area") row);
   rate = monthly_of 10000 (get_member (codes "rate") row);
 }
 
 -- a diversion that gives no volume has none
 abbrev pub volume_of : Option Data → Option ℕ
-volume_of value = option_map (λ d. whole_of 0 most_stored 0 (Some d)) value
+volume_of value = option_map (λ d. integer_of 0 max_stored 0 (Some d)) value
 
 -- a text stands for wants in the series
 abbrev pub is_series : Option Data → Bool
@@ -140,9 +140,9 @@ abbrev pub right_of : RightKind → Option ℕ → Members → Right
 right_of kind volume row = record {
   name = name_at (codes "name") row;
   date = date_of (text_or_empty (codes "date") row);
-  order = whole_at (codes "order") 0 1000000 0 row;
+  order = integer_at (codes "order") 0 1000000 0 row;
   kind = kind;
-  want = monthly_of most_amount (get_member (codes "want") row);
+  want = monthly_of max_amount (get_member (codes "want") row);
   volume = volume;
   series = is_series (get_member (codes "want") row);
 }
@@ -157,7 +157,7 @@ instream_of tree row = right_of (kind.Instream (number_at tree Links (codes "lin
 
 abbrev pub zone_of : Members → Members → Right
 zone_of tree row =
-    right_of (kind.Zone (number_at tree Reservoirs (codes "reservoir") row) (whole_at (codes "level") 1 16 1 row)) None
+    right_of (kind.Zone (number_at tree Reservoirs (codes "reservoir") row) (integer_at (codes "level") 1 16 1 row)) None
     row
 
 -- diversions are the first rights, so the place of a diversion is that of its right
@@ -165,8 +165,8 @@ abbrev pub return_of : Members → Members → ReturnRow
 return_of tree row = record {
   right = number_at tree Diversions (codes "diversion") row;
   node = number_at tree Nodes (codes "node") row;
-  part = whole_at (codes "part") 1 10000 1 row;
-  lag = whole_at (codes "lag") 1 120 1 row;
+  part = integer_at (codes "part") 1 10000 1 row;
+  lag = integer_at (codes "lag") 1 120 1 row;
 }
 
 abbrev pub rights_of : Members → List Right
@@ -179,8 +179,8 @@ abbrev pub basin_of : Members → Basin
 basin_of tree = record {
   format = format_of tree;
   first = first_of (text_or_empty (codes "first_month") tree);
-  months = whole_at (codes "months") 1 1200 1 tree;
-  year_start = whole_at (codes "year_start") 1 12 10 tree;
+  months = integer_at (codes "months") 1 1200 1 tree;
+  year_start = integer_at (codes "year_start") 1 12 10 tree;
   nodes = map node_of (rows_in tree Node);
   links = map (link_of tree) (rows_in tree Link);
   reservoirs = map (reservoir_of tree) (rows_in tree Reservoir);

@@ -3,7 +3,7 @@ ghost use Rattle.std.specs.Prelude.{◌≡◌, ◌++◌, [], map, unwrap_or, IfO
 ghost use Rattle.toml.specs.Data.{Members, get_member, as_array, no_items};
 ghost use Rattle.toml.specs.View.{view, table_view, items_view};
 ghost use Rattle.basin_tree.specs.Documents.{tree_of};
-ghost use Rattle.basin_file.specs.Spelled.{rows_behind, rows_in, point_in, points_in, no_area, area_of, node_of};
+ghost use Rattle.basin_file.specs.Spelled.{rows_after, rows_in, point_in, points_in, no_area, area_of, node_of};
 ghost use Rattle.basin_file.specs.Spelled.{link_of, reservoir_of, diversion_of, instream_of, zone_of, return_of};
 ghost use Rattle.basin_file.specs.Spelled.{rights_of, basin_of};
 
@@ -11,10 +11,10 @@ use crate::parts::{
     diversion_of, first_of, instream_of, link_of, node_of, number_at, point_in, return_of, zone_of,
 };
 use basin_tree::document::Document;
-use basin_tree::tables::{BasinTable, MOST_STORED, Space};
+use basin_tree::tables::{BasinTable, MAX_STORED, Space};
 use std::alloc::{AllocError, Global};
 use toml::{Table, Value};
-use toml_tree::values::{items_of, member, monthly_at, text_or_empty, whole_at};
+use toml_tree::values::{integer_at, items_of, member, monthly_at, text_or_empty};
 use water_model::rows::Rows;
 use water_model::types::{AreaPoint, Basin, Link, Node, Reservoir, ReturnRow, Right};
 
@@ -67,7 +67,7 @@ fn reservoir_of(alloc: Global, document: &Document, row: &Table) -> Result<Reser
     let area = area_at(alloc, row)?;
     Ok(Reservoir {
         node: number_at(document, Space::Nodes, row, "node"),
-        opening: whole_at(row, "opening", 0, MOST_STORED, 0),
+        opening: integer_at(row, "opening", 0, MAX_STORED, 0),
         area: Rows::from_vec(area),
         rate: monthly_at(row, "rate", 10_000),
     })
@@ -90,7 +90,7 @@ fn add_entries<E: Drop, R: EntryReader<E>>(
 ) -> Result<(), AllocError>
     ensures { OnOk result
         (into.new.items ≡ into.old.items ++ map (R.spells (tree_of document.now))
-        (rows_behind (items_view values.now))) }
+        (rows_after (items_view values.now))) }
 {
     for value in values {
         if let Some(row) = value.as_table() {
@@ -224,8 +224,8 @@ pub fn basin_of(alloc: Global, document: &Document) -> Result<Basin, AllocError>
     Ok(Basin {
         format: document.format() as u32,
         first: first_of(text_or_empty(top, "first_month").as_bytes()),
-        months: whole_at(top, "months", 1, 1_200, 1) as u32,
-        year_start: whole_at(top, "year_start", 1, 12, 10) as u8,
+        months: integer_at(top, "months", 1, 1_200, 1) as u32,
+        year_start: integer_at(top, "year_start", 1, 12, 10) as u8,
         nodes,
         links,
         reservoirs,

@@ -13,7 +13,7 @@ use rights_roll::RollRefused;
 use river_net::NetRefused;
 use water_model::types::{Right, RightKind};
 
-fn found_behind(fault: BasinFault, table: BasinTable, before: u32) -> Finding
+fn found_after(fault: BasinFault, table: BasinTable, before: u32) -> Finding
     ensures { result ≡ found fault table (before + 1) }
 {
     found(fault, table, u64::from(before) + 1)
@@ -24,22 +24,18 @@ pub fn net_finding(e: NetRefused) -> Option<Finding>
     ensures { result ≡ net_finding e }
 {
     match e {
-        NetRefused::SelfLink(link) => Some(found_behind(
+        NetRefused::SelfLink(link) => Some(found_after(
             BasinFault::SelfLink,
             BasinTable::Link,
             link,
         )),
-        NetRefused::LinkFromOutlet(link) => Some(found_behind(
+        NetRefused::LinkFromOutlet(link) => Some(found_after(
             BasinFault::LinkFromOutlet,
             BasinTable::Link,
             link,
         )),
-        NetRefused::NoRiver(node) => Some(found_behind(
-            BasinFault::NoRiver,
-            BasinTable::Node,
-            node,
-        )),
-        NetRefused::DirectedCycle(node) => Some(found_behind(
+        NetRefused::NoRiver(node) => Some(found_after(BasinFault::NoRiver, BasinTable::Node, node)),
+        NetRefused::DirectedCycle(node) => Some(found_after(
             BasinFault::DirectedCycle,
             BasinTable::Node,
             node,
@@ -88,7 +84,7 @@ fn table_at(rights: &[Right], at: usize) -> BasinTable
 }
 
 /// The rights up to one.
-fn front(rights: &[Right], at: usize) -> &[Right]
+fn prefix(rights: &[Right], at: usize) -> &[Right]
     ensures { result.now ≡ take (at + 1) rights.now }
 {
     if at < rights.len() {
@@ -102,7 +98,7 @@ fn right_found(fault: BasinFault, rights: &[Right], right: u32) -> Finding
     ensures { result ≡ right_found fault rights.now right }
 {
     let table = table_at(rights, right as usize);
-    let count = count_in_table(front(rights, right as usize), table);
+    let count = count_in_table(prefix(rights, right as usize), table);
     found(fault, table, count as u64)
 }
 

@@ -4,16 +4,18 @@ ghost use Rattle.std.specs.List.{list_any};
 ghost use Rattle.std.specs.Option.{option_map_or};
 ghost use Rattle.toml.specs.Data.{get_member};
 ghost use Rattle.toml.specs.View.{view, table_view, items_view};
-ghost use Rattle.toml_tree.specs.Values.{whole_of};
+ghost use Rattle.toml_tree.specs.Values.{integer_of};
 ghost use Rattle.basin_tree.specs.Documents.{tree_of};
 ghost use Rattle.basin_file.specs.Spelled.{name_of, name_at, truth_at, inflow_of, lists_month, shut_of, carry_of};
 ghost use Rattle.basin_file.specs.Spelled.{is_series, number_at, point_in, date_of, first_of, node_of, link_of};
 ghost use Rattle.basin_file.specs.Spelled.{volume_of, right_of, diversion_of, instream_of, zone_of, return_of};
 
 use basin_tree::document::Document;
-use basin_tree::tables::{MOST_AMOUNT, MOST_STORED, Space};
+use basin_tree::tables::{MAX_AMOUNT, MAX_STORED, Space};
 use toml::{Table, Value};
-use toml_tree::values::{item_at, items_of, member, monthly_at, text_or_empty, whole_at, whole_of};
+use toml_tree::values::{
+    integer_at, integer_of, item_at, items_of, member, monthly_at, text_or_empty,
+};
 use water_model::types::{AreaPoint, Carry, Inflow, Link, Node, ReturnRow, Right, RightKind};
 use water_text::day::Day;
 use water_text::month::Month;
@@ -49,18 +51,18 @@ fn inflow_at(row: &Table) -> Inflow
     match member(row, "inflow") {
         Some(value) => match value.as_str() {
             Some(_) => Inflow::Gauged,
-            None => Inflow::Monthly(monthly_at(row, "inflow", MOST_AMOUNT)),
+            None => Inflow::Monthly(monthly_at(row, "inflow", MAX_AMOUNT)),
         },
-        None => Inflow::Monthly(monthly_at(row, "inflow", MOST_AMOUNT)),
+        None => Inflow::Monthly(monthly_at(row, "inflow", MAX_AMOUNT)),
     }
 }
 
 fn has_month(items: &[Value], month: u64) -> bool
-    ensures { result ≡ list_any (λ v. whole_of 1 12 0 (Some (view v)) == month) items.now }
+    ensures { result ≡ list_any (λ v. integer_of 1 12 0 (Some (view v)) == month) items.now }
 {
     items
         .iter()
-        .any(|item| whole_of(Some(item), 1, 12, 0) == month)
+        .any(|item| integer_of(Some(item), 1, 12, 0) == month)
 }
 
 /// Whether a list of calendar months has a month, from 1 for January.
@@ -100,7 +102,7 @@ fn carry_at(row: &Table) -> Carry
 {
     match member(row, "per_day") {
         Some(value) => Carry::Canal {
-            per_day: whole_of(Some(value), 0, MOST_AMOUNT, 0),
+            per_day: integer_of(Some(value), 0, MAX_AMOUNT, 0),
             shut: shut_at(row),
         },
         None => Carry::River,
@@ -122,8 +124,8 @@ pub fn point_in(pair: &[Value]) -> AreaPoint
     ensures { result ≡ point_in (items_view pair.now) }
 {
     AreaPoint {
-        storage: whole_of(item_at(pair, 0), 0, MOST_STORED, 0),
-        area: whole_of(item_at(pair, 1), 0, MOST_AMOUNT, 0),
+        storage: integer_of(item_at(pair, 0), 0, MAX_STORED, 0),
+        area: integer_of(item_at(pair, 1), 0, MAX_AMOUNT, 0),
     }
 }
 
@@ -180,7 +182,7 @@ fn volume_at(row: &Table) -> Option<u64>
     ensures { result ≡ volume_of (get_member (codes "volume") (table_view row.now)) }
 {
     match member(row, "volume") {
-        Some(value) => Some(whole_of(Some(value), 0, MOST_STORED, 0)),
+        Some(value) => Some(integer_of(Some(value), 0, MAX_STORED, 0)),
         None => None,
     }
 }
@@ -201,9 +203,9 @@ fn right_of(kind: RightKind, volume: Option<u64>, row: &Table) -> Right
     Right {
         name: name_at(row, "name"),
         date: date_of(text_or_empty(row, "date").as_bytes()),
-        order: whole_at(row, "order", 0, 1_000_000, 0) as u32,
+        order: integer_at(row, "order", 0, 1_000_000, 0) as u32,
         kind,
-        want: monthly_at(row, "want", MOST_AMOUNT),
+        want: monthly_at(row, "want", MAX_AMOUNT),
         volume,
         series: series_at(row),
     }
@@ -230,7 +232,7 @@ pub fn zone_of(document: &Document, row: &Table) -> Right
     ensures { result ≡ zone_of (tree_of document.now) (table_view row.now) }
 {
     let reservoir = number_at(document, Space::Reservoirs, row, "reservoir");
-    let level = whole_at(row, "level", 1, 16, 1) as u8;
+    let level = integer_at(row, "level", 1, 16, 1) as u8;
     right_of(RightKind::Zone { reservoir, level }, None, row)
 }
 
@@ -241,7 +243,7 @@ pub fn return_of(document: &Document, row: &Table) -> ReturnRow
     ReturnRow {
         right: number_at(document, Space::Diversions, row, "diversion"),
         node: number_at(document, Space::Nodes, row, "node"),
-        part: whole_at(row, "part", 1, 10_000, 1) as u32,
-        lag: whole_at(row, "lag", 1, 120, 1) as u32,
+        part: integer_at(row, "part", 1, 10_000, 1) as u32,
+        lag: integer_at(row, "lag", 1, 120, 1) as u32,
     }
 }

@@ -2,7 +2,7 @@
 use Rattle.std.proofs.Common.{◌≡◌, ℕ, zero, suc, ◌+◌, ◌-◌, ◌/◌, ◌%◌, false, refl, sym, ap, ◌∙◌, arith}
 use Rattle.std.specs.Prelude.{◌==◌, not, if◌then◌else◌}
 use Rattle.std.proofs.lemmas.Bool.Decides.{nat_tests}
-use Rattle.place_sums.specs.Sums.{total, count_where}
+use Rattle.finite_sums.specs.Sums.{total, count_where}
 use Rattle.basin_gen.specs.Generator.{draws_of_node, draws_of_nodes, draws_of_turns, count_of_diversions}
 use Rattle.basin_gen.specs.Generator.{turn_of_diversion}
 use Rattle.basin_gen.specs.Laws.{CountsAreOfPlaces}

@@ -89,13 +89,13 @@ pub pushed : {X : Type 0} → (f : ℕ → X) (n : ℕ) (old new : List X) (x : 
     new ≡ list_of (n + 1) f
 pushed f n old new x so_far here more = rw (list_of_more n f, ← here, ← so_far) more
 
--- behind other entries
-pub pushed_behind : {X : Type 0} → (f : ℕ → X) (n : ℕ) (front old new : List X) (x : X) → old ≡ front ++ list_of n f →
+-- after other entries
+pub pushed_after : {X : Type 0} → (f : ℕ → X) (n : ℕ) (prefix old new : List X) (x : X) → old ≡ prefix ++ list_of n f →
     x ≡ f n →
-    new ≡ old ++ x ∷ [] → new ≡ front ++ list_of (n + 1) f
-pushed_behind f n front old new x so_far here more =
-    more ∙ ap (λ l. l ++ x ∷ []) so_far ∙ append_assoc front (list_of n f) (x ∷ [])
-    ∙ ap (λ y. front ++ (list_of n f ++ y ∷ [])) here ∙ ap (λ l. front ++ l) (sym (list_of_more n f))
+    new ≡ old ++ x ∷ [] → new ≡ prefix ++ list_of (n + 1) f
+pushed_after f n prefix old new x so_far here more =
+    more ∙ ap (λ l. l ++ x ∷ []) so_far ∙ append_assoc prefix (list_of n f) (x ∷ [])
+    ∙ ap (λ y. prefix ++ (list_of n f ++ y ∷ [])) here ∙ ap (λ l. prefix ++ l) (sym (list_of_more n f))
 
-pub none_behind : {X : Type 0} → (f : ℕ → X) (front : List X) → front ≡ front ++ list_of 0 f
-none_behind f front = sym (ap (λ l. front ++ l) (list_of_none f) ∙ append-nil front)
+pub none_after : {X : Type 0} → (f : ℕ → X) (prefix : List X) → prefix ≡ prefix ++ list_of 0 f
+none_after f prefix = sym (ap (λ l. prefix ++ l) (list_of_none f) ∙ append-nil prefix)

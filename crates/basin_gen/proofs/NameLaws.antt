@@ -28,7 +28,7 @@ decimal_in_name n h = digits_in_name (decimal n) (sym (digits_by_list (decimal n
 -- few bytes that may stand in names
 name_of : (text : List ℕ) → 1 ≤ length text → length text ≤ 32 → list_all is_name_byte text ≡ true → is_name text ≡ true
 unfolding is_name
-name_of text some few each = tests (length text) (list_all is_name_byte text) some few each
+name_of text some bounded each = tests (length text) (list_all is_name_byte text) some bounded each
   where
     tests : (n : ℕ) (t : Bool) → 1 ≤ n → n ≤ 32 → t ≡ true → nat_le 1 n && (nat_le n 32 && t) ≡ true
     tests n t a b c = grind (arith, nat_tests)

@@ -13,7 +13,7 @@ use Rattle.water_model.specs.Valid.{IsMonthly, IsValidNode, IsValidLink, IsValid
 use Rattle.water_model.specs.declared.types.Basin.{Basin}
 use Rattle.water_model.specs.declared.types.Link.{Link}
 use Rattle.basin_gen.specs.Draws.{next, drawn, later, list_of}
-use Rattle.basin_gen.specs.Entries.{twelve_drawn, inflow_at, node_at, node_behind, river_at, canal_at, reservoir_at}
+use Rattle.basin_gen.specs.Entries.{twelve_drawn, inflow_at, node_at, node_after, river_at, canal_at, reservoir_at}
 use Rattle.basin_gen.specs.Generator.{count_of_canals, count_of_reservoirs}
 use Rattle.basin_gen.proofs.DrawLaws.{drawn_below}
 use Rattle.basin_gen.proofs.NameLaws.{numbered_is_name}
@@ -21,10 +21,10 @@ use Rattle.basin_gen.proofs.Places.{joined_left, entry_is, all_of, one_of, own_n
 use Rattle.basin_gen.proofs.Lists.{IsMade, States, joined_each, joined_pairs, link_made}
 
 -- a link leads to a later node
-pub node_behind_within : (size reach i x : ℕ) → i + 1 < size → 0 < reach → (i < node_behind size reach i x) ×
-    (node_behind size reach i x < size)
-unfolding node_behind
-node_behind_within size reach i x within some =
+pub node_after_within : (size reach i x : ℕ) → i + 1 < size → 0 < reach → (i < node_after size reach i x) ×
+    (node_after size reach i x < size)
+unfolding node_after
+node_after_within size reach i x within some =
     let some_further : 0 < min reach (size - 1 - i) = omega arith in
     let below = drawn_below x (min reach (size - 1 - i)) some_further in
     (omega arith, omega arith)
@@ -59,7 +59,7 @@ inflow_valid i x = by (i % 2 == 0)
     by false = same_for_months (10 ^ 9) 0 (omega arith)
 
 pub nodes_valid : (b : Basin) (size : ℕ) (s : States) → size ≤ 2000 → IsMade b size s → All IsValidNode b.nodes
-nodes_valid b size s few made =
+nodes_valid b size s bounded made =
     all_of IsValidNode b.nodes size (λ i. node_at size i (s.nodes i)) made.nodes
     (λ i l. record { name = numbered_is_name 110 i refl (omega arith); inflow = inflow_valid i (s.nodes i) })
 
@@ -77,20 +77,20 @@ links_lead_on b size s made =
     all_of (LeadsOn size) b.links (size - 1 + count_of_canals size) (link_made size s) made.links
     (joined_each (LeadsOn size) (size - 1) (count_of_canals size) (λ i. river_at size i (s.rivers i))
     (λ j. canal_at size (4 * j + 1) (s.canals j))
-    (λ i l. let to = node_behind_within size 3 i (s.rivers i) (omega arith) (omega arith) in
+    (λ i l. let to = node_after_within size 3 i (s.rivers i) (omega arith) (omega arith) in
     record { from = omega arith; forward = to.0; to = to.1 })
     (λ j l. let within = canal_within size j l in
-    let to = node_behind_within size 5 (4 * j + 1) (s.canals j) within (omega arith) in
+    let to = node_after_within size 5 (4 * j + 1) (s.canals j) within (omega arith) in
     record { from = within; forward = to.0; to = to.1 }))
 
 pub links_valid : (b : Basin) (size : ℕ) (s : States) → size ≤ 2000 → IsMade b size s →
     All (λ l. IsValidLink b l) b.links
-links_valid b size s few made =
+links_valid b size s bounded made =
     let len = made.nodes.count in
     all_of (λ l. IsValidLink b l) b.links (size - 1 + count_of_canals size) (link_made size s) made.links
     (joined_each (λ l. IsValidLink b l) (size - 1) (count_of_canals size) (λ i. river_at size i (s.rivers i))
     (λ j. canal_at size (4 * j + 1) (s.canals j))
-    (λ i l. let to = node_behind_within size 3 i (s.rivers i) (omega arith) (omega arith) in
+    (λ i l. let to = node_after_within size 3 i (s.rivers i) (omega arith) (omega arith) in
     record {
       name = numbered_is_name 114 i refl (omega arith);
       ends =
@@ -98,7 +98,7 @@ links_valid b size s few made =
       carry = tt;
     })
     (λ j l. let within = canal_within size j l in
-    let to = node_behind_within size 5 (4 * j + 1) (s.canals j) within (omega arith) in
+    let to = node_after_within size 5 (4 * j + 1) (s.canals j) within (omega arith) in
     let small = drawn_below (next (s.canals j)) 20 (omega arith) in
     record {
       name = numbered_is_name 99 (4 * j + 1) refl (omega arith);
@@ -132,7 +132,7 @@ pub inner : (b : Basin) (size : ℕ) (s : States) → IsMade b size s → (v : �
     is_outlet_in b.nodes v ≡ false
 inner b size s made v l = outlet_is b size s made v (omega arith) ∙ not_last v size l
 
--- a walk along links that lead on ends behind its start
+-- a walk along links that lead on ends after its start
 pub walk_on : (size : ℕ) (links : List Link) → All (LeadsOn size) links → (k from to : ℕ) →
     walks links k from to ≡ true → from < to
 unfolding walks
@@ -207,13 +207,13 @@ letter_number a c m n small little e =
 
 pub nodes_own : (b : Basin) (size : ℕ) (s : States) → size ≤ 2000 → IsMade b size s →
     (i j : ℕ) → i < j → j < length b.nodes → of_entry b.nodes i (λ n. n.name) [] ≢ of_entry b.nodes j (λ n. n.name) []
-nodes_own b size s few made =
+nodes_own b size s bounded made =
     own_names b.nodes size (λ i. node_at size i (s.nodes i)) made.nodes (λ n. n.name) []
     (λ i j before within e. let same = letter_number 110 110 i j (omega arith) (omega arith) e in omega arith)
 
 pub links_own : (b : Basin) (size : ℕ) (s : States) → size ≤ 2000 → IsMade b size s →
     (i j : ℕ) → i < j → j < length b.links → of_entry b.links i (λ l. l.name) [] ≢ of_entry b.links j (λ l. l.name) []
-links_own b size s few made =
+links_own b size s bounded made =
     own_names b.links (size - 1 + count_of_canals size) (link_made size s) made.links (λ l. l.name) []
     (joined_pairs (λ l m. l.name ≡ m.name → ⊥) (size - 1) (count_of_canals size) (λ i. river_at size i (s.rivers i))
     (λ j. canal_at size (4 * j + 1) (s.canals j))
@@ -245,7 +245,7 @@ reservoirs_valid b size s made =
       inner = inner b size s made (40 * j + 20) within;
       opening = omega arith;
       points = points;
-      few_points = omega arith;
+      bounded_points = omega arith;
       table = (refl, (omega arith, omega arith, tt));
       rate = same_for_months 10000 (drawn (next (s.reservoirs j)) 200) (omega arith);
     })

@@ -6,8 +6,8 @@ use Rattle.std.specs.List.{list_any}
 use Rattle.std.proofs.lemmas.Bool.{cases_lt}
 use Rattle.std.proofs.lemmas.Bool.Decides.{nat_tests}
 use Rattle.std.proofs.lemmas.Option.{slice_get_within, get_or_from_slice_get}
-use Rattle.place_sums.specs.Sums.{total}
-use Rattle.place_sums.proofs.Totals.{total_zero}
+use Rattle.finite_sums.specs.Sums.{total}
+use Rattle.finite_sums.proofs.Totals.{total_zero}
 use Rattle.water_model.specs.Lookups.{of_entry}
 use Rattle.basin_gen.specs.Draws.{list_of}
 
@@ -27,7 +27,7 @@ get_right [] ys i l = ap (slice_get ys) (omega arith)
 get_right (x ∷ xs) ys zero l = absurd (omega arith)
 get_right (x ∷ xs) ys (suc i) l = get_right xs ys i (omega arith) ∙ ap (slice_get ys) (omega arith)
 
--- one list behind another
+-- one list after another
 abbrev pub joined : {X : Type 0} → ℕ → (ℕ → X) → (ℕ → X) → ℕ → X
 joined n f g i = if nat_lt i n then f i else g (i - n)
 

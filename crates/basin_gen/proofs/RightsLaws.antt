@@ -9,8 +9,8 @@ use Rattle.std.specs.List.{list_any}
 use Rattle.std.proofs.lemmas.Bool.{cases_lt, cases_Bool, or_left}
 use Rattle.std.proofs.lemmas.Bool.Decides.{nat_tests}
 use Rattle.std.proofs.lemmas.Fmt.{decimal_injective}
-use Rattle.place_sums.specs.Sums.{total}
-use Rattle.place_sums.proofs.Totals.{total_same}
+use Rattle.finite_sums.specs.Sums.{total}
+use Rattle.finite_sums.proofs.Totals.{total_same}
 use Rattle.water_text.specs.Days.{is_date}
 use Rattle.water_text.specs.Months.{days_in}
 use Rattle.water_text.proofs.DayNumbers.{days_in-days_in_month}
@@ -77,7 +77,7 @@ OtherOrder r s = r.order ≡ s.order → ⊥
 pub orders_apart : (size : ℕ) (s : States) → size ≤ 2000 → (i j : ℕ) → i < j →
     j < diversion_count size + (instream_count size + zone_count size) →
     OtherOrder (right_made size s i) (right_made size s j)
-orders_apart size s few =
+orders_apart size s bounded =
     joined_pairs OtherOrder (diversion_count size) (instream_count size + zone_count size) (diversion_made size s)
     (other_made size s)
     (λ i j before within e. let same : i + i / 3 ≡ j + j / 3 = e in omega arith)
@@ -136,7 +136,7 @@ same_order r t r_named t_named e = elim r_named [
 
 right_named : (size : ℕ) (s : States) → size ≤ 2000 → (i : ℕ) →
     i < diversion_count size + (instream_count size + zone_count size) → IsNamed (right_made size s i)
-right_named size s few =
+right_named size s bounded =
     joined_each IsNamed (diversion_count size) (instream_count size + zone_count size) (diversion_made size s)
     (other_made size s)
     (λ i l. inl (100, omega arith, omega arith, refl))
@@ -147,20 +147,20 @@ right_named size s few =
 pub rights_own : (b : Basin) (size : ℕ) (s : States) → size ≤ 2000 → IsMade b size s →
     (i j : ℕ) → i < j → j < length b.rights →
     of_entry b.rights i (λ r. r.name) [] ≢ of_entry b.rights j (λ r. r.name) []
-rights_own b size s few made =
+rights_own b size s bounded made =
     own_names b.rights (diversion_count size + (instream_count size + zone_count size)) (right_made size s) made.rights
     (λ r. r.name) []
-    (λ i j before within e. orders_apart size s few i j before within
-    (same_order (right_made size s i) (right_made size s j) (right_named size s few i (omega arith))
-    (right_named size s few j within) e))
+    (λ i j before within e. orders_apart size s bounded i j before within
+    (same_order (right_made size s i) (right_made size s j) (right_named size s bounded i (omega arith))
+    (right_named size s bounded j within) e))
 
 -- no two rights have one priority
 pub priorities_apart : (b : Basin) (size : ℕ) (s : States) → size ≤ 2000 → IsMade b size s →
     (i j : ℕ) → i < j → j < length b.rights → priority_in b.rights i ≢ priority_in b.rights j
-priorities_apart b size s few made =
+priorities_apart b size s bounded made =
     own_names b.rights (diversion_count size + (instream_count size + zone_count size)) (right_made size s) made.rights
     priority []
-    (λ i j before within e. orders_apart size s few i j before within
+    (λ i j before within e. orders_apart size s bounded i j before within
     (last (right_made size s i) (right_made size s j) e))
   where
     last : (r t : Right) → priority r ≡ priority t → r.order ≡ t.order
@@ -235,10 +235,10 @@ no_such_zone : (size : ℕ) (s : States) (z k : ℕ) → k < diversion_count siz
     is_zone_kind (z / 2) (1 + z % 2) (right_made size s k).kind ≡ false
 no_such_zone size s z k l = elim (cases_lt k (diversion_count size)) [
   | inl first ↦ ap (λ r. is_zone_kind (z / 2) (1 + z % 2) r.kind) (first_right size s k first)
-  | inr behind ↦ elim (cases_lt (k - diversion_count size) (instream_count size)) [
-    | inl second ↦ ap (λ r. is_zone_kind (z / 2) (1 + z % 2) r.kind) (next_right size s k behind second)
+  | inr after ↦ elim (cases_lt (k - diversion_count size) (instream_count size)) [
+    | inl second ↦ ap (λ r. is_zone_kind (z / 2) (1 + z % 2) r.kind) (next_right size s k after second)
     | inr third ↦ (let y = zone_number size k in let is = is_zone y (s.zones y) in
-        ap (λ r. is_zone_kind (z / 2) (1 + z % 2) r.kind) (last_right size s k behind third)
+        ap (λ r. is_zone_kind (z / 2) (1 + z % 2) r.kind) (last_right size s k after third)
         ∙ ap (is_zone_kind (z / 2) (1 + z % 2)) is.kind ∙ other_zone y z (omega arith))
   ]
 ]
@@ -316,10 +316,10 @@ no_zone_fault b size s made i l =
     (fault_at b i) false i l
     ∙ elim (cases_lt i (diversion_count size)) [
       | inl first ↦ ap (fault_at b i) (first_right size s i first)
-      | inr behind ↦ elim (cases_lt (i - diversion_count size) (instream_count size)) [
-        | inl second ↦ ap (fault_at b i) (next_right size s i behind second)
+      | inr after ↦ elim (cases_lt (i - diversion_count size) (instream_count size)) [
+        | inl second ↦ ap (fault_at b i) (next_right size s i after second)
         | inr third ↦
-            ap (fault_at b i) (last_right size s i behind third)
+            ap (fault_at b i) (last_right size s i after third)
             ∙ zone_is_fine b size s made i (zone_number size i) (omega arith) (omega arith)
       ]
     ]
@@ -362,13 +362,13 @@ one_row b size s made right most amount small =
         differ : (n m : ℕ) → (n ≡ m → ⊥) → (n == m) ≡ false
         differ n m h = grind (arith, nat_tests)
 
-few_parts : (b : Basin) (size : ℕ) (s : States) → IsMade b size s → (right : ℕ) → parts_in b.returns right ≤ 10000
-few_parts b size s made right =
+bounded_parts : (b : Basin) (size : ℕ) (s : States) → IsMade b size s → (right : ℕ) → parts_in b.returns right ≤ 10000
+bounded_parts b size s made right =
     one_row b size s made right 10000 (λ row. row.part) (λ k. let below =
     drawn_below (next (s.returns k)) 8000 (omega arith) in omega arith)
 
-pub few_rows : (b : Basin) (size : ℕ) (s : States) → IsMade b size s → (right : ℕ) → rows_of b right ≤ 8
-few_rows b size s made right =
+pub bounded_rows : (b : Basin) (size : ℕ) (s : States) → IsMade b size s → (right : ℕ) → rows_of b right ≤ 8
+bounded_rows b size s made right =
     let one = one_row b size s made right 1 (λ row. 1) (λ k. omega arith) in
     let same : rows_of b right ≡ total (length b.returns)
     (λ k. of_entry b.returns k (λ row. if row.right == right then 1 else 0) 0) =
@@ -384,12 +384,12 @@ few_rows b size s made right =
     by_entry (Some row) = refl
 
 pub roll_sound : (b : Basin) (size : ℕ) (s : States) → size ≤ 2000 → IsMade b size s → IsSoundRoll b.rights b.returns
-roll_sound b size s few made =
+roll_sound b size s bounded made =
     let len = made.rights.count in record {
       dates = λ r l. entry_is b.rights (diversion_count size + (instream_count size + zone_count size))
           (right_made size s) made.rights has_bad_date false r (omega arith)
           ∙ right_dated size s r (omega arith);
-      strict = priorities_apart b size s few made;
+      strict = priorities_apart b size s bounded made;
       zones = λ r l. no_zone_fault b size s made r (omega arith);
-      parts = λ r l. few_parts b size s made r;
+      parts = λ r l. bounded_parts b size s made r;
     }

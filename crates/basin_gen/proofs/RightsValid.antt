@@ -28,29 +28,29 @@ ranked_less : (least rank : ℕ) (rights : List Right) → least ≤ rank → Ar
 ranked_less least rank [] h ranked = tt
 ranked_less least rank (r ∷ rights) h ranked = let low = ranked.0 in (omega arith, ranked.1)
 
-ranked_front : (least rank : ℕ) (front rights : List Right) → least ≤ rank → All (HasRank rank) front →
-    AreRanked rank rights → AreRanked least (front ++ rights)
-ranked_front least rank [] rights h all ranked = ranked_less least rank rights h ranked
-ranked_front least rank (r ∷ front) rights h all ranked =
+ranked_prefix : (least rank : ℕ) (prefix rights : List Right) → least ≤ rank → All (HasRank rank) prefix →
+    AreRanked rank rights → AreRanked least (prefix ++ rights)
+ranked_prefix least rank [] rights h all ranked = ranked_less least rank rights h ranked
+ranked_prefix least rank (r ∷ prefix) rights h all ranked =
     let here : rank_of_kind r.kind ≡ rank = all 0 r (omega arith) in (
       omega arith,
-      subst (λ n. AreRanked n (front ++ rights)) (sym here)
-          (ranked_front rank rank front rights (omega arith) (λ k d l. all (suc k) d (omega arith)) ranked),
+      subst (λ n. AreRanked n (prefix ++ rights)) (sym here)
+          (ranked_prefix rank rank prefix rights (omega arith) (λ k d l. all (suc k) d (omega arith)) ranked),
     )
 
 pub rights_ranked : (number size : ℕ) → AreRanked 0 (generated number size).rights
 unfolding generated diversions_of instreams_of zones_of
 rights_ranked number size =
     let x = before_rights number size in
-    ranked_front 0 0 _ _ (omega arith)
+    ranked_prefix 0 0 _ _ (omega arith)
     (all_of (HasRank 0) _ _ _
     (listed _ (λ d. diversion_at size (turn_of_diversion d) (later x (draws_of_turns (turn_of_diversion d)))))
     (λ i l. refl))
-    (ranked_front 0 1 _ _ (omega arith)
+    (ranked_prefix 0 1 _ _ (omega arith)
     (all_of (HasRank 1) _ _ _ (listed _ (λ j. instream_at size (4 * j + 3) (later x (draws_of_turns (4 * j + 3)))))
     (λ i l. refl))
     (subst (AreRanked 1) (append-nil (zones_of size (before_zones number size)))
-    (ranked_front 1 2 _ [] (omega arith) zones tt)))
+    (ranked_prefix 1 2 _ [] (omega arith) zones tt)))
   where
     zones : All (HasRank 2) (zones_of size (before_zones number size))
     zones = all_of (HasRank 2) _ _ _ (listed (zone_count size) (λ z. zone_at z (later (before_zones number size) z)))
@@ -58,7 +58,7 @@ rights_ranked number size =
 
 pub rights_valid : (b : Basin) (size : ℕ) (s : States) → 2 ≤ size → size ≤ 2000 → IsMade b size s →
     All (λ r. IsValidRight b r) b.rights
-rights_valid b size s some few made =
+rights_valid b size s some bounded made =
     let nodes = made.nodes.count in
     let links = made.links.count in
     let reservoirs = made.reservoirs.count in
@@ -105,7 +105,7 @@ rights_valid b size s some few made =
 
 pub returns_valid : (b : Basin) (size : ℕ) (s : States) → 2 ≤ size → size ≤ 2000 → IsMade b size s →
     All (λ row. IsValidReturn b row) b.returns
-returns_valid b size s some few made =
+returns_valid b size s some bounded made =
     let nodes = made.nodes.count in
     let rights = made.rights.count in
     all_of (λ row. IsValidReturn b row) b.returns (return_count size) (λ j. return_at size (3 * j) (s.returns j))

@@ -2,7 +2,7 @@
 use Rattle.std.proofs.Common.{◌≡◌, ℕ, zero, suc, ◌+◌, ◌<◌, ◌≤◌, refl, sym, ◌∙◌, arith, Bool, false, [], length}
 use Rattle.std.specs.Prelude.{filter}
 use Rattle.water_model.specs.Lookups.{of_entry}
-use Rattle.water_model.specs.Places.{numbers_from}
+use Rattle.water_model.specs.Indices.{numbers_from}
 use Rattle.water_model.specs.Valid.{IsValidBasin, IsSeriesOf, is_gauged, is_gauged_kind}
 use Rattle.basin_gen.specs.Entries.{node_at}
 use Rattle.basin_gen.specs.Generator.{generated}
@@ -12,12 +12,12 @@ use Rattle.basin_gen.proofs.NetworkLaws.{nodes_valid, links_valid, open_canals, 
 use Rattle.basin_gen.proofs.NetworkLaws.{reservoirs_own, network_sound}
 use Rattle.basin_gen.proofs.RightsLaws.{rights_own, roll_sound}
 use Rattle.basin_gen.proofs.RightsValid.{rights_valid, no_volumes, not_in_series, returns_valid}
-use Rattle.basin_gen.proofs.RightsLaws.{few_rows}
+use Rattle.basin_gen.proofs.RightsLaws.{bounded_rows}
 use Rattle.basin_gen.proofs.RightsValid.{rights_ranked, right_has_wants}
 
 pub generated_valid : (number size : ℕ) → 2 ≤ size → size ≤ 2000 → IsValidBasin (generated number size)
 unfolding generated
-generated_valid number size some few =
+generated_valid number size some bounded =
     let b = generated number size in
     let s = states_of number size in
     let made = generated_made number size in
@@ -40,29 +40,29 @@ generated_valid number size some few =
             (omega arith, omega arith);
         ends = omega arith;
       };
-      few = record {
+      bounded = record {
         some_node = omega arith;
         nodes = omega arith;
         links = omega arith;
         rights = omega arith;
         rows =
-            λ right l. few_rows b size s made right;
+            λ right l. bounded_rows b size s made right;
       };
-      nodes = nodes_valid b size s few made;
-      links = links_valid b size s few made;
+      nodes = nodes_valid b size s bounded made;
+      links = links_valid b size s bounded made;
       reservoirs = reservoirs_valid b size s made;
-      rights = rights_valid b size s some few made;
+      rights = rights_valid b size s some bounded made;
       ranked = rights_ranked number size;
-      returns = returns_valid b size s some few made;
+      returns = returns_valid b size s some bounded made;
       names = record {
-        nodes = nodes_own b size s few made;
-        links = links_own b size s few made;
+        nodes = nodes_own b size s bounded made;
+        links = links_own b size s bounded made;
         rights =
-            rights_own b size s few made;
+            rights_own b size s bounded made;
         reservoirs = reservoirs_own b size s made;
       };
       network = network_sound b size s made;
-      roll = roll_sound b size s few made;
+      roll = roll_sound b size s bounded made;
     }
 
 -- no place passes a test

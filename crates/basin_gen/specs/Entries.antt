@@ -26,17 +26,17 @@ abbrev pub node_at : ℕ → ℕ → ℕ → Node
 node_at size i x = record { name = 110 ∷ decimal i; outlet = i + 1 == size; inflow = Monthly (inflow_at i x) }
 
 -- a link leads to one of the next nodes, at most so many further
-unfoldable pub node_behind : ℕ → ℕ → ℕ → ℕ → ℕ
-node_behind size reach i x = i + 1 + drawn x (min reach (size - 1 - i))
+unfoldable pub node_after : ℕ → ℕ → ℕ → ℕ → ℕ
+node_after size reach i x = i + 1 + drawn x (min reach (size - 1 - i))
 
 abbrev pub river_at : ℕ → ℕ → ℕ → Link
-river_at size i x = record { name = 114 ∷ decimal i; from = i; to = node_behind size 3 i x; carry = River }
+river_at size i x = record { name = 114 ∷ decimal i; from = i; to = node_after size 3 i x; carry = River }
 
 abbrev pub canal_at : ℕ → ℕ → ℕ → Link
 canal_at size i x = record {
   name = 99 ∷ decimal i;
   from = i;
-  to = node_behind size 5 i x;
+  to = node_after size 5 i x;
   carry = Canal (drawn (next x) 20) (replicate 12 false);
 }
 

@@ -1,6 +1,6 @@
 -- How many entries and draws there are.
 use Rattle.std.specs.Prelude.{◌≡◌, ℕ, ◌-◌, ◌%◌, ◌≤◌, ◌==◌, false, not, if◌then◌else◌}
-use Rattle.place_sums.specs.Sums.{total, count_where}
+use Rattle.finite_sums.specs.Sums.{total, count_where}
 use Rattle.basin_gen.specs.Generator.{draws_of_node, draws_of_nodes, draws_of_turns, count_of_canals}
 use Rattle.basin_gen.specs.Generator.{count_of_reservoirs, count_of_diversions, count_of_instreams, count_of_returns}
 use Rattle.basin_gen.specs.Generator.{turn_of_diversion}

@@ -1,7 +1,7 @@
 //! Nodes and links.
 ghost use Rattle.std.specs.Prelude.{◌≡◌, ◌+◌, ◌-◌, ◌*◌, ◌<◌, ◌≤◌, ◌++◌, IfOk, OnOk};
 ghost use Rattle.basin_gen.specs.Draws.{next, later};
-ghost use Rattle.basin_gen.specs.Entries.{inflow_at, node_at, node_behind, river_at, canal_at};
+ghost use Rattle.basin_gen.specs.Entries.{inflow_at, node_at, node_after, river_at, canal_at};
 ghost use Rattle.basin_gen.specs.Generator.{nodes_of, rivers_of, canals_of, draws_of_node, draws_of_nodes};
 ghost use Rattle.basin_gen.specs.Generator.{count_of_canals};
 
@@ -13,7 +13,7 @@ use water_model::types::{Carry, Inflow, Link, Node};
 /// The inflows of node `i`: drawn month by month where `i` is even, and else 0.
 #[tactic(auto, using(crate::proofs::DrawLaws::later_none), unfolding(crate::specs::Entries::inflow_at))]
 fn inflow(i: u32, draws: &mut Draws) -> [u64; 12]
-    requires few { i ≤ 2000 }
+    requires bounded { i ≤ 2000 }
     ensures value { result ≡ inflow_at i draws.old.state }
     ensures after { draws.new.state ≡ later draws.old.state (draws_of_node i) }
 {
@@ -25,7 +25,7 @@ fn inflow(i: u32, draws: &mut Draws) -> [u64; 12]
 }
 
 fn node(size: u32, i: u32, draws: &mut Draws) -> Node
-    requires few { i < size }
+    requires bounded { i < size }
     requires size { size ≤ 2000 }
     ensures value { result ≡ node_at size i draws.old.state }
     ensures after { draws.new.state ≡ later draws.old.state (draws_of_node i) }
@@ -50,13 +50,13 @@ pub(crate) fn nodes(alloc: Global, size: u32, draws: &mut Draws) -> Result<Vec<N
     Ok(nodes)
 }
 
-/// A node behind node `i`, at most `reach` further.
-#[tactic(auto, unfolding(crate::specs::Entries::node_behind))]
-fn node_behind(size: u32, reach: u32, i: u32, draws: &mut Draws) -> u32
+/// A node after node `i`, at most `reach` further.
+#[tactic(auto, unfolding(crate::specs::Entries::node_after))]
+fn node_after(size: u32, reach: u32, i: u32, draws: &mut Draws) -> u32
     requires within { i + 1 < size }
     requires size { size ≤ 2000 }
     requires reach { 0 < reach }
-    ensures value { result ≡ node_behind size reach i draws.old.state }
+    ensures value { result ≡ node_after size reach i draws.old.state }
     ensures after { draws.new.state ≡ next draws.old.state }
 {
     let further = reach.min(size - 1 - i);
@@ -72,7 +72,7 @@ fn river(size: u32, i: u32, draws: &mut Draws) -> Link
     Link {
         name: numbered(b'r', i),
         from: i,
-        to: node_behind(size, 3, i, draws),
+        to: node_after(size, 3, i, draws),
         carry: Carry::River,
     }
 }
@@ -97,7 +97,7 @@ fn canal(size: u32, i: u32, draws: &mut Draws) -> Link
     ensures value { result ≡ canal_at size i draws.old.state }
     ensures after { draws.new.state ≡ next (next draws.old.state) }
 {
-    let to = node_behind(size, 5, i, draws);
+    let to = node_after(size, 5, i, draws);
     Link {
         name: numbered(b'c', i),
         from: i,

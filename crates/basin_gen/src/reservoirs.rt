@@ -56,7 +56,7 @@ pub(crate) fn reservoirs(
 }
 
 fn lower_zone(j: u32, draws: &mut Draws) -> Right
-    requires few { j ≤ 2000 }
+    requires bounded { j ≤ 2000 }
     ensures value { result ≡ lower_zone_at j draws.old.state }
     ensures after { draws.new.state ≡ next draws.old.state }
 {
@@ -74,7 +74,7 @@ fn lower_zone(j: u32, draws: &mut Draws) -> Right
 }
 
 fn upper_zone(j: u32, draws: &mut Draws) -> Right
-    requires few { j ≤ 2000 }
+    requires bounded { j ≤ 2000 }
     ensures value { result ≡ upper_zone_at j draws.old.state }
     ensures after { draws.new.state ≡ next draws.old.state }
 {

@@ -10,13 +10,13 @@ use Rattle.std.specs.Borrow.{Bor}
 use Rattle.std.specs.Str.{bytes_eq}
 use Rattle.std.specs.Option.{option_or}
 use Rattle.indexmap.specs.IndexMap.{IndexMap}
-use Rattle.first_places.specs.Places.{first_from, place_at}
-use Rattle.first_places.proofs.First.{first_is_position}
+use Rattle.first_index.specs.Indices.{first_from, index_at}
+use Rattle.first_index.proofs.First.{first_is_position}
 use Rattle.water_model.proofs.Balance.{entry_at}
 use Rattle.water_model.proofs.Lists.{all_at, numbers_more, once}
 use Rattle.water_model.proofs.Order.{find-passes, numbers_from-below}
 use Rattle.water_model.specs.Basin.{node_name, reservoir_name}
-use Rattle.water_model.specs.Places.{numbers_from}
+use Rattle.water_model.specs.Indices.{numbers_from}
 use Rattle.water_model.specs.Valid.{IsValidBasin, IsValidReservoir}
 use Rattle.water_model.specs.declared.types.Basin.{Basin}
 use Rattle.water_model.specs.declared.types.Reservoir.{Reservoir}
@@ -40,9 +40,9 @@ found-more p i before after h k =
     ∙ (numbers_more 0 i ∙ ap (λ n. numbers_from 0 i ++ n ∷ []) (omega arith))))))
 
 -- an empty map keeps no name
-pub kept-none : {S : Type 0} (places : IndexMap (Bor (List ℕ)) ℕ S) (q : List ℕ) → places.entries ≡ [] →
-    place_at places q ≡ None
-kept-none places q e = rw e refl
+pub kept-none : {S : Type 0} (indices : IndexMap (Bor (List ℕ)) ℕ S) (q : List ℕ) → indices.entries ≡ [] →
+    index_at indices q ≡ None
+kept-none indices q e = rw e refl
 
 -- What is found.
 
@@ -151,13 +151,13 @@ named-at b valid s at l =
 -- Entries in a list.
 
 -- a test of places is one of the entries there
-by_places : {X : Type 0} (p : X → Bool) (q : ℕ → Bool) (k : ℕ) (xs : List X) →
+by_indices : {X : Type 0} (p : X → Bool) (q : ℕ → Bool) (k : ℕ) (xs : List X) →
     ((i : ℕ) (x : X) → slice_get xs i ≡ Some x → q (k + i) ≡ p x) →
     find q (numbers_from k (length xs)) ≡ first_from p k xs
 unfolding numbers_from
-by_places p q k [] same = refl
-by_places {X} p q k (x ∷ xs) same =
-    rw (here, add-one) (ap (λ o. if p x then Some k else o) (by_places p q (suc k) xs later))
+by_indices p q k [] same = refl
+by_indices {X} p q k (x ∷ xs) same =
+    rw (here, add-one) (ap (λ o. if p x then Some k else o) (by_indices p q (suc k) xs later))
   where
     here : q k ≡ p x
     here = ap q (omega arith) ∙ same 0 x refl
@@ -169,7 +169,7 @@ by_places {X} p q k (x ∷ xs) same =
 pub rights-position : (b : Basin) (name : List ℕ) →
     named b space.Rights name ≡ position (λ r. bytes_eq name r.name) b.rights
 rights-position b name =
-    by_places (λ r. bytes_eq name r.name) (λ at. bytes_eq name (name_in space.Rights b at)) 0 b.rights
+    by_indices (λ r. bytes_eq name r.name) (λ at. bytes_eq name (name_in space.Rights b at)) 0 b.rights
     (λ i r at. ap (λ o. bytes_eq name (unwrap_or (option_map (λ (r : Right). r.name) o) []))
     (ap (λ k. slice_get b.rights k) (omega arith) ∙ at))
     ∙ first_is_position (λ r. bytes_eq name r.name) b.rights

@@ -2,7 +2,7 @@
 use Rattle.std.specs.Prelude.{ℕ, List, find, Option}
 use Rattle.std.specs.Str.{bytes_eq}
 use Rattle.water_model.specs.Entries.{count_in, name_in}
-use Rattle.water_model.specs.Places.{numbers_from}
+use Rattle.water_model.specs.Indices.{numbers_from}
 use Rattle.water_model.specs.declared.space.Space.{Space}
 use Rattle.water_model.specs.declared.space.Space.TheVariants.{Nodes, Rights}
 use Rattle.water_model.specs.declared.types.Basin.{Basin}

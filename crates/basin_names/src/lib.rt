@@ -6,9 +6,9 @@ ghost use Rattle.std.specs.Prelude.{◌≡◌, ◌<◌, IfOk, IfSome};
 ghost use Rattle.water_model.specs.Entries.{count_in};
 ghost use Rattle.water_model.specs.Valid.{IsValidBasin};
 ghost use Rattle.basin_names.specs.Named.{named};
-ghost use Rattle.basin_names.specs.Places.{KeepsNames};
+ghost use Rattle.basin_names.specs.Indices.{KeepsNames};
 
-use first_places::add_place;
+use first_index::add_index;
 use indexmap::IndexMap;
 use std::alloc::{AllocError, Global};
 use water_model::space::{Space, count_in, name_in};
@@ -19,8 +19,8 @@ use water_model::types::Basin;
 pub struct SpaceNames<'b> {
     pub basin: &'b Basin,
     pub space: Space,
-    places: IndexMap<&'b [u8], u32>,
-    ghost placed: { KeepsNames places basin.now space },
+    indices: IndexMap<&'b [u8], u32>,
+    ghost placed: { KeepsNames indices basin.now space },
 }
 
 impl<'b> SpaceNames<'b> {
@@ -30,14 +30,14 @@ impl<'b> SpaceNames<'b> {
         ensures basin { IfOk result (λ names. names.basin.now ≡ basin.now) }
         ensures space { IfOk result (λ names. names.space ≡ space) }
     {
-        let mut places = IndexMap::new(alloc);
+        let mut indices = IndexMap::new(alloc);
         for at in 0..count_in(space, basin) {
-            add_place(&mut places, name_in(space, basin, at).bytes(), at)?;
+            add_index(&mut indices, name_in(space, basin, at).bytes(), at)?;
         }
         Ok(SpaceNames {
             basin,
             space,
-            places,
+            indices,
         })
     }
 
@@ -46,6 +46,6 @@ impl<'b> SpaceNames<'b> {
         ensures value { result ≡ named self.now.basin.now self.now.space name.now }
         ensures within { IfSome result (λ at. at < count_in self.now.space self.now.basin.now) }
     {
-        self.places.get(&name).copied()
+        self.indices.get(&name).copied()
     }
 }

@@ -34,7 +34,7 @@ found_at f p g xs i d r h e same =
     rw (drop_more xs i d h) (find-some f p (g (get_or xs i d)) (flat_map g (drop (i + 1) xs)) r e) in
     sym here ∙ ap (option_map f) same
 
--- where none is found at a place, the first from there on is the first behind it
+-- where none is found at a place, the first from there on is the first after it
 pub none_at : {A X Y : Type 0} (f : X → Y) (p : X → Bool) (g : A → List X) (xs : List A) (i : ℕ) (d : A) →
     i < length xs → None ≡ option_map f (find p (g (get_or xs i d))) →
     find p (flat_map g (drop i xs)) ≡ find p (flat_map g xs) →

@@ -24,13 +24,13 @@ abbrev pub entry_at : BasinTable → ℕ → Data → List Entry
 entry_at table number d =
     option_map_or (λ row. record { table = table; number = number; row = row } ∷ []) (as_table d) []
 
--- the entries of a list behind n others
-abbrev pub entries_behind : BasinTable → ℕ → Items → List Entry
-entries_behind table n no_items = []
-entries_behind table n (item d ds) = entry_at table (n + 1) d ++ entries_behind table (n + 1) ds
+-- the entries of a list after n others
+abbrev pub entries_after : BasinTable → ℕ → Items → List Entry
+entries_after table n no_items = []
+entries_after table n (item d ds) = entry_at table (n + 1) d ++ entries_after table (n + 1) ds
 
 abbrev pub entries_in : Members → BasinTable → List Entry
-entries_in tree table = entries_behind table 0 (items_at tree table)
+entries_in tree table = entries_after table 0 (items_at tree table)
 
 -- all entries, table by table
 abbrev pub entries_of : Members → List Entry

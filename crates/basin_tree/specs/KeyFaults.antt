@@ -11,7 +11,7 @@ use Rattle.basin_tree.specs.declared.tables.Kind.{Kind}
 use Rattle.basin_tree.specs.Tables.{KeyRow, keys_of}
 use Rattle.basin_tree.specs.Kinds.{has_kind}
 use Rattle.toml_tree.specs.Items.{items_len}
-use Rattle.toml_tree.specs.Values.{whole_at}
+use Rattle.toml_tree.specs.Values.{integer_at}
 use Rattle.basin_tree.specs.Ranges.{in_range, ends_late}
 use Rattle.basin_tree.specs.Entries.{Entry}
 
@@ -21,7 +21,7 @@ names_in (member name d ms) = name ∷ names_in ms
 
 -- the format of a document: 2 where `format` is this number, and else 1
 abbrev pub format_of : Members → ℕ
-format_of tree = whole_at (codes "format") 1 2 1 tree
+format_of tree = integer_at (codes "format") 1 2 1 tree
 
 abbrev pub is_known : ℕ → List KeyRow → List ℕ → Bool
 is_known format keys name = list_any (λ key. nat_le key.since format && bytes_eq name key.name) keys

@@ -4,7 +4,7 @@ pub mod Kinds
 pub mod Ranges
 pub mod Entries
 pub mod KeyFaults
-pub mod Places
+pub mod Indices
 pub mod NameFaults
 pub mod Order
 pub mod Documents

@@ -12,11 +12,11 @@ use Rattle.basin_tree.specs.declared.tables.Space.TheVariants.{Nodes, Links, Res
 use Rattle.basin_tree.specs.declared.tables.Kind.{Kind}
 use Rattle.basin_tree.specs.declared.tables.Kind.TheVariants.{Name, Refers}
 use Rattle.toml_tree.specs.Items.{items_len}
-use Rattle.toml_tree.specs.Texts.{texts_behind, earlier_like}
+use Rattle.toml_tree.specs.Texts.{texts_after, earlier_like}
 use Rattle.toml_tree.specs.Values.{text_at}
 use Rattle.basin_tree.specs.Entries.{Entry, items_at}
 use Rattle.basin_tree.specs.KeyFaults.{any_value}
-use Rattle.basin_tree.specs.Places.{own_key, named_at}
+use Rattle.basin_tree.specs.Indices.{own_key, named_at}
 
 abbrev pub is_bad_name : Kind → Data → Bool
 is_bad_name Name d = option_map_or (λ text. not (is_name text)) (as_str d) false
@@ -47,7 +47,7 @@ is_past_limit Diversion tree e = nat_lt 2000 (rights_before tree Diversion + e.n
 is_past_limit Instream tree e = nat_lt 2000 (rights_before tree Instream + e.number)
 is_past_limit Zone tree e = nat_lt 2000 (rights_before tree Zone + e.number)
 is_past_limit Return tree e =
-    nat_le 8 (earlier_like (texts_behind (codes "diversion") (items_at tree Return)) (e.number - 1))
+    nat_le 8 (earlier_like (texts_after (codes "diversion") (items_at tree Return)) (e.number - 1))
 
 -- the entry is past the limit of its table, or, of a reservoir, has too many points
 abbrev pub too_many : Members → Entry → Bool
@@ -66,7 +66,7 @@ own_space Return = None
 
 -- an entry before this place of the space has the text as its name
 abbrev pub stands_before : Members → Space → ℕ → List ℕ → Bool
-stands_before tree space place text = option_map_or (λ at. nat_lt at place) (named_at tree space text) false
+stands_before tree space index text = option_map_or (λ at. nat_lt at index) (named_at tree space text) false
 
 abbrev pub repeats_name : Members → Entry → Space → Bool
 repeats_name tree e space =

@@ -5,9 +5,9 @@ use Rattle.basin_tree.specs.declared.tables.BasinTable.TheVariants.{Top, Node, L
 use Rattle.basin_tree.specs.declared.tables.BasinTable.TheVariants.{Zone, Return}
 use Rattle.basin_tree.specs.declared.tables.Key.{Key}
 use Rattle.basin_tree.specs.declared.tables.Kind.{Kind}
-use Rattle.basin_tree.specs.declared.tables.Kind.TheVariants.{Tables, Whole, Truth, Name, Refers, MonthText, DateText}
+use Rattle.basin_tree.specs.declared.tables.Kind.TheVariants.{Tables, Integer, Truth, Name, Refers, MonthText, DateText}
 use Rattle.basin_tree.specs.declared.tables.Kind.TheVariants.{Monthly, Want, CalendarMonths, Inflow, Points}
-use Rattle.basin_tree.specs.Ranges.{most_amount, most_stored}
+use Rattle.basin_tree.specs.Ranges.{max_amount, max_stored}
 use Rattle.basin_tree.specs.declared.tables.Space.TheVariants.{Nodes, Links, Reservoirs, Diversions}
 
 -- the word for a table. The entries of each but the top are listed at this key of the top table
@@ -21,7 +21,7 @@ table_name Instream = codes "instream"
 table_name Zone = codes "zone"
 table_name Return = codes "return"
 
--- the tables behind the top, in their order
+-- the tables after the top, in their order
 abbrev pub listed : List BasinTable
 listed = Node ∷ Link ∷ Reservoir ∷ Diversion ∷ Instream ∷ Zone ∷ Return ∷ []
 
@@ -46,32 +46,32 @@ optional name kind = record { name = name; is_required = false; kind = kind; sin
 abbrev pub second : List ℕ → Kind → KeyRow
 second name kind = record { name = name; is_required = false; kind = kind; since = 2 }
 
--- the keys of each table. `Whole` has the least and the greatest number, `Monthly` the greatest
+-- the keys of each table. `Integer` has the least and the greatest number, `Monthly` the greatest
 abbrev pub keys_of : BasinTable → List KeyRow
 keys_of Top =
-    required (codes "format") (Whole 1 2) ∷ required (codes "first_month") MonthText
-    ∷ required (codes "months") (Whole 1 1200) ∷ required (codes "node") Tables ∷ optional (codes "link") Tables
+    required (codes "format") (Integer 1 2) ∷ required (codes "first_month") MonthText
+    ∷ required (codes "months") (Integer 1 1200) ∷ required (codes "node") Tables ∷ optional (codes "link") Tables
     ∷ optional (codes "reservoir") Tables ∷ optional (codes "diversion") Tables ∷ optional (codes "instream") Tables
-    ∷ optional (codes "zone") Tables ∷ optional (codes "return") Tables ∷ second (codes "year_start") (Whole 1 12) ∷ []
+    ∷ optional (codes "zone") Tables ∷ optional (codes "return") Tables ∷ second (codes "year_start") (Integer 1 12) ∷ []
 keys_of Node =
     required (codes "name") Name ∷ optional (codes "outlet") Truth ∷ optional (codes "inflow") Inflow ∷ []
 keys_of Link =
     required (codes "name") Name ∷ required (codes "from") (Refers Nodes) ∷ required (codes "to") (Refers Nodes)
-    ∷ optional (codes "per_day") (Whole 0 most_amount) ∷ second (codes "closed") CalendarMonths ∷ []
+    ∷ optional (codes "per_day") (Integer 0 max_amount) ∷ second (codes "closed") CalendarMonths ∷ []
 keys_of Reservoir =
-    required (codes "node") (Refers Nodes) ∷ required (codes "opening") (Whole 0 most_stored)
+    required (codes "node") (Refers Nodes) ∷ required (codes "opening") (Integer 0 max_stored)
     ∷ optional (codes "area") Points ∷ optional (codes "rate") (Monthly 10000) ∷ []
 keys_of Diversion =
     required (codes "name") Name ∷ required (codes "node") (Refers Nodes) ∷ required (codes "date") DateText
-    ∷ required (codes "want") Want ∷ optional (codes "order") (Whole 0 1000000)
-    ∷ second (codes "volume") (Whole 0 most_stored) ∷ []
+    ∷ required (codes "want") Want ∷ optional (codes "order") (Integer 0 1000000)
+    ∷ second (codes "volume") (Integer 0 max_stored) ∷ []
 keys_of Instream =
     required (codes "name") Name ∷ required (codes "link") (Refers Links) ∷ required (codes "date") DateText
-    ∷ required (codes "want") Want ∷ optional (codes "order") (Whole 0 1000000) ∷ []
+    ∷ required (codes "want") Want ∷ optional (codes "order") (Integer 0 1000000) ∷ []
 keys_of Zone =
     required (codes "name") Name ∷ required (codes "reservoir") (Refers Reservoirs)
-    ∷ required (codes "level") (Whole 1 16) ∷ required (codes "date") DateText
-    ∷ required (codes "want") Want ∷ optional (codes "order") (Whole 0 1000000) ∷ []
+    ∷ required (codes "level") (Integer 1 16) ∷ required (codes "date") DateText
+    ∷ required (codes "want") Want ∷ optional (codes "order") (Integer 0 1000000) ∷ []
 keys_of Return =
     required (codes "diversion") (Refers Diversions) ∷ required (codes "node") (Refers Nodes)
-    ∷ required (codes "part") (Whole 1 10000) ∷ required (codes "lag") (Whole 1 120) ∷ []
+    ∷ required (codes "part") (Integer 1 10000) ∷ required (codes "lag") (Integer 1 120) ∷ []

@@ -1,12 +1,12 @@
 //! A document, and where the entries stand that its names name.
 ghost use Rattle.std.specs.Prelude.{◌≡◌, [], codes, IfOk};
 ghost use Rattle.toml.specs.View.{table_view, items_view};
-ghost use Rattle.first_places.specs.Places.{place_at};
-ghost use Rattle.toml_tree.specs.FirstPlaces.{KeepsPlaces, earlier_from};
-ghost use Rattle.toml_tree.specs.Texts.{texts_behind, earlier_like};
+ghost use Rattle.first_index.specs.Indices.{index_at};
+ghost use Rattle.toml_tree.specs.FirstIndices.{KeepsIndices, earlier_from};
+ghost use Rattle.toml_tree.specs.Texts.{texts_after, earlier_like};
 ghost use Rattle.basin_tree.specs.Entries.{items_at};
 ghost use Rattle.basin_tree.specs.KeyFaults.{format_of};
-ghost use Rattle.basin_tree.specs.Places.{own_key, texts_in, texts_of, named_at};
+ghost use Rattle.basin_tree.specs.Indices.{own_key, texts_in, texts_of, named_at};
 ghost use Rattle.basin_tree.specs.declared.tables.BasinTable.TheVariants.{Return};
 ghost use Rattle.basin_tree.specs.declared.tables.Space.TheVariants.{Nodes, Links, Reservoirs, Diversions, Rights};
 
@@ -14,8 +14,8 @@ use crate::tables::{BasinTable, Space};
 use indexmap::IndexMap;
 use std::alloc::{AllocError, Global};
 use toml::{Table, Value};
-use toml_tree::places::{add_places, earlier_of, places_of};
-use toml_tree::values::{items_of, member, whole_at};
+use toml_tree::indices::{add_indices, earlier_of, indices_of};
+use toml_tree::values::{integer_at, items_of, member};
 
 /// A document with, for each name of a space, the first place that has it, and for each return row the number of
 /// earlier rows of its diversion.
@@ -28,13 +28,13 @@ pub struct Document<'a> {
     diversions: IndexMap<&'a [u8], u64>,
     rights: IndexMap<&'a [u8], u64>,
     earlier: Vec<u64>,
-    ghost nodes_kept: { KeepsPlaces nodes (texts_of (table_view tree.now) Nodes) },
-    ghost links_kept: { KeepsPlaces links (texts_of (table_view tree.now) Links) },
-    ghost reservoirs_kept: { KeepsPlaces reservoirs (texts_of (table_view tree.now) Reservoirs) },
-    ghost diversions_kept: { KeepsPlaces diversions (texts_of (table_view tree.now) Diversions) },
-    ghost rights_kept: { KeepsPlaces rights (texts_of (table_view tree.now) Rights) },
+    ghost nodes_kept: { KeepsIndices nodes (texts_of (table_view tree.now) Nodes) },
+    ghost links_kept: { KeepsIndices links (texts_of (table_view tree.now) Links) },
+    ghost reservoirs_kept: { KeepsIndices reservoirs (texts_of (table_view tree.now) Reservoirs) },
+    ghost diversions_kept: { KeepsIndices diversions (texts_of (table_view tree.now) Diversions) },
+    ghost rights_kept: { KeepsIndices rights (texts_of (table_view tree.now) Rights) },
     ghost earlier_kept: { earlier.items
-        ≡ earlier_from [] (texts_behind (codes "diversion") (items_at (table_view tree.now) Return)) },
+        ≡ earlier_from [] (texts_after (codes "diversion") (items_at (table_view tree.now) Return)) },
 }
 
 /// What a table lists.
@@ -60,48 +60,48 @@ pub fn own_key(table: BasinTable) -> &'static str
     }
 }
 
-fn table_places<'a>(
+fn table_indices<'a>(
     alloc: Global,
     tree: &'a Table,
     table: BasinTable,
 ) -> Result<IndexMap<&'a [u8], u64>, AllocError>
-    ensures { IfOk result (λ places. KeepsPlaces places (texts_in (table_view tree.now) table)) }
+    ensures { IfOk result (λ indices. KeepsIndices indices (texts_in (table_view tree.now) table)) }
 {
-    places_of(alloc, listed_at(tree, table), own_key(table))
+    indices_of(alloc, listed_at(tree, table), own_key(table))
 }
 
-fn right_places<'a>(alloc: Global, tree: &'a Table) -> Result<IndexMap<&'a [u8], u64>, AllocError>
-    ensures { IfOk result (λ places. KeepsPlaces places (texts_of (table_view tree.now) Space.Rights)) }
+fn right_indices<'a>(alloc: Global, tree: &'a Table) -> Result<IndexMap<&'a [u8], u64>, AllocError>
+    ensures { IfOk result (λ indices. KeepsIndices indices (texts_of (table_view tree.now) Space.Rights)) }
 {
     let diversions = listed_at(tree, BasinTable::Diversion);
     let instreams = listed_at(tree, BasinTable::Instream);
     let zones = listed_at(tree, BasinTable::Zone);
-    let mut places = places_of(alloc, diversions, "name")?;
-    add_places(&mut places, instreams, "name", diversions.len() as u64)?;
-    add_places(
-        &mut places,
+    let mut indices = indices_of(alloc, diversions, "name")?;
+    add_indices(&mut indices, instreams, "name", diversions.len() as u64)?;
+    add_indices(
+        &mut indices,
         zones,
         "name",
         diversions.len() as u64 + instreams.len() as u64,
     )?;
-    Ok(places)
+    Ok(indices)
 }
 
 /// The places of nodes and of links.
-fn network_places<'a>(
+fn network_indices<'a>(
     alloc: Global,
     tree: &'a Table,
 ) -> Result<(IndexMap<&'a [u8], u64>, IndexMap<&'a [u8], u64>), AllocError>
-    ensures { IfOk result (λ places. KeepsPlaces places.0 (texts_in (table_view tree.now) BasinTable.Node)
-        × KeepsPlaces places.1 (texts_in (table_view tree.now) BasinTable.Link)) }
+    ensures { IfOk result (λ indices. KeepsIndices indices.0 (texts_in (table_view tree.now) BasinTable.Node)
+        × KeepsIndices indices.1 (texts_in (table_view tree.now) BasinTable.Link)) }
 {
-    let nodes = table_places(alloc, tree, BasinTable::Node)?;
-    let links = table_places(alloc, tree, BasinTable::Link)?;
+    let nodes = table_indices(alloc, tree, BasinTable::Node)?;
+    let links = table_indices(alloc, tree, BasinTable::Link)?;
     Ok((nodes, links))
 }
 
 /// The places of reservoirs, of diversions and of rights.
-fn use_places<'a>(
+fn use_indices<'a>(
     alloc: Global,
     tree: &'a Table,
 ) -> Result<
@@ -112,20 +112,20 @@ fn use_places<'a>(
     ),
     AllocError,
 >
-    ensures { IfOk result (λ places. KeepsPlaces places.0 (texts_in (table_view tree.now) BasinTable.Reservoir)
-        × KeepsPlaces places.1 (texts_in (table_view tree.now) BasinTable.Diversion)
-        × KeepsPlaces places.2 (texts_of (table_view tree.now) Space.Rights)) }
+    ensures { IfOk result (λ indices. KeepsIndices indices.0 (texts_in (table_view tree.now) BasinTable.Reservoir)
+        × KeepsIndices indices.1 (texts_in (table_view tree.now) BasinTable.Diversion)
+        × KeepsIndices indices.2 (texts_of (table_view tree.now) Space.Rights)) }
 {
-    let reservoirs = table_places(alloc, tree, BasinTable::Reservoir)?;
-    let diversions = table_places(alloc, tree, BasinTable::Diversion)?;
-    let rights = right_places(alloc, tree)?;
+    let reservoirs = table_indices(alloc, tree, BasinTable::Reservoir)?;
+    let diversions = table_indices(alloc, tree, BasinTable::Diversion)?;
+    let rights = right_indices(alloc, tree)?;
     Ok((reservoirs, diversions, rights))
 }
 
-fn place_of(places: &IndexMap<&[u8], u64>, name: &str) -> Option<u64>
-    ensures { result ≡ place_at places.now name.now }
+fn index_of(indices: &IndexMap<&[u8], u64>, name: &str) -> Option<u64>
+    ensures { result ≡ index_at indices.now name.now }
 {
-    places.get(&name.as_bytes()).copied()
+    indices.get(&name.as_bytes()).copied()
 }
 
 impl<'a> Document<'a> {
@@ -136,8 +136,8 @@ impl<'a> Document<'a> {
         ensures { IfOk result (λ document. tree_of document ≡ table_view tree.now) }
     {
         let earlier = earlier_of(alloc, listed_at(tree, BasinTable::Return), "diversion")?;
-        let network = network_places(alloc, tree)?;
-        let (reservoirs, diversions, rights) = use_places(alloc, tree)?;
+        let network = network_indices(alloc, tree)?;
+        let (reservoirs, diversions, rights) = use_indices(alloc, tree)?;
         let (nodes, links) = network;
         Ok(Document {
             tree,
@@ -154,7 +154,7 @@ impl<'a> Document<'a> {
     pub fn format(&self) -> u64
         ensures { result ≡ format_of (tree_of self.now) }
     {
-        whole_at(self.tree, "format", 1, 2, 1)
+        integer_at(self.tree, "format", 1, 2, 1)
     }
 
     /// What a table lists, in the order of the file.
@@ -169,19 +169,19 @@ impl<'a> Document<'a> {
         ensures { result ≡ named_at (tree_of self.now) space name.now }
     {
         match space {
-            Space::Nodes => place_of(&self.nodes, name),
-            Space::Links => place_of(&self.links, name),
-            Space::Reservoirs => place_of(&self.reservoirs, name),
-            Space::Diversions => place_of(&self.diversions, name),
-            Space::Rights => place_of(&self.rights, name),
+            Space::Nodes => index_of(&self.nodes, name),
+            Space::Links => index_of(&self.links, name),
+            Space::Reservoirs => index_of(&self.reservoirs, name),
+            Space::Diversions => index_of(&self.diversions, name),
+            Space::Rights => index_of(&self.rights, name),
         }
     }
 
     /// How many earlier return rows have the row's diversion, by the place of the row from 0.
-    pub fn earlier_rows(&self, place: u64) -> u64
+    pub fn earlier_rows(&self, index: u64) -> u64
         ensures { result
-            ≡ earlier_like (texts_behind (codes "diversion") (items_at (tree_of self.now) BasinTable.Return)) place }
+            ≡ earlier_like (texts_after (codes "diversion") (items_at (tree_of self.now) BasinTable.Return)) index }
     {
-        self.earlier.get(place as usize).copied().unwrap_or(0)
+        self.earlier.get(index as usize).copied().unwrap_or(0)
     }
 }

@@ -7,7 +7,8 @@ ghost use Rattle.toml.specs.Data.{as_array, as_table};
 ghost use Rattle.toml.specs.View.{view};
 ghost use Rattle.water_text.specs.Shapes.{has_shape};
 ghost use Rattle.toml_tree.specs.Items.{items_all};
-ghost use Rattle.basin_tree.specs.Kinds.{has_kind, is_whole, is_listed, is_monthly, is_text, is_want, is_whole_list};
+ghost use Rattle.basin_tree.specs.Kinds.{has_kind, is_integer_value, is_listed, is_monthly, is_text, is_want};
+ghost use Rattle.basin_tree.specs.Kinds.{is_integer_list};
 ghost use Rattle.basin_tree.specs.KeyFaults.{format_of, wrong_kind};
 
 use crate::document::Document;
@@ -38,38 +39,38 @@ impl EntryTest for WrongKind {
     }
 }
 
-fn is_whole(value: &Value) -> bool
-    ensures { result ≡ is_whole (view value.now) }
+fn is_integer_value(value: &Value) -> bool
+    ensures { result ≡ is_integer_value (view value.now) }
 {
     value.is_integer()
 }
 
-fn are_whole(values: &[Value]) -> bool
-    ensures { result ≡ list_all (λ v. is_whole (view v)) values.now }
+fn are_integer(values: &[Value]) -> bool
+    ensures { result ≡ list_all (λ v. is_integer_value (view v)) values.now }
 {
-    values.iter().all(|value| is_whole(value))
+    values.iter().all(|value| is_integer_value(value))
 }
 
-fn are_so_many_whole(values: &[Value], count: usize) -> bool
-    ensures { result ≡ (length values.now == count && list_all (λ v. is_whole (view v)) values.now) }
+fn are_so_many_integer(values: &[Value], count: usize) -> bool
+    ensures { result ≡ (length values.now == count && list_all (λ v. is_integer_value (view v)) values.now) }
 {
-    values.len() == count && are_whole(values)
+    values.len() == count && are_integer(values)
 }
 
-fn is_whole_list(value: &Value) -> bool
-    ensures { result ≡ is_whole_list (view value.now) }
+fn is_integer_list(value: &Value) -> bool
+    ensures { result ≡ is_integer_list (view value.now) }
 {
     match items_of(value) {
-        Some(values) => are_whole(values),
+        Some(values) => are_integer(values),
         None => false,
     }
 }
 
 fn is_list_of(value: &Value, count: usize) -> bool
-    ensures { result ≡ is_listed is_whole count (view value.now) }
+    ensures { result ≡ is_listed is_integer_value count (view value.now) }
 {
     match items_of(value) {
-        Some(values) => are_so_many_whole(values, count),
+        Some(values) => are_so_many_integer(values, count),
         None => false,
     }
 }
@@ -77,7 +78,7 @@ fn is_list_of(value: &Value, count: usize) -> bool
 fn is_monthly(value: &Value) -> bool
     ensures { result ≡ is_monthly (view value.now) }
 {
-    is_whole(value) || is_list_of(value, 12)
+    is_integer_value(value) || is_list_of(value, 12)
 }
 
 fn are_tables(values: &[Value]) -> bool
@@ -96,13 +97,13 @@ fn is_table_list(value: &Value) -> bool
 }
 
 fn are_pairs(values: &[Value]) -> bool
-    ensures { result ≡ list_all (λ v. is_listed is_whole 2 (view v)) values.now }
+    ensures { result ≡ list_all (λ v. is_listed is_integer_value 2 (view v)) values.now }
 {
     values.iter().all(|value| is_list_of(value, 2))
 }
 
 fn is_pair_list(value: &Value) -> bool
-    ensures { result ≡ option_map_or (items_all (is_listed is_whole 2)) (as_array (view value.now)) false }
+    ensures { result ≡ option_map_or (items_all (is_listed is_integer_value 2)) (as_array (view value.now)) false }
 {
     match items_of(value) {
         Some(values) => are_pairs(values),
@@ -157,7 +158,7 @@ fn has_kind(format: u64, kind: Kind, value: &Value) -> bool
 {
     match kind {
         Kind::Tables => is_table_list(value),
-        Kind::Whole(..) => is_whole(value),
+        Kind::Integer(..) => is_integer_value(value),
         Kind::Truth => value.is_bool(),
         Kind::Name => value.is_str(),
         Kind::Refers(_) => value.is_str(),
@@ -165,7 +166,7 @@ fn has_kind(format: u64, kind: Kind, value: &Value) -> bool
         Kind::DateText => is_date_text(value),
         Kind::Monthly(_) => is_monthly(value),
         Kind::Want => is_want(format, value),
-        Kind::CalendarMonths => is_whole_list(value),
+        Kind::CalendarMonths => is_integer_list(value),
         Kind::Inflow => is_monthly(value) || is_gauged(value),
         Kind::Points => is_pair_list(value),
     }

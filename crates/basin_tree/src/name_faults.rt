@@ -9,7 +9,7 @@ ghost use Rattle.basin_tree.specs.Documents.{tree_of};
 ghost use Rattle.basin_tree.specs.NameFaults.{is_bad_name, bad_name, own_space, stands_before, repeats_name, same_name};
 ghost use Rattle.basin_tree.specs.NameFaults.{names_none, no_such_name, is_outlet_at, stands_at_outlet};
 ghost use Rattle.basin_tree.specs.NameFaults.{outlet_reservoir};
-ghost use Rattle.basin_tree.specs.Places.{named_at, own_key};
+ghost use Rattle.basin_tree.specs.Indices.{named_at, own_key};
 
 use crate::counts::{is_below_sum, rights_before};
 use crate::document::{Document, own_key};

@@ -10,10 +10,10 @@ ghost use Rattle.basin_tree.specs.KeyFaults.{out_of_range, runs_late};
 
 use crate::document::Document;
 use crate::keys::{ValueTest, any_value};
-use crate::tables::{BasinTable, Kind, MOST_AMOUNT, MOST_STORED};
+use crate::tables::{BasinTable, Kind, MAX_AMOUNT, MAX_STORED};
 use crate::walk::EntryTest;
 use toml::{Table, Value};
-use toml_tree::values::{is_between, items_of, text_or_empty, whole_at};
+use toml_tree::values::{integer_at, is_between, items_of, text_or_empty};
 use water_text::month::Month;
 
 /// The test of `BasinFault::OutOfRange`.
@@ -40,7 +40,7 @@ fn ends_late(top: &Table) -> bool
 {
     match Month::read(text_or_empty(top, "first_month").as_bytes()) {
         Some(first) => {
-            let months = whole_at(top, "months", 1, 1_200, 1) as u32;
+            let months = integer_at(top, "months", 1, 1_200, 1) as u32;
             first.plus(months - 1).is_none()
         }
         None => false,
@@ -100,7 +100,7 @@ fn pair_in(values: &[Value]) -> bool
 {
     match values {
         [storage, area, ..] => {
-            number_in(storage, 0, MOST_STORED) && number_in(area, 0, MOST_AMOUNT)
+            number_in(storage, 0, MAX_STORED) && number_in(area, 0, MAX_AMOUNT)
         }
         _ => true,
     }
@@ -134,11 +134,11 @@ fn in_range(kind: Kind, value: &Value) -> bool
     ensures { result ≡ in_range kind (view value.now) }
 {
     match kind {
-        Kind::Whole(least, most) => number_in(value, least, most),
+        Kind::Integer(least, most) => number_in(value, least, most),
         Kind::Monthly(most) => numbers_in(value, most),
-        Kind::Want => numbers_in(value, MOST_AMOUNT),
+        Kind::Want => numbers_in(value, MAX_AMOUNT),
         Kind::CalendarMonths => items_in(value, 1, 12),
-        Kind::Inflow => numbers_in(value, MOST_AMOUNT),
+        Kind::Inflow => numbers_in(value, MAX_AMOUNT),
         Kind::MonthText => month_in(value),
         Kind::Points => points_in(value),
         _ => true,

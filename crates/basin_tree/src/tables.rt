@@ -3,10 +3,10 @@ ghost use Rattle.std.specs.Prelude.{◌≡◌, ◌≤◌, length, map};
 ghost use Rattle.basin_tree.specs.Tables.{row_of, keys_of, table_name};
 
 /// The greatest inflow, want, capacity of a day, and area of a file.
-pub const MOST_AMOUNT: u64 = 1_000_000_000;
+pub const MAX_AMOUNT: u64 = 1_000_000_000;
 
 /// The greatest storage and volume of a file.
-pub const MOST_STORED: u64 = 16_000_000_000;
+pub const MAX_STORED: u64 = 16_000_000_000;
 
 /// The tables of a basin file, in their order. The top table lists the entries of the others.
 #[derive(Clone, Copy, Debug, PartialEq, Eq)]
@@ -38,7 +38,7 @@ pub enum Kind {
     /// A list of tables.
     Tables,
     /// A whole number, from the least to the greatest.
-    Whole(u64, u64),
+    Integer(u64, u64),
     /// True or false.
     Truth,
     /// A text that is a name.
@@ -109,9 +109,9 @@ pub fn keys(table: BasinTable) -> &'static [Key]
 {
     match table {
         BasinTable::Top => &[
-            required!("format", Kind::Whole(1, 2)),
+            required!("format", Kind::Integer(1, 2)),
             required!("first_month", Kind::MonthText),
-            required!("months", Kind::Whole(1, 1_200)),
+            required!("months", Kind::Integer(1, 1_200)),
             required!("node", Kind::Tables),
             optional!("link", Kind::Tables),
             optional!("reservoir", Kind::Tables),
@@ -119,7 +119,7 @@ pub fn keys(table: BasinTable) -> &'static [Key]
             optional!("instream", Kind::Tables),
             optional!("zone", Kind::Tables),
             optional!("return", Kind::Tables),
-            second!("year_start", Kind::Whole(1, 12)),
+            second!("year_start", Kind::Integer(1, 12)),
         ],
         BasinTable::Node => &[
             required!("name", Kind::Name),
@@ -130,12 +130,12 @@ pub fn keys(table: BasinTable) -> &'static [Key]
             required!("name", Kind::Name),
             required!("from", Kind::Refers(Space::Nodes)),
             required!("to", Kind::Refers(Space::Nodes)),
-            optional!("per_day", Kind::Whole(0, MOST_AMOUNT)),
+            optional!("per_day", Kind::Integer(0, MAX_AMOUNT)),
             second!("closed", Kind::CalendarMonths),
         ],
         BasinTable::Reservoir => &[
             required!("node", Kind::Refers(Space::Nodes)),
-            required!("opening", Kind::Whole(0, MOST_STORED)),
+            required!("opening", Kind::Integer(0, MAX_STORED)),
             optional!("area", Kind::Points),
             optional!("rate", Kind::Monthly(10_000)),
         ],
@@ -144,29 +144,29 @@ pub fn keys(table: BasinTable) -> &'static [Key]
             required!("node", Kind::Refers(Space::Nodes)),
             required!("date", Kind::DateText),
             required!("want", Kind::Want),
-            optional!("order", Kind::Whole(0, 1_000_000)),
-            second!("volume", Kind::Whole(0, MOST_STORED)),
+            optional!("order", Kind::Integer(0, 1_000_000)),
+            second!("volume", Kind::Integer(0, MAX_STORED)),
         ],
         BasinTable::Instream => &[
             required!("name", Kind::Name),
             required!("link", Kind::Refers(Space::Links)),
             required!("date", Kind::DateText),
             required!("want", Kind::Want),
-            optional!("order", Kind::Whole(0, 1_000_000)),
+            optional!("order", Kind::Integer(0, 1_000_000)),
         ],
         BasinTable::Zone => &[
             required!("name", Kind::Name),
             required!("reservoir", Kind::Refers(Space::Reservoirs)),
-            required!("level", Kind::Whole(1, 16)),
+            required!("level", Kind::Integer(1, 16)),
             required!("date", Kind::DateText),
             required!("want", Kind::Want),
-            optional!("order", Kind::Whole(0, 1_000_000)),
+            optional!("order", Kind::Integer(0, 1_000_000)),
         ],
         BasinTable::Return => &[
             required!("diversion", Kind::Refers(Space::Diversions)),
             required!("node", Kind::Refers(Space::Nodes)),
-            required!("part", Kind::Whole(1, 10_000)),
-            required!("lag", Kind::Whole(1, 120)),
+            required!("part", Kind::Integer(1, 10_000)),
+            required!("lag", Kind::Integer(1, 120)),
         ],
     }
 }

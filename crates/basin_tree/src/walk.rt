@@ -4,7 +4,7 @@ ghost use Rattle.std.specs.List.{find, flat_map};
 ghost use Rattle.toml.specs.Data.{Members};
 ghost use Rattle.toml.specs.View.{table_view, items_view};
 ghost use Rattle.basin_tree.specs.Documents.{tree_of};
-ghost use Rattle.basin_tree.specs.Entries.{Entry, entries_behind, entries_in, found, found_at};
+ghost use Rattle.basin_tree.specs.Entries.{Entry, entries_after, entries_in, found, found_at};
 ghost use Rattle.basin_tree.specs.Order.{found_by};
 
 use crate::document::Document;
@@ -58,7 +58,7 @@ fn first_in_rows<T: EntryTest>(
     rows: &[Value],
 ) -> Option<Finding>
     ensures { result ≡ option_map (found_at fault)
-        (find (T.fails (tree_of document.now)) (entries_behind table 0 (items_view rows.now))) }
+        (find (T.fails (tree_of document.now)) (entries_after table 0 (items_view rows.now))) }
 {
     for (i, value) in rows.iter().enumerate() {
         if let Some(row) = value.as_table() {

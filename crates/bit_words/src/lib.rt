@@ -7,7 +7,7 @@ ghost use Rattle.std.specs.Prelude.{◌≡◌, ◌≢◌, ℕ, ◌+◌, ◌*◌,
 ghost use Rattle.std.specs.Int.{bit_at};
 ghost use Rattle.bit_words.specs.Marks.{words_for, is_marked, in_both, IsNextInBoth, IsLowestFrom};
 
-/// How many words hold the marks of so many places.
+/// How many words hold the marks of a given number of places.
 pub fn words_for(places: u32) -> usize
     ensures { result ≡ words_for places }
 {

@@ -12,7 +12,7 @@ use Rattle.water_model.specs.Valid.{IsValidBasin, IsSeriesOf}
 use Rattle.water_model.specs.declared.types.Basin.{Basin}
 use Rattle.water_model.specs.declared.types.Inflows.{Inflows}
 use Rattle.water_model.specs.declared.types.MonthRecord.{MonthRecord}
-use Rattle.water_model.proofs.Lists.{front_partial}
+use Rattle.water_model.proofs.Lists.{prefix_partial}
 use Rattle.water_model.proofs.Order.{flat_same}
 use Rattle.water_model.proofs.Outcome.{one_outcome}
 use Rattle.plan_residual.specs.Core.{IsCore}
@@ -132,7 +132,7 @@ module _ (b : Basin) (series : Inflows) (m n : MonthRecord) (one : IsMonthIn b s
       (helped_there k (slice_index_or f.helped k None) (is.helped.each k (omega (arith, l, is.helped.count))))
       (are.helped.each k (omega (arith, l, is.helped.count)))))
 
--- the last of a front
+-- the last of a prefix
 last_taken : {X : Type 0} (xs : List X) (i : ℕ) (x : X) → slice_get xs i ≡ Some x →
     slice_get (take (suc i) xs) i ≡ Some x
 last_taken [] i x h = cc
@@ -145,7 +145,7 @@ found_is_determined b series records others i m n f g valid fits partial partial
     (record { valid = valid; fits = fits; records = records; place = i; partial = partial; at = at })
     (record { valid = valid; fits = fits; records = others; place = i; partial = partial'; at = at' })
     (one_outcome b series (take (suc i) records) (take (suc i) others) valid
-    (front_partial b series records (suc i) partial) (front_partial b series others (suc i) partial')
+    (prefix_partial b series records (suc i) partial) (prefix_partial b series others (suc i) partial')
     (omega (
       arith,
       length-take (suc i) records,

@@ -6,7 +6,7 @@ use Rattle.std.specs.Prelude.{slice_index}
 use Rattle.cut_cert.specs.Sets.{HasCut, cut_at}
 use Rattle.cut_book.proofs.Adding.{tight_books_sum_to_delivery}
 use Rattle.water_model.specs.History.{FitsBasin, HasReaches, IsShort}
-use Rattle.water_model.specs.Places.{places_of}
+use Rattle.water_model.specs.Indices.{indices_of}
 use Rattle.water_model.specs.declared.types.Basin.{Basin}
 use Rattle.water_model.specs.declared.types.MonthRecord.{MonthRecord}
 use Rattle.plan_residual.specs.Core.{IsCore}
@@ -55,10 +55,10 @@ helping_text b m r core given reaches l short is_core = record {
 -- the pieces of its lines: the first, the nodes and the links
 pub place_pieces : (b : Basin) (m : MonthRecord) (r : ℕ) (reach core : List Bool) →
     whole_line b (line.Where m.month r (slice_index m.delivered r) (slice_index m.want r))
-    ++ (flat_map (whole_line b) (flat_map (node_lines core) (places_of b.nodes))
-    ++ flat_map (whole_line b) (flat_map (link_lines b reach core) (places_of b.links)))
+    ++ (flat_map (whole_line b) (flat_map (node_lines core) (indices_of b.nodes))
+    ++ flat_map (whole_line b) (flat_map (link_lines b reach core) (indices_of b.links)))
     ≡ flat_map (whole_line b) (helping_lines b m r reach core)
 place_pieces b m r reach core =
     ap (λ bytes. whole_line b (line.Where m.month r (slice_index m.delivered r) (slice_index m.want r)) ++ bytes)
-    (sym (flat_map-append (whole_line b) (flat_map (node_lines core) (places_of b.nodes))
-    (flat_map (link_lines b reach core) (places_of b.links))))
+    (sym (flat_map-append (whole_line b) (flat_map (node_lines core) (indices_of b.nodes))
+    (flat_map (link_lines b reach core) (indices_of b.links))))

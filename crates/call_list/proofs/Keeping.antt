@@ -12,13 +12,13 @@ use Rattle.water_model.specs.declared.types.MonthRecord.{MonthRecord}
 use Rattle.water_model.proofs.SetEntries.{emptied, set_of_with}
 use Rattle.plan_residual.proofs.Queues.{nowhere}
 use Rattle.plan_residual.specs.Core.{IsCore}
-use Rattle.call_list.specs.Helpers.{HoldsCore, HoldsFront, HoldsSet}
+use Rattle.call_list.specs.Helpers.{HoldsCore, HoldsPrefix, HoldsSet}
 
 -- before the first node
-pub front_none : (c : CutSets) (r : ℕ) (set : List Bool) → length set ≡ c.nodes →
-    set_of c r ≡ Some (replicate c.nodes false) → HoldsFront c c r set 0
-front_none c r set sized is = record {
-  front = replicate c.nodes false;
+pub prefix_none : (c : CutSets) (r : ℕ) (set : List Bool) → length set ≡ c.nodes →
+    set_of c r ≡ Some (replicate c.nodes false) → HoldsPrefix c c r set 0
+prefix_none c r set sized is = record {
+  prefix = replicate c.nodes false;
   holds = record { rights = refl; nodes = refl; is = is };
   sized = length-replicate c.nodes false ∙ sym sized;
   told = λ n l. absurd (omega arith);
@@ -26,53 +26,53 @@ front_none c r set sized is = record {
 }
 
 -- one node more that the set doesn't have
-pub front_skip : (before now : CutSets) (r : ℕ) (set : List Bool) (k : ℕ) → has set k ≡ false →
-    HoldsFront before now r set k → HoldsFront before now r set (k + 1)
-front_skip before now r set k none so = record {
-  front = so.front;
+pub prefix_skip : (before now : CutSets) (r : ℕ) (set : List Bool) (k : ℕ) → has set k ≡ false →
+    HoldsPrefix before now r set k → HoldsPrefix before now r set (k + 1)
+prefix_skip before now r set k none so = record {
+  prefix = so.prefix;
   holds = so.holds;
   sized = so.sized;
   told = λ n l. elim (cases_eq n k) [
-    | inl same ↦ ap (has so.front) same ∙ (so.rest k (omega arith) ∙ (sym none ∙ ap (has set) (sym same)))
+    | inl same ↦ ap (has so.prefix) same ∙ (so.rest k (omega arith) ∙ (sym none ∙ ap (has set) (sym same)))
     | inr other ↦ so.told n (omega arith)
   ];
   rest = λ n l. so.rest n (omega arith);
 }
 
 -- and one that it has
-pub front_more : (before now next : CutSets) (r : ℕ) (set : List Bool) (k : ℕ) → r < length before.sets →
-    k < length set → has set k ≡ true → HoldsFront before now r set k →
+pub prefix_more : (before now next : CutSets) (r : ℕ) (set : List Bool) (k : ℕ) → r < length before.sets →
+    k < length set → has set k ≡ true → HoldsPrefix before now r set k →
     IfSome (set_of now r) (λ old. next ≡ with_set now r (Some (slice_set old k true))) →
-    HoldsFront before next r set (k + 1)
-front_more before now next r set k l below on so added = record {
-  front = slice_set so.front k true;
+    HoldsPrefix before next r set (k + 1)
+prefix_more before now next r set k l below on so added = record {
+  prefix = slice_set so.prefix k true;
   holds = record {
-    rights = rw done (length-set now.sets r (Some (slice_set so.front k true)) ∙ so.holds.rights);
+    rights = rw done (length-set now.sets r (Some (slice_set so.prefix k true)) ∙ so.holds.rights);
     nodes = rw done so.holds.nodes;
-    is = rw done (set_of_with now r (Some (slice_set so.front k true)) (omega (arith, so.holds.rights)));
+    is = rw done (set_of_with now r (Some (slice_set so.prefix k true)) (omega (arith, so.holds.rights)));
   };
-  sized = length-set so.front k true ∙ so.sized;
+  sized = length-set so.prefix k true ∙ so.sized;
   told = λ n m. elim (cases_eq n k) [
     | inl same ↦
-        ap (has (slice_set so.front k true)) same
-        ∙ (get_or-set_same so.front k true false (omega (arith, so.sized)) ∙ (sym on ∙ ap (has set) (sym same)))
-    | inr other ↦ get_or-set_other so.front k n true false other ∙ so.told n (omega arith)
+        ap (has (slice_set so.prefix k true)) same
+        ∙ (get_or-set_same so.prefix k true false (omega (arith, so.sized)) ∙ (sym on ∙ ap (has set) (sym same)))
+    | inr other ↦ get_or-set_other so.prefix k n true false other ∙ so.told n (omega arith)
   ];
   rest = λ n m.
-      get_or-set_other so.front k n true false (λ same. absurd (omega arith)) ∙ so.rest n (omega arith);
+      get_or-set_other so.prefix k n true false (λ same. absurd (omega arith)) ∙ so.rest n (omega arith);
 }
   where
-    done : next ≡ with_set now r (Some (slice_set so.front k true))
+    done : next ≡ with_set now r (Some (slice_set so.prefix k true))
     done = subst (λ (o : Option (List Bool)). IfSome o (λ old. next ≡ with_set now r (Some (slice_set old k true))))
         so.holds.is added
 
 -- all nodes
-pub front_whole : (before now : CutSets) (r : ℕ) (set : List Bool) (k : ℕ) → length set ≤ k →
-    HoldsFront before now r set k → HoldsSet before now r set
-front_whole before now r set k all so = subst (λ (xs : List Bool). HoldsSet before now r xs) same so.holds
+pub prefix_whole : (before now : CutSets) (r : ℕ) (set : List Bool) (k : ℕ) → length set ≤ k →
+    HoldsPrefix before now r set k → HoldsSet before now r set
+prefix_whole before now r set k all so = subst (λ (xs : List Bool). HoldsSet before now r xs) same so.holds
   where
-    same : so.front ≡ set
-    same = ext_get_or false so.front set so.sized (λ i l. so.told i (omega (arith, so.sized)))
+    same : so.prefix ≡ set
+    same = ext_get_or false so.prefix set so.sized (λ i l. so.told i (omega (arith, so.sized)))
 
 -- there are as many rights where all sets were given up
 pub cleared_size : (c d : CutSets) → d ≡ without_sets c → length d.sets ≡ length c.sets

@@ -6,7 +6,7 @@ use Rattle.water_model.specs.declared.types.Basin.{Basin}
 use Rattle.water_model.specs.declared.types.Inflows.{Inflows}
 use Rattle.water_model.specs.declared.types.MonthRecord.{MonthRecord}
 use Rattle.water_model.proofs.Histories.{last_follows}
-use Rattle.water_model.proofs.Lists.{get_behind}
+use Rattle.water_model.proofs.Lists.{get_after}
 use Rattle.plan_residual.specs.Residual.{HasPlan}
 use Rattle.next_unit.specs.Helped.{HasRoomForAll}
 use Rattle.next_unit.proofs.InHistories.{IsMonthOf, month_of, has_plan, has_room_down}
@@ -26,7 +26,7 @@ pub last_can_be_found : (b : Basin) (series : Inflows) (before : List MonthRecor
     HaveReaches b (before ++ m ∷ []) → CanBeFound b m
 last_can_be_found b series before m valid fits partial reaches = record {
   plan = has_plan b series (before ++ m ∷ []) (length before) m valid month;
-  reaches = reaches (length before) m (get_behind before [] m);
+  reaches = reaches (length before) m (get_after before [] m);
   room = record {
     each = λ r l short.
         has_room_down b series (before ++ m ∷ []) (length before) m r valid fits month l short;
@@ -36,4 +36,4 @@ last_can_be_found b series before m valid fits partial reaches = record {
 }
   where
     month : IsMonthOf b series (before ++ m ∷ []) (length before) m
-    month = month_of b series (before ++ m ∷ []) (length before) m partial (get_behind before [] m)
+    month = month_of b series (before ++ m ∷ []) (length before) m partial (get_after before [] m)

@@ -31,9 +31,9 @@ pub record HoldsSet (before now : CutSets) (right : ℕ) (set : List Bool) : Typ
   pub is : set_of now right ≡ Some set
 
 -- the set of a right has its first nodes as this set has them, and no other yet
-pub record HoldsFront (before now : CutSets) (right : ℕ) (set : List Bool) (done : ℕ) : Type 0 where
-  pub front : List Bool
-  pub holds : HoldsSet before now right front
-  pub sized : length front ≡ length set
-  pub told : (n : ℕ) → n < done → has front n ≡ has set n
-  pub rest : (n : ℕ) → done ≤ n → has front n ≡ false
+pub record HoldsPrefix (before now : CutSets) (right : ℕ) (set : List Bool) (done : ℕ) : Type 0 where
+  pub prefix : List Bool
+  pub holds : HoldsSet before now right prefix
+  pub sized : length prefix ≡ length set
+  pub told : (n : ℕ) → n < done → has prefix n ≡ has set n
+  pub rest : (n : ℕ) → done ≤ n → has prefix n ≡ false

@@ -5,7 +5,7 @@ use Rattle.std.specs.List.{flat_map}
 use Rattle.water_model.specs.Basin.{head_of, tail_of}
 use Rattle.water_model.specs.Cuts.{IsReach}
 use Rattle.water_model.specs.Lookups.{has}
-use Rattle.water_model.specs.Places.{places_of}
+use Rattle.water_model.specs.Indices.{indices_of}
 use Rattle.water_model.specs.declared.types.Basin.{Basin}
 use Rattle.water_model.specs.declared.types.MonthRecord.{MonthRecord}
 use Rattle.plan_residual.specs.Core.{IsCore}
@@ -29,7 +29,7 @@ link_lines b reach core link =
 abbrev pub helping_lines : Basin → MonthRecord → ℕ → List Bool → List Bool → List Entry
 helping_lines b m right reach core =
     line.Where m.month right (slice_index m.delivered right) (slice_index m.want right)
-    ∷ (flat_map (node_lines core) (places_of b.nodes) ++ flat_map (link_lines b reach core) (places_of b.links))
+    ∷ (flat_map (node_lines core) (indices_of b.nodes) ++ flat_map (link_lines b reach core) (indices_of b.links))
 
 -- with the account of the core
 abbrev pub helping_bytes : Basin → MonthRecord → ℕ → List Bool → List Bool → List ℕ

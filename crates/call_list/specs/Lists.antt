@@ -2,7 +2,7 @@
 use Rattle.std.specs.Prelude.{ℕ, List, [], ◌∷◌, ◌++◌, length, if◌then◌else◌, nat_lt, slice_index, slice_index_or}
 use Rattle.std.specs.Prelude.{Option, Some, None}
 use Rattle.std.specs.List.{flat_map}
-use Rattle.water_model.specs.Places.{places_of, seniors_first}
+use Rattle.water_model.specs.Indices.{indices_of, seniors_first}
 use Rattle.water_model.specs.declared.types.Basin.{Basin}
 use Rattle.water_model.specs.declared.types.MonthRecord.{MonthRecord}
 use Rattle.call_list.specs.Entries.{whole_line}
@@ -15,8 +15,8 @@ use Rattle.call_list.specs.declared.part.Part.TheVariants as part
 -- what a part goes over: nodes and links in the order of the basin, rights seniors first
 abbrev pub places_in : Part → Basin → List ℕ
 places_in part.Shorts b = seniors_first b
-places_in part.Nexts b = places_of b.nodes
-places_in part.Links b = places_of b.links
+places_in part.Nexts b = indices_of b.nodes
+places_in part.Links b = indices_of b.links
 places_in part.Curtailed b = seniors_first b
 
 abbrev pub count_in : Part → Basin → ℕ

@@ -2,7 +2,7 @@
 use Rattle.std.specs.Prelude.{ℕ, List, [], ◌∷◌, Option}
 use Rattle.std.specs.List.{flat_map}
 use Rattle.rights_roll.specs.Rolls.{IsRollOf}
-use Rattle.rights_roll.specs.RollSeen.{RollSeen}
+use Rattle.rights_roll.specs.RollView.{RollView}
 use Rattle.result_text.specs.Range.{FitsText}
 use Rattle.water_model.specs.Valid.{IsValidBasin}
 use Rattle.water_model.specs.declared.types.Basin.{Basin}
@@ -16,11 +16,11 @@ use Rattle.call_list.specs.declared.part.Part.TheVariants as part
 
 pub record CallsSeen : Type 0 where
   pub basin : Basin
-  pub roll : RollSeen
+  pub roll : RollView
   pub month : MonthRecord
   pub found : Found
 
-abbrev pub calls_seen : Basin → RollSeen → MonthRecord → List (Option ℕ) → List (Option ℕ) → CallsSeen
+abbrev pub calls_seen : Basin → RollView → MonthRecord → List (Option ℕ) → List (Option ℕ) → CallsSeen
 calls_seen b roll m next helped =
     record { basin = b; roll = roll; month = m; found = record { next = next; helped = helped } }
 

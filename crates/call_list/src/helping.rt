@@ -7,7 +7,7 @@ ghost use Rattle.rights_roll.specs.Rolls.{IsRollOf};
 ghost use Rattle.water_edge.specs.Edge.{HasCause, Puts};
 ghost use Rattle.water_model.specs.CutSets.{set_of};
 ghost use Rattle.water_model.specs.History.{HasReaches, IsShort};
-ghost use Rattle.water_model.specs.Places.{places_of};
+ghost use Rattle.water_model.specs.Indices.{indices_of};
 ghost use Rattle.water_model.specs.Valid.{IsValidBasin};
 ghost use Rattle.result_text.specs.Range.{FitsText};
 ghost use Rattle.plan_residual.specs.Residual.{HasPlan};
@@ -47,7 +47,7 @@ impl Model for HelpFinder {
 fn mark(cuts: &mut CutList, right: u32, set: &[bool])
     requires right { right < length cuts.old.sets }
     requires nodes { length set.now ≡ cuts.old.nodes }
-    requires few { length set.now ≤ 2000 }
+    requires bounded { length set.now ≤ 2000 }
     requires empty { set_of cuts.old right ≡ Some (replicate cuts.old.nodes false) }
     ensures { HoldsSet cuts.old cuts.new right set.now }
 {
@@ -62,7 +62,7 @@ fn mark(cuts: &mut CutList, right: u32, set: &[bool])
 fn keep(cuts: &mut CutList, right: u32, set: &[bool])
     requires right { right < length cuts.old.sets }
     requires nodes { length set.now ≡ cuts.old.nodes }
-    requires few { length set.now ≤ 2000 }
+    requires bounded { length set.now ≤ 2000 }
     ensures { HoldsSet cuts.old cuts.new right set.now }
 {
     cuts.clear();
@@ -159,7 +159,7 @@ fn put_nodes<K: Sink>(
     requires core { HasCut basin.now core.now right }
     ensures text { Puts (K.taken sink.old) (K.taken sink.new) result
         (flat_map (whole_line basin.now)
-        (flat_map (node_lines (cut_at core.now right)) (places_of basin.now.nodes))) }
+        (flat_map (node_lines (cut_at core.now right)) (indices_of basin.now.nodes))) }
     ensures cause { HasCause (K.faults sink.old) (K.faults sink.new) (IsErr result) }
 {
     for node in 0..basin.nodes.len() as u32 {
@@ -182,7 +182,7 @@ fn put_links<K: Sink>(
     ensures text { Puts (K.taken sink.old) (K.taken sink.new) result
         (flat_map (whole_line basin.now)
         (flat_map (link_lines basin.now (cut_at reach.now right) (cut_at core.now right))
-        (places_of basin.now.links))) }
+        (indices_of basin.now.links))) }
     ensures cause { HasCause (K.faults sink.old) (K.faults sink.new) (IsErr result) }
 {
     for link in 0..basin.links.len() as u32 {
@@ -233,8 +233,8 @@ fn put_places<K: Sink>(
 /// unit would help it, which are those that lead from outside its reach into the core; and the account of the core, the
 /// shortest that shows why it got no more.
 ///
-/// Each line is one `put`. `SinkFailed` comes only where the sink counted a fault; a front of the text was then put. The
-/// cost is linear in nodes, links and rights, and no memory is taken.
+/// Each line is one `put`. `SinkFailed` comes only where the sink counted a fault; a prefix of the text was then put.
+/// The cost is linear in nodes, links and rights, and no memory is taken.
 pub fn put_helping<K: Sink>(
     sink: &mut K,
     finder: &mut HelpFinder,

@@ -1,7 +1,7 @@
 //! A month with what was found of it, and the lines of its list.
 ghost use Rattle.std.specs.Prelude.{◌≡◌, ◌<◌, length, IfSome};
 ghost use Rattle.std.specs.Option.{option_to_list};
-ghost use Rattle.water_model.specs.Places.{seniors_first};
+ghost use Rattle.water_model.specs.Indices.{seniors_first};
 ghost use Rattle.call_list.specs.Entries.{IsOfBasin};
 ghost use Rattle.call_list.specs.Found.{curtailed_for};
 ghost use Rattle.call_list.specs.Lists.{count_in};

@@ -1,7 +1,7 @@
 //! The list of calls, one `put` for each line.
 ghost use Rattle.std.specs.Prelude.{◌≡◌, ◌<◌, ◌∷◌, [], IsErr, length};
 ghost use Rattle.water_edge.specs.Edge.{HasCause, Puts};
-ghost use Rattle.water_model.specs.Places.{numbers_from, seniors_first};
+ghost use Rattle.water_model.specs.Indices.{numbers_from, seniors_first};
 ghost use Rattle.water_model.specs.Valid.{IsValidBasin};
 ghost use Rattle.call_list.specs.Entries.{IsOfBasin, whole_line};
 ghost use Rattle.call_list.specs.Lists.{count_in, head_bytes, month_bytes, places_in, tail_bytes};
@@ -102,7 +102,7 @@ fn put_parts<K: Sink>(sink: &mut K, calls: &MonthCalls) -> Result<(), SinkFailed
 /// unit of water would be a right's, with that right; each link whose carry of one more unit would help a right, with
 /// the most senior one; and each diversion or zone that is curtailed, seniors first, with the senior for whom it is.
 ///
-/// Each line is one `put`. `SinkFailed` comes only where the sink counted a fault; a front of the list was then put.
+/// Each line is one `put`. `SinkFailed` comes only where the sink counted a fault; a prefix of the list was then put.
 /// The cost is linear in nodes, links and rights, and no memory is taken.
 pub fn put_month<K: Sink>(sink: &mut K, calls: &MonthCalls) -> Result<(), SinkFailed>
     ensures text { Puts (K.taken sink.old) (K.taken sink.new) result

@@ -3,7 +3,7 @@ use Rattle.std.proofs.Common.{◌≡◌, ℕ, ◌<◌, true, false, sym, ap, ◌
 use Rattle.std.specs.Prelude.{Option, Some, None}
 use Rattle.water_model.specs.Basin.{is_senior}
 use Rattle.water_model.specs.History.{IsCallingRight}
-use Rattle.water_model.specs.Places.{seniors_first}
+use Rattle.water_model.specs.Indices.{seniors_first}
 use Rattle.water_model.specs.History.{calls}
 use Rattle.water_model.specs.Text.{calling_right}
 use Rattle.water_model.specs.Valid.{IsValidBasin}

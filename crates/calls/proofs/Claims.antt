@@ -121,10 +121,10 @@ find_more p order i l =
 
 -- at first no node has a caller, and all are free
 pub none_yet : (nodes : ℕ) → nodes ≤ 2000 → (n : ℕ) → n < nodes → caller_at (replicate 2000 None) n ≡ None
-none_yet nodes few n l = get_or-replicate 2000 n None None (omega arith)
+none_yet nodes bounded n l = get_or-replicate 2000 n None None (omega arith)
 
 pub all_free : (nodes : ℕ) → nodes ≤ 2000 → AreFree nodes (replicate 2000 None) (replicate 32 (2 ^ 64 - 1))
-all_free nodes few n l = one ∙ sym (ap is_none (none_yet nodes few n l))
+all_free nodes bounded n l = one ∙ sym (ap is_none (none_yet nodes bounded n l))
   where
     word : get_or {A = ℕ} (replicate 32 (2 ^ 64 - 1)) (n / 64) 0 ≡ 2 ^ 64 - 1
     word = get_or-replicate 32 (n / 64) (2 ^ 64 - 1) 0 (omega arith)

@@ -7,7 +7,7 @@ use Rattle.water_model.specs.Basin.{is_senior, taking_node}
 use Rattle.water_model.specs.Cuts.{takes_within, node_within}
 use Rattle.water_model.specs.History.{cut_of}
 use Rattle.water_model.specs.Lookups.{has}
-use Rattle.water_model.specs.Places.{by_seniority, seniors_first}
+use Rattle.water_model.specs.Indices.{by_seniority, seniors_first}
 use Rattle.water_model.specs.Rights.{AreStrict}
 use Rattle.water_model.specs.History.{calls}
 use Rattle.water_model.specs.Text.{calling_right}

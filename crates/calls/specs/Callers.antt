@@ -5,7 +5,7 @@ use Rattle.std.specs.Option.{option_map_or}
 use Rattle.bit_words.specs.Marks.{is_marked}
 use Rattle.water_model.specs.History.{cut_of}
 use Rattle.water_model.specs.Lookups.{has}
-use Rattle.water_model.specs.Places.{seniors_first}
+use Rattle.water_model.specs.Indices.{seniors_first}
 use Rattle.water_model.specs.declared.types.Basin.{Basin}
 use Rattle.water_model.specs.declared.types.MonthRecord.{MonthRecord}
 
@@ -25,7 +25,7 @@ first_caller b m node = find (λ caller. is_short_at m caller node) (seniors_fir
 abbrev pub caller_at : List (Option ℕ) → ℕ → Option ℕ
 caller_at callers node = slice_index_or callers node None
 
--- for each node its first caller. There may be places behind the nodes
+-- for each node its first caller. There may be places after the nodes
 pub record AreCallers (b : Basin) (m : MonthRecord) (callers : List (Option ℕ)) : Type 0 where
   pub enough : length b.nodes ≤ length callers
   pub each : (n : ℕ) → n < length b.nodes → caller_at callers n ≡ first_caller b m n

@@ -16,10 +16,10 @@ use bit_words::{next_marked_in_both, unmark};
 use rights_roll::priority::is_senior;
 use rights_roll::roll::Roll;
 use water_model::calls::taking_node;
-use water_model::types::{Basin, MOST_NODES, MonthRecord};
+use water_model::types::{Basin, MAX_NODES, MonthRecord};
 
-/// How many words hold the marks of so many nodes.
-const MOST_WORDS: usize = 32;
+/// How many words hold the marks of a given number of nodes.
+const MAX_WORDS: usize = 32;
 
 /// Whether a right was delivered less than its want.
 pub fn is_short(month: &MonthRecord, right: u32) -> bool
@@ -36,7 +36,7 @@ fn claim(callers: &mut [Option<u32>], free: &mut [u64], set: &[u64], nodes: u32,
     requires callers { nodes ≤ length callers.old }
     requires free { nodes ≤ 64 * length free.old }
     requires set { nodes ≤ 64 * length set.now }
-    ensures places { length callers.new ≡ length callers.old }
+    ensures indices { length callers.new ≡ length callers.old }
     ensures words { length free.new ≡ length free.old }
     ensures given { (n : ℕ) → n < nodes → caller_at callers.new n
         ≡ (if in_both free.old set.now n then Some right else caller_at callers.old n) }
@@ -73,7 +73,7 @@ fn call_from(
     requires want { right < length month.now.want }
     requires right { right < length month.now.cuts.sets }
     requires free { AreFree nodes callers.old free.old }
-    ensures places { length callers.new ≡ length callers.old }
+    ensures indices { length callers.new ≡ length callers.old }
     ensures words { length free.new ≡ length free.old }
     ensures given { (n : ℕ) → n < nodes → caller_at callers.new n
         ≡ option_or (caller_at callers.old n) (if is_short_at month.now right n then Some right else None) }
@@ -92,15 +92,15 @@ fn call_from(
 ///
 /// It goes over the rights once, seniors first. Each node is given to a caller once, and two words of marks in which no
 /// node is both free and in the set cost one look. It takes no memory.
-pub fn callers_by_node(basin: &Basin, roll: &Roll, month: &MonthRecord) -> [Option<u32>; MOST_NODES]
+pub fn callers_by_node(basin: &Basin, roll: &Roll, month: &MonthRecord) -> [Option<u32>; MAX_NODES]
     requires basin { IsValidBasin basin.now }
     requires roll { IsRollOf basin.now.rights roll.now }
     requires month { FitsBasin basin.now month.now }
     ensures { AreCallers basin.now month.now result }
 {
     let nodes = basin.nodes.len() as u32;
-    let mut callers = [None; MOST_NODES];
-    let mut free = [u64::MAX; MOST_WORDS];
+    let mut callers = [None; MAX_NODES];
+    let mut free = [u64::MAX; MAX_WORDS];
     for right in roll.by_seniority() {
         call_from(&mut callers, &mut free, month, nodes, *right);
     }

@@ -4,9 +4,9 @@ use Rattle.std.proofs.Common.{[], ◌∷◌, length, map, take}
 use Rattle.std.specs.Prelude.{Option, Some, None, option_map, unwrap_or, slice_get, slice_index}
 use Rattle.std.proofs.lemmas.List.Elements.{All-from_get_or}
 use Rattle.std.proofs.lemmas.Option.{get_or_from_slice_get}
-use Rattle.place_sums.specs.Sums.{total}
-use Rattle.place_sums.proofs.Totals.{term_le_total, total_same}
-use Rattle.place_sums.proofs.Totals.{total_where_most}
+use Rattle.finite_sums.specs.Sums.{total}
+use Rattle.finite_sums.proofs.Totals.{term_le_total, total_same}
+use Rattle.finite_sums.proofs.Totals.{total_where_most}
 use Rattle.water_model.proofs.Carries.{carry_most}
 use Rattle.water_model.proofs.Wants.{want_most}
 use Rattle.month_terms.proofs.Amounts.{follows_small, deliveries_small, supply_small}
@@ -25,7 +25,7 @@ use Rattle.water_model.specs.declared.types.Inflows.{Inflows}
 use Rattle.water_model.specs.declared.types.MonthRecord.{MonthRecord}
 use Rattle.water_model.specs.declared.types.Reservoir as reservoir
 use Rattle.water_model.proofs.Balance.{entry_holds, entry_at, plan_balance}
-use Rattle.water_model.proofs.Lists.{front_partial}
+use Rattle.water_model.proofs.Lists.{prefix_partial}
 use Rattle.result_reader.specs.Records.{AreTextAmounts, HasTextAmounts, AreTextMonths}
 use Rattle.result_reader.proofs.Histories.{IsTextMonth-Follows}
 
@@ -41,7 +41,7 @@ closing_small b series before m valid fits f v l =
     omega (
       arith,
       f.closing v l,
-      valid.few.rights,
+      valid.bounded.rights,
       total_where_most (length b.rights) (10 ^ 9) (λ r. is_zone_of b r v)
           (λ r. slice_index m.plan.take r) (follows_small b series before m valid fits f).takes,
     )
@@ -86,7 +86,7 @@ whole_supply b series before m valid fits partial f =
     let same = total_same (length b.nodes) (λ n. slice_index m.supply n)
     (λ n. inflow_at b series n m.index + returned_at b (map (λ k. k.delivered) before) n m.index + stored_at b
     (opening_after b before) m.evaporated n)
-    (λ n l. f.behind.supply n l ∙ rw (f.behind.returned n l, f.opening) refl) in
+    (λ n l. f.after.supply n l ∙ rw (f.after.returned n l, f.opening) refl) in
     omega (arith, small, same)
 
 pub history_amounts : (b : Basin) (series : Inflows) (before : List MonthRecord) (m : MonthRecord) → IsValidBasin b →
@@ -94,13 +94,13 @@ pub history_amounts : (b : Basin) (series : Inflows) (before : List MonthRecord)
     length before < b.months → Follows b series before m → HasTextAmounts m
 history_amounts b series before m valid fits partial left f = record {
   listed = listed;
-  delivered = all_small m.delivered (length b.rights) f.behind.fits.delivered
+  delivered = all_small m.delivered (length b.rights) f.after.fits.delivered
       (λ r l. omega (arith, (follows_small b series before m valid fits f).delivered r));
-  want = all_small m.want (length b.rights) f.behind.fits.want (λ r l. omega (arith, wanted r l));
+  want = all_small m.want (length b.rights) f.after.fits.want (λ r l. omega (arith, wanted r l));
 }
   where
     month : IsMonth m.month
-    month = subst IsMonth (sym f.behind.month) (IsMonth-run_month b m.index valid.run (omega (arith, f.behind.index)))
+    month = subst IsMonth (sym f.after.month) (IsMonth-run_month b m.index valid.run (omega (arith, f.after.index)))
 
     opening : (v : ℕ) → v < length b.reservoirs → slice_index m.opening v ≤ 10 ^ 15
     opening v l = rw (f.opening) (opening_small b series before valid fits partial v l)
@@ -110,7 +110,7 @@ history_amounts b series before m valid fits partial left f = record {
         let entry = entry_at b.reservoirs v l in
         let is : slice_index m.evaporated v ≡ evaporation entry.0.area (slice_index m.opening v)
         (slice_index entry.0.rate (in_year b m.index)) =
-        f.behind.evaporated v l
+        f.after.evaporated v l
         ∙ ap (λ o. unwrap_or
         (option_map
         (λ (r : reservoir.Reservoir). evaporation r.area (slice_index m.opening v)
@@ -118,36 +118,36 @@ history_amounts b series before m valid fits partial left f = record {
         omega (arith, is, opening v l)
 
     wanted : (r : ℕ) → r < length b.rights → slice_index m.want r ≤ 10 ^ 9
-    wanted r l = rw (f.behind.want r l) (want_most b series r m.index (slice_index m.used r) valid fits l)
+    wanted r l = rw (f.after.want r l) (want_most b series r m.index (slice_index m.used r) valid fits l)
 
     listed : (q : Quantity) → AreTextAmounts (amounts_of q m)
-    listed quantity.Opening = all_small m.opening (length b.reservoirs) f.behind.fits.opening opening
-    listed quantity.Evaporated = all_small m.evaporated (length b.reservoirs) f.behind.fits.evaporated evaporated
-    listed quantity.Returned = all_small m.returned (length b.nodes) f.behind.fits.returned (λ n l. omega (
+    listed quantity.Opening = all_small m.opening (length b.reservoirs) f.after.fits.opening opening
+    listed quantity.Evaporated = all_small m.evaporated (length b.reservoirs) f.after.fits.evaporated evaporated
+    listed quantity.Returned = all_small m.returned (length b.nodes) f.after.fits.returned (λ n l. omega (
       arith,
-      f.behind.returned n l,
+      f.after.returned n l,
       term_le_total (length b.nodes) (λ n. returned_at b (map (λ k. k.delivered) before) n m.index) n l,
       returns_small b (map (λ k. k.delivered) before) m.index valid
           (deliveries_small b series before valid fits partial),
     ))
-    listed quantity.Used = all_small m.used (length b.rights) f.behind.fits.used
+    listed quantity.Used = all_small m.used (length b.rights) f.after.fits.used
         (λ r l. omega (
           arith,
-          f.behind.used r l,
+          f.after.used r l,
           used_most b (map (λ k. k.delivered) before) r m.index (10 ^ 9)
               (deliveries_small b series before valid fits partial r),
-          f.behind.index,
+          f.after.index,
           valid.run.months.1,
         ))
-    listed quantity.Flow = all_small m.plan.flow (length b.links) f.behind.plan.flow_len
-        (λ e l. omega (arith, f.behind.plan.carries e l, carry_most b m.month e valid month l))
-    listed quantity.Outflow = all_small m.plan.out (length b.nodes) f.behind.plan.out_len (λ n l. omega (
+    listed quantity.Flow = all_small m.plan.flow (length b.links) f.after.plan.flow_len
+        (λ e l. omega (arith, f.after.plan.carries e l, carry_most b m.month e valid month l))
+    listed quantity.Outflow = all_small m.plan.out (length b.nodes) f.after.plan.out_len (λ n l. omega (
       arith,
       term_le_total (length b.nodes) (λ n. slice_index m.plan.out n) n l,
-      plan_balance b m.month m.supply m.want m.plan valid f.behind.plan,
+      plan_balance b m.month m.supply m.want m.plan valid f.after.plan,
       whole_supply b series before m valid fits partial f,
     ))
-    listed quantity.Closing = all_small m.closing (length b.reservoirs) f.behind.fits.closing
+    listed quantity.Closing = all_small m.closing (length b.reservoirs) f.after.fits.closing
         (closing_small b series before m valid fits f)
 
 -- the records of a history are such as a text tells
@@ -157,7 +157,7 @@ history_texts b series records valid fits h = record {
   within = h.within;
   each = λ i m e. (let f = h.each i m e in
       IsTextMonth-Follows b series (take i records) m f
-      (history_amounts b series (take i records) m valid fits (front_partial b series records i h) (left i m e) f));
+      (history_amounts b series (take i records) m valid fits (prefix_partial b series records i h) (left i m e) f));
 }
   where
     shorter : {X : Type 0} (xs : List X) (i : ℕ) (x : X) → slice_get xs i ≡ Some x → length (take i xs) < length xs

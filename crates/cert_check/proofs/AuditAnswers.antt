@@ -9,13 +9,13 @@ use Rattle.water_model.specs.declared.item.Item.{Item}
 use Rattle.water_model.specs.declared.types.Basin.{Basin}
 use Rattle.water_model.specs.declared.types.Inflows.{Inflows}
 use Rattle.water_model.specs.declared.types.MonthRecord.{MonthRecord}
-use Rattle.result_reader.specs.Telling.{told_by}
-use Rattle.result_reader.proofs.AllTold.{are_all_told}
-use Rattle.result_reader.proofs.WholeMonth.{records_told}
+use Rattle.result_reader.specs.ReadSoFar.{read_so_far}
+use Rattle.result_reader.proofs.AllRead.{are_all_read}
+use Rattle.result_reader.proofs.WholeMonth.{records_read}
 use Rattle.cert_check.specs.Audit.{IsAuditAnswer}
 use Rattle.cert_check.specs.Auditing.{IsAuditIfAny, IsAuditOf, IsFound, audit_answer}
 use Rattle.cert_check.specs.Checking.{verdict}
-use Rattle.cert_check.specs.Standing.{CheckerSeen, IsAnswer, IsBookOf, StandsFor}
+use Rattle.cert_check.specs.Standing.{CheckerView, IsAnswer, IsProgressOf, CheckerStandsFor}
 use Rattle.cert_check.specs.Whole.{pieces_of}
 use Rattle.cert_check.specs.declared.audit.Audit.{Audit}
 use Rattle.cert_check.specs.declared.refuted.Refuted.{Refuted}
@@ -28,7 +28,7 @@ use Rattle.cert_check.proofs.Verdicts.{yes_says}
 -- a text that is accepted
 accepted_answer : (b : Basin) (series : Inflows) (text : List ℕ) (lines : List (List ℕ)) (rest : List ℕ)
     (items : List Item) (a : Audit) → IsValidBasin b → IsSeriesOf b series → pieces_of text ≡ lines ++ rest ∷ [] →
-    verdict b series lines rest ≡ Ok items → IsAuditOf b (told_by b series items) items a →
+    verdict b series lines rest ≡ Ok items → IsAuditOf b (read_so_far b series items) items a →
     IsAuditAnswer b series text (audit_answer a.other b.months)
 accepted_answer b series text lines rest items a valid fits pieces accepts audit = by_other a.other found
   where
@@ -40,13 +40,13 @@ accepted_answer b series text lines rest items a valid fits pieces accepts audit
     spelled = spelled_text b text (items_of b said.0)
         (pieces ∙ (ap (λ ls. ls ++ rest ∷ []) said.2 ∙ ap (λ r. map (line_of b) (items_of b said.0) ++ r ∷ []) said.3))
 
-    told : (told_by b series (items_of b said.0)).months ≡ said.0
-    told = records_told b series said.0
-        (are_all_told b series said.0 (history_texts b series said.0 valid fits said.1.partial))
+    so_far : (read_so_far b series (items_of b said.0)).months ≡ said.0
+    so_far = records_read b series said.0
+        (are_all_read b series said.0 (history_texts b series said.0 valid fits said.1.partial))
 
     found : IsFound b said.0 (items_of b said.0) a.other
-    found = subst (λ (ms : List MonthRecord). IsFound b ms (items_of b said.0) a.other) told
-        (subst (λ (is : List Item). IsFound b (told_by b series is).months is a.other) said.4 audit.found)
+    found = subst (λ (ms : List MonthRecord). IsFound b ms (items_of b said.0) a.other) so_far
+        (subst (λ (is : List Item). IsFound b (read_so_far b series is).months is a.other) said.4 audit.found)
 
     by_other : (o : Option ℕ) → IsFound b said.0 (items_of b said.0) o →
         IsAuditAnswer b series text (audit_answer o b.months)
@@ -60,11 +60,11 @@ not_refused None r months is h = refl
 not_refused (Some e) r months is h = let never : Ok months ≡ Err e = sym is ∙ h in cc
 
 -- a checker that accepts, and audits
-pub audited_answer : (c : CheckerSeen) (lines : List (List ℕ)) (text rest : List ℕ) (months : ℕ)
+pub audited_answer : (c : CheckerView) (lines : List (List ℕ)) (text rest : List ℕ) (months : ℕ)
     (finished : Result ℕ Refuted) (a : Audit) →
     IsValidBasin c.basin → IsSeriesOf c.basin c.series → finished ≡ Ok months →
     IfSome c.refused (λ e. finished ≡ Err e) → IsAnswer c.basin finished (verdict c.basin c.series lines rest) →
-    c.book.audit ≡ Some a → StandsFor c lines → pieces_of text ≡ lines ++ rest ∷ [] →
+    c.progress.audit ≡ Some a → CheckerStandsFor c lines → pieces_of text ≡ lines ++ rest ∷ [] →
     IsAuditAnswer c.basin c.series text (audit_answer a.other months)
 audited_answer c lines text rest months finished a valid fits is stays answer has stands pieces =
     subst (λ (n : ℕ). IsAuditAnswer c.basin c.series text (audit_answer a.other n)) (sym ok.1)
@@ -76,15 +76,15 @@ audited_answer c lines text rest months finished a valid fits is stays answer ha
     accepted : (items : List Item) × (verdict c.basin c.series lines rest ≡ Ok items)
     accepted = ok_of (verdict c.basin c.series lines rest) ok.0
 
-    book : IsBookOf c.basin c.series c.book lines
-    book = good_is c lines (not_refused c.refused finished months is stays) stands
+    progress : IsProgressOf c.basin c.series c.progress lines
+    progress = good_is c lines (not_refused c.refused finished months is stays) stands
 
-    same : book.items ≡ accepted.0
+    same : progress.items ≡ accepted.0
     same =
-        let both : Ok book.items ≡ Ok accepted.0 =
-        sym book.verdict ∙ (yes_says c.basin c.series lines rest accepted.0 accepted.1).lines_good in
+        let both : Ok progress.items ≡ Ok accepted.0 =
+        sym progress.verdict ∙ (yes_says c.basin c.series lines rest accepted.0 accepted.1).lines_good in
         cc
 
-    audit : IsAuditOf c.basin (told_by c.basin c.series accepted.0) accepted.0 a
-    audit = subst (λ (items : List Item). IsAuditOf c.basin (told_by c.basin c.series items) items a) same
-        (subst (IsAuditIfAny c.basin (told_by c.basin c.series book.items) book.items) has book.audit)
+    audit : IsAuditOf c.basin (read_so_far c.basin c.series accepted.0) accepted.0 a
+    audit = subst (λ (items : List Item). IsAuditOf c.basin (read_so_far c.basin c.series items) items a) same
+        (subst (IsAuditIfAny c.basin (read_so_far c.basin c.series progress.items) progress.items) has progress.audit)

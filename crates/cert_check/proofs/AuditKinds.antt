@@ -9,7 +9,7 @@ use Rattle.water_model.specs.declared.quantity.Quantity.TheVariants as quantity
 use Rattle.water_model.specs.declared.types.Basin.{Basin}
 use Rattle.water_model.specs.declared.types.Inflows.{Inflows}
 use Rattle.result_reader.specs.Reading.{read_line}
-use Rattle.result_reader.specs.Telling.{Told, told_by}
+use Rattle.result_reader.specs.ReadSoFar.{ReadSoFar, read_so_far}
 use Rattle.result_reader.specs.declared.bad_line.BadLine.{BadLine}
 use Rattle.cert_check.specs.Checking.{Row, first_row, is_whole, judge, judge_read, judge_row, kind_of, ok_then, own_rows}
 use Rattle.cert_check.specs.Checking.{rows, verdict, verdict_at_end, verdict_from}
@@ -52,7 +52,7 @@ other_kind quantity.Flow = λ e. cc
 other_kind quantity.Outflow = λ e. cc
 other_kind quantity.Closing = λ e. cc
 
-own_others : (b : Basin) (series : Inflows) (t : Told) (i : Item) → AreOthers (own_rows b series t i)
+own_others : (b : Basin) (series : Inflows) (t : ReadSoFar) (i : Item) → AreOthers (own_rows b series t i)
 own_others b series t line.Title = tt
 own_others b series t (line.Run first months) = (λ e. cc, tt)
 own_others b series t (line.Month month) = tt
@@ -64,7 +64,8 @@ own_others b series t (line.Called r caller) = tt
 own_others b series t line.End = tt
 own_others b series t (line.Done months) = tt
 
-row_other : (b : Basin) (series : Inflows) (t : Told) (i : Item) (k : RefutedKind) → first_row b series t i ≡ Some k →
+row_other : (b : Basin) (series : Inflows) (t : ReadSoFar) (i : Item) (k : RefutedKind) →
+    first_row b series t i ≡ Some k →
     k ≢ kind.NotReach
 unfolding first_row
 row_other b series t i k h =
@@ -75,15 +76,15 @@ judged_other : (b : Basin) (series : Inflows) (before : List Item) (bytes : List
 unfolding judge
 judged_other b series before bytes e h = by_end (is_whole before) h
   where
-    by_row : (item : Item) (o : Option RefutedKind) → first_row b series (told_by b series before) item ≡ o →
+    by_row : (item : Item) (o : Option RefutedKind) → first_row b series (read_so_far b series before) item ≡ o →
         judge_row before item o ≡ Err e → e.kind ≢ kind.NotReach
     by_row item None is k = cc
     by_row item (Some own) is k =
         named _ e (one_refusal (judge_row before item (Some own)) _ e refl k)
-        (row_other b series (told_by b series before) item own is)
+        (row_other b series (read_so_far b series before) item own is)
 
     by_read : (r : Result Item BadLine) → judge_read b series before r ≡ Err e → e.kind ≢ kind.NotReach
-    by_read (Ok item) k = by_row item (first_row b series (told_by b series before) item) refl k
+    by_read (Ok item) k = by_row item (first_row b series (read_so_far b series before) item) refl k
     by_read (Err why) k = named _ e (one_refusal (judge_read b series before (Err why)) _ e refl k) (λ is. cc)
 
     by_end : (t : Bool) →

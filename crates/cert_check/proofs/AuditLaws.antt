@@ -86,8 +86,8 @@ reaches_before b records i k m h l e = h i m (get_taken records i k m l e)
 same_month : (b : Basin) (records : List MonthRecord) (f g : ℕ) (m n : MonthRecord) (r s : ℕ) →
     slice_get records f ≡ Some m → slice_get records g ≡ Some n → IsFirstOther b m (Some r) →
     IsFirstOther b n (Some s) → HaveReaches b (take f records) → HaveReaches b (take g records) → f ≡ g
-same_month b records f g m n r s at also one other before behind = elim (cases_lt f g) [
-  | inl less ↦ not_reaches b m r one (reaches_before b records f g m behind less at)
+same_month b records f g m n r s at also one other before after = elim (cases_lt f g) [
+  | inl less ↦ not_reaches b m r one (reaches_before b records f g m after less at)
   | inr more ↦ elim (cases_lt g f) [
     | inl less ↦ not_reaches b n s other (reaches_before b records g f n before less also)
     | inr same ↦ omega arith

@@ -20,25 +20,25 @@ use Rattle.water_model.specs.declared.types.Basin.{Basin}
 use Rattle.water_model.specs.declared.types.Inflows.{Inflows}
 use Rattle.water_model.specs.declared.types.MonthRecord.{MonthRecord}
 use Rattle.water_model.proofs.Histories.{at_end}
-use Rattle.water_model.proofs.Lists.{get_before, get_behind}
+use Rattle.water_model.proofs.Lists.{get_before, get_after}
 use Rattle.water_model.proofs.SetEntries.{no_sets, set_of_other}
 use Rattle.plan_residual.specs.Reaches.{IsFirstOther}
 use Rattle.plan_residual.specs.Rows.{IsSearchOf}
-use Rattle.result_reader.specs.Telling.{Told, tell, nothing_told, told_by, with_supply, with_member}
+use Rattle.result_reader.specs.ReadSoFar.{ReadSoFar, read_item, nothing_read, read_so_far, with_supply, with_member}
 use Rattle.cert_check.specs.Audit.{ended_months, is_end, IsCallLine, IsFirstOtherLine}
 use Rattle.cert_check.specs.Auditing.{AsksMonth, HasCallLines, HasMemory, IsAsked, IsAuditOf, IsFound, MonthFollows}
 use Rattle.cert_check.specs.Auditing.{IsAuditIfAny, TakesAudit}
 use Rattle.cert_check.specs.Checking.{first_row}
 use Rattle.cert_check.specs.Coming.{MayCome}
 use Rattle.cert_check.specs.Keeping.{Keeps}
-use Rattle.cert_check.specs.declared.account.Account.{Account}
-use Rattle.cert_check.specs.Taking.{IsTold}
+use Rattle.cert_check.specs.declared.state.CheckState.{CheckState}
+use Rattle.cert_check.specs.Taking.{IsRead}
 use Rattle.cert_check.specs.declared.audit.Audit.{Audit}
-use Rattle.cert_check.specs.declared.book.Book.{Book}
+use Rattle.cert_check.specs.declared.progress.CheckProgress.{CheckProgress}
 use Rattle.cert_check.proofs.UnderWay.{IsFree, free}
-use Rattle.cert_check.proofs.Verdicts.{told_more}
+use Rattle.cert_check.proofs.Verdicts.{read_more}
 
--- Lists of lines and of months with more behind them.
+-- Lists of lines and of months with more after them.
 
 pub ended-append : (xs ys : List Item) → ended_months (xs ++ ys) ≡ ended_months xs + ended_months ys
 ended-append xs ys = sum_by-append (λ x. cond (is_end x) 1 0) xs ys
@@ -50,7 +50,7 @@ call_line_on items more month right number c =
     record {
       place = c.place;
       at = get_before items more c.place (line.Call right) c.at;
-      behind = ap ended_months (take-append-le c.place items more (omega (arith, within))) ∙ c.behind;
+      after = ap ended_months (take-append-le c.place items more (omega (arith, within))) ∙ c.after;
       counted = c.counted;
     }
 
@@ -81,13 +81,13 @@ never_some : {X : Type 0} {Y : Type 0} (o : Option X) → o ≡ None → IsSome 
 never_some None e h = cc
 never_some (Some x) e h = cc
 
-kept_free : (b : Basin) (series : Inflows) (a : Account) (t : Told) → Keeps b series a t → (r : ℕ) →
+kept_free : (b : Basin) (series : Inflows) (a : CheckState) (t : ReadSoFar) → Keeps b series a t → (r : ℕ) →
     cut_of t.now r ≡ None → IsFree r t
 kept_free b series a t k r none = record {
   none = none;
   other = λ e. never_some (set_of a.month.cuts r)
       (ap (λ (sets : List (Option (List Bool))). of_entry sets r (λ s. s) None) k.month.shows.sets ∙ none)
-      (k.calling.held r (k.calling.told ∙ e)).1;
+      (k.calling.held r (k.calling.so_far ∙ e)).1;
 }
 
 -- where none becomes none, some was some before
@@ -96,13 +96,13 @@ some_before None later h some = never_some later (h refl) some
 some_before (Some set) later h some = refl
 
 -- a line that is no `call`, and begins and ends no month
-record IsCalm (t u : Told) (item : Item) : Type 0 where
+record IsCalm (t u : ReadSoFar) (item : Item) : Type 0 where
   months : u.months ≡ t.months
   index : u.now.index ≡ t.now.index
   sets : (r : ℕ) → cut_of t.now r ≡ None → cut_of u.now r ≡ None
   no_end : is_end item ≡ false
 
-calm_more : (b : Basin) (t u : Told) (items : List Item) (item : Item) (a : Audit) → IsCalm t u item →
+calm_more : (b : Basin) (t u : ReadSoFar) (items : List Item) (item : Item) (a : Audit) → IsCalm t u item →
     IsAuditOf b t items a → IsAuditOf b u (items ++ item ∷ []) a
 calm_more b t u items item a calm h = record {
   memory = h.memory;
@@ -117,8 +117,8 @@ calm_more b t u items item a calm h = record {
 }
 
 -- a `month` line
-begun_more : (b : Basin) (series : Inflows) (t : Told) (items : List Item) (a : Audit)
-    (u : Told) (item : Item) → u.months ≡ t.months → is_end item ≡ false → ((r : ℕ) → cut_of u.now r ≡ None) →
+begun_more : (b : Basin) (series : Inflows) (t : ReadSoFar) (items : List Item) (a : Audit)
+    (u : ReadSoFar) (item : Item) → u.months ≡ t.months → is_end item ≡ false → ((r : ℕ) → cut_of u.now r ≡ None) →
     IsAuditOf b t items a → IsAuditOf b u (items ++ item ∷ []) a
 begun_more b series t items a u item months no_end none h = record {
   memory = h.memory;
@@ -129,9 +129,10 @@ begun_more b series t items a u item months no_end none h = record {
 }
 
 -- a `call` line
-call_more : (b : Basin) (series : Inflows) (t : Told) (items : List Item) (x : ℕ) (a : Audit) → x < length b.rights →
+call_more : (b : Basin) (series : Inflows) (t : ReadSoFar) (items : List Item) (x : ℕ) (a : Audit) →
+    x < length b.rights →
     IsAuditOf b t items a →
-    IsAuditOf b (tell b series t (line.Call x)) (items ++ line.Call x ∷ [])
+    IsAuditOf b (read_item b series t (line.Call x)) (items ++ line.Call x ∷ [])
     (record a { call_lines = slice_set a.call_lines x (length items + 1) })
 call_more b series t items x a l h = record {
   memory = record {
@@ -156,8 +157,8 @@ call_more b series t items x a l h = record {
     own : IsCallLine (items ++ line.Call x ∷ []) (length t.months) x (length items + 1)
     own = record {
       place = length items;
-      at = get_behind items [] (line.Call x);
-      behind = ap ended_months (take-append_seam items (line.Call x ∷ [])) ∙ h.months;
+      at = get_after items [] (line.Call x);
+      after = ap ended_months (take-append_seam items (line.Call x ∷ [])) ∙ h.months;
       counted = refl;
     }
 
@@ -182,7 +183,7 @@ reaches_more b months m h own i k e = elim (at_end months m k i e) [
   | inr last ↦ subst (HasReaches b) last.1 own
 ]
 
-first_here : (b : Basin) (series : Inflows) (t : Told) (items : List Item) (lines : List ℕ) (r : ℕ) →
+first_here : (b : Basin) (series : Inflows) (t : ReadSoFar) (items : List Item) (lines : List ℕ) (r : ℕ) →
     t.now.index ≡ length t.months → HasCallLines t items lines → HaveReaches b t.months → MonthFollows b series t →
     IsFirstOther b (with_supply b series t.now) (Some r) →
     IsFirstOtherLine b (t.months ++ with_supply b series t.now ∷ []) (items ++ line.End ∷ []) (slice_index lines r)
@@ -191,7 +192,7 @@ first_here b series t items lines r index has reaches follows first =
     record {
       month = length t.months;
       outcome = with_supply b series t.now;
-      is = get_behind t.months [] (with_supply b series t.now);
+      is = get_after t.months [] (with_supply b series t.now);
       right = r;
       other = first;
       before = subst (HaveReaches b) (sym (take-append_seam t.months (with_supply b series t.now ∷ []))) reaches;
@@ -203,7 +204,7 @@ first_here b series t items lines r index has reaches follows first =
     some_of None set e = cc
     some_of (Some s) set e = refl
 
-end_found : (b : Basin) (series : Inflows) (t : Told) (items : List Item) (lines : List ℕ) (old new : Option ℕ) →
+end_found : (b : Basin) (series : Inflows) (t : ReadSoFar) (items : List Item) (lines : List ℕ) (old new : Option ℕ) →
     t.now.index ≡ length t.months → HasCallLines t items lines → IsFound b t.months items old →
     MonthFollows b series t → IsAsked b (with_supply b series t.now) lines old new →
     IsFound b (t.months ++ with_supply b series t.now ∷ []) (items ++ line.End ∷ []) new
@@ -218,9 +219,9 @@ end_found b series t items lines None new index has found follows (Some r, first
     subst (IsFound b (t.months ++ with_supply b series t.now ∷ []) (items ++ line.End ∷ [])) (sym is)
     (first_here b series t items lines r index has found follows first)
 
-end_more : (b : Basin) (series : Inflows) (t : Told) (items : List Item) (old new : Audit) →
+end_more : (b : Basin) (series : Inflows) (t : ReadSoFar) (items : List Item) (old new : Audit) →
     t.now.index ≡ length t.months → MonthFollows b series t → AsksMonth b (with_supply b series t.now) old new →
-    IsAuditOf b t items old → IsAuditOf b (tell b series t line.End) (items ++ line.End ∷ []) new
+    IsAuditOf b t items old → IsAuditOf b (read_item b series t line.End) (items ++ line.End ∷ []) new
 end_more b series t items old new index follows asks h = record {
   memory = record {
     search = subst (IsSearchOf b) (sym asks.search) h.memory.search;
@@ -234,8 +235,8 @@ end_more b series t items old new index follows asks h = record {
 
 -- Any line.
 
-calm_amount : (b : Basin) (series : Inflows) (t : Told) (q : Quantity) (entry amount : ℕ) →
-    (tell b series t (line.Amount q entry amount)).now.index ≡ t.now.index
+calm_amount : (b : Basin) (series : Inflows) (t : ReadSoFar) (q : Quantity) (entry amount : ℕ) →
+    (read_item b series t (line.Amount q entry amount)).now.index ≡ t.now.index
 calm_amount b series t quantity.Opening entry amount = refl
 calm_amount b series t quantity.Evaporated entry amount = refl
 calm_amount b series t quantity.Returned entry amount = refl
@@ -244,15 +245,15 @@ calm_amount b series t quantity.Flow entry amount = refl
 calm_amount b series t quantity.Outflow entry amount = refl
 calm_amount b series t quantity.Closing entry amount = refl
 
-member_calm : (t : Told) (o : Option ℕ) (n : ℕ) → ((with_member t o n).months ≡ t.months) ×
+member_calm : (t : ReadSoFar) (o : Option ℕ) (n : ℕ) → ((with_member t o n).months ≡ t.months) ×
     ((with_member t o n).now.index ≡ t.now.index)
 member_calm t None n = (refl, refl)
 member_calm t (Some right) n = (refl, refl)
 
-pub audit_more : (b : Basin) (series : Inflows) (a : Account) (t : Told) (items : List Item) (item : Item)
+pub audit_more : (b : Basin) (series : Inflows) (a : CheckState) (t : ReadSoFar) (items : List Item) (item : Item)
     (old new : Audit) → IsOfBasin b item → Keeps b series a t → MayCome b series t item → IsAuditOf b t items old →
     (item ≡ line.End → MonthFollows b series t) → TakesAudit b series t item (length items + 1) old new →
-    IsAuditOf b (tell b series t item) (items ++ item ∷ []) new
+    IsAuditOf b (read_item b series t item) (items ++ item ∷ []) new
 audit_more b series a t items line.Title old new own k comes h ends takes =
     subst (IsAuditOf b t (items ++ line.Title ∷ [])) (sym takes)
     (calm_more b t t items line.Title old
@@ -262,13 +263,13 @@ audit_more b series a t items (line.Run first months) old new own k comes h ends
     (calm_more b t t items (line.Run first months) old
     (record { months = refl; index = refl; sets = λ r none. none; no_end = refl }) h)
 audit_more b series a t items (line.Month month) old new own k comes h ends takes =
-    subst (IsAuditOf b (tell b series t (line.Month month)) (items ++ line.Month month ∷ [])) (sym takes)
-    (begun_more b series t items old (tell b series t (line.Month month)) (line.Month month) refl refl
+    subst (IsAuditOf b (read_item b series t (line.Month month)) (items ++ line.Month month ∷ [])) (sym takes)
+    (begun_more b series t items old (read_item b series t (line.Month month)) (line.Month month) refl refl
     (λ r. no_sets (length b.rights) r) h)
 audit_more b series a t items (line.Amount q entry amount) old new own k comes h ends takes =
-    subst (IsAuditOf b (tell b series t (line.Amount q entry amount)) (items ++ line.Amount q entry amount ∷ []))
+    subst (IsAuditOf b (read_item b series t (line.Amount q entry amount)) (items ++ line.Amount q entry amount ∷ []))
     (sym takes)
-    (calm_more b t (tell b series t (line.Amount q entry amount)) items (line.Amount q entry amount) old (record {
+    (calm_more b t (read_item b series t (line.Amount q entry amount)) items (line.Amount q entry amount) old (record {
       months = refl;
       index = calm_amount b series t q entry amount;
       sets = λ r none. (free b series r (line.Amount q entry amount ∷ []) t refl
@@ -276,25 +277,25 @@ audit_more b series a t items (line.Amount q entry amount) old new own k comes h
       no_end = refl;
     }) h)
 audit_more b series a t items (line.Deliver r amount want) old new own k comes h ends takes =
-    subst (IsAuditOf b (tell b series t (line.Deliver r amount want)) (items ++ line.Deliver r amount want ∷ []))
+    subst (IsAuditOf b (read_item b series t (line.Deliver r amount want)) (items ++ line.Deliver r amount want ∷ []))
     (sym takes)
-    (calm_more b t (tell b series t (line.Deliver r amount want)) items (line.Deliver r amount want) old
+    (calm_more b t (read_item b series t (line.Deliver r amount want)) items (line.Deliver r amount want) old
     (record { months = refl; index = refl; sets = λ s none. none; no_end = refl }) h)
 audit_more b series a t items (line.Call x) old new own k comes h ends takes =
-    subst (IsAuditOf b (tell b series t (line.Call x)) (items ++ line.Call x ∷ [])) (sym takes)
+    subst (IsAuditOf b (read_item b series t (line.Call x)) (items ++ line.Call x ∷ [])) (sym takes)
     (call_more b series t items x old own h)
 audit_more b series a t items (line.Member n) old new own k comes h ends takes =
     let calm = member_calm t t.calling n in
-    subst (IsAuditOf b (tell b series t (line.Member n)) (items ++ line.Member n ∷ [])) (sym takes)
-    (calm_more b t (tell b series t (line.Member n)) items (line.Member n) old (record {
+    subst (IsAuditOf b (read_item b series t (line.Member n)) (items ++ line.Member n ∷ [])) (sym takes)
+    (calm_more b t (read_item b series t (line.Member n)) items (line.Member n) old (record {
       months = calm.0;
       index = calm.1;
       sets = λ r none. (free b series r (line.Member n ∷ []) t refl (kept_free b series a t k r none)).none;
       no_end = refl;
     }) h)
 audit_more b series a t items (line.Called r caller) old new own k comes h ends takes =
-    subst (IsAuditOf b (tell b series t (line.Called r caller)) (items ++ line.Called r caller ∷ [])) (sym takes)
-    (calm_more b t (tell b series t (line.Called r caller)) items (line.Called r caller) old
+    subst (IsAuditOf b (read_item b series t (line.Called r caller)) (items ++ line.Called r caller ∷ [])) (sym takes)
+    (calm_more b t (read_item b series t (line.Called r caller)) items (line.Called r caller) old
     (record { months = refl; index = refl; sets = λ s none. none; no_end = refl }) h)
 audit_more b series a t items line.End old new own k comes h ends takes =
     end_more b series t items old new (comes.inner refl).index (ends refl) (takes (ends refl)) h
@@ -303,24 +304,25 @@ audit_more b series a t items (line.Done months) old new own k comes h ends take
     (calm_more b t t items (line.Done months) old
     (record { months = refl; index = refl; sets = λ r none. none; no_end = refl }) h)
 
--- a line that is told, where no row holds of it
-pub audit_taken : (b : Basin) (series : Inflows) (k : Book) (items : List Item) (item : Item) (old new : Audit) →
-    IsOfBasin b item → IsTold b series k items item → first_row b series (told_by b series items) item ≡ None →
-    k.audit ≡ Some old → TakesAudit b series (told_by b series items) item (k.read + 1) old new →
-    IsAuditOf b (told_by b series (items ++ item ∷ [])) (items ++ item ∷ []) new
-audit_taken b series k items item old new own told none is takes =
-    subst (λ (t : Told). IsAuditOf b t (items ++ item ∷ []) new) (sym (told_more b series items item))
-    (audit_more b series k.account.value (told_by b series items) items item old new own told.account told.comes
-    (subst (IsAuditIfAny b (told_by b series items) items) is told.audit) (λ end. told.ends end none)
-    (subst (λ (n : ℕ). TakesAudit b series (told_by b series items) item (n + 1) old new) told.counts.read takes))
+-- a line that was read, where no row holds of it
+pub audit_taken : (b : Basin) (series : Inflows) (k : CheckProgress) (items : List Item) (item : Item)
+    (old new : Audit) →
+    IsOfBasin b item → IsRead b series k items item → first_row b series (read_so_far b series items) item ≡ None →
+    k.audit ≡ Some old → TakesAudit b series (read_so_far b series items) item (k.read + 1) old new →
+    IsAuditOf b (read_so_far b series (items ++ item ∷ [])) (items ++ item ∷ []) new
+audit_taken b series k items item old new own so_far none is takes =
+    subst (λ (t : ReadSoFar). IsAuditOf b t (items ++ item ∷ []) new) (sym (read_more b series items item))
+    (audit_more b series k.state.value (read_so_far b series items) items item old new own so_far.state so_far.comes
+    (subst (IsAuditIfAny b (read_so_far b series items) items) is so_far.audit) (λ end. so_far.ends end none)
+    (subst (λ (n : ℕ). TakesAudit b series (read_so_far b series items) item (n + 1) old new) so_far.counts.read takes))
 
 -- An audit of no line.
 
-pub nothing_audited : (b : Basin) (a : Audit) → HasMemory b a → a.other ≡ None → IsAuditOf b (nothing_told b) [] a
+pub nothing_audited : (b : Basin) (a : Audit) → HasMemory b a → a.other ≡ None → IsAuditOf b (nothing_read b) [] a
 nothing_audited b a memory none = record {
   memory = memory;
   months = refl;
-  lines = λ index r some. never_some (cut_of (nothing_told b).now r) (no_sets (length b.rights) r) some;
+  lines = λ index r some. never_some (cut_of (nothing_read b).now r) (no_sets (length b.rights) r) some;
   found = subst (IsFound b [] []) (sym none) (λ i m e. no_month m e);
 }
   where

@@ -9,17 +9,17 @@ use Rattle.std.proofs.lemmas.List.Elements.{filter-append}
 use Rattle.month_terms.proofs.BlankRecords.{blank_fits}
 use Rattle.water_model.proofs.Lists.{numbers_more}
 use Rattle.water_model.specs.Blank.{blank_month}
-use Rattle.water_model.specs.Places.{numbers_from}
+use Rattle.water_model.specs.Indices.{numbers_from}
 use Rattle.water_model.specs.Valid.{IsValidBasin}
 use Rattle.water_model.specs.declared.types.Basin.{Basin}
 use Rattle.water_model.specs.declared.types.Inflows.{Inflows}
 use Rattle.result_reader.specs.Standing as reader
-use Rattle.result_reader.specs.Telling.{nothing_told}
+use Rattle.result_reader.specs.ReadSoFar.{nothing_read}
 use Rattle.cert_check.specs.Auditing.{IsAuditIfAny}
 use Rattle.cert_check.specs.Beginning.{IsBlank}
 use Rattle.cert_check.specs.Keeping.{Keeps}
-use Rattle.cert_check.specs.Standing.{IsBookOf}
-use Rattle.cert_check.specs.declared.book.Book.{Book}
+use Rattle.cert_check.specs.Standing.{IsProgressOf}
+use Rattle.cert_check.specs.declared.progress.CheckProgress.{CheckProgress}
 
 -- One outlet more.
 
@@ -66,16 +66,17 @@ blank_is b valid = record {
 }
 
 -- a book of no line
-pub first_book : (b : Basin) (series : Inflows) (k : Book) → k.reader.basin ≡ b → reader.StandsFor k.reader [] →
-    Keeps b series k.account.value (nothing_told b) →
-    k.read ≡ 0 → k.last_other ≡ 0 → k.ended ≡ false → IsAuditIfAny b (nothing_told b) [] k.audit →
-    IsBookOf b series k []
-first_book b series k basin stands account read last ended audit = record {
+pub first_book : (b : Basin) (series : Inflows) (k : CheckProgress) → k.reader.basin ≡ b →
+    reader.ReaderStandsFor k.reader [] →
+    Keeps b series k.state.value (nothing_read b) →
+    k.read ≡ 0 → k.last_other ≡ 0 → k.ended ≡ false → IsAuditIfAny b (nothing_read b) [] k.audit →
+    IsProgressOf b series k []
+first_book b series k basin stands state read last ended audit = record {
   items = [];
   verdict = refl;
   basin = basin;
   reader = stands;
-  account = account;
+  state = state;
   counts = record { read = read; last_other = last; ended = ended };
   audit = audit;
 }

@@ -2,8 +2,8 @@
 use Rattle.std.proofs.Common.{◌≡◌, ℕ, ◌+◌, ◌-◌, ◌*◌, ◌^◌, ◌<◌, ◌≤◌, ap, ◌∙◌, arith, List, [], length, map}
 use Rattle.std.specs.Prelude.{slice_index, All}
 use Rattle.std.proofs.lemmas.List.{get_or_default}
-use Rattle.place_sums.specs.Sums.{total}
-use Rattle.place_sums.proofs.Totals.{total_le, total_same, total_where_le, term_le_total}
+use Rattle.finite_sums.specs.Sums.{total}
+use Rattle.finite_sums.proofs.Totals.{total_le, total_same, total_where_le, term_le_total}
 use Rattle.water_model.specs.Basin.{is_at, node_of_reservoir}
 use Rattle.water_model.specs.History.{IsPartialHistory, opening_after}
 use Rattle.water_model.specs.Hydrology.{inflow_at, returned_at, stored_at}
@@ -12,12 +12,12 @@ use Rattle.water_model.specs.declared.types.Basin.{Basin}
 use Rattle.water_model.specs.declared.types.Inflows.{Inflows}
 use Rattle.water_model.specs.declared.types.MonthRecord.{MonthRecord}
 use Rattle.month_terms.proofs.Amounts.{supply_small}
-use Rattle.result_reader.specs.Telling.{Told, with_supply}
-use Rattle.cert_check.specs.Coming.{IsUnderWay}
+use Rattle.result_reader.specs.ReadSoFar.{ReadSoFar, with_supply}
+use Rattle.cert_check.specs.Coming.{IsWithinMonth}
 use Rattle.cert_check.specs.Shows.{Shows}
 use Rattle.cert_check.proofs.Supplies.{supply_at}
 
--- what is told to be stored is within what the months before left
+-- what was read to be stored is within what the months before left
 stored_most : (b : Basin) (opening opens evaporated : List ℕ) (n : ℕ) →
     ((v : ℕ) → slice_index opening v ≤ slice_index opens v) → stored_at b opening evaporated n ≤ stored_at b opens [] n
 stored_most b opening opens evaporated n h =
@@ -28,12 +28,12 @@ stored_most b opening opens evaporated n h =
     less : (x y z : ℕ) → x ≤ z → x - y ≤ z - 0
     less x y z k = omega arith
 
-pub told_small : (b : Basin) (series : Inflows) (t : Told) → IsValidBasin b → IsSeriesOf b series →
-    IsPartialHistory b series t.months → IsUnderWay b series t →
+pub read_small : (b : Basin) (series : Inflows) (t : ReadSoFar) → IsValidBasin b → IsSeriesOf b series →
+    IsPartialHistory b series t.months → IsWithinMonth b series t →
     total (length b.nodes)
     (λ n. inflow_at b series n t.now.index + slice_index t.now.returned n + stored_at b t.now.opening
     t.now.evaporated n) ≤ 36 * 10 ^ 12
-told_small b series t valid fits partial way =
+read_small b series t valid fits partial way =
     let all = supply_small b series t.months [] t.now.index valid fits partial in
     let each =
     total_le (length b.nodes)
@@ -60,16 +60,16 @@ told_small b series t valid fits partial way =
         )
 
 -- so is what a record shows
-pub shown_small : (b : Basin) (series : Inflows) (m : MonthRecord) (t : Told) → IsValidBasin b →
-    IsSeriesOf b series → IsPartialHistory b series t.months → IsUnderWay b series t → Shows m t.now →
+pub shown_small : (b : Basin) (series : Inflows) (m : MonthRecord) (t : ReadSoFar) → IsValidBasin b →
+    IsSeriesOf b series → IsPartialHistory b series t.months → IsWithinMonth b series t → Shows m t.now →
     total (length b.nodes)
     (λ n. inflow_at b series n m.index + slice_index m.returned n + stored_at b m.opening m.evaporated n) ≤ 36 * 10
     ^ 12
 shown_small b series m t valid fits partial way s =
-    rw (s.index, s.returned, s.opening, s.evaporated) (told_small b series t valid fits partial way)
+    rw (s.index, s.returned, s.opening, s.evaporated) (read_small b series t valid fits partial way)
 
-pub node_small : (b : Basin) (series : Inflows) (m : MonthRecord) (t : Told) (n : ℕ) → IsValidBasin b →
-    IsSeriesOf b series → IsPartialHistory b series t.months → IsUnderWay b series t → Shows m t.now →
+pub node_small : (b : Basin) (series : Inflows) (m : MonthRecord) (t : ReadSoFar) (n : ℕ) → IsValidBasin b →
+    IsSeriesOf b series → IsPartialHistory b series t.months → IsWithinMonth b series t → Shows m t.now →
     n < length b.nodes →
     inflow_at b series n m.index + slice_index m.returned n + stored_at b m.opening m.evaporated n ≤ 36 * 10 ^ 12
 node_small b series m t n valid fits partial way s l =
@@ -78,9 +78,9 @@ node_small b series m t n valid fits partial way s l =
     (λ k. inflow_at b series k m.index + slice_index m.returned k + stored_at b m.opening m.evaporated k) n l in
     omega (arith, one, shown_small b series m t valid fits partial way s)
 
--- the supply that is told
-pub supplies_small : (b : Basin) (series : Inflows) (t : Told) (supply : List ℕ) → IsValidBasin b →
-    IsSeriesOf b series → IsPartialHistory b series t.months → IsUnderWay b series t →
+-- the supply that was read
+pub supplies_small : (b : Basin) (series : Inflows) (t : ReadSoFar) (supply : List ℕ) → IsValidBasin b →
+    IsSeriesOf b series → IsPartialHistory b series t.months → IsWithinMonth b series t →
     supply ≡ (with_supply b series t.now).supply → total (length b.nodes) (λ n. slice_index supply n) ≤ 36 * 10 ^ 12
 supplies_small b series t supply valid fits partial way is =
     let same =
@@ -88,7 +88,7 @@ supplies_small b series t supply valid fits partial way is =
     (λ n. inflow_at b series n t.now.index + slice_index t.now.returned n + stored_at b t.now.opening
     t.now.evaporated n)
     (λ n l. ap (λ xs. slice_index xs n) is ∙ supply_at b series t.now n l) in
-    omega (arith, same, told_small b series t valid fits partial way)
+    omega (arith, same, read_small b series t valid fits partial way)
 
 -- numbers that are all at most one
 pub all_most : (xs : List ℕ) (most : ℕ) → ((k : ℕ) → slice_index xs k ≤ most) → All (λ n. n ≤ most) xs

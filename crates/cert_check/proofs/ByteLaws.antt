@@ -19,11 +19,11 @@ use Rattle.result_reader.proofs.OneReading.{lines_of_bytes}
 use Rattle.result_reader.proofs.Spelled.{line_short}
 use Rattle.cert_check.specs.Checking.{verdict}
 use Rattle.cert_check.specs.Laws.{YesExactlyForHistories}
-use Rattle.cert_check.specs.Whole.{pieces_of, behind_last, lines_of_pieces, rest_of_pieces, text_verdict}
+use Rattle.cert_check.specs.Whole.{pieces_of, after_last, lines_of_pieces, rest_of_pieces, text_verdict}
 use Rattle.cert_check.specs.declared.refuted.Refuted.{Refuted}
 use Rattle.cert_check.proofs.Amounts.{history_texts}
 use Rattle.cert_check.proofs.HistoriesGiveYes.{histories_give_yes}
-use Rattle.cert_check.proofs.TextVerdicts.{behind_last-end, long_rest, short_rest}
+use Rattle.cert_check.proofs.TextVerdicts.{after_last-end, long_rest, short_rest}
 use Rattle.cert_check.proofs.RunSound.{yes_gives_history}
 
 -- the bytes are those of the text of a history
@@ -45,7 +45,7 @@ accepted b series bytes valid fits h =
 
 -- A text that is accepted is that of a history.
 
--- lines with a line feed behind each
+-- lines with a line feed after each
 joined : (b : Basin) (items : List Item) →
     join_with_byte 10 (map (line_of b) items ++ [] ∷ []) ≡ flat_map (whole_line b) items
 joined b [] = refl
@@ -62,13 +62,13 @@ spelled_text b bytes items pieces =
 
 -- the last line of a text is short
 last_short : (b : Basin) (records : List MonthRecord) → IsValidBasin b →
-    length (behind_last (map (line_of b) (items_of b records))) ≤ 128
+    length (after_last (map (line_of b) (items_of b records))) ≤ 128
 last_short b records valid =
-    let same : length (behind_last (map (line_of b) (items_of b records))) ≡ length (line_of b (line.Done b.months)) =
-    ap (λ ls. length (behind_last ls))
+    let same : length (after_last (map (line_of b) (items_of b records))) ≡ length (line_of b (line.Done b.months)) =
+    ap (λ ls. length (after_last ls))
     (map-append (items_of_head b ++ flat_map (items_of_month b) records) (line.Done b.months))
     ∙ ap length
-    (behind_last-end (map (line_of b) (items_of_head b ++ flat_map (items_of_month b) records))
+    (after_last-end (map (line_of b) (items_of_head b ++ flat_map (items_of_month b) records))
     (line_of b (line.Done b.months))) in
     omega (arith, line_short b valid (line.Done b.months) (record { of_basin = tt; numbers = valid.run.months }))
   where
@@ -81,15 +81,15 @@ ok_of (Ok items) h = (items, refl)
 ok_of (Err e) h = cc
 
 record HasEnd (pieces : List (List ℕ)) : Type 0 where
-  front : List (List ℕ)
+  prefix : List (List ℕ)
   rest : List ℕ
-  are : pieces ≡ front ++ rest ∷ []
+  are : pieces ≡ prefix ++ rest ∷ []
 
 end_of : (piece : List ℕ) (pieces : List (List ℕ)) → HasEnd (piece ∷ pieces)
-end_of piece [] = record { front = []; rest = piece; are = refl }
+end_of piece [] = record { prefix = []; rest = piece; are = refl }
 end_of piece (next ∷ pieces) =
     let end = end_of next pieces in
-    record { front = piece ∷ end.front; rest = end.rest; are = ap (λ ps. piece ∷ ps) end.are }
+    record { prefix = piece ∷ end.prefix; rest = end.rest; are = ap (λ ps. piece ∷ ps) end.are }
 
 some_end : (pieces : List (List ℕ)) → 0 < length pieces → HasEnd pieces
 some_end [] h = absurd (omega arith)
@@ -106,15 +106,15 @@ of_history b series bytes valid h =
     by_rest end ok = elim (cases_lt 128 (length end.rest)) [
       | inl long ↦
           let said =
-          yes_gives_history b series (end.front ++ end.rest ∷ []) [] ok.0 valid
-          (sym (along ∙ long_rest b series end.front end.rest long) ∙ ok.1) in
-          let last : length end.rest ≡ length (behind_last (map (line_of b) (items_of b said.0))) =
-          ap length (sym (behind_last-end end.front end.rest) ∙ ap behind_last said.2) in
+          yes_gives_history b series (end.prefix ++ end.rest ∷ []) [] ok.0 valid
+          (sym (along ∙ long_rest b series end.prefix end.rest long) ∙ ok.1) in
+          let last : length end.rest ≡ length (after_last (map (line_of b) (items_of b said.0))) =
+          ap length (sym (after_last-end end.prefix end.rest) ∙ ap after_last said.2) in
           absurd (omega (arith, last_short b said.0 valid))
       | inr short ↦
           let said =
-          yes_gives_history b series end.front end.rest ok.0 valid
-          (sym (along ∙ short_rest b series end.front end.rest short) ∙ ok.1) in
+          yes_gives_history b series end.prefix end.rest ok.0 valid
+          (sym (along ∙ short_rest b series end.prefix end.rest short) ∙ ok.1) in
           let pieces : pieces_of bytes ≡ map (line_of b) (items_of b said.0) ++ [] ∷ [] =
           end.are ∙ (ap (λ ls. ls ++ end.rest ∷ []) said.2
           ∙ ap (λ rest. map (line_of b) (items_of b said.0) ++ rest ∷ []) said.3) in (
@@ -124,8 +124,8 @@ of_history b series bytes valid h =
           )
     ]
       where
-        along : text_verdict b series bytes ≡ verdict b series (lines_of_pieces (end.front ++ end.rest ∷ []))
-            (rest_of_pieces (end.front ++ end.rest ∷ []))
+        along : text_verdict b series bytes ≡ verdict b series (lines_of_pieces (end.prefix ++ end.rest ∷ []))
+            (rest_of_pieces (end.prefix ++ end.rest ∷ []))
         along = ap (λ ps. verdict b series (lines_of_pieces ps) (rest_of_pieces ps)) end.are
 
 pub yes_exactly_for_histories : YesExactlyForHistories

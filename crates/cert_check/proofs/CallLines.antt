@@ -18,7 +18,7 @@ use Rattle.water_model.specs.declared.types.MonthRecord.{MonthRecord}
 use Rattle.cert_check.specs.Audit.{ended_months, is_end, IsCallLine}
 use Rattle.cert_check.specs.Checking.{callers_due}
 use Rattle.cert_check.proofs.Audits.{ended-append}
-use Rattle.cert_check.proofs.Fronts.{last_amid, stands_amid}
+use Rattle.cert_check.proofs.Prefixes.{last_amid, stands_amid}
 use Rattle.cert_check.proofs.Passages.{stands_in}
 use Rattle.cert_check.proofs.RunGood.{items_are}
 use Rattle.cert_check.proofs.Sheets.{Sheet, sheet_lines}
@@ -165,8 +165,8 @@ one_place b valid (m ∷ records) r xs ys us vs e f same =
     by_sides (inr (more, is, here)) (inl (rest, there)) further =
         absurd (omega (arith, same, (in_month b valid m r us rest there).none, later xs more is))
     by_sides (inr (more, is, here)) (inr (rest, also, there)) further =
-        let behind = further more rest here there (omega (arith, same, later xs more is, later us rest also)) in
-        omega (arith, ap length is, ap length also, length-append M more, length-append M rest, behind)
+        let after = further more rest here there (omega (arith, same, later xs more is, later us rest also)) in
+        omega (arith, ap length is, ap length also, length-append M more, length-append M rest, after)
 
 one_place_in_text : (b : Basin) → IsValidBasin b → (records : List MonthRecord) (r : ℕ) (xs ys us vs : List Item) →
     items_of b records ≡ xs ++ line.Call r ∷ ys → items_of b records ≡ us ++ line.Call r ∷ vs →
@@ -201,7 +201,7 @@ one_call_line b valid records month right one other c d =
     let first = split_at items c.place (line.Call right) c.at in
     let second = split_at items d.place (line.Call right) d.at in
     let same = one_place_in_text b valid records right (take c.place items) first.0 (take d.place items) second.0
-    first.1 second.1 (c.behind ∙ sym d.behind) in
+    first.1 second.1 (c.after ∙ sym d.after) in
     omega (
       arith,
       same,

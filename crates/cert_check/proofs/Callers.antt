@@ -1,11 +1,11 @@
--- What the rows say of `called` lines, and of the lines behind them.
+-- What the rows say of `called` lines, and of the lines after them.
 use Rattle.std.proofs.Common.{◌≡◌, ℕ, ◌+◌, ◌<◌, ◌≤◌, Bool, true, false, refl, sym, ap, ◌∙◌, arith, List, [], ◌∷◌, ◌++◌}
 use Rattle.std.proofs.Common.{length, map, fold, append_assoc, append-nil, length-append}
 use Rattle.std.specs.Prelude.{Option, Some, None, ◌&&◌, ◌==◌, not, nat_lt, slice_get, slice_index}
 use Rattle.std.specs.List.{flat_map}
 use Rattle.std.proofs.lemmas.Bool.Decides.{nat_tests}
 use Rattle.std.proofs.lemmas.Bool.{eqb-true}
-use Rattle.place_sums.specs.Sums.{total_where}
+use Rattle.finite_sums.specs.Sums.{total_where}
 use Rattle.water_model.specs.History.{cut_of, is_zone_of}
 use Rattle.water_model.specs.History.{calls}
 use Rattle.water_model.specs.Text.{calling_right, called_items}
@@ -15,7 +15,7 @@ use Rattle.water_model.specs.declared.quantity.Quantity.TheVariants as quantity
 use Rattle.water_model.specs.declared.types.Basin.{Basin}
 use Rattle.water_model.specs.declared.types.Inflows.{Inflows}
 use Rattle.water_model.specs.declared.types.MonthRecord.{MonthRecord}
-use Rattle.result_reader.specs.Telling.{Told, tell}
+use Rattle.result_reader.specs.ReadSoFar.{ReadSoFar, read_item}
 use Rattle.calls.specs.Callers.{is_short}
 use Rattle.cert_check.specs.Checking.{rows, caller_due, callers_due, is_due}
 use Rattle.cert_check.proofs.Rows.{NoneHolds, AreGood, Section, is_same, same_is}
@@ -46,12 +46,12 @@ called_lines f (x ∷ xs) = by_caller (f x) (called_lines f xs)
     by_caller (Some c) h = ap (λ is. line.Called x c ∷ is) h
 
 -- each short right has its set, and the open one is settled
-pub record AllCalled (b : Basin) (series : Inflows) (t : Told) : Type 0 where
+pub record AllCalled (b : Basin) (series : Inflows) (t : ReadSoFar) : Type 0 where
   pub settled : IsSettled b series t
   pub none_left : (r : ℕ) → r < length b.rights → is_short t.now r ≡ true → cut_of t.now r ≡ None → ⊥
 
 -- the number of `called` lines so far, of those that are due
-pub record Callers (b : Basin) (series : Inflows) (dues before : List (ℕ × ℕ)) (t : Told) : Type 0 where
+pub record Callers (b : Basin) (series : Inflows) (dues before : List (ℕ × ℕ)) (t : ReadSoFar) : Type 0 where
   pub all : AllCalled b series t
   pub due : callers_due b t.now ≡ dues
   pub count : t.called ≡ length before
@@ -67,14 +67,14 @@ pub at_length : (before : List (ℕ × ℕ)) (due : ℕ × ℕ) (others : List (
 at_length [] due others = refl
 at_length (x ∷ before) due others = at_length before due others
 
-pub called_good : (b : Basin) (series : Inflows) (dues others before : List (ℕ × ℕ)) (t : Told) →
+pub called_good : (b : Basin) (series : Inflows) (dues others before : List (ℕ × ℕ)) (t : ReadSoFar) →
     Callers b series dues before t → dues ≡ before ++ others →
     AreGood b series t (map called_line others) ×
-    Callers b series dues dues (fold (tell b series) t (map called_line others))
+    Callers b series dues dues (fold (read_item b series) t (map called_line others))
 called_good b series dues [] before t c is =
     (tt, record { all = c.all; due = c.due; count = c.count ∙ ap length (sym (append-nil before) ∙ sym is) })
 called_good b series dues (x ∷ xs) before t c is =
-    let rest = called_good b series dues xs (before ++ x ∷ []) (tell b series t (called_line x)) (record {
+    let rest = called_good b series dues xs (before ++ x ∷ []) (read_item b series t (called_line x)) (record {
       all = record { settled = λ r e. never r e; none_left = c.all.none_left };
       due = c.due;
       count = rw (c.count, length-append before (x ∷ [])) refl;
@@ -98,18 +98,18 @@ called_good b series dues (x ∷ xs) before t c is =
     never : {X : Type 0} (r : ℕ) → None ≡ Some r → X
     never r e = cc
 
--- The lines behind the calls.
+-- The lines after the calls.
 
 not_less : (n : ℕ) → nat_lt n n ≡ false
 not_less n = grind (arith, nat_tests)
 
 -- what stays behind them
-pub record Behind (b : Basin) (series : Inflows) (dues : List (ℕ × ℕ)) (take : List ℕ) (t : Told) : Type 0 where
+pub record After (b : Basin) (series : Inflows) (dues : List (ℕ × ℕ)) (take : List ℕ) (t : ReadSoFar) : Type 0 where
   pub callers : Callers b series dues dues t
   pub take_is : t.now.plan.take ≡ take
 
 pub closings : (b : Basin) (series : Inflows) (dues : List (ℕ × ℕ)) (take : List ℕ) (a : ℕ → ℕ) →
-    Section b series (Behind b series dues take)
+    Section b series (After b series dues take)
     (λ x. a x ≡ total_where (length b.rights) (λ r. is_zone_of b r x) (λ r. slice_index take r))
     (λ x. line.Amount quantity.Closing x (a x))
 closings b series dues take a = record {
@@ -130,13 +130,13 @@ closings b series dues take a = record {
       ),
     ),
   );
-  tells = λ x t p n. is_same (a x)
+  reads = λ x t p n. is_same (a x)
       (total_where (length b.rights) (λ r. is_zone_of b r x) (λ r. slice_index t.now.plan.take r)) n.1.1.1.1.0
       ∙ ap (λ ts. total_where (length b.rights) (λ r. is_zone_of b r x) (λ r. slice_index ts r)) p.take_is;
   keeps = λ x t p. record {
     callers = record {
       all = record { settled = λ r e. never r e; none_left = p.callers.all.none_left };
-      due = same_callers b (tell b series t (line.Amount quantity.Closing x (a x))).now t.now refl refl refl
+      due = same_callers b (read_item b series t (line.Amount quantity.Closing x (a x))).now t.now refl refl refl
           ∙ p.callers.due;
       count = p.callers.count;
     };
@@ -147,7 +147,7 @@ closings b series dues take a = record {
     never : {X : Type 0} (r : ℕ) → None ≡ Some r → X
     never r e = cc
 
-pub end_good : (b : Basin) (series : Inflows) (dues : List (ℕ × ℕ)) (t : Told) → Callers b series dues dues t →
+pub end_good : (b : Basin) (series : Inflows) (dues : List (ℕ × ℕ)) (t : ReadSoFar) → Callers b series dues dues t →
     NoneHolds (rows b series t line.End)
 end_good b series dues t c = (
   loose_fails b series t line.End c.all.settled,
@@ -166,12 +166,12 @@ end_good b series dues t c = (
 -- The converse.
 
 -- `called` lines that are not refuted are those that are due
-pub record AreCalled (b : Basin) (series : Inflows) (others rest : List (ℕ × ℕ)) (t : Told) : Type 0 where
+pub record AreCalled (b : Basin) (series : Inflows) (others rest : List (ℕ × ℕ)) (t : ReadSoFar) : Type 0 where
   pub more : List (ℕ × ℕ)
   pub are : rest ≡ others ++ more
-  pub called : (fold (tell b series) t (map called_line others)).called ≡ t.called + length others
-  pub now : (fold (tell b series) t (map called_line others)).now ≡ t.now
-  pub months : (fold (tell b series) t (map called_line others)).months ≡ t.months
+  pub called : (fold (read_item b series) t (map called_line others)).called ≡ t.called + length others
+  pub now : (fold (read_item b series) t (map called_line others)).now ≡ t.now
+  pub months : (fold (read_item b series) t (map called_line others)).months ≡ t.months
 
 due_at : (before rest : List (ℕ × ℕ)) (r c : ℕ) →
     not (is_due r c (slice_get (before ++ rest) (length before))) ≡ false → (more : List (ℕ × ℕ)) ×
@@ -188,14 +188,14 @@ due_at [] (x ∷ rest) r c h = (rest, ap (λ y. y ∷ rest) (pair x (both (x.0 =
     pair (i, j) k = rw (eqb-true i r k.0, eqb-true j c k.1) refl
 due_at (x ∷ before) rest r c h = due_at before rest r c h
 
-pub called_told : (b : Basin) (series : Inflows) (others rest before : List (ℕ × ℕ)) (t : Told) →
+pub called_read : (b : Basin) (series : Inflows) (others rest before : List (ℕ × ℕ)) (t : ReadSoFar) →
     AreGood b series t (map called_line others) →
     callers_due b t.now ≡ before ++ rest → t.called ≡ length before → AreCalled b series others rest t
-called_told b series [] rest before t g is count =
+called_read b series [] rest before t g is count =
     record { more = rest; are = refl; called = omega arith; now = refl; months = refl }
-called_told b series ((r, c) ∷ xs) rest before t g is count =
+called_read b series ((r, c) ∷ xs) rest before t g is count =
     let first = due_at before rest r c (rw (← is, ← count) g.0.1.1.1.0) in
-    let further = called_told b series xs first.0 (before ++ (r, c) ∷ []) (tell b series t (line.Called r c)) g.1
+    let further = called_read b series xs first.0 (before ++ (r, c) ∷ []) (read_item b series t (line.Called r c)) g.1
     (is ∙ (ap (λ ys. before ++ ys) first.1 ∙ sym (append_assoc before ((r, c) ∷ []) first.0)))
     (omega (arith, count, length-append before ((r, c) ∷ []))) in
     record {
@@ -206,22 +206,22 @@ called_told b series ((r, c) ∷ xs) rest before t g is count =
       months = further.months;
     }
 
--- the open set is settled by the first `called` line, or behind them
-pub settled_called : (b : Basin) (series : Inflows) (others : List (ℕ × ℕ)) (t : Told) →
+-- the open set is settled by the first `called` line, or after them
+pub settled_called : (b : Basin) (series : Inflows) (others : List (ℕ × ℕ)) (t : ReadSoFar) →
     AreGood b series t (map called_line others) →
-    IsSettled b series (fold (tell b series) t (map called_line others)) → IsSettled b series t
+    IsSettled b series (fold (read_item b series) t (map called_line others)) → IsSettled b series t
 settled_called b series [] t g h = h
 settled_called b series (x ∷ xs) t g h = settled b series t (called_line x) refl g.0.0
 
--- what a line behind the calls says
-pub record IsPast (b : Basin) (series : Inflows) (t : Told) : Type 0 where
+-- what a line after the calls says
+pub record IsPast (b : Basin) (series : Inflows) (t : ReadSoFar) : Type 0 where
   pub all : AllCalled b series t
   pub count : length (callers_due b t.now) ≤ t.called
 
 at_most : (n k : ℕ) → nat_lt k n ≡ false → n ≤ k
 at_most n k h = grind (arith, nat_tests)
 
-pub closing_past : (b : Basin) (series : Inflows) (t : Told) (v amount : ℕ) →
+pub closing_past : (b : Basin) (series : Inflows) (t : ReadSoFar) (v amount : ℕ) →
     NoneHolds (rows b series t (line.Amount quantity.Closing v amount)) → IsPast b series t
 closing_past b series t v amount n = record {
   all = record {
@@ -232,7 +232,7 @@ closing_past b series t v amount n = record {
   count = at_most (length (callers_due b t.now)) t.called n.1.1.1.0;
 }
 
-pub end_past : (b : Basin) (series : Inflows) (t : Told) → NoneHolds (rows b series t line.End) → IsPast b series t
+pub end_past : (b : Basin) (series : Inflows) (t : ReadSoFar) → NoneHolds (rows b series t line.End) → IsPast b series t
 end_past b series t n = record {
   all = record {
     settled = settled b series t line.End refl n.0;

@@ -8,7 +8,7 @@ use Rattle.std.proofs.lemmas.Bool.{cases_eq, not-false}
 use Rattle.std.proofs.Math.ListN.{length-set}
 use Rattle.water_model.specs.Basin.{is_senior}
 use Rattle.water_model.specs.History.{cut_of}
-use Rattle.water_model.specs.Places.{places_of, members_from}
+use Rattle.water_model.specs.Indices.{indices_of, members_from}
 use Rattle.water_model.specs.Text.{call_items}
 use Rattle.water_model.specs.declared.item.Item.{Item}
 use Rattle.water_model.specs.declared.item.Item.TheVariants as line
@@ -19,7 +19,7 @@ use Rattle.water_model.proofs.Duality.{not_senior_to_itself}
 use Rattle.water_model.proofs.Order.{Has, IsOrdered, numbers_from-has, numbers_from-below}
 use Rattle.water_model.proofs.Seniority.{senior_trans}
 use Rattle.result_reader.specs.Due.{is_member}
-use Rattle.result_reader.specs.Telling.{Told, tell, with_supply}
+use Rattle.result_reader.specs.ReadSoFar.{ReadSoFar, read_item, with_supply}
 use Rattle.water_model.proofs.SetEntries.{set_of_with, set_of_other}
 use Rattle.result_reader.proofs.Telling.{tell_call, put_cut, fold-both}
 use Rattle.calls.specs.Callers.{is_short}
@@ -37,21 +37,21 @@ pub record Sees (b : Basin) (series : Inflows) (m : MonthRecord) (now : MonthRec
   pub supply : (with_supply b series now).supply ≡ m.supply
   pub sets : length now.cuts.sets ≡ length b.rights
 
--- the set is a tight cut, by what is told
-pub told_tight : (b : Basin) (series : Inflows) (m now : MonthRecord) (r : ℕ) (set : List Bool) → Sees b series m now →
+-- the set is a tight cut, by what was read
+pub read_tight : (b : Basin) (series : Inflows) (m now : MonthRecord) (r : ℕ) (set : List Bool) → Sees b series m now →
     cut_of now r ≡ Some set →
     has_tight b (with_supply b series now) r ≡ is_tight b m r set
-told_tight b series m now r set s e = rw (e, s.supply, s.month, s.delivered) refl
+read_tight b series m now r set s e = rw (e, s.supply, s.month, s.delivered) refl
 
-pub told_short : (b : Basin) (series : Inflows) (m now : MonthRecord) (r : ℕ) → Sees b series m now →
+pub read_short : (b : Basin) (series : Inflows) (m now : MonthRecord) (r : ℕ) → Sees b series m now →
     is_short now r ≡ is_short m r
-told_short b series m now r s = rw (s.delivered, s.want) refl
+read_short b series m now r s = rw (s.delivered, s.want) refl
 
 -- the set of the open call is a tight cut
-abbrev pub IsSettled : Basin → Inflows → Told → Type 0
+abbrev pub IsSettled : Basin → Inflows → ReadSoFar → Type 0
 IsSettled b series t = (r : ℕ) → t.calling ≡ Some r → has_tight b (with_supply b series t.now) r ≡ true
 
-pub loose_fails : (b : Basin) (series : Inflows) (t : Told) (i : Item) → IsSettled b series t →
+pub loose_fails : (b : Basin) (series : Inflows) (t : ReadSoFar) (i : Item) → IsSettled b series t →
     not (is_member i) && option_map_or (λ r. not (has_tight b (with_supply b series t.now) r)) t.calling false ≡ false
 loose_fails b series t i h = by_call (not (is_member i)) t.calling refl
   where
@@ -61,7 +61,7 @@ loose_fails b series t i h = by_call (not (is_member i)) t.calling refl
     by_call true None e = refl
     by_call true (Some r) e = ap not (h r e)
 
-pub settled : (b : Basin) (series : Inflows) (t : Told) (i : Item) → is_member i ≡ false →
+pub settled : (b : Basin) (series : Inflows) (t : ReadSoFar) (i : Item) → is_member i ≡ false →
     not (is_member i) && option_map_or (λ r. not (has_tight b (with_supply b series t.now) r)) t.calling false ≡ false →
     IsSettled b series t
 settled b series t i other h r e = untrue (has_tight b (with_supply b series t.now) r) (rw (other, e) at h)
@@ -71,10 +71,10 @@ settled b series t i other h r e = untrue (has_tight b (with_supply b series t.n
     untrue false k = cc
 
 -- a short right without a set that the line passes over is missed
-pub missing_fails : (b : Basin) (t : Told) (i : Item) →
+pub missing_fails : (b : Basin) (t : ReadSoFar) (i : Item) →
     ((r : ℕ) → r < length b.rights → is_short t.now r ≡ true → cut_of t.now r ≡ None → passes b i r ≡ true → ⊥) →
     cut_missing b t i ≡ false
-missing_fails b t i h = over (places_of b.rights) (λ r m. by_right r (numbers_from-below 0 (length b.rights) r m).1)
+missing_fails b t i h = over (indices_of b.rights) (λ r m. by_right r (numbers_from-below 0 (length b.rights) r m).1)
   where
     none : (p q s : Bool) → (p ≡ true → q ≡ true → s ≡ true → ⊥) → p && q && s ≡ false
     none true true true k = absurd (k refl refl refl)
@@ -96,12 +96,12 @@ missing_fails b t i h = over (places_of b.rights) (λ r m. by_right r (numbers_f
     over [] k = refl
     over (x ∷ xs) k = rw (k x (inl refl)) (over xs (λ r m. k r (inr m)))
 
-pub none_missing : (b : Basin) (t : Told) (i : Item) → cut_missing b t i ≡ false → (r : ℕ) → r < length b.rights →
+pub none_missing : (b : Basin) (t : ReadSoFar) (i : Item) → cut_missing b t i ≡ false → (r : ℕ) → r < length b.rights →
     is_short t.now r ≡ true → passes b i r ≡ true →
     (set : List Bool) × (cut_of t.now r ≡ Some set)
 none_missing b t i h r l short passed =
     by_set (cut_of t.now r) refl
-    (over (places_of b.rights) h (numbers_from-has 0 (length b.rights) r r l (omega arith)))
+    (over (indices_of b.rights) h (numbers_from-has 0 (length b.rights) r r l (omega arith)))
   where
     first : (p q : Bool) → p || q ≡ false → p ≡ false
     first true q k = cc
@@ -137,14 +137,14 @@ none_missing b t i h r l short passed =
 
 -- A right's call.
 
-call_good : (b : Basin) (series : Inflows) (t : Told) (r : ℕ) → IsSettled b series t → is_short t.now r ≡ true →
+call_good : (b : Basin) (series : Inflows) (t : ReadSoFar) (r : ℕ) → IsSettled b series t → is_short t.now r ≡ true →
     ((s : ℕ) → s < length b.rights → is_short t.now s ≡ true → cut_of t.now s ≡ None → is_senior b s r ≡ true → ⊥) →
     NoneHolds (rows b series t (line.Call r))
 call_good b series t r settled short passed =
     (loose_fails b series t (line.Call r) settled, (missing_fails b t (line.Call r) passed, (ap not short, (refl, tt))))
 
 -- what stays from call to call: the sets of the rights that had their place
-pub record Calling (b : Basin) (series : Inflows) (m : MonthRecord) (xs : List ℕ) (t : Told) : Type 0 where
+pub record Calling (b : Basin) (series : Inflows) (m : MonthRecord) (xs : List ℕ) (t : ReadSoFar) : Type 0 where
   pub sees : Sees b series m t.now
   pub settled : IsSettled b series t
   pub sets : (r : ℕ) → r < length b.rights → (Has xs r → ⊥) → cut_of t.now r ≡ cut_of m r
@@ -157,18 +157,19 @@ pub record HasRightSets (b : Basin) (m : MonthRecord) : Type 0 where
       (is_tight b m r set ≡ true)
   pub met : (r : ℕ) → r < length b.rights → is_short m r ≡ false → cut_of m r ≡ None
 
--- what is told behind a right's call
-pub sees_more : (b : Basin) (series : Inflows) (m : MonthRecord) (t : Told) (r : ℕ) (set : List Bool) →
+-- what was read after a right's call
+pub sees_more : (b : Basin) (series : Inflows) (m : MonthRecord) (t : ReadSoFar) (r : ℕ) (set : List Bool) →
     Sees b series m t.now → Sees b series m (put_cut t r set).now
 sees_more b series m t r set s = assumption (length-set t.now.cuts.sets r (Some set) ∙ s.sets)
 
-abbrev pub behind_call : Told → ℕ → List Bool → Told
-behind_call t r set = record (put_cut t r set) { calling = Some r }
+abbrev pub after_call : ReadSoFar → ℕ → List Bool → ReadSoFar
+after_call t r set = record (put_cut t r set) { calling = Some r }
 
-calling_more : (b : Basin) (series : Inflows) (m : MonthRecord) (r : ℕ) (rs : List ℕ) (set : List Bool) (t : Told) →
+calling_more : (b : Basin) (series : Inflows) (m : MonthRecord) (r : ℕ) (rs : List ℕ) (set : List Bool)
+    (t : ReadSoFar) →
     r < length b.rights → (Has rs r → ⊥) →
     cut_of m r ≡ Some set → is_tight b m r set ≡ true → Calling b series m (r ∷ rs) t →
-    Calling b series m rs (behind_call t r set)
+    Calling b series m rs (after_call t r set)
 calling_more b series m r rs set t l once e tight c = record {
   sees = sees_more b series m t r set c.sees;
   settled =
@@ -183,7 +184,7 @@ calling_more b series m r rs set t l once e tight c = record {
     within = omega (arith, c.sees.sets)
 
     here : has_tight b (with_supply b series (put_cut t r set).now) r ≡ true
-    here = told_tight b series m (put_cut t r set).now r set (sees_more b series m t r set c.sees)
+    here = read_tight b series m (put_cut t r set).now r set (sees_more b series m t r set c.sees)
         (set_of_with t.now.cuts r (Some set) within) ∙ tight
 
     by_place : (s : ℕ) → s < length b.rights → (Has rs s → ⊥) → cut_of (put_cut t r set).now s ≡ cut_of m s
@@ -202,9 +203,9 @@ once_in_order b r rs o h = clash (sym (o.0 r h) ∙ not_senior_to_itself b r)
 -- the `call` lines of right sets are not refuted
 pub calls_good : (b : Basin) (series : Inflows) (m : MonthRecord) → HasRightSets b m → (xs : List ℕ) →
     IsOrdered b.rights xs → ((r : ℕ) → Has xs r → r < length b.rights) →
-    (t : Told) → Calling b series m xs t →
+    (t : ReadSoFar) → Calling b series m xs t →
     AreGood b series t (flat_map (λ r. call_items r (cut_of m r)) xs) ×
-    Calling b series m [] (fold (tell b series) t (flat_map (λ r. call_items r (cut_of m r)) xs))
+    Calling b series m [] (fold (read_item b series) t (flat_map (λ r. call_items r (cut_of m r)) xs))
 calls_good b series m right [] o below t c = (tt, c)
 calls_good b series m right (r ∷ rs) o below t c =
     by_test (is_short m r) refl (calls_good b series m right rs o.1 (λ s h. below s (inr h)))
@@ -213,32 +214,32 @@ calls_good b series m right (r ∷ rs) o below t c =
     within = below r (inl refl)
 
     Further : Type 0
-    Further = (u : Told) → Calling b series m rs u →
+    Further = (u : ReadSoFar) → Calling b series m rs u →
         AreGood b series u (flat_map (λ r. call_items r (cut_of m r)) rs) ×
-        Calling b series m [] (fold (tell b series) u (flat_map (λ r. call_items r (cut_of m r)) rs))
+        Calling b series m [] (fold (read_item b series) u (flat_map (λ r. call_items r (cut_of m r)) rs))
 
     Whole : List Item → Type 0
     Whole items = AreGood b series t (items ++ flat_map (λ r. call_items r (cut_of m r)) rs)
-        × Calling b series m [] (fold (tell b series) t (items ++ flat_map (λ r. call_items r (cut_of m r)) rs))
+        × Calling b series m [] (fold (read_item b series) t (items ++ flat_map (λ r. call_items r (cut_of m r)) rs))
 
     with_set : (set : List Bool) → cut_of m r ≡ Some set → is_tight b m r set ≡ true → is_short m r ≡ true → Further →
         Whole (call_items r (Some set))
     with_set set e tight short further =
-        let told : fold (tell b series) t (call_items r (Some set)) ≡ behind_call t r set =
+        let so_far : fold (read_item b series) t (call_items r (Some set)) ≡ after_call t r set =
         tell_call b series r set t (omega (arith, within, c.sees.sets)) (right.sized r set e) in
         let rest =
-        further (behind_call t r set)
+        further (after_call t r set)
         (calling_more b series m r rs set t within (once_in_order b r rs o) e tight c) in (
           good_both b series t (call_items r (Some set)) (flat_map (λ r. call_items r (cut_of m r)) rs) (
-            call_good b series t r c.settled (told_short b series m t.now r c.sees ∙ short)
-                (λ s k short free senior. unpassed s k (sym (told_short b series m t.now s c.sees) ∙ short) free
+            call_good b series t r c.settled (read_short b series m t.now r c.sees ∙ short)
+                (λ s k short free senior. unpassed s k (sym (read_short b series m t.now s c.sees) ∙ short) free
                 senior),
-            members_good b series (members_from 0 set) (tell b series t (line.Call r)),
+            members_good b series (members_from 0 set) (read_item b series t (line.Call r)),
           )
-              (rw told rest.0),
+              (rw so_far rest.0),
           rw (
-            fold-both (tell b series) t (call_items r (Some set)) (flat_map (λ r. call_items r (cut_of m r)) rs),
-            told,
+            fold-both (read_item b series) t (call_items r (Some set)) (flat_map (λ r. call_items r (cut_of m r)) rs),
+            so_far,
           ) rest.1,
         )
       where
@@ -274,31 +275,32 @@ calls_good b series m right (r ∷ rs) o below t c =
 
 -- The converse: what `call` lines say that are not refuted.
 
--- the set that is open before some calls is settled by the first of them, or behind them
-settled_before : (b : Basin) (series : Inflows) (cut : ℕ → Option (List Bool)) (xs : List ℕ) (t : Told) →
+-- the set that is open before some calls is settled by the first of them, or after them
+settled_before : (b : Basin) (series : Inflows) (cut : ℕ → Option (List Bool)) (xs : List ℕ) (t : ReadSoFar) →
     AreGood b series t (flat_map (λ r. call_items r (cut r)) xs) →
-    IsSettled b series (fold (tell b series) t (flat_map (λ r. call_items r (cut r)) xs)) → IsSettled b series t
+    IsSettled b series (fold (read_item b series) t (flat_map (λ r. call_items r (cut r)) xs)) → IsSettled b series t
 settled_before b series cut [] t g h = h
 settled_before b series cut (r ∷ rs) t g h = by_set (cut r) (settled_before b series cut rs t) g h
   where
     by_set : (o : Option (List Bool)) → (AreGood b series t (flat_map (λ r. call_items r (cut r)) rs) →
-        IsSettled b series (fold (tell b series) t (flat_map (λ r. call_items r (cut r)) rs)) → IsSettled b series t) →
+        IsSettled b series (fold (read_item b series) t (flat_map (λ r. call_items r (cut r)) rs)) →
+        IsSettled b series t) →
         AreGood b series t (call_items r o ++ flat_map (λ r. call_items r (cut r)) rs) →
-        IsSettled b series (fold (tell b series) t (call_items r o ++ flat_map (λ r. call_items r (cut r)) rs)) →
+        IsSettled b series (fold (read_item b series) t (call_items r o ++ flat_map (λ r. call_items r (cut r)) rs)) →
         IsSettled b series t
     by_set None further g h = further g h
     by_set (Some set) further g h = settled b series t (line.Call r) refl g.0.0
 
-pub calls_told : (b : Basin) (series : Inflows) (m : MonthRecord) →
+pub calls_read : (b : Basin) (series : Inflows) (m : MonthRecord) →
     ((r : ℕ) (set : List Bool) → cut_of m r ≡ Some set → length set ≡ length b.nodes) →
-    (xs : List ℕ) → ((r : ℕ) → Has xs r → r < length b.rights) → (t : Told) → Sees b series m t.now →
+    (xs : List ℕ) → ((r : ℕ) → Has xs r → r < length b.rights) → (t : ReadSoFar) → Sees b series m t.now →
     AreGood b series t (flat_map (λ r. call_items r (cut_of m r)) xs) →
-    IsSettled b series (fold (tell b series) t (flat_map (λ r. call_items r (cut_of m r)) xs)) →
+    IsSettled b series (fold (read_item b series) t (flat_map (λ r. call_items r (cut_of m r)) xs)) →
     (r : ℕ) (set : List Bool) → Has xs r → cut_of m r ≡ Some set → (is_short m r ≡ true) × (is_tight b m r set ≡ true)
-calls_told b series m sized [] below t s g h r set k e = absurd k
-calls_told b series m sized (x ∷ xs) below t s g h r set k e =
+calls_read b series m sized [] below t s g h r set k e = absurd k
+calls_read b series m sized (x ∷ xs) below t s g h r set k e =
     by_set (cut_of m x) refl g h
-    (λ u v a c l. calls_told b series m sized xs (λ y z. below y (inr z)) u v a c r set l e)
+    (λ u v a c l. calls_read b series m sized xs (λ y z. below y (inr z)) u v a c r set l e)
   where
     Answer : Type 0
     Answer = (is_short m r ≡ true) × (is_tight b m r set ≡ true)
@@ -307,11 +309,11 @@ calls_told b series m sized (x ∷ xs) below t s g h r set k e =
     others = flat_map (λ r. call_items r (cut_of m r)) xs
 
     Further : Type 0
-    Further = (u : Told) → Sees b series m u.now → AreGood b series u others →
-        IsSettled b series (fold (tell b series) u others) → Has xs r → Answer
+    Further = (u : ReadSoFar) → Sees b series m u.now → AreGood b series u others →
+        IsSettled b series (fold (read_item b series) u others) → Has xs r → Answer
 
     by_set : (o : Option (List Bool)) → cut_of m x ≡ o → AreGood b series t (call_items x o ++ others) →
-        IsSettled b series (fold (tell b series) t (call_items x o ++ others)) → Further → Answer
+        IsSettled b series (fold (read_item b series) t (call_items x o ++ others)) → Further → Answer
     by_set None free a c further = by_place k
       where
         by_place : Has (x ∷ xs) r → Answer
@@ -319,14 +321,14 @@ calls_told b series m sized (x ∷ xs) below t s g h r set k e =
         by_place (inr l) = further t s a c l
     by_set (Some own) held a c further = by_place k
       where
-        told : fold (tell b series) t (call_items x (Some own)) ≡ behind_call t x own
-        told = tell_call b series x own t (omega (arith, below x (inl refl), s.sets)) (sized x own held)
+        so_far : fold (read_item b series) t (call_items x (Some own)) ≡ after_call t x own
+        so_far = tell_call b series x own t (omega (arith, below x (inl refl), s.sets)) (sized x own held)
 
-        rest : AreGood b series (behind_call t x own) others
-        rest = rw (← told) (good_rest b series t (call_items x (Some own)) others a)
+        rest : AreGood b series (after_call t x own) others
+        rest = rw (← so_far) (good_rest b series t (call_items x (Some own)) others a)
 
-        ended : IsSettled b series (fold (tell b series) (behind_call t x own) others)
-        ended = rw (← told, ← fold-both (tell b series) t (call_items x (Some own)) others) c
+        ended : IsSettled b series (fold (read_item b series) (after_call t x own) others)
+        ended = rw (← so_far, ← fold-both (read_item b series) t (call_items x (Some own)) others) c
 
         sees : Sees b series m (put_cut t x own).now
         sees = sees_more b series m t x own s
@@ -335,10 +337,10 @@ calls_told b series m sized (x ∷ xs) below t s g h r set k e =
         by_place (inl is) =
             let same : Some own ≡ Some set = sym held ∙ (ap (cut_of m) (sym is) ∙ e) in
             let eq : own ≡ set = cc in
-            let settled_now = settled_before b series (λ r. cut_of m r) xs (behind_call t x own) rest ended x refl in
+            let settled_now = settled_before b series (λ r. cut_of m r) xs (after_call t x own) rest ended x refl in
             let short : is_short t.now x ≡ true = not-false (is_short t.now x) (a.0.1.1.0) in
             let tight =
-            sym (told_tight b series m (put_cut t x own).now x own sees
+            sym (read_tight b series m (put_cut t x own).now x own sees
             (set_of_with t.now.cuts x (Some own) (omega (arith, below x (inl refl), s.sets)))) ∙ settled_now in
-            (ap (is_short m) is ∙ (sym (told_short b series m t.now x s) ∙ short), rw (is, ← eq) tight)
-        by_place (inr l) = further (behind_call t x own) sees rest ended l
+            (ap (is_short m) is ∙ (sym (read_short b series m t.now x s) ∙ short), rw (is, ← eq) tight)
+        by_place (inr l) = further (after_call t x own) sees rest ended l

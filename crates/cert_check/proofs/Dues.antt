@@ -7,22 +7,22 @@ use Rattle.std.proofs.lemmas.Grind.{flat_map-append}
 use Rattle.std.proofs.lemmas.List.{take_all}
 use Rattle.std.proofs.lemmas.Option.{slice_get_past}
 use Rattle.water_model.proofs.Order.{length-by_seniority}
-use Rattle.water_model.specs.Places.{seniors_first}
+use Rattle.water_model.specs.Indices.{seniors_first}
 use Rattle.water_model.specs.Text.{calling_right}
 use Rattle.water_model.specs.declared.types.Basin.{Basin}
 use Rattle.water_model.specs.declared.types.Inflows.{Inflows}
 use Rattle.water_model.specs.declared.types.MonthRecord.{MonthRecord}
-use Rattle.result_reader.specs.Telling.{Told}
+use Rattle.result_reader.specs.ReadSoFar.{ReadSoFar}
 use Rattle.cert_check.specs.Checking.{caller_due, callers_due}
 use Rattle.cert_check.specs.Keeping.{Keeps, callers_of}
 use Rattle.cert_check.specs.Walks.{IsNextDue}
-use Rattle.cert_check.specs.declared.account.Account.{Account}
+use Rattle.cert_check.specs.declared.state.CheckState.{CheckState}
 use Rattle.cert_check.specs.declared.answering.Due.{Due}
 use Rattle.cert_check.proofs.Callers.{at_length}
-use Rattle.cert_check.proofs.Entries.{callers_told}
+use Rattle.cert_check.proofs.Entries.{callers_read}
 use Rattle.cert_check.proofs.Kept.{keeps_answered}
 
--- the callers of some rights, and of those behind them
+-- the callers of some rights, and of those after them
 callers_split : (b : Basin) (m : MonthRecord) (xs : List ℕ) (k : ℕ) →
     callers_of b m xs ≡ callers_of b m (take k xs) ++ callers_of b m (drop k xs)
 callers_split b m xs k =
@@ -34,7 +34,7 @@ callers_split b m xs k =
     both [] (suc k) = refl
     both (x ∷ xs) (suc k) = ap (λ ys. x ∷ ys) (both xs k)
 
-pub due_here : (b : Basin) (series : Inflows) (a : Account) (t : Told) (due : Due) → Keeps b series a t →
+pub due_here : (b : Basin) (series : Inflows) (a : CheckState) (t : ReadSoFar) (due : Due) → Keeps b series a t →
     IsNextDue b a.month a.answered due →
     slice_get (callers_due b t.now) t.called ≡ Some (due.right, due.caller)
 due_here b series a t due k next =
@@ -48,10 +48,10 @@ due_here b series a t due k next =
     up_to : callers_of b t.now (take (due.place + 1) (seniors_first b)) ≡ callers_of b t.now
         (take a.answered (seniors_first b)) ++ (due.right, due.caller) ∷ []
     up_to =
-        sym (callers_told b series a t k (take (due.place + 1) (seniors_first b)))
+        sym (callers_read b series a t k (take (due.place + 1) (seniors_first b)))
         ∙ (next.up_to
         ∙ ap (λ xs. xs ++ (due.right, due.caller) ∷ [])
-        (callers_told b series a t k (take a.answered (seniors_first b))))
+        (callers_read b series a t k (take a.answered (seniors_first b))))
 
     all : callers_due b t.now ≡ callers_of b t.now
         (take a.answered (seniors_first b)) ++ (due.right, due.caller) ∷ callers_of b t.now
@@ -62,21 +62,21 @@ due_here b series a t due k next =
         ∙ append_assoc (callers_of b t.now (take a.answered (seniors_first b))) ((due.right, due.caller) ∷ [])
         (callers_of b t.now (drop (due.place + 1) (seniors_first b))))
 
-count_is : (b : Basin) (series : Inflows) (a : Account) (t : Told) → Keeps b series a t →
+count_is : (b : Basin) (series : Inflows) (a : CheckState) (t : ReadSoFar) → Keeps b series a t →
     callers_due b a.month ≡ callers_of b a.month (take a.answered (seniors_first b)) →
     t.called ≡ length (callers_due b t.now)
 count_is b series a t k all =
     k.answered.called
     ∙ ap length
-    (sym (sym (callers_told b series a t k (seniors_first b))
-    ∙ (all ∙ callers_told b series a t k (take a.answered (seniors_first b)))))
+    (sym (sym (callers_read b series a t k (seniors_first b))
+    ∙ (all ∙ callers_read b series a t k (take a.answered (seniors_first b)))))
 
-pub none_due : (b : Basin) (series : Inflows) (a : Account) (t : Told) → Keeps b series a t →
+pub none_due : (b : Basin) (series : Inflows) (a : CheckState) (t : ReadSoFar) → Keeps b series a t →
     callers_due b a.month ≡ callers_of b a.month (take a.answered (seniors_first b)) →
     slice_get (callers_due b t.now) t.called ≡ None
 none_due b series a t k all = slice_get_past (callers_due b t.now) t.called (omega (arith, count_is b series a t k all))
 
-pub none_left : (b : Basin) (series : Inflows) (a : Account) (t : Told) → Keeps b series a t →
+pub none_left : (b : Basin) (series : Inflows) (a : CheckState) (t : ReadSoFar) → Keeps b series a t →
     callers_due b a.month ≡ callers_of b a.month (take a.answered (seniors_first b)) →
     nat_lt t.called (length (callers_due b t.now)) ≡ false
 none_left b series a t k all = same t.called (length (callers_due b t.now)) (count_is b series a t k all)
@@ -84,7 +84,7 @@ none_left b series a t k all = same t.called (length (callers_due b t.now)) (cou
     same : (x y : ℕ) → x ≡ y → nat_lt x y ≡ false
     same x y e = grind (arith, nat_tests)
 
-pub some_left : (b : Basin) (series : Inflows) (a : Account) (t : Told) (due : Due) → Keeps b series a t →
+pub some_left : (b : Basin) (series : Inflows) (a : CheckState) (t : ReadSoFar) (due : Due) → Keeps b series a t →
     IsNextDue b a.month a.answered due →
     nat_lt t.called (length (callers_due b t.now)) ≡ true
 some_left b series a t due k next = within (callers_due b t.now) t.called (due_here b series a t due k next)
@@ -101,7 +101,7 @@ some_left b series a t due k next = within (callers_due b t.now) t.called (due_h
     within (x ∷ xs) (suc n) e = more n (length xs) (within xs n e)
 
 -- where none is due all rights are answered
-pub keeps_all : (b : Basin) (series : Inflows) (a : Account) (t : Told) → Keeps b series a t →
+pub keeps_all : (b : Basin) (series : Inflows) (a : CheckState) (t : ReadSoFar) → Keeps b series a t →
     callers_due b a.month ≡ callers_of b a.month (take a.answered (seniors_first b)) →
     Keeps b series (record a { answered = length b.rights }) t
 keeps_all b series a t k all =

@@ -1,4 +1,4 @@
--- An account keeps what is told with one line more.
+-- An account keeps what was read with one line more.
 use Rattle.std.proofs.Common.{◌≡◌, ℕ, zero, suc, ◌+◌, Bool, true, false, refl, sym, ap, ◌∙◌, arith, List, [], ◌∷◌}
 use Rattle.std.proofs.Common.{◌++◌, length, map, replicate, take, length-append}
 use Rattle.std.specs.Prelude.{Option, Some, None, ◌&&◌, not, is_some, slice_set, slice_get, if◌then◌else◌}
@@ -8,21 +8,21 @@ use Rattle.water_model.proofs.Order.{length-by_seniority}
 use Rattle.water_text.specs.Months.{IsMonth}
 use Rattle.water_text.specs.declared.month.Month.{Month}
 use Rattle.lag_returns.specs.Lags as lag
-use Rattle.lag_returns.specs.Lags.{OnTheWay, HasReturned}
+use Rattle.lag_returns.specs.Lags.{InTransit, HasReturned}
 use Rattle.month_terms.specs.Terms.{HasUsed}
 use Rattle.water_model.specs.Basin.{taking_node}
 use Rattle.water_model.specs.CutSets.{without_sets}
-use Rattle.water_model.specs.Places.{seniors_first}
+use Rattle.water_model.specs.Indices.{seniors_first}
 use Rattle.water_model.specs.declared.item.Item.{Item}
 use Rattle.water_model.specs.declared.item.Item.TheVariants as line
 use Rattle.water_model.specs.declared.quantity.Quantity.{Quantity}
 use Rattle.water_model.specs.declared.types.Basin.{Basin}
 use Rattle.water_model.specs.declared.types.Inflows.{Inflows}
-use Rattle.result_reader.specs.Telling.{Told, tell, with_supply}
+use Rattle.result_reader.specs.ReadSoFar.{ReadSoFar, read_item, with_supply}
 use Rattle.cert_check.specs.Checking.{first_row, is_due, callers_due}
 use Rattle.cert_check.specs.Keeping.{AreAnswered, AreLeft, Keeps, callers_of, is_supplied}
-use Rattle.cert_check.specs.Walks.{IsDueFrom, behind}
-use Rattle.cert_check.specs.declared.account.Account.{Account}
+use Rattle.cert_check.specs.Walks.{IsDueFrom, after}
+use Rattle.cert_check.specs.declared.state.CheckState.{CheckState}
 use Rattle.cert_check.specs.declared.answering.Due.{Due}
 use Rattle.cert_check.proofs.Fitting.{Stays, answered_stay, callers_same, callers_stay, none_answered, none_settled}
 use Rattle.cert_check.proofs.Fitting.{nobody, put_both, record_with, settled_stay, stays, supply_stays, with_amount}
@@ -33,33 +33,34 @@ clash : {X : Type 0} → false ≡ true → X
 clash e = cc
 
 -- the line of an amount
-pub keeps_amount : (b : Basin) (series : Inflows) (a : Account) (t : Told) (q : Quantity) (x amount : ℕ) →
+pub keeps_amount : (b : Basin) (series : Inflows) (a : CheckState) (t : ReadSoFar) (q : Quantity) (x amount : ℕ) →
     Keeps b series a t →
     Keeps b series (record a {
       month = with_amount q x amount a.month;
       calling = None;
       has_supply = a.has_supply && not (is_supplied q);
-    }) (tell b series t (line.Amount q x amount))
+    }) (read_item b series t (line.Amount q x amount))
 keeps_amount b series a t q x amount k = record {
   left = k.left;
   month = record_with b q x amount a.month t.now k.month;
   calling = nobody b (with_amount q x amount a.month).cuts;
   supply = supply_stays b series q x amount a.month t.now a.has_supply k.supply;
-  closes = λ e v l. rw told.take (k.closes e v l);
+  closes = λ e v l. rw so_far.take (k.closes e v l);
   callers = λ e. callers_stay b a.month (with_amount q x amount a.month) a.callers own (k.callers e);
-  passed = settled_stay b t.now (with_amount q x amount t.now) a.passed told k.passed;
-  answered = answered_stay b t.now (with_amount q x amount t.now) a.answered t.called told k.answered;
+  passed = settled_stay b t.now (with_amount q x amount t.now) a.passed so_far k.passed;
+  answered = answered_stay b t.now (with_amount q x amount t.now) a.answered t.called so_far k.answered;
   room = k.room;
 }
   where
     own : Stays a.month (with_amount q x amount a.month)
     own = stays q x amount a.month
 
-    told : Stays t.now (with_amount q x amount t.now)
-    told = stays q x amount t.now
+    so_far : Stays t.now (with_amount q x amount t.now)
+    so_far = stays q x amount t.now
 
 -- a `deliver` line, before the `called` lines
-pub keeps_delivery : (b : Basin) (series : Inflows) (a : Account) (t : Told) (x amount want : ℕ) → t.called ≡ 0 →
+pub keeps_delivery : (b : Basin) (series : Inflows) (a : CheckState) (t : ReadSoFar) (x amount want : ℕ) →
+    t.called ≡ 0 →
     Keeps b series a t →
     Keeps b series (record a {
       month = record a.month {
@@ -74,7 +75,7 @@ pub keeps_delivery : (b : Basin) (series : Inflows) (a : Account) (t : Told) (x 
       has_callers = false;
       passed = 0;
       answered = 0;
-    }) (tell b series t (line.Deliver x amount want))
+    }) (read_item b series t (line.Deliver x amount want))
 keeps_delivery b series a t x amount want none k = record {
   left = k.left;
   month = assumption (
@@ -94,7 +95,7 @@ keeps_delivery b series a t x amount want none k = record {
     taken : ℕ
     taken = if is_some (taking_node b x) then amount else 0
 
--- a list of which nothing is told keeps its length, and is the one of a month of which nothing is told
+-- a list of which nothing was read keeps its length, and is the one of a month of which nothing was read
 
 zeros : (xs : List ℕ) {n : ℕ} → length xs ≡ n →
     (length (replicate {A = ℕ} (length xs) 0) ≡ n) × (replicate {A = ℕ} (length xs) 0 ≡ replicate n 0)
@@ -108,7 +109,7 @@ no_sets (x ∷ sets) zero e = absurd (omega (arith, e))
 no_sets (x ∷ sets) (suc n) e = ap (λ ys. None ∷ ys) (no_sets sets n (omega (arith, e)))
 
 -- a `month` line
-pub keeps_month : (b : Basin) (series : Inflows) (a : Account) (t : Told) (month : Month) → IsMonth month →
+pub keeps_month : (b : Basin) (series : Inflows) (a : CheckState) (t : ReadSoFar) (month : Month) → IsMonth month →
     Keeps b series a t →
     Keeps b series (record a {
       month = record a.month {
@@ -134,7 +135,7 @@ pub keeps_month : (b : Basin) (series : Inflows) (a : Account) (t : Told) (month
       has_callers = false;
       passed = 0;
       answered = 0;
-    }) (tell b series t (line.Month month))
+    }) (read_item b series t (line.Month month))
 keeps_month b series a t month calendar k = record {
   left = k.left;
   month = assumption (
@@ -161,14 +162,14 @@ keeps_month b series a t month calendar k = record {
   room = k.room;
 }
 
--- a `called` line, with so many rights whose callers are told
-pub keeps_called : (b : Basin) (series : Inflows) (a : Account) (t : Told) (x caller next : ℕ) →
+-- a `called` line, with a given number of rights whose callers were read
+pub keeps_called : (b : Basin) (series : Inflows) (a : CheckState) (t : ReadSoFar) (x caller next : ℕ) →
     AreAnswered b t.now next (t.called + 1) → Keeps b series a t →
-    Keeps b series (record a { calling = None; answered = next }) (tell b series t (line.Called x caller))
+    Keeps b series (record a { calling = None; answered = next }) (read_item b series t (line.Called x caller))
 keeps_called b series a t x caller next answered k = assumption (nobody b a.month.cuts)
 
 -- the deliveries of one month more
-delivered_more : (b : Basin) (series : Inflows) (a : Account) (t : Told) → Keeps b series a t →
+delivered_more : (b : Basin) (series : Inflows) (a : CheckState) (t : ReadSoFar) → Keeps b series a t →
     map (λ m. m.delivered) (t.months ++ with_supply b series t.now ∷ []) ≡ map (λ m. m.delivered)
     t.months ++ a.month.delivered ∷ []
 delivered_more b series a t k =
@@ -176,8 +177,9 @@ delivered_more b series a t k =
     ∙ ap (λ xs. map (λ m. m.delivered) t.months ++ xs ∷ []) (sym k.month.shows.delivered)
 
 -- an `end` line
-pub keeps_end : (b : Basin) (series : Inflows) (a : Account) (t : Told) (lags : List OnTheWay) (comes used : List ℕ) →
-    lag.StandsFor lags b.returns (map (λ m. m.delivered) t.months ++ a.month.delivered ∷ []) →
+pub keeps_end : (b : Basin) (series : Inflows) (a : CheckState) (t : ReadSoFar) (lags : List InTransit)
+    (comes used : List ℕ) →
+    lag.LagsStandFor lags b.returns (map (λ m. m.delivered) t.months ++ a.month.delivered ∷ []) →
     HasReturned b (map (λ m. m.delivered) t.months ++ a.month.delivered ∷ []) comes →
     HasUsed b (map (λ m. m.delivered) t.months ++ a.month.delivered ∷ []) used → Keeps b series a t →
     Keeps b series (record a {
@@ -187,7 +189,7 @@ pub keeps_end : (b : Basin) (series : Inflows) (a : Account) (t : Told) (lags : 
       comes = comes;
       used = used;
       calling = None;
-    }) (tell b series t line.End)
+    }) (read_item b series t line.End)
 keeps_end b series a t lags comes used stands back spent k = assumption (left, nobody b a.month.cuts)
   where
     left : AreLeft b (t.months ++ with_supply b series t.now ∷ []) (a.done + 1) lags a.month.closing comes used
@@ -200,18 +202,19 @@ keeps_end b series a t lags comes used stands back spent k = assumption (left, n
       used = rw (delivered_more b series a t k) spent;
     }
 
--- the callers that are told are those of the account's record
-pub callers_told : (b : Basin) (series : Inflows) (a : Account) (t : Told) → Keeps b series a t → (xs : List ℕ) →
+-- the callers that were read are those of the account's record
+pub callers_read : (b : Basin) (series : Inflows) (a : CheckState) (t : ReadSoFar) → Keeps b series a t →
+    (xs : List ℕ) →
     callers_of b a.month xs ≡ callers_of b t.now xs
-callers_told b series a t k xs = callers_same b a.month t.now k.month.shows.delivered k.month.shows.want
+callers_read b series a t k xs = callers_same b a.month t.now k.month.shows.delivered k.month.shows.want
     k.month.shows.sets xs
 
 -- a good `called` line is that of the next right that answers to a caller
-pub keeps_next : (b : Basin) (series : Inflows) (a : Account) (t : Told) (x caller : ℕ) (due : Option Due) →
+pub keeps_next : (b : Basin) (series : Inflows) (a : CheckState) (t : ReadSoFar) (x caller : ℕ) (due : Option Due) →
     Keeps b series a t →
     first_row b series t (line.Called x caller) ≡ None → IsDueFrom b a.month a.answered due →
-    Keeps b series (record a { calling = None; answered = behind a.answered due })
-    (tell b series t (line.Called x caller))
+    Keeps b series (record a { calling = None; answered = after a.answered due })
+    (read_item b series t (line.Called x caller))
 keeps_next b series a t x caller None k good all =
     clash (sym
     (ap (λ o. not (is_due x caller o))
@@ -219,8 +222,8 @@ keeps_next b series a t x caller None k good all =
     ∙ (good_row b series t (line.Called x caller) good).1.1.1.0)
   where
     same : callers_due b t.now ≡ callers_of b t.now (take a.answered (seniors_first b))
-    same = sym (callers_told b series a t k (seniors_first b))
-        ∙ (all ∙ callers_told b series a t k (take a.answered (seniors_first b)))
+    same = sym (callers_read b series a t k (seniors_first b))
+        ∙ (all ∙ callers_read b series a t k (take a.answered (seniors_first b)))
 
     past : (xs : List (ℕ × ℕ)) (n : ℕ) → n ≡ length xs → slice_get xs n ≡ None
     past xs n e = slice_get_past xs n (omega arith)
@@ -241,12 +244,12 @@ keeps_next b series a t x caller (Some due) k good next =
     more : callers_of b t.now (take (due.place + 1) (seniors_first b)) ≡ callers_of b t.now
         (take a.answered (seniors_first b)) ++ (due.right, due.caller) ∷ []
     more =
-        sym (callers_told b series a t k (take (due.place + 1) (seniors_first b)))
+        sym (callers_read b series a t k (take (due.place + 1) (seniors_first b)))
         ∙ (next.up_to
         ∙ ap (λ xs. xs ++ (due.right, due.caller) ∷ [])
-        (callers_told b series a t k (take a.answered (seniors_first b))))
+        (callers_read b series a t k (take a.answered (seniors_first b))))
 
 -- the same, where the line and the account are known by an equation
-pub along : (b : Basin) (series : Inflows) (t : Told) (a c : Account) (x y : Item) → x ≡ y → c ≡ a →
-    Keeps b series a (tell b series t y) → Keeps b series c (tell b series t x)
+pub along : (b : Basin) (series : Inflows) (t : ReadSoFar) (a c : CheckState) (x y : Item) → x ≡ y → c ≡ a →
+    Keeps b series a (read_item b series t y) → Keeps b series c (read_item b series t x)
 along b series t a c x y e f k = rw (e, f) k

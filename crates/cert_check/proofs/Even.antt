@@ -4,57 +4,57 @@ use Rattle.std.proofs.Common.{◌∷◌, length}
 use Rattle.std.specs.Prelude.{◌&&◌, not, nat_le}
 use Rattle.std.specs.List.{list_all, list_any}
 use Rattle.std.proofs.lemmas.Bool.{le-leb, or_right}
-use Rattle.water_model.specs.Places.{places_of, outlets}
+use Rattle.water_model.specs.Indices.{indices_of, outlets}
 use Rattle.water_model.specs.declared.types.Basin.{Basin}
 use Rattle.water_model.specs.declared.types.Inflows.{Inflows}
 use Rattle.water_model.proofs.Order.{Has, numbers_from-has, numbers_from-below}
-use Rattle.result_reader.specs.Telling.{Told, with_supply}
+use Rattle.result_reader.specs.ReadSoFar.{ReadSoFar, with_supply}
 use Rattle.cert_check.specs.Checking.{balances}
 use Rattle.cert_check.specs.Keeping.{Keeps, with_outflow}
-use Rattle.cert_check.specs.declared.account.Account.{Account}
+use Rattle.cert_check.specs.declared.state.CheckState.{CheckState}
 
 -- Balances.
 
-told_balances : (b : Basin) (series : Inflows) (a : Account) (t : Told) (n amount v : ℕ) → Keeps b series a t →
+read_balances : (b : Basin) (series : Inflows) (a : CheckState) (t : ReadSoFar) (n amount v : ℕ) → Keeps b series a t →
     a.has_supply ≡ true →
     balances b (with_outflow a.month n amount) v ≡ balances b (with_supply b series (with_outflow t.now n amount)) v
-told_balances b series a t n amount v k has =
+read_balances b series a t n amount v k has =
     rw (k.supply has, k.month.shows.flow, k.month.shows.take, k.month.shows.out) refl
 
-pub all_even : (b : Basin) (series : Inflows) (a : Account) (t : Told) (n amount : ℕ) → Keeps b series a t →
+pub all_even : (b : Basin) (series : Inflows) (a : CheckState) (t : ReadSoFar) (n amount : ℕ) → Keeps b series a t →
     a.has_supply ≡ true →
     ((v : ℕ) → v < length b.nodes → balances b (with_outflow a.month n amount) v ≡ true) →
-    list_any (λ v. not (balances b (with_supply b series (with_outflow t.now n amount)) v)) (places_of b.nodes) ≡ false
+    list_any (λ v. not (balances b (with_supply b series (with_outflow t.now n amount)) v)) (indices_of b.nodes) ≡ false
 all_even b series a t n amount k has even =
-    over (places_of b.nodes) (λ v h. (numbers_from-below 0 (length b.nodes) v h).1)
+    over (indices_of b.nodes) (λ v h. (numbers_from-below 0 (length b.nodes) v h).1)
   where
     over : (xs : List ℕ) → ((v : ℕ) → Has xs v → v < 0 + length b.nodes) →
         list_any (λ v. not (balances b (with_supply b series (with_outflow t.now n amount)) v)) xs ≡ false
     over [] h = refl
     over (x ∷ xs) h =
-        rw (sym (told_balances b series a t n amount x k has) ∙ even x (let l = h x (inl refl) in omega arith))
+        rw (sym (read_balances b series a t n amount x k has) ∙ even x (let l = h x (inl refl) in omega arith))
         (over xs (λ v m. h v (inr m)))
 
-pub some_uneven : (b : Basin) (series : Inflows) (a : Account) (t : Told) (n amount : ℕ) → Keeps b series a t →
+pub some_uneven : (b : Basin) (series : Inflows) (a : CheckState) (t : ReadSoFar) (n amount : ℕ) → Keeps b series a t →
     a.has_supply ≡ true →
     (v : ℕ) × (v < length b.nodes) × (balances b (with_outflow a.month n amount) v ≡ false) →
-    list_any (λ v. not (balances b (with_supply b series (with_outflow t.now n amount)) v)) (places_of b.nodes) ≡ true
+    list_any (λ v. not (balances b (with_supply b series (with_outflow t.now n amount)) v)) (indices_of b.nodes) ≡ true
 some_uneven b series a t n amount k has (v, l, fails) =
-    over (places_of b.nodes) (numbers_from-has 0 (length b.nodes) v v l (omega arith))
+    over (indices_of b.nodes) (numbers_from-has 0 (length b.nodes) v v l (omega arith))
   where
     over : (xs : List ℕ) → Has xs v →
         list_any (λ v. not (balances b (with_supply b series (with_outflow t.now n amount)) v)) xs ≡ true
     over [] h = absurd h
-    over (x ∷ xs) (inl is) = rw (← is, sym (told_balances b series a t n amount v k has) ∙ fails) refl
+    over (x ∷ xs) (inl is) = rw (← is, sym (read_balances b series a t n amount v k has) ∙ fails) refl
     over (x ∷ xs) (inr m) =
         or_right (not (balances b (with_supply b series (with_outflow t.now n amount)) x)) _ (over xs m)
 
-pub uneven_is : (b : Basin) (series : Inflows) (a : Account) (t : Told) (n amount : ℕ) (even : Bool) →
+pub uneven_is : (b : Basin) (series : Inflows) (a : CheckState) (t : ReadSoFar) (n amount : ℕ) (even : Bool) →
     Keeps b series a t → a.has_supply ≡ true →
     (even ≡ true → (v : ℕ) → v < length b.nodes → balances b (with_outflow a.month n amount) v ≡ true) →
     (even ≡ false → (v : ℕ) × (v < length b.nodes) × (balances b (with_outflow a.month n amount) v ≡ false)) →
     not even ≡ list_any (λ v. not (balances b (with_supply b series (with_outflow t.now n amount)) v))
-    (places_of b.nodes)
+    (indices_of b.nodes)
 uneven_is b series a t n amount true k has all some = sym (all_even b series a t n amount k has (all refl))
 uneven_is b series a t n amount false k has all some = sym (some_uneven b series a t n amount k has (some refl))
 

@@ -2,12 +2,12 @@
 use Rattle.std.proofs.Common.{◌≡◌, ℕ, ◌+◌, ◌-◌, refl, List, [], ◌∷◌, ◌++◌, take, drop}
 use Rattle.std.specs.Prelude.{None, codes, map, Result, Ok, Err, Option, Some}
 use Rattle.std.specs.Fmt.{digits}
-use Rattle.place_sums.specs.Sums.{total, greatest_where}
+use Rattle.finite_sums.specs.Sums.{total, greatest_where}
 use Rattle.water_text.specs.Amounts.{read_amount, read_plain}
 use Rattle.water_text.specs.Months.{read_month}
 use Rattle.water_text.specs.Names.{is_name}
 use Rattle.water_text.specs.Shapes.{has_shape}
-use Rattle.water_model.specs.Places.{numbers_from, members_from, by_seniority}
+use Rattle.water_model.specs.Indices.{numbers_from, members_from, by_seniority}
 use Rattle.water_model.specs.Spelling.{line_of, fields_of}
 use Rattle.water_model.specs.History.{calls}
 use Rattle.water_model.specs.Text.{month_lines, calling_right}
@@ -86,7 +86,7 @@ of_scarce : Answers (stream 50 (old ∷ new 1920 ∷ [])) no_series
     ∷ (edited 9 4 [] scarce, at 9 kind.CutMissing)
     ∷ (edited 13 4 [] scarce, at 13 kind.CutMissing)
     ∷ (edited 17 1 [] scarce, at 17 kind.Called)
-    -- a line that isn't due, and one behind the end
+    -- a line that isn't due, and one after the end
     ∷ (take 3 scarce ++ codes "flow b 0" ∷ [], at 4 kind.BadLine)
     ∷ (scarce ++ codes "end" ∷ [], at 20 kind.AfterEnd)
     -- cut off; inside a set a text is not yet refuted for the set
@@ -99,8 +99,8 @@ unfolding digits total greatest_where has_shape read_month read_amount read_plai
     item_of read_line first_row judge
 of_scarce = refl
 
-bytes_behind : refusal (verdict (stream 50 (old ∷ new 1920 ∷ [])) no_series scarce (codes "x")) ≡ at 20 kind.AfterEnd
+bytes_after : refusal (verdict (stream 50 (old ∷ new 1920 ∷ [])) no_series scarce (codes "x")) ≡ at 20 kind.AfterEnd
 unfolding digits total greatest_where has_shape read_month read_amount read_plain is_name numbers_from members_from
     by_seniority line_of fields_of month_lines calling_right calls is_same_shape fits due_in_month due word_of item_with
     item_of read_line first_row judge
-bytes_behind = refl
+bytes_after = refl

@@ -16,14 +16,14 @@ use Rattle.result_reader.specs.Reading.{item_of, read_line}
 use Rattle.result_reader.specs.declared.bad_line.BadLine.TheVariants as bad
 use Rattle.cert_check.specs.Checking.{judge, is_whole, ok_then, verdict, verdict_at_end, verdict_from}
 use Rattle.cert_check.specs.Pieces.{AreGiven}
-use Rattle.cert_check.specs.Standing.{CheckerSeen, IsAnswer, StandsFor}
+use Rattle.cert_check.specs.Standing.{CheckerView, IsAnswer, CheckerStandsFor}
 use Rattle.cert_check.specs.Whole.{pieces_of, lines_of_pieces, rest_of_pieces, text_verdict}
 use Rattle.cert_check.specs.declared.refuted.Refuted.{Refuted}
 use Rattle.cert_check.specs.declared.refuted.RefutedKind.TheVariants as kind
 use Rattle.cert_check.proofs.Standings.{good_is, judged_bad, judged_ended, line_judged, refusal_is}
-use Rattle.cert_check.proofs.TextVerdicts.{front_refused, long_rest, short_rest}
+use Rattle.cert_check.proofs.TextVerdicts.{prefix_refused, long_rest, short_rest}
 
--- The pieces of two texts, one behind the other: the last of the first goes on in the first of the second.
+-- The pieces of two texts, one after the other: the last of the first goes on in the first of the second.
 
 abbrev glued : List ℕ → List (List ℕ) → List (List ℕ)
 glued last [] = last ∷ []
@@ -59,14 +59,14 @@ pieces_both (x ∷ xs) ys = by_feed (is_feed x) refl (pieces_both xs ys)
   where
     by_feed : (t : Bool) → is_feed x ≡ t → pieces_of (xs ++ ys) ≡ joined (pieces_of xs) (pieces_of ys) →
         pieces_of (x ∷ (xs ++ ys)) ≡ joined (pieces_of (x ∷ xs)) (pieces_of ys)
-    by_feed true e behind =
+    by_feed true e later =
         slice_split-cons_yes is_feed x (xs ++ ys) e
-        ∙ (ap (λ ps. [] ∷ ps) behind
+        ∙ (ap (λ ps. [] ∷ ps) later
         ∙ (joined-cons [] (pieces_of xs) (pieces_of ys) (some_pieces xs)
         ∙ ap (λ ps. joined ps (pieces_of ys)) (sym (slice_split-cons_yes is_feed x xs e))))
-    by_feed false e behind =
+    by_feed false e later =
         slice_split-cons_no is_feed x (xs ++ ys) e
-        ∙ (ap (onto_first x) behind
+        ∙ (ap (onto_first x) later
         ∙ (joined-onto x (pieces_of xs) (pieces_of ys) (some_pieces xs)
         ∙ ap (λ ps. joined ps (pieces_of ys)) (sym (slice_split-cons_no is_feed x xs e))))
 
@@ -76,7 +76,7 @@ joined-end [] last others = refl
 joined-end (line ∷ []) last others = refl
 joined-end (line ∷ next ∷ lines) last others = ap (λ ps. line ∷ ps) (joined-end (next ∷ lines) last others)
 
--- the pieces of a text with more bytes behind it
+-- the pieces of a text with more bytes after it
 pieces_more : (text more : List ℕ) (lines : List (List ℕ)) (held : List ℕ) → pieces_of text ≡ lines ++ held ∷ [] →
     pieces_of (text ++ more) ≡ lines ++ glued held (pieces_of more)
 pieces_more text more lines held h =
@@ -93,7 +93,7 @@ long_read b items bytes h =
     passes : (n : ℕ) → 128 < n → nat_lt 128 n ≡ true
     passes n h = grind (arith, nat_tests)
 
--- what a text is refused for behind good lines, where the next is such a line
+-- what a text is refused for after good lines, where the next is such a line
 abbrev long_refusal : List Item → Refuted
 long_refusal items = record {
   line = length items + 1;
@@ -114,21 +114,21 @@ long_verdict : (b : Basin) (series : Inflows) (lines : List (List ℕ)) (bytes :
 long_verdict b series lines bytes items good long =
     line_judged b series lines bytes items (Err (long_refusal items)) good (long_judged b series items bytes long)
 
--- A text with such a line in it is refused where its front is, though the line may go on.
-long_front : (b : Basin) (series : Inflows) (bytes : List ℕ) (lines : List (List ℕ)) (long : List ℕ)
+-- A text with such a line in it is refused where its prefix is, though the line may go on.
+long_prefix : (b : Basin) (series : Inflows) (bytes : List ℕ) (lines : List (List ℕ)) (long : List ℕ)
     (others : List (List ℕ)) (e : Refuted) → pieces_of bytes ≡ lines ++ long ∷ others → 128 < length long →
     verdict_from b series [] (lines ++ long ∷ []) ≡ Err e → text_verdict b series bytes ≡ Err e
-long_front b series bytes lines long [] e is more h =
+long_prefix b series bytes lines long [] e is more h =
     ap (λ ps. verdict b series (lines_of_pieces ps) (rest_of_pieces ps)) is
     ∙ (long_rest b series lines long more ∙ ap (ok_then (verdict_at_end [])) h)
-long_front b series bytes lines long (other ∷ others) e is more h =
-    front_refused b series bytes (lines ++ long ∷ []) (other ∷ others) e
+long_prefix b series bytes lines long (other ∷ others) e is more h =
+    prefix_refused b series bytes (lines ++ long ∷ []) (other ∷ others) e
     (is ∙ sym (append_assoc lines (long ∷ []) (other ∷ others))) (omega arith) h
 
--- What a checker was given, with the front of a piece more.
+-- What a checker was given, with the prefix of a piece more.
 
 -- nothing so far
-pub nothing_given : (c : CheckerSeen) → StandsFor c [] → AreGiven c nothing_held []
+pub nothing_given : (c : CheckerView) → CheckerStandsFor c [] → AreGiven c nothing_held []
 nothing_given c stands = record {
   lines = [];
   stands = stands;
@@ -142,7 +142,7 @@ nothing_given c stands = record {
     by_refused (Some e) is = let never : Ok [] ≡ Err e = refusal_is c [] e is stands in cc
 
 -- bytes that end no line
-pub all_given : (c : CheckerSeen) (line after : LineHeld) (text piece : List ℕ) (taken : ℕ) → AreGiven c line text →
+pub all_given : (c : CheckerView) (line after : LineHeld) (text piece : List ℕ) (taken : ℕ) → AreGiven c line text →
     TakesAll line.bytes after.bytes piece taken → AreGiven c after (text ++ take taken piece)
 all_given c line after text piece taken given takes = record {
   lines = given.lines;
@@ -164,9 +164,10 @@ to_feed old new piece taken t =
     ∙ take-append-add t.before (10 ∷ drop taken piece) 1)
 
 -- bytes that end a line
-line_given : (c after : CheckerSeen) (line : LineHeld) (text bytes piece : List ℕ) (taken : ℕ) → AreGiven c line text →
+line_given : (c after : CheckerView) (line : LineHeld) (text bytes piece : List ℕ) (taken : ℕ) → AreGiven c line text →
     TakesToFeed line.bytes bytes piece taken →
-    ((lines : List (List ℕ)) → StandsFor c lines → StandsFor after (lines ++ bytes ∷ [])) → after.refused ≡ None →
+    ((lines : List (List ℕ)) → CheckerStandsFor c lines → CheckerStandsFor after (lines ++ bytes ∷ [])) →
+    after.refused ≡ None →
     AreGiven after nothing_held (text ++ take taken piece)
 line_given c after line text bytes piece taken given takes stands good = record {
   lines = given.lines ++ bytes ∷ [];
@@ -181,37 +182,39 @@ line_given c after line text bytes piece taken given takes stands good = record 
 }
 
 -- The line that is ended is at fault.
-line_refused : (c : CheckerSeen) (line : LineHeld) (text bytes piece : List ℕ) (taken : ℕ) (e : Refuted) →
+line_refused : (c : CheckerView) (line : LineHeld) (text bytes piece : List ℕ) (taken : ℕ) (e : Refuted) →
     AreGiven c line text → TakesToFeed line.bytes bytes piece taken →
-    ((lines : List (List ℕ)) → StandsFor c lines → verdict_from c.basin c.series [] (lines ++ bytes ∷ []) ≡ Err e) →
+    ((lines : List (List ℕ)) → CheckerStandsFor c lines → verdict_from c.basin c.series [] (lines ++ bytes ∷ []) ≡ Err
+    e) →
     (more : List ℕ) → text_verdict c.basin c.series (text ++ piece ++ more) ≡ Err e
 line_refused c line text bytes piece taken e given takes answer more =
-    front_refused c.basin c.series (text ++ piece ++ more) (given.lines ++ bytes ∷ []) (pieces_of behind) e
+    prefix_refused c.basin c.series (text ++ piece ++ more) (given.lines ++ bytes ∷ []) (pieces_of later) e
     (ap pieces_of (append_assoc text piece more)
     ∙ (pieces_more text (piece ++ more) given.lines line.bytes given.pieces
     ∙ (ap (λ ps. given.lines ++ glued line.bytes ps) cut
-    ∙ (ap (λ held. given.lines ++ held ∷ pieces_of behind) (sym takes.held)
-    ∙ sym (append_assoc given.lines (bytes ∷ []) (pieces_of behind))))))
-    (some_pieces behind) (answer given.lines given.stands)
+    ∙ (ap (λ held. given.lines ++ held ∷ pieces_of later) (sym takes.held)
+    ∙ sym (append_assoc given.lines (bytes ∷ []) (pieces_of later))))))
+    (some_pieces later) (answer given.lines given.stands)
   where
-    behind : List ℕ
-    behind = drop taken piece ++ more
+    later : List ℕ
+    later = drop taken piece ++ more
 
-    cut : pieces_of (piece ++ more) ≡ takes.before ∷ pieces_of behind
+    cut : pieces_of (piece ++ more) ≡ takes.before ∷ pieces_of later
     cut =
         ap (λ xs. pieces_of (xs ++ more)) takes.ended
         ∙ (ap pieces_of (append_assoc takes.before (10 ∷ drop taken piece) more)
-        ∙ slice_split_at is_feed takes.before 10 behind takes.no_feed refl)
+        ∙ slice_split_at is_feed takes.before 10 later takes.no_feed refl)
 
 -- the items of the lines so far, none of which is at fault
-good_items : (c : CheckerSeen) (lines : List (List ℕ)) → StandsFor c lines → c.refused ≡ None →
+good_items : (c : CheckerView) (lines : List (List ℕ)) → CheckerStandsFor c lines → c.refused ≡ None →
     (items : List Item) × (verdict_from c.basin c.series [] lines ≡ Ok items)
-good_items c lines stands good = let book = good_is c lines good stands in (book.items, book.verdict)
+good_items c lines stands good = let progress = good_is c lines good stands in (progress.items, progress.verdict)
 
 -- A line that is too long is never taken.
-long_taken : (c : CheckerSeen) (line : LineHeld) (text bytes piece : List ℕ) (taken : ℕ) → AreGiven c line text →
+long_taken : (c : CheckerView) (line : LineHeld) (text bytes piece : List ℕ) (taken : ℕ) → AreGiven c line text →
     TakesToFull line.bytes bytes piece taken →
-    ((lines : List (List ℕ)) → StandsFor c lines → IsOk (verdict_from c.basin c.series [] (lines ++ bytes ∷ []))) → ⊥
+    ((lines : List (List ℕ)) → CheckerStandsFor c lines → IsOk
+    (verdict_from c.basin c.series [] (lines ++ bytes ∷ []))) → ⊥
 long_taken c line text bytes piece taken given takes answer =
     let good = good_items c given.lines given.stands given.good in
     never (verdict_from c.basin c.series [] (given.lines ++ bytes ∷ [])) (long_refusal good.0)
@@ -223,37 +226,38 @@ long_taken c line text bytes piece taken given takes answer =
     never (Err other) e ok is = cc
 
 -- It is refused, and so is each text in which it goes on.
-long_refused : (c : CheckerSeen) (line : LineHeld) (text bytes piece : List ℕ) (taken : ℕ) (e : Refuted) →
+long_refused : (c : CheckerView) (line : LineHeld) (text bytes piece : List ℕ) (taken : ℕ) (e : Refuted) →
     AreGiven c line text → TakesToFull line.bytes bytes piece taken →
-    ((lines : List (List ℕ)) → StandsFor c lines → verdict_from c.basin c.series [] (lines ++ bytes ∷ []) ≡ Err e) →
+    ((lines : List (List ℕ)) → CheckerStandsFor c lines → verdict_from c.basin c.series [] (lines ++ bytes ∷ []) ≡ Err
+    e) →
     (more : List ℕ) → text_verdict c.basin c.series (text ++ piece ++ more) ≡ Err e
 long_refused c line text bytes piece taken e given takes answer more =
-    by_pieces (pieces_of behind) refl (some_pieces behind)
+    by_pieces (pieces_of later) refl (some_pieces later)
   where
-    front : List ℕ
-    front = take taken piece
+    prefix : List ℕ
+    prefix = take taken piece
 
-    behind : List ℕ
-    behind = drop taken piece ++ more
+    later : List ℕ
+    later = drop taken piece ++ more
 
-    cut : pieces_of (piece ++ more) ≡ glued front (pieces_of behind)
+    cut : pieces_of (piece ++ more) ≡ glued prefix (pieces_of later)
     cut =
         ap (λ xs. pieces_of (xs ++ more)) (sym (take-append-drop taken piece))
-        ∙ (ap pieces_of (append_assoc front (drop taken piece) more)
-        ∙ pieces_more front behind [] front (slice_split_none is_feed front takes.no_feed))
+        ∙ (ap pieces_of (append_assoc prefix (drop taken piece) more)
+        ∙ pieces_more prefix later [] prefix (slice_split_none is_feed prefix takes.no_feed))
 
-    by_pieces : (ps : List (List ℕ)) → pieces_of behind ≡ ps → 0 < length ps →
+    by_pieces : (ps : List (List ℕ)) → pieces_of later ≡ ps → 0 < length ps →
         text_verdict c.basin c.series (text ++ piece ++ more) ≡ Err e
     by_pieces [] is some = absurd (omega arith)
     by_pieces (next ∷ others) is some =
         let good = good_items c given.lines given.stands given.good in
-        let held : line.bytes ++ (front ++ next) ≡ bytes ++ next =
-        sym (append_assoc line.bytes front next) ∙ ap (λ xs. xs ++ next) (sym takes.held) in
+        let held : line.bytes ++ (prefix ++ next) ≡ bytes ++ next =
+        sym (append_assoc line.bytes prefix next) ∙ ap (λ xs. xs ++ next) (sym takes.held) in
         let longer : 128 < length (bytes ++ next) = omega (arith, takes.full, length-append bytes next) in
-        long_front c.basin c.series (text ++ piece ++ more) given.lines (bytes ++ next) others e
+        long_prefix c.basin c.series (text ++ piece ++ more) given.lines (bytes ++ next) others e
         (ap pieces_of (append_assoc text piece more)
         ∙ (pieces_more text (piece ++ more) given.lines line.bytes given.pieces
-        ∙ (ap (λ ps. given.lines ++ glued line.bytes ps) (cut ∙ ap (glued front) is)
+        ∙ (ap (λ ps. given.lines ++ glued line.bytes ps) (cut ∙ ap (glued prefix) is)
         ∙ ap (λ line. given.lines ++ line ∷ others) held)))
         longer
         (long_verdict c.basin c.series given.lines (bytes ++ next) good.0 good.1 longer
@@ -274,19 +278,22 @@ ended false old new piece taken e takes = cc
 
 -- A line that is whole: a line feed ended it, or it is too long.
 
-pub ended_given : (c after : CheckerSeen) (line : LineHeld) (text bytes piece : List ℕ) (taken : ℕ) →
+pub ended_given : (c after : CheckerView) (line : LineHeld) (text bytes piece : List ℕ) (taken : ℕ) →
     AreGiven c line text → Takes true line.bytes bytes piece taken →
-    ((lines : List (List ℕ)) → StandsFor c lines → StandsFor after (lines ++ bytes ∷ [])) → after.refused ≡ None →
-    ((lines : List (List ℕ)) → StandsFor c lines → IsOk (verdict_from c.basin c.series [] (lines ++ bytes ∷ []))) →
+    ((lines : List (List ℕ)) → CheckerStandsFor c lines → CheckerStandsFor after (lines ++ bytes ∷ [])) →
+    after.refused ≡ None →
+    ((lines : List (List ℕ)) → CheckerStandsFor c lines → IsOk
+    (verdict_from c.basin c.series [] (lines ++ bytes ∷ []))) →
     AreGiven after nothing_held (text ++ take taken piece)
 ended_given c after line text bytes piece taken given takes stands good answer = elim takes [
   | inl to_feed ↦ line_given c after line text bytes piece taken given to_feed stands good
   | inr to_full ↦ absurd (long_taken c line text bytes piece taken given to_full answer)
 ]
 
-pub ended_refused : (c : CheckerSeen) (line : LineHeld) (text bytes piece : List ℕ) (taken : ℕ) (e : Refuted) →
+pub ended_refused : (c : CheckerView) (line : LineHeld) (text bytes piece : List ℕ) (taken : ℕ) (e : Refuted) →
     AreGiven c line text → Takes true line.bytes bytes piece taken →
-    ((lines : List (List ℕ)) → StandsFor c lines → verdict_from c.basin c.series [] (lines ++ bytes ∷ []) ≡ Err e) →
+    ((lines : List (List ℕ)) → CheckerStandsFor c lines → verdict_from c.basin c.series [] (lines ++ bytes ∷ []) ≡ Err
+    e) →
     (more : List ℕ) → text_verdict c.basin c.series (text ++ piece ++ more) ≡ Err e
 ended_refused c line text bytes piece taken e given takes answer more = elim takes [
   | inl to_feed ↦ line_refused c line text bytes piece taken e given to_feed answer more
@@ -295,7 +302,7 @@ ended_refused c line text bytes piece taken e given takes answer more = elim tak
 
 -- A piece from a place on.
 
-pub given_on : (c : CheckerSeen) (line : LineHeld) (text piece : List ℕ) (at taken : ℕ) →
+pub given_on : (c : CheckerView) (line : LineHeld) (text piece : List ℕ) (at taken : ℕ) →
     AreGiven c line ((text ++ take at piece) ++ take taken (slice_range piece at (length piece))) →
     AreGiven c line (text ++ take (at + taken) piece)
 given_on c line text piece at taken given =
@@ -311,9 +318,9 @@ refused_on b series text piece more at e h =
     ∙ ap (λ xs. (text ++ take at piece) ++ xs) (sym (take_rest piece at)))) ∙ h
 
 -- No byte is left.
-pub text_answered : (c : CheckerSeen) (line : LineHeld) (text : List ℕ) (result : Result ℕ Refuted) →
+pub text_answered : (c : CheckerView) (line : LineHeld) (text : List ℕ) (result : Result ℕ Refuted) →
     AreGiven c line text →
-    ((lines : List (List ℕ)) → StandsFor c lines →
+    ((lines : List (List ℕ)) → CheckerStandsFor c lines →
     IsAnswer c.basin result (verdict c.basin c.series lines line.bytes)) →
     IsAnswer c.basin result (text_verdict c.basin c.series text)
 text_answered c line text result given answer =

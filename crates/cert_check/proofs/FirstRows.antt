@@ -4,7 +4,7 @@ use Rattle.std.specs.Prelude.{Some, None, find, option_map, if◌then◌else◌}
 use Rattle.water_model.specs.declared.item.Item.{Item}
 use Rattle.water_model.specs.declared.types.Basin.{Basin}
 use Rattle.water_model.specs.declared.types.Inflows.{Inflows}
-use Rattle.result_reader.specs.Telling.{Told}
+use Rattle.result_reader.specs.ReadSoFar.{ReadSoFar}
 use Rattle.cert_check.specs.Checking.{Row, rows, first_row}
 use Rattle.cert_check.specs.FirstRows.{first_of}
 use Rattle.cert_check.specs.declared.refuted.RefutedKind.{RefutedKind}
@@ -19,7 +19,7 @@ found ((kind, holds) ∷ xs) = by_test holds (found xs)
     by_test true h = refl
     by_test false h = h
 
-pub first_is : (b : Basin) (series : Inflows) (t : Told) (i : Item) →
+pub first_is : (b : Basin) (series : Inflows) (t : ReadSoFar) (i : Item) →
     first_row b series t i ≡ first_of (rows b series t i)
 unfolding first_row
 first_is b series t i = found (rows b series t i)
@@ -35,4 +35,4 @@ none_first [] ys h = refl
 none_first ((k, true) ∷ xs) ys h = cc
 none_first ((k, false) ∷ xs) ys h = none_first xs ys h
 
--- What is known stays while what is told stays.
+-- What is known stays while what was read stays.

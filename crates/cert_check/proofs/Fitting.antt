@@ -8,14 +8,14 @@ use Rattle.water_model.specs.CutSets.{CutSets}
 use Rattle.water_model.specs.Entries.{count_in}
 use Rattle.water_model.specs.Quantities.{amounts_of, space_of, with_amounts}
 use Rattle.water_model.specs.History.{calls}
-use Rattle.water_model.specs.Places.{seniors_first}
+use Rattle.water_model.specs.Indices.{seniors_first}
 use Rattle.water_model.specs.Text.{calling_right}
 use Rattle.water_model.specs.declared.quantity.Quantity.{Quantity}
 use Rattle.water_model.specs.declared.quantity.Quantity.TheVariants as quantity
 use Rattle.water_model.specs.declared.types.Basin.{Basin}
 use Rattle.water_model.specs.declared.types.Inflows.{Inflows}
 use Rattle.water_model.specs.declared.types.MonthRecord.{MonthRecord}
-use Rattle.result_reader.specs.Telling.{with_supply}
+use Rattle.result_reader.specs.ReadSoFar.{with_supply}
 use Rattle.cert_check.specs.Keeping.{AreAnswered, AreSettled, IsCalling, callers_of, is_supplied}
 use Rattle.cert_check.specs.Shows.{IsRecordOf}
 
@@ -24,7 +24,7 @@ clash e = cc
 
 -- no right's nodes come
 pub nobody : (b : Basin) (cuts : CutSets) → IsCalling b cuts None None
-nobody b cuts = record { told = refl; held = λ r e. never r e }
+nobody b cuts = record { so_far = refl; held = λ r e. never r e }
   where
     never : {X : Type 0} (r : ℕ) → None ≡ Some r → X
     never r e = cc
@@ -53,7 +53,7 @@ amounts_sized b m k quantity.Closing = k.fits.closing
 abbrev pub with_amount : Quantity → ℕ → ℕ → MonthRecord → MonthRecord
 with_amount q entry amount m = with_amounts q m (slice_set (amounts_of q m) entry amount)
 
--- a list keeps its length, and stays the one that is told
+-- a list keeps its length, and stays the one that was read
 pub put_both : {A : Type 0} {xs now : List A} {n : ℕ} (place : ℕ) (x : A) → length xs ≡ n → xs ≡ now →
     (length (slice_set xs place x) ≡ n) × (slice_set xs place x ≡ slice_set now place x)
 put_both {xs = xs} place x l e = (length-set xs place x ∙ l, ap (λ ys. slice_set ys place x) e)

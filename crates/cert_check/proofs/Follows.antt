@@ -13,7 +13,7 @@ use Rattle.water_model.specs.declared.types.MonthRecord.{MonthRecord}
 use Rattle.water_model.proofs.Order.{seniors_below}
 use Rattle.water_model.proofs.Quantities.{has-with_line}
 use Rattle.result_reader.specs.Records.{IsTextMonth}
-use Rattle.result_reader.proofs.AllTold.{has_set}
+use Rattle.result_reader.proofs.AllRead.{has_set}
 use Rattle.cert_check.specs.Checking.{is_tight, amount_wrong}
 use Rattle.cert_check.proofs.Calls.{HasRightSets}
 use Rattle.cert_check.proofs.Month.{IsGoodMonth}
@@ -74,17 +74,17 @@ pub follows_good : (b : Basin) (series : Inflows) (before : List MonthRecord) (m
     Follows b series before m → IsTextMonth b series before m → IsGoodMonth b series before m
 follows_good b series before m f t = record {
   opening = λ x h. ap (λ xs. slice_index xs x) f.opening;
-  evaporated = λ x h. f.behind.evaporated x (has-with_line b quantity.Evaporated x h).0;
-  returned = λ x h. f.behind.returned x (has-with_line b quantity.Returned x h).0;
-  used = λ x h. f.behind.used x (has-with_line b quantity.Used x h).0;
+  evaporated = λ x h. f.after.evaporated x (has-with_line b quantity.Evaporated x h).0;
+  returned = λ x h. f.after.returned x (has-with_line b quantity.Returned x h).0;
+  used = λ x h. f.after.used x (has-with_line b quantity.Used x h).0;
   flow = λ x h. le-ltb (carry_of b m.month x) (slice_index m.plan.flow x)
-      (f.behind.plan.carries x (has-with_line b quantity.Flow x h).0);
+      (f.after.plan.carries x (has-with_line b quantity.Flow x h).0);
   deliver =
       λ x h. (let l = seniors_below b.rights x h in
-      (f.behind.want x l, amount_right b m x (instream_link b x) (f.behind.plan.wants x l) (f.behind.delivered x l)));
+      (f.after.want x l, amount_right b m x (instream_link b x) (f.after.plan.wants x l) (f.after.delivered x l)));
   balance =
       λ n l. eq-eqb (slice_index m.supply n + inflow_to b m.plan.flow n)
-      (outflow_from b m.plan.flow n + taken_at b m.plan.take n + slice_index m.plan.out n) (f.behind.plan.balance n l);
+      (outflow_from b m.plan.flow n + taken_at b m.plan.take n + slice_index m.plan.out n) (f.after.plan.balance n l);
   sets = right_sets b series before m f t;
   closing = λ x h. f.closing x (has-with_line b quantity.Closing x h).0;
 }

@@ -6,15 +6,15 @@ use Rattle.std.specs.Prelude.{if◌then◌else◌}
 use Rattle.std.proofs.lemmas.Bool.{cases_Bool, eqb-true, le-ltb, lt-ltb, ltb-false}
 use Rattle.std.proofs.lemmas.Grind.{same_number_lists}
 use Rattle.std.proofs.lemmas.List.{length-replicate, length-map}
-use Rattle.result_reader.proofs.AllTold.{nothing_returns, nothing_used}
+use Rattle.result_reader.proofs.AllRead.{nothing_returns, nothing_used}
 use Rattle.water_model.specs.Basin.{taking_node, taking_node_of_kind, instream_link, link_of_kind}
 use Rattle.water_model.specs.History.{Follows, cut_of, opening_after}
 use Rattle.water_model.specs.Hydrology.{run_month, inflow_at, stored_at, returned_at, used_of}
 use Rattle.water_model.specs.Entries.{count_in, in_order}
-use Rattle.water_model.specs.Places.{numbers_from, places_of, seniors_first}
+use Rattle.water_model.specs.Indices.{numbers_from, indices_of, seniors_first}
 use Rattle.water_model.specs.Quantities.{amounts_of, entries_with_line, has_line, space_of}
 use Rattle.water_model.specs.Plans.{carry_of, delivery_by_link, inflow_to, outflow_from, taken_at}
-use Rattle.water_model.specs.Valid.{IsValidBasin, HasValidPlace}
+use Rattle.water_model.specs.Valid.{IsValidBasin, HasValidSite}
 use Rattle.water_model.specs.declared.quantity.Quantity.{Quantity}
 use Rattle.water_model.specs.declared.quantity.Quantity.TheVariants as quantity
 use Rattle.water_model.specs.declared.types.Basin.{Basin}
@@ -26,9 +26,9 @@ use Rattle.water_model.proofs.Balance.{entry_at, kind_is}
 use Rattle.water_model.proofs.Entries.{in_order-has}
 use Rattle.water_model.proofs.Order.{Has, filter-has, has-filter, length-numbers_from, seniors_have}
 use Rattle.water_model.proofs.Quantities.{has-with_line, with_line-has}
-use Rattle.result_reader.proofs.MonthTold.{take_of}
+use Rattle.result_reader.proofs.MonthRead.{take_of}
 use Rattle.result_reader.proofs.Telling.{set_all, length-set_all, set_all-has, set_all-other}
-use Rattle.result_reader.proofs.WholeMonth.{IsAllTold}
+use Rattle.result_reader.proofs.WholeMonth.{IsAllRead}
 use Rattle.cert_check.specs.Checking.{amount_wrong}
 use Rattle.cert_check.proofs.Follows.{is_tight_is}
 use Rattle.cert_check.proofs.Month.{IsGoodMonth}
@@ -36,19 +36,19 @@ use Rattle.cert_check.proofs.Rows.{is_same}
 use Rattle.result_reader.proofs.Sets.{length-put_sets}
 use Rattle.water_model.proofs.Lists.{no_numbers}
 
--- Lists that are told.
+-- Lists that were read.
 
-told_len : (xs : List ℕ) (a : ℕ → ℕ) (n : ℕ) (ys : List ℕ) → set_all xs a (replicate n 0) ≡ ys → length ys ≡ n
-told_len xs a n ys is = sym (ap length is) ∙ (length-set_all xs a (replicate n 0) ∙ length-replicate n 0)
+read_len : (xs : List ℕ) (a : ℕ → ℕ) (n : ℕ) (ys : List ℕ) → set_all xs a (replicate n 0) ≡ ys → length ys ≡ n
+read_len xs a n ys is = sym (ap length is) ∙ (length-set_all xs a (replicate n 0) ∙ length-replicate n 0)
 
 untold : (xs : List ℕ) (a : ℕ → ℕ) (n : ℕ) (ys : List ℕ) (k : ℕ) → set_all xs a (replicate n 0) ≡ ys → (Has xs k → ⊥) →
     slice_index ys k ≡ 0
 untold xs a n ys k is none =
     sym (ap (λ zs. slice_index zs k) is) ∙ (set_all-other xs a (replicate n 0) k none ∙ no_numbers n k)
 
-told_at : (xs : List ℕ) (a : ℕ → ℕ) (n : ℕ) (ys : List ℕ) (k : ℕ) → set_all xs a (replicate n 0) ≡ ys → k < n →
+read_at : (xs : List ℕ) (a : ℕ → ℕ) (n : ℕ) (ys : List ℕ) (k : ℕ) → set_all xs a (replicate n 0) ≡ ys → k < n →
     Has xs k → slice_index ys k ≡ a k
-told_at xs a n ys k is l has =
+read_at xs a n ys k is l has =
     sym (ap (λ zs. slice_index zs k) is)
     ∙ set_all-has xs a (replicate n 0) k (omega (arith, length-replicate {A = ℕ} n 0)) has
 
@@ -59,11 +59,11 @@ map_at f from (suc n) zero l = let e : from ≡ from + 0 = omega arith in ap f e
 map_at f from (suc n) (suc k) l = let e : suc from + k ≡ from + suc k = omega arith in
     map_at f (suc from) n k (omega arith) ∙ ap f e
 
--- a number of a place that passes a test or is told to be 0
+-- a number of a place that passes a test or was read to be 0
 by_filter : (p : ℕ → Bool) (xs : List ℕ) (k x y : ℕ) → Has xs k → (Has (filter p xs) k → x ≡ y) →
     ((Has (filter p xs) k → ⊥) → x ≡ 0) → (p k ≡ false → y ≡ 0) → x ≡ y
-by_filter p xs k x y has told none zero_there = elim (cases_Bool (p k)) [
-  | inl passes ↦ told (has-filter p xs k has passes)
+by_filter p xs k x y has so_far none zero_there = elim (cases_Bool (p k)) [
+  | inl passes ↦ so_far (has-filter p xs k has passes)
   | inr fails ↦ none (λ h. (let both : false ≡ true = sym fails ∙ (filter-has p xs k h).1 in cc))
       ∙ sym (zero_there fails)
 ]
@@ -78,7 +78,7 @@ takes_or_stays : (b : Basin) (r : ℕ) → IsValidBasin b → r < length b.right
 unfolding TakesOrStays
 takes_or_stays b r valid l = (let k = kind_is b valid r l in rw (k.node, k.link) (by_kind k.kind k.place))
   where
-    by_kind : (k : RightKind) → HasValidPlace b k →
+    by_kind : (k : RightKind) → HasValidSite b k →
         ((is_some (taking_node_of_kind b k) ≡ true) × (link_of_kind k ≡ None)) ⊎
         ((taking_node_of_kind b k ≡ None) × (is_some (link_of_kind k) ≡ true))
     by_kind (kind.Diversion at) h = inl (refl, refl)
@@ -86,7 +86,7 @@ takes_or_stays b r valid l = (let k = kind_is b valid r l in rw (k.node, k.link)
     by_kind (kind.Zone reservoir level) h =
         (let entry = entry_at b.reservoirs reservoir h.0 in inl (rw (entry.1) refl, refl))
 
--- what a month takes and delivers, by what is told
+-- what a month takes and delivers, by what was read
 
 record IsServed (b : Basin) (m : MonthRecord) (r : ℕ) : Type 0 where
   most : slice_index m.plan.take r ≤ slice_index m.want r
@@ -116,21 +116,21 @@ served b m r (Some node) (Some link) t l (inl (e, f)) take right = cc
 served b m r (Some node) (Some link) t l (inr (e, f)) take right = cc
 
 pub good_follows : (b : Basin) (series : Inflows) (before : List MonthRecord) (m : MonthRecord) → IsValidBasin b →
-    IsAllTold b series m → IsGoodMonth b series before m →
+    IsAllRead b series m → IsGoodMonth b series before m →
     m.index ≡ length before → m.month ≡ run_month b m.index → length (opening_after b before) ≡ length b.reservoirs →
     Follows b series before m
 good_follows b series before m valid a g index month opens = record {
-  behind = record {
+  after = record {
     fits = record {
       opening = opening_len;
       evaporated = listed_len quantity.Evaporated;
       closing = listed_len quantity.Closing;
       returned = listed_len quantity.Returned;
       supply = sym (ap length a.supply)
-          ∙ (length-map (places_of b.nodes) supply_of ∙ length-numbers_from 0 (length b.nodes));
+          ∙ (length-map (indices_of b.nodes) supply_of ∙ length-numbers_from 0 (length b.nodes));
       used = listed_len quantity.Used;
-      want = told_len (seniors_first b) _ (length b.rights) m.want a.want;
-      delivered = told_len (seniors_first b) _ (length b.rights) m.delivered a.delivered;
+      want = read_len (seniors_first b) _ (length b.rights) m.want a.want;
+      delivered = read_len (seniors_first b) _ (length b.rights) m.delivered a.delivered;
       cuts = sym (ap length a.sets)
           ∙ (length-put_sets (seniors_first b) (λ r. cut_of m r) (replicate (length b.rights) None)
           ∙ length-replicate (length b.rights) None);
@@ -152,7 +152,7 @@ good_follows b series before m valid a g index month opens = record {
     want = λ r l. (g.deliver r (seniors_have b.rights r l)).0;
     plan = record {
       flow_len = listed_len quantity.Flow;
-      take_len = told_len (seniors_first b) _ (length b.rights) m.plan.take a.take;
+      take_len = read_len (seniors_first b) _ (length b.rights) m.plan.take a.take;
       out_len = listed_len quantity.Outflow;
       carries = λ e l. ltb-false (carry_of b m.month e) (slice_index m.plan.flow e)
           (g.flow e (with_line-has b quantity.Flow e l refl));
@@ -181,7 +181,7 @@ good_follows b series before m valid a g index month opens = record {
     zero_more n = omega arith
 
     listed_len : (q : Quantity) → length (amounts_of q m) ≡ count_in (space_of q) b
-    listed_len q = told_len (entries_with_line b q) _ (count_in (space_of q) b) (amounts_of q m) (a.listed q)
+    listed_len q = read_len (entries_with_line b q) _ (count_in (space_of q) b) (amounts_of q m) (a.listed q)
 
     opening_len : length m.opening ≡ length b.reservoirs
     opening_len = listed_len quantity.Opening
@@ -191,6 +191,6 @@ good_follows b series before m valid a g index month opens = record {
 
     right : (r : ℕ) → r < length b.rights → IsServed b m r
     right r l = served b m r (taking_node b r) (instream_link b r) refl refl (takes_or_stays b r valid l)
-        (told_at (seniors_first b) (take_of b (λ k. slice_index m.delivered k)) (length b.rights) m.plan.take r a.take l
+        (read_at (seniors_first b) (take_of b (λ k. slice_index m.delivered k)) (length b.rights) m.plan.take r a.take l
         (seniors_have b.rights r l))
         (g.deliver r (seniors_have b.rights r l)).1

@@ -3,7 +3,7 @@ use Rattle.std.proofs.Common.{◌≡◌, ℕ, ◌<◌, ◌≤◌, Bool, true, fa
 use Rattle.std.proofs.Common.{◌++◌, length, map, fold, append-nil, length-append}
 use Rattle.std.specs.Prelude.{Option, Some, None, slice_index}
 use Rattle.water_model.specs.History.{cut_of}
-use Rattle.water_model.specs.Places.{seniors_first, outlets}
+use Rattle.water_model.specs.Indices.{seniors_first, outlets}
 use Rattle.water_model.specs.Quantities.{entries_with_line}
 use Rattle.water_model.specs.declared.item.Item.TheVariants as line
 use Rattle.water_model.specs.declared.quantity.Quantity.TheVariants as quantity
@@ -11,27 +11,27 @@ use Rattle.water_model.specs.declared.types.Basin.{Basin}
 use Rattle.water_model.specs.declared.types.Inflows.{Inflows}
 use Rattle.water_model.specs.declared.types.MonthRecord.{MonthRecord}
 use Rattle.water_model.proofs.Order.{seniors_have, seniors_below}
-use Rattle.result_reader.specs.Telling.{Told, tell}
-use Rattle.result_reader.proofs.WholeMonth.{IsAllTold}
+use Rattle.result_reader.specs.ReadSoFar.{ReadSoFar, read_item}
+use Rattle.result_reader.proofs.WholeMonth.{IsAllRead}
 use Rattle.calls.specs.Callers.{is_short}
 use Rattle.cert_check.specs.Checking.{is_tight, balances, callers_due}
 use Rattle.cert_check.proofs.Rows.{AreGood, good_section, good_parts}
 use Rattle.cert_check.proofs.Sections as section
-use Rattle.cert_check.proofs.Outflows.{IsInBalance, outflows_told}
-use Rattle.cert_check.proofs.Calls.{HasRightSets, IsSettled, calls_told}
-use Rattle.cert_check.proofs.Callers.{AllCalled, Behind, IsPast, called_told, settled_called, closings, closing_past}
+use Rattle.cert_check.proofs.Outflows.{IsInBalance, outflows_read}
+use Rattle.cert_check.proofs.Calls.{HasRightSets, IsSettled, calls_read}
+use Rattle.cert_check.proofs.Callers.{AllCalled, After, IsPast, called_read, settled_called, closings, closing_past}
 use Rattle.cert_check.proofs.Callers.{end_past}
-use Rattle.cert_check.proofs.Month.{At, BehindCalls, IsGoodMonth, stages, begun, with_out, with_calls, told_balance}
-use Rattle.cert_check.proofs.Month.{told_sees, told_callers, calls_stage, inner_lines, opening_lines, evaporated_lines}
+use Rattle.cert_check.proofs.Month.{At, AfterCalls, IsGoodMonth, stages, begun, with_out, with_calls, read_balance}
+use Rattle.cert_check.proofs.Month.{read_sees, read_callers, calls_stage, inner_lines, opening_lines, evaporated_lines}
 use Rattle.cert_check.proofs.Month.{returned_lines, used_lines, flow_lines, deliver_lines, out_lines, call_lines}
-use Rattle.cert_check.proofs.Month.{due_lines, closing_lines, behind_opening, behind_evaporated, behind_returned}
-use Rattle.cert_check.proofs.Month.{behind_used, behind_flow, behind_deliver, behind_out, behind_calls, behind_called}
+use Rattle.cert_check.proofs.Month.{due_lines, closing_lines, after_opening, after_evaporated, after_returned}
+use Rattle.cert_check.proofs.Month.{after_used, after_flow, after_deliver, after_out, after_calls, after_called}
 
-balance_out : (b : Basin) (series : Inflows) (m : MonthRecord) (t : Told) → IsAllTold b series m →
+balance_out : (b : Basin) (series : Inflows) (m : MonthRecord) (t : ReadSoFar) → IsAllRead b series m →
     t.now ≡ with_out b m → IsInBalance b series t.now →
     (n : ℕ) → n < length b.nodes → balances b m n ≡ true
 unfolding IsInBalance
-balance_out b series m t a is h n l = sym (told_balance b series m t.now n a is) ∙ h n l
+balance_out b series m t a is h n l = sym (read_balance b series m t.now n a is) ∙ h n l
 
 -- the basin has an outlet
 pub record HasOutlet (b : Basin) : Type 0 where
@@ -39,16 +39,16 @@ pub record HasOutlet (b : Basin) : Type 0 where
   pub others : List ℕ
   pub are : outlets b ≡ first ∷ others
 
-outflows_balance : (b : Basin) (series : Inflows) (a : ℕ → ℕ) (t : Told) → HasOutlet b →
+outflows_balance : (b : Basin) (series : Inflows) (a : ℕ → ℕ) (t : ReadSoFar) → HasOutlet b →
     AreGood b series t (map (λ n. line.Amount quantity.Outflow n (a n)) (outlets b)) →
-    IsInBalance b series (fold (tell b series) t (map (λ n. line.Amount quantity.Outflow n (a n)) (outlets b))).now
+    IsInBalance b series (fold (read_item b series) t (map (λ n. line.Amount quantity.Outflow n (a n)) (outlets b))).now
 outflows_balance b series a t h g =
     subst (λ (xs : List ℕ). IsInBalance b series
-    (fold (tell b series) t (map (λ n. line.Amount quantity.Outflow n (a n)) xs)).now) (sym h.are)
-    (outflows_told b series a h.first h.others [] t h.are
+    (fold (read_item b series) t (map (λ n. line.Amount quantity.Outflow n (a n)) xs)).now) (sym h.are)
+    (outflows_read b series a h.first h.others [] t h.are
     (subst (λ (xs : List ℕ). AreGood b series t (map (λ n. line.Amount quantity.Outflow n (a n)) xs)) h.are g))
 
-past_of : (b : Basin) (series : Inflows) (a : ℕ → ℕ) (xs : List ℕ) (t : Told) →
+past_of : (b : Basin) (series : Inflows) (a : ℕ → ℕ) (xs : List ℕ) (t : ReadSoFar) →
     AreGood b series t (map (λ x. line.Amount quantity.Closing x (a x)) xs ++ line.End ∷ []) → IsPast b series t
 past_of b series a [] t g = end_past b series t g.0
 past_of b series a (x ∷ xs) t g = closing_past b series t x (a x) g.0
@@ -57,9 +57,9 @@ nothing_more : (xs more dues : List (ℕ × ℕ)) → dues ≡ xs ++ more → le
 nothing_more xs [] dues is l = is ∙ append-nil xs
 nothing_more xs (x ∷ more) dues is l = absurd (omega (arith, ap length is, length-append xs (x ∷ more)))
 
-right_sets : (b : Basin) (series : Inflows) (m : MonthRecord) (t u : Told) → IsAllTold b series m →
+right_sets : (b : Basin) (series : Inflows) (m : MonthRecord) (t u : ReadSoFar) → IsAllRead b series m →
     t.now ≡ with_out b m → AreGood b series t (call_lines b m) →
-    u.now ≡ with_calls b m → IsSettled b series (fold (tell b series) t (call_lines b m)) → AllCalled b series u →
+    u.now ≡ with_calls b m → IsSettled b series (fold (read_item b series) t (call_lines b m)) → AllCalled b series u →
     HasRightSets b m
 right_sets b series m t u a is g now settled all = record {
   sized = a.sized;
@@ -67,11 +67,11 @@ right_sets b series m t u a is g now settled all = record {
   met = λ r l met. unset r l met (cut_of m r) refl;
 }
   where
-    told : (r : ℕ) (set : List Bool) → r < length b.rights → cut_of m r ≡ Some set → (is_short m r ≡ true) ×
+    so_far : (r : ℕ) (set : List Bool) → r < length b.rights → cut_of m r ≡ Some set → (is_short m r ≡ true) ×
         (is_tight b m r set ≡ true)
-    told r set l e =
-        calls_told b series m a.sized (seniors_first b) (λ s h. seniors_below b.rights s h) t
-        (told_sees b series m t.now a is) g settled r set (seniors_have b.rights r l) e
+    so_far r set l e =
+        calls_read b series m a.sized (seniors_first b) (λ s h. seniors_below b.rights s h) t
+        (read_sees b series m t.now a is) g settled r set (seniors_have b.rights r l) e
 
     same_short : (r : ℕ) → is_short u.now r ≡ is_short m r
     same_short r = ap (λ k. is_short k r) now
@@ -82,62 +82,63 @@ right_sets b series m t u a is g now settled all = record {
     by_set : (r : ℕ) → r < length b.rights → is_short m r ≡ true → (o : Option (List Bool)) → cut_of m r ≡ o →
         (set : List Bool) × (cut_of m r ≡ Some set) × (is_tight b m r set ≡ true)
     by_set r l short None e = absurd (all.none_left r l (same_short r ∙ short) (same_cut r ∙ e))
-    by_set r l short (Some set) e = (set, e, (told r set l e).1)
+    by_set r l short (Some set) e = (set, e, (so_far r set l e).1)
 
     unset : (r : ℕ) → r < length b.rights → is_short m r ≡ false → (o : Option (List Bool)) → cut_of m r ≡ o →
         cut_of m r ≡ None
     unset r l met None e = e
-    unset r l met (Some set) e = let no_call : false ≡ true = sym met ∙ (told r set l e).0 in cc
+    unset r l met (Some set) e = let no_call : false ≡ true = sym met ∙ (so_far r set l e).0 in cc
 
 called_now : (b : Basin) (series : Inflows) (before : List MonthRecord) (m : MonthRecord) (dues : List (ℕ × ℕ))
-    (t : Told) → BehindCalls b before m t → AreGood b series t (due_lines dues) →
-    IsPast b series (fold (tell b series) t (due_lines dues)) →
-    ((fold (tell b series) t (due_lines dues)).now ≡ with_calls b m) × (callers_due b m ≡ dues) ×
-    ((fold (tell b series) t (due_lines dues)).called ≡ length (callers_due b m))
+    (t : ReadSoFar) → AfterCalls b before m t → AreGood b series t (due_lines dues) →
+    IsPast b series (fold (read_item b series) t (due_lines dues)) →
+    ((fold (read_item b series) t (due_lines dues)).now ≡ with_calls b m) × (callers_due b m ≡ dues) ×
+    ((fold (read_item b series) t (due_lines dues)).called ≡ length (callers_due b m))
 called_now b series before m dues t at g past =
-    let c = called_told b series dues (callers_due b m) [] t g (told_callers b m t.now at.now_is) at.called in
-    let now : (fold (tell b series) t (due_lines dues)).now ≡ with_calls b m = c.now ∙ at.now_is in
-    let same : callers_due b (fold (tell b series) t (due_lines dues)).now ≡ callers_due b m =
-    told_callers b m (fold (tell b series) t (due_lines dues)).now now in
+    let c = called_read b series dues (callers_due b m) [] t g (read_callers b m t.now at.now_is) at.called in
+    let now : (fold (read_item b series) t (due_lines dues)).now ≡ with_calls b m = c.now ∙ at.now_is in
+    let same : callers_due b (fold (read_item b series) t (due_lines dues)).now ≡ callers_due b m =
+    read_callers b m (fold (read_item b series) t (due_lines dues)).now now in
     let dues_are =
     nothing_more dues c.more (callers_due b m) c.are
     (omega (arith, past.count, ap length same, c.called, at.called)) in
     (now, dues_are, omega (arith, c.called, at.called, ap length dues_are))
 
 pub inner_is_good : (b : Basin) (series : Inflows) (before : List MonthRecord) (m : MonthRecord) (dues : List (ℕ × ℕ)) →
-    HasOutlet b → IsAllTold b series m →
-    (t : Told) → At b before (begun b m) t → AreGood b series t (inner_lines b m dues) → IsGoodMonth b series before m ×
+    HasOutlet b → IsAllRead b series m →
+    (t : ReadSoFar) → At b before (begun b m) t → AreGood b series t (inner_lines b m dues) →
+    IsGoodMonth b series before m ×
     (callers_due b m ≡ dues)
 inner_is_good b series before m dues outlet a t at g =
     let s = stages b series before m a t at in
-    let behind = calls_stage b series before m a (behind_out b series m t) s.out in
+    let after = calls_stage b series before m a (after_out b series m t) s.out in
     let opening = good_parts b series t (opening_lines b m) _ g in
-    let evaporated = good_parts b series (behind_opening b series m t) (evaporated_lines b m) _ opening.1 in
-    let returned = good_parts b series (behind_evaporated b series m t) (returned_lines b m) _ evaporated.1 in
-    let used = good_parts b series (behind_returned b series m t) (used_lines b m) _ returned.1 in
-    let flow = good_parts b series (behind_used b series m t) (flow_lines b m) _ used.1 in
-    let deliver = good_parts b series (behind_flow b series m t) (deliver_lines b m) _ flow.1 in
-    let out = good_parts b series (behind_deliver b series m t) (out_lines b m) _ deliver.1 in
-    let calls = good_parts b series (behind_out b series m t) (call_lines b m) _ out.1 in
-    let dues_told = good_parts b series (behind_calls b series m t) (due_lines dues) _ calls.1 in
-    let closing = good_parts b series (behind_called b series m dues t) (closing_lines b m) (line.End ∷ [])
-    dues_told.1 in
+    let evaporated = good_parts b series (after_opening b series m t) (evaporated_lines b m) _ opening.1 in
+    let returned = good_parts b series (after_evaporated b series m t) (returned_lines b m) _ evaporated.1 in
+    let used = good_parts b series (after_returned b series m t) (used_lines b m) _ returned.1 in
+    let flow = good_parts b series (after_used b series m t) (flow_lines b m) _ used.1 in
+    let deliver = good_parts b series (after_flow b series m t) (deliver_lines b m) _ flow.1 in
+    let out = good_parts b series (after_deliver b series m t) (out_lines b m) _ deliver.1 in
+    let calls = good_parts b series (after_out b series m t) (call_lines b m) _ out.1 in
+    let dues_read = good_parts b series (after_calls b series m t) (due_lines dues) _ calls.1 in
+    let closing = good_parts b series (after_called b series m dues t) (closing_lines b m) (line.End ∷ [])
+    dues_read.1 in
     let past = past_of b series (λ x. slice_index m.closing x) (entries_with_line b quantity.Closing)
-    (behind_called b series m dues t) dues_told.1 in
-    let called = called_now b series before m dues (behind_calls b series m t) behind dues_told.0 past in
-    let settled = settled_called b series dues (behind_calls b series m t) dues_told.0 past.all.settled in
-    let stands : Behind b series (callers_due b m) m.plan.take (behind_called b series m dues t) = record {
+    (after_called b series m dues t) dues_read.1 in
+    let called = called_now b series before m dues (after_calls b series m t) after dues_read.0 past in
+    let settled = settled_called b series dues (after_calls b series m t) dues_read.0 past.all.settled in
+    let stands : After b series (callers_due b m) m.plan.take (after_called b series m dues t) = record {
       callers =
           record {
             all = past.all;
-            due = told_callers b m (behind_called b series m dues t).now called.0;
+            due = read_callers b m (after_called b series m dues t).now called.0;
             count =
                 called.2;
           };
       take_is = ap (λ k. k.plan.take) called.0;
     } in (
       record {
-        opening = good_section b series (section.Behind before) _
+        opening = good_section b series (section.After before) _
             (λ x. line.Amount quantity.Opening x (slice_index m.opening x))
             (section.openings b series before (λ x. slice_index m.opening x)) (entries_with_line b quantity.Opening)
             (t) (at.calling, at.months)
@@ -145,19 +146,19 @@ inner_is_good b series before m dues outlet a t at g =
         evaporated = good_section b series (section.Opened m.index m.opening) _
             (λ x. line.Amount quantity.Evaporated x (slice_index m.evaporated x))
             (section.evaporations b series m.index m.opening (λ x. slice_index m.evaporated x))
-            (entries_with_line b quantity.Evaporated) (behind_opening b series m t)
+            (entries_with_line b quantity.Evaporated) (after_opening b series m t)
             (s.opening.calling, ap (λ k. k.index) s.opening.now_is, ap (λ k. k.opening) s.opening.now_is)
             evaporated.0;
-        returned = good_section b series (section.BehindAt before m.index) _
+        returned = good_section b series (section.AfterAt before m.index) _
             (λ x. line.Amount quantity.Returned x (slice_index m.returned x))
             (section.returns b series before m.index (λ x. slice_index m.returned x))
-            (entries_with_line b quantity.Returned) (behind_evaporated b series m t)
+            (entries_with_line b quantity.Returned) (after_evaporated b series m t)
             (s.evaporated.calling, s.evaporated.months, ap (λ k. k.index) s.evaporated.now_is)
             returned.0;
-        used = good_section b series (section.BehindAt before m.index) _
+        used = good_section b series (section.AfterAt before m.index) _
             (λ x. line.Amount quantity.Used x (slice_index m.used x))
             (section.uses b series before m.index (λ x. slice_index m.used x)) (entries_with_line b quantity.Used)
-            (behind_returned b series m t) (
+            (after_returned b series m t) (
               s.returned.calling,
               s.returned.months,
               ap (λ k. k.index) s.returned.now_is,
@@ -165,13 +166,13 @@ inner_is_good b series before m dues outlet a t at g =
         flow = good_section b series (section.InMonth m.month) _
             (λ x. line.Amount quantity.Flow x (slice_index m.plan.flow x))
             (section.flows b series m.month (λ x. slice_index m.plan.flow x)) (entries_with_line b quantity.Flow)
-            (behind_used b series m t) (s.used.calling, ap (λ k. k.month) s.used.now_is)
+            (after_used b series m t) (s.used.calling, ap (λ k. k.month) s.used.now_is)
             flow.0;
         deliver =
             good_section b series (section.Flows m.index m.used m.plan.flow) _
             (λ x. line.Deliver x (slice_index m.delivered x) (slice_index m.want x))
             (section.deliveries b series m.index m.used m.plan.flow (λ x. slice_index m.delivered x)
-            (λ x. slice_index m.want x)) (seniors_first b) (behind_flow b series m t) (
+            (λ x. slice_index m.want x)) (seniors_first b) (after_flow b series m t) (
               s.flow.calling,
               ap (λ k. k.index) s.flow.now_is,
               ap (λ k. k.used) s.flow.now_is,
@@ -179,15 +180,15 @@ inner_is_good b series before m dues outlet a t at g =
             )
             deliver.0;
         balance =
-            balance_out b series m (behind_out b series m t) a s.out.now_is
-            (outflows_balance b series (λ x. slice_index m.plan.out x) (behind_deliver b series m t) outlet
+            balance_out b series m (after_out b series m t) a s.out.now_is
+            (outflows_balance b series (λ x. slice_index m.plan.out x) (after_deliver b series m t) outlet
             out.0);
-        sets = right_sets b series m (behind_out b series m t) (behind_called b series m dues t) a s.out.now_is
+        sets = right_sets b series m (after_out b series m t) (after_called b series m dues t) a s.out.now_is
             calls.0 called.0 settled past.all;
-        closing = good_section b series (Behind b series (callers_due b m) m.plan.take) _
+        closing = good_section b series (After b series (callers_due b m) m.plan.take) _
             (λ x. line.Amount quantity.Closing x (slice_index m.closing x))
             (closings b series (callers_due b m) m.plan.take (λ x. slice_index m.closing x))
-            (entries_with_line b quantity.Closing) (behind_called b series m dues t) stands closing.0;
+            (entries_with_line b quantity.Closing) (after_called b series m dues t) stands closing.0;
       },
       called.1,
     )

@@ -26,7 +26,7 @@ pub mod Walking
 pub mod Supplies
 pub mod Passages
 pub mod UnderWay
-pub mod Fronts
+pub mod Prefixes
 pub mod Fitting
 pub mod Entries
 pub mod SetEntries

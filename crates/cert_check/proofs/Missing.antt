@@ -6,7 +6,7 @@ use Rattle.std.specs.List.{list_any}
 use Rattle.std.proofs.lemmas.Bool.{cases_Bool, and_parts, or_parts}
 use Rattle.water_model.specs.Basin.{is_senior}
 use Rattle.water_model.specs.History.{cut_of}
-use Rattle.water_model.specs.Places.{seniors_first}
+use Rattle.water_model.specs.Indices.{seniors_first}
 use Rattle.water_model.specs.Valid.{IsValidBasin}
 use Rattle.water_model.specs.declared.item.Item.{Item}
 use Rattle.water_model.specs.declared.item.Item.TheVariants as line
@@ -14,24 +14,24 @@ use Rattle.water_model.specs.declared.types.Basin.{Basin}
 use Rattle.water_model.specs.declared.types.Inflows.{Inflows}
 use Rattle.water_model.proofs.Order.{Has, IsOrdered, seniors_have, seniors_below, seniors_ordered}
 use Rattle.water_model.proofs.Seniority.{senior_trans}
-use Rattle.result_reader.specs.Telling.{Told}
+use Rattle.result_reader.specs.ReadSoFar.{ReadSoFar}
 use Rattle.calls.specs.Callers.{is_short}
 use Rattle.cert_check.specs.Checking.{passes, cut_missing}
 use Rattle.cert_check.specs.Keeping.{Keeps, lacks_call}
 use Rattle.cert_check.specs.Walks.{ArePassed, IsMissed}
-use Rattle.cert_check.specs.declared.account.Account.{Account}
+use Rattle.cert_check.specs.declared.state.CheckState.{CheckState}
 use Rattle.cert_check.proofs.Calls.{missing_fails, none_missing}
 use Rattle.rights_roll.proofs.Seniors.{has-get_or}
 
 clash : {X : Type 0} → true ≡ false → X
 clash e = cc
 
--- an element stands in front of a place or behind it
+-- an element stands in front of a place or after it
 by_place : (xs : List ℕ) (k y : ℕ) → Has xs y → Has (take k xs) y ⊎ Has (drop k xs) y
 by_place xs zero y h = inr h
 by_place [] (suc k) y h = absurd h
 by_place (x ∷ xs) (suc k) y (inl e) = inl (inl e)
-by_place (x ∷ xs) (suc k) y (inr h) = elim (by_place xs k y h) [ inl front ↦ inl (inr front) | inr behind ↦ inr behind ]
+by_place (x ∷ xs) (suc k) y (inr h) = elim (by_place xs k y h) [ inl prefix ↦ inl (inr prefix) | inr after ↦ inr after ]
 
 -- nothing in a list passes a test that nothing in it passes
 none_in : (p : ℕ → Bool) (xs : List ℕ) (y : ℕ) → list_any p xs ≡ false → Has xs y → p y ≡ false
@@ -39,16 +39,16 @@ none_in p [] y h m = absurd m
 none_in p (x ∷ xs) y h (inl e) = ap p e ∙ (or_parts (p x) (list_any p xs) h).0
 none_in p (x ∷ xs) y h (inr m) = none_in p xs y (or_parts (p x) (list_any p xs) h).1 m
 
--- behind a place each right is the one there, or junior to it
-behind_place : (b : Basin) (xs : List ℕ) (k y : ℕ) → IsOrdered b.rights xs → Has (drop k xs) y →
+-- after a place each right is the one there, or junior to it
+after_place : (b : Basin) (xs : List ℕ) (k y : ℕ) → IsOrdered b.rights xs → Has (drop k xs) y →
     (k < length xs) × ((y ≡ slice_index xs k) ⊎ (is_senior b (slice_index xs k) y ≡ true))
-behind_place b [] zero y o m = absurd m
-behind_place b [] (suc k) y o m = absurd m
-behind_place b (x ∷ xs) zero y o (inl e) = (omega arith, inl e)
-behind_place b (x ∷ xs) zero y o (inr m) = (omega arith, inr (o.0 y m))
-behind_place b (x ∷ xs) (suc k) y o m = (let f = behind_place b xs k y o.1 m in (omega (arith, f.0), f.1))
+after_place b [] zero y o m = absurd m
+after_place b [] (suc k) y o m = absurd m
+after_place b (x ∷ xs) zero y o (inl e) = (omega arith, inl e)
+after_place b (x ∷ xs) zero y o (inr m) = (omega arith, inr (o.0 y m))
+after_place b (x ∷ xs) (suc k) y o m = (let f = after_place b xs k y o.1 m in (omega (arith, f.0), f.1))
 
--- a line passes over no right behind one that it doesn't pass over
+-- a line passes over no right after one that it doesn't pass over
 not_passed : (b : Basin) (item : Item) (x y : ℕ) → passes b item x ≡ false → (y ≡ x) ⊎ (is_senior b x y ≡ true) →
     passes b item y ≡ false
 not_passed b item x y h (inl e) = ap (passes b item) e ∙ h
@@ -66,12 +66,13 @@ not_passed b (line.Called r caller) x y h (inr senior) = h
 not_passed b line.End x y h (inr senior) = h
 not_passed b (line.Done months) x y h (inr senior) = h
 
--- rights that lack their calls by what is told do so by the account's record
-pub lacks_told : (b : Basin) (series : Inflows) (a : Account) (t : Told) → Keeps b series a t → (xs : List ℕ) →
+-- rights that lack their calls by what was read do so by the account's record
+pub lacks_read : (b : Basin) (series : Inflows) (a : CheckState) (t : ReadSoFar) → Keeps b series a t → (xs : List ℕ) →
     list_any (lacks_call a.month) xs ≡ list_any (lacks_call t.now) xs
-lacks_told b series a t k xs = rw (k.month.shows.delivered, k.month.shows.want, k.month.shows.sets) refl
+lacks_read b series a t k xs = rw (k.month.shows.delivered, k.month.shows.want, k.month.shows.sets) refl
 
-pub none_missed : (b : Basin) (series : Inflows) (a : Account) (t : Told) (item : Item) (count : ℕ) → IsValidBasin b →
+pub none_missed : (b : Basin) (series : Inflows) (a : CheckState) (t : ReadSoFar) (item : Item) (count : ℕ) →
+    IsValidBasin b →
     Keeps b series a t → ArePassed b a.month item count →
     cut_missing b t item ≡ false
 none_missed b series a t item count valid k p =
@@ -84,15 +85,15 @@ none_missed b series a t item count valid k p =
 
     missed : (r : ℕ) → is_short t.now r ≡ true → cut_of t.now r ≡ None → passes b item r ≡ true →
         Has (take count (seniors_first b)) r ⊎ Has (drop count (seniors_first b)) r → ⊥
-    missed r short free passed (inl front) =
+    missed r short free passed (inl prefix) =
         clash (sym (lacks r short free)
         ∙ none_in (lacks_call t.now) (take count (seniors_first b)) r
-        (sym (lacks_told b series a t k (take count (seniors_first b))) ∙ p.settled) front)
-    missed r short free passed (inr behind) =
-        let place = behind_place b (seniors_first b) count r (seniors_ordered b.rights valid.roll.strict) behind in
+        (sym (lacks_read b series a t k (take count (seniors_first b))) ∙ p.settled) prefix)
+    missed r short free passed (inr after) =
+        let place = after_place b (seniors_first b) count r (seniors_ordered b.rights valid.roll.strict) after in
         clash (sym passed ∙ not_passed b item (slice_index (seniors_first b) count) r (p.next place.0) place.1)
 
-pub some_missed : (b : Basin) (series : Inflows) (a : Account) (t : Told) (item : Item) → Keeps b series a t →
+pub some_missed : (b : Basin) (series : Inflows) (a : CheckState) (t : ReadSoFar) (item : Item) → Keeps b series a t →
     IsMissed b a.month item → cut_missing b t item ≡ true
 some_missed b series a t item k m = elim (cases_Bool (cut_missing b t item)) [
   | inl yes' ↦ yes'
@@ -102,8 +103,8 @@ some_missed b series a t item k m = elim (cases_Bool (cut_missing b t item)) [
     r : ℕ
     r = slice_index (seniors_first b) m.place
 
-    told : lacks_call t.now r ≡ true
-    told = sym (one (lacks_call a.month) (lacks_call t.now) (lacks_told b series a t k (r ∷ []))) ∙ m.lacks
+    so_far : lacks_call t.now r ≡ true
+    so_far = sym (one (lacks_call a.month) (lacks_call t.now) (lacks_read b series a t k (r ∷ []))) ∙ m.lacks
       where
         either : (x y : Bool) → x || false ≡ y || false → x ≡ y
         either true true e = refl
@@ -116,7 +117,7 @@ some_missed b series a t item k m = elim (cases_Bool (cut_missing b t item)) [
 
     never : cut_missing b t item ≡ false → ⊥
     never none =
-        let two = and_parts (is_short t.now r) (is_none (cut_of t.now r)) told in
+        let two = and_parts (is_short t.now r) (is_none (cut_of t.now r)) so_far in
         let set =
         none_missing b t item none r (seniors_below b.rights r (has-get_or (seniors_first b) m.place m.within)) two.0
         m.passed in

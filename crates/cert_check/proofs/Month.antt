@@ -4,14 +4,14 @@ use Rattle.std.proofs.Common.{◌++◌, length, map, fold, replicate}
 use Rattle.std.specs.Prelude.{Option, Some, None, slice_index, nat_lt}
 use Rattle.std.specs.List.{flat_map}
 use Rattle.std.proofs.lemmas.List.{length-replicate}
-use Rattle.place_sums.specs.Sums.{total_where}
+use Rattle.finite_sums.specs.Sums.{total_where}
 use Rattle.water_model.specs.Basin.{instream_link}
 use Rattle.water_model.specs.Blank.{blank_month}
 use Rattle.water_model.specs.History.{cut_of, opening_after, is_zone_of}
 use Rattle.water_model.specs.Hydrology.{in_year, evaporation, returned_at, used_of, want_of}
 use Rattle.water_model.specs.Lookups.{of_entry}
 use Rattle.water_model.specs.Entries.{count_in}
-use Rattle.water_model.specs.Places.{seniors_first}
+use Rattle.water_model.specs.Indices.{seniors_first}
 use Rattle.water_model.specs.Quantities.{amounts_of, entries_with_line, space_of, with_amounts}
 use Rattle.water_model.specs.Plans.{carry_of}
 use Rattle.water_model.specs.Text.{call_items, lines_in, month_lines}
@@ -27,42 +27,42 @@ use Rattle.water_model.specs.declared.types.Inflows.{Inflows}
 use Rattle.water_model.specs.declared.types.MonthRecord.{MonthRecord}
 use Rattle.water_model.proofs.Order.{Has, seniors_below}
 use Rattle.water_model.proofs.Quantities.{amount_lines, flat_map_one}
-use Rattle.result_reader.specs.Telling.{Told, tell, with_supply}
-use Rattle.result_reader.proofs.MonthTold.{Makes, makes_amounts, makes_deliveries, tells_calls, with_sets}
+use Rattle.result_reader.specs.ReadSoFar.{ReadSoFar, read_item, with_supply}
+use Rattle.result_reader.proofs.MonthRead.{Makes, makes_amounts, makes_deliveries, reads_calls, with_sets}
 use Rattle.result_reader.proofs.Sets.{put_sets}
 use Rattle.result_reader.proofs.Telling.{set_all, tell_call, fold-both}
-use Rattle.result_reader.proofs.WholeMonth.{IsAllTold}
+use Rattle.result_reader.proofs.WholeMonth.{IsAllRead}
 use Rattle.cert_check.specs.Checking.{balances, callers_due, caller_due, amount_wrong}
-use Rattle.cert_check.proofs.Calls.{Sees, HasRightSets, sees_more, behind_call}
+use Rattle.cert_check.proofs.Calls.{Sees, HasRightSets, sees_more, after_call}
 use Rattle.cert_check.proofs.Callers.{called_line, called_lines, same_callers}
 use Rattle.cert_check.proofs.Spread.{onto, onto_same, spread}
 
--- what stands behind some lines of a month: no open call, the months before, and the month so far
-pub record At (b : Basin) (before : List MonthRecord) (now : MonthRecord) (t : Told) : Type 0 where
+-- what stands after some lines of a month: no open call, the months before, and the month so far
+pub record At (b : Basin) (before : List MonthRecord) (now : MonthRecord) (t : ReadSoFar) : Type 0 where
   pub calling : t.calling ≡ None
   pub months : t.months ≡ before
   pub now_is : t.now ≡ now
   pub called : t.called ≡ 0
 
 same_called : (b : Basin) (series : Inflows) (item : ℕ → Item) →
-    ((x : ℕ) (t : Told) → (tell b series t (item x)).called ≡ t.called) →
-    (xs : List ℕ) (t : Told) → (fold (tell b series) t (map item xs)).called ≡ t.called
+    ((x : ℕ) (t : ReadSoFar) → (read_item b series t (item x)).called ≡ t.called) →
+    (xs : List ℕ) (t : ReadSoFar) → (fold (read_item b series) t (map item xs)).called ≡ t.called
 same_called b series item h [] t = refl
-same_called b series item h (x ∷ xs) t = same_called b series item h xs (tell b series t (item x)) ∙ h x t
+same_called b series item h (x ∷ xs) t = same_called b series item h xs (read_item b series t (item x)) ∙ h x t
 
 no_calling : (b : Basin) (series : Inflows) (item : ℕ → Item) →
-    ((x : ℕ) (t : Told) → (tell b series t (item x)).calling ≡ None) →
-    (xs : List ℕ) (t : Told) → t.calling ≡ None → (fold (tell b series) t (map item xs)).calling ≡ None
+    ((x : ℕ) (t : ReadSoFar) → (read_item b series t (item x)).calling ≡ None) →
+    (xs : List ℕ) (t : ReadSoFar) → t.calling ≡ None → (fold (read_item b series) t (map item xs)).calling ≡ None
 no_calling b series item h [] t c = c
-no_calling b series item h (x ∷ xs) t c = no_calling b series item h xs (tell b series t (item x)) (h x t)
+no_calling b series item h (x ∷ xs) t c = no_calling b series item h xs (read_item b series t (item x)) (h x t)
 
 -- a section makes of the month what it makes of any
 stage : (b : Basin) (series : Inflows) (before : List MonthRecord) (now next : MonthRecord) (item : ℕ →
     Item) (xs : List ℕ) (f : MonthRecord → MonthRecord) →
-    ((x : ℕ) (t : Told) → (tell b series t (item x)).called ≡ t.called) →
-    ((x : ℕ) (t : Told) → (tell b series t (item x)).calling ≡ None) →
-    Makes b series (map item xs) f → f now ≡ next → (t : Told) → At b before now t →
-    At b before next (fold (tell b series) t (map item xs))
+    ((x : ℕ) (t : ReadSoFar) → (read_item b series t (item x)).called ≡ t.called) →
+    ((x : ℕ) (t : ReadSoFar) → (read_item b series t (item x)).calling ≡ None) →
+    Makes b series (map item xs) f → f now ≡ next → (t : ReadSoFar) → At b before now t →
+    At b before next (fold (read_item b series) t (map item xs))
 stage b series before now next item xs f h k makes is t a = record {
   calling = no_calling b series item k xs t a.calling;
   months = (makes t).months_are ∙ a.months;
@@ -70,7 +70,7 @@ stage b series before now next item xs f h k makes is t a = record {
   called = same_called b series item h xs t ∙ a.called;
 }
 
--- the month so far behind each section
+-- the month so far after each section
 
 abbrev pub begun : Basin → MonthRecord → MonthRecord
 begun b m = blank_month b m.index m.month
@@ -104,10 +104,10 @@ with_out b m = with_amounts quantity.Outflow (with_deliver b m) m.plan.out
 abbrev pub lines_of : Basin → MonthRecord → Quantity → List Item
 lines_of b m q = map (λ x. line.Amount q x (slice_index (amounts_of q m) x)) (entries_with_line b q)
 
-amount_stage : (b : Basin) (series : Inflows) (before : List MonthRecord) (m : MonthRecord) → IsAllTold b series m →
+amount_stage : (b : Basin) (series : Inflows) (before : List MonthRecord) (m : MonthRecord) → IsAllRead b series m →
     (q : Quantity) (now : MonthRecord) → amounts_of q now ≡ replicate (count_in (space_of q) b) 0 →
-    (t : Told) → At b before now t → At b before (with_amounts q now (amounts_of q m))
-    (fold (tell b series) t (lines_of b m q))
+    (t : ReadSoFar) → At b before now t → At b before (with_amounts q now (amounts_of q m))
+    (fold (read_item b series) t (lines_of b m q))
 amount_stage b series before m a q now none t at =
     stage b series before now (with_amounts q now (amounts_of q m))
     (λ x. line.Amount q x (slice_index (amounts_of q m) x))
@@ -119,9 +119,9 @@ amount_stage b series before m a q now none t at =
 abbrev pub deliver_lines : Basin → MonthRecord → List Item
 deliver_lines b m = map (λ x. line.Deliver x (slice_index m.delivered x) (slice_index m.want x)) (seniors_first b)
 
-deliver_stage : (b : Basin) (series : Inflows) (before : List MonthRecord) (m : MonthRecord) → IsAllTold b series m →
-    (t : Told) → At b before (with_flow b m) t → At b before (with_deliver b m)
-    (fold (tell b series) t (deliver_lines b m))
+deliver_stage : (b : Basin) (series : Inflows) (before : List MonthRecord) (m : MonthRecord) → IsAllRead b series m →
+    (t : ReadSoFar) → At b before (with_flow b m) t → At b before (with_deliver b m)
+    (fold (read_item b series) t (deliver_lines b m))
 deliver_stage b series before m a t at =
     stage b series before (with_flow b m) (with_deliver b m)
     (λ x. line.Deliver x (slice_index m.delivered x) (slice_index m.want x)) (seniors_first b) _ (λ x t. refl)
@@ -147,7 +147,7 @@ flow_lines b m = lines_of b m quantity.Flow
 abbrev pub out_lines : Basin → MonthRecord → List Item
 out_lines b m = lines_of b m quantity.Outflow
 
--- the lines of a month's calls, of its callers, and those behind them
+-- the lines of a month's calls, of its callers, and those after them
 abbrev pub call_lines : Basin → MonthRecord → List Item
 call_lines b m = flat_map (λ r. call_items r (cut_of m r)) (seniors_first b)
 
@@ -164,7 +164,7 @@ section_lines b m dues section.Deliveries = deliver_lines b m
 section_lines b m dues section.Calls = call_lines b m
 section_lines b m dues section.Called = due_lines dues
 
--- the lines of a month behind its `month` line
+-- the lines of a month after its `month` line
 abbrev pub inner_lines : Basin → MonthRecord → List (ℕ × ℕ) → List Item
 inner_lines b m dues = onto (section_lines b m dues) SECTIONS (line.End ∷ [])
 
@@ -188,61 +188,62 @@ month_is b m caller_of =
     (section_is b m caller_of) SECTIONS
     (line.End ∷ []))
 
-abbrev pub behind_opening : Basin → Inflows → MonthRecord → Told → Told
-behind_opening b series m t = fold (tell b series) t (opening_lines b m)
+abbrev pub after_opening : Basin → Inflows → MonthRecord → ReadSoFar → ReadSoFar
+after_opening b series m t = fold (read_item b series) t (opening_lines b m)
 
-abbrev pub behind_evaporated : Basin → Inflows → MonthRecord → Told → Told
-behind_evaporated b series m t = fold (tell b series) (behind_opening b series m t) (evaporated_lines b m)
+abbrev pub after_evaporated : Basin → Inflows → MonthRecord → ReadSoFar → ReadSoFar
+after_evaporated b series m t = fold (read_item b series) (after_opening b series m t) (evaporated_lines b m)
 
-abbrev pub behind_returned : Basin → Inflows → MonthRecord → Told → Told
-behind_returned b series m t = fold (tell b series) (behind_evaporated b series m t) (returned_lines b m)
+abbrev pub after_returned : Basin → Inflows → MonthRecord → ReadSoFar → ReadSoFar
+after_returned b series m t = fold (read_item b series) (after_evaporated b series m t) (returned_lines b m)
 
-abbrev pub behind_used : Basin → Inflows → MonthRecord → Told → Told
-behind_used b series m t = fold (tell b series) (behind_returned b series m t) (used_lines b m)
+abbrev pub after_used : Basin → Inflows → MonthRecord → ReadSoFar → ReadSoFar
+after_used b series m t = fold (read_item b series) (after_returned b series m t) (used_lines b m)
 
-abbrev pub behind_flow : Basin → Inflows → MonthRecord → Told → Told
-behind_flow b series m t = fold (tell b series) (behind_used b series m t) (flow_lines b m)
+abbrev pub after_flow : Basin → Inflows → MonthRecord → ReadSoFar → ReadSoFar
+after_flow b series m t = fold (read_item b series) (after_used b series m t) (flow_lines b m)
 
-abbrev pub behind_deliver : Basin → Inflows → MonthRecord → Told → Told
-behind_deliver b series m t = fold (tell b series) (behind_flow b series m t) (deliver_lines b m)
+abbrev pub after_deliver : Basin → Inflows → MonthRecord → ReadSoFar → ReadSoFar
+after_deliver b series m t = fold (read_item b series) (after_flow b series m t) (deliver_lines b m)
 
-abbrev pub behind_out : Basin → Inflows → MonthRecord → Told → Told
-behind_out b series m t = fold (tell b series) (behind_deliver b series m t) (out_lines b m)
+abbrev pub after_out : Basin → Inflows → MonthRecord → ReadSoFar → ReadSoFar
+after_out b series m t = fold (read_item b series) (after_deliver b series m t) (out_lines b m)
 
-abbrev pub behind_calls : Basin → Inflows → MonthRecord → Told → Told
-behind_calls b series m t = fold (tell b series) (behind_out b series m t) (call_lines b m)
+abbrev pub after_calls : Basin → Inflows → MonthRecord → ReadSoFar → ReadSoFar
+after_calls b series m t = fold (read_item b series) (after_out b series m t) (call_lines b m)
 
-abbrev pub behind_called : Basin → Inflows → MonthRecord → List (ℕ × ℕ) → Told → Told
-behind_called b series m dues t = fold (tell b series) (behind_calls b series m t) (due_lines dues)
+abbrev pub after_called : Basin → Inflows → MonthRecord → List (ℕ × ℕ) → ReadSoFar → ReadSoFar
+after_called b series m dues t = fold (read_item b series) (after_calls b series m t) (due_lines dues)
 
-abbrev pub behind_closing : Basin → Inflows → MonthRecord → List (ℕ × ℕ) → Told → Told
-behind_closing b series m dues t = fold (tell b series) (behind_called b series m dues t) (closing_lines b m)
+abbrev pub after_closing : Basin → Inflows → MonthRecord → List (ℕ × ℕ) → ReadSoFar → ReadSoFar
+after_closing b series m dues t = fold (read_item b series) (after_called b series m dues t) (closing_lines b m)
 
--- what stands behind each of the sections
-pub record Stages (b : Basin) (series : Inflows) (before : List MonthRecord) (m : MonthRecord) (t : Told) : Type 0 where
-  pub opening : At b before (with_opening b m) (behind_opening b series m t)
-  pub evaporated : At b before (with_evaporated b m) (behind_evaporated b series m t)
-  pub returned : At b before (with_returned b m) (behind_returned b series m t)
-  pub used : At b before (with_used b m) (behind_used b series m t)
-  pub flow : At b before (with_flow b m) (behind_flow b series m t)
-  pub deliver : At b before (with_deliver b m) (behind_deliver b series m t)
-  pub out : At b before (with_out b m) (behind_out b series m t)
+-- what stands after each of the sections
+pub record Stages (b : Basin) (series : Inflows) (before : List MonthRecord) (m : MonthRecord) (t : ReadSoFar) : Type 0
+  where
+    pub opening : At b before (with_opening b m) (after_opening b series m t)
+    pub evaporated : At b before (with_evaporated b m) (after_evaporated b series m t)
+    pub returned : At b before (with_returned b m) (after_returned b series m t)
+    pub used : At b before (with_used b m) (after_used b series m t)
+    pub flow : At b before (with_flow b m) (after_flow b series m t)
+    pub deliver : At b before (with_deliver b m) (after_deliver b series m t)
+    pub out : At b before (with_out b m) (after_out b series m t)
 
-pub stages : (b : Basin) (series : Inflows) (before : List MonthRecord) (m : MonthRecord) → IsAllTold b series m →
-    (t : Told) → At b before (begun b m) t →
+pub stages : (b : Basin) (series : Inflows) (before : List MonthRecord) (m : MonthRecord) → IsAllRead b series m →
+    (t : ReadSoFar) → At b before (begun b m) t →
     Stages b series before m t
 stages b series before m a t at =
     let s0 = amount_stage b series before m a quantity.Opening (begun b m) refl t at in
     let s1 = amount_stage b series before m a quantity.Evaporated (with_opening b m) refl
-    (behind_opening b series m t) s0 in
+    (after_opening b series m t) s0 in
     let s2 = amount_stage b series before m a quantity.Returned (with_evaporated b m) refl
-    (behind_evaporated b series m t) s1 in
+    (after_evaporated b series m t) s1 in
     let s3 = amount_stage b series before m a quantity.Used (with_returned b m) refl
-    (behind_returned b series m t) s2 in
-    let s4 = amount_stage b series before m a quantity.Flow (with_used b m) refl (behind_used b series m t) s3 in
-    let s5 = deliver_stage b series before m a (behind_flow b series m t) s4 in
+    (after_returned b series m t) s2 in
+    let s4 = amount_stage b series before m a quantity.Flow (with_used b m) refl (after_used b series m t) s3 in
+    let s5 = deliver_stage b series before m a (after_flow b series m t) s4 in
     let s6 = amount_stage b series before m a quantity.Outflow (with_deliver b m) refl
-    (behind_deliver b series m t) s5 in
+    (after_deliver b series m t) s5 in
     record {
       opening = s0;
       evaporated = s1;
@@ -274,14 +275,14 @@ pub record IsGoodMonth (b : Basin) (series : Inflows) (before : List MonthRecord
   pub closing : (x : ℕ) → Has (entries_with_line b quantity.Closing) x → slice_index m.closing x
       ≡ total_where (length b.rights) (λ r. is_zone_of b r x) (λ r. slice_index m.plan.take r)
 
--- the balance of a month, by what is told
-pub told_balance : (b : Basin) (series : Inflows) (m now : MonthRecord) (n : ℕ) → IsAllTold b series m →
+-- the balance of a month, by what was read
+pub read_balance : (b : Basin) (series : Inflows) (m now : MonthRecord) (n : ℕ) → IsAllRead b series m →
     now ≡ with_out b m → balances b (with_supply b series now) n ≡ balances b m n
-told_balance b series m now n a is = ap (λ k. balances b (with_supply b series k) n) is ∙ rw (a.supply) refl
+read_balance b series m now n a is = ap (λ k. balances b (with_supply b series k) n) is ∙ rw (a.supply) refl
 
-pub told_sees : (b : Basin) (series : Inflows) (m now : MonthRecord) → IsAllTold b series m → now ≡ with_out b m →
+pub read_sees : (b : Basin) (series : Inflows) (m now : MonthRecord) → IsAllRead b series m → now ≡ with_out b m →
     Sees b series m now
-told_sees b series m now a is = record {
+read_sees b series m now a is = record {
   month = ap (λ k. k.month) is;
   delivered = ap (λ k. k.delivered) is;
   want = ap (λ k. k.want) is;
@@ -289,51 +290,51 @@ told_sees b series m now a is = record {
   sets = ap (λ k. length k.cuts.sets) is ∙ length-replicate (length b.rights) None;
 }
 
--- what stands behind the calls
+-- what stands after the calls
 abbrev pub with_calls : Basin → MonthRecord → MonthRecord
 with_calls b m = with_sets (with_out b m) m.cuts.sets
 
-pub record BehindCalls (b : Basin) (before : List MonthRecord) (m : MonthRecord) (t : Told) : Type 0 where
+pub record AfterCalls (b : Basin) (before : List MonthRecord) (m : MonthRecord) (t : ReadSoFar) : Type 0 where
   pub now_is : t.now ≡ with_calls b m
   pub months : t.months ≡ before
   pub called : t.called ≡ 0
 
 calls_called : (b : Basin) (series : Inflows) (m : MonthRecord) →
     ((r : ℕ) (set : List Bool) → cut_of m r ≡ Some set → length set ≡ length b.nodes) → (xs : List ℕ) →
-    ((r : ℕ) → Has xs r → r < length b.rights) → (t : Told) → Sees b series m t.now →
-    (fold (tell b series) t (flat_map (λ r. call_items r (cut_of m r)) xs)).called ≡ t.called
+    ((r : ℕ) → Has xs r → r < length b.rights) → (t : ReadSoFar) → Sees b series m t.now →
+    (fold (read_item b series) t (flat_map (λ r. call_items r (cut_of m r)) xs)).called ≡ t.called
 calls_called b series m sized [] below t s = refl
 calls_called b series m sized (x ∷ xs) below t s =
     by_set (cut_of m x) refl (λ u v. calls_called b series m sized xs (λ y h. below y (inr h)) u v)
   where
     by_set : (o : Option (List Bool)) → cut_of m x ≡ o →
-        ((u : Told) → Sees b series m u.now →
-        (fold (tell b series) u (flat_map (λ r. call_items r (cut_of m r)) xs)).called ≡ u.called) →
-        (fold (tell b series) t (call_items x o ++ flat_map (λ r. call_items r (cut_of m r)) xs)).called ≡ t.called
+        ((u : ReadSoFar) → Sees b series m u.now →
+        (fold (read_item b series) u (flat_map (λ r. call_items r (cut_of m r)) xs)).called ≡ u.called) →
+        (fold (read_item b series) t (call_items x o ++ flat_map (λ r. call_items r (cut_of m r)) xs)).called ≡ t.called
     by_set None e further = further t s
     by_set (Some set) e further =
         ap (λ u. u.called)
-        (fold-both (tell b series) t (call_items x (Some set)) (flat_map (λ r. call_items r (cut_of m r)) xs))
-        ∙ (ap (λ u. (fold (tell b series) u (flat_map (λ r. call_items r (cut_of m r)) xs)).called)
+        (fold-both (read_item b series) t (call_items x (Some set)) (flat_map (λ r. call_items r (cut_of m r)) xs))
+        ∙ (ap (λ u. (fold (read_item b series) u (flat_map (λ r. call_items r (cut_of m r)) xs)).called)
         (tell_call b series x set t (omega (arith, below x (inl refl), s.sets)) (sized x set e))
-        ∙ further (behind_call t x set) (sees_more b series m t x set s))
+        ∙ further (after_call t x set) (sees_more b series m t x set s))
 
-pub calls_stage : (b : Basin) (series : Inflows) (before : List MonthRecord) (m : MonthRecord) → IsAllTold b series m →
-    (t : Told) → At b before (with_out b m) t →
-    BehindCalls b before m (fold (tell b series) t (call_lines b m))
+pub calls_stage : (b : Basin) (series : Inflows) (before : List MonthRecord) (m : MonthRecord) → IsAllRead b series m →
+    (t : ReadSoFar) → At b before (with_out b m) t →
+    AfterCalls b before m (fold (read_item b series) t (call_lines b m))
 calls_stage b series before m a t at =
-    let told =
-    tells_calls b series (λ r. cut_of m r) a.sized (seniors_first b) t
+    let so_far =
+    reads_calls b series (λ r. cut_of m r) a.sized (seniors_first b) t
     (λ r set e. (let l = a.within r set e in
     subst (λ (n : ℕ). r < n) (sym (ap (λ k. length k.cuts.sets) at.now_is)) l)) in
     record {
-      now_is = told.now_is
+      now_is = so_far.now_is
           ∙ (ap (λ (k : MonthRecord). with_sets k (put_sets (seniors_first b) (λ r. cut_of m r) k.cuts.sets)) at.now_is
           ∙ ap (λ sets. with_sets (with_out b m) sets) a.sets);
-      months = told.months_are ∙ at.months;
+      months = so_far.months_are ∙ at.months;
       called = calls_called b series m a.sized (seniors_first b) (λ r h. seniors_below b.rights r h) t
-          (told_sees b series m t.now a at.now_is) ∙ at.called;
+          (read_sees b series m t.now a at.now_is) ∙ at.called;
     }
 
-pub told_callers : (b : Basin) (m now : MonthRecord) → now ≡ with_calls b m → callers_due b now ≡ callers_due b m
-told_callers b m now is = ap (λ k. callers_due b k) is ∙ same_callers b (with_calls b m) m refl refl refl
+pub read_callers : (b : Basin) (m now : MonthRecord) → now ≡ with_calls b m → callers_due b now ≡ callers_due b m
+read_callers b m now is = ap (λ k. callers_due b k) is ∙ same_callers b (with_calls b m) m refl refl refl

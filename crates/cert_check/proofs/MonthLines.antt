@@ -4,7 +4,7 @@ use Rattle.std.specs.Prelude.{Option, Some, None, filter, is_some}
 use Rattle.std.specs.List.{flat_map}
 use Rattle.water_model.specs.Basin.{taking_node}
 use Rattle.water_model.specs.Entries.{in_order}
-use Rattle.water_model.specs.Places.{seniors_first}
+use Rattle.water_model.specs.Indices.{seniors_first}
 use Rattle.water_model.specs.Quantities.{entries_with_line, has_line, space_of}
 use Rattle.water_model.specs.Text.{call_items}
 use Rattle.water_model.specs.Valid.{IsValidBasin}

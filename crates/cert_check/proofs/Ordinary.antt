@@ -3,13 +3,13 @@
 use Rattle.std.proofs.Common.{ℕ, ◌-◌, refl, List, [], ◌∷◌, ◌++◌, take}
 use Rattle.std.specs.Prelude.{None, codes}
 use Rattle.std.specs.Fmt.{digits}
-use Rattle.place_sums.specs.Sums.{total, greatest_where}
+use Rattle.finite_sums.specs.Sums.{total, greatest_where}
 use Rattle.water_text.specs.Amounts.{read_amount, read_plain}
 use Rattle.jiff_core.specs.Calendar.{days_from_civil, day_count, days_of_years, days_of_months}
 use Rattle.water_text.specs.Months.{read_month, days_of}
 use Rattle.water_text.specs.Names.{is_name}
 use Rattle.water_text.specs.Shapes.{has_shape}
-use Rattle.water_model.specs.Places.{numbers_from, members_from, by_seniority}
+use Rattle.water_model.specs.Indices.{numbers_from, members_from, by_seniority}
 use Rattle.water_model.specs.Spelling.{line_of, fields_of}
 use Rattle.water_model.specs.History.{calls}
 use Rattle.water_model.specs.Text.{month_lines, calling_right}

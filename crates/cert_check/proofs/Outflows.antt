@@ -5,14 +5,14 @@ use Rattle.std.specs.Prelude.{None, ◌&&◌, ◌||◌, not, nat_le}
 use Rattle.std.specs.List.{list_all, list_any}
 use Rattle.std.proofs.lemmas.Bool.{le-leb, lt-leb}
 use Rattle.water_model.specs.Basin.{is_outlet}
-use Rattle.water_model.specs.Places.{numbers_from, places_of, outlets}
+use Rattle.water_model.specs.Indices.{numbers_from, indices_of, outlets}
 use Rattle.water_model.specs.declared.item.Item.TheVariants as line
 use Rattle.water_model.specs.declared.quantity.Quantity.TheVariants as quantity
 use Rattle.water_model.specs.declared.types.Basin.{Basin}
 use Rattle.water_model.specs.declared.types.Inflows.{Inflows}
 use Rattle.water_model.specs.declared.types.MonthRecord.{MonthRecord}
 use Rattle.water_model.proofs.Order.{Has, filter-has, numbers_from-has, numbers_from-below}
-use Rattle.result_reader.specs.Telling.{Told, tell, with_supply}
+use Rattle.result_reader.specs.ReadSoFar.{ReadSoFar, read_item, with_supply}
 use Rattle.cert_check.specs.Checking.{rows, balances}
 use Rattle.cert_check.proofs.Rows.{NoneHolds, AreGood, early_good}
 
@@ -38,16 +38,16 @@ filter_rises p (x ∷ xs) h = by_test (p x) refl (filter_rises p xs h.1)
     by_test false e further = rw e further
 
 pub outlets_rise : (b : Basin) → Rises (outlets b)
-outlets_rise b = filter_rises (λ n. is_outlet b n) (places_of b.nodes) (numbers_rise 0 (length b.nodes))
+outlets_rise b = filter_rises (λ n. is_outlet b n) (indices_of b.nodes) (numbers_rise 0 (length b.nodes))
 
-pub has_behind : (xs ys : List ℕ) (y : ℕ) → Has ys y → Has (xs ++ ys) y
-has_behind [] ys y h = h
-has_behind (x ∷ xs) ys y h = inr (has_behind xs ys y h)
+pub has_after : (xs ys : List ℕ) (y : ℕ) → Has ys y → Has (xs ++ ys) y
+has_after [] ys y h = h
+has_after (x ∷ xs) ys y h = inr (has_after xs ys y h)
 
 last_greatest : (xs : List ℕ) (x y : ℕ) → Rises (xs ++ x ∷ []) → Has (xs ++ x ∷ []) y → y ≤ x
 last_greatest [] x y h (inl is) = omega arith
 last_greatest [] x y h (inr m) = absurd m
-last_greatest (z ∷ xs) x y h (inl is) = omega (arith, h.0 x (has_behind xs (x ∷ []) x (inl refl)))
+last_greatest (z ∷ xs) x y h (inl is) = omega (arith, h.0 x (has_after xs (x ∷ []) x (inl refl)))
 last_greatest (z ∷ xs) x y h (inr m) = last_greatest xs x y h.1 m
 
 greater_fails : (xs : List ℕ) (x y : ℕ) → Has xs y → x < y → list_all (λ other. nat_le other x) xs ≡ false
@@ -63,7 +63,7 @@ all_at_most : (xs : List ℕ) (x : ℕ) → ((y : ℕ) → Has xs y → y ≤ x)
 all_at_most [] x h = refl
 all_at_most (z ∷ xs) x h = rw (le-leb z x (h z (inl refl)), all_at_most xs x (λ y m. h y (inr m))) refl
 
--- every node is in balance, by what is told
+-- every node is in balance, by what was read
 unfoldable pub IsInBalance : Basin → Inflows → MonthRecord → Type 0
 IsInBalance b series now = (n : ℕ) → n < length b.nodes → balances b (with_supply b series now) n ≡ true
 
@@ -87,19 +87,20 @@ fails_none b m (x ∷ xs) h n k =
     by_place (inl is) p further = ap (λ k. balances b m k) is ∙ p.0
     by_place (inr l) p further = further p.1 l
 
-out_good : (b : Basin) (series : Inflows) (t : Told) (n amount : ℕ) → t.calling ≡ None →
+out_good : (b : Basin) (series : Inflows) (t : ReadSoFar) (n amount : ℕ) → t.calling ≡ None →
     list_all (λ other. nat_le other n) (outlets b) && list_any
     (λ node. not (balances b
-    (with_supply b series (tell b series t (line.Amount quantity.Outflow n amount)).now) node))
-    (places_of b.nodes) ≡ false →
+    (with_supply b series (read_item b series t (line.Amount quantity.Outflow n amount)).now) node))
+    (indices_of b.nodes) ≡ false →
     NoneHolds (rows b series t (line.Amount quantity.Outflow n amount))
 out_good b series t n amount h balance =
     early_good b series t (line.Amount quantity.Outflow n amount) h (λ r. refl) refl refl (balance, tt)
 
--- `out` lines aren't refuted where all nodes are in balance behind them
-pub outflows_good : (b : Basin) (series : Inflows) (a : ℕ → ℕ) (xs done : List ℕ) (t : Told) → outlets b ≡ done ++ xs →
+-- `out` lines aren't refuted where all nodes are in balance after them
+pub outflows_good : (b : Basin) (series : Inflows) (a : ℕ → ℕ) (xs done : List ℕ) (t : ReadSoFar) →
+    outlets b ≡ done ++ xs →
     Rises xs → t.calling ≡ None →
-    IsInBalance b series (fold (tell b series) t (map (λ n. line.Amount quantity.Outflow n (a n)) xs)).now →
+    IsInBalance b series (fold (read_item b series) t (map (λ n. line.Amount quantity.Outflow n (a n)) xs)).now →
     AreGood b series t (map (λ n. line.Amount quantity.Outflow n (a n)) xs)
 unfolding IsInBalance
 outflows_good b series a [] done t is rises h balance = tt
@@ -115,37 +116,38 @@ outflows_good b series a (x ∷ []) done t is rises h balance = (
 
     in_balance : list_any
         (λ node. not (balances b
-        (with_supply b series (tell b series t (line.Amount quantity.Outflow x (a x))).now) node))
-        (places_of b.nodes) ≡ false
-    in_balance = none_fails b (with_supply b series (tell b series t (line.Amount quantity.Outflow x (a x))).now)
-        (places_of b.nodes)
+        (with_supply b series (read_item b series t (line.Amount quantity.Outflow x (a x))).now) node))
+        (indices_of b.nodes) ≡ false
+    in_balance = none_fails b (with_supply b series (read_item b series t (line.Amount quantity.Outflow x (a x))).now)
+        (indices_of b.nodes)
         (λ n k. balance n (omega (arith, (numbers_from-below 0 (length b.nodes) n k).1)))
 outflows_good b series a (x ∷ y ∷ ys) done t is rises h balance = (
   out_good b series t x (a x) h
       (ap (λ q. q && list_any
       (λ node. not
-      (balances b (with_supply b series (tell b series t (line.Amount quantity.Outflow x (a x))).now) node))
-      (places_of b.nodes)) not_last),
-  outflows_good b series a (y ∷ ys) (done ++ x ∷ []) (tell b series t (line.Amount quantity.Outflow x (a x))) (is
+      (balances b (with_supply b series (read_item b series t (line.Amount quantity.Outflow x (a x))).now) node))
+      (indices_of b.nodes)) not_last),
+  outflows_good b series a (y ∷ ys) (done ++ x ∷ []) (read_item b series t (line.Amount quantity.Outflow x (a x))) (is
       ∙ sym (append_assoc done (x ∷ []) (y ∷ ys))) rises.1 refl balance,
 )
   where
     not_last : list_all (λ other. nat_le other x) (outlets b) ≡ false
     not_last =
-        greater_fails (outlets b) x y (rw is (has_behind done (x ∷ y ∷ ys) y (inr (inl refl)))) (rises.0 y (inl refl))
+        greater_fails (outlets b) x y (rw is (has_after done (x ∷ y ∷ ys) y (inr (inl refl)))) (rises.0 y (inl refl))
 
--- and where they aren't refuted, all nodes are in balance behind the last
-pub outflows_told : (b : Basin) (series : Inflows) (a : ℕ → ℕ) (x : ℕ) (xs done : List ℕ) (t : Told) →
+-- and where they aren't refuted, all nodes are in balance after the last
+pub outflows_read : (b : Basin) (series : Inflows) (a : ℕ → ℕ) (x : ℕ) (xs done : List ℕ) (t : ReadSoFar) →
     outlets b ≡ done ++ (x ∷ xs) →
     AreGood b series t (map (λ n. line.Amount quantity.Outflow n (a n)) (x ∷ xs)) →
-    IsInBalance b series (fold (tell b series) t (map (λ n. line.Amount quantity.Outflow n (a n)) (x ∷ xs))).now
+    IsInBalance b series (fold (read_item b series) t (map (λ n. line.Amount quantity.Outflow n (a n)) (x ∷ xs))).now
 unfolding IsInBalance
-outflows_told b series a x [] done t is g n l =
-    fails_none b (with_supply b series (tell b series t (line.Amount quantity.Outflow x (a x))).now) (places_of b.nodes)
+outflows_read b series a x [] done t is g n l =
+    fails_none b (with_supply b series (read_item b series t (line.Amount quantity.Outflow x (a x))).now)
+    (indices_of b.nodes)
     (second (list_all (λ other. nat_le other x) (outlets b))
     (list_any (λ node. not
-    (balances b (with_supply b series (tell b series t (line.Amount quantity.Outflow x (a x))).now) node))
-    (places_of b.nodes))
+    (balances b (with_supply b series (read_item b series t (line.Amount quantity.Outflow x (a x))).now) node))
+    (indices_of b.nodes))
     is_last g.0.1.1.1.1.0) n (numbers_from-has 0 (length b.nodes) n n l (omega arith))
   where
     second : (p q : Bool) → p ≡ true → p && q ≡ false → q ≡ false
@@ -154,6 +156,6 @@ outflows_told b series a x [] done t is g n l =
 
     is_last : list_all (λ other. nat_le other x) (outlets b) ≡ true
     is_last = all_at_most (outlets b) x (λ y m. last_greatest done x y (rw (← is) (outlets_rise b)) (rw (← is) m))
-outflows_told b series a x (y ∷ ys) done t is g n l =
-    outflows_told b series a y ys (done ++ x ∷ []) (tell b series t (line.Amount quantity.Outflow x (a x))) (is
+outflows_read b series a x (y ∷ ys) done t is g n l =
+    outflows_read b series a y ys (done ++ x ∷ []) (read_item b series t (line.Amount quantity.Outflow x (a x))) (is
     ∙ sym (append_assoc done (x ∷ []) (y ∷ ys))) g.1 n l

@@ -3,12 +3,12 @@ use Rattle.std.proofs.Common.{◌≡◌, ℕ, Bool, true, refl, sym, ap, inl, in
 use Rattle.std.specs.Prelude.{Option, Some, None, ◌⊎◌}
 use Rattle.std.specs.List.{list_all, flat_map}
 use Rattle.std.proofs.lemmas.Bool.{and_parts}
-use Rattle.water_model.specs.Places.{members_from}
+use Rattle.water_model.specs.Indices.{members_from}
 use Rattle.water_model.specs.Text.{call_items}
 use Rattle.water_model.specs.declared.item.Item.{Item}
 use Rattle.water_model.specs.declared.item.Item.TheVariants as line
 
--- a line of two lists, one behind the other, stands in the first or in the second
+-- a line of two lists, one after the other, stands in the first or in the second
 abbrev pub InFirst : List Item → List Item → Item → Type 0
 InFirst first xs i = (zs : List Item) × (first ≡ xs ++ i ∷ zs)
 
@@ -26,8 +26,8 @@ stands_in (x ∷ first) second (y ∷ xs) i ys e =
     let head : x ≡ y = cc in
     let tail : first ++ second ≡ xs ++ i ∷ ys = cc in
     elim (stands_in first second xs i ys tail) [
-      | inl front ↦ inl (front.0, cons x y first (xs ++ i ∷ front.0) head front.1)
-      | inr behind ↦ inr (behind.0, cons y x xs (first ++ behind.0) (sym head) behind.1, behind.2)
+      | inl prefix ↦ inl (prefix.0, cons x y first (xs ++ i ∷ prefix.0) head prefix.1)
+      | inr after ↦ inr (after.0, cons y x xs (first ++ after.0) (sym head) after.1, after.2)
     ]
 
 -- Lines that all pass a test.

@@ -4,14 +4,14 @@ use Rattle.std.specs.Prelude.{Some, None, ◌&&◌, ◌==◌, not, find, option_
 use Rattle.std.specs.List.{list_any}
 use Rattle.std.proofs.lemmas.Bool.Decides.{nat_tests}
 use Rattle.water_model.specs.History.{cut_of}
-use Rattle.water_model.specs.Places.{places_of}
+use Rattle.water_model.specs.Indices.{indices_of}
 use Rattle.water_model.specs.declared.item.Item.{Item}
 use Rattle.water_model.specs.declared.item.Item.TheVariants as line
 use Rattle.water_model.specs.declared.types.Basin.{Basin}
 use Rattle.water_model.specs.declared.types.Inflows.{Inflows}
 use Rattle.water_model.proofs.Order.{Has}
 use Rattle.result_reader.specs.Due.{is_member}
-use Rattle.result_reader.specs.Telling.{Told, tell}
+use Rattle.result_reader.specs.ReadSoFar.{ReadSoFar, read_item}
 use Rattle.calls.specs.Callers.{is_short}
 use Rattle.cert_check.specs.Checking.{Row, rows, own_rows, first_row, passes, cut_needless, called_wrong}
 
@@ -37,78 +37,78 @@ pub found_none : (xs : List Row) → NoneHolds xs →
 found_none [] h = refl
 found_none ((kind, holds) ∷ xs) h = rw (h.0) (found_none xs h.1)
 
--- Lines behind others, of which no row holds.
-abbrev pub AreGood : Basin → Inflows → Told → List Item → Type 0
+-- Lines after others, of which no row holds.
+abbrev pub AreGood : Basin → Inflows → ReadSoFar → List Item → Type 0
 AreGood b series t [] = Unit {0}
-AreGood b series t (i ∷ is) = NoneHolds (rows b series t i) × AreGood b series (tell b series t i) is
+AreGood b series t (i ∷ is) = NoneHolds (rows b series t i) × AreGood b series (read_item b series t i) is
 
-pub good_row : (b : Basin) (series : Inflows) (t : Told) (i : Item) → first_row b series t i ≡ None →
+pub good_row : (b : Basin) (series : Inflows) (t : ReadSoFar) (i : Item) → first_row b series t i ≡ None →
     NoneHolds (rows b series t i)
 unfolding first_row
 good_row b series t i h = none_found (rows b series t i) h
 
-pub row_good : (b : Basin) (series : Inflows) (t : Told) (i : Item) → NoneHolds (rows b series t i) →
+pub row_good : (b : Basin) (series : Inflows) (t : ReadSoFar) (i : Item) → NoneHolds (rows b series t i) →
     first_row b series t i ≡ None
 unfolding first_row
 row_good b series t i h = found_none (rows b series t i) h
 
-pub good_both : (b : Basin) (series : Inflows) (t : Told) (xs ys : List Item) → AreGood b series t xs →
-    AreGood b series (fold (tell b series) t xs) ys →
+pub good_both : (b : Basin) (series : Inflows) (t : ReadSoFar) (xs ys : List Item) → AreGood b series t xs →
+    AreGood b series (fold (read_item b series) t xs) ys →
     AreGood b series t (xs ++ ys)
 good_both b series t [] ys g k = k
-good_both b series t (x ∷ xs) ys g k = (g.0, good_both b series (tell b series t x) xs ys g.1 k)
+good_both b series t (x ∷ xs) ys g k = (g.0, good_both b series (read_item b series t x) xs ys g.1 k)
 
-pub good_first : (b : Basin) (series : Inflows) (t : Told) (xs ys : List Item) → AreGood b series t (xs ++ ys) →
+pub good_first : (b : Basin) (series : Inflows) (t : ReadSoFar) (xs ys : List Item) → AreGood b series t (xs ++ ys) →
     AreGood b series t xs
 good_first b series t [] ys g = tt
-good_first b series t (x ∷ xs) ys g = (g.0, good_first b series (tell b series t x) xs ys g.1)
+good_first b series t (x ∷ xs) ys g = (g.0, good_first b series (read_item b series t x) xs ys g.1)
 
-pub good_rest : (b : Basin) (series : Inflows) (t : Told) (xs ys : List Item) → AreGood b series t (xs ++ ys) →
-    AreGood b series (fold (tell b series) t xs) ys
+pub good_rest : (b : Basin) (series : Inflows) (t : ReadSoFar) (xs ys : List Item) → AreGood b series t (xs ++ ys) →
+    AreGood b series (fold (read_item b series) t xs) ys
 good_rest b series t [] ys g = g
-good_rest b series t (x ∷ xs) ys g = good_rest b series (tell b series t x) xs ys g.1
+good_rest b series t (x ∷ xs) ys g = good_rest b series (read_item b series t x) xs ys g.1
 
-pub good_parts : (b : Basin) (series : Inflows) (t : Told) (xs ys : List Item) → AreGood b series t (xs ++ ys) →
-    AreGood b series t xs × AreGood b series (fold (tell b series) t xs) ys
+pub good_parts : (b : Basin) (series : Inflows) (t : ReadSoFar) (xs ys : List Item) → AreGood b series t (xs ++ ys) →
+    AreGood b series t xs × AreGood b series (fold (read_item b series) t xs) ys
 good_parts b series t xs ys g = (good_first b series t xs ys g, good_rest b series t xs ys g)
 
--- Lines one for each place, behind which something that a place's row needs stays.
-pub record Section (b : Basin) (series : Inflows) (P : Told → Type 0) (good : ℕ → Type 0) (item : ℕ →
+-- Lines one for each place, after which something that a place's row needs stays.
+pub record Section (b : Basin) (series : Inflows) (P : ReadSoFar → Type 0) (good : ℕ → Type 0) (item : ℕ →
     Item) : Type 0 where
-  pub makes : (x : ℕ) (t : Told) → P t → good x → NoneHolds (rows b series t (item x))
-  pub tells : (x : ℕ) (t : Told) → P t → NoneHolds (rows b series t (item x)) → good x
-  pub keeps : (x : ℕ) (t : Told) → P t → P (tell b series t (item x))
+  pub makes : (x : ℕ) (t : ReadSoFar) → P t → good x → NoneHolds (rows b series t (item x))
+  pub reads : (x : ℕ) (t : ReadSoFar) → P t → NoneHolds (rows b series t (item x)) → good x
+  pub keeps : (x : ℕ) (t : ReadSoFar) → P t → P (read_item b series t (item x))
 
-pub section_good : (b : Basin) (series : Inflows) (P : Told → Type 0) (good : ℕ → Type 0) (item : ℕ → Item) →
+pub section_good : (b : Basin) (series : Inflows) (P : ReadSoFar → Type 0) (good : ℕ → Type 0) (item : ℕ → Item) →
     Section b series P good item →
-    (xs : List ℕ) (t : Told) → P t → ((x : ℕ) → Has xs x → good x) → AreGood b series t (map item xs)
+    (xs : List ℕ) (t : ReadSoFar) → P t → ((x : ℕ) → Has xs x → good x) → AreGood b series t (map item xs)
 section_good b series P good item s [] t p h = tt
 section_good b series P good item s (x ∷ xs) t p h = (
   s.makes x t p (h x (inl refl)),
-  section_good b series P good item s xs (tell b series t (item x)) (s.keeps x t p)
+  section_good b series P good item s xs (read_item b series t (item x)) (s.keeps x t p)
       (λ y m. h y (inr m)),
 )
 
-pub good_section : (b : Basin) (series : Inflows) (P : Told → Type 0) (good : ℕ → Type 0) (item : ℕ → Item) →
+pub good_section : (b : Basin) (series : Inflows) (P : ReadSoFar → Type 0) (good : ℕ → Type 0) (item : ℕ → Item) →
     Section b series P good item →
-    (xs : List ℕ) (t : Told) → P t → AreGood b series t (map item xs) → (x : ℕ) → Has xs x → good x
+    (xs : List ℕ) (t : ReadSoFar) → P t → AreGood b series t (map item xs) → (x : ℕ) → Has xs x → good x
 good_section b series P good item s [] t p g y m = absurd m
 good_section b series P good item s (x ∷ xs) t p g y (inl is) = subst_good (sym is)
   where
     subst_good : x ≡ y → good y
-    subst_good e = rw (← e) (s.tells x t p g.0)
+    subst_good e = rw (← e) (s.reads x t p g.0)
 good_section b series P good item s (x ∷ xs) t p g y (inr m) =
-    good_section b series P good item s xs (tell b series t (item x)) (s.keeps x t p) g.1 y m
+    good_section b series P good item s xs (read_item b series t (item x)) (s.keeps x t p) g.1 y m
 
-pub section_keeps : (b : Basin) (series : Inflows) (P : Told → Type 0) (good : ℕ → Type 0) (item : ℕ → Item) →
+pub section_keeps : (b : Basin) (series : Inflows) (P : ReadSoFar → Type 0) (good : ℕ → Type 0) (item : ℕ → Item) →
     Section b series P good item →
-    (xs : List ℕ) (t : Told) → P t → P (fold (tell b series) t (map item xs))
+    (xs : List ℕ) (t : ReadSoFar) → P t → P (fold (read_item b series) t (map item xs))
 section_keeps b series P good item s [] t p = p
 section_keeps b series P good item s (x ∷ xs) t p =
-    section_keeps b series P good item s xs (tell b series t (item x)) (s.keeps x t p)
+    section_keeps b series P good item s xs (read_item b series t (item x)) (s.keeps x t p)
 
 -- nothing is passed over before the `call` lines
-nothing_passed : (b : Basin) (t : Told) (i : Item) → ((r : ℕ) → passes b i r ≡ false) → (xs : List ℕ) →
+nothing_passed : (b : Basin) (t : ReadSoFar) (i : Item) → ((r : ℕ) → passes b i r ≡ false) → (xs : List ℕ) →
     list_any (λ r. is_short t.now r && is_none (cut_of t.now r) && passes b i r) xs ≡ false
 nothing_passed b t i h [] = refl
 nothing_passed b t i h (r ∷ rs) =
@@ -119,12 +119,12 @@ nothing_passed b t i h (r ∷ rs) =
     none false = refl
 
 -- of a line before the `call` lines only the row of its own kind can hold
-pub early_good : (b : Basin) (series : Inflows) (t : Told) (i : Item) → t.calling ≡ None →
+pub early_good : (b : Basin) (series : Inflows) (t : ReadSoFar) (i : Item) → t.calling ≡ None →
     ((r : ℕ) → passes b i r ≡ false) → cut_needless t i ≡ false → called_wrong b t i ≡ false →
     NoneHolds (own_rows b series t i) → NoneHolds (rows b series t i)
 early_good b series t i none passed needless called own = (
   rw none (no_call (not (is_member i))),
-  (nothing_passed b t i passed (places_of b.rights), (needless, (called, own))),
+  (nothing_passed b t i passed (indices_of b.rights), (needless, (called, own))),
 )
   where
     no_call : (p : Bool) → p && false ≡ false
@@ -139,12 +139,12 @@ pub same_is : (x y : ℕ) → x ≡ y → not (x == y) ≡ false
 same_is x y h = grind (arith, nat_tests)
 
 -- an `in` line is never refuted
-pub member_good : (b : Basin) (series : Inflows) (t : Told) (n : ℕ) → NoneHolds (rows b series t (line.Member n))
+pub member_good : (b : Basin) (series : Inflows) (t : ReadSoFar) (n : ℕ) → NoneHolds (rows b series t (line.Member n))
 member_good b series t n =
-    (refl, (nothing_passed b t (line.Member n) (λ r. refl) (places_of b.rights), (refl, (refl, tt))))
+    (refl, (nothing_passed b t (line.Member n) (λ r. refl) (indices_of b.rights), (refl, (refl, tt))))
 
-pub members_good : (b : Basin) (series : Inflows) (xs : List ℕ) (t : Told) →
+pub members_good : (b : Basin) (series : Inflows) (xs : List ℕ) (t : ReadSoFar) →
     AreGood b series t (map (λ n. line.Member n) xs)
 members_good b series [] t = tt
 members_good b series (x ∷ xs) t =
-    (member_good b series t x, members_good b series xs (tell b series t (line.Member x)))
+    (member_good b series t x, members_good b series xs (read_item b series t (line.Member x)))

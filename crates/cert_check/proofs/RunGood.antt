@@ -6,10 +6,10 @@ use Rattle.std.specs.List.{flat_map}
 use Rattle.std.proofs.lemmas.List.Folds.{list_any-append}
 use Rattle.std.proofs.Math.Seq.{take-append_seam}
 use Rattle.std.proofs.lemmas.Bool.{or_from, or_parts}
-use Rattle.water_model.proofs.Lists.{get_behind}
+use Rattle.water_model.proofs.Lists.{get_after}
 use Rattle.water_model.specs.Blank.{blank_month}
 use Rattle.water_model.specs.History.{IsPartialHistory, IsHistory, Follows, cut_of}
-use Rattle.water_model.specs.Places.{members_from, seniors_first}
+use Rattle.water_model.specs.Indices.{members_from, seniors_first}
 use Rattle.water_model.specs.Quantities.{amounts_of, entries_with_line}
 use Rattle.water_model.specs.Spelling.{line_of}
 use Rattle.water_model.specs.Text.{call_items, calling_right, items_of_month, items_of_head, items_of}
@@ -23,11 +23,11 @@ use Rattle.water_model.specs.declared.types.Basin.{Basin}
 use Rattle.water_model.specs.declared.types.Inflows.{Inflows}
 use Rattle.water_model.specs.declared.types.MonthRecord.{MonthRecord}
 use Rattle.result_reader.specs.Records.{AreTextMonths}
-use Rattle.result_reader.specs.Telling.{Told, tell, nothing_told}
-use Rattle.result_reader.proofs.AllTold.{month_of, are_all_told}
+use Rattle.result_reader.specs.ReadSoFar.{ReadSoFar, read_item, nothing_read}
+use Rattle.result_reader.proofs.AllRead.{month_of, are_all_read}
 use Rattle.result_reader.proofs.Telling.{fold-both}
 use Rattle.result_reader.proofs.TextForm.{texts_are_accepted}
-use Rattle.result_reader.proofs.WholeMonth.{AreAllTold, month_told}
+use Rattle.result_reader.proofs.WholeMonth.{AreAllRead, month_read}
 use Rattle.cert_check.specs.Checking.{callers_due, is_done, is_whole, verdict}
 use Rattle.cert_check.proofs.Callers.{called_line}
 use Rattle.cert_check.proofs.Follows.{follows_good}
@@ -38,13 +38,14 @@ use Rattle.cert_check.proofs.Spread.{onto}
 use Rattle.cert_check.proofs.Sections.{title_good, run_good, month_good, last_good}
 use Rattle.cert_check.proofs.Verdicts.{verdict_good, says_yes}
 
--- behind the last line of a month no call is open
+-- after the last line of a month no call is open
 unfoldable pub Calm : Basin → Inflows → List Item → Type 0
-Calm b series items = (t : Told) → (fold (tell b series) t items).calling ≡ None
+Calm b series items = (t : ReadSoFar) → (fold (read_item b series) t items).calling ≡ None
 
-calm_behind : (b : Basin) (series : Inflows) (xs ys : List Item) → Calm b series ys → Calm b series (xs ++ ys)
+calm_after : (b : Basin) (series : Inflows) (xs ys : List Item) → Calm b series ys → Calm b series (xs ++ ys)
 unfolding Calm
-calm_behind b series xs ys h t = ap (λ u. u.calling) (fold-both (tell b series) t xs ys) ∙ h (fold (tell b series) t xs)
+calm_after b series xs ys h t = ap (λ u. u.calling) (fold-both (read_item b series) t xs ys) ∙
+    h (fold (read_item b series) t xs)
 
 end_calm : (b : Basin) (series : Inflows) → Calm b series (line.End ∷ [])
 unfolding Calm
@@ -53,14 +54,14 @@ end_calm b series t = refl
 calm_onto : (b : Basin) (series : Inflows) (f : Section → List Item) (ks : List Section) (ys : List Item) →
     Calm b series ys → Calm b series (onto f ks ys)
 calm_onto b series f [] ys h = h
-calm_onto b series f (k ∷ ks) ys h = calm_behind b series (f k) (onto f ks ys) (calm_onto b series f ks ys h)
+calm_onto b series f (k ∷ ks) ys h = calm_after b series (f k) (onto f ks ys) (calm_onto b series f ks ys h)
 
 pub inner_calm : (b : Basin) (series : Inflows) (m : MonthRecord) (dues : List (ℕ × ℕ)) →
     Calm b series (inner_lines b m dues)
 inner_calm b series m dues = calm_onto b series (section_lines b m dues) SECTIONS (line.End ∷ []) (end_calm b series)
 
-pub calm : (b : Basin) (series : Inflows) (items : List Item) (t : Told) → Calm b series items →
-    (fold (tell b series) t items).calling ≡ None
+pub calm : (b : Basin) (series : Inflows) (items : List Item) (t : ReadSoFar) → Calm b series items →
+    (fold (read_item b series) t items).calling ≡ None
 unfolding Calm
 calm b series items t h = h t
 
@@ -72,7 +73,7 @@ pub follows_of : (b : Basin) (series : Inflows) (records before ms : List MonthR
 follows_of b series records before ms m h is =
     subst (λ (xs : List MonthRecord). Follows b series xs m)
     (ap (take (length before)) is ∙ take-append_seam before (m ∷ ms))
-    (h.each (length before) m (ap (λ xs. slice_get xs (length before)) is ∙ get_behind before ms m))
+    (h.each (length before) m (ap (λ xs. slice_get xs (length before)) is ∙ get_after before ms m))
 
 pub items_are : (b : Basin) (m : MonthRecord) →
     items_of_month b m ≡ line.Month m.month ∷ inner_lines b m (callers_due b m)
@@ -80,52 +81,54 @@ items_are b m = month_is b m (calling_right b m)
 
 months_good : (b : Basin) (series : Inflows) (records before ms : List MonthRecord) → IsValidBasin b →
     IsPartialHistory b series records → AreTextMonths b series records →
-    records ≡ before ++ ms → AreAllTold b series (length before) ms → (t : Told) → t.calling ≡ None →
+    records ≡ before ++ ms → AreAllRead b series (length before) ms → (t : ReadSoFar) → t.calling ≡ None →
     t.months ≡ before →
     AreGood b series t (flat_map (items_of_month b) ms) ×
-    ((fold (tell b series) t (flat_map (items_of_month b) ms)).calling ≡ None)
-months_good b series records before [] valid history texts is told t c months = (tt, c)
-months_good b series records before (m ∷ ms) valid history texts is told t c months =
+    ((fold (read_item b series) t (flat_map (items_of_month b) ms)).calling ≡ None)
+months_good b series records before [] valid history texts is so_far t c months = (tt, c)
+months_good b series records before (m ∷ ms) valid history texts is so_far t c months =
     let f = follows_of b series records before ms m history is in
     let text = month_of b series records before ms m texts is in
     let count : length t.months ≡ length before = ap length months in
-    let at : At b before (begun b m) (tell b series t (line.Month m.month)) = record {
+    let at : At b before (begun b m) (read_item b series t (line.Month m.month)) = record {
       calling = refl;
       months = months;
-      now_is = ap (λ n. blank_month b n m.month) (count ∙ sym f.behind.index);
+      now_is = ap (λ n. blank_month b n m.month) (count ∙ sym f.after.index);
       called = refl;
     } in
     let good = follows_good b series before m f text in
-    let inner = inner_good b series before m valid.roll.strict told.1 good (tell b series t (line.Month m.month)) at in
+    let inner = inner_good b series before m valid.roll.strict so_far.1 good (read_item b series t (line.Month m.month))
+    at in
     let here : AreGood b series t (items_of_month b m) =
     subst (λ (xs : List Item). AreGood b series t xs) (sym (items_are b m))
     (month_good b series t m.month c, inner) in
-    let behind : Told = fold (tell b series) t (items_of_month b m) in
-    let still : behind.calling ≡ None = ap (λ xs. (fold (tell b series) t xs).calling) (items_are b m)
-    ∙ calm b series (inner_lines b m (callers_due b m)) (tell b series t (line.Month m.month))
+    let after : ReadSoFar = fold (read_item b series) t (items_of_month b m) in
+    let still : after.calling ≡ None = ap (λ xs. (fold (read_item b series) t xs).calling) (items_are b m)
+    ∙ calm b series (inner_lines b m (callers_due b m)) (read_item b series t (line.Month m.month))
     (inner_calm b series m (callers_due b m)) in
-    let later : behind.months ≡ before ++ m ∷ [] =
-    month_told b series m (calling_right b m) t (f.behind.index ∙ sym count) told.1 ∙ ap (λ xs. xs ++ m ∷ []) months in
+    let later : after.months ≡ before ++ m ∷ [] =
+    month_read b series m (calling_right b m) t (f.after.index ∙ sym count) so_far.1 ∙ ap (λ xs. xs ++ m ∷ []) months in
     let rest =
     months_good b series records (before ++ m ∷ []) ms valid history texts
     (is ∙ sym (append_assoc before (m ∷ []) ms))
-    (subst (λ (i : ℕ). AreAllTold b series i ms) (sym (length-append before (m ∷ []))) told.2) behind still later in (
+    (subst (λ (i : ℕ). AreAllRead b series i ms) (sym (length-append before (m ∷ []))) so_far.2) after still later in (
       good_both b series t (items_of_month b m) (flat_map (items_of_month b) ms) here rest.0,
-      ap (λ u. u.calling) (fold-both (tell b series) t (items_of_month b m) (flat_map (items_of_month b) ms)) ∙ rest.1,
+      ap (λ u. u.calling) (fold-both (read_item b series) t (items_of_month b m) (flat_map (items_of_month b) ms)) ∙
+          rest.1,
     )
 
 run_items_good : (b : Basin) (series : Inflows) (records : List MonthRecord) → IsValidBasin b →
     IsPartialHistory b series records → AreTextMonths b series records →
-    AreGood b series (nothing_told b) (items_of b records)
+    AreGood b series (nothing_read b) (items_of b records)
 run_items_good b series records valid history texts =
     let months =
-    months_good b series records [] records valid history texts refl (are_all_told b series records texts)
-    (nothing_told b) refl refl in (
-      title_good b series (nothing_told b) refl,
+    months_good b series records [] records valid history texts refl (are_all_read b series records texts)
+    (nothing_read b) refl refl in (
+      title_good b series (nothing_read b) refl,
       (
-        run_good b series (nothing_told b) refl,
-        good_both b series (nothing_told b) (flat_map (items_of_month b) records) (line.Done b.months ∷ []) months.0 (
-          last_good b series (fold (tell b series) (nothing_told b) (flat_map (items_of_month b) records)) b.months
+        run_good b series (nothing_read b) refl,
+        good_both b series (nothing_read b) (flat_map (items_of_month b) records) (line.Done b.months ∷ []) months.0 (
+          last_good b series (fold (read_item b series) (nothing_read b) (flat_map (items_of_month b) records)) b.months
               months.1,
           tt,
         ),
@@ -178,15 +181,15 @@ months_open b (m ∷ ms) =
     open_both (items_of_month b m) (flat_map (items_of_month b) ms)
     (ap is_whole (items_are b m) ∙ inner_open b m (callers_due b m)) (months_open b ms)
 
-front_open : (xs x y : List Item) (d i : Item) → xs ++ d ∷ [] ≡ x ++ i ∷ y → is_whole xs ≡ false → is_whole x ≡ false
-front_open xs [] y d i e h = refl
-front_open [] (z ∷ []) y d i e h = cc
-front_open [] (z ∷ w ∷ x) y d i e h = cc
-front_open (v ∷ xs) (z ∷ x) y d i e h =
+prefix_open : (xs x y : List Item) (d i : Item) → xs ++ d ∷ [] ≡ x ++ i ∷ y → is_whole xs ≡ false → is_whole x ≡ false
+prefix_open xs [] y d i e h = refl
+prefix_open [] (z ∷ []) y d i e h = cc
+prefix_open [] (z ∷ w ∷ x) y d i e h = cc
+prefix_open (v ∷ xs) (z ∷ x) y d i e h =
     let head : v ≡ z = cc in
     let tail : xs ++ d ∷ [] ≡ x ++ i ∷ y = cc in
     let two = or_parts (is_done v) (is_whole xs) h in
-    rw (← head, two.0) (front_open xs x y d i tail two.1)
+    rw (← head, two.0) (prefix_open xs x y d i tail two.1)
 
 ends_whole : (xs : List Item) (n : ℕ) → is_whole (xs ++ line.Done n ∷ []) ≡ true
 ends_whole xs n = list_any-append is_done xs (line.Done n ∷ []) ∙ or_true (is_whole xs)
@@ -203,7 +206,7 @@ text_good b series records valid history texts =
     says_yes b series (map (line_of b) (items_of b records)) (items_of b records)
     (verdict_good b series (items_of b records) (items_of b records) [] refl
     (λ x y i e. texts_are_accepted b series records x y i valid texts history.whole e)
-    (λ x y i e. front_open (items_of_head b ++ flat_map (items_of_month b) records) x y (line.Done b.months) i e
+    (λ x y i e. prefix_open (items_of_head b ++ flat_map (items_of_month b) records) x y (line.Done b.months) i e
     (months_open b records))
     (run_items_good b series records valid history.partial texts))
     (ends_whole (items_of_head b ++ flat_map (items_of_month b) records) b.months)

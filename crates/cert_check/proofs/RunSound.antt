@@ -8,7 +8,7 @@ use Rattle.std.proofs.lemmas.Bool.{or_parts}
 use Rattle.water_model.specs.Blank.{blank_month}
 use Rattle.water_model.specs.History.{IsPartialHistory, IsHistory, Follows, opening_after}
 use Rattle.water_model.specs.Hydrology.{run_month}
-use Rattle.water_model.specs.Places.{numbers_from}
+use Rattle.water_model.specs.Indices.{numbers_from}
 use Rattle.water_model.specs.Spelling.{line_of}
 use Rattle.water_model.specs.Text.{calling_right, items_of_month, items_of}
 use Rattle.water_model.specs.Valid.{IsValidBasin}
@@ -18,11 +18,11 @@ use Rattle.water_model.specs.declared.types.Basin.{Basin}
 use Rattle.water_model.specs.declared.types.Inflows.{Inflows}
 use Rattle.water_model.specs.declared.types.MonthRecord.{MonthRecord}
 use Rattle.water_model.proofs.Histories.{nothing_is_partial, one_month_more, opens_with_last}
-use Rattle.result_reader.specs.Form.{Fills, IsFront, due, due_in_month, due_for_month}
-use Rattle.result_reader.specs.Telling.{Told, tell, nothing_told}
+use Rattle.result_reader.specs.Form.{Fills, IsPrefix, due, due_in_month, due_for_month}
+use Rattle.result_reader.specs.ReadSoFar.{ReadSoFar, read_item, nothing_read}
 use Rattle.result_reader.specs.declared.shape.Shape.{Shape}
 use Rattle.result_reader.specs.declared.shape.Shape.TheVariants as shape
-use Rattle.result_reader.proofs.WholeMonth.{IsAllTold, month_told}
+use Rattle.result_reader.proofs.WholeMonth.{IsAllRead, month_read}
 use Rattle.cert_check.specs.Checking.{callers_due, rows, is_done, is_whole}
 use Rattle.cert_check.specs.Laws.{YesGivesHistory}
 use Rattle.cert_check.proofs.GoodFollows.{good_follows}
@@ -33,7 +33,7 @@ use Rattle.cert_check.proofs.MonthLines.{inner_filled}
 use Rattle.cert_check.proofs.Rows.{NoneHolds, AreGood, good_first, good_rest}
 use Rattle.cert_check.proofs.RunGood.{calm, inner_calm, items_are, open_both, inner_open}
 use Rattle.cert_check.proofs.Sections.{head_is}
-use Rattle.cert_check.proofs.Sheets.{Sheet, sheet_lines, record_of, record_told, record_lines}
+use Rattle.cert_check.proofs.Sheets.{Sheet, sheet_lines, record_of, record_read, record_lines}
 use Rattle.cert_check.proofs.SomeOutlet.{some_outlet}
 use Rattle.cert_check.proofs.Verdicts.{AreJudged, verdict_says, IsYes, yes_says}
 
@@ -79,9 +79,9 @@ one_month b valid i n items h =
 
 -- The last line is `done`, and no other is.
 record Ends (n : ℕ) (items : List Item) : Type 0 where
-  front : List Item
-  are : items ≡ front ++ line.Done n ∷ []
-  open_yet : is_whole front ≡ false
+  prefix : List Item
+  are : items ≡ prefix ++ line.Done n ∷ []
+  open_yet : is_whole prefix ≡ false
 
 pub last_line : (b : Basin) (items : List Item) → Fills b (shape.Done b.months ∷ []) items →
     items ≡ line.Done b.months ∷ []
@@ -93,30 +93,30 @@ last_line b items h =
 months_end : (b : Basin) → IsValidBasin b → (series : Inflows) (n i : ℕ) (items : List Item) →
     Fills b (from_month b i n) items → Ends b.months items
 unfolding numbers_from
-months_end b valid series zero i items h = record { front = []; are = last_line b items h; open_yet = refl }
+months_end b valid series zero i items h = record { prefix = []; are = last_line b items h; open_yet = refl }
 months_end b valid series (suc n) i items h =
     let m = one_month b valid i n items h in
     let later = months_end b valid series n (suc i) m.others m.rest in
     record {
-      front = line.Month (run_month b i) ∷ (sheet_lines b m.sheet m.dues ++ later.front);
+      prefix = line.Month (run_month b i) ∷ (sheet_lines b m.sheet m.dues ++ later.prefix);
       are = m.are
           ∙ ap (λ ys. line.Month (run_month b i) ∷ ys) (ap (λ ys. sheet_lines b m.sheet m.dues ++ ys) later.are
-          ∙ sym (append_assoc (sheet_lines b m.sheet m.dues) later.front (line.Done b.months ∷ [])));
+          ∙ sym (append_assoc (sheet_lines b m.sheet m.dues) later.prefix (line.Done b.months ∷ [])));
       open_yet =
-          open_both (sheet_lines b m.sheet m.dues) later.front (ap is_whole (record_lines b series i m.sheet m.dues)
+          open_both (sheet_lines b m.sheet m.dues) later.prefix (ap is_whole (record_lines b series i m.sheet m.dues)
           ∙ inner_open b (record_of b series i m.sheet) m.dues) later.open_yet;
     }
 
-nothing_behind : (xs items rest : List Item) (d : Item) → items ++ rest ≡ xs ++ d ∷ [] → is_whole xs ≡ false →
+nothing_after : (xs items rest : List Item) (d : Item) → items ++ rest ≡ xs ++ d ∷ [] → is_whole xs ≡ false →
     is_whole items ≡ true → rest ≡ []
-nothing_behind xs [] rest d e none some = cc
-nothing_behind [] (i ∷ []) rest d e none some = cc
-nothing_behind [] (i ∷ j ∷ items) rest d e none some = cc
-nothing_behind (x ∷ xs) (i ∷ items) rest d e none some =
+nothing_after xs [] rest d e none some = cc
+nothing_after [] (i ∷ []) rest d e none some = cc
+nothing_after [] (i ∷ j ∷ items) rest d e none some = cc
+nothing_after (x ∷ xs) (i ∷ items) rest d e none some =
     let head : i ≡ x = cc in
     let tail : items ++ rest ≡ xs ++ d ∷ [] = cc in
     let two = or_parts (is_done x) (is_whole xs) none in
-    nothing_behind xs items rest d tail two.1 (other (is_done i) (is_whole items) (ap is_done head ∙ two.0) some)
+    nothing_after xs items rest d tail two.1 (other (is_done i) (is_whole items) (ap is_done head ∙ two.0) some)
   where
     other : (p q : Bool) → p ≡ false → p || q ≡ true → q ≡ true
     other true q e k = cc
@@ -124,52 +124,52 @@ nothing_behind (x ∷ xs) (i ∷ items) rest d e none some =
 
 -- The months.
 
--- what stands behind some months that are not refuted
-pub record BehindMonths (b : Basin) (series : Inflows) (before : List MonthRecord) (t : Told) : Type 0 where
+-- what stands after some months that are not refuted
+pub record AfterMonths (b : Basin) (series : Inflows) (before : List MonthRecord) (t : ReadSoFar) : Type 0 where
   pub calling : t.calling ≡ None
   pub months : t.months ≡ before
   pub partial : IsPartialHistory b series before
   pub opens : length (opening_after b before) ≡ length b.reservoirs
 
 -- one month more that is not refuted
-pub record NextMonth (b : Basin) (series : Inflows) (before : List MonthRecord) (t : Told) (i : ℕ) (s : Sheet)
+pub record NextMonth (b : Basin) (series : Inflows) (before : List MonthRecord) (t : ReadSoFar) (i : ℕ) (s : Sheet)
     (dues : List (ℕ × ℕ)) : Type 0 where
   pub lines_are : line.Month (run_month b i) ∷ sheet_lines b s dues ≡ items_of_month b (record_of b series i s)
-  pub behind : BehindMonths b series (before ++ record_of b series i s ∷ [])
-      (fold (tell b series) t (items_of_month b (record_of b series i s)))
+  pub after : AfterMonths b series (before ++ record_of b series i s ∷ [])
+      (fold (read_item b series) t (items_of_month b (record_of b series i s)))
 
 pub next_month : (b : Basin) → IsValidBasin b →
-    (series : Inflows) (before : List MonthRecord) (t : Told) (i : ℕ) (s : Sheet) (dues : List (ℕ × ℕ)) →
+    (series : Inflows) (before : List MonthRecord) (t : ReadSoFar) (i : ℕ) (s : Sheet) (dues : List (ℕ × ℕ)) →
     ((r : ℕ) (set : List Bool) → s.cut r ≡ Some set → length set ≡ length b.nodes) → i ≡ length before → i < b.months →
-    BehindMonths b series before t →
+    AfterMonths b series before t →
     AreGood b series t (line.Month (run_month b i) ∷ sheet_lines b s dues) → NextMonth b series before t i s dues
 next_month b valid series before t i s dues sized at left stands g =
     record {
       lines_are =
           ap (λ ys. line.Month (run_month b i) ∷ ys)
           (record_lines b series i s dues ∙ ap (inner_lines b m) (sym good.1)) ∙ sym (items_are b m);
-      behind = record {
+      after = record {
         calling =
-            ap (λ xs. (fold (tell b series) t xs).calling) (items_are b m)
-            ∙ calm b series (inner_lines b m (callers_due b m)) (tell b series t (line.Month m.month))
+            ap (λ xs. (fold (read_item b series) t xs).calling) (items_are b m)
+            ∙ calm b series (inner_lines b m (callers_due b m)) (read_item b series t (line.Month m.month))
             (inner_calm b series m (callers_due b m));
-        months = month_told b series m (calling_right b m) t (at ∙ sym count) told
+        months = month_read b series m (calling_right b m) t (at ∙ sym count) so_far
             ∙ ap (λ xs. xs ++ m ∷ []) stands.months;
         partial = one_month_more b series before m stands.partial (omega (arith, at, left)) follows;
-        opens = ap length (opens_with_last b before m) ∙ follows.behind.fits.closing;
+        opens = ap length (opens_with_last b before m) ∙ follows.after.fits.closing;
       };
     }
   where
     m : MonthRecord
     m = record_of b series i s
 
-    told : IsAllTold b series m
-    told = record_told b series i s sized
+    so_far : IsAllRead b series m
+    so_far = record_read b series i s sized
 
     count : length t.months ≡ length before
     count = ap length stands.months
 
-    begins : At b before (begun b m) (tell b series t (line.Month (run_month b i)))
+    begins : At b before (begun b m) (read_item b series t (line.Month (run_month b i)))
     begins = record {
       calling = refl;
       months = stands.months;
@@ -178,13 +178,13 @@ next_month b valid series before t i s dues sized at left stands g =
     }
 
     good : IsGoodMonth b series before m × (callers_due b m ≡ dues)
-    good = inner_is_good b series before m dues (some_outlet b valid) told
-        (tell b series t (line.Month (run_month b i))) begins
-        (subst (λ (xs : List Item). AreGood b series (tell b series t (line.Month (run_month b i))) xs)
+    good = inner_is_good b series before m dues (some_outlet b valid) so_far
+        (read_item b series t (line.Month (run_month b i))) begins
+        (subst (λ (xs : List Item). AreGood b series (read_item b series t (line.Month (run_month b i))) xs)
         (record_lines b series i s dues) g.1)
 
     follows : Follows b series before m
-    follows = good_follows b series before m valid told good.0 at refl stands.opens
+    follows = good_follows b series before m valid so_far good.0 at refl stands.opens
 
 -- the months of a text that is not refuted are those of a history
 record Months (b : Basin) (series : Inflows) (before : List MonthRecord) (n : ℕ) (items : List Item) : Type 0 where
@@ -194,9 +194,9 @@ record Months (b : Basin) (series : Inflows) (before : List MonthRecord) (n : �
   are : items ≡ flat_map (items_of_month b) records ++ line.Done b.months ∷ []
 
 months_sound : (b : Basin) → IsValidBasin b →
-    (series : Inflows) (n i : ℕ) (before : List MonthRecord) (t : Told) (items : List Item) → i ≡ length before →
+    (series : Inflows) (n i : ℕ) (before : List MonthRecord) (t : ReadSoFar) (items : List Item) → i ≡ length before →
     i + n ≡ b.months →
-    BehindMonths b series before t → Fills b (from_month b i n) items → AreGood b series t items →
+    AfterMonths b series before t → Fills b (from_month b i n) items → AreGood b series t items →
     Months b series before n items
 unfolding numbers_from
 months_sound b valid series zero i before t items at all stands h g = record {
@@ -213,8 +213,8 @@ months_sound b valid series (suc n) i before t items at all stands h g =
     (good_first b series t (line.Month (run_month b i) ∷ sheet_lines b o.sheet o.dues) o.others good) in
     let here : items ≡ items_of_month b m ++ o.others = o.are ∙ ap (λ xs. xs ++ o.others) next.lines_are in
     let later =
-    months_sound b valid series n (suc i) (before ++ m ∷ []) (fold (tell b series) t (items_of_month b m)) o.others
-    (omega (arith, at, length-append before (m ∷ []))) (omega (arith, all)) next.behind o.rest
+    months_sound b valid series n (suc i) (before ++ m ∷ []) (fold (read_item b series) t (items_of_month b m)) o.others
+    (omega (arith, at, length-append before (m ∷ []))) (omega (arith, all)) next.after o.rest
     (good_rest b series t (items_of_month b m) o.others (subst (λ (xs : List Item). AreGood b series t xs) here g)) in
     record {
       records = m ∷ later.records;
@@ -228,12 +228,12 @@ months_sound b valid series (suc n) i before t items at all stands h g =
 
 -- The whole text.
 
--- the first two lines, and the months behind them
+-- the first two lines, and the months after them
 record Head (b : Basin) (items : List Item) : Type 0 where
   others : List Item
   first : Item
   not_done : is_done first ≡ false
-  is_run : (t : Told) (series : Inflows) → NoneHolds (rows b series t first) → first ≡ line.Run b.first b.months
+  is_run : (t : ReadSoFar) (series : Inflows) → NoneHolds (rows b series t first) → first ≡ line.Run b.first b.months
   are : items ≡ line.Title ∷ first ∷ others
   rest : Fills b (from_month b 0 b.months) others
 
@@ -255,31 +255,31 @@ head_of b items h =
 
 -- the last line of a whole text is `done`
 pub ends_with_done : (b : Basin) → IsValidBasin b → Inflows → (items : List Item) → Fills b (due b) items →
-    (front : List Item) × (items ≡ front ++ line.Done b.months ∷ [])
+    (prefix : List Item) × (items ≡ prefix ++ line.Done b.months ∷ [])
 ends_with_done b valid series items h =
     let head = head_of b items h in
     let ends = months_end b valid series b.months 0 head.others head.rest in (
-      line.Title ∷ head.first ∷ ends.front,
+      line.Title ∷ head.first ∷ ends.prefix,
       head.are ∙ ap (λ ys. line.Title ∷ head.first ∷ ys) ends.are,
     )
 
 -- lines that begin a whole text, and have its last line, are one
-whole_fills : (b : Basin) → IsValidBasin b → Inflows → (items : List Item) → is_whole items ≡ true → IsFront b items →
+whole_fills : (b : Basin) → IsValidBasin b → Inflows → (items : List Item) → is_whole items ≡ true → IsPrefix b items →
     Fills b (due b) items
-whole_fills b valid series items whole front =
-    let head = head_of b (items ++ front.rest) front.whole in
+whole_fills b valid series items whole prefix =
+    let head = head_of b (items ++ prefix.rest) prefix.whole in
     let ends = months_end b valid series b.months 0 head.others head.rest in
-    let none : front.rest ≡ [] =
-    nothing_behind (line.Title ∷ head.first ∷ ends.front) items front.rest (line.Done b.months)
+    let none : prefix.rest ≡ [] =
+    nothing_after (line.Title ∷ head.first ∷ ends.prefix) items prefix.rest (line.Done b.months)
     (head.are ∙ ap (λ ys. line.Title ∷ head.first ∷ ys) ends.are)
-    (first_open head.first ends.front (head_open head) ends.open_yet) whole in
-    subst (λ (xs : List Item). Fills b (due b) xs) (ap (λ ys. items ++ ys) none ∙ append-nil items) front.whole
+    (first_open head.first ends.prefix (head_open head) ends.open_yet) whole in
+    subst (λ (xs : List Item). Fills b (due b) xs) (ap (λ ys. items ++ ys) none ∙ append-nil items) prefix.whole
   where
     first_open : (i : Item) (xs : List Item) → is_done i ≡ false → is_whole xs ≡ false →
         is_done i || is_whole xs ≡ false
     first_open i xs e f = rw (e, f) refl
 
-    head_open : (h : Head b (items ++ front.rest)) → is_done h.first ≡ false
+    head_open : (h : Head b (items ++ prefix.rest)) → is_done h.first ≡ false
     head_open h = h.not_done
 
 -- a yes is for the text of a history
@@ -289,14 +289,14 @@ pub record IsOfHistory (b : Basin) (series : Inflows) (items : List Item) : Type
   pub are : items ≡ items_of b records
 
 pub items_sound : (b : Basin) → IsValidBasin b → (series : Inflows) (items : List Item) → is_whole items ≡ true →
-    IsFront b items → AreGood b series (nothing_told b) items →
+    IsPrefix b items → AreGood b series (nothing_read b) items →
     IsOfHistory b series items
-items_sound b valid series items whole front g =
-    let head = head_of b items (whole_fills b valid series items whole front) in
-    let good = subst (λ (xs : List Item). AreGood b series (nothing_told b) xs) head.are g in
-    let run = head.is_run (tell b series (nothing_told b) line.Title) series good.1.0 in
-    let good_run = subst (λ (i : Item). AreGood b series (nothing_told b) (line.Title ∷ i ∷ head.others)) run good in
-    let months = months_sound b valid series b.months 0 [] (nothing_told b) head.others refl (omega arith) (record {
+items_sound b valid series items whole prefix g =
+    let head = head_of b items (whole_fills b valid series items whole prefix) in
+    let good = subst (λ (xs : List Item). AreGood b series (nothing_read b) xs) head.are g in
+    let run = head.is_run (read_item b series (nothing_read b) line.Title) series good.1.0 in
+    let good_run = subst (λ (i : Item). AreGood b series (nothing_read b) (line.Title ∷ i ∷ head.others)) run good in
+    let months = months_sound b valid series b.months 0 [] (nothing_read b) head.others refl (omega arith) (record {
       calling = refl;
       months = refl;
       partial = nothing_is_partial b series;
@@ -314,17 +314,17 @@ pub yes_gives_history : YesGivesHistory
 yes_gives_history b series lines rest items valid h =
     let yes' = yes_says b series lines rest items h in
     let said = verdict_says b valid series [] items lines yes'.lines_good in
-    by_front yes' said said.front
+    by_prefix yes' said said.prefix
   where
-    by_front : IsYes b series lines rest items → (said : AreJudged b series [] items lines) → (said.more ≡ []) ⊎
-        IsFront b items →
+    by_prefix : IsYes b series lines rest items → (said : AreJudged b series [] items lines) → (said.more ≡ []) ⊎
+        IsPrefix b items →
         (records : List MonthRecord) × IsHistory b series records × (lines ≡ map (line_of b) (items_of b records)) ×
         (rest ≡ []) × (items ≡ items_of b records)
-    by_front y said (inl none) = let never : false ≡ true = sym (ap is_whole (said.are ∙ none)) ∙ y.whole in cc
-    by_front y said (inr front) =
+    by_prefix y said (inl none) = let never : false ≡ true = sym (ap is_whole (said.are ∙ none)) ∙ y.whole in cc
+    by_prefix y said (inr prefix) =
         let sound =
-        items_sound b valid series items y.whole front
-        (subst (λ (xs : List Item). AreGood b series (nothing_told b) xs) (sym said.are) said.good) in (
+        items_sound b valid series items y.whole prefix
+        (subst (λ (xs : List Item). AreGood b series (nothing_read b) xs) (sym said.are) said.good) in (
           sound.records,
           sound.history,
           said.spelled ∙ ap (map (line_of b)) (sym said.are ∙ sound.are),

@@ -14,30 +14,30 @@ use Rattle.water_model.specs.declared.quantity.Quantity.TheVariants as quantity
 use Rattle.water_model.specs.declared.types.Basin.{Basin}
 use Rattle.water_model.specs.declared.types.Inflows.{Inflows}
 use Rattle.water_model.specs.declared.types.MonthRecord.{MonthRecord}
-use Rattle.result_reader.specs.Telling.{Told}
+use Rattle.result_reader.specs.ReadSoFar.{ReadSoFar}
 use Rattle.cert_check.specs.Checking.{rows, amount_wrong, is_same_month}
 use Rattle.cert_check.proofs.Rows.{NoneHolds, Section, early_good, is_same, same_is}
 use Rattle.water_text.proofs.MonthLaws.{same_month}
 
--- what the rows of a section need of what is told
-abbrev pub Behind : List MonthRecord → Told → Type 0
-Behind before t = (t.calling ≡ None) × (t.months ≡ before)
+-- what the rows of a section need of what was read
+abbrev pub After : List MonthRecord → ReadSoFar → Type 0
+After before t = (t.calling ≡ None) × (t.months ≡ before)
 
-abbrev pub BehindAt : List MonthRecord → ℕ → Told → Type 0
-BehindAt before index t = (t.calling ≡ None) × (t.months ≡ before) × (t.now.index ≡ index)
+abbrev pub AfterAt : List MonthRecord → ℕ → ReadSoFar → Type 0
+AfterAt before index t = (t.calling ≡ None) × (t.months ≡ before) × (t.now.index ≡ index)
 
-abbrev pub Opened : ℕ → List ℕ → Told → Type 0
+abbrev pub Opened : ℕ → List ℕ → ReadSoFar → Type 0
 Opened index opening t = (t.calling ≡ None) × (t.now.index ≡ index) × (t.now.opening ≡ opening)
 
-abbrev pub InMonth : Month → Told → Type 0
+abbrev pub InMonth : Month → ReadSoFar → Type 0
 InMonth month t = (t.calling ≡ None) × (t.now.month ≡ month)
 
-abbrev pub Flows : ℕ → List ℕ → List ℕ → Told → Type 0
+abbrev pub Flows : ℕ → List ℕ → List ℕ → ReadSoFar → Type 0
 Flows index used flow t = (t.calling ≡ None) × (t.now.index ≡ index) × (t.now.used ≡ used) × (t.now.plan.flow ≡ flow)
 
--- An `open` line is refuted for its amount alone, and so are the lines behind it.
+-- An `open` line is refuted for its amount alone, and so are the lines after it.
 pub openings : (b : Basin) (series : Inflows) (before : List MonthRecord) (a : ℕ → ℕ) →
-    Section b series (Behind before)
+    Section b series (After before)
     (λ x. a x ≡ slice_index (opening_after b before) x)
     (λ x. line.Amount quantity.Opening x (a x))
 openings b series before a = record {
@@ -46,7 +46,7 @@ openings b series before a = record {
         ∙ ap (λ ms. slice_index (opening_after b ms) x) (sym p.1)),
     tt,
   );
-  tells = λ x t p n. is_same (a x) (slice_index (opening_after b t.months) x) n.1.1.1.1.0
+  reads = λ x t p n. is_same (a x) (slice_index (opening_after b t.months) x) n.1.1.1.1.0
       ∙ ap (λ ms. slice_index (opening_after b ms) x) p.1;
   keeps = λ x t p. (refl, p.1);
 }
@@ -65,7 +65,7 @@ evaporations b series index opening a = record {
         (rw (p.1, p.2) g),
     tt,
   );
-  tells = λ x t p n. (let e =
+  reads = λ x t p n. (let e =
       is_same (a x) (of_entry b.reservoirs x
       (λ r. evaporation r.area (slice_index t.now.opening x) (slice_index r.rate (in_year b t.now.index))) 0)
       n.1.1.1.1.0 in rw (p.1, p.2) at e);
@@ -74,26 +74,26 @@ evaporations b series index opening a = record {
 
 -- `return` lines
 pub returns : (b : Basin) (series : Inflows) (before : List MonthRecord) (index : ℕ) (a : ℕ → ℕ) →
-    Section b series (BehindAt before index)
+    Section b series (AfterAt before index)
     (λ x. a x ≡ returned_at b (map (λ m. m.delivered) before) x index)
     (λ x. line.Amount quantity.Returned x (a x))
 returns b series before index a = record {
   makes = λ x t p g. early_good b series t (line.Amount quantity.Returned x (a x)) p.0 (λ r. refl) refl refl
       (same_is (a x) (returned_at b (map (λ m. m.delivered) t.months) x t.now.index) (rw (p.1, p.2) g), tt);
-  tells = λ x t p n. (let e =
+  reads = λ x t p n. (let e =
       is_same (a x) (returned_at b (map (λ m. m.delivered) t.months) x t.now.index) n.1.1.1.1.0 in rw (p.1, p.2) at e);
   keeps = λ x t p. (refl, p.1, p.2);
 }
 
 -- `used` lines
 pub uses : (b : Basin) (series : Inflows) (before : List MonthRecord) (index : ℕ) (a : ℕ → ℕ) →
-    Section b series (BehindAt before index)
+    Section b series (AfterAt before index)
     (λ x. a x ≡ used_of b (map (λ m. m.delivered) before) x index)
     (λ x. line.Amount quantity.Used x (a x))
 uses b series before index a = record {
   makes = λ x t p g. early_good b series t (line.Amount quantity.Used x (a x)) p.0 (λ r. refl) refl refl
       (same_is (a x) (used_of b (map (λ m. m.delivered) t.months) x t.now.index) (rw (p.1, p.2) g), tt);
-  tells = λ x t p n. (let e =
+  reads = λ x t p n. (let e =
       is_same (a x) (used_of b (map (λ m. m.delivered) t.months) x t.now.index) n.1.1.1.1.0 in rw (p.1, p.2) at e);
   keeps = λ x t p. (refl, p.1, p.2);
 }
@@ -106,7 +106,7 @@ pub flows : (b : Basin) (series : Inflows) (month : Month) (a : ℕ → ℕ) →
 flows b series month a = record {
   makes = λ x t p g. early_good b series t (line.Amount quantity.Flow x (a x)) p.0 (λ r. refl) refl refl
       (ap (λ m. nat_lt (carry_of b m x) (a x)) p.1 ∙ g, tt);
-  tells = λ x t p n. ap (λ m. nat_lt (carry_of b m x) (a x)) (sym p.1) ∙ n.1.1.1.1.0;
+  reads = λ x t p n. ap (λ m. nat_lt (carry_of b m x) (a x)) (sym p.1) ∙ n.1.1.1.1.0;
   keeps = λ x t p. (refl, p.1);
 }
 
@@ -124,7 +124,7 @@ deliveries b series index used flow a w = record {
         (ap (λ f. amount_wrong (instream_link b x) f (a x) (w x)) p.3 ∙ g.1),
     tt,
   );
-  tells = λ x t p n. (let h = or_parts (not (w x == want_of b series x t.now.index (slice_index t.now.used x)))
+  reads = λ x t p n. (let h = or_parts (not (w x == want_of b series x t.now.index (slice_index t.now.used x)))
       (amount_wrong (instream_link b x) t.now.plan.flow (a x) (w x)) n.1.1.1.1.0 in (
         is_same (w x) (want_of b series x t.now.index (slice_index t.now.used x)) h.0
             ∙ rw (p.1, p.2) refl,
@@ -133,18 +133,19 @@ deliveries b series index used flow a w = record {
   keeps = λ x t p. (refl, p.1, p.2, p.3);
 }
 
-pub title_good : (b : Basin) (series : Inflows) (t : Told) → t.calling ≡ None → NoneHolds (rows b series t (line.Title))
+pub title_good : (b : Basin) (series : Inflows) (t : ReadSoFar) → t.calling ≡ None →
+    NoneHolds (rows b series t (line.Title))
 title_good b series t h = early_good b series t (line.Title) h (λ r. refl) refl refl tt
 
-pub month_good : (b : Basin) (series : Inflows) (t : Told) (month : Month) → t.calling ≡ None →
+pub month_good : (b : Basin) (series : Inflows) (t : ReadSoFar) (month : Month) → t.calling ≡ None →
     NoneHolds (rows b series t (line.Month month))
 month_good b series t month h = early_good b series t (line.Month month) h (λ r. refl) refl refl tt
 
-pub last_good : (b : Basin) (series : Inflows) (t : Told) (months : ℕ) → t.calling ≡ None →
+pub last_good : (b : Basin) (series : Inflows) (t : ReadSoFar) (months : ℕ) → t.calling ≡ None →
     NoneHolds (rows b series t (line.Done months))
 last_good b series t months h = early_good b series t (line.Done months) h (λ r. refl) refl refl tt
 
-pub run_good : (b : Basin) (series : Inflows) (t : Told) → t.calling ≡ None →
+pub run_good : (b : Basin) (series : Inflows) (t : ReadSoFar) → t.calling ≡ None →
     NoneHolds (rows b series t (line.Run b.first b.months))
 run_good b series t h = early_good b series t (line.Run b.first b.months) h (λ r. refl) refl refl
     (run_same b.first.year b.first.month b.months, tt)
@@ -152,7 +153,7 @@ run_good b series t h = early_good b series t (line.Run b.first b.months) h (λ 
     run_same : (y m n : ℕ) → not (y == y && m == m && n == n) ≡ false
     run_same y m n = grind (arith, nat_tests)
 
-pub head_is : (b : Basin) (series : Inflows) (t : Told) (first : Month) (months : ℕ) →
+pub head_is : (b : Basin) (series : Inflows) (t : ReadSoFar) (first : Month) (months : ℕ) →
     NoneHolds (rows b series t (line.Run first months)) → (first ≡ b.first) × (months ≡ b.months)
 head_is b series t first months n = by_parts first b.first n.1.1.1.1.0
   where

@@ -1,4 +1,4 @@
--- An account keeps the sets that are told, with one line more.
+-- An account keeps the sets that were read, with one line more.
 use Rattle.std.proofs.Common.{◌≡◌, ℕ, ◌<◌, Bool, true, false, refl, sym, ap, subst, ◌∙◌, arith, inl, inr, List, []}
 use Rattle.std.proofs.Common.{◌∷◌, length, replicate, take}
 use Rattle.std.specs.Prelude.{Option, Some, None, IsSome, ◌&&◌, is_none, slice_set, option_map}
@@ -6,15 +6,15 @@ use Rattle.std.specs.List.{list_any}
 use Rattle.std.proofs.lemmas.Bool.{cases_eq, or_parts}
 use Rattle.water_model.specs.CutSets.{CutSets, set_of, with_set}
 use Rattle.water_model.specs.History.{cut_of}
-use Rattle.water_model.specs.Places.{seniors_first}
+use Rattle.water_model.specs.Indices.{seniors_first}
 use Rattle.water_model.specs.declared.item.Item.TheVariants as line
 use Rattle.water_model.specs.declared.types.Basin.{Basin}
 use Rattle.water_model.specs.declared.types.Inflows.{Inflows}
 use Rattle.water_model.specs.declared.types.MonthRecord.{MonthRecord}
-use Rattle.result_reader.specs.Telling.{Told, tell, with_member}
+use Rattle.result_reader.specs.ReadSoFar.{ReadSoFar, read_item, with_member}
 use Rattle.calls.specs.Callers.{AreCallers, is_short}
 use Rattle.cert_check.specs.Keeping.{IsCalling, Keeps, lacks_call}
-use Rattle.cert_check.specs.declared.account.Account.{Account}
+use Rattle.cert_check.specs.declared.state.CheckState.{CheckState}
 use Rattle.water_model.proofs.SetEntries.{set_of_with, set_of_other}
 use Rattle.cert_check.proofs.Fitting.{none_answered, put_both}
 
@@ -49,10 +49,10 @@ has_set : (cuts : CutSets) (r : ℕ) (set : List Bool) → r < length cuts.sets 
     IsSome (set_of (with_set cuts r (Some set)) r)
 has_set cuts r set l = rw (set_of_with cuts r (Some set) l) refl
 
--- A right's set is told, before the `called` lines.
+-- A right's set was read, before the `called` lines.
 
 -- the account with the set, while the nodes of this right come
-abbrev pub with_own : Account → ℕ → List Bool → Option ℕ → Account
+abbrev pub with_own : CheckState → ℕ → List Bool → Option ℕ → CheckState
 with_own a r set calling = record a {
   month = record a.month { cuts = with_set a.month.cuts r (Some set) };
   calling = calling;
@@ -60,13 +60,13 @@ with_own a r set calling = record a {
   answered = 0;
 }
 
-abbrev told_own : Told → ℕ → Option (List Bool) → Option ℕ → Told
-told_own t r set due = record t { now = record t.now { cuts = with_set t.now.cuts r set }; calling = due }
+abbrev read_own : ReadSoFar → ℕ → Option (List Bool) → Option ℕ → ReadSoFar
+read_own t r set due = record t { now = record t.now { cuts = with_set t.now.cuts r set }; calling = due }
 
-keeps_set : (b : Basin) (series : Inflows) (a : Account) (t : Told) (r : ℕ) (set : List Bool)
+keeps_set : (b : Basin) (series : Inflows) (a : CheckState) (t : ReadSoFar) (r : ℕ) (set : List Bool)
     (calling due : Option ℕ) → r < length b.rights → t.called ≡ 0 →
     IsCalling b (with_set a.month.cuts r (Some set)) calling due → Keeps b series a t →
-    Keeps b series (with_own a r set calling) (told_own t r (Some set) due)
+    Keeps b series (with_own a r set calling) (read_own t r (Some set) due)
 keeps_set b series a t r set calling due l none held k = record {
   left = k.left;
   month = assumption (put_both r (Some set) k.month.fits.fits.cuts k.month.shows.sets);
@@ -84,13 +84,13 @@ keeps_set b series a t r set calling due l none held k = record {
 }
 
 -- a `call` line
-pub keeps_call : (b : Basin) (series : Inflows) (a : Account) (t : Told) (x : ℕ) → x < length b.rights →
+pub keeps_call : (b : Basin) (series : Inflows) (a : CheckState) (t : ReadSoFar) (x : ℕ) → x < length b.rights →
     t.called ≡ 0 → Keeps b series a t →
-    Keeps b series (with_own a x (replicate a.month.cuts.nodes false) (Some x)) (tell b series t (line.Call x))
+    Keeps b series (with_own a x (replicate a.month.cuts.nodes false) (Some x)) (read_item b series t (line.Call x))
 keeps_call b series a t x l none k =
-    subst (λ nodes. Keeps b series (with_own a x set (Some x)) (told_own t x (Some (replicate nodes false)) (Some x)))
+    subst (λ nodes. Keeps b series (with_own a x set (Some x)) (read_own t x (Some (replicate nodes false)) (Some x)))
     k.month.fits.fits.cut_nodes
-    (keeps_set b series a t x set (Some x) (Some x) l none (record { told = refl; held = held }) k)
+    (keeps_set b series a t x set (Some x) (Some x) l none (record { so_far = refl; held = held }) k)
   where
     set : List Bool
     set = replicate a.month.cuts.nodes false
@@ -99,11 +99,11 @@ keeps_call b series a t x l none k =
     held r e = let is : x ≡ r = cc in
         rw (← is) (l, has_set a.month.cuts x set (omega (arith, l, k.month.fits.fits.cuts)))
 
--- an `in` line, behind no `call`
-pub keeps_stray : (b : Basin) (series : Inflows) (a : Account) (t : Told) (node : ℕ) → t.called ≡ 0 →
+-- an `in` line, after no `call`
+pub keeps_stray : (b : Basin) (series : Inflows) (a : CheckState) (t : ReadSoFar) (node : ℕ) → t.called ≡ 0 →
     a.calling ≡ None → Keeps b series a t →
-    Keeps b series (record a { has_callers = false; answered = 0 }) (tell b series t (line.Member node))
-keeps_stray b series a t node none stray k = by_call t.calling (sym k.calling.told ∙ stray)
+    Keeps b series (record a { has_callers = false; answered = 0 }) (read_item b series t (line.Member node))
+keeps_stray b series a t node none stray k = by_call t.calling (sym k.calling.so_far ∙ stray)
   where
     unknown : false ≡ true → AreCallers b a.month a.callers
     unknown e = clash e
@@ -114,10 +114,10 @@ keeps_stray b series a t node none stray k = by_call t.calling (sym k.calling.to
     by_call (Some r) e = no_right r (sym e)
 
 -- an `in` line of the right whose nodes come
-pub keeps_member : (b : Basin) (series : Inflows) (a : Account) (t : Told) (node right : ℕ) (set : List Bool) →
+pub keeps_member : (b : Basin) (series : Inflows) (a : CheckState) (t : ReadSoFar) (node right : ℕ) (set : List Bool) →
     t.called ≡ 0 → a.calling ≡ Some right → set_of a.month.cuts right ≡ Some set → Keeps b series a t →
-    Keeps b series (with_own a right (slice_set set node true) a.calling) (tell b series t (line.Member node))
-keeps_member b series a t node right set none own is k = by_call t.calling (sym k.calling.told ∙ own)
+    Keeps b series (with_own a right (slice_set set node true) a.calling) (read_item b series t (line.Member node))
+keeps_member b series a t node right set none own is k = by_call t.calling (sym k.calling.so_far ∙ own)
   where
     more : List Bool
     more = slice_set set node true
@@ -131,15 +131,15 @@ keeps_member b series a t node right set none own is k = by_call t.calling (sym 
       | inr other ↦ rw (set_of_other a.month.cuts right s (Some more) other) h
     ]
 
-    told : cut_of t.now right ≡ Some set
-    told = same_set a.month.cuts t.now.cuts k.month.shows.sets ∙ is
+    so_far : cut_of t.now right ≡ Some set
+    so_far = same_set a.month.cuts t.now.cuts k.month.shows.sets ∙ is
       where
         same_set : (c d : CutSets) → c.sets ≡ d.sets → set_of d right ≡ set_of c right
         same_set c d e = rw e refl
 
-    kept : Keeps b series (with_own a right more a.calling) (told_own t right (Some more) t.calling)
+    kept : Keeps b series (with_own a right more a.calling) (read_own t right (Some more) t.calling)
     kept = keeps_set b series a t right more a.calling t.calling within none (record {
-      told = k.calling.told;
+      so_far = k.calling.so_far;
       held = λ s h. (let own = k.calling.held s h in (own.0, still s own.1));
     }) k
 
@@ -147,4 +147,4 @@ keeps_member b series a t node right set none own is k = by_call t.calling (sym 
     by_call None e = no_right right e
     by_call (Some r) e = let same : r ≡ right = cc in
         rw same (subst (λ o. Keeps b series (with_own a right more a.calling)
-        (told_own t right (option_map (λ old. slice_set old node true) o) t.calling)) (sym told) kept)
+        (read_own t right (option_map (λ old. slice_set old node true) o) t.calling)) (sym so_far) kept)

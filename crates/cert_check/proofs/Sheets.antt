@@ -10,7 +10,7 @@ use Rattle.water_model.specs.Basin.{taking_node}
 use Rattle.water_model.specs.History.{cut_of}
 use Rattle.water_model.specs.Hydrology.{run_month, inflow_at, stored_at}
 use Rattle.water_model.specs.Entries.{count_in, in_order}
-use Rattle.water_model.specs.Places.{numbers_from, places_of, seniors_first}
+use Rattle.water_model.specs.Indices.{numbers_from, indices_of, seniors_first}
 use Rattle.water_model.specs.Quantities.{amounts_of, entries_with_line, space_of}
 use Rattle.water_model.specs.Text.{call_items}
 use Rattle.water_model.specs.Valid.{IsValidBasin}
@@ -30,16 +30,16 @@ use Rattle.water_model.proofs.Order.{Has, IsOrdered, filter-has, numbers_from-be
 use Rattle.water_model.proofs.Order.{flat_same, map_same}
 use Rattle.water_model.proofs.Order.{seniors_ordered}
 use Rattle.water_model.proofs.Quantities.{has-with_line}
-use Rattle.result_reader.proofs.MonthTold.{take_of}
+use Rattle.result_reader.proofs.MonthRead.{take_of}
 use Rattle.result_reader.proofs.Telling.{set_all, set_all-has}
-use Rattle.result_reader.proofs.WholeMonth.{IsAllTold}
+use Rattle.result_reader.proofs.WholeMonth.{IsAllRead}
 use Rattle.cert_check.proofs.Callers.{called_line}
 use Rattle.cert_check.proofs.Calls.{once_in_order}
 use Rattle.cert_check.proofs.Inverts.{AreApart}
 use Rattle.cert_check.proofs.Month.{inner_lines, section_lines}
 use Rattle.cert_check.proofs.Spread.{onto, onto_same}
 use Rattle.result_reader.proofs.Sets.{put_sets, set_in, length-put_sets, put_sets-has, put_sets-same, no_sets}
-use Rattle.result_reader.proofs.AllTold.{set_all-same}
+use Rattle.result_reader.proofs.AllRead.{set_all-same}
 
 -- No place comes twice in the lists that sections go over.
 
@@ -95,7 +95,7 @@ supplied b series m =
     record m {
       supply =
           map (λ n. inflow_at b series n m.index + slice_index m.returned n + stored_at b m.opening m.evaporated n)
-          (places_of b.nodes);
+          (indices_of b.nodes);
     }
 
 abbrev pub listed : Basin → Sheet → Quantity → List ℕ
@@ -131,15 +131,15 @@ amounts_are b series i s quantity.Flow = refl
 amounts_are b series i s quantity.Outflow = refl
 amounts_are b series i s quantity.Closing = refl
 
-told_is : (xs : List ℕ) (a : ℕ → ℕ) (n k : ℕ) → ((x : ℕ) → Has xs x → x < n) → Has xs k →
+read_is : (xs : List ℕ) (a : ℕ → ℕ) (n k : ℕ) → ((x : ℕ) → Has xs x → x < n) → Has xs k →
     slice_index (set_all xs a (zeros n)) k ≡ a k
-told_is xs a n k below h =
+read_is xs a n k below h =
     (let l = below k h in set_all-has xs a (zeros n) k (omega (arith, length-replicate {A = ℕ} n 0)) h)
 
-told_again : (xs : List ℕ) (a : ℕ → ℕ) (n : ℕ) → ((x : ℕ) → Has xs x → x < n) →
+read_again : (xs : List ℕ) (a : ℕ → ℕ) (n : ℕ) → ((x : ℕ) → Has xs x → x < n) →
     set_all xs (λ k. slice_index (set_all xs a (zeros n)) k) (zeros n) ≡ set_all xs a (zeros n)
-told_again xs a n below =
-    set_all-same xs (λ k. slice_index (set_all xs a (zeros n)) k) a (zeros n) (λ k h. told_is xs a n k below h)
+read_again xs a n below =
+    set_all-same xs (λ k. slice_index (set_all xs a (zeros n)) k) a (zeros n) (λ k h. read_is xs a n k below h)
 
 right_below : (b : Basin) (k : ℕ) → Has (seniors_first b) k → k < length b.rights
 right_below b k h = seniors_below b.rights k h
@@ -153,21 +153,21 @@ cut_is b cut k h =
     h)
 
 -- the record of a sheet tells all of itself
-pub record_told : (b : Basin) (series : Inflows) (i : ℕ) (s : Sheet) →
+pub record_read : (b : Basin) (series : Inflows) (i : ℕ) (s : Sheet) →
     ((r : ℕ) (set : List Bool) → s.cut r ≡ Some set → length set ≡ length b.nodes) →
-    IsAllTold b series (record_of b series i s)
-record_told b series i s sized = record {
+    IsAllRead b series (record_of b series i s)
+record_read b series i s sized = record {
   listed = λ q. ap (λ (xs : List ℕ). set_all (entries_with_line b q) (λ x. slice_index xs x)
       (zeros (count_in (space_of q) b)))
       (amounts_are b series i s q)
-      ∙ (told_again (entries_with_line b q) (s.amount q) (count_in (space_of q) b) (λ x h. (has-with_line b q x h).0)
+      ∙ (read_again (entries_with_line b q) (s.amount q) (count_in (space_of q) b) (λ x h. (has-with_line b q x h).0)
       ∙ sym (amounts_are b series i s q));
-  delivered = told_again (seniors_first b) s.delivered (length b.rights) (right_below b);
-  want = told_again (seniors_first b) s.want (length b.rights) (right_below b);
+  delivered = read_again (seniors_first b) s.delivered (length b.rights) (right_below b);
+  want = read_again (seniors_first b) s.want (length b.rights) (right_below b);
   take = set_all-same (seniors_first b) (take_of b (λ r. slice_index (record_of b series i s).delivered r))
       (take_of b s.delivered) (zeros (length b.rights))
       (λ k h. ap (λ n. if is_some (taking_node b k) then n else 0)
-      (told_is (seniors_first b) s.delivered (length b.rights) k (right_below b) h));
+      (read_is (seniors_first b) s.delivered (length b.rights) k (right_below b) h));
   sets = put_sets-same (seniors_first b) (λ r. cut_of (record_of b series i s) r) s.cut
       (replicate (length b.rights) None) (λ r h. cut_is b s.cut r h);
   nodes = refl;
@@ -203,8 +203,8 @@ record_lines b series i s dues =
         (slice_index (record_of b series i s).want k)
     deliver k h =
         rw (
-          told_is (seniors_first b) s.delivered (length b.rights) k (right_below b) h,
-          told_is (seniors_first b) s.want (length b.rights) k (right_below b) h,
+          read_is (seniors_first b) s.delivered (length b.rights) k (right_below b) h,
+          read_is (seniors_first b) s.want (length b.rights) k (right_below b) h,
         ) refl
 
     by_section : (k : Section) → sheet_section b s dues k ≡ section_lines b (record_of b series i s) dues k
@@ -214,7 +214,7 @@ record_lines b series i s dues =
         (entries_with_line b q)
         (λ k h. ap (λ n. line.Amount q k n)
         (sym (ap (λ (xs : List ℕ). slice_index xs k) (amounts_are b series i s q)
-        ∙ told_is (entries_with_line b q) (s.amount q) (count_in (space_of q) b) k
+        ∙ read_is (entries_with_line b q) (s.amount q) (count_in (space_of q) b) k
         (λ x l. (has-with_line b q x l).0) h)))
     by_section section.Deliveries =
         map_same (λ x. line.Deliver x (s.delivered x) (s.want x))

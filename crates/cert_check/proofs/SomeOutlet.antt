@@ -1,12 +1,12 @@
 -- A valid basin has an outlet.
 use Rattle.std.proofs.Common.{◌≡◌, ℕ, zero, suc, ◌+◌, ◌<◌, ◌≤◌, false, refl, ap, arith, inl, inr, List, [], ◌∷◌, length}
 use Rattle.std.proofs.lemmas.Bool.{cases_Bool}
-use Rattle.place_sums.specs.Sums.{total}
-use Rattle.place_sums.proofs.Totals.{term_le_total}
+use Rattle.finite_sums.specs.Sums.{total}
+use Rattle.finite_sums.proofs.Totals.{term_le_total}
 use Rattle.river_net.proofs.Ranks.{HasNumbers, forward_numbers}
 use Rattle.water_model.specs.Basin.{is_outlet}
 use Rattle.water_model.specs.Network.{head_in}
-use Rattle.water_model.specs.Places.{places_of, outlets}
+use Rattle.water_model.specs.Indices.{indices_of, outlets}
 use Rattle.water_model.specs.Valid.{IsValidBasin}
 use Rattle.water_model.specs.declared.types.Basin.{Basin}
 use Rattle.water_model.proofs.Balance.{ends}
@@ -34,7 +34,7 @@ some_outlet b valid = by_list (outlets b) refl
     no_outlet none v l = elim (cases_Bool (is_outlet b v)) [
       | inl leaves ↦
           absurd (empty (outlets b) v none
-          (has-filter (λ n. is_outlet b n) (places_of b.nodes) v
+          (has-filter (λ n. is_outlet b n) (indices_of b.nodes) v
           (numbers_from-has 0 (length b.nodes) v v l (omega arith)) leaves))
       | inr stays ↦ stays
     ]
@@ -48,6 +48,6 @@ some_outlet b valid = by_list (outlets b) refl
         absurd (omega (
           arith,
           endless b valid numbers (no_outlet e) (suc (total (length b.nodes) numbers.rank)) 0
-              valid.few.some_node,
+              valid.bounded.some_node,
         ))
     by_list (x ∷ xs) e = record { first = x; others = xs; are = e }

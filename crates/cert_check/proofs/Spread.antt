@@ -1,9 +1,9 @@
--- The lines of sections, one section behind another.
+-- The lines of sections, one section after another.
 use Rattle.std.proofs.Common.{◌≡◌, refl, ap, ◌∙◌, List, [], ◌∷◌, ◌++◌, append_assoc}
 use Rattle.std.specs.List.{flat_map}
 use Rattle.water_model.specs.declared.item.Section.{Section}
 
--- and others behind them
+-- and others after them
 abbrev pub onto : {A : Type 0} → (Section → List A) → List Section → List A → List A
 onto f [] ys = ys
 onto f (k ∷ ks) ys = f k ++ onto f ks ys

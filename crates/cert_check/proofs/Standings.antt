@@ -12,32 +12,32 @@ use Rattle.water_model.proofs.Histories.{last_follows}
 use Rattle.water_model.specs.declared.types.Basin.{Basin}
 use Rattle.water_model.specs.declared.types.Inflows.{Inflows}
 use Rattle.result_reader.specs.Due.{Due, all_due, due_after, is_call, step}
-use Rattle.result_reader.specs.Form.{due, due_in_month, Fills, IsFront}
+use Rattle.result_reader.specs.Form.{due, due_in_month, Fills, IsPrefix}
 use Rattle.result_reader.specs.Reading.{read_line}
-use Rattle.result_reader.specs.Standing.{most_lines}
+use Rattle.result_reader.specs.Standing.{max_lines}
 use Rattle.result_reader.specs.Standing as reader
-use Rattle.result_reader.specs.Telling.{Told, nothing_told, tell, told_by, with_supply}
+use Rattle.result_reader.specs.ReadSoFar.{ReadSoFar, nothing_read, read_item, read_so_far, with_supply}
 use Rattle.result_reader.specs.declared.bad_line.BadLine.{BadLine}
 use Rattle.result_reader.specs.declared.shape.Shape.{Shape}
-use Rattle.result_reader.proofs.Accepting.{fronts_are_accepted}
-use Rattle.result_reader.proofs.LinesLeft.{step-fewer, most_of_run, few_due}
+use Rattle.result_reader.proofs.Accepting.{prefixes_are_accepted}
+use Rattle.result_reader.proofs.LinesLeft.{step-fewer, most_of_run, bounded_due}
 use Rattle.cert_check.specs.Auditing.{MonthFollows}
 use Rattle.cert_check.specs.Checking.{first_row, is_whole, judge, judge_row, ok_then, rows, verdict_from}
 use Rattle.cert_check.specs.Coming.{MayCome}
-use Rattle.cert_check.specs.Standing.{CheckerSeen, IsBookOf, Stands, StandsFor}
+use Rattle.cert_check.specs.Standing.{CheckerView, IsProgressOf, Stands, CheckerStandsFor}
 use Rattle.cert_check.specs.Taking.{TakesItem, TakesLine}
-use Rattle.cert_check.specs.declared.book.Book.{Book}
+use Rattle.cert_check.specs.declared.progress.CheckProgress.{CheckProgress}
 use Rattle.cert_check.specs.declared.refuted.Refuted.{Refuted}
 use Rattle.cert_check.specs.declared.refuted.RefutedKind.TheVariants as kind
-use Rattle.cert_check.proofs.Fronts.{may_come}
+use Rattle.cert_check.proofs.Prefixes.{may_come}
 use Rattle.cert_check.proofs.Rows.{AreGood, NoneHolds, good_both, good_row}
 use Rattle.cert_check.proofs.RunSound.{ends_with_done}
-use Rattle.cert_check.proofs.Verdicts.{AreJudged, told_more, verdict_says}
+use Rattle.cert_check.proofs.Verdicts.{AreJudged, read_more, verdict_says}
 
 -- A text has fewer lines than fit 64 bits.
 
 lines_left : (b : Basin) (items : List Item) (s after : Due) → due_after b s items ≡ Some after →
-    length items + most_lines b after.dues ≤ most_lines b s.dues
+    length items + max_lines b after.dues ≤ max_lines b s.dues
 lines_left b [] s after h = let same : Some s ≡ Some after = h in let is : s ≡ after = cc in rw is (omega arith)
 lines_left b (item ∷ items) s after h =
     by_step (step b s.must s.dues item) refl h
@@ -46,21 +46,21 @@ lines_left b (item ∷ items) s after h =
     by_step : (o : Option (List Shape)) → step b s.must s.dues item ≡ o →
         option_and_then (λ dues. due_after b (record { must = is_call item; dues = dues }) items) o ≡ Some after →
         ((ds : List Shape) → due_after b (record { must = is_call item; dues = ds }) items ≡ Some after →
-        length items + most_lines b after.dues ≤ most_lines b ds) →
-        length (item ∷ items) + most_lines b after.dues ≤ most_lines b s.dues
+        length items + max_lines b after.dues ≤ max_lines b ds) →
+        length (item ∷ items) + max_lines b after.dues ≤ max_lines b s.dues
     by_step None e k further = cc
     by_step (Some ds) e k further = omega (arith, further ds k, step-fewer b s.must s.dues item ds e)
 
-pub few_lines : (b : Basin) (series : Inflows) (k : Book) (lines : List (List ℕ)) → IsValidBasin b →
-    IsBookOf b series k lines → k.read + 1 < 2 ^ 64
-few_lines b series k lines valid s =
+pub bounded_lines : (b : Basin) (series : Inflows) (k : CheckProgress) (lines : List (List ℕ)) → IsValidBasin b →
+    IsProgressOf b series k lines → k.read + 1 < 2 ^ 64
+bounded_lines b series k lines valid s =
     let stands : due_after b (all_due b) s.items ≡ Some k.reader.due =
     subst (λ (c : Basin). due_after c (all_due c) s.items ≡ Some k.reader.due) s.basin s.reader in
     let left = lines_left b s.items (all_due b) k.reader.due stands in
     let run = most_of_run b (length (due_in_month b)) b.months (length b.nodes) (length b.rights) refl refl refl refl in
     let fits =
-    run_fits_more (length (due_in_month b)) b.months (length b.nodes) (length b.rights) (few_due b valid)
-    valid.run.months.1 valid.few.nodes valid.few.rights in
+    run_fits_more (length (due_in_month b)) b.months (length b.nodes) (length b.rights) (bounded_due b valid)
+    valid.run.months.1 valid.bounded.nodes valid.bounded.rights in
     omega (arith, left, run, fits, s.counts.read)
   where
     run_fits_more : (dues count nodes rights : ℕ) → dues ≤ 50000 → count ≤ 1200 → nodes ≤ 2000 → rights ≤ 2000 →
@@ -121,7 +121,7 @@ judged_bad b series items bytes why open_yet read = rw (open_yet, read) refl
 
 pub judged_item : (b : Basin) (series : Inflows) (items : List Item) (bytes : List ℕ) (item : Item) →
     is_whole items ≡ false → read_line b items bytes ≡ Ok item →
-    judge b series items bytes ≡ judge_row items item (first_row b series (told_by b series items) item)
+    judge b series items bytes ≡ judge_row items item (first_row b series (read_so_far b series items) item)
 unfolding judge
 judged_item b series items bytes item open_yet read = rw (open_yet, read) refl
 
@@ -129,11 +129,11 @@ judged_item b series items bytes item open_yet read = rw (open_yet, read) refl
 pub line_comes : (b : Basin) (series : Inflows) (lines : List (List ℕ)) (bytes : List ℕ) (items : List Item)
     (item : Item) → IsValidBasin b → IsSeriesOf b series →
     verdict_from b series [] lines ≡ Ok items → read_line b items bytes ≡ Ok item →
-    MayCome b series (told_by b series items) item
+    MayCome b series (read_so_far b series items) item
 line_comes b series lines bytes items item valid fits h read =
     let said = verdict_says b valid series [] items lines h in
-    let front = ((fronts_are_accepted b items bytes item valid).0 read).2 in
-    may_come b valid series fits items item (rw said.are said.good) front
+    let prefix = ((prefixes_are_accepted b items bytes item valid).0 read).2 in
+    may_come b valid series fits items item (rw said.are said.good) prefix
 
 last_same : (xs ys : List Item) (i j : Item) → xs ++ i ∷ [] ≡ ys ++ j ∷ [] → i ≡ j
 last_same [] [] i j e = cc
@@ -147,31 +147,32 @@ last_same (x ∷ xs) (y ∷ ys) i j e = let tail : xs ++ i ∷ [] ≡ ys ++ j �
 pub line_ends : (b : Basin) (series : Inflows) (lines : List (List ℕ)) (bytes : List ℕ) (items : List Item)
     (item : Item) → IsValidBasin b → IsSeriesOf b series →
     verdict_from b series [] lines ≡ Ok items → read_line b items bytes ≡ Ok item →
-    item ≡ line.End → first_row b series (told_by b series items) item ≡ None →
-    MonthFollows b series (told_by b series items)
+    item ≡ line.End → first_row b series (read_so_far b series items) item ≡ None →
+    MonthFollows b series (read_so_far b series items)
 line_ends b series lines bytes items item valid fits h read is none =
-    last_follows b series (told_by b series items).months
-    (with_supply b series (told_by b series items).now)
-    (subst (λ (t : Told). IsPartialHistory b series t.months) more (by_rest front.rest front.whole))
+    last_follows b series (read_so_far b series items).months
+    (with_supply b series (read_so_far b series items).now)
+    (subst (λ (t : ReadSoFar). IsPartialHistory b series t.months) more (by_rest prefix.rest prefix.whole))
   where
-    front : IsFront b (items ++ line.End ∷ [])
-    front = subst (λ (i : Item). IsFront b (items ++ i ∷ [])) is ((fronts_are_accepted b items bytes item valid).0 read).2
+    prefix : IsPrefix b (items ++ line.End ∷ [])
+    prefix = subst (λ (i : Item). IsPrefix b (items ++ i ∷ [])) is
+        ((prefixes_are_accepted b items bytes item valid).0 read).2
 
     said : AreJudged b series [] items lines
     said = verdict_says b valid series [] items lines h
 
-    good : AreGood b series (nothing_told b) (items ++ line.End ∷ [])
-    good = good_both b series (nothing_told b) items (line.End ∷ []) (rw said.are said.good) (
-      subst (λ (i : Item). NoneHolds (rows b series (told_by b series items) i)) is
-          (good_row b series (told_by b series items) item none),
+    good : AreGood b series (nothing_read b) (items ++ line.End ∷ [])
+    good = good_both b series (nothing_read b) items (line.End ∷ []) (rw said.are said.good) (
+      subst (λ (i : Item). NoneHolds (rows b series (read_so_far b series items) i)) is
+          (good_row b series (read_so_far b series items) item none),
       tt,
     )
 
-    more : told_by b series (items ++ line.End ∷ []) ≡ tell b series (told_by b series items) line.End
-    more = told_more b series items line.End
+    more : read_so_far b series (items ++ line.End ∷ []) ≡ read_item b series (read_so_far b series items) line.End
+    more = read_more b series items line.End
 
     by_rest : (rest : List Item) → Fills b (due b) ((items ++ line.End ∷ []) ++ rest) →
-        IsPartialHistory b series (told_by b series (items ++ line.End ∷ [])).months
+        IsPartialHistory b series (read_so_far b series (items ++ line.End ∷ [])).months
     by_rest [] whole =
         let ends = ends_with_done b valid series (items ++ line.End ∷ [])
         (subst (λ (xs : List Item). Fills b (due b) xs) (append-nil (items ++ line.End ∷ [])) whole) in
@@ -185,18 +186,19 @@ line_ends b series lines bytes items item valid fits h read is none =
         })).partial
 
 -- a line that is taken, or refused by a row
-pub took : (b : Basin) (series : Inflows) (k : Book) (lines : List (List ℕ)) (bytes : List ℕ) (items : List Item)
+pub took : (b : Basin) (series : Inflows) (k : CheckProgress) (lines : List (List ℕ)) (bytes : List ℕ)
+    (items : List Item)
     (item : Item) (result : Result (Unit {0}) Refuted) →
     verdict_from b series [] lines ≡ Ok items →
-    judge b series items bytes ≡ judge_row items item (first_row b series (told_by b series items) item) →
-    k.reader.basin ≡ b → reader.StandsFor k.reader (items ++ item ∷ []) → TakesItem b series k items item result →
+    judge b series items bytes ≡ judge_row items item (first_row b series (read_so_far b series items) item) →
+    k.reader.basin ≡ b → reader.ReaderStandsFor k.reader (items ++ item ∷ []) → TakesItem b series k items item result →
     TakesLine b series k (lines ++ bytes ∷ []) result
 took b series k lines bytes items item (Ok done) good judged basin stands (none, keeps, counts, audit) = record {
   items = items ++ item ∷ [];
   verdict = line_judged b series lines bytes items (Ok item) good (judged ∙ ap (judge_row items item) none);
   basin = basin;
   reader = stands;
-  account = keeps;
+  state = keeps;
   counts = counts;
   audit = audit;
 }
@@ -205,7 +207,8 @@ took b series k lines bytes items item (Err e) good judged basin stands refuted 
 
 -- The whole checker.
 
-pub refusal_is : (c : CheckerSeen) (lines : List (List ℕ)) (e : Refuted) → c.refused ≡ Some e → StandsFor c lines →
+pub refusal_is : (c : CheckerView) (lines : List (List ℕ)) (e : Refuted) → c.refused ≡ Some e →
+    CheckerStandsFor c lines →
     verdict_from c.basin c.series [] lines ≡ Err e
 refusal_is c lines e is stands = by_refused c.refused is stands
   where
@@ -213,24 +216,24 @@ refusal_is c lines e is stands = by_refused c.refused is stands
     by_refused None is h = cc
     by_refused (Some other) is h = let same : other ≡ e = cc in h ∙ ap Err same
 
-pub refusal_stands : (c : CheckerSeen) (lines : List (List ℕ)) (e : Refuted) → c.refused ≡ Some e →
-    verdict_from c.basin c.series [] lines ≡ Err e → StandsFor c lines
+pub refusal_stands : (c : CheckerView) (lines : List (List ℕ)) (e : Refuted) → c.refused ≡ Some e →
+    verdict_from c.basin c.series [] lines ≡ Err e → CheckerStandsFor c lines
 refusal_stands c lines e is h = by_refused c.refused is
   where
     by_refused : (o : Option Refuted) → o ≡ Some e → Stands o c lines
     by_refused None is = cc
     by_refused (Some other) is = let same : other ≡ e = cc in h ∙ ap Err (sym same)
 
-pub good_is : (c : CheckerSeen) (lines : List (List ℕ)) → c.refused ≡ None → StandsFor c lines →
-    IsBookOf c.basin c.series c.book lines
+pub good_is : (c : CheckerView) (lines : List (List ℕ)) → c.refused ≡ None → CheckerStandsFor c lines →
+    IsProgressOf c.basin c.series c.progress lines
 good_is c lines is stands = by_refused c.refused is stands
   where
-    by_refused : (o : Option Refuted) → o ≡ None → Stands o c lines → IsBookOf c.basin c.series c.book lines
+    by_refused : (o : Option Refuted) → o ≡ None → Stands o c lines → IsProgressOf c.basin c.series c.progress lines
     by_refused None is h = h
     by_refused (Some e) is h = cc
 
-pub good_stands : (c : CheckerSeen) (lines : List (List ℕ)) → c.refused ≡ None →
-    IsBookOf c.basin c.series c.book lines → StandsFor c lines
+pub good_stands : (c : CheckerView) (lines : List (List ℕ)) → c.refused ≡ None →
+    IsProgressOf c.basin c.series c.progress lines → CheckerStandsFor c lines
 good_stands c lines is h = by_refused c.refused is
   where
     by_refused : (o : Option Refuted) → o ≡ None → Stands o c lines

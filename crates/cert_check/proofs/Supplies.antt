@@ -4,18 +4,18 @@ use Rattle.std.specs.Prelude.{slice_index}
 use Rattle.std.proofs.lemmas.Grind.{same_number_lists}
 use Rattle.std.proofs.lemmas.List.{length-map}
 use Rattle.water_model.specs.Hydrology.{inflow_at, stored_at}
-use Rattle.water_model.specs.Places.{places_of}
+use Rattle.water_model.specs.Indices.{indices_of}
 use Rattle.water_model.specs.declared.types.Basin.{Basin}
 use Rattle.water_model.specs.declared.types.Inflows.{Inflows}
 use Rattle.water_model.specs.declared.types.MonthRecord.{MonthRecord}
 use Rattle.water_model.proofs.Order.{length-numbers_from}
-use Rattle.result_reader.specs.Telling.{with_supply}
+use Rattle.result_reader.specs.ReadSoFar.{with_supply}
 use Rattle.cert_check.proofs.GoodFollows.{map_at}
 
 pub length-supply : (b : Basin) (series : Inflows) (m : MonthRecord) →
     length (with_supply b series m).supply ≡ length b.nodes
 length-supply b series m =
-    length-map (places_of b.nodes)
+    length-map (indices_of b.nodes)
     (λ n. inflow_at b series n m.index + slice_index m.returned n + stored_at b m.opening m.evaporated n)
     ∙ length-numbers_from 0 (length b.nodes)
 

@@ -8,10 +8,10 @@ use Rattle.water_model.specs.declared.item.Item.{Item}
 use Rattle.water_model.specs.declared.types.Basin.{Basin}
 use Rattle.water_model.specs.declared.types.Inflows.{Inflows}
 use Rattle.cert_check.specs.Checking.{judge, ok_then, verdict, verdict_at_end, verdict_from}
-use Rattle.cert_check.specs.Whole.{pieces_of, behind_last, is_line, lines_of_pieces, rest_of_pieces, text_verdict}
+use Rattle.cert_check.specs.Whole.{pieces_of, after_last, is_line, lines_of_pieces, rest_of_pieces, text_verdict}
 use Rattle.cert_check.specs.declared.refuted.Refuted.{Refuted}
 
--- A refusal stands, whatever lines come behind.
+-- A refusal stands, whatever lines come after.
 
 refused : (b : Basin) (series : Inflows) (before : List Item) (xs ys : List (List ℕ)) (e : Refuted) →
     verdict_from b series before xs ≡ Err e →
@@ -41,19 +41,19 @@ last_is : (xs : List (List ℕ)) (x : List ℕ) → slice_index_or (xs ++ x ∷ 
 last_is [] x = refl
 last_is (y ∷ ys) x = last_is ys x
 
-pub behind_last-end : (xs : List (List ℕ)) (x : List ℕ) → behind_last (xs ++ x ∷ []) ≡ x
-behind_last-end xs x = ap (λ n. slice_index_or (xs ++ x ∷ []) n []) (one_less xs x) ∙ last_is xs x
+pub after_last-end : (xs : List (List ℕ)) (x : List ℕ) → after_last (xs ++ x ∷ []) ≡ x
+after_last-end xs x = ap (λ n. slice_index_or (xs ++ x ∷ []) n []) (one_less xs x) ∙ last_is xs x
 
-front-end : (xs : List (List ℕ)) (x : List ℕ) → take (length (xs ++ x ∷ []) - 1) (xs ++ x ∷ []) ≡ xs
-front-end xs x = ap (λ n. take n (xs ++ x ∷ [])) (one_less xs x) ∙ take-append_seam xs (x ∷ [])
+prefix-end : (xs : List (List ℕ)) (x : List ℕ) → take (length (xs ++ x ∷ []) - 1) (xs ++ x ∷ []) ≡ xs
+prefix-end xs x = ap (λ n. take n (xs ++ x ∷ [])) (one_less xs x) ∙ take-append_seam xs (x ∷ [])
 
 -- a rest that counts as a line
 pub long_rest : (b : Basin) (series : Inflows) (lines : List (List ℕ)) (rest : List ℕ) → 128 < length rest →
     verdict b series (lines_of_pieces (lines ++ rest ∷ [])) (rest_of_pieces (lines ++ rest ∷ [])) ≡ verdict b series
     (lines ++ rest ∷ []) []
 long_rest b series lines rest h =
-    let long : is_line (behind_last (lines ++ rest ∷ [])) ≡ true =
-    ap is_line (behind_last-end lines rest) ∙ passes (length rest) h in
+    let long : is_line (after_last (lines ++ rest ∷ [])) ≡ true =
+    ap is_line (after_last-end lines rest) ∙ passes (length rest) h in
     rw long refl
   where
     passes : (n : ℕ) → 128 < n → nat_lt 128 n ≡ true
@@ -64,34 +64,34 @@ pub short_rest : (b : Basin) (series : Inflows) (lines : List (List ℕ)) (rest 
     verdict b series (lines_of_pieces (lines ++ rest ∷ [])) (rest_of_pieces (lines ++ rest ∷ [])) ≡ verdict b series
     lines rest
 short_rest b series lines rest h =
-    let short : is_line (behind_last (lines ++ rest ∷ [])) ≡ false =
-    ap is_line (behind_last-end lines rest) ∙ fails (length rest) h in
-    rw (short, front-end lines rest, behind_last-end lines rest) refl
+    let short : is_line (after_last (lines ++ rest ∷ [])) ≡ false =
+    ap is_line (after_last-end lines rest) ∙ fails (length rest) h in
+    rw (short, prefix-end lines rest, after_last-end lines rest) refl
   where
     fails : (n : ℕ) → n ≤ 128 → nat_lt 128 n ≡ false
     fails n h = grind (arith, nat_tests)
 
 -- the pieces in front of others are lines
-front_lines : (front more : List (List ℕ)) → 0 < length more → (behind : List (List ℕ)) ×
-    (lines_of_pieces (front ++ more) ≡ front ++ behind)
-front_lines front more some = by_test (is_line (behind_last (front ++ more)))
+prefix_lines : (prefix more : List (List ℕ)) → 0 < length more → (after : List (List ℕ)) ×
+    (lines_of_pieces (prefix ++ more) ≡ prefix ++ after)
+prefix_lines prefix more some = by_test (is_line (after_last (prefix ++ more)))
   where
-    cut : take (length (front ++ more) - 1) (front ++ more) ≡ front ++ take (length more - 1) more
+    cut : take (length (prefix ++ more) - 1) (prefix ++ more) ≡ prefix ++ take (length more - 1) more
     cut =
-        let place : length (front ++ more) - 1 ≡ length front + (length more - 1) =
-        omega (arith, length-append front more) in
-        ap (λ n. take n (front ++ more)) place ∙ take-append-add front more (length more - 1)
+        let place : length (prefix ++ more) - 1 ≡ length prefix + (length more - 1) =
+        omega (arith, length-append prefix more) in
+        ap (λ n. take n (prefix ++ more)) place ∙ take-append-add prefix more (length more - 1)
 
-    by_test : (t : Bool) → (behind : List (List ℕ)) ×
-        ((if t then front ++ more else take (length (front ++ more) - 1) (front ++ more)) ≡ front ++ behind)
+    by_test : (t : Bool) → (after : List (List ℕ)) ×
+        ((if t then prefix ++ more else take (length (prefix ++ more) - 1) (prefix ++ more)) ≡ prefix ++ after)
     by_test true = (more, refl)
     by_test false = (take (length more - 1) more, cut)
 
--- a text is refused where lines in its front are
-pub front_refused : (b : Basin) (series : Inflows) (bytes : List ℕ) (front more : List (List ℕ)) (e : Refuted) →
-    pieces_of bytes ≡ front ++ more → 0 < length more → verdict_from b series [] front ≡ Err e →
+-- a text is refused where lines in its prefix are
+pub prefix_refused : (b : Basin) (series : Inflows) (bytes : List ℕ) (prefix more : List (List ℕ)) (e : Refuted) →
+    pieces_of bytes ≡ prefix ++ more → 0 < length more → verdict_from b series [] prefix ≡ Err e →
     text_verdict b series bytes ≡ Err e
-front_refused b series bytes front more e is some h =
-    let lines = front_lines front more some in
+prefix_refused b series bytes prefix more e is some h =
+    let lines = prefix_lines prefix more some in
     ap (λ ls. verdict b series ls (rest_of_pieces (pieces_of bytes))) (ap lines_of_pieces is ∙ lines.1)
-    ∙ refused_text b series front lines.0 (rest_of_pieces (pieces_of bytes)) e h
+    ∙ refused_text b series prefix lines.0 (rest_of_pieces (pieces_of bytes)) e h

@@ -24,7 +24,7 @@ use Rattle.water_model.specs.declared.types.Inflows.{Inflows}
 use Rattle.water_model.specs.declared.types.MonthRecord.{MonthRecord}
 use Rattle.water_model.specs.declared.types.Reservoir.{Reservoir}
 use Rattle.water_model.proofs.Histories.{IsMonth-run_month}
-use Rattle.result_reader.specs.Telling.{Told, tell, with_member}
+use Rattle.result_reader.specs.ReadSoFar.{ReadSoFar, read_item, with_member}
 use Rattle.water_model.proofs.Wants.{want_most}
 use Rattle.water_model.proofs.Carries.{carry_most}
 use Rattle.cert_check.specs.Checking.{rows, amount_wrong}
@@ -51,8 +51,8 @@ before_is_amid (line.Member n) h = h
 before_is_amid line.End h = h
 before_is_amid (line.Done months) h = h
 
--- what is told within a month
-pub record InMonth (b : Basin) (before : List MonthRecord) (i : ℕ) (t : Told) : Type 0 where
+-- what was read within a month
+pub record InMonth (b : Basin) (before : List MonthRecord) (i : ℕ) (t : ReadSoFar) : Type 0 where
   pub months : t.months ≡ before
   pub index : t.now.index ≡ i
   pub month : t.now.month ≡ run_month b i
@@ -116,9 +116,9 @@ both_fail false q h = cc
 
 -- one line more
 pub in_month_more : (b : Basin) → IsValidBasin b → (series : Inflows) → IsSeriesOf b series →
-    (before : List MonthRecord) (i : ℕ) → i ≡ length before → i < b.months → (t : Told) (item : Item) →
+    (before : List MonthRecord) (i : ℕ) → i ≡ length before → i < b.months → (t : ReadSoFar) (item : Item) →
     is_amid item ≡ true → NoneHolds (rows b series t item) → InMonth b before i t →
-    InMonth b before i (tell b series t item)
+    InMonth b before i (read_item b series t item)
 in_month_more b valid series fits before i at l t line.Title h n m = m
 in_month_more b valid series fits before i at l t (line.Run first months) h n m = m
 in_month_more b valid series fits before i at l t (line.Month month) h n m = (let never : false ≡ true = h in cc)
@@ -182,19 +182,20 @@ in_month_more b valid series fits before i at l t (line.Done months) h n m = m
 
 -- all lines of a month so far
 pub in_month : (b : Basin) → IsValidBasin b → (series : Inflows) → IsSeriesOf b series →
-    (before : List MonthRecord) (i : ℕ) → i ≡ length before → i < b.months → (xs : List Item) (t : Told) →
+    (before : List MonthRecord) (i : ℕ) → i ≡ length before → i < b.months → (xs : List Item) (t : ReadSoFar) →
     list_all is_amid xs ≡ true → AreGood b series t xs → InMonth b before i t →
-    InMonth b before i (fold (tell b series) t xs)
+    InMonth b before i (fold (read_item b series) t xs)
 in_month b valid series fits before i at l [] t h g m = m
 in_month b valid series fits before i at l (x ∷ xs) t h g m =
     let two = and_parts (is_amid x) (list_all is_amid xs) h in
-    in_month b valid series fits before i at l xs (tell b series t x) two.1 g.1
+    in_month b valid series fits before i at l xs (read_item b series t x) two.1 g.1
     (in_month_more b valid series fits before i at l t x two.0 g.0 m)
 
 -- a month begins
-pub month_begins : (b : Basin) (series : Inflows) (before : List MonthRecord) (i : ℕ) (t : Told) → i ≡ length before →
+pub month_begins : (b : Basin) (series : Inflows) (before : List MonthRecord) (i : ℕ) (t : ReadSoFar) →
+    i ≡ length before →
     t.months ≡ before →
-    InMonth b before i (tell b series t (line.Month (run_month b i)))
+    InMonth b before i (read_item b series t (line.Month (run_month b i)))
 month_begins b series before i t at months = record {
   months = months;
   index = ap length months ∙ sym at;
@@ -211,8 +212,8 @@ month_begins b series before i t at months = record {
 
 -- No `called` line so far.
 
-uncalled_more : (b : Basin) (series : Inflows) (t : Told) (item : Item) → is_before_called item ≡ true →
-    (tell b series t item).called ≡ t.called
+uncalled_more : (b : Basin) (series : Inflows) (t : ReadSoFar) (item : Item) → is_before_called item ≡ true →
+    (read_item b series t item).called ≡ t.called
 uncalled_more b series t line.Title h = refl
 uncalled_more b series t (line.Run first months) h = refl
 uncalled_more b series t (line.Month month) h = (let never : false ≡ true = h in cc)
@@ -228,12 +229,12 @@ uncalled_more b series t (line.Called r caller) h = (let never : false ≡ true 
 uncalled_more b series t line.End h = refl
 uncalled_more b series t (line.Done months) h = refl
 
-pub uncalled : (b : Basin) (series : Inflows) (xs : List Item) (t : Told) → list_all is_before_called xs ≡ true →
-    (fold (tell b series) t xs).called ≡ t.called
+pub uncalled : (b : Basin) (series : Inflows) (xs : List Item) (t : ReadSoFar) → list_all is_before_called xs ≡ true →
+    (fold (read_item b series) t xs).called ≡ t.called
 uncalled b series [] t h = refl
 uncalled b series (x ∷ xs) t h =
     let two = and_parts (is_before_called x) (list_all is_before_called xs) h in
-    uncalled b series xs (tell b series t x) two.1 ∙ uncalled_more b series t x two.0
+    uncalled b series xs (read_item b series t x) two.1 ∙ uncalled_more b series t x two.0
 
 -- A right that has no `call` so far has no set.
 
@@ -241,12 +242,12 @@ abbrev pub no_call : ℕ → Item → Bool
 no_call r (line.Call s) = not (s == r)
 no_call r other = true
 
-pub record IsFree (r : ℕ) (t : Told) : Type 0 where
+pub record IsFree (r : ℕ) (t : ReadSoFar) : Type 0 where
   pub none : cut_of t.now r ≡ None
   pub other : t.calling ≡ Some r → ⊥
 
-free_more : (b : Basin) (series : Inflows) (r : ℕ) (t : Told) (item : Item) → no_call r item ≡ true → IsFree r t →
-    IsFree r (tell b series t item)
+free_more : (b : Basin) (series : Inflows) (r : ℕ) (t : ReadSoFar) (item : Item) → no_call r item ≡ true → IsFree r t →
+    IsFree r (read_item b series t item)
 free_more b series r t line.Title h f = f
 free_more b series r t (line.Run first months) h f = f
 free_more b series r t (line.Month month) h f =
@@ -278,9 +279,9 @@ free_more b series r t (line.Called s caller) h f =
 free_more b series r t line.End h f = record { none = f.none; other = λ e. (let never : None ≡ Some r = e in cc) }
 free_more b series r t (line.Done months) h f = f
 
-pub free : (b : Basin) (series : Inflows) (r : ℕ) (xs : List Item) (t : Told) → list_all (no_call r) xs ≡ true →
-    IsFree r t → IsFree r (fold (tell b series) t xs)
+pub free : (b : Basin) (series : Inflows) (r : ℕ) (xs : List Item) (t : ReadSoFar) → list_all (no_call r) xs ≡ true →
+    IsFree r t → IsFree r (fold (read_item b series) t xs)
 free b series r [] t h f = f
 free b series r (x ∷ xs) t h f =
     let two = and_parts (no_call r x) (list_all (no_call r) xs) h in
-    free b series r xs (tell b series t x) two.1 (free_more b series r t x two.0 f)
+    free b series r xs (read_item b series t x) two.1 (free_more b series r t x two.0 f)

@@ -7,11 +7,11 @@ use Rattle.water_model.specs.Valid.{IsValidBasin}
 use Rattle.water_model.specs.declared.item.Item.{Item}
 use Rattle.water_model.specs.declared.types.Basin.{Basin}
 use Rattle.water_model.specs.declared.types.Inflows.{Inflows}
-use Rattle.result_reader.specs.Form.{IsFront}
+use Rattle.result_reader.specs.Form.{IsPrefix}
 use Rattle.result_reader.specs.Reading.{read_line}
-use Rattle.result_reader.specs.Telling.{Told, tell, told_by, nothing_told}
+use Rattle.result_reader.specs.ReadSoFar.{ReadSoFar, read_item, read_so_far, nothing_read}
 use Rattle.result_reader.specs.declared.bad_line.BadLine.{BadLine}
-use Rattle.result_reader.proofs.Accepting.{fronts_are_accepted}
+use Rattle.result_reader.proofs.Accepting.{prefixes_are_accepted}
 use Rattle.result_reader.proofs.Telling.{fold-both}
 use Rattle.cert_check.specs.Checking.{first_row, judge, judge_row, judge_read, ok_then, verdict_from, verdict_at_end}
 use Rattle.cert_check.specs.Checking.{verdict, is_whole}
@@ -20,36 +20,36 @@ use Rattle.cert_check.specs.declared.refuted.RefutedKind.TheVariants as kind
 use Rattle.cert_check.specs.declared.refuted.Refuted.{Refuted}
 use Rattle.cert_check.proofs.Rows.{AreGood, good_row, row_good}
 
-pub told_more : (b : Basin) (series : Inflows) (before : List Item) (i : Item) →
-    told_by b series (before ++ i ∷ []) ≡ tell b series (told_by b series before) i
-told_more b series before i = fold-both (tell b series) (nothing_told b) before (i ∷ [])
+pub read_more : (b : Basin) (series : Inflows) (before : List Item) (i : Item) →
+    read_so_far b series (before ++ i ∷ []) ≡ read_item b series (read_so_far b series before) i
+read_more b series before i = fold-both (read_item b series) (nothing_read b) before (i ∷ [])
 
 -- Lines that are read, and that no row holds of, are good.
 
 judged_good : (b : Basin) (series : Inflows) (before : List Item) (bytes : List ℕ) (i : Item) →
     is_whole before ≡ false → read_line b before bytes ≡ Ok i →
-    first_row b series (told_by b series before) i ≡ None → judge b series before bytes ≡ Ok i
+    first_row b series (read_so_far b series before) i ≡ None → judge b series before bytes ≡ Ok i
 unfolding judge
 judged_good b series before bytes i open_yet read none = rw (open_yet, read, none) refl
 
 pub verdict_good : (b : Basin) (series : Inflows) (all items before : List Item) → all ≡ before ++ items →
     ((x y : List Item) (i : Item) → all ≡ x ++ i ∷ y → read_line b x (line_of b i) ≡ Ok i) →
     ((x y : List Item) (i : Item) → all ≡ x ++ i ∷ y → is_whole x ≡ false) →
-    AreGood b series (told_by b series before) items → verdict_from b series before (map (line_of b) items) ≡ Ok all
+    AreGood b series (read_so_far b series before) items → verdict_from b series before (map (line_of b) items) ≡ Ok all
 verdict_good b series all [] before is read none g = ap Ok (sym (append-nil before) ∙ sym is)
 verdict_good b series all (i ∷ items) before is read none g =
     ap (λ r. ok_then (λ item. verdict_from b series (before ++ item ∷ []) (map (line_of b) items)) r)
     (judged_good b series before (line_of b i) i (none before items i is) (read before items i is)
-    (row_good b series (told_by b series before) i g.0))
+    (row_good b series (read_so_far b series before) i g.0))
     ∙ verdict_good b series all items (before ++ i ∷ []) (is ∙ sym (append_assoc before (i ∷ []) items)) read none
-    (subst (λ (t : Told). AreGood b series t items) (sym (told_more b series before i)) g.1)
+    (subst (λ (t : ReadSoFar). AreGood b series t items) (sym (read_more b series before i)) g.1)
 
 -- The converse.
 
 pub record IsJudged (b : Basin) (series : Inflows) (before : List Item) (bytes : List ℕ) (i : Item) : Type 0 where
   pub open_yet : is_whole before ≡ false
   pub read : read_line b before bytes ≡ Ok i
-  pub none : first_row b series (told_by b series before) i ≡ None
+  pub none : first_row b series (read_so_far b series before) i ≡ None
 
 judged : (b : Basin) (series : Inflows) (before : List Item) (bytes : List ℕ) (i : Item) →
     judge b series before bytes ≡ Ok i → IsJudged b series before bytes i
@@ -63,12 +63,12 @@ judged b series before bytes i h = by_end (is_whole before) refl h
     by_read : is_whole before ≡ false → (r : Result Item BadLine) → read_line b before bytes ≡ r →
         judge_read b series before r ≡ Ok i → IsJudged b series before bytes i
     by_read open_yet (Ok item) read e =
-        let k = by_row item (first_row b series (told_by b series before) item) e in
+        let k = by_row item (first_row b series (read_so_far b series before) item) e in
         record {
           open_yet = open_yet;
           read = read ∙ ap Ok k.0;
           none =
-              ap (first_row b series (told_by b series before)) (sym k.0) ∙ k.1;
+              ap (first_row b series (read_so_far b series before)) (sym k.0) ∙ k.1;
         }
     by_read open_yet (Err why) read e = cc
 
@@ -79,13 +79,13 @@ judged b series before bytes i h = by_end (is_whole before) refl h
     by_end true e k = cc
     by_end false e k = by_read e (read_line b before bytes) refl k
 
--- what a good verdict says of lines behind others
+-- what a good verdict says of lines after others
 pub record AreJudged (b : Basin) (series : Inflows) (before items : List Item) (lines : List (List ℕ)) : Type 0 where
   pub more : List Item
   pub are : items ≡ before ++ more
   pub spelled : lines ≡ map (line_of b) more
-  pub good : AreGood b series (told_by b series before) more
-  pub front : (more ≡ []) ⊎ IsFront b items
+  pub good : AreGood b series (read_so_far b series before) more
+  pub prefix : (more ≡ []) ⊎ IsPrefix b items
 
 through : {X Y : Type 0} (f : X → Result Y Refuted) (r : Result X Refuted) (y : Y) → ok_then f r ≡ Ok y → (x : X) ×
     (r ≡ Ok x) × (f x ≡ Ok y)
@@ -99,32 +99,32 @@ pub verdict_says : (b : Basin) → IsValidBasin b →
 verdict_says b valid series before items [] h =
     let same : Ok before ≡ Ok items = h in
     let is : before ≡ items = cc in
-    record { more = []; are = sym is ∙ sym (append-nil before); spelled = refl; good = tt; front = inl refl }
+    record { more = []; are = sym is ∙ sym (append-nil before); spelled = refl; good = tt; prefix = inl refl }
 verdict_says b valid series before items (bytes ∷ lines) h =
     let t = through (λ item. verdict_from b series (before ++ item ∷ []) lines) (judge b series before bytes) items h in
     let j = judged b series before bytes t.0 t.1 in
-    let said = (fronts_are_accepted b before bytes t.0 valid).0 j.read in
+    let said = (prefixes_are_accepted b before bytes t.0 valid).0 j.read in
     let rest = verdict_says b valid series (before ++ t.0 ∷ []) items lines t.2 in
     record {
       more = t.0 ∷ rest.more;
       are = rest.are ∙ append_assoc before (t.0 ∷ []) rest.more;
       spelled = cons bytes (line_of b t.0) lines (map (line_of b) rest.more) said.0 rest.spelled;
       good = (
-        good_row b series (told_by b series before) t.0 j.none,
-        subst (λ (u : Told). AreGood b series u rest.more)
-            (told_more b series before t.0) rest.good,
+        good_row b series (read_so_far b series before) t.0 j.none,
+        subst (λ (u : ReadSoFar). AreGood b series u rest.more)
+            (read_more b series before t.0) rest.good,
       );
-      front = inr (by_front t.0 rest.more rest.are rest.front said.2);
+      prefix = inr (by_prefix t.0 rest.more rest.are rest.prefix said.2);
     }
   where
     cons : (x y : List ℕ) (xs ys : List (List ℕ)) → x ≡ y → xs ≡ ys → x ∷ xs ≡ y ∷ ys
     cons x y xs ys e f = rw (e, f) refl
 
-    by_front : (i : Item) → (more : List Item) → items ≡ (before ++ i ∷ []) ++ more → (more ≡ []) ⊎ IsFront b items →
-        IsFront b (before ++ i ∷ []) → IsFront b items
-    by_front i more are (inr front) own = front
-    by_front i more are (inl none) own =
-        subst (λ (xs : List Item). IsFront b xs)
+    by_prefix : (i : Item) → (more : List Item) → items ≡ (before ++ i ∷ []) ++ more → (more ≡ []) ⊎ IsPrefix b items →
+        IsPrefix b (before ++ i ∷ []) → IsPrefix b items
+    by_prefix i more are (inr prefix) own = prefix
+    by_prefix i more are (inl none) own =
+        subst (λ (xs : List Item). IsPrefix b xs)
         (sym (are ∙ (ap (λ ys. (before ++ i ∷ []) ++ ys) none ∙ append-nil (before ++ i ∷ [])))) own
 
 -- a yes to a whole text

@@ -1,8 +1,8 @@
 -- Walks over the rights in the order of seniority, one place further.
 use Rattle.std.proofs.Common.{◌≡◌, ℕ, ◌+◌, ap, arith}
 use Rattle.std.specs.Prelude.{Option, None, if◌then◌else◌}
-use Rattle.place_sums.specs.Sums.{total_where}
-use Rattle.place_sums.proofs.Totals.{total_more}
+use Rattle.finite_sums.specs.Sums.{total_where}
+use Rattle.finite_sums.proofs.Totals.{total_more}
 use Rattle.water_model.specs.Basin.{is_at}
 
 -- a sum over one place more, whose key is no place

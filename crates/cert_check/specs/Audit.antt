@@ -28,11 +28,11 @@ is_end other = false
 abbrev pub ended_months : List Item → ℕ
 ended_months items = count_by is_end items
 
--- The line of this number, counted from 1, is the `call` of a right in a month: so many months end before it.
+-- The line of this number, counted from 1, is the `call` of a right in a month: a given number of months end before it.
 pub record IsCallLine (items : List Item) (month right number : ℕ) : Type 0 where
   pub place : ℕ
   pub at : slice_get items place ≡ Some (line.Call right)
-  pub behind : ended_months (take place items) ≡ month
+  pub after : ended_months (take place items) ≡ month
   pub counted : number ≡ place + 1
 
 -- In some month a set isn't a reach, and in none before it. The line of this number is the `call` of the most senior

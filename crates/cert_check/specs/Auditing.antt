@@ -9,17 +9,17 @@ use Rattle.water_model.specs.declared.types.Inflows.{Inflows}
 use Rattle.water_model.specs.declared.types.MonthRecord.{MonthRecord}
 use Rattle.plan_residual.specs.Reaches.{IsFirstOther}
 use Rattle.plan_residual.specs.Rows.{IsSearchOf}
-use Rattle.result_reader.specs.Telling.{Told, with_supply}
+use Rattle.result_reader.specs.ReadSoFar.{ReadSoFar, with_supply}
 use Rattle.cert_check.specs.Audit.{ended_months, IsCallLine, IsFirstOtherLine}
-use Rattle.cert_check.specs.Coming.{IsUnderWay}
+use Rattle.cert_check.specs.Coming.{IsWithinMonth}
 use Rattle.cert_check.specs.Keeping.{Keeps}
-use Rattle.cert_check.specs.declared.account.Account.{Account}
+use Rattle.cert_check.specs.declared.state.CheckState.{CheckState}
 use Rattle.cert_check.specs.declared.audit.Audit.{Audit}
 use Rattle.cert_check.specs.declared.refuted.Refuted.{Refuted}
 use Rattle.cert_check.specs.declared.refuted.RefutedKind.TheVariants as kind
 
--- each right that has a set in the month under way has the line of its `call`
-abbrev pub HasCallLines : Told → List Item → List ℕ → Type 0
+-- each right that has a set in the current month has the line of its `call`
+abbrev pub HasCallLines : ReadSoFar → List Item → List ℕ → Type 0
 HasCallLines t items lines =
     t.now.index ≡ length t.months → (r : ℕ) → IsSome (cut_of t.now r) →
     IsCallLine items (length t.months) r (slice_index lines r)
@@ -35,28 +35,28 @@ pub record HasMemory (b : Basin) (a : Audit) : Type 0 where
   pub lines : length a.call_lines ≡ length b.rights
 
 -- an audit of these lines, by what they tell
-pub record IsAuditOf (b : Basin) (t : Told) (items : List Item) (a : Audit) : Type 0 where
+pub record IsAuditOf (b : Basin) (t : ReadSoFar) (items : List Item) (a : Audit) : Type 0 where
   pub memory : HasMemory b a
   pub months : ended_months items ≡ length t.months
   pub lines : HasCallLines t items a.call_lines
   pub found : IsFound b t.months items a.other
 
 -- so is what a checker keeps, where an audit was asked for
-abbrev pub IsAuditIfAny : Basin → Told → List Item → Option Audit → Type 0
+abbrev pub IsAuditIfAny : Basin → ReadSoFar → List Item → Option Audit → Type 0
 IsAuditIfAny b t items None = Unit {0}
 IsAuditIfAny b t items (Some a) = IsAuditOf b t items a
 
--- the month that is told is one of a history
-abbrev pub MonthFollows : Basin → Inflows → Told → Type 0
+-- the month that was read is one of a history
+abbrev pub MonthFollows : Basin → Inflows → ReadSoFar → Type 0
 MonthFollows b series t = Follows b series t.months (with_supply b series t.now)
 
--- an account keeps what some lines tell, and the month that is told may end
-pub record MonthEnds (b : Basin) (series : Inflows) (a : Account) : Type 0 where
-  pub told : Told
-  pub keeps : Keeps b series a told
-  pub partial : IsPartialHistory b series told.months
-  pub under_way : IsUnderWay b series told
-  pub follows : MonthFollows b series told
+-- an account keeps what some lines say, and the month that was read may end
+pub record MonthEnds (b : Basin) (series : Inflows) (a : CheckState) : Type 0 where
+  pub so_far : ReadSoFar
+  pub keeps : Keeps b series a so_far
+  pub partial : IsPartialHistory b series so_far.months
+  pub under_way : IsWithinMonth b series so_far
+  pub follows : MonthFollows b series so_far
 
 -- what was found stays; where nothing was, the month is asked
 abbrev pub IsAsked : Basin → MonthRecord → List ℕ → Option ℕ → Option ℕ → Type 0
@@ -71,7 +71,7 @@ pub record AsksMonth (b : Basin) (m : MonthRecord) (old new : Audit) : Type 0 wh
   pub other : IsAsked b m old.call_lines old.other new.other
 
 -- a `call` line is kept, and at an `end` line the month is asked
-abbrev pub TakesAudit : Basin → Inflows → Told → Item → ℕ → Audit → Audit → Type 0
+abbrev pub TakesAudit : Basin → Inflows → ReadSoFar → Item → ℕ → Audit → Audit → Type 0
 TakesAudit b series t (line.Call r) number old new =
     new ≡ record old { call_lines = slice_set old.call_lines r number }
 TakesAudit b series t line.End number old new =

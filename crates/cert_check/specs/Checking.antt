@@ -4,14 +4,14 @@ use Rattle.std.specs.Prelude.{reverse, min, Option, Some, None, Result, Ok, Err,
 use Rattle.std.specs.Prelude.{◌==◌, if◌then◌else◌, slice_index, slice_get}
 use Rattle.std.specs.List.{list_all, list_any, flat_map}
 use Rattle.std.specs.Option.{option_map_or}
-use Rattle.place_sums.specs.Sums.{total_where}
+use Rattle.finite_sums.specs.Sums.{total_where}
 use Rattle.water_text.specs.declared.month.Month.{Month}
 use Rattle.water_model.specs.Basin.{is_senior, taking_node, instream_link}
 use Rattle.water_model.specs.Cuts.{cut_capacity, cut_kept, separates}
 use Rattle.water_model.specs.History.{cut_of, opening_after, is_zone_of}
 use Rattle.water_model.specs.Hydrology.{in_year, evaporation, returned_at, used_of, want_of}
 use Rattle.water_model.specs.Lookups.{of_entry}
-use Rattle.water_model.specs.Places.{places_of, seniors_first, outlets}
+use Rattle.water_model.specs.Indices.{indices_of, seniors_first, outlets}
 use Rattle.water_model.specs.Plans.{carry_of, inflow_to, outflow_from, taken_at}
 use Rattle.water_model.specs.Text.{calling_right}
 use Rattle.water_model.specs.declared.item.Item.{Item}
@@ -24,12 +24,12 @@ use Rattle.water_model.specs.declared.types.MonthRecord.{MonthRecord}
 use Rattle.calls.specs.Callers.{is_short}
 use Rattle.result_reader.specs.Due.{is_member}
 use Rattle.result_reader.specs.Reading.{read_line}
-use Rattle.result_reader.specs.Telling.{Told, tell, told_by, with_supply}
+use Rattle.result_reader.specs.ReadSoFar.{ReadSoFar, read_item, read_so_far, with_supply}
 use Rattle.cert_check.specs.declared.refuted.RefutedKind.{RefutedKind}
 use Rattle.cert_check.specs.declared.refuted.RefutedKind.TheVariants as kind
 use Rattle.cert_check.specs.declared.refuted.Refuted.{Refuted}
 
--- The rows. Each is of what the lines before tell, what is told with this line, and this line.
+-- The rows. Each is of what the lines before tell, what was read with this line, and this line.
 
 -- whether a set is a tight cut of a right
 abbrev pub is_tight : Basin → MonthRecord → ℕ → List Bool → Bool
@@ -37,36 +37,36 @@ is_tight b m r cut =
     length cut == length b.nodes && separates b (taking_node b r) (instream_link b r) cut
     && cut_capacity b m.month m.supply cut == slice_index m.delivered r + cut_kept b m.delivered r cut
 
--- whether the lines of a quantity stand behind the `call` lines of a month
+-- whether the lines of a quantity stand after the `call` lines of a month
 abbrev pub is_closing : Quantity → Bool
 is_closing quantity.Closing = true
 is_closing other = false
 
--- whether a line stands behind them
-abbrev pub is_behind_calls : Item → Bool
-is_behind_calls (line.Called r caller) = true
-is_behind_calls (line.Amount q entry amount) = is_closing q
-is_behind_calls line.End = true
-is_behind_calls other = false
+-- whether a line stands after them
+abbrev pub is_after_calls : Item → Bool
+is_after_calls (line.Called r caller) = true
+is_after_calls (line.Amount q entry amount) = is_closing q
+is_after_calls line.End = true
+is_after_calls other = false
 
--- whether a line stands behind the place of a right's `call` line
+-- whether a line stands after the place of a right's `call` line
 abbrev pub passes : Basin → Item → ℕ → Bool
 passes b (line.Call r) right = is_senior b right r
-passes b other right = is_behind_calls other
+passes b other right = is_after_calls other
 
 -- whether a right has a set in the record that is a tight cut of it
 abbrev pub has_tight : Basin → MonthRecord → ℕ → Bool
 has_tight b m r = option_map_or (λ cut. is_tight b m r cut) (cut_of m r) false
 
-abbrev pub cut_loose : Basin → Inflows → Told → Item → Bool
+abbrev pub cut_loose : Basin → Inflows → ReadSoFar → Item → Bool
 cut_loose b series t item =
     not (is_member item) && option_map_or (λ r. not (has_tight b (with_supply b series t.now) r)) t.calling false
 
-abbrev pub cut_missing : Basin → Told → Item → Bool
+abbrev pub cut_missing : Basin → ReadSoFar → Item → Bool
 cut_missing b t item =
-    list_any (λ r. is_short t.now r && is_none (cut_of t.now r) && passes b item r) (places_of b.rights)
+    list_any (λ r. is_short t.now r && is_none (cut_of t.now r) && passes b item r) (indices_of b.rights)
 
-abbrev pub cut_needless : Told → Item → Bool
+abbrev pub cut_needless : ReadSoFar → Item → Bool
 cut_needless t (line.Call r) = not (is_short t.now r)
 cut_needless t other = false
 
@@ -82,9 +82,9 @@ abbrev pub is_due : ℕ → ℕ → Option (ℕ × ℕ) → Bool
 is_due r caller None = false
 is_due r caller (Some due) = due.0 == r && due.1 == caller
 
-abbrev pub called_wrong : Basin → Told → Item → Bool
+abbrev pub called_wrong : Basin → ReadSoFar → Item → Bool
 called_wrong b t (line.Called r caller) = not (is_due r caller (slice_get (callers_due b t.now) t.called))
-called_wrong b t other = is_behind_calls other && nat_lt t.called (length (callers_due b t.now))
+called_wrong b t other = is_after_calls other && nat_lt t.called (length (callers_due b t.now))
 
 abbrev pub is_same_month : Month → Month → Bool
 is_same_month m n = m.year == n.year && m.month == n.month
@@ -99,7 +99,7 @@ abbrev pub amount_wrong : Option ℕ → List ℕ → ℕ → ℕ → Bool
 amount_wrong None flow amount want = nat_lt want amount
 amount_wrong (Some link) flow amount want = not (amount == min want (slice_index flow link))
 
-abbrev pub delivery_wrong : Basin → Inflows → Told → ℕ → ℕ → ℕ → Bool
+abbrev pub delivery_wrong : Basin → Inflows → ReadSoFar → ℕ → ℕ → ℕ → Bool
 delivery_wrong b series t r amount want =
     not (want == want_of b series r t.now.index (slice_index t.now.used r))
     || amount_wrong (instream_link b r) t.now.plan.flow amount want
@@ -111,13 +111,13 @@ balances b m n =
     == outflow_from b m.plan.flow n + taken_at b m.plan.take n + slice_index m.plan.out n
 
 -- at the last `out` line, with its amount
-abbrev pub balance_wrong : Basin → Inflows → Told → ℕ → Bool
+abbrev pub balance_wrong : Basin → Inflows → ReadSoFar → ℕ → Bool
 balance_wrong b series with_line n =
     list_all (λ other. nat_le other n) (outlets b)
-    && list_any (λ node. not (balances b (with_supply b series with_line.now) node)) (places_of b.nodes)
+    && list_any (λ node. not (balances b (with_supply b series with_line.now) node)) (indices_of b.nodes)
 
 -- whether the amount of an entry is wrong
-abbrev pub quantity_wrong : Basin → Inflows → Told → Quantity → ℕ → ℕ → Bool
+abbrev pub quantity_wrong : Basin → Inflows → ReadSoFar → Quantity → ℕ → ℕ → Bool
 quantity_wrong b series t quantity.Opening v amount = not (amount == slice_index (opening_after b t.months) v)
 quantity_wrong b series t quantity.Evaporated v amount =
     not (amount == of_entry b.reservoirs v
@@ -128,7 +128,7 @@ quantity_wrong b series t quantity.Used r amount =
     not (amount == used_of b (map (λ m. m.delivered) t.months) r t.now.index)
 quantity_wrong b series t quantity.Flow e amount = nat_lt (carry_of b t.now.month e) amount
 quantity_wrong b series t quantity.Outflow n amount =
-    balance_wrong b series (tell b series t (line.Amount quantity.Outflow n amount)) n
+    balance_wrong b series (read_item b series t (line.Amount quantity.Outflow n amount)) n
 quantity_wrong b series t quantity.Closing v amount =
     not (amount == total_where (length b.rights) (λ r. is_zone_of b r v) (λ r. slice_index t.now.plan.take r))
 
@@ -146,27 +146,27 @@ abbrev pub Row : Type 0
 Row = RefutedKind × Bool
 
 -- the row of a line's own kind, if it has one
-abbrev pub own_rows : Basin → Inflows → Told → Item → List Row
+abbrev pub own_rows : Basin → Inflows → ReadSoFar → Item → List Row
 own_rows b series t (line.Run first months) = (kind.Head, head_wrong b first months) ∷ []
 own_rows b series t (line.Amount q entry amount) = (kind_of q, quantity_wrong b series t q entry amount) ∷ []
 own_rows b series t (line.Deliver r amount want) = (kind.Delivery, delivery_wrong b series t r amount want) ∷ []
 own_rows b series t other = []
 
 -- the rows of the calls, which hold of any line
-abbrev pub call_rows : Basin → Inflows → Told → Item → List Row
+abbrev pub call_rows : Basin → Inflows → ReadSoFar → Item → List Row
 call_rows b series t item =
     (kind.CutLoose, cut_loose b series t item) ∷ (kind.CutMissing, cut_missing b t item)
     ∷ (kind.CutNeedless, cut_needless t item) ∷ (kind.Called, called_wrong b t item) ∷ []
 
 -- the rows in their order
-abbrev pub rows : Basin → Inflows → Told → Item → List Row
+abbrev pub rows : Basin → Inflows → ReadSoFar → Item → List Row
 rows b series t item = call_rows b series t item ++ own_rows b series t item
 
 -- the first row that holds of a line, by what the lines before it tell
-unfoldable pub first_row : Basin → Inflows → Told → Item → Option RefutedKind
+unfoldable pub first_row : Basin → Inflows → ReadSoFar → Item → Option RefutedKind
 first_row b series t item = option_map (λ row. row.0) (find (λ row. row.1) (rows b series t item))
 
--- how many lines stand behind the last `call`
+-- how many lines stand after the last `call`
 abbrev pub members_first : List Item → ℕ
 members_first [] = 0
 members_first (item ∷ items) = if is_member item then members_first items + 1 else 0
@@ -184,13 +184,13 @@ is_done other = false
 abbrev pub is_whole : List Item → Bool
 is_whole items = list_any is_done items
 
--- what a line is refuted for behind others, or the item that it says
+-- what a line is refuted for after others, or the item that it says
 abbrev pub judge_row : List Item → Item → Option RefutedKind → Result Item Refuted
 judge_row before item None = Ok item
 judge_row before item (Some kind) = Err (record { line = named_line before kind; kind = kind })
 
 abbrev pub judge_read : {E : Type 0} → Basin → Inflows → List Item → Result Item E → Result Item Refuted
-judge_read b series before (Ok item) = judge_row before item (first_row b series (told_by b series before) item)
+judge_read b series before (Ok item) = judge_row before item (first_row b series (read_so_far b series before) item)
 judge_read b series before (Err why) = Err (record { line = length before + 1; kind = kind.BadLine })
 
 unfoldable pub judge : Basin → Inflows → List Item → List ℕ → Result Item Refuted
@@ -203,13 +203,13 @@ abbrev pub ok_then : {X Y : Type 0} → (X → Result Y Refuted) → Result X Re
 ok_then f (Ok x) = f x
 ok_then f (Err e) = Err e
 
--- the verdict on the lines behind some that are good: the items of all, or the first line at fault with its first row
+-- the verdict on the lines after some that are good: the items of all, or the first line at fault with its first row
 abbrev pub verdict_from : Basin → Inflows → List Item → List (List ℕ) → Result (List Item) Refuted
 verdict_from b series before [] = Ok before
 verdict_from b series before (bytes ∷ lines) =
     ok_then (λ item. verdict_from b series (before ++ item ∷ []) lines) (judge b series before bytes)
 
--- the verdict at the end of a text whose lines are good. The rest is what stands behind the last line feed
+-- the verdict at the end of a text whose lines are good. The rest is what stands after the last line feed
 abbrev pub verdict_at_end : List ℕ → List Item → Result (List Item) Refuted
 verdict_at_end [] items =
     if is_whole items then Ok items else Err (record { line = length items + 1; kind = kind.EarlyEnd })

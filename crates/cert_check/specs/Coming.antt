@@ -1,4 +1,4 @@
--- What is known of a line that may come behind good ones.
+-- What is known of a line that may come after good ones.
 use Rattle.std.specs.Prelude.{◌≡◌, ℕ, ◌^◌, ◌<◌, ◌≤◌, Bool, true, false, not, List, map, length, slice_index, None}
 use Rattle.water_model.specs.History.{IsPartialHistory, opening_after, cut_of}
 use Rattle.water_model.specs.Hydrology.{run_month, returned_at}
@@ -7,12 +7,12 @@ use Rattle.water_model.specs.declared.item.Item.TheVariants as line
 use Rattle.water_model.specs.declared.types.Basin.{Basin}
 use Rattle.water_model.specs.declared.types.Inflows.{Inflows}
 use Rattle.water_model.specs.declared.types.MonthRecord.{MonthRecord}
-use Rattle.result_reader.specs.Telling.{Told}
+use Rattle.result_reader.specs.ReadSoFar.{ReadSoFar}
 use Rattle.cert_check.specs.Checking.{is_closing}
 use Rattle.cert_check.specs.Keeping.{Keeps}
-use Rattle.cert_check.specs.declared.account.Account.{Account}
+use Rattle.cert_check.specs.declared.state.CheckState.{CheckState}
 
--- whether a line stands within a month, behind its `month` line
+-- whether a line stands within a month, after its `month` line
 abbrev pub is_within : Item → Bool
 is_within line.Title = false
 is_within (line.Run first months) = false
@@ -28,7 +28,7 @@ is_before_called (line.Call r) = true
 is_before_called (line.Member n) = true
 is_before_called other = false
 
--- what is told of a month so far is within what the months before leave, and small
+-- what was read of a month so far is within what the months before leave, and small
 pub record IsBounded (b : Basin) (before : List MonthRecord) (now : MonthRecord) : Type 0 where
   pub opening : (v : ℕ) → slice_index now.opening v ≤ slice_index (opening_after b before) v
   pub evaporated : (v : ℕ) → slice_index now.evaporated v ≤ slice_index now.opening v
@@ -38,34 +38,34 @@ pub record IsBounded (b : Basin) (before : List MonthRecord) (now : MonthRecord)
   pub delivered : (r : ℕ) → slice_index now.delivered r ≤ 10 ^ 9
 
 -- a month of the run is under way
-pub record IsUnderWay (b : Basin) (series : Inflows) (t : Told) : Type 0 where
+pub record IsWithinMonth (b : Basin) (series : Inflows) (t : ReadSoFar) : Type 0 where
   pub index : t.now.index ≡ length t.months
   pub in_run : t.now.index < b.months
   pub month : t.now.month ≡ run_month b t.now.index
   pub bounded : IsBounded b t.months t.now
 
--- what is told when a line may come
-pub record MayCome (b : Basin) (series : Inflows) (t : Told) (item : Item) : Type 0 where
+-- what was read when a line may come
+pub record MayCome (b : Basin) (series : Inflows) (t : ReadSoFar) (item : Item) : Type 0 where
   pub partial : IsPartialHistory b series t.months
   pub outer : is_within item ≡ false → t.calling ≡ None
-  pub inner : is_within item ≡ true → IsUnderWay b series t
+  pub inner : is_within item ≡ true → IsWithinMonth b series t
   pub uncalled : is_before_called item ≡ true → t.called ≡ 0
   pub free : (r : ℕ) → item ≡ line.Call r → cut_of t.now r ≡ None
 
--- an account keeps what some lines tell, behind which this one may come
-pub record Awaits (b : Basin) (series : Inflows) (a : Account) (item : Item) : Type 0 where
-  pub told : Told
-  pub keeps : Keeps b series a told
-  pub comes : MayCome b series told item
+-- an account keeps what some lines say, after which this one may come
+pub record Awaits (b : Basin) (series : Inflows) (a : CheckState) (item : Item) : Type 0 where
+  pub so_far : ReadSoFar
+  pub keeps : Keeps b series a so_far
+  pub comes : MayCome b series so_far item
 
--- an account keeps what some lines tell, within a month of the run
-pub record HasMonth (b : Basin) (series : Inflows) (a : Account) : Type 0 where
-  pub told : Told
-  pub keeps : Keeps b series a told
-  pub partial : IsPartialHistory b series told.months
-  pub under_way : IsUnderWay b series told
+-- an account keeps what some lines say, within a month of the run
+pub record HasMonth (b : Basin) (series : Inflows) (a : CheckState) : Type 0 where
+  pub so_far : ReadSoFar
+  pub keeps : Keeps b series a so_far
+  pub partial : IsPartialHistory b series so_far.months
+  pub under_way : IsWithinMonth b series so_far
 
--- an account keeps what some lines tell
-pub record HasTold (b : Basin) (series : Inflows) (a : Account) : Type 0 where
-  pub told : Told
-  pub keeps : Keeps b series a told
+-- an account keeps what some lines say
+pub record HasRead (b : Basin) (series : Inflows) (a : CheckState) : Type 0 where
+  pub so_far : ReadSoFar
+  pub keeps : Keeps b series a so_far

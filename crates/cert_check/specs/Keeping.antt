@@ -1,11 +1,11 @@
--- What an account keeps of what lines tell.
+-- What an account keeps of what lines say.
 use Rattle.std.specs.Prelude.{◌≡◌, ℕ, ◌<◌, ◌≤◌, Bool, true, false, ◌&&◌, List, map, length, take, slice_index}
 use Rattle.std.specs.Prelude.{slice_set, Option, Some, IsSome, is_none}
 use Rattle.std.specs.List.{list_any, flat_map}
-use Rattle.place_sums.specs.Sums.{total_where}
+use Rattle.finite_sums.specs.Sums.{total_where}
 use Rattle.water_model.specs.CutSets.{CutSets, set_of}
 use Rattle.water_model.specs.History.{cut_of, opening_after, is_zone_of}
-use Rattle.water_model.specs.Places.{seniors_first}
+use Rattle.water_model.specs.Indices.{seniors_first}
 use Rattle.water_model.specs.Text.{calling_right}
 use Rattle.water_model.specs.declared.quantity.Quantity.{Quantity}
 use Rattle.water_model.specs.declared.quantity.Quantity.TheVariants as quantity
@@ -14,12 +14,12 @@ use Rattle.water_model.specs.declared.types.Inflows.{Inflows}
 use Rattle.water_model.specs.declared.types.MonthRecord.{MonthRecord}
 use Rattle.calls.specs.Callers.{AreCallers, is_short}
 use Rattle.lag_returns.specs.Lags as lag
-use Rattle.lag_returns.specs.Lags.{OnTheWay, HasReturned}
+use Rattle.lag_returns.specs.Lags.{InTransit, HasReturned}
 use Rattle.month_terms.specs.Terms.{HasUsed}
-use Rattle.result_reader.specs.Telling.{Told, with_supply}
+use Rattle.result_reader.specs.ReadSoFar.{ReadSoFar, with_supply}
 use Rattle.cert_check.specs.Checking.{caller_due}
 use Rattle.cert_check.specs.Shows.{IsRecordOf}
-use Rattle.cert_check.specs.declared.account.Account.{Account}
+use Rattle.cert_check.specs.declared.state.CheckState.{CheckState}
 
 -- the record where this amount leaves the basin at a node
 abbrev pub with_outflow : MonthRecord → ℕ → ℕ → MonthRecord
@@ -44,26 +44,26 @@ callers_of b m rights = flat_map (λ r. caller_due r (calling_right b m r)) righ
 
 -- what the months that ended leave to the next one: their number, what is on its way back, what the reservoirs open
 -- with, what comes back to the nodes, and what the rights used
-pub record AreLeft (b : Basin) (months : List MonthRecord) (number : ℕ) (on_way : List OnTheWay)
+pub record AreLeft (b : Basin) (months : List MonthRecord) (number : ℕ) (in_transit : List InTransit)
     (openings returns volumes : List ℕ) : Type 0 where
   pub done : number ≡ length months
-  pub lags : lag.StandsFor on_way b.returns (map (λ m. m.delivered) months)
+  pub lags : lag.LagsStandFor in_transit b.returns (map (λ m. m.delivered) months)
   pub opens : openings ≡ opening_after b months
   pub sized : length openings ≡ length b.reservoirs
   pub comes : HasReturned b (map (λ m. m.delivered) months) returns
   pub used : HasUsed b (map (λ m. m.delivered) months) volumes
 
--- the right whose nodes come is the one that is told, and it has a set
+-- the right whose nodes come is the one that was read, and it has a set
 pub record IsCalling (b : Basin) (cuts : CutSets) (right due : Option ℕ) : Type 0 where
-  pub told : right ≡ due
+  pub so_far : right ≡ due
   pub held : (r : ℕ) → right ≡ Some r → (r < length b.rights) × IsSome (set_of cuts r)
 
--- so many rights, the most senior ones, are met or have their `call`
+-- a given number of rights, the most senior ones, are met or have their `call`
 pub record AreSettled (b : Basin) (m : MonthRecord) (count : ℕ) : Type 0 where
   pub within : count ≤ length b.rights
   pub each : list_any (lacks_call m) (take count (seniors_first b)) ≡ false
 
--- so many rights, the most senior ones, answer to the callers of so many `called` lines, and to no other
+-- a given number of rights, the most senior ones, answer to the callers of so many `called` lines, and to no other
 pub record AreAnswered (b : Basin) (m : MonthRecord) (count lines : ℕ) : Type 0 where
   pub within : count ≤ length b.rights
   pub called : lines ≡ length (callers_of b m (take count (seniors_first b)))
@@ -74,8 +74,8 @@ pub record HasRoom (b : Basin) (zones inflows outflows : List ℕ) : Type 0 wher
   pub into : length inflows ≡ length b.nodes
   pub out_of : length outflows ≡ length b.nodes
 
--- the account keeps what is told, and what follows from it
-pub record Keeps (b : Basin) (series : Inflows) (a : Account) (t : Told) : Type 0 where
+-- the account keeps what was read, and what follows from it
+pub record Keeps (b : Basin) (series : Inflows) (a : CheckState) (t : ReadSoFar) : Type 0 where
   pub left : AreLeft b t.months a.done a.lags a.opens a.comes a.used
   pub month : IsRecordOf b a.month t.now
   pub calling : IsCalling b a.month.cuts a.calling t.calling

@@ -21,7 +21,7 @@ HistoriesGiveYes =
     IsHistory b series records →
     verdict b series (map (line_of b) (items_of b records)) [] ≡ Ok (items_of b records)
 
--- A yes gives a history. The lines of a text that is accepted are those of a history, and nothing stands behind them.
+-- A yes gives a history. The lines of a text that is accepted are those of a history, and nothing stands after them.
 abbrev pub YesGivesHistory : Type 0
 YesGivesHistory =
     (b : Basin) (series : Inflows) (lines : List (List ℕ)) (rest : List ℕ) (items : List Item) → IsValidBasin b →

@@ -8,7 +8,7 @@ pub mod FirstRows
 pub mod Keeping
 pub mod KindNames
 pub mod Laws
-pub mod Means
+pub mod Context
 pub mod Pieces
 pub mod Ready
 pub mod Shows

@@ -8,39 +8,39 @@ use Rattle.water_model.specs.declared.quantity.Quantity.TheVariants as quantity
 use Rattle.water_model.specs.declared.types.Basin.{Basin}
 use Rattle.water_model.specs.declared.types.MonthRecord.{MonthRecord}
 use Rattle.result_reader.specs.Due.{is_member}
-use Rattle.cert_check.specs.Checking.{is_behind_calls}
-use Rattle.cert_check.specs.declared.account.Account.{Account}
-use Rattle.cert_check.specs.declared.account.Means.{Means}
+use Rattle.cert_check.specs.Checking.{is_after_calls}
+use Rattle.cert_check.specs.declared.state.CheckState.{CheckState}
+use Rattle.cert_check.specs.declared.state.Context.{Context}
 
 -- what comes into each node of a month, and what leaves it for another node or a right
 pub record AreSums (b : Basin) (m : MonthRecord) (into out_of : List ℕ) : Type 0 where
   pub comes : (n : ℕ) → slice_index into n ≡ slice_index m.supply n + inflow_to b m.plan.flow n
   pub leaves : (n : ℕ) → slice_index out_of n ≡ outflow_from b m.plan.flow n + taken_at b m.plan.take n
 
--- an account has the supply that is told, and the sums of it
-pub record HasSums (b : Basin) (a : Account) : Type 0 where
+-- an account has the supply that was read, and the sums of it
+pub record HasSums (b : Basin) (a : CheckState) : Type 0 where
   pub supply : a.has_supply ≡ true
   pub sums : AreSums b a.month a.into a.out_of
 
 -- it has the supply, where a line ends the nodes of a set
-abbrev pub IsReadyForSet : Account → Item → Type 0
+abbrev pub IsReadyForSet : CheckState → Item → Type 0
 IsReadyForSet a item = is_member item ≡ false → (r : ℕ) → a.calling ≡ Some r → a.has_supply ≡ true
 
 -- it has the sums of the nodes at the last outlet, and those of the zones at what a month closes with
-abbrev pub IsReadyForAmount : Means → Account → Quantity → ℕ → Type 0
+abbrev pub IsReadyForAmount : Context → CheckState → Quantity → ℕ → Type 0
 IsReadyForAmount m a quantity.Outflow n = m.last_outlet ≤ n → HasSums m.basin.now a
 IsReadyForAmount m a quantity.Closing v = a.has_closes ≡ true
 IsReadyForAmount m a other entry = Unit {0}
 
-abbrev pub IsReadyForOwn : Means → Account → Item → Type 0
+abbrev pub IsReadyForOwn : Context → CheckState → Item → Type 0
 IsReadyForOwn m a (line.Amount q entry amount) = IsReadyForAmount m a q entry
 IsReadyForOwn m a other = Unit {0}
 
--- it has the callers, where a line stands behind the `call` lines
-abbrev pub IsReadyForCalled : Account → Item → Type 0
-IsReadyForCalled a item = is_behind_calls item ≡ true → a.has_callers ≡ true
+-- it has the callers, where a line stands after the `call` lines
+abbrev pub IsReadyForCalled : CheckState → Item → Type 0
+IsReadyForCalled a item = is_after_calls item ≡ true → a.has_callers ≡ true
 
-pub record IsReady (m : Means) (a : Account) (item : Item) : Type 0 where
+pub record IsReadyForLine (m : Context) (a : CheckState) (item : Item) : Type 0 where
   pub set : IsReadyForSet a item
   pub callers : IsReadyForCalled a item
   pub own : IsReadyForOwn m a item

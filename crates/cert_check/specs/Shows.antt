@@ -1,11 +1,11 @@
--- A record that shows what lines tell of the month under way.
+-- A record that shows what lines say of the current month.
 use Rattle.std.specs.Prelude.{◌≡◌}
 use Rattle.water_text.specs.Months.{IsMonth}
 use Rattle.water_model.specs.declared.types.Basin.{Basin}
 use Rattle.water_model.specs.declared.types.MonthRecord.{MonthRecord}
 use Rattle.month_terms.specs.Terms.{FitsRecord}
 
--- the record has what is told, but for its supply, of which lines tell nothing
+-- the record has what was read, but for its supply, of which lines say nothing
 pub record Shows (m now : MonthRecord) : Type 0 where
   pub index : m.index ≡ now.index
   pub month : m.month ≡ now.month
@@ -21,7 +21,7 @@ pub record Shows (m now : MonthRecord) : Type 0 where
   pub sets : m.cuts.sets ≡ now.cuts.sets
   pub closing : m.closing ≡ now.closing
 
--- the record fits the basin, and has what is told
+-- the record fits the basin, and has what was read
 pub record IsRecordOf (b : Basin) (m now : MonthRecord) : Type 0 where
   pub fits : FitsRecord b m
   pub calendar : IsMonth m.month

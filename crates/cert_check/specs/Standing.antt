@@ -5,55 +5,55 @@ use Rattle.water_model.specs.declared.item.Item.{Item}
 use Rattle.water_model.specs.declared.types.Basin.{Basin}
 use Rattle.water_model.specs.declared.types.Inflows.{Inflows}
 use Rattle.result_reader.specs.Standing as reader
-use Rattle.result_reader.specs.Telling.{told_by}
+use Rattle.result_reader.specs.ReadSoFar.{read_so_far}
 use Rattle.cert_check.specs.Auditing.{IsAuditIfAny}
 use Rattle.cert_check.specs.Checking.{verdict_from, members_first, is_whole}
 use Rattle.cert_check.specs.Keeping.{Keeps}
-use Rattle.cert_check.specs.declared.book.Book.{Book}
+use Rattle.cert_check.specs.declared.progress.CheckProgress.{CheckProgress}
 use Rattle.cert_check.specs.declared.refuted.Refuted.{Refuted}
 
 -- the numbers of a book are those of these lines: how many they are, the number of the last that is no `in` line, and
 -- whether the text has its last line
-pub record Counts (k : Book) (items : List Item) : Type 0 where
+pub record Counts (k : CheckProgress) (items : List Item) : Type 0 where
   pub read : k.read ≡ length items
   pub last_other : k.last_other ≡ length items - members_first (reverse items)
   pub ended : k.ended ≡ is_whole items
 
 -- no line is at fault so far. The reader accepted what the lines say, the account keeps what they tell, and an audit
 -- found the first set that isn't a reach
-pub record IsBookOf (b : Basin) (series : Inflows) (k : Book) (lines : List (List ℕ)) : Type 0 where
+pub record IsProgressOf (b : Basin) (series : Inflows) (k : CheckProgress) (lines : List (List ℕ)) : Type 0 where
   pub items : List Item
   pub verdict : verdict_from b series [] lines ≡ Ok items
   pub basin : k.reader.basin ≡ b
-  pub reader : reader.StandsFor k.reader items
-  pub account : Keeps b series k.account.value (told_by b series items)
+  pub reader : reader.ReaderStandsFor k.reader items
+  pub state : Keeps b series k.state.value (read_so_far b series items)
   pub counts : Counts k items
-  pub audit : IsAuditIfAny b (told_by b series items) items k.audit
+  pub audit : IsAuditIfAny b (read_so_far b series items) items k.audit
 
 -- the value that contracts see of a checker: its basin and series, what it keeps of good lines, and the refusal if a
 -- line was at fault
-pub record CheckerSeen : Type 0 where
+pub record CheckerView : Type 0 where
   pub basin : Basin
   pub series : Inflows
-  pub book : Book
+  pub progress : CheckProgress
   pub refused : Option Refuted
 
 -- an audit was asked for
-abbrev pub IsAudit : CheckerSeen → Type 0
-IsAudit c = IsSome c.book.audit
+abbrev pub IsAudit : CheckerView → Type 0
+IsAudit c = IsSome c.progress.audit
 
 -- how many lines may still be accepted, at most
-abbrev pub lines_left : CheckerSeen → ℕ
-lines_left c = c.book.reader.left
+abbrev pub lines_left : CheckerView → ℕ
+lines_left c = c.progress.reader.left
 
 -- The checker was given these lines: none of them is at fault and it keeps what they say and tell, or it keeps the
 -- refusal that the verdict on them is.
-abbrev pub Stands : Option Refuted → CheckerSeen → List (List ℕ) → Type 0
-Stands None c lines = IsBookOf c.basin c.series c.book lines
+abbrev pub Stands : Option Refuted → CheckerView → List (List ℕ) → Type 0
+Stands None c lines = IsProgressOf c.basin c.series c.progress lines
 Stands (Some refused) c lines = verdict_from c.basin c.series [] lines ≡ Err refused
 
-abbrev pub StandsFor : CheckerSeen → List (List ℕ) → Type 0
-StandsFor c lines = Stands c.refused c lines
+abbrev pub CheckerStandsFor : CheckerView → List (List ℕ) → Type 0
+CheckerStandsFor c lines = Stands c.refused c lines
 
 -- the answer to a line is that of the verdict on the lines with it: nothing is at fault so far, or the same refusal
 abbrev pub IsLineAnswer : Result (Unit {0}) Refuted → Result (List Item) Refuted → Type 0

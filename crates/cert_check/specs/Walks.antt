@@ -2,7 +2,7 @@
 use Rattle.std.specs.Prelude.{◌≡◌, ℕ, ◌+◌, ◌<◌, ◌≤◌, true, false, ◌++◌, ◌∷◌, [], length, take, slice_index, Option}
 use Rattle.std.specs.Prelude.{Some, None}
 use Rattle.std.specs.List.{list_any}
-use Rattle.water_model.specs.Places.{seniors_first}
+use Rattle.water_model.specs.Indices.{seniors_first}
 use Rattle.water_model.specs.declared.item.Item.{Item}
 use Rattle.water_model.specs.declared.types.Basin.{Basin}
 use Rattle.water_model.specs.declared.types.MonthRecord.{MonthRecord}
@@ -10,7 +10,7 @@ use Rattle.cert_check.specs.Checking.{passes, callers_due}
 use Rattle.cert_check.specs.Keeping.{lacks_call, callers_of}
 use Rattle.cert_check.specs.declared.answering.Due.{Due}
 
--- a line passes over so many rights, and none of them lacks its `call`
+-- a line passes over a given number of rights, and none of them lacks its `call`
 pub record ArePassed (b : Basin) (m : MonthRecord) (item : Item) (count : ℕ) : Type 0 where
   pub within : count ≤ length (seniors_first b)
   pub settled : list_any (lacks_call m) (take count (seniors_first b)) ≡ false
@@ -38,7 +38,7 @@ abbrev pub IsDueFrom : Basin → MonthRecord → ℕ → Option Due → Type 0
 IsDueFrom b m from (Some due) = IsNextDue b m from due
 IsDueFrom b m from None = callers_due b m ≡ callers_of b m (take from (seniors_first b))
 
--- so many rights are behind it
-abbrev pub behind : ℕ → Option Due → ℕ
-behind from None = from
-behind from (Some due) = due.place + 1
+-- a given number of rights are after it
+abbrev pub after : ℕ → Option Due → ℕ
+after from None = from
+after from (Some due) = due.place + 1

@@ -2,17 +2,17 @@
 ghost use Rattle.std.specs.Prelude.{◌≡◌, ◌<◌, length, None, slice_set, IfOk};
 ghost use Rattle.plan_residual.specs.Reaches.{HaveTightSets};
 ghost use Rattle.plan_residual.specs.Residual.{HasPlan};
-ghost use Rattle.result_reader.specs.Telling.{Told};
+ghost use Rattle.result_reader.specs.ReadSoFar.{ReadSoFar};
 ghost use Rattle.rights_roll.specs.Rolls.{IsRollOf};
 ghost use Rattle.water_model.specs.OfBasin.{IsOfBasin};
 ghost use Rattle.water_model.specs.Valid.{IsValidBasin};
 ghost use Rattle.cert_check.specs.Auditing.{AsksMonth, HasMemory, MonthEnds, TakesAudit, audit_answer};
 ghost use Rattle.cert_check.specs.Keeping.{Keeps};
-ghost use Rattle.cert_check.specs.Means.{AreMeans};
+ghost use Rattle.cert_check.specs.Context.{IsContext};
 
-use crate::account::{Account, Means};
 use crate::ready::know_supply;
 use crate::refuted::{Refuted, RefutedKind};
+use crate::state::{CheckState, Context};
 use plan_residual::ResidualSearch;
 use rights_roll::roll::Roll;
 use std::alloc::{AllocError, Global};
@@ -77,22 +77,28 @@ fn ask_month(basin: &Basin, roll: &Roll, month: &MonthRecord, audit: &mut Audit)
 
 /// Takes a good line of this number, before it is entered: a `call` line is kept, and of the month that an `end` line
 /// ends is asked.
-pub fn audit_item(means: &Means, audit: &mut Audit, account: &mut Account, item: &Item, number: u64)
-    requires means { AreMeans means.now }
-    requires item { IsOfBasin means.now.basin.now item.now }
-    requires memory { HasMemory means.now.basin.now audit.old }
-    requires ends { item.now ≡ Item.End → MonthEnds means.now.basin.now means.now.series.now account.old }
-    ensures takes { (t : Told) → Keeps means.now.basin.now means.now.series.now account.old t →
-        TakesAudit means.now.basin.now means.now.series.now t item.now number audit.old audit.new }
-    ensures callers { account.new.has_callers ≡ account.old.has_callers }
-    ensures keeps { (t : Told) → Keeps means.now.basin.now means.now.series.now account.old t →
-        Keeps means.now.basin.now means.now.series.now account.new t }
+pub fn audit_item(
+    context: &Context,
+    audit: &mut Audit,
+    state: &mut CheckState,
+    item: &Item,
+    number: u64,
+)
+    requires context { IsContext context.now }
+    requires item { IsOfBasin context.now.basin.now item.now }
+    requires memory { HasMemory context.now.basin.now audit.old }
+    requires ends { item.now ≡ Item.End → MonthEnds context.now.basin.now context.now.series.now state.old }
+    ensures takes { (t : ReadSoFar) → Keeps context.now.basin.now context.now.series.now state.old t →
+        TakesAudit context.now.basin.now context.now.series.now t item.now number audit.old audit.new }
+    ensures callers { state.new.has_callers ≡ state.old.has_callers }
+    ensures keeps { (t : ReadSoFar) → Keeps context.now.basin.now context.now.series.now state.old t →
+        Keeps context.now.basin.now context.now.series.now state.new t }
 {
     match *item {
         Item::Call { right } => keep_call(audit, right, number),
         Item::End => {
-            know_supply(means, account);
-            ask_month(means.basin, &means.roll, &account.month, audit);
+            know_supply(context, state);
+            ask_month(context.basin, &context.roll, &state.month, audit);
         }
         _ => {}
     }

@@ -1,19 +1,19 @@
 //! A checker of result texts, line by line.
 ghost use Rattle.std.specs.Prelude.{ℕ, List, [], ◌≡◌, ◌+◌, ◌*◌, ◌^◌, ◌≤◌, ◌++◌, ◌∷◌, length, Some, None, Err, IfOk};
 ghost use Rattle.std.specs.Prelude.{IfErr, IfSome, OnOk};
-ghost use Rattle.result_reader.specs.Telling.{nothing_told};
+ghost use Rattle.result_reader.specs.ReadSoFar.{nothing_read};
 ghost use Rattle.cert_check.specs.Audit.{IsAuditAnswer};
 ghost use Rattle.cert_check.specs.Auditing.{IsAuditIfAny};
 ghost use Rattle.cert_check.specs.Checking.{verdict, verdict_from};
-ghost use Rattle.cert_check.specs.Standing.{IsAnswer, IsAudit, IsLineAnswer, StandsFor, lines_left};
+ghost use Rattle.cert_check.specs.Standing.{IsAnswer, IsAudit, IsLineAnswer, CheckerStandsFor, lines_left};
 ghost use Rattle.cert_check.specs.Whole.{pieces_of};
 ghost use Rattle.water_model.specs.Valid.{IsValidBasin, IsSeriesOf};
 
-use crate::account::Means;
 use crate::audit::{Audit, answer};
-use crate::book::{Book, take_line};
-use crate::opening::{blank_account, last_outlet};
+use crate::opening::{blank_state, last_outlet};
+use crate::progress::{CheckProgress, take_line};
 use crate::refuted::{Refuted, RefutedKind};
+use crate::state::Context;
 use month_terms::evaporation::tables_of;
 use result_reader::ResultReader;
 use rights_roll::roll::Roll;
@@ -27,21 +27,21 @@ use water_model::types::{Basin, Inflows};
 /// It stands for the list of all lines that it was given.
 #[derive(Drop)]
 pub struct Checker<'b> {
-    means: Means<'b>,
-    book: Book<'b>,
+    context: Context<'b>,
+    progress: CheckProgress<'b>,
     refused: Option<Refuted>,
 }
 
 impl<'b> Model for Checker<'b> {
-    ghost use Rattle.cert_check.specs.Standing.{CheckerSeen};
+    ghost use Rattle.cert_check.specs.Standing.{CheckerView};
 
-    ghost Value = { CheckerSeen };
+    ghost Value = { CheckerView };
 
-    ghost use Rattle.cert_check.specs.CheckerInside.{seen_of, IsReady};
+    ghost use Rattle.cert_check.specs.CheckerInside.{view_of, IsValidChecker};
 
-    ghost view = { seen_of };
+    ghost view = { view_of };
 
-    ghost invariant = { IsReady };
+    ghost invariant = { IsValidChecker };
 }
 
 impl<'b> Checker<'b> {
@@ -54,19 +54,19 @@ impl<'b> Checker<'b> {
     ) -> Result<Checker<'b>, AllocError>
         requires basin { IsValidBasin basin.now }
         requires series { IsSeriesOf basin.now series.now }
-        requires audit { IsAuditIfAny basin.now (nothing_told basin.now) [] audit }
+        requires audit { IsAuditIfAny basin.now (nothing_read basin.now) [] audit }
         ensures basin { IfOk result (λ checker. checker.basin ≡ basin.now) }
         ensures series { IfOk result (λ checker. checker.series ≡ series.now) }
-        ensures none { IfOk result (λ checker. StandsFor checker []) }
+        ensures none { IfOk result (λ checker. CheckerStandsFor checker []) }
         ensures good { IfOk result (λ checker. checker.refused ≡ None) }
-        ensures few { IfOk result (λ checker. lines_left checker ≤ 5 * 10 ^ 9) }
-        ensures audit { IfOk result (λ checker. checker.book.audit ≡ audit) }
+        ensures bounded { IfOk result (λ checker. lines_left checker ≤ 5 * 10 ^ 9) }
+        ensures audit { IfOk result (λ checker. checker.progress.audit ≡ audit) }
     {
         let roll = Roll::of_basin(alloc, basin)?;
         let tables = tables_of(alloc, basin)?;
-        let account = blank_account(alloc, basin)?;
+        let state = blank_state(alloc, basin)?;
         let reader = ResultReader::open(alloc, basin, &roll)?;
-        let means = Means {
+        let context = Context {
             basin,
             series,
             roll,
@@ -74,10 +74,10 @@ impl<'b> Checker<'b> {
             last_outlet: last_outlet(basin),
         };
         Ok(Checker {
-            means,
-            book: Book {
+            context,
+            progress: CheckProgress {
                 reader,
-                account,
+                state,
                 read: 0,
                 last_other: 0,
                 ended: false,
@@ -97,9 +97,9 @@ impl<'b> Checker<'b> {
         requires series { IsSeriesOf basin.now series.now }
         ensures basin { IfOk result (λ checker. checker.basin ≡ basin.now) }
         ensures series { IfOk result (λ checker. checker.series ≡ series.now) }
-        ensures none { IfOk result (λ checker. StandsFor checker []) }
+        ensures none { IfOk result (λ checker. CheckerStandsFor checker []) }
         ensures good { IfOk result (λ checker. checker.refused ≡ None) }
-        ensures few { IfOk result (λ checker. lines_left checker ≤ 5 * 10 ^ 9) }
+        ensures bounded { IfOk result (λ checker. lines_left checker ≤ 5 * 10 ^ 9) }
     {
         Checker::open_with(alloc, basin, series, None)
     }
@@ -115,9 +115,9 @@ impl<'b> Checker<'b> {
         requires series { IsSeriesOf basin.now series.now }
         ensures basin { IfOk result (λ checker. checker.basin ≡ basin.now) }
         ensures series { IfOk result (λ checker. checker.series ≡ series.now) }
-        ensures none { IfOk result (λ checker. StandsFor checker []) }
+        ensures none { IfOk result (λ checker. CheckerStandsFor checker []) }
         ensures good { IfOk result (λ checker. checker.refused ≡ None) }
-        ensures few { IfOk result (λ checker. lines_left checker ≤ 5 * 10 ^ 9) }
+        ensures bounded { IfOk result (λ checker. lines_left checker ≤ 5 * 10 ^ 9) }
         ensures audit { IfOk result IsAudit }
     {
         let audit = Audit::open(alloc, basin)?;
@@ -127,10 +127,10 @@ impl<'b> Checker<'b> {
     /// Takes the next line, without its line feed. It is refused where it, or a line before it, is at fault: then with
     /// the first line at fault and the first kind that holds of it. After a refusal each later call answers the same.
     pub fn line(&mut self, text: &[u8]) -> Result<(), Refuted>
-        ensures answer { (lines : List (List ℕ)) → StandsFor self.old lines →
+        ensures answer { (lines : List (List ℕ)) → CheckerStandsFor self.old lines →
             IsLineAnswer result (verdict_from self.old.basin self.old.series [] (lines ++ text.now ∷ [])) }
-        ensures stands { (lines : List (List ℕ)) → StandsFor self.old lines →
-            StandsFor self.new (lines ++ text.now ∷ []) }
+        ensures stands { (lines : List (List ℕ)) → CheckerStandsFor self.old lines →
+            CheckerStandsFor self.new (lines ++ text.now ∷ []) }
         ensures basin { self.new.basin ≡ self.old.basin }
         ensures series { self.new.series ≡ self.old.series }
         ensures good { OnOk result (self.new.refused ≡ None) }
@@ -143,7 +143,7 @@ impl<'b> Checker<'b> {
             Some(refused) => return Err(refused),
             None => {}
         }
-        match take_line(&self.means, &mut self.book, text) {
+        match take_line(&self.context, &mut self.progress, text) {
             Ok(()) => Ok(()),
             Err(refused) => {
                 self.refused = Some(refused);
@@ -152,11 +152,11 @@ impl<'b> Checker<'b> {
         }
     }
 
-    /// What the lines so far are, with this rest behind the last line feed, as a whole text: the number of months where
+    /// What the lines so far are, with this rest after the last line feed, as a whole text: the number of months where
     /// they are the text of a history, or why not. It changes nothing.
     pub fn finish(&self, rest: &[u8]) -> Result<u32, Refuted>
         requires { length rest.now ≤ 128 }
-        ensures answer { (lines : List (List ℕ)) → StandsFor self.now lines →
+        ensures answer { (lines : List (List ℕ)) → CheckerStandsFor self.now lines →
             IsAnswer self.now.basin result (verdict self.now.basin self.now.series lines rest.now) }
         ensures stays { IfSome self.now.refused (λ e. result ≡ Err e) }
     {
@@ -164,8 +164,8 @@ impl<'b> Checker<'b> {
             Some(refused) => return Err(refused),
             None => {}
         }
-        let next = self.book.read + 1;
-        if !self.book.ended {
+        let next = self.progress.read + 1;
+        if !self.progress.ended {
             return Err(Refuted {
                 line: next,
                 kind: RefutedKind::EarlyEnd,
@@ -177,22 +177,22 @@ impl<'b> Checker<'b> {
                 kind: RefutedKind::AfterEnd,
             });
         }
-        Ok(self.means.basin.months)
+        Ok(self.context.basin.months)
     }
 
-    /// What an audit of the lines so far answers, with this rest behind the last line feed, as a whole text: what
+    /// What an audit of the lines so far answers, with this rest after the last line feed, as a whole text: what
     /// `finish` answers; but where that is a yes and a set isn't a reach, a refusal for the first such `call` line. It
     /// changes nothing.
     pub fn finish_audit(&self, rest: &[u8]) -> Result<u32, Refuted>
         requires rest { length rest.now ≤ 128 }
         requires audit { IsAudit self.now }
-        ensures answer { (lines : List (List ℕ)) (text : List ℕ) → StandsFor self.now lines →
+        ensures answer { (lines : List (List ℕ)) (text : List ℕ) → CheckerStandsFor self.now lines →
             pieces_of text ≡ lines ++ rest.now ∷ [] →
             IsAuditAnswer self.now.basin self.now.series text result }
         ensures stays { IfSome self.now.refused (λ e. result ≡ Err e) }
     {
         let months = self.finish(rest)?;
-        match &self.book.audit {
+        match &self.progress.audit {
             Some(audit) => answer(audit, months),
             None => Ok(months),
         }

@@ -1,10 +1,10 @@
 //! The rows of a verdict that compare one line with what the lines before it tell.
 //!
-//! `month` is a record that shows what is told of the month under way. A row answers whether it holds of the line.
+//! `month` is a record that shows what was read of the current month. A row answers whether it holds of the line.
 ghost use Rattle.std.specs.Prelude.{◌≡◌, ◌<◌, ◌==◌, length, map, not, slice_index};
 ghost use Rattle.water_model.specs.OfBasin.{IsOfBasin};
 ghost use Rattle.result_reader.specs.Due.{is_member};
-ghost use Rattle.result_reader.specs.Telling.{Told};
+ghost use Rattle.result_reader.specs.ReadSoFar.{ReadSoFar};
 ghost use Rattle.water_text.specs.Months.{IsMonth};
 ghost use Rattle.water_model.specs.Basin.{instream_link};
 ghost use Rattle.water_model.specs.History.{FitsBasin};
@@ -52,9 +52,9 @@ fn is_closing(quantity: Quantity) -> bool
     }
 }
 
-/// Whether a line stands behind the `call` lines of a month.
-pub fn is_behind_calls(item: &Item) -> bool
-    ensures { result ≡ checking.is_behind_calls item.now }
+/// Whether a line stands after the `call` lines of a month.
+pub fn is_after_calls(item: &Item) -> bool
+    ensures { result ≡ checking.is_after_calls item.now }
 {
     match *item {
         Item::Called { .. } | Item::End => true,
@@ -80,7 +80,7 @@ pub fn head_wrong(basin: &Basin, first: Month, months: u32) -> bool
 pub fn cut_needless(basin: &Basin, month: &MonthRecord, item: &Item) -> bool
     requires fits { FitsBasin basin.now month.now }
     requires item { IsOfBasin basin.now item.now }
-    ensures { (t : Told) → Shows month.now t.now → result ≡ checking.cut_needless t item.now }
+    ensures { (t : ReadSoFar) → Shows month.now t.now → result ≡ checking.cut_needless t item.now }
 {
     match *item {
         Item::Call { right } => !is_short(month, right),
@@ -101,7 +101,7 @@ pub fn flow_wrong(basin: &Basin, month: &MonthRecord, link: u32, amount: u64) ->
     requires basin { IsValidBasin basin.now }
     requires month { IsMonth month.now.month }
     requires link { link < length basin.now.links }
-    ensures { (series : Inflows) (t : Told) → Shows month.now t.now →
+    ensures { (series : Inflows) (t : ReadSoFar) → Shows month.now t.now →
         result ≡ checking.quantity_wrong basin.now series t Quantity.Flow link amount }
 {
     carry_of(basin, link, month.month) < amount
@@ -139,7 +139,7 @@ pub fn evaporation_wrong(
     requires calendar { IsMonth month.now.month }
     requires month { month.now.month ≡ run_month basin.now month.now.index }
     requires reservoir { reservoir < length basin.now.reservoirs }
-    ensures { (series : Inflows) (t : Told) → Shows month.now t.now →
+    ensures { (series : Inflows) (t : ReadSoFar) → Shows month.now t.now →
         result ≡ checking.quantity_wrong basin.now series t Quantity.Evaporated reservoir amount }
 {
     let place = month.month.month as usize - 1;
@@ -177,7 +177,7 @@ pub fn delivery_wrong(
     requires used { length month.now.used ≡ length basin.now.rights }
     requires index { month.now.index < basin.now.months }
     requires right { right < length basin.now.rights }
-    ensures { (t : Told) → Shows month.now t.now →
+    ensures { (t : ReadSoFar) → Shows month.now t.now →
         result ≡ checking.delivery_wrong basin.now series.now t right amount want }
 {
     !(want

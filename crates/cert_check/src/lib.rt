@@ -4,23 +4,23 @@
 //! what the lines before it tell, and each set of nodes that a text gives for a short right is tested as a cut.
 #![tactic(auto)]
 
-mod account;
 mod answering;
 mod audit;
 mod balancing;
-mod book;
 pub mod checker;
 pub mod compare;
 mod entering;
 pub mod laws;
+pub mod noting;
 mod opening;
 mod passing;
 pub mod pieces;
+mod progress;
 mod ready;
 mod refusing;
 mod refuted;
+mod state;
 mod supplying;
-pub mod told;
 pub mod whole;
 
 pub use checker::Checker;

@@ -3,29 +3,29 @@ ghost use Rattle.std.specs.Prelude.{ℕ, ◌≡◌, ◌<◌, [], length, nat_le,
 ghost use Rattle.std.specs.List.{list_all};
 ghost use Rattle.lag_returns.specs.Lags as lag;
 ghost use Rattle.lag_returns.specs.Lags.{HasReturned};
-ghost use Rattle.result_reader.specs.Telling.{nothing_told};
+ghost use Rattle.result_reader.specs.ReadSoFar.{nothing_read};
 ghost use Rattle.water_model.specs.Basin.{is_outlet};
-ghost use Rattle.water_model.specs.Places.{outlets};
+ghost use Rattle.water_model.specs.Indices.{outlets};
 ghost use Rattle.water_model.specs.Valid.{IsValidBasin};
 ghost use Rattle.water_model.specs.declared.types.Inflows.{Inflows};
 ghost use Rattle.cert_check.specs.Keeping.{Keeps};
 
-use crate::account::Account;
+use crate::state::CheckState;
 use lag_returns::Lags;
 use month_terms::opening::{blank_month, openings};
 use std::alloc::{AllocError, Global};
 use water_model::blank::zeros;
 use water_model::rows::Rows;
-use water_model::types::{Basin, MOST_NODES};
+use water_model::types::{Basin, MAX_NODES};
 
 /// What comes back to each node in the first month.
 fn first_comes(alloc: Global, basin: &Basin, lags: &Lags) -> Result<Rows<u64>, AllocError>
     requires basin { IsValidBasin basin.now }
-    requires lags { lag.StandsFor lags.now basin.now.returns [] }
+    requires lags { lag.LagsStandFor lags.now basin.now.returns [] }
     ensures { IfOk result (HasReturned basin.now []) }
 {
     let mut comes = zeros(alloc, basin.nodes.len())?;
-    lags.bring_back(basin, &mut comes);
+    lags.write_returns(basin, &mut comes);
     Ok(comes)
 }
 
@@ -44,10 +44,10 @@ fn room_for_sums(
 }
 
 /// An account of no line.
-pub fn blank_account(alloc: Global, basin: &Basin) -> Result<Box<Account>, AllocError>
+pub fn blank_state(alloc: Global, basin: &Basin) -> Result<Box<CheckState>, AllocError>
     requires { IsValidBasin basin.now }
-    ensures { IfOk result (λ account. (series : Inflows) →
-        Keeps basin.now series account.value (nothing_told basin.now)) }
+    ensures { IfOk result (λ state. (series : Inflows) →
+        Keeps basin.now series state.value (nothing_read basin.now)) }
 {
     let lags = Lags::open(alloc, basin.returns.as_slice())?;
     let comes = first_comes(alloc, basin, &lags)?;
@@ -58,7 +58,7 @@ pub fn blank_account(alloc: Global, basin: &Basin) -> Result<Box<Account>, Alloc
     let (closes, into, out_of) = sums;
     Ok(Box::new(
         alloc,
-        Account {
+        CheckState {
             done: 0,
             lags,
             opens,
@@ -69,7 +69,7 @@ pub fn blank_account(alloc: Global, basin: &Basin) -> Result<Box<Account>, Alloc
             has_supply: false,
             closes,
             has_closes: false,
-            callers: [None; MOST_NODES],
+            callers: [None; MAX_NODES],
             has_callers: false,
             passed: 0,
             answered: 0,

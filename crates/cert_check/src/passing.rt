@@ -3,13 +3,13 @@ ghost use Rattle.std.specs.Prelude.{◌≡◌, ◌<◌, ◌≤◌, false, length
 ghost use Rattle.std.specs.List.{list_any};
 ghost use Rattle.water_model.specs.OfBasin.{IsOfBasin};
 ghost use Rattle.water_model.specs.History.{FitsBasin};
-ghost use Rattle.water_model.specs.Places.{seniors_first};
+ghost use Rattle.water_model.specs.Indices.{seniors_first};
 ghost use Rattle.water_model.specs.Valid.{IsValidBasin};
 ghost use Rattle.cert_check.specs.Checking as checking;
 ghost use Rattle.cert_check.specs.Keeping.{lacks_call};
 ghost use Rattle.cert_check.specs.Walks.{IsPassed};
 
-use crate::compare::is_behind_calls;
+use crate::compare::is_after_calls;
 use calls::is_short;
 use rights_roll::priority::is_senior;
 use water_model::item::Item;
@@ -25,7 +25,7 @@ fn lacks_call(basin: &Basin, month: &MonthRecord, right: u32) -> bool
     is_short(month, right) && month.cuts.words(right).is_none()
 }
 
-/// Whether a line stands behind the place of a right's `call` line.
+/// Whether a line stands after the place of a right's `call` line.
 fn passes(basin: &Basin, item: &Item, right: u32) -> bool
     requires item { IsOfBasin basin.now item.now }
     requires right { right < length basin.now.rights }
@@ -36,7 +36,7 @@ fn passes(basin: &Basin, item: &Item, right: u32) -> bool
             &basin.rights[right as usize],
             &basin.rights[own as usize],
         ),
-        _ => is_behind_calls(item),
+        _ => is_after_calls(item),
     }
 }
 

@@ -5,9 +5,9 @@ ghost use Rattle.water_model.specs.Valid.{IsValidBasin, IsSeriesOf};
 ghost use Rattle.water_text.specs.LinesIn.{nothing_held};
 ghost use Rattle.cert_check.specs.Checking.{verdict_from};
 ghost use Rattle.cert_check.specs.Audit.{IsAuditAnswer};
-ghost use Rattle.cert_check.specs.Pieces.{AreGiven, IsAudit, IsUnderWay, StandsForText, bytes_left, room_left};
+ghost use Rattle.cert_check.specs.Pieces.{AreGiven, IsAudit, IsPartialLine, StandsForText, bytes_left, room_left};
 ghost use Rattle.cert_check.specs.Standing as lines;
-ghost use Rattle.cert_check.specs.Standing.{IsAnswer, IsLineAnswer, StandsFor, lines_left};
+ghost use Rattle.cert_check.specs.Standing.{IsAnswer, IsLineAnswer, CheckerStandsFor, lines_left};
 ghost use Rattle.cert_check.specs.Whole.{text_verdict};
 
 use crate::checker::Checker;
@@ -19,10 +19,10 @@ use water_text::line_in::LineIn;
 
 /// Gives a checker the line that is held, and clears it.
 fn end_line(checker: &mut Checker, line: &mut LineIn) -> Result<(), Refuted>
-    ensures answer { (lines : List (List ℕ)) → StandsFor checker.old lines →
+    ensures answer { (lines : List (List ℕ)) → CheckerStandsFor checker.old lines →
         IsLineAnswer result (verdict_from checker.old.basin checker.old.series [] (lines ++ line.old.bytes ∷ [])) }
-    ensures stands { (lines : List (List ℕ)) → StandsFor checker.old lines →
-        StandsFor checker.new (lines ++ line.old.bytes ∷ []) }
+    ensures stands { (lines : List (List ℕ)) → CheckerStandsFor checker.old lines →
+        CheckerStandsFor checker.new (lines ++ line.old.bytes ∷ []) }
     ensures good { OnOk result (checker.new.refused ≡ None) }
     ensures left { OnOk result (lines_left checker.new + 1 ≡ lines_left checker.old) }
     ensures cleared { line.new ≡ nothing_held }
@@ -35,9 +35,9 @@ fn end_line(checker: &mut Checker, line: &mut LineIn) -> Result<(), Refuted>
     answer
 }
 
-/// Gives a checker the front of some bytes, up to the end of a line if there is one, and answers how many they are.
-fn give_front(checker: &mut Checker, line: &mut LineIn, rest: &[u8]) -> Result<usize, Refuted>
-    requires line { IsUnderWay line.old }
+/// Gives a checker the prefix of some bytes, up to the end of a line if there is one, and answers how many they are.
+fn give_prefix(checker: &mut Checker, line: &mut LineIn, rest: &[u8]) -> Result<usize, Refuted>
+    requires line { IsPartialLine line.old }
     requires good { checker.old.refused ≡ None }
     requires some { 0 < length rest.now }
     ensures some { IfOk result (λ taken. 0 < taken) }
@@ -48,7 +48,7 @@ fn give_front(checker: &mut Checker, line: &mut LineIn, rest: &[u8]) -> Result<u
     ensures refused { IfErr result (λ e. (text : List ℕ) → AreGiven checker.old line.old text → (more : List ℕ) →
         text_verdict checker.old.basin checker.old.series (text ++ rest.now ++ more) ≡ Err e) }
     ensures left { IfOk result (λ taken. room_left checker.new line.new + taken ≤ room_left checker.old line.old) }
-    ensures line { IsUnderWay line.new }
+    ensures line { IsPartialLine line.new }
     ensures basin { checker.new.basin ≡ checker.old.basin }
     ensures series { checker.new.series ≡ checker.old.series }
     ensures audit { lines.IsAudit checker.old → lines.IsAudit checker.new }
@@ -61,9 +61,9 @@ fn give_front(checker: &mut Checker, line: &mut LineIn, rest: &[u8]) -> Result<u
     Ok(fed.taken)
 }
 
-/// Gives a checker the next bytes of a text. The line holds what stands behind the last line feed before them.
+/// Gives a checker the next bytes of a text. The line holds what stands after the last line feed before them.
 pub(crate) fn give(checker: &mut Checker, line: &mut LineIn, piece: &[u8]) -> Result<(), Refuted>
-    requires line { IsUnderWay line.old }
+    requires line { IsPartialLine line.old }
     requires good { checker.old.refused ≡ None }
     ensures given { OnOk result ((text : List ℕ) → AreGiven checker.old line.old text →
         AreGiven checker.new line.new (text ++ piece.now)) }
@@ -71,14 +71,14 @@ pub(crate) fn give(checker: &mut Checker, line: &mut LineIn, piece: &[u8]) -> Re
     ensures refused { IfErr result (λ e. (text : List ℕ) → AreGiven checker.old line.old text → (rest : List ℕ) →
         text_verdict checker.old.basin checker.old.series (text ++ piece.now ++ rest) ≡ Err e) }
     ensures left { OnOk result (room_left checker.new line.new + length piece.now ≤ room_left checker.old line.old) }
-    ensures line { IsUnderWay line.new }
+    ensures line { IsPartialLine line.new }
     ensures basin { checker.new.basin ≡ checker.old.basin }
     ensures series { checker.new.series ≡ checker.old.series }
     ensures audit { lines.IsAudit checker.old → lines.IsAudit checker.new }
 {
     let mut at = 0;
     while at < piece.len() {
-        let taken = give_front(checker, line, &piece[at..])?;
+        let taken = give_prefix(checker, line, &piece[at..])?;
         at += taken;
     }
     Ok(())
@@ -95,19 +95,19 @@ pub struct PieceChecker<'b> {
 }
 
 impl<'b> Model for PieceChecker<'b> {
-    ghost use Rattle.cert_check.specs.Pieces.{IsUnderWay, PiecesSeen};
+    ghost use Rattle.cert_check.specs.Pieces.{IsPartialLine, PiecesView};
 
-    ghost Value = { PiecesSeen };
+    ghost Value = { PiecesView };
 
     ghost view = { λ p. record {
       basin = p.checker.basin;
       series = p.checker.series;
-      book = p.checker.book;
+      progress = p.checker.progress;
       refused = p.checker.refused;
       line = p.line;
     } };
 
-    ghost invariant = { λ p. IsUnderWay p.line };
+    ghost invariant = { λ p. IsPartialLine p.line };
 }
 
 impl<'b> PieceChecker<'b> {

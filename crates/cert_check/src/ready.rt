@@ -1,183 +1,183 @@
 //! What the tests of a line look at. It is made before them, so that a test only reads.
 ghost use Rattle.std.specs.Prelude.{◌≡◌, ◌≤◌, true};
-ghost use Rattle.result_reader.specs.Telling.{Told};
+ghost use Rattle.result_reader.specs.ReadSoFar.{ReadSoFar};
 ghost use Rattle.water_model.specs.OfBasin.{IsOfBasin};
-ghost use Rattle.cert_check.specs.Coming.{Awaits, HasMonth, HasTold};
+ghost use Rattle.cert_check.specs.Coming.{Awaits, HasMonth, HasRead};
 ghost use Rattle.cert_check.specs.Keeping.{Keeps};
-ghost use Rattle.cert_check.specs.Means.{AreMeans};
-ghost use Rattle.cert_check.specs.Ready.{HasSums, IsReady, IsReadyForAmount, IsReadyForCalled, IsReadyForSet};
+ghost use Rattle.cert_check.specs.Context.{IsContext};
+ghost use Rattle.cert_check.specs.Ready.{HasSums, IsReadyForLine, IsReadyForAmount, IsReadyForCalled, IsReadyForSet};
 
-use crate::account::{Account, Means};
 use crate::answering::next_due;
 use crate::balancing::make_sums;
-use crate::compare::{is_behind_calls, is_member};
+use crate::compare::{is_after_calls, is_member};
 use crate::passing::pass_over;
+use crate::state::{CheckState, Context};
 use crate::supplying::make_supply;
 use calls::callers_by_node;
 use month_terms::closing::close_zones;
 use water_model::item::Item;
 use water_model::quantity::Quantity;
 
-/// Makes the supply that is told, unless the record has it.
-pub fn know_supply(means: &Means, account: &mut Account)
-    requires means { AreMeans means.now }
-    requires month { HasMonth means.now.basin.now means.now.series.now account.old }
-    ensures rest { account.new ≡ record account.old {
-      month = record account.old.month { supply = account.new.month.supply };
+/// Makes the supply that was read, unless the record has it.
+pub fn know_supply(context: &Context, state: &mut CheckState)
+    requires context { IsContext context.now }
+    requires month { HasMonth context.now.basin.now context.now.series.now state.old }
+    ensures rest { state.new ≡ record state.old {
+      month = record state.old.month { supply = state.new.month.supply };
       has_supply = true;
     } }
-    ensures keeps { (t : Told) → Keeps means.now.basin.now means.now.series.now account.old t →
-        Keeps means.now.basin.now means.now.series.now account.new t }
+    ensures keeps { (t : ReadSoFar) → Keeps context.now.basin.now context.now.series.now state.old t →
+        Keeps context.now.basin.now context.now.series.now state.new t }
 {
-    if !account.has_supply {
-        make_supply(means.basin, means.series, &mut account.month);
-        account.has_supply = true;
+    if !state.has_supply {
+        make_supply(context.basin, context.series, &mut state.month);
+        state.has_supply = true;
     }
 }
 
-/// Makes the sums of the zones' takes that are told, unless the account has them.
-fn know_closes(means: &Means, account: &mut Account)
-    requires means { AreMeans means.now }
-    requires month { HasMonth means.now.basin.now means.now.series.now account.old }
-    ensures rest { account.new ≡ record account.old { closes = account.new.closes; has_closes = true } }
-    ensures keeps { (t : Told) → Keeps means.now.basin.now means.now.series.now account.old t →
-        Keeps means.now.basin.now means.now.series.now account.new t }
+/// Makes the sums of the zones' takes that were read, unless the account has them.
+fn know_closes(context: &Context, state: &mut CheckState)
+    requires context { IsContext context.now }
+    requires month { HasMonth context.now.basin.now context.now.series.now state.old }
+    ensures rest { state.new ≡ record state.old { closes = state.new.closes; has_closes = true } }
+    ensures keeps { (t : ReadSoFar) → Keeps context.now.basin.now context.now.series.now state.old t →
+        Keeps context.now.basin.now context.now.series.now state.new t }
 {
-    if !account.has_closes {
+    if !state.has_closes {
         close_zones(
-            means.basin,
-            account.month.plan.take.as_slice(),
-            account.closes.as_mut_slice(),
+            context.basin,
+            state.month.plan.take.as_slice(),
+            state.closes.as_mut_slice(),
         );
-        account.has_closes = true;
+        state.has_closes = true;
     }
 }
 
-/// Finds the first caller of each node by the deliveries and sets that are told, unless the account has them.
-fn know_callers(means: &Means, account: &mut Account)
-    requires means { AreMeans means.now }
-    requires keeps { HasTold means.now.basin.now means.now.series.now account.old }
-    ensures rest { account.new ≡ record account.old { callers = account.new.callers; has_callers = true } }
-    ensures keeps { (t : Told) → Keeps means.now.basin.now means.now.series.now account.old t →
-        Keeps means.now.basin.now means.now.series.now account.new t }
+/// Finds the first caller of each node by the deliveries and sets that were read, unless the account has them.
+fn know_callers(context: &Context, state: &mut CheckState)
+    requires context { IsContext context.now }
+    requires keeps { HasRead context.now.basin.now context.now.series.now state.old }
+    ensures rest { state.new ≡ record state.old { callers = state.new.callers; has_callers = true } }
+    ensures keeps { (t : ReadSoFar) → Keeps context.now.basin.now context.now.series.now state.old t →
+        Keeps context.now.basin.now context.now.series.now state.new t }
 {
-    if !account.has_callers {
-        account.callers = callers_by_node(means.basin, &means.roll, &account.month);
-        account.has_callers = true;
+    if !state.has_callers {
+        state.callers = callers_by_node(context.basin, &context.roll, &state.month);
+        state.has_callers = true;
     }
 }
 
-/// Makes the sums of what comes into each node and of what leaves it, where the month's flows and takes are told.
-fn know_sums(means: &Means, account: &mut Account)
-    requires means { AreMeans means.now }
-    requires month { HasMonth means.now.basin.now means.now.series.now account.old }
-    ensures supply { account.new.has_supply ≡ true }
-    ensures calling { account.new.calling ≡ account.old.calling }
-    ensures callers { account.new.has_callers ≡ account.old.has_callers }
-    ensures sums { HasSums means.now.basin.now account.new }
-    ensures keeps { (t : Told) → Keeps means.now.basin.now means.now.series.now account.old t →
-        Keeps means.now.basin.now means.now.series.now account.new t }
+/// Makes the sums of what comes into each node and of what leaves it, where the month's flows and takes were read.
+fn know_sums(context: &Context, state: &mut CheckState)
+    requires context { IsContext context.now }
+    requires month { HasMonth context.now.basin.now context.now.series.now state.old }
+    ensures supply { state.new.has_supply ≡ true }
+    ensures calling { state.new.calling ≡ state.old.calling }
+    ensures callers { state.new.has_callers ≡ state.old.has_callers }
+    ensures sums { HasSums context.now.basin.now state.new }
+    ensures keeps { (t : ReadSoFar) → Keeps context.now.basin.now context.now.series.now state.old t →
+        Keeps context.now.basin.now context.now.series.now state.new t }
 {
-    know_supply(means, account);
+    know_supply(context, state);
     make_sums(
-        means.basin,
-        &account.month,
-        &mut account.into,
-        &mut account.out_of,
+        context.basin,
+        &state.month,
+        &mut state.into,
+        &mut state.out_of,
     );
 }
 
 /// Makes these sums where a node is the last outlet.
-fn know_sums_at(means: &Means, account: &mut Account, node: u32)
-    requires means { AreMeans means.now }
-    requires month { HasMonth means.now.basin.now means.now.series.now account.old }
-    ensures sums { means.now.last_outlet ≤ node → HasSums means.now.basin.now account.new }
-    ensures supply { account.old.has_supply ≡ true → account.new.has_supply ≡ true }
-    ensures calling { account.new.calling ≡ account.old.calling }
-    ensures callers { account.new.has_callers ≡ account.old.has_callers }
-    ensures keeps { (t : Told) → Keeps means.now.basin.now means.now.series.now account.old t →
-        Keeps means.now.basin.now means.now.series.now account.new t }
+fn know_sums_at(context: &Context, state: &mut CheckState, node: u32)
+    requires context { IsContext context.now }
+    requires month { HasMonth context.now.basin.now context.now.series.now state.old }
+    ensures sums { context.now.last_outlet ≤ node → HasSums context.now.basin.now state.new }
+    ensures supply { state.old.has_supply ≡ true → state.new.has_supply ≡ true }
+    ensures calling { state.new.calling ≡ state.old.calling }
+    ensures callers { state.new.has_callers ≡ state.old.has_callers }
+    ensures keeps { (t : ReadSoFar) → Keeps context.now.basin.now context.now.series.now state.old t →
+        Keeps context.now.basin.now context.now.series.now state.new t }
 {
-    if means.last_outlet <= node {
-        know_sums(means, account);
+    if context.last_outlet <= node {
+        know_sums(context, state);
     }
 }
 
 /// Passes over the rights that a line passes over, unless one of them lacks its `call`: those that are settled aren't
 /// looked at again.
-fn pass(means: &Means, account: &mut Account, item: &Item)
-    requires means { AreMeans means.now }
-    requires item { IsOfBasin means.now.basin.now item.now }
-    requires awaits { Awaits means.now.basin.now means.now.series.now account.old item.now }
-    ensures calling { account.new.calling ≡ account.old.calling }
-    ensures keeps { (t : Told) → Keeps means.now.basin.now means.now.series.now account.old t →
-        Keeps means.now.basin.now means.now.series.now account.new t }
+fn pass(context: &Context, state: &mut CheckState, item: &Item)
+    requires context { IsContext context.now }
+    requires item { IsOfBasin context.now.basin.now item.now }
+    requires awaits { Awaits context.now.basin.now context.now.series.now state.old item.now }
+    ensures calling { state.new.calling ≡ state.old.calling }
+    ensures keeps { (t : ReadSoFar) → Keeps context.now.basin.now context.now.series.now state.old t →
+        Keeps context.now.basin.now context.now.series.now state.new t }
 {
-    let order = means.roll.by_seniority();
-    match pass_over(means.basin, order, &account.month, account.passed, item) {
-        Some(count) => account.passed = count,
+    let order = context.roll.by_seniority();
+    match pass_over(context.basin, order, &state.month, state.passed, item) {
+        Some(count) => state.passed = count,
         None => {}
     }
 }
 
-/// Finds the callers where a line stands behind the `call` lines. Where no right is left that answers to one, they
+/// Finds the callers where a line stands after the `call` lines. Where no right is left that answers to one, they
 /// aren't looked at again.
-fn answer(means: &Means, account: &mut Account, item: &Item)
-    requires means { AreMeans means.now }
-    requires keeps { HasTold means.now.basin.now means.now.series.now account.old }
-    ensures callers { IsReadyForCalled account.new item.now }
-    ensures calling { account.new.calling ≡ account.old.calling }
-    ensures keeps { (t : Told) → Keeps means.now.basin.now means.now.series.now account.old t →
-        Keeps means.now.basin.now means.now.series.now account.new t }
+fn answer(context: &Context, state: &mut CheckState, item: &Item)
+    requires context { IsContext context.now }
+    requires keeps { HasRead context.now.basin.now context.now.series.now state.old }
+    ensures callers { IsReadyForCalled state.new item.now }
+    ensures calling { state.new.calling ≡ state.old.calling }
+    ensures keeps { (t : ReadSoFar) → Keeps context.now.basin.now context.now.series.now state.old t →
+        Keeps context.now.basin.now context.now.series.now state.new t }
 {
-    if !is_behind_calls(item) {
+    if !is_after_calls(item) {
         return;
     }
-    know_callers(means, account);
+    know_callers(context, state);
     match next_due(
-        means.basin,
-        &means.roll,
-        &account.callers,
-        &account.month,
-        account.answered,
+        context.basin,
+        &context.roll,
+        &state.callers,
+        &state.month,
+        state.answered,
     ) {
         Some(_) => {}
-        None => account.answered = means.basin.rights.len(),
+        None => state.answered = context.basin.rights.len(),
     }
 }
 
 /// Makes what the test of a set looks at, where a line ends its nodes.
-fn make_ready_for_set(means: &Means, account: &mut Account, item: &Item)
-    requires means { AreMeans means.now }
-    requires awaits { Awaits means.now.basin.now means.now.series.now account.old item.now }
-    ensures ready { IsReadyForSet account.new item.now }
-    ensures callers { account.new.has_callers ≡ account.old.has_callers }
-    ensures keeps { (t : Told) → Keeps means.now.basin.now means.now.series.now account.old t →
-        Keeps means.now.basin.now means.now.series.now account.new t }
+fn make_ready_for_set(context: &Context, state: &mut CheckState, item: &Item)
+    requires context { IsContext context.now }
+    requires awaits { Awaits context.now.basin.now context.now.series.now state.old item.now }
+    ensures ready { IsReadyForSet state.new item.now }
+    ensures callers { state.new.has_callers ≡ state.old.has_callers }
+    ensures keeps { (t : ReadSoFar) → Keeps context.now.basin.now context.now.series.now state.old t →
+        Keeps context.now.basin.now context.now.series.now state.new t }
 {
     if is_member(item) {
         return;
     }
-    match account.calling {
-        Some(_) => know_supply(means, account),
+    match state.calling {
+        Some(_) => know_supply(context, state),
         None => {}
     }
 }
 
 /// Makes what the test of an amount looks at.
-fn make_ready_for_amount(means: &Means, account: &mut Account, quantity: Quantity, entry: u32)
-    requires means { AreMeans means.now }
-    requires month { HasMonth means.now.basin.now means.now.series.now account.old }
-    ensures ready { IsReadyForAmount means.now account.new quantity entry }
-    ensures callers { account.new.has_callers ≡ account.old.has_callers }
-    ensures supply { account.old.has_supply ≡ true → account.new.has_supply ≡ true }
-    ensures calling { account.new.calling ≡ account.old.calling }
-    ensures keeps { (t : Told) → Keeps means.now.basin.now means.now.series.now account.old t →
-        Keeps means.now.basin.now means.now.series.now account.new t }
+fn make_ready_for_amount(context: &Context, state: &mut CheckState, quantity: Quantity, entry: u32)
+    requires context { IsContext context.now }
+    requires month { HasMonth context.now.basin.now context.now.series.now state.old }
+    ensures ready { IsReadyForAmount context.now state.new quantity entry }
+    ensures callers { state.new.has_callers ≡ state.old.has_callers }
+    ensures supply { state.old.has_supply ≡ true → state.new.has_supply ≡ true }
+    ensures calling { state.new.calling ≡ state.old.calling }
+    ensures keeps { (t : ReadSoFar) → Keeps context.now.basin.now context.now.series.now state.old t →
+        Keeps context.now.basin.now context.now.series.now state.new t }
 {
     match quantity {
-        Quantity::Outflow => know_sums_at(means, account, entry),
-        Quantity::Closing => know_closes(means, account),
+        Quantity::Outflow => know_sums_at(context, state, entry),
+        Quantity::Closing => know_closes(context, state),
         Quantity::Opening
         | Quantity::Evaporated
         | Quantity::Returned
@@ -186,24 +186,24 @@ fn make_ready_for_amount(means: &Means, account: &mut Account, quantity: Quantit
     }
 }
 
-/// Makes what the tests of a line look at. What is told stays.
-pub fn make_ready(means: &Means, account: &mut Account, item: &Item)
-    requires means { AreMeans means.now }
-    requires item { IsOfBasin means.now.basin.now item.now }
-    requires awaits { Awaits means.now.basin.now means.now.series.now account.old item.now }
-    ensures ready { IsReady means.now account.new item.now }
-    ensures keeps { (t : Told) → Keeps means.now.basin.now means.now.series.now account.old t →
-        Keeps means.now.basin.now means.now.series.now account.new t }
+/// Makes what the tests of a line look at. What was read stays.
+pub fn make_ready(context: &Context, state: &mut CheckState, item: &Item)
+    requires context { IsContext context.now }
+    requires item { IsOfBasin context.now.basin.now item.now }
+    requires awaits { Awaits context.now.basin.now context.now.series.now state.old item.now }
+    ensures ready { IsReadyForLine context.now state.new item.now }
+    ensures keeps { (t : ReadSoFar) → Keeps context.now.basin.now context.now.series.now state.old t →
+        Keeps context.now.basin.now context.now.series.now state.new t }
 {
-    pass(means, account, item);
-    answer(means, account, item);
-    make_ready_for_set(means, account, item);
+    pass(context, state, item);
+    answer(context, state, item);
+    make_ready_for_set(context, state, item);
     match *item {
         Item::Amount {
             quantity,
             entry,
             ..
-        } => make_ready_for_amount(means, account, quantity, entry),
+        } => make_ready_for_amount(context, state, quantity, entry),
         _ => {}
     }
 }

@@ -5,7 +5,7 @@ ghost use Rattle.cert_check.specs.KindNames.{kind_name};
 /// Why a text is refuted. Of several causes at one line the first of this order is answered.
 #[derive(Clone, Copy, Debug, PartialEq, Eq)]
 pub enum RefutedKind {
-    /// Something stands behind the `done` line.
+    /// Something stands after the `done` line.
     AfterEnd,
     /// A reader of texts refuses the line.
     BadLine,
@@ -36,7 +36,7 @@ pub enum RefutedKind {
     Balance,
     /// A reservoir closes with another amount than its zones take.
     Closing,
-    /// The text ends before its `done` line. The line behind the last one is named.
+    /// The text ends before its `done` line. The line after the last one is named.
     EarlyEnd,
     /// The text is that of a history, but the set of a right isn't its reach. The first such `call` line is named, by
     /// month and then by seniority. Only an audit refutes a text for it.

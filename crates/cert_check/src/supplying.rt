@@ -1,7 +1,7 @@
-//! What a month supplies, by what is told of it.
+//! What a month supplies, by what was read of it.
 ghost use Rattle.std.specs.Prelude.{ℕ, ◌≡◌, ◌+◌, ◌^◌, ◌<◌, ◌≤◌, length, slice_index};
 ghost use Rattle.month_terms.specs.Terms.{FitsRecord};
-ghost use Rattle.result_reader.specs.Telling.{with_supply};
+ghost use Rattle.result_reader.specs.ReadSoFar.{with_supply};
 ghost use Rattle.water_model.specs.Hydrology.{inflow_at, stored_at};
 ghost use Rattle.water_model.specs.Valid.{IsValidBasin, IsSeriesOf};
 
@@ -39,7 +39,7 @@ fn sum_supply(
     add_stored(basin, opening, evaporated, supply);
 }
 
-/// Makes in a record the supply of each node, by what is told of the month's reservoirs and returns.
+/// Makes in a record the supply of each node, by what was read of the month's reservoirs and returns.
 pub fn make_supply(basin: &Basin, series: &Inflows, month: &mut MonthRecord)
     requires basin { IsValidBasin basin.now }
     requires series { IsSeriesOf basin.now series.now }

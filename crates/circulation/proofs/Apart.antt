@@ -2,8 +2,8 @@
 use Rattle.std.proofs.Common.{ℕ, zero, suc, Bool, ◌==◌, ◌≡◌, ◌≢◌, ◌+◌, ◌<◌, ◌≤◌, refl, arith, ap, sym, inl, inr, ◌∙◌}
 use Rattle.std.proofs.lemmas.Bool.{eq-eqb, ne_eqb}
 use Rattle.std.proofs.lemmas.Bool.Decides.{eqb_tells}
-use Rattle.place_sums.specs.Sums.{total, when}
-use Rattle.place_sums.proofs.Totals.{total_le, total_same, total_zero, total_add, total_exchange, total_pick}
+use Rattle.finite_sums.specs.Sums.{total, when}
+use Rattle.finite_sums.proofs.Totals.{total_le, total_same, total_zero, total_add, total_exchange, total_pick}
 
 -- a sum of ones
 total_ones : (n : ℕ) → total n (λ k. 1) ≡ n

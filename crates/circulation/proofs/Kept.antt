@@ -21,8 +21,8 @@ pub month-kept : (c : Contents) (supply upper start : List ℕ) → IsCirculatio
     IsCirculation (month_contents c supply upper start)
 month-kept c supply upper start k s = record {
   shape = record {
-    few_nodes = k.shape.few_nodes;
-    few_arcs = k.shape.few_arcs;
+    bounded_nodes = k.shape.bounded_nodes;
+    bounded_arcs = k.shape.bounded_arcs;
     to = k.shape.to;
     supply = s.supplies;
     lower = grind (arith, common_steps);

@@ -40,10 +40,10 @@ lists_same n n' a a' b b' s s' l l' u u' f f' x x' p p' q q' r r' e₁ e₂ e₃
     ∙ ap (λ (i : List ℕ). contents_of n' a' b' s' l' u' f' x' p' i r) e₁₀
     ∙ ap (λ (i : List ℕ). contents_of n' a' b' s' l' u' f' x' p' q' i) e₁₁
 
--- the front and the rest
-cut : (xs ps qs front back : List ℕ) (n : ℕ) → xs ≡ ps ++ qs → length ps ≡ n → front ≡ take n xs → back ≡ drop n xs →
-    (front ≡ ps) × (back ≡ qs)
-cut xs ps qs front back n is count f b = (
+-- the prefix and the rest
+cut : (xs ps qs prefix back : List ℕ) (n : ℕ) → xs ≡ ps ++ qs → length ps ≡ n → prefix ≡ take n xs → back ≡ drop n xs →
+    (prefix ≡ ps) × (back ≡ qs)
+cut xs ps qs prefix back n is count f b = (
   f ∙ ap (take n) is ∙ take_at ps qs n count,
   b ∙ ap (drop n) is ∙ drop_at ps qs n count,
 )

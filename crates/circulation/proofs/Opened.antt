@@ -5,7 +5,7 @@ use Rattle.std.specs.Prelude.{All}
 use Rattle.std.proofs.lemmas.Grind.{common_steps}
 use Rattle.std.proofs.lemmas.List.{get_or-map, length-map, get_or-replicate, replicate-append-replicate}
 use Rattle.circulation.specs.declared.Ends.{Ends}
-use Rattle.place_sums.specs.Sums.{when}
+use Rattle.finite_sums.specs.Sums.{when}
 use Rattle.circulation.specs.Network.{HasEnds, inflow, outflow}
 use Rattle.circulation.specs.Rows.{Rows, AreRows}
 use Rattle.circulation.specs.Contents.{Contents, network, flow_of, IsCirculation, empty_contents}
@@ -13,7 +13,7 @@ use Rattle.circulation.specs.declared.Circulation.{Circulation}
 use Rattle.circulation.specs.Places.{tail_of, head_of, tails, heads, word_count, fixed_count, AreWordsOf, HasWords}
 use Rattle.circulation.specs.Chains.{tails_of}
 use Rattle.circulation.specs.Laid.{IsLaid}
-use Rattle.place_sums.proofs.Totals.{total_zero}
+use Rattle.finite_sums.proofs.Totals.{total_zero}
 use Rattle.circulation.proofs.Pairs.{no_ends}
 
 -- each end is a node, and no arc goes from a node to itself
@@ -60,10 +60,10 @@ when-zero false x h = refl
 pub empty-circulation : (nodes : ℕ) (from to : List ℕ) (rows : Rows) → nodes < 2 ^ 32 → length from < 2 ^ 32 →
     length to ≡ length from → HasEnds (network (empty_contents nodes from to rows)) →
     AreRows nodes from to rows → IsCirculation (empty_contents nodes from to rows)
-empty-circulation nodes from to rows few_nodes few_arcs same ends are_rows = record {
+empty-circulation nodes from to rows bounded_nodes bounded_arcs same ends are_rows = record {
   shape = record {
-    few_nodes = few_nodes;
-    few_arcs = few_arcs;
+    bounded_nodes = bounded_nodes;
+    bounded_arcs = bounded_arcs;
     to = same;
     supply = grind (arith, common_steps);
     lower = grind (arith, common_steps);
@@ -143,13 +143,13 @@ pub laid-words : (circ : Circulation) (es : List Ends) (words : List ℕ) → ci
     drop (fixed_count circ.nodes circ.arcs) words ≡ replicate
     (word_count circ.nodes circ.arcs - fixed_count circ.nodes circ.arcs) 0 →
     (rows : Rows) × HasWords circ (empty_contents circ.nodes (tails es) (heads es) rows) words
-laid-words circ es words arcs few_nodes few_arcs within laid none =
+laid-words circ es words arcs bounded_nodes bounded_arcs within laid none =
     let count = length-map es (λ (e : Ends). e.from) in
     let same = lengths_agree es (tails es) (heads es) refl refl in
     let rows : AreRows circ.nodes (tails es) (heads es) laid.rows =
     subst (λ (xs : List ℕ). AreRows circ.nodes xs (heads es) laid.rows) laid.from
     (subst (λ (xs : List ℕ). AreRows circ.nodes (tails_of laid.pairs) xs laid.rows) laid.to laid.laid.rows) in
-    let kept = empty-circulation circ.nodes (tails es) (heads es) laid.rows few_nodes (omega (arith, count)) same
+    let kept = empty-circulation circ.nodes (tails es) (heads es) laid.rows bounded_nodes (omega (arith, count)) same
     record {
       from_in = from_within circ.nodes es (tails es) refl within;
       to_in = λ a b. to_within circ.nodes es (heads es) refl within a (omega (arith, same));

@@ -3,17 +3,17 @@ use Rattle.std.proofs.Common.{ℕ, Bool, true, false, not, ◌==◌, ◌≡◌, 
 use Rattle.std.proofs.Common.{slice_index, slice_set, refl, arith, ap, sym, subst, inl, inr, ◌∙◌}
 use Rattle.std.proofs.lemmas.Bool.Decides.{eqb_tells}
 use Rattle.std.proofs.lemmas.List.{get_or-set_same, get_or-set_other, length-set}
-use Rattle.place_sums.specs.Sums.{when}
+use Rattle.finite_sums.specs.Sums.{when}
 use Rattle.circulation.specs.Contents.{Contents, network, flow_of, step_of, IsCirculation}
 use Rattle.circulation.specs.Network.{Network, IsFlow, inflow, outflow}
-use Rattle.circulation.specs.Residual.{arc_of, is_back, by_way, start_of, end_of, IsClosedWalk, IsPushed}
-use Rattle.place_sums.proofs.Totals.{total_change}
+use Rattle.circulation.specs.Residual.{arc_of, is_backward, by_direction, start_of, end_of, IsClosedWalk, IsPushed}
+use Rattle.finite_sums.proofs.Totals.{total_change}
 use Rattle.circulation.proofs.Kept.{flow-kept}
 
 -- the sums at a node, by the way of the step and whether its arc leaves or enters the node
 step_sums : (back f t : Bool) (d x y o p i j : ℕ) → y + when back d ≡ x + when (not back) d →
     p + when f x ≡ o + when f y → j + when t x ≡ i + when t y →
-    p + i + when (by_way back t f) d ≡ o + j + when (by_way back f t) d
+    p + i + when (by_direction back t f) d ≡ o + j + when (by_direction back f t) d
 step_sums true true true d x y o p i j a b c = omega arith
 step_sums true true false d x y o p i j a b c = omega arith
 step_sums true false true d x y o p i j a b c = omega arith
@@ -24,13 +24,13 @@ step_sums false false true d x y o p i j a b c = omega arith
 step_sums false false false d x y o p i j a b c = omega arith
 
 -- a test of the one that is chosen
-by_way-test : (back : Bool) (x y v : ℕ) → (by_way back x y == v) ≡ by_way back (x == v) (y == v)
-by_way-test true x y v = refl
-by_way-test false x y v = refl
+by_direction-test : (back : Bool) (x y v : ℕ) → (by_direction back x y == v) ≡ by_direction back (x == v) (y == v)
+by_direction-test true x y v = refl
+by_direction-test false x y v = refl
 
 -- one step moves its amount from the node that it enters to the node that it leaves
 pub moved_by_step : (w : Network) (g h : ℕ → ℕ) (s d : ℕ) → arc_of s < w.arcs →
-    h (arc_of s) + when (is_back s) d ≡ g (arc_of s) + when (not (is_back s)) d →
+    h (arc_of s) + when (is_backward s) d ≡ g (arc_of s) + when (not (is_backward s)) d →
     ((a : ℕ) → a < w.arcs → a ≢ arc_of s → h a ≡ g a) → (v : ℕ) →
     outflow w h v + inflow w g v + when (end_of w s == v) d ≡ outflow w g v + inflow w h v + when (start_of w s == v) d
 moved_by_step w g h s d b change other v =
@@ -38,10 +38,12 @@ moved_by_step w g h s d b change other v =
     (λ a c ne. ap (when (w.from a == v)) (other a c ne)) in
     let into = total_change w.arcs (arc_of s) (λ a. when (w.to a == v) (h a)) (λ a. when (w.to a == v) (g a)) b
     (λ a c ne. ap (when (w.to a == v)) (other a c ne)) in
-    let sums = step_sums (is_back s) (w.from (arc_of s) == v) (w.to (arc_of s) == v) d (g (arc_of s)) (h (arc_of s))
+    let sums = step_sums (is_backward s) (w.from (arc_of s) == v) (w.to (arc_of s) == v) d (g (arc_of s)) (h (arc_of s))
     (outflow w g v) (outflow w h v) (inflow w g v) (inflow w h v) change out into in
-    let enter = ap (λ (b : Bool). when b d) (by_way-test (is_back s) (w.to (arc_of s)) (w.from (arc_of s)) v) in
-    let leave = ap (λ (b : Bool). when b d) (by_way-test (is_back s) (w.from (arc_of s)) (w.to (arc_of s)) v) in
+    let enter = ap (λ (b : Bool). when b d) (by_direction-test (is_backward s) (w.to (arc_of s)) (w.from (arc_of s)) v)
+    in
+    let leave = ap (λ (b : Bool). when b d) (by_direction-test (is_backward s) (w.from (arc_of s)) (w.to (arc_of s)) v)
+    in
     omega (arith, sums, enter, leave)
 
 -- the steps from `first` to `at` are done
@@ -86,7 +88,8 @@ untouched w old new step first last at amount walk p a b =
     p.pushed.off (arc_of (step at)) (λ i c d. walk.once i at c d b)
 
 -- an amount within the room keeps the bounds
-within_room : (back : Bool) (d x y low high : ℕ) → 0 < d → low ≤ x → x ≤ high → d ≤ by_way back (high - x) (x - low) →
+within_room : (back : Bool) (d x y low high : ℕ) → 0 < d → low ≤ x → x ≤ high → d ≤ by_direction back (high - x)
+    (x - low) →
     y + when back d ≡ x + when (not back) d → (low ≤ y) × (y ≤ high)
 within_room true d x y low high p a b room change = (omega arith, omega arith)
 within_room false d x y low high p a b room change = (omega arith, omega arith)
@@ -94,14 +97,14 @@ within_room false d x y low high p a b room change = (omega arith, omega arith)
 -- one more step is done
 pub pushing_next : (w : Network) (old new next step : ℕ → ℕ) (first last at amount : ℕ) → IsFlow w old →
     IsClosedWalk w old step first last amount → IsPushing w old new step first last at amount → first ≤ at → at < last →
-    next (arc_of (step at)) + when (is_back (step at)) amount
-    ≡ new (arc_of (step at)) + when (not (is_back (step at))) amount →
+    next (arc_of (step at)) + when (is_backward (step at)) amount
+    ≡ new (arc_of (step at)) + when (not (is_backward (step at))) amount →
     ((a : ℕ) → a ≢ arc_of (step at) → next a ≡ new a) → IsPushing w old next step first last (at + 1) amount
 pushing_next w old new next step first last at amount flow walk p a b change other =
     let same : new (arc_of (step at)) ≡ old (arc_of (step at)) =
     untouched w old new step first last at amount walk p a b in
     let inside : arc_of (step at) < w.arcs = walk.arc at a b in
-    let bounds = within_room (is_back (step at)) amount (old (arc_of (step at))) (next (arc_of (step at)))
+    let bounds = within_room (is_backward (step at)) amount (old (arc_of (step at))) (next (arc_of (step at)))
     (w.lower (arc_of (step at))) (w.upper (arc_of (step at))) walk.positive (flow.low _ inside)
     (flow.high _ inside) (walk.room at a b) (omega (arith, same, change)) in
     record {
@@ -115,22 +118,22 @@ pushing_next w old new next step first last at amount flow walk p a b change oth
       ];
       pushed = record {
         on = λ i c d. elim (eqb_tells i at) [
-          | inl e ↦ subst (λ (y : ℕ). next (arc_of (step y)) + when (is_back (step y)) amount ≡ old
-              (arc_of (step y)) + when (not (is_back (step y))) amount) (sym e.1) (omega (arith, same, change))
+          | inl e ↦ subst (λ (y : ℕ). next (arc_of (step y)) + when (is_backward (step y)) amount ≡ old
+              (arc_of (step y)) + when (not (is_backward (step y))) amount) (sym e.1) (omega (arith, same, change))
           | inr e ↦
               let before : i < at = omega arith in
               omega (arith, p.pushed.on i c before, other (arc_of (step i)) (walk.once i at c before b))
         ];
         off = λ x h. other x (λ e. h at a (omega arith) (sym e)) ∙ p.pushed.off x (λ i c d. h i c (omega arith));
       };
-      moved = λ t on_way at_end v.
+      moved = λ t in_transit at_end v.
           let before = p.moved (start_of w (step at)) (λ c. refl) (λ c. absurd (omega arith)) v in
           let now = moved_by_step w new next (step at) amount inside change (λ x c ne. other x ne) v in
           let joined : end_of w (step at) ≡ t = elim
           (eqb_tells (at + 1) last) [
             | inl e ↦ walk.closed at e.1 ∙ sym
                 (at_end e.1)
-            | inr e ↦ let c : at + 1 < last = omega arith in walk.joined at a c ∙ sym (on_way c)
+            | inr e ↦ let c : at + 1 < last = omega arith in walk.joined at a c ∙ sym (in_transit c)
           ] in
           let there = ap (λ (x : ℕ). when (x == v) amount) joined in
           omega (arith, before, now, there);
@@ -139,17 +142,17 @@ pushing_next w old new next step first last at amount flow walk p a b change oth
 -- the amount can be taken or added at the next step
 pub change_fits : (w : Network) (old new step : ℕ → ℕ) (first last at amount : ℕ) → IsFlow w old →
     IsClosedWalk w old step first last amount → IsPushing w old new step first last at amount → first ≤ at → at < last →
-    (is_back (step at) ≡ true → amount ≤ new (arc_of (step at))) ×
-    (is_back (step at) ≡ false → new (arc_of (step at)) + amount ≤ w.upper (arc_of (step at)))
+    (is_backward (step at) ≡ true → amount ≤ new (arc_of (step at))) ×
+    (is_backward (step at) ≡ false → new (arc_of (step at)) + amount ≤ w.upper (arc_of (step at)))
 change_fits w old new step first last at amount flow walk p a b =
     let same : new (arc_of (step at)) ≡ old (arc_of (step at)) =
     untouched w old new step first last at amount walk p a b in
     let room = walk.room at a b in
     let low = flow.low _ (walk.arc at a b) in
     let positive : 0 < amount = walk.positive in (
-      λ e. let r = subst (λ (t : Bool). amount ≤ by_way t (w.upper (arc_of (step at)) - old (arc_of (step at)))
+      λ e. let r = subst (λ (t : Bool). amount ≤ by_direction t (w.upper (arc_of (step at)) - old (arc_of (step at)))
           (old (arc_of (step at)) - w.lower (arc_of (step at)))) e room in omega (arith, r, same),
-      λ e. let r = subst (λ (t : Bool). amount ≤ by_way t (w.upper (arc_of (step at)) - old (arc_of (step at)))
+      λ e. let r = subst (λ (t : Bool). amount ≤ by_direction t (w.upper (arc_of (step at)) - old (arc_of (step at)))
           (old (arc_of (step at)) - w.lower (arc_of (step at)))) e room in omega (arith, r, same),
     )
 
@@ -200,21 +203,21 @@ push_inside x y first last at amount k walk p a b =
 pub push_fits : (x y : Contents) (first last at amount : ℕ) → IsCirculation x →
     IsClosedWalk (network x) (flow_of x) (step_of x) first last amount → IsPushState x y first last at amount →
     first ≤ at → at < last →
-    (is_back (step_of y at) ≡ true → amount ≤ flow_of y (arc_of (step_of y at))) ×
-    (is_back (step_of y at) ≡ false → flow_of y (arc_of (step_of y at)) + amount < 2 ^ 64)
+    (is_backward (step_of y at) ≡ true → amount ≤ flow_of y (arc_of (step_of y at))) ×
+    (is_backward (step_of y at) ≡ false → flow_of y (arc_of (step_of y at)) + amount < 2 ^ 64)
 push_fits x y first last at amount k walk p a b =
     let fits = change_fits _ _ _ _ _ _ _ _ k.flow walk p.pushing a b in
     let small = k.shape.small (arc_of (step_of x at)) (walk.arc at a b) in
-    subst (λ (s : ℕ). (is_back s ≡ true → amount ≤ flow_of y (arc_of s)) ×
-    (is_back s ≡ false → flow_of y (arc_of s) + amount < 2 ^ 64)) (next_same x y first last at amount p)
+    subst (λ (s : ℕ). (is_backward s ≡ true → amount ≤ flow_of y (arc_of s)) ×
+    (is_backward s ≡ false → flow_of y (arc_of s) + amount < 2 ^ 64)) (next_same x y first last at amount p)
     (fits.0, λ e. omega (arith, fits.1 e, small))
 
 -- and that was done
 pub push_next : (x y : Contents) (first last at amount new : ℕ) → IsCirculation x →
     IsClosedWalk (network x) (flow_of x) (step_of x) first last amount → IsPushState x y first last at amount →
     first ≤ at → at < last →
-    new + when (is_back (step_of y at)) amount ≡ flow_of y (arc_of (step_of y at)) + when
-    (not (is_back (step_of y at))) amount →
+    new + when (is_backward (step_of y at)) amount ≡ flow_of y (arc_of (step_of y at)) + when
+    (not (is_backward (step_of y at))) amount →
     IsPushState x (record y { flow = slice_set y.flow (arc_of (step_of y at)) new }) first last (at + 1) amount
 push_next x y first last at amount new k walk p a b change =
     let same = next_same x y first last at amount p in
@@ -222,15 +225,16 @@ push_next x y first last at amount new k walk p a b change =
     let arc = arc_of (step_of y at) in
     let flow = slice_set y.flow arc new in
     let here = get_or-set_same y.flow arc new 0 inside in
-    let done : slice_index flow arc + when (is_back (step_of y at)) amount ≡ flow_of y arc + when
-    (not (is_back (step_of y at))) amount = ap (λ (n : ℕ). n + when (is_back (step_of y at)) amount) here ∙ change in
+    let done : slice_index flow arc + when (is_backward (step_of y at)) amount ≡ flow_of y arc + when
+    (not (is_backward (step_of y at))) amount = ap (λ (n : ℕ). n + when (is_backward (step_of y at)) amount) here ∙
+    change in
     record {
       rest = ap (λ (z : Contents). record z { flow = flow }) p.rest;
       size = length-set y.flow arc new ∙ p.size;
       pushing = pushing_next (network x) (flow_of x) (flow_of y) (slice_index flow) (step_of x) first last at amount
           k.flow walk p.pushing a b
-          (subst (λ (s : ℕ). slice_index flow (arc_of s) + when (is_back s) amount ≡ flow_of y (arc_of s) + when
-          (not (is_back s)) amount) (sym same) done)
+          (subst (λ (s : ℕ). slice_index flow (arc_of s) + when (is_backward s) amount ≡ flow_of y (arc_of s) + when
+          (not (is_backward s)) amount) (sym same) done)
           (λ c ne. get_or-set_other y.flow arc c new 0 (λ e. ne (e ∙ ap arc_of (sym same))));
     }
 

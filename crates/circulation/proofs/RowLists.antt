@@ -4,7 +4,7 @@ use Rattle.std.proofs.Common.{drop, slice_index, slice_set, arith, ap, sym, subs
 use Rattle.std.proofs.lemmas.Bool.{cases_eq, cases_lt, cases_Bool, eqb-true, eqb-false}
 use Rattle.std.proofs.lemmas.List.{get_or_append_left, get_or-append-add, get_or-set_same, get_or-set_other}
 use Rattle.std.proofs.lemmas.List.{get_or-take, get_or-drop, get_or_past, length-append, length-take, length-map}
-use Rattle.circulation.specs.Residual.{arc_of, is_back, by_way, start_of, end_of}
+use Rattle.circulation.specs.Residual.{arc_of, is_backward, by_direction, start_of, end_of}
 use Rattle.circulation.specs.Rows.{Rows, over, Leads, IsInRow, IsRow, AreRows}
 use Rattle.circulation.specs.Chains.{IsNext, turn_of, IsPartRow, AreApart, AreSameBelow, AreSmall, tails_of, heads_of}
 use Rattle.circulation.specs.Chains.{keys_of}
@@ -21,33 +21,33 @@ record IsBackward (arcs s : ℕ) : Type 0 where
   number : s ≡ 2 * arc_of s + 1
   turn : turn_of arcs s ≡ arcs + arc_of s
 
-forward_from : (arcs s : ℕ) → is_back s ≡ false → IsForward arcs s
+forward_from : (arcs s : ℕ) → is_backward s ≡ false → IsForward arcs s
 forward_from arcs s e = record {
   number = let ne = eqb-false (s % 2) 1 e in omega (arith, ne);
-  turn = ap (λ (b : Bool). by_way b (arc_of s) (arcs + arc_of s)) e;
+  turn = ap (λ (b : Bool). by_direction b (arc_of s) (arcs + arc_of s)) e;
 }
 
-backward_from : (arcs s : ℕ) → is_back s ≡ true → IsBackward arcs s
+backward_from : (arcs s : ℕ) → is_backward s ≡ true → IsBackward arcs s
 backward_from arcs s e = record {
   number = let odd = eqb-true (s % 2) 1 e in omega (arith, odd);
-  turn = ap (λ (b : Bool). by_way b (arc_of s) (arcs + arc_of s)) e;
+  turn = ap (λ (b : Bool). by_direction b (arc_of s) (arcs + arc_of s)) e;
 }
 
 -- the turn of a step is below the end of all turns
 turn_below : (arcs s : ℕ) → arc_of s < arcs → turn_of arcs s < 2 * arcs
-turn_below arcs s b = elim (cases_Bool (is_back s)) [
+turn_below arcs s b = elim (cases_Bool (is_backward s)) [
   | inl e ↦ omega (arith, (backward_from arcs s e).turn)
   | inr e ↦ omega (arith, (forward_from arcs s e).turn)
 ]
 
 -- two steps don't have one turn
 turn_apart : (arcs s t : ℕ) → arc_of s < arcs → arc_of t < arcs → turn_of arcs s ≡ turn_of arcs t → s ≡ t
-turn_apart arcs s t b c same = elim (cases_Bool (is_back s)) [
-  | inl e ↦ let x = backward_from arcs s e in elim (cases_Bool (is_back t)) [
+turn_apart arcs s t b c same = elim (cases_Bool (is_backward s)) [
+  | inl e ↦ let x = backward_from arcs s e in elim (cases_Bool (is_backward t)) [
     | inl f ↦ let y = backward_from arcs t f in omega (arith, x.turn, y.turn, x.number, y.number)
     | inr f ↦ let y = forward_from arcs t f in omega (arith, x.turn, y.turn)
   ]
-  | inr e ↦ let x = forward_from arcs s e in elim (cases_Bool (is_back t)) [
+  | inr e ↦ let x = forward_from arcs s e in elim (cases_Bool (is_backward t)) [
     | inl f ↦ let y = backward_from arcs t f in omega (arith, x.turn, y.turn)
     | inr f ↦ let y = forward_from arcs t f in omega (arith, x.turn, y.turn, x.number, y.number)
   ]
@@ -56,13 +56,13 @@ turn_apart arcs s t b c same = elim (cases_Bool (is_back s)) [
 -- the key of a turn is the node that its step leaves
 key_of_turn : (from to : List ℕ) (s : ℕ) → arc_of s < length from →
     slice_index (from ++ to) (turn_of (length from) s) ≡ start_of (over from to) s
-key_of_turn from to s b = elim (cases_Bool (is_back s)) [
+key_of_turn from to s b = elim (cases_Bool (is_backward s)) [
   | inl e ↦ ap (slice_index (from ++ to)) (backward_from (length from) s e).turn ∙ get_or-append-add from to (arc_of s)
       0
-      ∙ sym (ap (λ (t : Bool). by_way t (slice_index from (arc_of s)) (slice_index to (arc_of s))) e)
+      ∙ sym (ap (λ (t : Bool). by_direction t (slice_index from (arc_of s)) (slice_index to (arc_of s))) e)
   | inr e ↦ ap (slice_index (from ++ to)) (forward_from (length from) s e).turn ∙ get_or_append_left from to 0
       (arc_of s) b
-      ∙ sym (ap (λ (t : Bool). by_way t (slice_index from (arc_of s)) (slice_index to (arc_of s))) e)
+      ∙ sym (ap (λ (t : Bool). by_direction t (slice_index from (arc_of s)) (slice_index to (arc_of s))) e)
 ]
 
 -- a lesser number is another
@@ -278,7 +278,7 @@ apart_more from to n last s steps apart room arc start is_new =
 -- and when a later place is written
 pub apart_stays : (from to : List ℕ) (n last at s : ℕ) (steps : List ℕ) → AreApart from to n last steps →
     last ≤ at → AreApart from to n last (slice_set steps at s)
-apart_stays from to n last at s steps apart behind =
+apart_stays from to n last at s steps apart beyond =
     let other : (p : ℕ) → p < last → slice_index (slice_set steps at s) p ≡ slice_index steps p =
     λ p b. get_or-set_other steps at p s 0 (less_other p at (omega arith)) in
     record {
@@ -307,7 +307,7 @@ apart_start from to steps = record {
 -- lists that were the same below a place stay so when a later place is written
 pub same_stays : (last at s u : ℕ) (steps ends steps' ends' : List ℕ) → AreSameBelow last steps ends steps' ends' →
     last ≤ at → AreSameBelow last steps ends (slice_set steps' at s) (slice_set ends' at u)
-same_stays last at s u steps ends steps' ends' same behind = record {
+same_stays last at s u steps ends steps' ends' same beyond = record {
   same_steps = λ p b. get_or-set_other steps' at p s 0 (less_other p at (omega arith)) ∙ same.same_steps p b;
   same_ends = λ p b. get_or-set_other ends' at p u 0 (less_other p at (omega arith)) ∙ same.same_ends p b;
 }
@@ -329,7 +329,7 @@ rows_start from to first step end some = record {
   before = λ v b. absurd (omega arith);
 }
 
--- a row stays when more is written behind it
+-- a row stays when more is written after it
 row_stays : (from to : List ℕ) (r more : Rows) (v last : ℕ) → slice_index more.first v ≡ slice_index r.first v →
     slice_index more.first (v + 1) ≡ slice_index r.first (v + 1) → slice_index r.first (v + 1) ≤ last →
     length more.step ≡ length r.step → AreSameBelow last r.step r.end more.step more.end → IsRow from to r v →

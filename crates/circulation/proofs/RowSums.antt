@@ -2,9 +2,9 @@
 use Rattle.std.proofs.Common.{ℕ, Fits, w64, Bool, true, false, not, ◌==◌, ◌≡◌, ◌+◌, ◌-◌, ◌*◌, ◌%◌, ◌^◌, ◌<◌}
 use Rattle.std.proofs.Common.{◌≤◌, List, length, slice_index, refl, arith, ap, sym, subst, inl, inr, ◌∙◌}
 use Rattle.std.proofs.lemmas.Bool.{cases_eq, cases_Bool, eq-eqb, ne_eqb, eqb-true, eqb-false}
-use Rattle.place_sums.specs.Sums.{total, when}
-use Rattle.place_sums.proofs.Totals.{total_more, total_same, total_zero, total_exchange, total_pick, total_most}
-use Rattle.circulation.specs.Residual.{arc_of, is_back, by_way}
+use Rattle.finite_sums.specs.Sums.{total, when}
+use Rattle.finite_sums.proofs.Totals.{total_more, total_same, total_zero, total_exchange, total_pick, total_most}
+use Rattle.circulation.specs.Residual.{arc_of, is_backward, by_direction}
 use Rattle.circulation.specs.Rows.{Rows, IsInRow, IsRow}
 
 -- no test is true and false
@@ -62,7 +62,7 @@ sum_over n arcs v at number key g test h =
 -- the steps backward of a row go over the arcs that enter its node
 pub row_inflow : (from to : List ℕ) (r : Rows) (v : ℕ) (g : ℕ → ℕ) → IsRow from to r v →
     total (slice_index r.first (v + 1) - slice_index r.first v)
-    (λ k. when (is_back (slice_index r.step (slice_index r.first v + k)))
+    (λ k. when (is_backward (slice_index r.step (slice_index r.first v + k)))
     (g (arc_of (slice_index r.step (slice_index r.first v + k)))))
     ≡ total (length from) (λ a. when (slice_index to a == v) (g a))
 row_inflow from to r v g row =
@@ -73,17 +73,18 @@ row_inflow from to r v g row =
     let order = row.order in
     let inside : (k : ℕ) → k < n → IsInRow r v (first + k) = λ k b. record
     { from = omega arith; below = omega arith } in
-    sum_over n (length from) v at (λ a. 2 * a + 1) (slice_index to) g is_back record {
+    sum_over n (length from) v at (λ a. 2 * a + 1) (slice_index to) g is_backward record {
       passes = λ k b back.
           let odd = eqb-true (at k % 2) 1 back in
           ((row.leads (first + k) (inside k b)).arc, omega (arith, odd));
       numbers = λ k a b c is.
-          let back : is_back (at k) ≡ true = eq-eqb (at k % 2) 1 (omega (arith, is)) in
+          let back : is_backward (at k) ≡ true = eq-eqb (at k % 2) 1 (omega (arith, is)) in
           let arc : arc_of (at k) ≡ a = omega (arith, is) in (
             back,
             (
               ap (slice_index to) (sym arc)
-                  ∙ sym (ap (λ (t : Bool). by_way t (slice_index from (arc_of (at k))) (slice_index to (arc_of (at k))))
+                  ∙ sym (ap (λ (t : Bool). by_direction t (slice_index from (arc_of (at k)))
+                  (slice_index to (arc_of (at k))))
                   back)
                   ∙ (row.leads (first + k) (inside k b)).start,
               arc,
@@ -91,9 +92,10 @@ row_inflow from to r v g row =
           );
       place = λ a b is.
           let arc : arc_of (2 * a + 1) ≡ a = omega arith in
-          let back : is_back (2 * a + 1) ≡ true = eq-eqb ((2 * a + 1) % 2) 1 (omega arith) in
+          let back : is_backward (2 * a + 1) ≡ true = eq-eqb ((2 * a + 1) % 2) 1 (omega arith) in
           let p = row.all (2 * a + 1) (omega (arith, arc))
-          (ap (λ (t : Bool). by_way t (slice_index from (arc_of (2 * a + 1))) (slice_index to (arc_of (2 * a + 1))))
+          (ap (λ (t : Bool). by_direction t (slice_index from (arc_of (2 * a + 1)))
+          (slice_index to (arc_of (2 * a + 1))))
           back
           ∙ ap (slice_index to) arc ∙ is) in
           let from = p.1.0.from in
@@ -106,7 +108,7 @@ row_inflow from to r v g row =
 -- and those forward over the arcs that leave it
 pub row_outflow : (from to : List ℕ) (r : Rows) (v : ℕ) (g : ℕ → ℕ) → IsRow from to r v →
     total (slice_index r.first (v + 1) - slice_index r.first v)
-    (λ k. when (not (is_back (slice_index r.step (slice_index r.first v + k))))
+    (λ k. when (not (is_backward (slice_index r.step (slice_index r.first v + k))))
     (g (arc_of (slice_index r.step (slice_index r.first v + k)))))
     ≡ total (length from) (λ a. when (slice_index from a == v) (g a))
 row_outflow from to r v g row =
@@ -117,17 +119,18 @@ row_outflow from to r v g row =
     let order = row.order in
     let inside : (k : ℕ) → k < n → IsInRow r v (first + k) = λ k b. record
     { from = omega arith; below = omega arith } in
-    sum_over n (length from) v at (λ a. 2 * a) (slice_index from) g (λ s. not (is_back s)) record {
+    sum_over n (length from) v at (λ a. 2 * a) (slice_index from) g (λ s. not (is_backward s)) record {
       passes = λ k b forth.
-          let even = eqb-false (at k % 2) 1 (not_true (is_back (at k)) forth) in
+          let even = eqb-false (at k % 2) 1 (not_true (is_backward (at k)) forth) in
           ((row.leads (first + k) (inside k b)).arc, omega (arith, even));
       numbers = λ k a b c is.
-          let forth : is_back (at k) ≡ false = ne_eqb (at k % 2) 1 (λ e. absurd (omega (arith, is, e))) in
+          let forth : is_backward (at k) ≡ false = ne_eqb (at k % 2) 1 (λ e. absurd (omega (arith, is, e))) in
           let arc : arc_of (at k) ≡ a = omega (arith, is) in (
             ap not forth,
             (
               ap (slice_index from) (sym arc)
-                  ∙ sym (ap (λ (t : Bool). by_way t (slice_index from (arc_of (at k))) (slice_index to (arc_of (at k))))
+                  ∙ sym (ap (λ (t : Bool). by_direction t (slice_index from (arc_of (at k)))
+                  (slice_index to (arc_of (at k))))
                   forth)
                   ∙ (row.leads (first + k) (inside k b)).start,
               arc,
@@ -135,9 +138,9 @@ row_outflow from to r v g row =
           );
       place = λ a b is.
           let arc : arc_of (2 * a) ≡ a = omega arith in
-          let forth : is_back (2 * a) ≡ false = ne_eqb (2 * a % 2) 1 (λ e. absurd (omega (arith, e))) in
+          let forth : is_backward (2 * a) ≡ false = ne_eqb (2 * a % 2) 1 (λ e. absurd (omega (arith, e))) in
           let p = row.all (2 * a) (omega (arith, arc))
-          (ap (λ (t : Bool). by_way t (slice_index from (arc_of (2 * a))) (slice_index to (arc_of (2 * a)))) forth
+          (ap (λ (t : Bool). by_direction t (slice_index from (arc_of (2 * a))) (slice_index to (arc_of (2 * a)))) forth
           ∙ ap (slice_index from) arc ∙ is) in
           let from = p.1.0.from in
           let below = p.1.0.below in

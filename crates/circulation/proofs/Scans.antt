@@ -3,7 +3,7 @@ use Rattle.std.proofs.Common.{ℕ, Bool, true, false, ◌≡◌, ◌+◌, ◌<�
 use Rattle.std.proofs.Common.{inr, ◌∙◌}
 use Rattle.std.proofs.lemmas.Bool.{cases_lt}
 use Rattle.circulation.specs.Contents.{Contents, network, arcs, IsCirculation}
-use Rattle.circulation.specs.Residual.{arc_of, is_back, by_way, start_of, end_of}
+use Rattle.circulation.specs.Residual.{arc_of, is_backward, by_direction, start_of, end_of}
 use Rattle.circulation.specs.Rows.{IsInRow}
 
 -- of the row of the node v, the steps before a place are done
@@ -28,13 +28,13 @@ pub record IsAt (c : Contents) (v s u : ℕ) : Type 0 where
   pub inside : u ≤ c.nodes
 
 -- what bounds both bounds either
-pub by_way_both : (back : Bool) (x y n : ℕ) → x ≤ n → y ≤ n → by_way back x y ≤ n
-by_way_both back x y n a b = elim back as (λ t. by_way t x y ≤ n) [ true ↦ b | false ↦ a ]
+pub by_direction_both : (back : Bool) (x y n : ℕ) → x ≤ n → y ≤ n → by_direction back x y ≤ n
+by_direction_both back x y n a b = elim back as (λ t. by_direction t x y ≤ n) [ true ↦ b | false ↦ a ]
 
 -- a step enters a node
 pub end_within : (c : Contents) (s : ℕ) → IsCirculation c → arc_of s < arcs c → end_of (network c) s ≤ c.nodes
 end_within c s k b =
-    by_way_both (is_back s) (slice_index c.to (arc_of s)) (slice_index c.from (arc_of s)) c.nodes
+    by_direction_both (is_backward s) (slice_index c.to (arc_of s)) (slice_index c.from (arc_of s)) c.nodes
     (k.ends.to_in (arc_of s) b) (k.ends.from_in (arc_of s) b)
 
 -- the step of a scan

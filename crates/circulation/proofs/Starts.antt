@@ -45,18 +45,18 @@ month-words circ c kept old new supply upper start w count s is =
 
 -- are those that the words tell
 told_frame : (circ : Circulation) (c : Contents) (kept s l u f x : List ℕ) → AreFixedOf circ c kept →
-    let behind = drop circ.arcs kept in let last = drop (2 * circ.arcs) behind in
+    let after = drop circ.arcs kept in let last = drop (2 * circ.arcs) after in
     contents_of c.nodes c.from c.to s l u f x c.rows.first c.rows.step c.rows.end
     ≡ contents_of circ.nodes (map tail_of (take circ.arcs kept)) (map head_of (take circ.arcs kept)) s l u f x
-    (drop (2 * circ.arcs) last) (take (2 * circ.arcs) behind) (take (2 * circ.arcs) last)
+    (drop (2 * circ.arcs) last) (take (2 * circ.arcs) after) (take (2 * circ.arcs) last)
 told_frame circ c kept s l u f x w =
     let n = circ.arcs in
     let pairs : take n kept ≡ w.pairs = ap (take n) w.fixed ∙ take_at w.pairs _ n w.arcs in
-    let behind : drop n kept ≡ c.rows.step ++ (c.rows.end ++ c.rows.first) = ap (drop n) w.fixed
+    let after : drop n kept ≡ c.rows.step ++ (c.rows.end ++ c.rows.first) = ap (drop n) w.fixed
     ∙ drop_at w.pairs _ n w.arcs in
-    let step : take (2 * n) (drop n kept) ≡ c.rows.step = ap (take (2 * n)) behind
+    let step : take (2 * n) (drop n kept) ≡ c.rows.step = ap (take (2 * n)) after
     ∙ take_at c.rows.step _ (2 * n) w.steps in
-    let last : drop (2 * n) (drop n kept) ≡ c.rows.end ++ c.rows.first = ap (drop (2 * n)) behind
+    let last : drop (2 * n) (drop n kept) ≡ c.rows.end ++ c.rows.first = ap (drop (2 * n)) after
     ∙ drop_at c.rows.step _ (2 * n) w.steps in
     let ends : length c.rows.end ≡ 2 * n = w.circulation.rows.ends ∙ w.steps in
     let end : take (2 * n) (drop (2 * n) (drop n kept)) ≡ c.rows.end = ap (take (2 * n)) last

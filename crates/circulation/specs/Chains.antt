@@ -1,6 +1,6 @@
 -- How rows are made: the steps are chained by the node that they leave, in turn, and then written row by row.
 use Rattle.std.specs.Prelude.{ℕ, ◌≡◌, ◌+◌, ◌^◌, ◌<◌, ◌≤◌, ◌≢◌, List, ◌++◌, length, map, slice_index}
-use Rattle.circulation.specs.Residual.{arc_of, is_back, by_way, start_of}
+use Rattle.circulation.specs.Residual.{arc_of, is_backward, by_direction, start_of}
 use Rattle.circulation.specs.Rows.{over, Leads}
 use Rattle.circulation.specs.Places.{tail_of, head_of}
 
@@ -31,7 +31,7 @@ pub record AreChains (keys : List ℕ) (nodes : ℕ) (first next : List ℕ) : T
 
 -- the turn of a step: those forward come first, by arc, and then those backward
 abbrev pub turn_of : ℕ → ℕ → ℕ
-turn_of arcs s = by_way (is_back s) (arc_of s) (arcs + arc_of s)
+turn_of arcs s = by_direction (is_backward s) (arc_of s) (arcs + arc_of s)
 
 -- the places from `first` to below `last` have the steps that leave the node v, with the nodes that they enter, as far
 -- as

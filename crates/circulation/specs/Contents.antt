@@ -38,8 +38,8 @@ flow_of c a = slice_index c.flow a
 
 -- the lists have their lengths
 pub record HasShape (c : Contents) : Type 0 where
-  pub few_nodes : c.nodes < 2 ^ 32
-  pub few_arcs : length c.from < 2 ^ 32
+  pub bounded_nodes : c.nodes < 2 ^ 32
+  pub bounded_arcs : length c.from < 2 ^ 32
   pub to : length c.to ≡ length c.from
   pub supply : length c.supply ≡ c.nodes
   pub lower : length c.lower ≡ length c.from

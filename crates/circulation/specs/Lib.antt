@@ -5,4 +5,4 @@ pub mod Chains
 pub mod Contents
 pub mod Places
 pub mod Laid
-pub mod LentWords
+pub mod BorrowedWords

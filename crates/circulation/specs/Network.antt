@@ -1,7 +1,7 @@
 -- Flows with lower and upper bounds on the arcs of a network, and the cuts of an arc, after Ahuja, Magnanti
 -- and Orlin, Network Flows (1993), chapters 1 and 6. All amounts are in units of 1,000 cubic metres.
 use Rattle.std.specs.Prelude.{ℕ, ◌≡◌, ◌+◌, ◌<◌, ◌≤◌, ◌==◌, ◌&&◌, not, Bool, true, false, List, [], ◌∷◌, ◌≢◌}
-use Rattle.place_sums.specs.Sums.{total, when}
+use Rattle.finite_sums.specs.Sums.{total, when}
 
 -- basin nodes 0, 1, .. with supplies, and arcs 0, 1, .. with ends and bounds
 pub record Network : Type 0 where

@@ -23,7 +23,7 @@ fn pack(ends: &[Ends], pairs: &mut [u64])
 
 /// Writes the rows of the steps into words that are 0. The chains of which they are made lie in spare words.
 fn lay_rows(nodes: u32, pairs: &[u64], rows: &mut [u64], spare: &mut [u64])
-    requires few { length pairs.now < 2 ^ 32 }
+    requires bounded { length pairs.now < 2 ^ 32 }
     requires from { (a : ℕ) → a < length pairs.now → slice_index (tails_of pairs.now) a ≤ nodes }
     requires to { (a : ℕ) → a < length pairs.now → slice_index (heads_of pairs.now) a ≤ nodes }
     requires rows { length rows.old ≡ 4 * length pairs.now + nodes + 2 }
@@ -41,7 +41,7 @@ fn lay_rows(nodes: u32, pairs: &[u64], rows: &mut [u64], spare: &mut [u64])
 
 /// Writes the words that never change: the ends, and the rows of the steps.
 fn lay_fixed(nodes: u32, ends: &[Ends], fixed: &mut [u64], spare: &mut [u64])
-    requires few { length ends.now < 2 ^ 32 }
+    requires bounded { length ends.now < 2 ^ 32 }
     requires ends { All (λ e. (e.from ≤ nodes) × (e.to ≤ nodes) × (e.from ≢ e.to)) ends.now }
     requires fixed { length fixed.old ≡ fixed_count nodes (length ends.now) }
     requires none { (p : ℕ) → slice_index fixed.old p ≡ 0 }
@@ -55,7 +55,7 @@ fn lay_fixed(nodes: u32, ends: &[Ends], fixed: &mut [u64], spare: &mut [u64])
 
 /// Writes the words of a circulation without supplies, bounds and flow into words that are 0.
 pub fn lay(nodes: u32, ends: &[Ends], words: &mut [u64])
-    requires few { length ends.now < 2 ^ 32 }
+    requires bounded { length ends.now < 2 ^ 32 }
     requires ends { All (λ e. (e.from ≤ nodes) × (e.to ≤ nodes) × (e.from ≢ e.to)) ends.now }
     requires none { words.old ≡ replicate (word_count nodes (length ends.now)) 0 }
     ensures count { length words.new ≡ word_count nodes (length ends.now) }

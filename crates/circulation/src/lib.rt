@@ -5,8 +5,8 @@
 //! numbered 0, 1, .. and the one node outside the basin, which need not be in balance, comes after
 //! them. All amounts are in units of 1,000 cubic metres.
 //!
-//! A circulation lies in one place of a region of words. A month works on its words through `Lent`, which borrows them:
-//! no call takes memory.
+//! A circulation lies in one place of a region of words. A month works on its words through `CirculationMut`, which
+//! borrows them: no call takes memory.
 #![tactic(auto)]
 
 ghost use Rattle.std.specs.Prelude.{IsTrue, ◌↔◌, ◌≡◌, ◌+◌, ◌-◌, ◌*◌, ◌^◌, ◌<◌, ◌≤◌, ◌≢◌, length};
@@ -18,13 +18,13 @@ ghost use Rattle.circulation.specs.Places.{word_count, fixed_count, tails, heads
 ghost use Rattle.word_region.specs.Words.{words_at};
 ghost use Rattle.word_region.specs.declared.Place.{Place};
 
+mod circulation_mut;
 mod laying;
-mod lent;
 pub mod residual;
 mod rows;
 
+pub use crate::circulation_mut::CirculationMut;
 use crate::laying::lay;
-pub use crate::lent::Lent;
 use word_region::{Full, Place, Region};
 
 /// Every end of an arc is less than this: a word has the tail of an arc times this, plus its head.
@@ -50,7 +50,7 @@ pub struct Circulation {
     pub arcs: u32,
 }
 
-/// How many words a circulation of so many basin nodes and arcs takes.
+/// How many words a circulation of a given number of basin nodes and arcs takes.
 pub fn words(nodes: u32, arcs: u32) -> usize
     ensures { result ≡ word_count nodes arcs }
 {
@@ -70,7 +70,7 @@ impl Circulation {
     /// `words(nodes, arcs)` words are free; then the region is unchanged. All other places stay, and no memory is
     /// taken.
     pub fn open(nodes: u32, ends: &[Ends], region: &mut Region) -> Result<Circulation, Full>
-        requires few { length ends.now < 2 ^ 32 }
+        requires bounded { length ends.now < 2 ^ 32 }
         requires ends { All (λ e. (e.from ≤ nodes) × (e.to ≤ nodes) × (e.from ≢ e.to)) ends.now }
         ensures numbers { IfOk result (λ c. c ≡ record {
           place = record { from = region.old.used; len = word_count nodes (length ends.now) };
@@ -101,7 +101,7 @@ impl Circulation {
     }
 
     /// The circulation whose words these are: those that never change, and those that do. A month works on it.
-    pub fn lend<'r>(&self, fixed: &'r [u64], moving: &'r mut [u64]) -> Lent<'r>
+    pub fn lend<'r>(&self, fixed: &'r [u64], moving: &'r mut [u64]) -> CirculationMut<'r>
         requires { (c : Contents) × AreWordsOf self.now c fixed.now moving.old }
         ensures { (c : Contents) → AreWordsOf self.now c fixed.now moving.old → result ≡ c }
     {
@@ -115,7 +115,7 @@ impl Circulation {
         let (lower, moving) = moving.split_at_mut(arcs);
         let (supply, moving) = moving.split_at_mut(basin);
         let (scratch, _unused) = moving.split_at_mut(4 * basin + 8);
-        Lent {
+        CirculationMut {
             nodes: self.nodes,
             ends,
             step,
@@ -139,10 +139,10 @@ impl Circulation {
         supply: &[u64],
         upper: &[u64],
         start: &[u64],
-    ) -> Lent<'r>
+    ) -> CirculationMut<'r>
         requires count { length moving.old ≡
             word_count self.now.nodes self.now.arcs - fixed_count self.now.nodes self.now.arcs }
-        requires few { length start.now ≤ self.now.arcs }
+        requires bounded { length start.now ≤ self.now.arcs }
         requires start { (c : Contents) × (AreFixedOf self.now c fixed.now ×
             IsStart c supply.now upper.now (on_last self.now.arcs start.now)) }
         ensures { (c : Contents) → AreFixedOf self.now c fixed.now →

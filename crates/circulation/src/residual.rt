@@ -3,10 +3,10 @@ ghost use Rattle.std.specs.Prelude.{◌≡◌, true, false, ◌+◌, ◌-◌, �
 ghost use Rattle.circulation.specs.Contents.{arcs, flow_of, network, IsCirculation};
 ghost use Rattle.circulation.specs.Residual.{arc_of, room_of, start_of, end_of, opposite};
 
-use crate::lent::Lent;
+use crate::circulation_mut::CirculationMut;
 
 /// The arc that a step goes over.
-pub fn arc_of_step(circ: &Lent<'_>, step: u64) -> u32
+pub fn arc_of_step(circ: &CirculationMut<'_>, step: u64) -> u32
     requires arc { arc_of step < arcs circ.now }
     requires kept { IsCirculation circ.now }
     ensures { result ≡ arc_of step }
@@ -15,7 +15,7 @@ pub fn arc_of_step(circ: &Lent<'_>, step: u64) -> u32
 }
 
 /// How much more a step can carry.
-pub fn room(circ: &Lent<'_>, step: u64) -> u64
+pub fn room(circ: &CirculationMut<'_>, step: u64) -> u64
     requires arc { arc_of step < arcs circ.now }
     requires kept { IsCirculation circ.now }
     ensures { result ≡ room_of (network circ.now) (flow_of circ.now) step }
@@ -29,7 +29,7 @@ pub fn room(circ: &Lent<'_>, step: u64) -> u64
 }
 
 /// The node that a step leaves.
-pub fn start(circ: &Lent<'_>, step: u64) -> u32
+pub fn start(circ: &CirculationMut<'_>, step: u64) -> u32
     requires arc { arc_of step < arcs circ.now }
     requires kept { IsCirculation circ.now }
     ensures { result ≡ start_of (network circ.now) step }
@@ -39,7 +39,7 @@ pub fn start(circ: &Lent<'_>, step: u64) -> u32
 }
 
 /// The node that a step enters.
-pub fn end(circ: &Lent<'_>, step: u64) -> u32
+pub fn end(circ: &CirculationMut<'_>, step: u64) -> u32
     requires arc { arc_of step < arcs circ.now }
     requires kept { IsCirculation circ.now }
     ensures { result ≡ end_of (network circ.now) step }
@@ -49,7 +49,7 @@ pub fn end(circ: &Lent<'_>, step: u64) -> u32
 }
 
 /// The step over the same arc the other way.
-pub fn opposite(circ: &Lent<'_>, step: u64) -> u64
+pub fn opposite(circ: &CirculationMut<'_>, step: u64) -> u64
     requires arc { arc_of step < arcs circ.now }
     requires kept { IsCirculation circ.now }
     ensures { result ≡ opposite step }

@@ -25,7 +25,7 @@ fn key(pairs: &[u64], turn: usize) -> usize
 
 /// Chains each turn to the next one with its key, from the last turn to the first. The number of turns stands for none.
 fn link(first: &mut [u64], next: &mut [u64], pairs: &[u64])
-    requires few { length pairs.now < 2 ^ 32 }
+    requires bounded { length pairs.now < 2 ^ 32 }
     requires nexts { length next.old ≡ 2 * length pairs.now }
     requires within { (a : ℕ) → a < length (keys_of pairs.now) → slice_index (keys_of pairs.now) a < length first.old }
     requires none { (v : ℕ) → v < length first.old → slice_index first.old v ≡ length (keys_of pairs.now) }
@@ -40,9 +40,9 @@ fn link(first: &mut [u64], next: &mut [u64], pairs: &[u64])
     }
 }
 
-/// The step of a turn, among so many arcs.
+/// The step of a turn, among a given number of arcs.
 fn step_in_turn(arcs: u64, turn: u64) -> u64
-    requires few { arcs < 2 ^ 32 }
+    requires bounded { arcs < 2 ^ 32 }
     requires turn { turn < 2 * arcs }
     ensures arc { arc_of result < arcs }
     ensures turn { turn_of arcs result ≡ turn }
@@ -78,7 +78,7 @@ fn write_row(
     ends: &mut [u64],
     first: usize,
 ) -> usize
-    requires few { length pairs.now < 2 ^ 32 }
+    requires bounded { length pairs.now < 2 ^ 32 }
     requires node { node < length heads.now }
     requires chains { (n : ℕ) × AreChains (keys_of pairs.now) n heads.now next.now }
     requires steps { length step.old ≡ 2 * length pairs.now }
@@ -116,7 +116,7 @@ fn write_rows(
     ends: &mut [u64],
     first: &mut [u64],
 )
-    requires few { length pairs.now < 2 ^ 32 }
+    requires bounded { length pairs.now < 2 ^ 32 }
     requires chains { AreChains (keys_of pairs.now) nodes heads.now next.now }
     requires steps { length step.old ≡ 2 * length pairs.now }
     requires ends { length ends.old ≡ length step.old }
@@ -145,7 +145,7 @@ pub fn make_rows(
     ends: &mut [u64],
     first: &mut [u64],
 )
-    requires few { length pairs.now < 2 ^ 32 }
+    requires bounded { length pairs.now < 2 ^ 32 }
     requires from { (a : ℕ) → a < length pairs.now → slice_index (tails_of pairs.now) a ≤ nodes }
     requires to { (a : ℕ) → a < length pairs.now → slice_index (heads_of pairs.now) a ≤ nodes }
     requires heads { length heads.old ≡ nodes + 1 }

@@ -6,23 +6,23 @@ use Rattle.std.specs.Prelude.{◌==◌, filter, sum_by}
 use Rattle.std.specs.List.{flat_map}
 use Rattle.std.proofs.lemmas.Bool.Decides.{nat_tests}
 use Rattle.std.proofs.lemmas.List.Sums.{sum_by-cons, sum_by-append}
-use Rattle.place_sums.specs.Sums.{total, total_where, greatest_where}
-use Rattle.place_sums.proofs.Totals.{total_first, total_same}
+use Rattle.finite_sums.specs.Sums.{total, total_where, greatest_where}
+use Rattle.finite_sums.proofs.Totals.{total_first, total_same}
 use Rattle.water_model.specs.Basin.{is_on_link, is_senior}
 use Rattle.water_model.specs.Cuts.{enters, leaves, takes_within, kept_on, cut_capacity, cut_kept}
 use Rattle.water_model.specs.Lookups.{has}
-use Rattle.water_model.specs.Places.{numbers_from, places_of, put_right, sort_rights, by_seniority, seniors_first}
+use Rattle.water_model.specs.Indices.{numbers_from, indices_of, put_right, sort_rights, by_seniority, seniors_first}
 use Rattle.water_model.specs.Plans.{carry_of}
 use Rattle.water_model.specs.declared.types.Basin.{Basin}
 use Rattle.water_model.specs.declared.types.MonthRecord.{MonthRecord}
 use Rattle.water_model.specs.declared.types.Right.{Right}
 use Rattle.water_model.proofs.Order.{seniors_have, find-none}
-use Rattle.cut_book.specs.Book.{counts, terms_at, keep_terms, lines_at, lines_in, places_in, terms}
+use Rattle.cut_book.specs.Book.{counts, terms_at, keep_terms, lines_at, lines_in, indices_in, terms}
 use Rattle.cut_book.specs.Entries.{brought, kept, amount_of, has_amount}
 use Rattle.cut_book.specs.Holders.{holder_of, holds_amount}
 use Rattle.cut_book.specs.Laws.{LinesMakeBound, TightBooksSumToDelivery}
-use Rattle.cut_book.specs.declared.entry.Entry.{Entry}
-use Rattle.cut_book.specs.declared.entry.Entry.TheVariants as line
+use Rattle.cut_book.specs.declared.entry.BookLine.{BookLine}
+use Rattle.cut_book.specs.declared.entry.BookLine.TheVariants as line
 use Rattle.cut_book.specs.declared.part.Part.{Part}
 use Rattle.cut_book.specs.declared.part.Part.TheVariants as part
 
@@ -58,8 +58,8 @@ sum_numbers g (suc n) from =
     at_first : from ≡ from + 0
     at_first = omega arith
 
-sum_places : {X : Type 0} (g : ℕ → ℕ) (xs : List X) → sum_by g (places_of xs) ≡ total (length xs) g
-sum_places g xs = sum_numbers g (length xs) 0 ∙ total_same (length xs) (λ k. g (0 + k)) g (λ k l. ap g (at k))
+sum_indices : {X : Type 0} (g : ℕ → ℕ) (xs : List X) → sum_by g (indices_of xs) ≡ total (length xs) g
+sum_indices g xs = sum_numbers g (length xs) 0 ∙ total_same (length xs) (λ k. g (0 + k)) g (λ k l. ap g (at k))
   where
     at : (k : ℕ) → 0 + k ≡ k
     at k = omega arith
@@ -81,11 +81,11 @@ sum_sort rights g (x ∷ xs) =
 
 sum_seniors : (b : Basin) (g : ℕ → ℕ) → sum_by g (seniors_first b) ≡ total (length b.rights) g
 unfolding by_seniority
-sum_seniors b g = sum_sort b.rights g (places_of b.rights) ∙ sum_places g b.rights
+sum_seniors b g = sum_sort b.rights g (indices_of b.rights) ∙ sum_indices g b.rights
 
 -- Lines of amount 0 add nothing.
 
-sum_filtered : (g : Entry → ℕ) (es : List Entry) → ((e : Entry) → g e ≤ amount_of e) →
+sum_filtered : (g : BookLine → ℕ) (es : List BookLine) → ((e : BookLine) → g e ≤ amount_of e) →
     sum_by g (filter has_amount es) ≡ sum_by g es
 sum_filtered g [] most = refl
 sum_filtered g (e ∷ es) most = by_test (has_amount e) refl (sum_filtered g es most)
@@ -100,7 +100,7 @@ sum_filtered g (e ∷ es) most = by_test (has_amount e) refl (sum_filtered g es 
     by_test false h rest =
         rw h (rest ∙ (omega (arith, nothing (g e) (amount_of e) h (most e)) ∙ sym (sum_by-cons g e es)))
 
-brought_most : (e : Entry) → brought e ≤ amount_of e
+brought_most : (e : BookLine) → brought e ≤ amount_of e
 brought_most (line.Why month right amount want) = omega arith
 brought_most (line.Supply node amount) = omega arith
 brought_most (line.Enter link amount) = omega arith
@@ -108,7 +108,7 @@ brought_most (line.Keep link amount holder) = omega arith
 brought_most (line.Take right amount) = omega arith
 brought_most (line.Sum amount) = omega arith
 
-kept_most : (e : Entry) → kept e ≤ amount_of e
+kept_most : (e : BookLine) → kept e ≤ amount_of e
 kept_most (line.Why month right amount want) = omega arith
 kept_most (line.Supply node amount) = omega arith
 kept_most (line.Enter link amount) = omega arith
@@ -116,17 +116,17 @@ kept_most (line.Keep link amount holder) = omega arith
 kept_most (line.Take right amount) = omega arith
 kept_most (line.Sum amount) = omega arith
 
-one : (g : Entry → ℕ) (e : Entry) → sum_by g (e ∷ []) ≡ g e
+one : (g : BookLine → ℕ) (e : BookLine) → sum_by g (e ∷ []) ≡ g e
 one g e = sum_by-cons g e [] ∙ omega arith
 
 -- the lines of a part, by what its terms are worth
-sum_part : (g : Entry → ℕ) (p : Part) (b : Basin) (m : MonthRecord) (right : ℕ) (set : List Bool) (value : ℕ → ℕ) →
-    ((e : Entry) → g e ≤ amount_of e) → ((k : ℕ) → sum_by g (terms_at p b m right k) ≡ value k) →
-    sum_by g (lines_in p b m right set) ≡ sum_by (λ k. if counts p b right set k then value k else 0) (places_in p b)
+sum_part : (g : BookLine → ℕ) (p : Part) (b : Basin) (m : MonthRecord) (right : ℕ) (set : List Bool) (value : ℕ → ℕ) →
+    ((e : BookLine) → g e ≤ amount_of e) → ((k : ℕ) → sum_by g (terms_at p b m right k) ≡ value k) →
+    sum_by g (lines_in p b m right set) ≡ sum_by (λ k. if counts p b right set k then value k else 0) (indices_in p b)
 sum_part g p b m right set value most is =
-    sum_flat g (lines_at p b m right set) (places_in p b)
+    sum_flat g (lines_at p b m right set) (indices_in p b)
     ∙ sum_same (λ k. sum_by g (lines_at p b m right set k)) (λ k. if counts p b right set k then value k else 0)
-    (places_in p b) (λ k. at k (counts p b right set k))
+    (indices_in p b) (λ k. at k (counts p b right set k))
   where
     at : (k : ℕ) (t : Bool) →
         sum_by g (if t then filter has_amount (terms_at p b m right k) else []) ≡ (if t then value k else 0)
@@ -134,9 +134,9 @@ sum_part g p b m right set value most is =
     at k false = refl
 
 nothing_in : (p : Part) (b : Basin) (right : ℕ) (set : List Bool) →
-    sum_by (λ k. if counts p b right set k then 0 else 0) (places_in p b) ≡ 0
+    sum_by (λ k. if counts p b right set k then 0 else 0) (indices_in p b) ≡ 0
 nothing_in p b right set =
-    sum_none (λ k. if counts p b right set k then 0 else 0) (places_in p b) (λ k. same_at (counts p b right set k) 0)
+    sum_none (λ k. if counts p b right set k then 0 else 0) (indices_in p b) (λ k. same_at (counts p b right set k) 0)
   where
     same_at : (t : Bool) (x : ℕ) → (if t then x else x) ≡ x
     same_at true x = refl
@@ -245,7 +245,7 @@ no_brought b m right link = by_holder (holder_of b m.delivered link (kept_on b m
     by_holder (Some holder) = one brought (line.Keep link (kept_on b m.delivered right link) holder)
 
 -- all parts
-sum_terms : (g : Entry → ℕ) (b : Basin) (m : MonthRecord) (right : ℕ) (set : List Bool) (s e k t : ℕ) →
+sum_terms : (g : BookLine → ℕ) (b : Basin) (m : MonthRecord) (right : ℕ) (set : List Bool) (s e k t : ℕ) →
     sum_by g (lines_in part.Supplies b m right set) ≡ s → sum_by g (lines_in part.Enters b m right set) ≡ e →
     sum_by g (lines_in part.Keeps b m right set) ≡ k → sum_by g (lines_in part.Takes b m right set) ≡ t →
     sum_by g (terms b m right set) ≡ s + e + k + t
@@ -273,10 +273,10 @@ brought_is_capacity b m right set =
     (total_where (length b.links) (λ e. enters b set e) (λ e. carry_of b m.month e)) 0 0
     (sum_part brought part.Supplies b m right set (λ n. slice_index m.supply n) brought_most
     (λ n. one brought (line.Supply n (slice_index m.supply n)))
-    ∙ sum_places (λ n. if has set n then slice_index m.supply n else 0) b.nodes)
+    ∙ sum_indices (λ n. if has set n then slice_index m.supply n else 0) b.nodes)
     (sum_part brought part.Enters b m right set (λ e. carry_of b m.month e) brought_most
     (λ e. one brought (line.Enter e (carry_of b m.month e)))
-    ∙ sum_places (λ e. if enters b set e then carry_of b m.month e else 0) b.links)
+    ∙ sum_indices (λ e. if enters b set e then carry_of b m.month e else 0) b.links)
     (sum_part brought part.Keeps b m right set (λ e. 0) brought_most (no_brought b m right)
     ∙ nothing_in part.Keeps b right set)
     (sum_part brought part.Takes b m right set (λ s. 0) brought_most
@@ -295,7 +295,7 @@ kept_is_kept b m right set =
     (sum_part kept part.Enters b m right set (λ e. 0) kept_most (λ e. one kept (line.Enter e (carry_of b m.month e)))
     ∙ nothing_in part.Enters b right set)
     (sum_part kept part.Keeps b m right set (λ e. kept_on b m.delivered right e) kept_most (kept_terms b m right)
-    ∙ sum_places (λ e. if leaves b set e && not (is_on_link b right e) then kept_on b m.delivered right e else 0)
+    ∙ sum_indices (λ e. if leaves b set e && not (is_on_link b right e) then kept_on b m.delivered right e else 0)
     b.links)
     (sum_part kept part.Takes b m right set (λ s. slice_index m.delivered s) kept_most
     (λ s. one kept (line.Take s (slice_index m.delivered s)))

@@ -4,17 +4,17 @@ use Rattle.std.proofs.Common.{arith}
 use Rattle.std.specs.Prelude.{codes, filter}
 use Rattle.std.specs.List.{flat_map}
 use Rattle.std.specs.Fmt.{digits}
-use Rattle.place_sums.specs.Sums.{greatest_where}
+use Rattle.finite_sums.specs.Sums.{greatest_where}
 use Rattle.water_text.specs.Months.{days_of}
 use Rattle.water_text.proofs.DayNumbers.{days_in-days_in_month}
-use Rattle.water_model.specs.Places.{numbers_from, by_seniority}
+use Rattle.water_model.specs.Indices.{numbers_from, by_seniority}
 use Rattle.water_model.specs.declared.types.MonthRecord.{MonthRecord}
 use Rattle.water_model.proofs.Worked.{ordinary}
 use Rattle.cut_book.specs.Book.{book, book_bytes}
 use Rattle.cut_book.specs.Entries.{fields_of, whole_line, has_amount, balance_of}
 use Rattle.cut_book.specs.Holders.{holder_of}
-use Rattle.cut_book.specs.declared.entry.Entry.{Entry}
-use Rattle.cut_book.specs.declared.entry.Entry.TheVariants as line
+use Rattle.cut_book.specs.declared.entry.BookLine.{BookLine}
+use Rattle.cut_book.specs.declared.entry.BookLine.TheVariants as line
 
 -- the set of the lake's upper zone is all above the sea, and that of the canal company the farm alone
 abbrev above_sea : List Bool
@@ -59,10 +59,10 @@ live_text : book_bytes ordinary july 4 above_sea
 unfolding numbers_from by_seniority greatest_where holder_of whole_line fields_of digits
 live_text = refl
 
--- a book whose one term is what the canal carries, in a month of so many days
-abbrev canal_book : ℕ → List Entry
+-- a book whose one term is what the canal carries, in a month of a given number of days
+abbrev canal_book : ℕ → List BookLine
 canal_book days =
-    let entered : List Entry = (filter has_amount (line.Enter 5 (100 * days) ∷ []) ++ []) ++ [] in
+    let entered : List BookLine = (filter has_amount (line.Enter 5 (100 * days) ∷ []) ++ []) ++ [] in
     line.Why (record { year = 1960; month = 7 }) 0 3100 4000 ∷ (entered ++ line.Sum (balance_of entered) ∷ [])
 
 canalco_book : book ordinary july 0 by_farm ≡ canal_book (days_of (record { year = 1960; month = 7 }))

@@ -5,7 +5,7 @@ use Rattle.std.specs.Prelude.{slice_index, Option, Some, None, find, if◌then�
 use Rattle.std.proofs.lemmas.Bool.{cases_order}
 use Rattle.std.proofs.lemmas.Bool.Decides.{nat_tests}
 use Rattle.water_model.specs.Basin.{is_senior, is_at, instream_link}
-use Rattle.water_model.specs.Places.{seniors_first}
+use Rattle.water_model.specs.Indices.{seniors_first}
 use Rattle.water_model.specs.Rights.{AreStrict}
 use Rattle.water_model.specs.declared.types.Basin.{Basin}
 use Rattle.water_model.proofs.Duality.{not_senior_to_itself}
@@ -75,7 +75,7 @@ first_more b p n (Some at) strict l passes first = by_test (is_senior b n at) re
         | inr same ↦ inl same
         | inl before ↦ elim (first.2 s before q) [
           | inl is ↦ inr (ap (λ z. is_senior b n z) is ∙ e)
-          | inr behind ↦ inr (senior_trans b.rights n at s e behind)
+          | inr later ↦ inr (senior_trans b.rights n at s e later)
         ]
       ],
     )
@@ -119,7 +119,7 @@ first_is_found b p (Some at) strict first = by_find (find p (seniors_first b)) r
           | inl same ↦ ap Some same
           | inr before ↦ elim (first.2 c (seniors_below b.rights c is.1) is.0) [
             | inl same ↦ ap Some (sym same)
-            | inr behind ↦ absurd (never c (senior_trans b.rights c at c before behind))
+            | inr later ↦ absurd (never c (senior_trans b.rights c at c before later))
           ]
         ]
 

@@ -6,13 +6,13 @@ use Rattle.water_model.specs.Cuts.{IsTight}
 use Rattle.cut_cert.specs.Sets.{cut_at}
 use Rattle.cut_book.specs.Book.{account_bytes}
 use Rattle.cut_book.specs.Entries.{whole_line, balance_of}
-use Rattle.cut_book.specs.Shortages.{ShortageSeen, bytes_of, terms_of}
-use Rattle.cut_book.specs.declared.entry.Entry.{Entry}
-use Rattle.cut_book.specs.declared.entry.Entry.TheVariants as line
+use Rattle.cut_book.specs.Shortages.{ShortageView, bytes_of, terms_of}
+use Rattle.cut_book.specs.declared.entry.BookLine.{BookLine}
+use Rattle.cut_book.specs.declared.entry.BookLine.TheVariants as line
 use Rattle.cut_book.proofs.Adding.{tight_books_sum_to_delivery}
 
 -- the account of a tight cut: its terms, and the delivery
-pub account_pieces : (s : ShortageSeen) (sum : Entry) → sum ≡ line.Sum (slice_index s.month.delivered s.right) →
+pub account_pieces : (s : ShortageView) (sum : BookLine) → sum ≡ line.Sum (slice_index s.month.delivered s.right) →
     IsTight s.basin s.month.month s.month.supply s.month.delivered s.right (cut_at s.cuts s.right) →
     bytes_of s (terms_of s) ++ bytes_of s (sum ∷ []) ≡ account_bytes s.basin s.month s.right (cut_at s.cuts s.right)
 account_pieces s sum last tight =

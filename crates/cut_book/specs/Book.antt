@@ -5,23 +5,23 @@ use Rattle.std.specs.List.{flat_map}
 use Rattle.water_model.specs.Basin.{is_on_link, is_senior}
 use Rattle.water_model.specs.Cuts.{enters, leaves, takes_within, kept_on}
 use Rattle.water_model.specs.Lookups.{has}
-use Rattle.water_model.specs.Places.{places_of, seniors_first}
+use Rattle.water_model.specs.Indices.{indices_of, seniors_first}
 use Rattle.water_model.specs.Plans.{carry_of}
 use Rattle.water_model.specs.declared.types.Basin.{Basin}
 use Rattle.water_model.specs.declared.types.MonthRecord.{MonthRecord}
 use Rattle.cut_book.specs.Entries.{has_amount, balance_of, whole_line}
 use Rattle.cut_book.specs.Holders.{holder_of}
-use Rattle.cut_book.specs.declared.entry.Entry.{Entry}
-use Rattle.cut_book.specs.declared.entry.Entry.TheVariants as line
+use Rattle.cut_book.specs.declared.entry.BookLine.{BookLine}
+use Rattle.cut_book.specs.declared.entry.BookLine.TheVariants as line
 use Rattle.cut_book.specs.declared.part.Part.{Part}
 use Rattle.cut_book.specs.declared.part.Part.TheVariants as part
 
 -- what a part goes over: nodes and links in the order of the basin, rights seniors first
-abbrev pub places_in : Part → Basin → List ℕ
-places_in part.Supplies b = places_of b.nodes
-places_in part.Enters b = places_of b.links
-places_in part.Keeps b = places_of b.links
-places_in part.Takes b = seniors_first b
+abbrev pub indices_in : Part → Basin → List ℕ
+indices_in part.Supplies b = indices_of b.nodes
+indices_in part.Enters b = indices_of b.links
+indices_in part.Keeps b = indices_of b.links
+indices_in part.Takes b = seniors_first b
 
 abbrev pub count_in : Part → Basin → ℕ
 count_in part.Supplies b = length b.nodes
@@ -37,12 +37,12 @@ counts part.Keeps b right set link = leaves b set link && not (is_on_link b righ
 counts part.Takes b right set taker = takes_within b set taker && is_senior b taker right
 
 -- the term of a link on which an amount is kept for a holder
-abbrev pub keep_terms : ℕ → ℕ → Option ℕ → List Entry
+abbrev pub keep_terms : ℕ → ℕ → Option ℕ → List BookLine
 keep_terms link amount None = []
 keep_terms link amount (Some holder) = line.Keep link amount holder ∷ []
 
 -- and its term
-abbrev pub terms_at : Part → Basin → MonthRecord → ℕ → ℕ → List Entry
+abbrev pub terms_at : Part → Basin → MonthRecord → ℕ → ℕ → List BookLine
 terms_at part.Supplies b m right node = line.Supply node (slice_index m.supply node) ∷ []
 terms_at part.Enters b m right link = line.Enter link (carry_of b m.month link) ∷ []
 terms_at part.Keeps b m right link =
@@ -50,24 +50,24 @@ terms_at part.Keeps b m right link =
 terms_at part.Takes b m right taker = line.Take taker (slice_index m.delivered taker) ∷ []
 
 -- the lines of a part: its terms, without those of amount 0
-abbrev pub lines_at : Part → Basin → MonthRecord → ℕ → List Bool → ℕ → List Entry
-lines_at of_part b m right set place =
-    if counts of_part b right set place then filter has_amount (terms_at of_part b m right place) else []
+abbrev pub lines_at : Part → Basin → MonthRecord → ℕ → List Bool → ℕ → List BookLine
+lines_at of_part b m right set index =
+    if counts of_part b right set index then filter has_amount (terms_at of_part b m right index) else []
 
-abbrev pub lines_in : Part → Basin → MonthRecord → ℕ → List Bool → List Entry
-lines_in of_part b m right set = flat_map (lines_at of_part b m right set) (places_in of_part b)
+abbrev pub lines_in : Part → Basin → MonthRecord → ℕ → List Bool → List BookLine
+lines_in of_part b m right set = flat_map (lines_at of_part b m right set) (indices_in of_part b)
 
 -- all terms: supplies, links that enter, what is kept on links, and takes
-abbrev pub terms : Basin → MonthRecord → ℕ → List Bool → List Entry
+abbrev pub terms : Basin → MonthRecord → ℕ → List Bool → List BookLine
 terms b m right set =
     flat_map (λ p. lines_in p b m right set) (part.Supplies ∷ part.Enters ∷ part.Keeps ∷ part.Takes ∷ [])
 
 -- the account: the terms, and their sum
-abbrev pub account : Basin → MonthRecord → ℕ → List Bool → List Entry
+abbrev pub account : Basin → MonthRecord → ℕ → List Bool → List BookLine
 account b m right set = terms b m right set ++ line.Sum (balance_of (terms b m right set)) ∷ []
 
 -- the book: what the right got and wanted, and the account
-abbrev pub book : Basin → MonthRecord → ℕ → List Bool → List Entry
+abbrev pub book : Basin → MonthRecord → ℕ → List Bool → List BookLine
 book b m right set =
     line.Why m.month right (slice_index m.delivered right) (slice_index m.want right) ∷ account b m right set
 

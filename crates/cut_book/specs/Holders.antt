@@ -1,7 +1,7 @@
 -- For whom water is kept on a link.
 use Rattle.std.specs.Prelude.{ℕ, Bool, ◌&&◌, ◌==◌, List, find, slice_index, Option, Some, None, if◌then◌else◌}
 use Rattle.water_model.specs.Basin.{is_on_link, is_senior}
-use Rattle.water_model.specs.Places.{seniors_first}
+use Rattle.water_model.specs.Indices.{seniors_first}
 use Rattle.water_model.specs.declared.types.Basin.{Basin}
 
 -- whether a right is an instream right on a link that is delivered this amount

@@ -3,7 +3,7 @@ use water_text::month::Month;
 
 /// What one line of an account book says, by the basin's numbers. Amounts are in units of 1,000 cubic metres.
 #[derive(Clone, Copy, Debug, PartialEq, Eq)]
-pub enum Entry {
+pub enum BookLine {
     /// What the right was delivered in the month, and what it wanted.
     Why {
         month: Month,

@@ -14,5 +14,5 @@ mod shortage;
 mod spelling;
 mod writer;
 
-pub use entry::Entry;
+pub use entry::BookLine;
 pub use writer::{put_account, put_book};

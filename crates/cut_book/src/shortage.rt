@@ -1,12 +1,12 @@
 //! A right that is short in a month, and the terms of its account.
 ghost use Rattle.std.specs.Prelude.{◌≡◌, ◌∷◌, [], ◌<◌, filter, length, slice_index, IfSome};
 ghost use Rattle.std.specs.Option.{option_to_list};
-ghost use Rattle.water_model.specs.Places.{seniors_first};
+ghost use Rattle.water_model.specs.Indices.{seniors_first};
 ghost use Rattle.cut_book.specs.Book.{count_in};
 ghost use Rattle.cut_book.specs.Entries.{IsOfBasin, amount_of, has_amount};
 ghost use Rattle.cut_book.specs.Shortages.{lines_of};
 
-use crate::entry::Entry;
+use crate::entry::BookLine;
 use crate::holder::holder_of;
 use crate::part::Part;
 use cut_cert::{enters, holds, is_on_link, is_senior_to, kept_on, leaves, takes_within};
@@ -28,9 +28,9 @@ pub struct Shortage<'b> {
 }
 
 impl<'b> Model for Shortage<'b> {
-    ghost use Rattle.cut_book.specs.Shortages.{ShortageSeen, IsShortage, shortage};
+    ghost use Rattle.cut_book.specs.Shortages.{ShortageView, IsShortage, shortage};
 
-    ghost Value = { ShortageSeen };
+    ghost Value = { ShortageView };
 
     ghost view = { λ s. shortage s.basin.now s.roll.now s.month.now s.cuts.now s.right };
 
@@ -38,7 +38,7 @@ impl<'b> Model for Shortage<'b> {
 }
 
 /// A term as a line, which it is unless its amount is 0.
-fn unless_zero(entry: Entry, amount: u64) -> Option<Entry>
+fn unless_zero(entry: BookLine, amount: u64) -> Option<BookLine>
     requires { amount_of entry ≡ amount }
     ensures lines { option_to_list result ≡ filter has_amount (entry ∷ []) }
     ensures same { IfSome result (λ line. line ≡ entry) }
@@ -66,7 +66,7 @@ impl<'b> Shortage<'b> {
     }
 
     /// The line of a node's supply.
-    fn supply_at(&self, node: u32) -> Option<Entry>
+    fn supply_at(&self, node: u32) -> Option<BookLine>
         requires { node < length self.now.basin.nodes }
         ensures lines { option_to_list result ≡ lines_of self.now Part.Supplies node }
         ensures named { IfSome result (IsOfBasin self.now.basin) }
@@ -75,11 +75,11 @@ impl<'b> Shortage<'b> {
             return None;
         }
         let amount = self.month.supply[node as usize];
-        unless_zero(Entry::Supply { node, amount }, amount)
+        unless_zero(BookLine::Supply { node, amount }, amount)
     }
 
     /// The line of a link that enters the set.
-    fn enter_at(&self, link: u32) -> Option<Entry>
+    fn enter_at(&self, link: u32) -> Option<BookLine>
         requires { link < length self.now.basin.links }
         ensures lines { option_to_list result ≡ lines_of self.now Part.Enters link }
         ensures named { IfSome result (IsOfBasin self.now.basin) }
@@ -88,11 +88,11 @@ impl<'b> Shortage<'b> {
             return None;
         }
         let amount = carry_of(self.basin, link, self.month.month);
-        unless_zero(Entry::Enter { link, amount }, amount)
+        unless_zero(BookLine::Enter { link, amount }, amount)
     }
 
     /// The line of a link that leaves the set, other than the right's own.
-    fn keep_at(&self, link: u32) -> Option<Entry>
+    fn keep_at(&self, link: u32) -> Option<BookLine>
         requires { link < length self.now.basin.links }
         ensures lines { option_to_list result ≡ lines_of self.now Part.Keeps link }
         ensures named { IfSome result (IsOfBasin self.now.basin) }
@@ -106,7 +106,7 @@ impl<'b> Shortage<'b> {
         let amount = kept_on(self.basin, self.roll, delivered, self.right, link);
         let holder = holder_of(self, link, amount)?;
         unless_zero(
-            Entry::Keep {
+            BookLine::Keep {
                 link,
                 amount,
                 holder,
@@ -116,7 +116,7 @@ impl<'b> Shortage<'b> {
     }
 
     /// The line of a senior diversion or zone that takes in the set.
-    fn take_at(&self, taker: u32) -> Option<Entry>
+    fn take_at(&self, taker: u32) -> Option<BookLine>
         requires { taker < length self.now.basin.rights }
         ensures lines { option_to_list result ≡ lines_of self.now Part.Takes taker }
         ensures named { IfSome result (IsOfBasin self.now.basin) }
@@ -128,7 +128,7 @@ impl<'b> Shortage<'b> {
         }
         let amount = self.month.delivered[taker as usize];
         unless_zero(
-            Entry::Take {
+            BookLine::Take {
                 right: taker,
                 amount,
             },
@@ -137,26 +137,26 @@ impl<'b> Shortage<'b> {
     }
 
     /// The line of a place of a part, if it has one.
-    pub fn line_at(&self, part: Part, place: u32) -> Option<Entry>
-        requires { place < count_in part self.now.basin }
-        ensures lines { option_to_list result ≡ lines_of self.now part place }
+    pub fn line_at(&self, part: Part, index: u32) -> Option<BookLine>
+        requires { index < count_in part self.now.basin }
+        ensures lines { option_to_list result ≡ lines_of self.now part index }
         ensures named { IfSome result (IsOfBasin self.now.basin) }
     {
         match part {
-            Part::Supplies => self.supply_at(place),
-            Part::Enters => self.enter_at(place),
-            Part::Keeps => self.keep_at(place),
-            Part::Takes => self.take_at(place),
+            Part::Supplies => self.supply_at(index),
+            Part::Enters => self.enter_at(index),
+            Part::Keeps => self.keep_at(index),
+            Part::Takes => self.take_at(index),
         }
     }
 
     /// The first line of the right's book.
-    pub fn why(&self) -> Entry
-        ensures value { result ≡ Entry.Why self.now.month.month self.now.right
+    pub fn why(&self) -> BookLine
+        ensures value { result ≡ BookLine.Why self.now.month.month self.now.right
             (slice_index self.now.month.delivered self.now.right) (slice_index self.now.month.want self.now.right) }
         ensures named { IsOfBasin self.now.basin result }
     {
-        Entry::Why {
+        BookLine::Why {
             month: self.month.month,
             right: self.right,
             amount: self.month.delivered[self.right as usize],
@@ -165,10 +165,10 @@ impl<'b> Shortage<'b> {
     }
 
     /// The last line of the right's book, where its set is tight: what the right got is what the terms sum to.
-    pub fn sum(&self) -> Entry
-        ensures { result ≡ Entry.Sum (slice_index self.now.month.delivered self.now.right) }
+    pub fn sum(&self) -> BookLine
+        ensures { result ≡ BookLine.Sum (slice_index self.now.month.delivered self.now.right) }
     {
-        Entry::Sum {
+        BookLine::Sum {
             amount: self.month.delivered[self.right as usize],
         }
     }

@@ -3,15 +3,15 @@ ghost use Rattle.std.specs.Prelude.{◌≡◌, ◌<◌, ◌∷◌, [], IsErr};
 ghost use Rattle.rights_roll.specs.Rolls.{IsRollOf};
 ghost use Rattle.water_edge.specs.Edge.{HasCause, Puts};
 ghost use Rattle.water_model.specs.Cuts.{IsTight};
-ghost use Rattle.water_model.specs.Places.{numbers_from};
+ghost use Rattle.water_model.specs.Indices.{numbers_from};
 ghost use Rattle.water_model.specs.Valid.{IsValidBasin};
 ghost use Rattle.result_text.specs.Range.{FitsText};
 ghost use Rattle.cut_cert.specs.Sets.{HasCut, cut_at};
 ghost use Rattle.cut_book.specs.Entries.{IsOfBasin};
-ghost use Rattle.cut_book.specs.Book.{account_bytes, book_bytes, count_in, places_in};
+ghost use Rattle.cut_book.specs.Book.{account_bytes, book_bytes, count_in, indices_in};
 ghost use Rattle.cut_book.specs.Shortages.{bytes_of, lines_of, part_of, terms_of};
 
-use crate::entry::Entry;
+use crate::entry::BookLine;
 use crate::part::{PARTS, Part};
 use crate::shortage::Shortage;
 use crate::spelling::spell;
@@ -22,7 +22,7 @@ use water_model::types::{Basin, MonthRecord};
 use water_text::line::Line;
 
 /// Puts the line of an entry.
-fn put_entry<K: Sink>(sink: &mut K, shortage: &Shortage, entry: Entry) -> Result<(), SinkFailed>
+fn put_entry<K: Sink>(sink: &mut K, shortage: &Shortage, entry: BookLine) -> Result<(), SinkFailed>
     requires { IsOfBasin shortage.now.basin entry }
     ensures text { Puts (K.taken sink.old) (K.taken sink.new) result (bytes_of shortage.now (entry ∷ [])) }
     ensures cause { HasCause (K.faults sink.old) (K.faults sink.new) (IsErr result) }
@@ -37,29 +37,29 @@ fn put_line<K: Sink>(
     sink: &mut K,
     shortage: &Shortage,
     part: Part,
-    place: u32,
+    index: u32,
 ) -> Result<(), SinkFailed>
-    requires { place < count_in part shortage.now.basin }
+    requires { index < count_in part shortage.now.basin }
     ensures text { Puts (K.taken sink.old) (K.taken sink.new) result
-        (bytes_of shortage.now (lines_of shortage.now part place)) }
+        (bytes_of shortage.now (lines_of shortage.now part index)) }
     ensures cause { HasCause (K.faults sink.old) (K.faults sink.new) (IsErr result) }
 {
-    match shortage.line_at(part, place) {
+    match shortage.line_at(part, index) {
         Some(entry) => put_entry(sink, shortage, entry),
         None => Ok(()),
     }
 }
 
 /// Puts the lines of a part whose places are nodes or links, in the order of the basin.
-fn put_places<K: Sink>(sink: &mut K, shortage: &Shortage, part: Part) -> Result<(), SinkFailed>
-    requires { places_in part shortage.now.basin ≡ numbers_from 0 (count_in part shortage.now.basin) }
+fn put_indices<K: Sink>(sink: &mut K, shortage: &Shortage, part: Part) -> Result<(), SinkFailed>
+    requires { indices_in part shortage.now.basin ≡ numbers_from 0 (count_in part shortage.now.basin) }
     ensures text { Puts (K.taken sink.old) (K.taken sink.new) result
         (bytes_of shortage.now (part_of shortage.now part)) }
     ensures cause { HasCause (K.faults sink.old) (K.faults sink.new) (IsErr result) }
 {
     let count = shortage.count_in(part);
-    for place in 0..count {
-        put_line(sink, shortage, part, place)?;
+    for index in 0..count {
+        put_line(sink, shortage, part, index)?;
     }
     Ok(())
 }
@@ -85,7 +85,7 @@ fn put_part<K: Sink>(sink: &mut K, shortage: &Shortage, part: Part) -> Result<()
 {
     match part {
         Part::Takes => put_takes(sink, shortage),
-        _ => put_places(sink, shortage, part),
+        _ => put_indices(sink, shortage, part),
     }
 }
 
@@ -101,12 +101,12 @@ fn put_terms<K: Sink>(sink: &mut K, shortage: &Shortage) -> Result<(), SinkFaile
     Ok(())
 }
 
-/// Puts the account of a right whose set in these cuts is a tight cut of it: the lines of its book behind the first. That
-/// is each supply in the set, each link that enters it, what is kept on each link that leaves it and for whom, each take
-/// of a senior in it, and their sum, which is what the right got. A line of amount 0 is left out.
+/// Puts the account of a right whose set in these cuts is a tight cut of it: the lines of its book after the first.
+/// That is each supply in the set, each link that enters it, what is kept on each link that leaves it and for whom,
+/// each take of a senior in it, and their sum, which is what the right got. A line of amount 0 is left out.
 ///
-/// Each line is one `put`. `SinkFailed` comes only where the sink counted a fault; a front of the account was then put.
-/// The cost is linear in nodes, links and rights, and no memory is taken.
+/// Each line is one `put`. `SinkFailed` comes only where the sink counted a fault; a prefix of the account was then
+/// put. The cost is linear in nodes, links and rights, and no memory is taken.
 pub fn put_account<K: Sink>(
     sink: &mut K,
     basin: &Basin,
@@ -140,7 +140,7 @@ pub fn put_account<K: Sink>(
 /// in the set, each link that enters it, what is kept on each link that leaves it and for whom, each take of a senior
 /// in it, and their sum, which is what the right got. A line of amount 0 is left out.
 ///
-/// Each line is one `put`. `SinkFailed` comes only where the sink counted a fault; a front of the book was then put.
+/// Each line is one `put`. `SinkFailed` comes only where the sink counted a fault; a prefix of the book was then put.
 /// The cost is linear in nodes, links and rights, and no memory is taken.
 pub fn put_book<K: Sink>(
     sink: &mut K,

@@ -3,8 +3,8 @@ use Rattle.std.proofs.Common.{◌≡◌, ℕ, ◌+◌, ◌-◌, ◌*◌, ◌<◌
 use Rattle.std.proofs.Common.{◌∙◌, arith, List, length, get_or}
 use Rattle.std.specs.Prelude.{slice_index, All, if◌then◌else◌, ◌&&◌}
 use Rattle.std.proofs.lemmas.Option.{unwrap_or-slice_get}
-use Rattle.place_sums.specs.Sums.{total, total_where, when}
-use Rattle.place_sums.proofs.Totals.{total_most, total_where_fits, total_le, greatest_where_le}
+use Rattle.finite_sums.specs.Sums.{total, total_where, when}
+use Rattle.finite_sums.proofs.Totals.{total_most, total_where_fits, total_le, greatest_where_le}
 use Rattle.water_text.specs.Months.{days_of}
 use Rattle.water_text.specs.declared.month.Month.{Month}
 use Rattle.water_model.specs.Basin.{is_on_link, is_senior}

@@ -3,7 +3,7 @@ use Rattle.std.proofs.Common.{◌≡◌, ℕ, zero, suc, ◌+◌, ◌<◌, ◌�
 use Rattle.std.proofs.Common.{length, inl, inr, add-one}
 use Rattle.std.specs.Prelude.{slice_index, Option, Some, None, max, if◌then◌else◌, ◌&&◌, ◌==◌, ◌⊎◌, ◌≢◌}
 use Rattle.std.proofs.lemmas.Bool.Decides.{nat_tests}
-use Rattle.place_sums.specs.Sums.{greatest_where}
+use Rattle.finite_sums.specs.Sums.{greatest_where}
 use Rattle.water_model.specs.Basin.{is_on_link, is_senior, is_at, instream_link}
 use Rattle.water_model.specs.Cuts.{kept_on}
 use Rattle.water_model.specs.declared.types.Basin.{Basin}

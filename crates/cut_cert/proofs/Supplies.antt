@@ -6,7 +6,7 @@ use Rattle.std.specs.Int.{bit_at}
 use Rattle.std.proofs.lemmas.Nat.Bits.{bit_at-zero}
 use Rattle.bit_words.specs.Marks.{marks}
 use Rattle.bit_words.proofs.Marks.{get_or-marks}
-use Rattle.place_sums.specs.Sums.{total, total_where}
+use Rattle.finite_sums.specs.Sums.{total, total_where}
 use Rattle.water_model.specs.Lookups.{has}
 
 -- places that don't pass may be left out of a sum

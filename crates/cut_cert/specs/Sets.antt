@@ -1,6 +1,6 @@
 -- The set of a right in a list of cuts, and the numbers that a bound is made of.
 use Rattle.std.specs.Prelude.{◌≡◌, ℕ, ◌*◌, ◌^◌, ◌<◌, ◌≤◌, Bool, [], List, length, slice_index, unwrap_or, IsSome, All}
-use Rattle.place_sums.specs.Sums.{total}
+use Rattle.finite_sums.specs.Sums.{total}
 use Rattle.bit_words.specs.Marks.{marks}
 use Rattle.water_model.specs.CutSets.{CutSets, set_of}
 use Rattle.water_model.specs.declared.types.Basin.{Basin}

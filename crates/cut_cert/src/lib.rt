@@ -7,7 +7,7 @@
 ghost use Rattle.std.specs.Prelude.{◌≡◌, ◌+◌, ◌*◌, ◌<◌, ◌≤◌, ◌^◌, ◌&&◌, not, max, All, if◌then◌else◌, length};
 ghost use Rattle.std.specs.Prelude.{slice_index, IsTrue, ◌↔◌};
 ghost use Rattle.bit_words.specs.Marks.{marks, words_for};
-ghost use Rattle.place_sums.specs.Sums.{total, total_where, when};
+ghost use Rattle.finite_sums.specs.Sums.{total, total_where, when};
 ghost use Rattle.water_text.specs.Months.{IsMonth, days_of};
 ghost use Rattle.water_model.specs.Lookups.{has};
 ghost use Rattle.water_model.specs.Basin.{is_on_link, instream_link, is_senior, taking_node};
@@ -86,11 +86,11 @@ pub fn is_senior_to(basin: &Basin, one: u32, other: u32) -> bool
     is_senior(&basin.rights[one as usize], &basin.rights[other as usize])
 }
 
-/// A sum, and behind it the supplies of the marked nodes from one on and before another.
-#[tactic(auto, using(place_sums::proofs::Totals::sums))]
+/// A sum, and after it the supplies of the marked nodes from one on and before another.
+#[tactic(auto, using(finite_sums::proofs::Totals::sums))]
 fn add_supplies(words: &[u64], supply: &[u64], from: usize, to: usize, before: u64) -> u64
     requires words { length words.now ≡ words_for (length supply.now) }
-    requires few { length supply.now ≤ 2000 }
+    requires bounded { length supply.now ≤ 2000 }
     requires small { total (length supply.now) (λ n. slice_index supply.now n) < 4 * 10 ^ 13 }
     requires order { from ≤ to }
     requires within { to ≤ length supply.now }
@@ -109,10 +109,10 @@ fn add_supplies(words: &[u64], supply: &[u64], from: usize, to: usize, before: u
 }
 
 /// The supply at the nodes that the words mark. A word that marks none costs one look.
-#[tactic(auto, using(place_sums::proofs::Totals::sums))]
+#[tactic(auto, using(finite_sums::proofs::Totals::sums))]
 fn supply_in(words: &[u64], supply: &[u64]) -> u64
     requires words { length words.now ≡ words_for (length supply.now) }
-    requires few { length supply.now ≤ 2000 }
+    requires bounded { length supply.now ≤ 2000 }
     requires small { total (length supply.now) (λ n. slice_index supply.now n) < 4 * 10 ^ 13 }
     ensures sum { result ≡ total_where (length supply.now) (λ n. has (marks (length supply.now) words.now) n)
         (λ n. slice_index supply.now n) }
@@ -161,7 +161,7 @@ pub fn kept_on(basin: &Basin, roll: &Roll, delivered: &[u64], right: u32, link: 
     kept
 }
 
-/// What a link of this kind carries in a month of so many days.
+/// What a link of this kind carries in a month of a given number of days.
 fn carry_in_days(carry: &Carry, month: Month, days: u64) -> u64
     requires carry { IsValidCarry carry.now }
     requires month { IsMonth month }
@@ -188,7 +188,7 @@ struct Crossing {
     kept: u64,
 }
 
-/// The amounts of one link, in a month of so many days.
+/// The amounts of one link, in a month of a given number of days.
 fn crossing_at(
     basin: &Basin,
     roll: &Roll,
@@ -228,7 +228,7 @@ fn crossing_at(
 }
 
 /// The sums over all links. It goes over them once.
-#[tactic(auto, using(place_sums::proofs::Totals::sums))]
+#[tactic(auto, using(finite_sums::proofs::Totals::sums))]
 fn crossings(
     basin: &Basin,
     roll: &Roll,
@@ -267,7 +267,7 @@ fn crossings(
 }
 
 /// What seniors take in a right's set.
-#[tactic(auto, using(place_sums::proofs::Totals::sums))]
+#[tactic(auto, using(finite_sums::proofs::Totals::sums))]
 fn kept_by_takes(basin: &Basin, delivered: &[u64], right: u32, words: &[u64]) -> u64
     requires basin { IsValidBasin basin.now }
     requires delivered { length delivered.now ≡ length basin.now.rights }

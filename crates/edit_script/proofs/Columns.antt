@@ -1,14 +1,15 @@
 -- The columns of a series are few.
 use Rattle.std.proofs.Common.{◌≡◌, ℕ, ◌≤◌, Bool, arith, List, length, filter}
 use Rattle.std.proofs.lemmas.List.Sums.{length-filter, count_by-le-length}
-use Rattle.water_model.specs.Places.{numbers_from}
+use Rattle.water_model.specs.Indices.{numbers_from}
 use Rattle.water_model.specs.Valid.{IsValidBasin, IsSeriesOf, is_gauged, is_in_series}
 use Rattle.water_model.specs.declared.types.Basin.{Basin}
 use Rattle.water_model.specs.declared.types.Inflows.{Inflows}
 use Rattle.water_model.proofs.Order.{length-numbers_from}
 
-few_columns : (p : ℕ → Bool) (count : ℕ) (keys : List ℕ) → keys ≡ filter p (numbers_from 0 count) → length keys ≤ count
-few_columns p count keys e =
+bounded_columns : (p : ℕ → Bool) (count : ℕ) (keys : List ℕ) → keys ≡ filter p (numbers_from 0 count) →
+    length keys ≤ count
+bounded_columns p count keys e =
     rw e (omega (
       arith,
       length-filter p (numbers_from 0 count),
@@ -16,10 +17,14 @@ few_columns p count keys e =
       length-numbers_from 0 count,
     ))
 
-pub few_gauges : (b : Basin) (series : Inflows) → IsValidBasin b → IsSeriesOf b series → length series.gauged ≤ 2000
-few_gauges b series valid fits =
-    omega (arith, few_columns (λ n. is_gauged b n) (length b.nodes) series.gauged fits.gauged, valid.few.nodes)
+pub bounded_gauges : (b : Basin) (series : Inflows) → IsValidBasin b → IsSeriesOf b series → length series.gauged ≤ 2000
+bounded_gauges b series valid fits =
+    omega (arith, bounded_columns (λ n. is_gauged b n) (length b.nodes) series.gauged fits.gauged, valid.bounded.nodes)
 
-pub few_wants : (b : Basin) (series : Inflows) → IsValidBasin b → IsSeriesOf b series → length series.wanted ≤ 2000
-few_wants b series valid fits =
-    omega (arith, few_columns (λ k. is_in_series b k) (length b.rights) series.wanted fits.wanted, valid.few.rights)
+pub bounded_wants : (b : Basin) (series : Inflows) → IsValidBasin b → IsSeriesOf b series → length series.wanted ≤ 2000
+bounded_wants b series valid fits =
+    omega (
+      arith,
+      bounded_columns (λ k. is_in_series b k) (length b.rights) series.wanted fits.wanted,
+      valid.bounded.rights,
+    )

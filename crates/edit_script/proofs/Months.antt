@@ -44,9 +44,9 @@ from_place x first n i l e =
     let diff : x - first ≡ i = omega arith in
     rw (is_above x first (omega arith), diff, is_below i n l) refl
 
-month_behind : (first m : Month) (i : ℕ) → IsMonth first → IsMonth m → month_number m ≡ month_number first + i →
+later_month : (first m : Month) (i : ℕ) → IsMonth first → IsMonth m → month_number m ≡ month_number first + i →
     m ≡ month_after first i
-month_behind first m i h k e =
+later_month first m i h k e =
     same_month m (month_after first i) (omega (arith, h.month, k.month)) (omega (arith, h.month, k.month))
 
 pub number_after : (first : Month) (i : ℕ) → IsMonth first → month_number (month_after first i) ≡ month_number first + i
@@ -56,7 +56,7 @@ pub months_have_their_index : MonthsHaveTheirIndex
 unfolding index
 months_have_their_index b m i valid month = (
   (λ h. let found = to_place (month_number m) (month_number b.first) b.months i h in
-      (found.0, month_behind b.first m i valid.run.first month found.1)),
+      (found.0, later_month b.first m i valid.run.first month found.1)),
   (λ h. from_place (month_number m) (month_number b.first) b.months i h.0
       (ap month_number h.1 ∙ number_after b.first i valid.run.first)),
 )

@@ -7,7 +7,7 @@ use Rattle.std.specs.Str.{bytes_eq}
 use Rattle.water_model.specs.declared.types.Basin.{Basin}
 use Rattle.water_model.specs.declared.types.Inflows.{Inflows}
 use Rattle.edit_script.specs.Lines.{edit_of}
-use Rattle.edit_script.specs.Scripts.{IsRefusalOf, Reading, ended, edits_from, edits_of_lines, in_front, lines_of}
+use Rattle.edit_script.specs.Scripts.{IsRefusalOf, Reading, ended, edits_from, edits_of_lines, in_prefix, lines_of}
 use Rattle.edit_script.specs.Scripts.{numbered, script_of}
 use Rattle.edit_script.specs.declared.edit.Edit.{Edit}
 use Rattle.edit_script.specs.declared.refused.ScriptRefused.{ScriptRefused}
@@ -15,19 +15,19 @@ use Rattle.edit_script.specs.declared.refused.ScriptRefused.TheVariants as refus
 use Rattle.edit_script.specs.declared.refused.ScriptFault.TheVariants as fault
 use Rattle.edit_script.proofs.Pieces.{some_piece}
 
--- what was read, and behind it the answer to the lines to come
-abbrev pub behind : List Edit → Reading → Reading
-behind edits (Ok more) = Ok (edits ++ more)
-behind edits (Err why) = Err why
+-- what was read, and after it the answer to the lines to come
+abbrev pub after : List Edit → Reading → Reading
+after edits (Ok more) = Ok (edits ++ more)
+after edits (Err why) = Err why
 
-behind_more : (edits : List Edit) (e : Edit) (r : Reading) →
-    behind edits (in_front (Ok e) r) ≡ behind (edits ++ e ∷ []) r
-behind_more edits e (Ok more) = ap (λ (es : List Edit). Ok es) (sym (append_assoc edits (e ∷ []) more))
-behind_more edits e (Err why) = refl
+after_more : (edits : List Edit) (e : Edit) (r : Reading) →
+    after edits (in_prefix (Ok e) r) ≡ after (edits ++ e ∷ []) r
+after_more edits e (Ok more) = ap (λ (es : List Edit). Ok es) (sym (append_assoc edits (e ∷ []) more))
+after_more edits e (Err why) = refl
 
 -- one line that is followed by others
 one_line : (b : Basin) (series : Inflows) (number : ℕ) (line text : List ℕ) → bytes_eq line (codes "done") ≡ false →
-    edits_from b series number (line ∷ lines_of text) ≡ in_front (numbered number (edit_of b series line))
+    edits_from b series number (line ∷ lines_of text) ≡ in_prefix (numbered number (edit_of b series line))
     (edits_from b series (number + 1) (lines_of text))
 unfolding edits_from
 one_line b series number line text other =
@@ -44,64 +44,64 @@ last_line b series number line text done =
 -- the whole reading, by what was read and what is to come
 pub line_taken : (b : Basin) (series : Inflows) (whole : Reading) (edits : List Edit) (number : ℕ)
     (rest line text : List ℕ) (e : Edit) →
-    whole ≡ behind edits (edits_from b series number (lines_of rest)) → lines_of rest ≡ line ∷ lines_of text →
+    whole ≡ after edits (edits_from b series number (lines_of rest)) → lines_of rest ≡ line ∷ lines_of text →
     bytes_eq line (codes "done") ≡ false →
     Ok e ≡ numbered number (edit_of b series line) →
-    whole ≡ behind (edits ++ e ∷ []) (edits_from b series (number + 1) (lines_of text))
+    whole ≡ after (edits ++ e ∷ []) (edits_from b series (number + 1) (lines_of text))
 line_taken b series whole edits number rest line text e so_far at other is =
     so_far
-    ∙ ap (λ ls. behind edits (edits_from b series number ls)) at
-    ∙ ap (behind edits) (one_line b series number line text other)
-    ∙ ap (λ r. behind edits (in_front r (edits_from b series (number + 1) (lines_of text)))) (sym is)
-    ∙ behind_more edits e (edits_from b series (number + 1) (lines_of text))
+    ∙ ap (λ ls. after edits (edits_from b series number ls)) at
+    ∙ ap (after edits) (one_line b series number line text other)
+    ∙ ap (λ r. after edits (in_prefix r (edits_from b series (number + 1) (lines_of text)))) (sym is)
+    ∙ after_more edits e (edits_from b series (number + 1) (lines_of text))
 
 pub line_refused : (b : Basin) (series : Inflows) (whole : Reading) (edits : List Edit) (number : ℕ)
     (rest line text : List ℕ) (why : ScriptRefused) →
-    whole ≡ behind edits (edits_from b series number (lines_of rest)) → lines_of rest ≡ line ∷ lines_of text →
+    whole ≡ after edits (edits_from b series number (lines_of rest)) → lines_of rest ≡ line ∷ lines_of text →
     bytes_eq line (codes "done") ≡ false →
     Err why ≡ numbered number (edit_of b series line) → whole ≡ Err why
 line_refused b series whole edits number rest line text why so_far at other is =
     so_far
-    ∙ ap (λ ls. behind edits (edits_from b series number ls)) at
-    ∙ ap (behind edits) (one_line b series number line text other)
-    ∙ ap (λ r. behind edits (in_front r (edits_from b series (number + 1) (lines_of text)))) (sym is)
+    ∙ ap (λ ls. after edits (edits_from b series number ls)) at
+    ∙ ap (after edits) (one_line b series number line text other)
+    ∙ ap (λ r. after edits (in_prefix r (edits_from b series (number + 1) (lines_of text)))) (sym is)
 
--- behind the last line
-ended_behind : (edits : List Edit) (number : ℕ) (lines : List (List ℕ)) →
-    behind edits (ended [] number lines) ≡ ended edits number lines
-ended_behind edits number [] = refl
-ended_behind edits number ([] ∷ []) = ap (λ (es : List Edit). Ok es) (no_more edits)
+-- after the last line
+ended_after : (edits : List Edit) (number : ℕ) (lines : List (List ℕ)) →
+    after edits (ended [] number lines) ≡ ended edits number lines
+ended_after edits number [] = refl
+ended_after edits number ([] ∷ []) = ap (λ (es : List Edit). Ok es) (no_more edits)
   where
     no_more : (es : List Edit) → es ++ [] ≡ es
     no_more [] = refl
     no_more (e ∷ es) = ap (λ (x : List Edit). e ∷ x) (no_more es)
-ended_behind edits number ([] ∷ (line ∷ lines)) = refl
-ended_behind edits number ((c ∷ cs) ∷ lines) = refl
+ended_after edits number ([] ∷ (line ∷ lines)) = refl
+ended_after edits number ((c ∷ cs) ∷ lines) = refl
 
 pub end_taken : (b : Basin) (series : Inflows) (whole : Reading) (edits : List Edit) (number : ℕ)
     (rest line text : List ℕ) →
-    whole ≡ behind edits (edits_from b series number (lines_of rest)) → lines_of rest ≡ line ∷ lines_of text →
+    whole ≡ after edits (edits_from b series number (lines_of rest)) → lines_of rest ≡ line ∷ lines_of text →
     bytes_eq line (codes "done") ≡ true →
     whole ≡ ended edits (number + 1) (lines_of text)
 end_taken b series whole edits number rest line text so_far at done =
     so_far
-    ∙ ap (λ ls. behind edits (edits_from b series number ls)) at
-    ∙ ap (behind edits) (last_line b series number line text done)
-    ∙ ended_behind edits (number + 1) (lines_of text)
+    ∙ ap (λ ls. after edits (edits_from b series number ls)) at
+    ∙ ap (after edits) (last_line b series number line text done)
+    ∙ ended_after edits (number + 1) (lines_of text)
 
 -- where no line feed comes any more
 pub early_end : (b : Basin) (series : Inflows) (whole : Reading) (edits : List Edit) (number : ℕ) (rest : List ℕ) →
-    whole ≡ behind edits (edits_from b series number (lines_of rest)) → lines_of rest ≡ rest ∷ [] →
+    whole ≡ after edits (edits_from b series number (lines_of rest)) → lines_of rest ≡ rest ∷ [] →
     whole ≡ Err (refused.Refused fault.EarlyEnd number)
 unfolding edits_from
 early_end b series whole edits number rest so_far at =
-    so_far ∙ ap (λ ls. behind edits (edits_from b series number ls)) at
+    so_far ∙ ap (λ ls. after edits (edits_from b series number ls)) at
 
--- bytes behind the last line
-pub more_behind : (edits : List Edit) (number : ℕ) (text : List ℕ) → 1 ≤ length text →
+-- bytes after the last line
+pub more_after : (edits : List Edit) (number : ℕ) (text : List ℕ) → 1 ≤ length text →
     ended edits number (lines_of text) ≡ Err (refused.Refused fault.AfterEnd number)
-more_behind edits number [] l = absurd (omega arith)
-more_behind edits number (c ∷ cs) l =
+more_after edits number [] l = absurd (omega arith)
+more_after edits number (c ∷ cs) l =
     by_test (c == 10) (slice_split (λ byte. byte == 10) cs) (some_piece (λ byte. byte == 10) cs)
   where
     by_test : (t : Bool) (parts : List (List ℕ)) → (piece : List ℕ) × (pieces : List (List ℕ)) ×
@@ -123,20 +123,20 @@ answered whole part (Ok edits) e h = e ∙ h
 answered whole part (Err why) e h = refusal_of whole why (e ∙ h)
 
 -- the first line
-pub first_good : (b : Basin) (series : Inflows) (text first behind : List ℕ) → lines_of text ≡ first ∷ lines_of behind →
+pub first_good : (b : Basin) (series : Inflows) (text first after : List ℕ) → lines_of text ≡ first ∷ lines_of after →
     bytes_eq first (codes "river-edit 1") ≡ true →
-    script_of b series text ≡ edits_from b series 2 (lines_of behind)
+    script_of b series text ≡ edits_from b series 2 (lines_of after)
 unfolding script_of
-first_good b series text first behind at good =
-    let found = some_piece (λ byte. byte == 10) behind in
+first_good b series text first after at good =
+    let found = some_piece (λ byte. byte == 10) after in
     ap (edits_of_lines b series) at ∙ rw (found.2, good) refl
 
-pub first_bad : (b : Basin) (series : Inflows) (text first behind : List ℕ) → lines_of text ≡ first ∷ lines_of behind →
+pub first_bad : (b : Basin) (series : Inflows) (text first after : List ℕ) → lines_of text ≡ first ∷ lines_of after →
     bytes_eq first (codes "river-edit 1") ≡ false →
     script_of b series text ≡ Err (refused.Refused fault.BadLine 1)
 unfolding script_of
-first_bad b series text first behind at bad =
-    let found = some_piece (λ byte. byte == 10) behind in
+first_bad b series text first after at bad =
+    let found = some_piece (λ byte. byte == 10) after in
     ap (edits_of_lines b series) at ∙ rw (found.2, bad) refl
 
 pub no_first : (b : Basin) (series : Inflows) (text : List ℕ) → lines_of text ≡ text ∷ [] →

@@ -31,7 +31,7 @@ IsPlaced b series (Inflow index gauge amount) = (index < b.months) × (gauge < l
 IsPlaced b series (Want index place amount) = (index < b.months) × (place < length series.wanted) × (amount ≤ 10 ^ 9)
 IsPlaced b series (Show index) = index < b.months
 
--- how many of so many months that are kept stay kept: those before the month of a change
+-- how many of a given number of months that are kept stay kept: those before the month of a change
 abbrev pub kept_by : ℕ → Edit → ℕ
 kept_by kept (Inflow index gauge amount) = min kept index
 kept_by kept (Want index place amount) = min kept index

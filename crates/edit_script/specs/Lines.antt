@@ -17,13 +17,13 @@ use Rattle.edit_script.specs.declared.edit.Edit.TheVariants as edit
 use Rattle.edit_script.specs.declared.refused.ScriptFault.{ScriptFault}
 use Rattle.edit_script.specs.declared.refused.ScriptFault.TheVariants as fault
 
--- the fields of a line, between its spaces, and those behind a space, if there is one
+-- the fields of a line, between its spaces, and those after a space, if there is one
 abbrev pub fields_of : List ℕ → List (List ℕ)
 fields_of bytes = slice_split (λ byte. byte == 32) bytes
 
-abbrev pub fields_behind : Option (Bor (List ℕ)) → List (List ℕ)
-fields_behind None = []
-fields_behind (Some rest) = fields_of rest.now
+abbrev pub fields_after : Option (Bor (List ℕ)) → List (List ℕ)
+fields_after None = []
+fields_after (Some rest) = fields_of rest.now
 
 -- what is made of a value, or the fault where there is none
 abbrev pub need : {X Y : Type 0} → ScriptFault → Option X → (X → Result Y ScriptFault) → Result Y ScriptFault

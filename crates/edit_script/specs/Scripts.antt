@@ -11,7 +11,7 @@ use Rattle.edit_script.specs.declared.refused.ScriptFault.TheVariants as fault
 use Rattle.edit_script.specs.declared.refused.ScriptRefused.{ScriptRefused}
 use Rattle.edit_script.specs.declared.refused.ScriptRefused.TheVariants as refused
 
--- what stands between the line feeds: the lines of a text, and last what is behind the last line feed
+-- what stands between the line feeds: the lines of a text, and last what is after the last line feed
 abbrev pub lines_of : List ℕ → List (List ℕ)
 lines_of bytes = slice_split (λ byte. byte == 10) bytes
 
@@ -24,13 +24,13 @@ abbrev pub numbered : ℕ → Result Edit ScriptFault → Result Edit ScriptRefu
 numbered number (Ok e) = Ok e
 numbered number (Err why) = Err (refused.Refused why number)
 
--- an answer to a line, and behind it that to the lines behind
-abbrev pub in_front : Result Edit ScriptRefused → Reading → Reading
-in_front (Err why) behind = Err why
-in_front (Ok e) (Ok edits) = Ok (e ∷ edits)
-in_front (Ok e) (Err why) = Err why
+-- an answer to a line, and after it that to the lines after
+abbrev pub in_prefix : Result Edit ScriptRefused → Reading → Reading
+in_prefix (Err why) after = Err why
+in_prefix (Ok e) (Ok edits) = Ok (e ∷ edits)
+in_prefix (Ok e) (Err why) = Err why
 
--- behind the line `done` nothing follows
+-- after the line `done` nothing follows
 abbrev pub ended : List Edit → ℕ → List (List ℕ) → Reading
 ended edits number ([] ∷ []) = Ok edits
 ended edits number _ = Err (refused.Refused fault.AfterEnd number)
@@ -41,7 +41,7 @@ edits_from b series number [] = Err (refused.Refused fault.EarlyEnd number)
 edits_from b series number (rest ∷ []) = Err (refused.Refused fault.EarlyEnd number)
 edits_from b series number (line ∷ next ∷ lines) =
     if bytes_eq line (codes "done") then ended [] (number + 1) (next ∷ lines)
-    else in_front (numbered number (edit_of b series line)) (edits_from b series (number + 1) (next ∷ lines))
+    else in_prefix (numbered number (edit_of b series line)) (edits_from b series (number + 1) (next ∷ lines))
 
 -- the first line says what the text is
 abbrev pub edits_of_lines : Basin → Inflows → List (List ℕ) → Reading

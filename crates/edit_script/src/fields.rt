@@ -1,7 +1,7 @@
 //! The parts of a text between line feeds, and those of a line between spaces.
 ghost use Rattle.std.specs.Prelude.{◌≡◌, ◌∷◌, [], ◌==◌, ◌<◌, length, IfNone, IfSome};
 ghost use Rattle.std.specs.List.{position};
-ghost use Rattle.edit_script.specs.Lines.{fields_of, fields_behind};
+ghost use Rattle.edit_script.specs.Lines.{fields_of, fields_after};
 ghost use Rattle.edit_script.specs.Scripts.{lines_of};
 
 /// The place of the first space.
@@ -11,9 +11,9 @@ fn first_space(text: &[u8]) -> Option<usize>
     text.iter().position(|byte| *byte == b' ')
 }
 
-/// The bytes up to the first space, and those behind it, if there is one.
+/// The bytes up to the first space, and those after it, if there is one.
 pub fn cut(text: &[u8]) -> (&[u8], Option<&[u8]>)
-    ensures { fields_of text.now ≡ result.0.now ∷ fields_behind result.1 }
+    ensures { fields_of text.now ≡ result.0.now ∷ fields_after result.1 }
 {
     match first_space(text) {
         Some(at) => (&text[..at], Some(&text[at + 1..])),
@@ -28,7 +28,7 @@ fn first_feed(text: &[u8]) -> Option<usize>
     text.iter().position(|byte| *byte == b'\n')
 }
 
-/// The first line of a text and what is behind its line feed, if there is a line feed.
+/// The first line of a text and what is after its line feed, if there is a line feed.
 pub fn first_line(text: &[u8]) -> Option<(&[u8], &[u8])>
     ensures none { IfNone result (lines_of text.now ≡ text.now ∷ []) }
     ensures some { IfSome result (λ cut. lines_of text.now ≡ cut.0.now ∷ lines_of cut.1.now) }

@@ -116,25 +116,25 @@ fn read_want(
     })
 }
 
-/// What a line with a third field asks for: its word, its month and what is behind them.
+/// What a line with a third field asks for: its word, its month and what is after them.
 fn read_change(
     names: &Names,
     series: &Inflows,
     word: &[u8],
     month: &[u8],
-    behind: &[u8],
+    after: &[u8],
 ) -> Result<Edit, ScriptFault>
     requires basin { IsValidBasin names.now.basin.now }
     requires series { IsSeriesOf names.now.basin.now series.now }
-    ensures reads { result ≡ edit_in names.now.basin.now series.now (word.now ∷ month.now ∷ fields_of behind.now) }
+    ensures reads { result ≡ edit_in names.now.basin.now series.now (word.now ∷ month.now ∷ fields_of after.now) }
     ensures placed { IfOk result (IsPlaced names.now.basin.now series.now) }
 {
-    let (name, behind) = cut(behind);
-    let Some(behind) = behind else {
+    let (name, after) = cut(after);
+    let Some(after) = after else {
         return Err(ScriptFault::BadLine);
     };
-    let (amount, behind) = cut(behind);
-    if behind.is_some() {
+    let (amount, after) = cut(after);
+    if after.is_some() {
         return Err(ScriptFault::BadLine);
     }
     if word == b"inflow".as_slice() {
@@ -154,13 +154,13 @@ pub fn read_edit(names: &Names, series: &Inflows, line: &[u8]) -> Result<Edit, S
     ensures reads { result ≡ edit_of names.now.basin.now series.now line.now }
     ensures placed { IfOk result (IsPlaced names.now.basin.now series.now) }
 {
-    let (word, behind) = cut(line);
-    let Some(behind) = behind else {
+    let (word, after) = cut(line);
+    let Some(after) = after else {
         return Err(ScriptFault::BadLine);
     };
-    let (month, behind) = cut(behind);
-    if let Some(behind) = behind {
-        return read_change(names, series, word, month, behind);
+    let (month, after) = cut(after);
+    if let Some(after) = after {
+        return read_change(names, series, word, month, after);
     }
     if word == b"show".as_slice() {
         return read_show(names.basin, month);

@@ -35,11 +35,11 @@ fn read_numbered(
 }
 
 /// Makes sure that nothing follows the line `done`. The next line has this number.
-fn end_of(edits: Vec<Edit>, number: u64, behind: &[u8]) -> Result<Vec<Edit>, ScriptRefused>
-    ensures { MatchResult result (λ read. ended edits.items number (lines_of behind.now) ≡ Ok read.items)
-        (λ refused. ended edits.items number (lines_of behind.now) ≡ Err refused) }
+fn end_of(edits: Vec<Edit>, number: u64, after: &[u8]) -> Result<Vec<Edit>, ScriptRefused>
+    ensures { MatchResult result (λ read. ended edits.items number (lines_of after.now) ≡ Ok read.items)
+        (λ refused. ended edits.items number (lines_of after.now) ≡ Err refused) }
 {
-    if behind.is_empty() {
+    if after.is_empty() {
         Ok(edits)
     } else {
         Err(ScriptRefused::Refused {
@@ -49,7 +49,7 @@ fn end_of(edits: Vec<Edit>, number: u64, behind: &[u8]) -> Result<Vec<Edit>, Scr
     }
 }
 
-/// What the lines behind the first ask for, or the first at fault. The first of them has the number 2.
+/// What the lines after the first ask for, or the first at fault. The first of them has the number 2.
 fn read_edits(
     alloc: Global,
     names: &Names,
@@ -67,13 +67,13 @@ fn read_edits(
     let mut edits = Vec::new(alloc);
     let mut rest = text;
     let mut number = 2;
-    while let Some((line, behind)) = first_line(rest) {
+    while let Some((line, after)) = first_line(rest) {
         if line == b"done".as_slice() {
-            return end_of(edits, number + 1, behind);
+            return end_of(edits, number + 1, after);
         }
         let edit = read_numbered(names, series, line, number)?;
         edits.push(edit)?;
-        rest = behind;
+        rest = after;
         number += 1;
     }
     Err(ScriptRefused::Refused {
@@ -82,7 +82,7 @@ fn read_edits(
     })
 }
 
-/// What a script asks for, line by line between its first and its last, or its first line at fault. No line behind that
+/// What a script asks for, line by line between its first and its last, or its first line at fault. No line after that
 /// is looked at. A name is looked up in a map. Maps and edits take memory: OutOfMemory comes only where that is
 /// lacking, and says nothing of the text.
 pub fn read_script(
@@ -98,7 +98,7 @@ pub fn read_script(
         (IsRefusalOf (script_of basin.now series.now text.now)) }
     ensures placed { IfOk result (λ edits. All (IsPlaced basin.now series.now) edits.items) }
 {
-    let Some((first, behind)) = first_line(text) else {
+    let Some((first, after)) = first_line(text) else {
         return Err(ScriptRefused::Refused {
             fault: ScriptFault::EarlyEnd,
             line: 1,
@@ -111,5 +111,5 @@ pub fn read_script(
         });
     }
     let names = Names::of(alloc, basin)?;
-    read_edits(alloc, &names, series, behind)
+    read_edits(alloc, &names, series, after)
 }

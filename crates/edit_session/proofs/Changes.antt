@@ -17,13 +17,13 @@ use Rattle.water_model.specs.declared.types.MonthRecord.{MonthRecord}
 use Rattle.water_model.proofs.Gauges.{gauge_within, wanted_within}
 use Rattle.edit_script.specs.Edits.{edited_by, kept_by, IsPlaced, with_inflow, with_want}
 use Rattle.edit_session.specs.Laws.{AgreeBefore, EditedSeriesFit, KeptMonthsStay}
-use Rattle.edit_session.specs.SessionInside.{IsReady}
+use Rattle.edit_session.specs.SessionInside.{IsValidSession}
 use Rattle.edit_session.specs.Sessions.{records_of}
 use Rattle.edit_session.specs.declared.session.Session.TheInside.{Inside}
 use Rattle.edit_script.specs.declared.edit.Edit.{Edit}
 use Rattle.edit_script.specs.declared.edit.Edit.TheVariants.{Inflow, Want, Show}
 use Rattle.edit_session.proofs.Columns.{earlier_stays}
-use Rattle.edit_session.proofs.Fronts.{front_partial, front_reaches}
+use Rattle.edit_session.proofs.Prefixes.{prefix_partial, prefix_reaches}
 
 -- a changed series is one of its basin
 pub edited_fits : EditedSeriesFit
@@ -99,19 +99,19 @@ edited_agrees b series count (Show index) fits = record {
 
 pub kept_stays : KeptMonthsStay
 kept_stays b series records e fits placed kept = record {
-  partial = front_partial b series (edited_by series e) records (kept_by (length records) e)
+  partial = prefix_partial b series (edited_by series e) records (kept_by (length records) e)
       (edited_agrees b series (length records) e fits) kept.partial;
-  reaches = front_reaches b records (kept_by (length records) e) kept.reaches;
+  reaches = prefix_reaches b records (kept_by (length records) e) kept.reaches;
 }
 
 pub at_most : (records : List MonthRecord) (month : ℕ) → take month records ≡ take (min (length records) month) records
 at_most records month = sym (ap (λ n. take n records) (omega arith) ∙ take_min month records)
 
--- a session behind a change
-pub stays_ready : (old new : Inside) (e : Edit) → IsReady old → IsPlaced old.engine.basin old.series e →
+-- a session after a change
+pub stays_ready : (old new : Inside) (e : Edit) → IsValidSession old → IsPlaced old.engine.basin old.series e →
     new.engine ≡ old.engine → new.series ≡ edited_by old.series e →
     records_of new.kept.items ≡ take (kept_by (length (records_of old.kept.items)) e) (records_of old.kept.items) →
-    IsReady new
+    IsValidSession new
 stays_ready old new e ready placed engine series kept = record {
   valid = rw engine ready.valid;
   series = rw (engine, series) (edited_fits old.engine.basin old.series e ready.series placed);

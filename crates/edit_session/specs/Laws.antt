@@ -6,7 +6,7 @@ use Rattle.water_model.specs.declared.types.Basin.{Basin}
 use Rattle.water_model.specs.declared.types.Inflows.{Inflows}
 use Rattle.water_model.specs.declared.types.MonthRecord.{MonthRecord}
 use Rattle.edit_script.specs.Edits.{edited_by, kept_by, IsPlaced}
-use Rattle.edit_session.specs.Sessions.{IsKept}
+use Rattle.edit_session.specs.Sessions.{HasKeptMonths}
 use Rattle.edit_script.specs.declared.edit.Edit.{Edit}
 
 -- two series give each node the same inflow, and each right the same want, in all months before this one
@@ -25,5 +25,5 @@ EditedSeriesFit = (b : Basin) (series : Inflows) (e : Edit) → IsSeriesOf b ser
 abbrev pub KeptMonthsStay : Type 0
 KeptMonthsStay =
     (b : Basin) (series : Inflows) (records : List MonthRecord) (e : Edit) → IsSeriesOf b series → IsPlaced b series e →
-    IsKept (record { basin = b; series = series; kept = records }) →
-    IsKept (record { basin = b; series = edited_by series e; kept = take (kept_by (length records) e) records })
+    HasKeptMonths (record { basin = b; series = series; kept = records }) →
+    HasKeptMonths (record { basin = b; series = edited_by series e; kept = take (kept_by (length records) e) records })

@@ -12,13 +12,13 @@ abbrev pub records_of : List (Box MonthRecord Global) → List MonthRecord
 records_of boxes = map (λ m. m.value) boxes
 
 -- a session: its basin, its series as it is now, and the records of the first months
-pub record SessionSeen : Type 0 where
+pub record SessionView : Type 0 where
   pub basin : Basin
   pub series : Inflows
   pub kept : List MonthRecord
 
 -- what is kept is a partial history of the basin and the series as it is now, with the reaches as the sets of short
 -- rights
-pub record IsKept (s : SessionSeen) : Type 0 where
+pub record HasKeptMonths (s : SessionView) : Type 0 where
   pub partial : IsPartialHistory s.basin s.series s.kept
   pub reaches : HaveReaches s.basin s.kept

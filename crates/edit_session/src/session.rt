@@ -4,7 +4,7 @@ ghost use Rattle.std.specs.Prelude.{slice_set, Some, IfOk, OnOk};
 ghost use Rattle.rights_roll.specs.Rolls.{IsRollOf};
 ghost use Rattle.water_model.specs.Valid.{IsValidBasin, IsSeriesOf};
 ghost use Rattle.edit_script.specs.Edits.{with_inflow, with_want};
-ghost use Rattle.edit_session.specs.Sessions.{IsKept, records_of};
+ghost use Rattle.edit_session.specs.Sessions.{HasKeptMonths, records_of};
 ghost use Rattle.senior_hold.specs.MonthNetwork.{month_pushes};
 
 use crate::solving::solve_months;
@@ -27,7 +27,7 @@ fn change(
     column: u32,
     amount: u64,
 )
-    requires few { length keys.now ≤ 2000 }
+    requires bounded { length keys.now ≤ 2000 }
     requires month { index < 1200 }
     requires within { index * length keys.now + column < length table.old }
     ensures table { table.new ≡ slice_set table.old (index * length keys.now + column) amount }
@@ -50,15 +50,15 @@ pub struct Session<'b> {
 }
 
 impl<'b> Model for Session<'b> {
-    ghost use Rattle.edit_session.specs.Sessions.{SessionSeen};
+    ghost use Rattle.edit_session.specs.Sessions.{SessionView};
 
-    ghost Value = { SessionSeen };
+    ghost Value = { SessionView };
 
-    ghost use Rattle.edit_session.specs.SessionInside.{seen_of, IsReady};
+    ghost use Rattle.edit_session.specs.SessionInside.{view_of, IsValidSession};
 
-    ghost view = { seen_of };
+    ghost view = { view_of };
 
-    ghost invariant = { IsReady };
+    ghost invariant = { IsValidSession };
 }
 
 impl<'b> Session<'b> {
@@ -73,7 +73,7 @@ impl<'b> Session<'b> {
         ensures basin { IfOk result (λ session. session.basin ≡ basin.now) }
         ensures series { IfOk result (λ session. session.series ≡ series.now) }
         ensures none { IfOk result (λ session. session.kept ≡ []) }
-        ensures history { IfOk result IsKept }
+        ensures history { IfOk result HasKeptMonths }
     {
         let engine = Engine::open(alloc, basin)?;
         let series = series.copy(alloc)?;
@@ -123,7 +123,7 @@ impl<'b> Session<'b> {
         ensures basin { self.new.basin ≡ self.old.basin }
         ensures series { self.new.series ≡ with_inflow self.old.series index gauge amount }
         ensures kept { self.new.kept ≡ take index self.old.kept }
-        ensures history { IsKept self.new }
+        ensures history { HasKeptMonths self.new }
     {
         change(
             &self.series.gauged,
@@ -144,7 +144,7 @@ impl<'b> Session<'b> {
         ensures basin { self.new.basin ≡ self.old.basin }
         ensures series { self.new.series ≡ with_want self.old.series index place amount }
         ensures kept { self.new.kept ≡ take index self.old.kept }
-        ensures history { IsKept self.new }
+        ensures history { HasKeptMonths self.new }
     {
         change(
             &self.series.wanted,
@@ -171,8 +171,8 @@ impl<'b> Session<'b> {
         ensures series { self.new.series ≡ self.old.series }
         ensures stay { take (length self.old.kept) self.new.kept ≡ self.old.kept }
         ensures solved { OnOk result (length self.new.kept ≡ max (length self.old.kept) (index + 1)) }
-        ensures few { length self.new.kept ≤ max (length self.old.kept) (index + 1) }
-        ensures history { IsKept self.new }
+        ensures bounded { length self.new.kept ≤ max (length self.old.kept) (index + 1) }
+        ensures history { HasKeptMonths self.new }
         ensures pushes { searches.new ≤ searches.old + (index + 1 - length self.old.kept) * month_pushes
             self.old.basin }
     {

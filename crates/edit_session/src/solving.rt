@@ -1,8 +1,8 @@
 //! Months solved and kept.
 ghost use Rattle.std.specs.Prelude.{◌≡◌, ◌+◌, ◌-◌, ◌*◌, ◌<◌, ◌≤◌, take, vec_len, OnOk, OnErr};
 ghost use Rattle.water_model.specs.Valid.{IsValidBasin, IsSeriesOf};
-ghost use Rattle.month_fold.specs.Runs.{StandsFor, run_with};
-ghost use Rattle.edit_session.specs.Sessions.{IsKept, records_of};
+ghost use Rattle.month_fold.specs.Runs.{RunStandsFor, run_with};
+ghost use Rattle.edit_session.specs.Sessions.{HasKeptMonths, records_of};
 ghost use Rattle.senior_hold.specs.MonthNetwork.{month_pushes};
 
 use month_fold::engine::Engine;
@@ -11,7 +11,7 @@ use std::sync::ledger::Ledger;
 use steps::Steps;
 use water_model::types::{Inflows, MonthRecord};
 
-/// Solves the month of this index, behind those that are kept, and keeps its record too. After an AllocError these are
+/// Solves the month of this index, after those that are kept, and keeps its record too. After an AllocError these are
 /// kept.
 fn add_month<L: Ledger>(
     alloc: Global,
@@ -22,9 +22,9 @@ fn add_month<L: Ledger>(
     searches: &mut Steps<L>,
 ) -> Result<(), AllocError>
     requires left { index < engine.old.basin.months }
-    requires stands { StandsFor (run_with engine.old series.now index) (records_of kept.old.items) }
+    requires stands { RunStandsFor (run_with engine.old series.now index) (records_of kept.old.items) }
     ensures basin { engine.new.basin ≡ engine.old.basin }
-    ensures stands { OnOk result (StandsFor (run_with engine.new series.now (index + 1)) (records_of kept.new.items)) }
+    ensures stands { OnOk result (RunStandsFor (run_with engine.new series.now (index + 1)) (records_of kept.new.items)) }
     ensures stay { take (vec_len kept.old) kept.new.items ≡ kept.old.items }
     ensures count { OnOk result (vec_len kept.new ≡ vec_len kept.old + 1) }
     ensures same { OnErr result (kept.new.items ≡ kept.old.items) }
@@ -35,7 +35,7 @@ fn add_month<L: Ledger>(
     Ok(())
 }
 
-/// Solves the months behind those that are kept until so many are. After an AllocError some months more may be kept.
+/// Solves the months after those that are kept until so many are. After an AllocError some months more may be kept.
 pub fn solve_months<L: Ledger>(
     alloc: Global,
     engine: &mut Engine,
@@ -48,23 +48,23 @@ pub fn solve_months<L: Ledger>(
     requires series { IsSeriesOf engine.old.basin series.now }
     requires count { count ≤ engine.old.basin.months }
     requires more { vec_len kept.old ≤ count }
-    requires kept { IsKept (record {
+    requires kept { HasKeptMonths (record {
       basin = engine.old.basin;
       series = series.now;
       kept = records_of kept.old.items;
     }) }
     ensures basin { engine.new.basin ≡ engine.old.basin }
-    ensures kept { IsKept (record {
+    ensures kept { HasKeptMonths (record {
       basin = engine.old.basin;
       series = series.now;
       kept = records_of kept.new.items;
     }) }
     ensures stay { take (vec_len kept.old) kept.new.items ≡ kept.old.items }
     ensures solved { OnOk result (vec_len kept.new ≡ count) }
-    ensures few { vec_len kept.new ≤ count }
+    ensures bounded { vec_len kept.new ≤ count }
     ensures pushes { searches.new ≤ searches.old + (count - vec_len kept.old) * month_pushes engine.old.basin }
 {
-    engine.go_behind(kept.as_slice());
+    engine.start_after(kept.as_slice());
     for index in kept.len() as u32..count {
         add_month(alloc, engine, series, index, kept, searches)?;
     }

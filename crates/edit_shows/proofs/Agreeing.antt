@@ -4,8 +4,8 @@ use Rattle.std.specs.Prelude.{slice_get, Some}
 use Rattle.std.proofs.lemmas.List.{length-take}
 use Rattle.std.proofs.lemmas.Option.{slice_get_within}
 use Rattle.edit_session.specs.Laws.{AgreeBefore}
-use Rattle.edit_session.specs.Sessions.{IsKept}
-use Rattle.edit_session.proofs.Fronts.{front_partial, front_reaches}
+use Rattle.edit_session.specs.Sessions.{HasKeptMonths}
+use Rattle.edit_session.proofs.Prefixes.{prefix_partial, prefix_reaches}
 use Rattle.month_fold.proofs.Outcomes.{runs_have_one_outcome}
 use Rattle.water_model.specs.Valid.{IsValidBasin}
 use Rattle.water_model.specs.declared.types.Basin.{Basin}
@@ -25,14 +25,14 @@ same_series b series month = record { inflows = λ node i l m. refl; wants = λ 
 
 pub runs_agree : (b : Basin) (series : Inflows) (index : ℕ) (months : List MonthRecord) (m : MonthRecord) →
     IsValidBasin b →
-    IsKept (record { basin = b; series = series; kept = months }) → slice_get months index ≡ Some m →
+    HasKeptMonths (record { basin = b; series = series; kept = months }) → slice_get months index ≡ Some m →
     AgreesWithRuns b series index m
 runs_agree b series index months m valid kept at records n other at' =
     let same = same_series b series (index + 1) in
     runs_have_one_outcome b series (take (index + 1) months) (take (index + 1) records) valid
-    (front_partial b series series months (index + 1) same kept.partial)
-    (front_partial b series series records (index + 1) same other.partial)
-    (front_reaches b months (index + 1) kept.reaches) (front_reaches b records (index + 1) other.reaches)
+    (prefix_partial b series series months (index + 1) same kept.partial)
+    (prefix_partial b series series records (index + 1) same other.partial)
+    (prefix_reaches b months (index + 1) kept.reaches) (prefix_reaches b records (index + 1) other.reaches)
     (omega (
       arith,
       length-take (index + 1) months,

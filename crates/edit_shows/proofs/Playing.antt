@@ -15,38 +15,38 @@ use Rattle.water_model.specs.declared.types.Basin.{Basin}
 use Rattle.water_model.specs.declared.types.Inflows.{Inflows}
 use Rattle.water_model.specs.declared.types.MonthRecord.{MonthRecord}
 use Rattle.result_text.specs.Range.{FitsText}
-use Rattle.water_edge.proofs.Puts.{PutsFront-then}
+use Rattle.water_edge.proofs.Puts.{PutsPrefix-then}
 use Rattle.result_text.proofs.Whole.{FitsText-follows}
 use Rattle.edit_script.specs.Edits.{IsPlaced, cost_from, edited, edited_by, kept_by, solved_by}
 use Rattle.edit_script.specs.declared.edit.Edit.{Edit}
 use Rattle.edit_script.specs.declared.edit.Edit.TheVariants.{Inflow, Want, Show}
-use Rattle.edit_session.specs.Sessions.{IsKept, SessionSeen}
+use Rattle.edit_session.specs.Sessions.{HasKeptMonths, SessionView}
 use Rattle.edit_shows.proofs.Agreeing.{runs_agree}
-use Rattle.edit_shows.specs.Shown.{Answers, AnswersWhole, AreShown, HaveShown, IsMonthOf, PutsFront, done_bytes}
+use Rattle.edit_shows.specs.Shown.{Answers, AnswersWhole, AreShown, HaveShown, IsMonthOf, PutsPrefix, done_bytes}
 use Rattle.edit_shows.specs.Shown.{months_bytes, shows_in}
 use Rattle.edit_shows.specs.declared.stop.EditStop.{EditStop}
 use Rattle.edit_shows.specs.declared.stop.EditStop.TheVariants as stop
 
--- lines behind lines
-edited_behind : (series : Inflows) (es fs : List Edit) → edited series (es ++ fs) ≡ edited (edited series es) fs
-edited_behind series [] fs = refl
-edited_behind series (e ∷ es) fs = edited_behind (edited_by series e) es fs
+-- lines after lines
+edited_after : (series : Inflows) (es fs : List Edit) → edited series (es ++ fs) ≡ edited (edited series es) fs
+edited_after series [] fs = refl
+edited_after series (e ∷ es) fs = edited_after (edited_by series e) es fs
 
-shown_behind : (b : Basin) (series : Inflows) (es fs : List Edit) (xs ys : List MonthRecord) → AreShown b series es xs →
+shown_after : (b : Basin) (series : Inflows) (es fs : List Edit) (xs ys : List MonthRecord) → AreShown b series es xs →
     AreShown b (edited series es) fs ys →
     AreShown b series (es ++ fs) (xs ++ ys)
-shown_behind b series [] fs [] ys h k = k
-shown_behind b series [] fs (x ∷ xs) ys h k = cc
-shown_behind b series (Inflow index gauge amount ∷ es) fs xs ys h k =
-    shown_behind b (edited_by series (Inflow index gauge amount)) es fs xs ys h k
-shown_behind b series (Want index place amount ∷ es) fs xs ys h k =
-    shown_behind b (edited_by series (Want index place amount)) es fs xs ys h k
-shown_behind b series (Show index ∷ es) fs [] ys h k = absurd h
-shown_behind b series (Show index ∷ es) fs (x ∷ xs) ys h k = (h.0, shown_behind b series es fs xs ys h.1 k)
+shown_after b series [] fs [] ys h k = k
+shown_after b series [] fs (x ∷ xs) ys h k = cc
+shown_after b series (Inflow index gauge amount ∷ es) fs xs ys h k =
+    shown_after b (edited_by series (Inflow index gauge amount)) es fs xs ys h k
+shown_after b series (Want index place amount ∷ es) fs xs ys h k =
+    shown_after b (edited_by series (Want index place amount)) es fs xs ys h k
+shown_after b series (Show index ∷ es) fs [] ys h k = absurd h
+shown_after b series (Show index ∷ es) fs (x ∷ xs) ys h k = (h.0, shown_after b series es fs xs ys h.1 k)
 
-bytes_behind : (b : Basin) (xs ys : List MonthRecord) →
+bytes_after : (b : Basin) (xs ys : List MonthRecord) →
     months_bytes b (xs ++ ys) ≡ months_bytes b xs ++ months_bytes b ys
-bytes_behind b xs ys = flat_map-append (λ m. flat_map (whole_line b) (items_of_month b m)) xs ys
+bytes_after b xs ys = flat_map-append (λ m. flat_map (whole_line b) (items_of_month b m)) xs ys
 
 -- a change moves no place
 placed_by : (b : Basin) (series : Inflows) (d e : Edit) → IsPlaced b series e → IsPlaced b (edited_by series d) e
@@ -107,12 +107,12 @@ pub played_more : (b c : Basin) (series now then' : Inflows) (edits : List Edit)
 played_more b c series now then' edits old mid new i e u same played l is shows next = record {
   shown = played.shown ++ answers.0;
   are = subst (λ (es : List Edit). AreShown b series es (played.shown ++ answers.0)) (sym (one_more edits i e l is))
-      (shown_behind b series (take i edits) (e ∷ []) played.shown answers.0 played.are
+      (shown_after b series (take i edits) (e ∷ []) played.shown answers.0 played.are
       (subst (λ s. AreShown b s (e ∷ []) answers.0) played.edited answers.1));
   edited = next
       ∙ (ap (λ s. edited_by s e) played.edited
-      ∙ (sym (edited_behind series (take i edits) (e ∷ [])) ∙ ap (edited series) (sym (one_more edits i e l is))));
-  put = subst (λ (bytes : List ℕ). Appends old new bytes) (sym (bytes_behind b played.shown answers.0))
+      ∙ (sym (edited_after series (take i edits) (e ∷ [])) ∙ ap (edited series) (sym (one_more edits i e l is))));
+  put = subst (λ (bytes : List ℕ). Appends old new bytes) (sym (bytes_after b played.shown answers.0))
       (Appends-trans old mid new _ _ played.put answers.2);
 }
   where
@@ -134,21 +134,21 @@ have_more b series now edits old mid i e ys played l is have =
           count = i;
           are =
               subst (λ (es : List Edit). AreShown b series es (played.shown ++ ys)) (append-nil (take i edits))
-              (shown_behind b series (take i edits) [] played.shown ys played.are h);
+              (shown_after b series (take i edits) [] played.shown ys played.are h);
         }
     by_count (suc zero) h =
         record {
           count = i + 1;
           are =
               subst (λ (es : List Edit). AreShown b series es (played.shown ++ ys)) (sym (one_more edits i e l is))
-              (shown_behind b series (take i edits) (e ∷ []) played.shown ys played.are h);
+              (shown_after b series (take i edits) (e ∷ []) played.shown ys played.are h);
         }
     by_count (suc (suc n)) h =
         record {
           count = i + 1;
           are =
               subst (λ (es : List Edit). AreShown b series es (played.shown ++ ys)) (sym (one_more edits i e l is))
-              (shown_behind b series (take i edits) (e ∷ []) played.shown ys played.are h);
+              (shown_after b series (take i edits) (e ∷ []) played.shown ys played.are h);
         }
 
 stops_at : (b : Basin) (series now : Inflows) (edits : List Edit) (old mid new : Option (List ℕ)) (i : ℕ)
@@ -158,13 +158,13 @@ stops_at : (b : Basin) (series now : Inflows) (edits : List Edit) (old mid new :
 stops_at b series now edits old mid new i e stop.SinkFailed played l is answers = (
   played.shown ++ answers.0,
   have_more b series now edits old mid i e answers.0 played l is answers.1,
-  subst (λ (bytes : List ℕ). PutsFront old new bytes) (sym (bytes_behind b played.shown answers.0))
-      (PutsFront-then old mid new _ _ played.put answers.2),
+  subst (λ (bytes : List ℕ). PutsPrefix old new bytes) (sym (bytes_after b played.shown answers.0))
+      (PutsPrefix-then old mid new _ _ played.put answers.2),
 )
 stops_at b series now edits old mid new i e stop.OutOfMemory played l is answers = (
   played.shown ++ answers.0,
   have_more b series now edits old mid i e answers.0 played l is answers.1,
-  subst (λ (bytes : List ℕ). Appends old new bytes) (sym (bytes_behind b played.shown answers.0))
+  subst (λ (bytes : List ℕ). Appends old new bytes) (sym (bytes_after b played.shown answers.0))
       (Appends-trans old mid new _ _ played.put answers.2),
 )
 
@@ -206,11 +206,11 @@ costs_stop edits i e kept p start before after whole l is so_far pushed =
     refl in omega arith
 
 -- a month that a session keeps
-pub month_kept : (b : Basin) (s : SessionSeen) (series : Inflows) (index : ℕ) (m : MonthRecord) → IsValidBasin b →
-    s.basin ≡ b → s.series ≡ series → IsKept s →
+pub month_kept : (b : Basin) (s : SessionView) (series : Inflows) (index : ℕ) (m : MonthRecord) → IsValidBasin b →
+    s.basin ≡ b → s.series ≡ series → HasKeptMonths s →
     slice_get s.kept index ≡ Some m → IsMonthOf b series index m
 month_kept b s series index m valid e f kept at =
-    let here : IsKept (record { basin = b; series = series; kept = s.kept }) =
+    let here : HasKeptMonths (record { basin = b; series = series; kept = s.kept }) =
     record { partial = rw (← e, ← f) kept.partial; reaches = rw (← e) kept.reaches } in
     record { months = s.kept; kept = here; here = at; agrees = runs_agree b series index s.kept m valid here at }
 
@@ -233,12 +233,12 @@ show_put b series index m old new u is put = (
 
 pub show_failed : (b : Basin) (series : Inflows) (index : ℕ) (m : MonthRecord) (old new : Option (List ℕ)) →
     IsMonthOf b series index m →
-    PutsFront old new (flat_map (whole_line b) (items_of_month b m)) →
+    PutsPrefix old new (flat_map (whole_line b) (items_of_month b m)) →
     Answers b series (Show index ∷ []) (Err stop.SinkFailed) old new
 show_failed b series index m old new is put = (
   m ∷ [],
   record { count = 1; are = (is, refl) },
-  subst (λ (bytes : List ℕ). PutsFront old new bytes)
+  subst (λ (bytes : List ℕ). PutsPrefix old new bytes)
       (sym (append-nil (flat_map (whole_line b) (items_of_month b m)))) put,
 )
 
@@ -252,6 +252,6 @@ nothing_shown b series edits old = ([], record { count = 0; are = none edits }, 
 
 pub whole_failed : (b : Basin) (series : Inflows) (edits : List Edit) (old mid new : Option (List ℕ)) (u : Unit {0}) →
     Answers b series edits (Ok u) old mid →
-    PutsFront mid new (done_bytes (shows_in edits)) → AnswersWhole b series edits (Err stop.SinkFailed) old new
+    PutsPrefix mid new (done_bytes (shows_in edits)) → AnswersWhole b series edits (Err stop.SinkFailed) old new
 whole_failed b series edits old mid new u answers put =
-    inr (answers.0, answers.1, PutsFront-then old mid new _ _ answers.2 put)
+    inr (answers.0, answers.1, PutsPrefix-then old mid new _ _ answers.2 put)

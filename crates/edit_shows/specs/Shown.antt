@@ -14,7 +14,7 @@ use Rattle.water_model.specs.declared.types.MonthRecord.{MonthRecord}
 use Rattle.edit_script.specs.Edits.{with_inflow, with_want}
 use Rattle.edit_script.specs.declared.edit.Edit.{Edit}
 use Rattle.edit_script.specs.declared.edit.Edit.TheVariants.{Inflow, Want, Show}
-use Rattle.edit_session.specs.Sessions.{IsKept}
+use Rattle.edit_session.specs.Sessions.{HasKeptMonths}
 use Rattle.edit_shows.specs.declared.stop.EditStop.{EditStop}
 use Rattle.edit_shows.specs.declared.stop.EditStop.TheVariants as stop
 
@@ -22,14 +22,15 @@ use Rattle.edit_shows.specs.declared.stop.EditStop.TheVariants as stop
 -- all but flows and single outflows, and has the same sets
 abbrev pub AgreesWithRuns : Basin → Inflows → ℕ → MonthRecord → Type 0
 AgreesWithRuns b series index m =
-    (records : List MonthRecord) (n : MonthRecord) → IsKept (record { basin = b; series = series; kept = records }) →
+    (records : List MonthRecord) (n : MonthRecord) → HasKeptMonths
+    (record { basin = b; series = series; kept = records }) →
     slice_get records index ≡ Some n → HaveSameOutcome m n × (m.cuts.sets ≡ n.cuts.sets)
 
 -- the record is that of a month in some partial history of the basin and the series, with the reaches as the sets of
 -- short rights, and agrees with that of a fresh run
 pub record IsMonthOf (b : Basin) (series : Inflows) (index : ℕ) (m : MonthRecord) : Type 0 where
   pub months : List MonthRecord
-  pub kept : IsKept (record { basin = b; series = series; kept = months })
+  pub kept : HasKeptMonths (record { basin = b; series = series; kept = months })
   pub here : slice_get months index ≡ Some m
   pub agrees : AgreesWithRuns b series index m
 
@@ -63,22 +64,22 @@ months_bytes b shown = flat_map (λ m. flat_map (whole_line b) (items_of_month b
 abbrev pub done_bytes : ℕ → List ℕ
 done_bytes shows = codes "done " ++ decimal shows ++ codes "\n"
 
--- a front of a piece is appended
-abbrev pub PutsFront : Option (List ℕ) → Option (List ℕ) → List ℕ → Type 0
-PutsFront old new piece = (count : ℕ) × (count ≤ length piece) × Appends old new (take count piece)
+-- a prefix of a piece is appended
+abbrev pub PutsPrefix : Option (List ℕ) → Option (List ℕ) → List ℕ → Type 0
+PutsPrefix old new piece = (count : ℕ) × (count ≤ length piece) × Appends old new (take count piece)
 
--- The lines of the months that are shown are appended. After a failure of the sink a front of those shown so far is,
+-- The lines of the months that are shown are appended. After a failure of the sink a prefix of those shown so far is,
 -- and where memory is lacking the whole lines of those shown so far.
 abbrev pub Answers : Basin → Inflows → List Edit → Result (Unit {0}) EditStop → Option (List ℕ) → Option (List ℕ) →
     Type 0
 Answers b series edits (Ok _) old new =
     (shown : List MonthRecord) × AreShown b series edits shown × Appends old new (months_bytes b shown)
 Answers b series edits (Err stop.SinkFailed) old new =
-    (shown : List MonthRecord) × HaveShown b series edits shown × PutsFront old new (months_bytes b shown)
+    (shown : List MonthRecord) × HaveShown b series edits shown × PutsPrefix old new (months_bytes b shown)
 Answers b series edits (Err stop.OutOfMemory) old new =
     (shown : List MonthRecord) × HaveShown b series edits shown × Appends old new (months_bytes b shown)
 
--- The same with the last line behind all months: after a failure of the sink a front of the months shown so far is
+-- The same with the last line after all months: after a failure of the sink a prefix of the months shown so far is
 -- there, or of the whole text.
 abbrev pub AnswersWhole : Basin → Inflows → List Edit → Result (Unit {0}) EditStop → Option (List ℕ) → Option (List ℕ) →
     Type 0
@@ -88,5 +89,5 @@ AnswersWhole b series edits (Ok _) old new =
 AnswersWhole b series edits (Err stop.SinkFailed) old new =
     Answers b series edits (Err stop.SinkFailed) old new
     ⊎ ((shown : List MonthRecord) × AreShown b series edits shown ×
-    PutsFront old new (months_bytes b shown ++ done_bytes (shows_in edits)))
+    PutsPrefix old new (months_bytes b shown ++ done_bytes (shows_in edits)))
 AnswersWhole b series edits (Err stop.OutOfMemory) old new = Answers b series edits (Err stop.OutOfMemory) old new

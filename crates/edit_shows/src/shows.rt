@@ -102,7 +102,7 @@ fn put_answers<K: Sink, L: Ledger>(
 /// cost of the script in months allows.
 ///
 /// Kept months take memory. OutOfMemory comes where that is lacking, and the whole lines of the months shown so far
-/// stand then; SinkFailed comes only where the sink counted a fault, and a front of the answer stands.
+/// stand then; SinkFailed comes only where the sink counted a fault, and a prefix of the answer stands.
 pub fn put_shows<K: Sink, L: Ledger>(
     alloc: Global,
     basin: &Basin,

@@ -7,7 +7,7 @@ use std::alloc::AllocError;
 /// Why the answer to a script isn't whole.
 #[derive(Clone, Copy, Debug, PartialEq, Eq)]
 pub enum EditStop {
-    /// The sink failed, and its count of faults rose. A front of the text stands in it.
+    /// The sink failed, and its count of faults rose. A prefix of the text stands in it.
     SinkFailed,
     /// Memory is lacking. The lines of the months that were shown so far stand in the sink.
     OutOfMemory,

@@ -11,7 +11,7 @@ use Rattle.std.proofs.lemmas.List.Sorted.{sum_by-IsPermutation}
 use Rattle.water_model.proofs.Order.{Has, map_same}
 use Rattle.index_seq.specs.Counts.{put_amount, rising, count_of}
 use Rattle.index_seq.specs.Text.{yearly_lines}
-use Rattle.index_seq.specs.declared.entry.Entry.TheVariants as line
+use Rattle.index_seq.specs.declared.entry.EnsembleLine.TheVariants as line
 
 same_is : (x y : ℕ) → x == y ≡ true → x ≡ y
 same_is x y h = grind (arith, nat_tests)
@@ -43,8 +43,8 @@ one_rising (x ∷ xs) [] first second there back = absurd (there x (inl refl))
 one_rising (x ∷ xs) (y ∷ ys) first second there back =
     let e : x ≡ y = same_first (there x (inl refl)) (back y (inl refl)) in
     let rest : xs ≡ ys =
-    one_rising xs ys first.1 second.1 (λ r h. behind_y r e h (there r (inr h)))
-    (λ r h. behind_x r e h (back r (inr h))) in
+    one_rising xs ys first.1 second.1 (λ r h. after_y r e h (there r (inr h)))
+    (λ r h. after_x r e h (back r (inr h))) in
     ap (λ z. z ∷ xs) e ∙ ap (λ zs. y ∷ zs) rest
   where
     same_first : Has (y ∷ ys) x → Has (x ∷ xs) y → x ≡ y
@@ -52,27 +52,27 @@ one_rising (x ∷ xs) (y ∷ ys) first second there back =
     same_first (inr h) (inl e) = sym e
     same_first (inr h) (inr k) = absurd (omega (arith, second.0 x h, first.0 y k))
 
-    behind_y : (r : ℕ) → x ≡ y → Has xs r → Has (y ∷ ys) r → Has ys r
-    behind_y r e h (inl same) = absurd (omega (arith, first.0 r h))
-    behind_y r e h (inr k) = k
+    after_y : (r : ℕ) → x ≡ y → Has xs r → Has (y ∷ ys) r → Has ys r
+    after_y r e h (inl same) = absurd (omega (arith, first.0 r h))
+    after_y r e h (inr k) = k
 
-    behind_x : (r : ℕ) → x ≡ y → Has ys r → Has (x ∷ xs) r → Has xs r
-    behind_x r e h (inl same) = absurd (omega (arith, second.0 r h))
-    behind_x r e h (inr k) = k
+    after_x : (r : ℕ) → x ≡ y → Has ys r → Has (x ∷ xs) r → Has xs r
+    after_x r e h (inl same) = absurd (omega (arith, second.0 r h))
+    after_x r e h (inr k) = k
 
 -- what stands in a list into which an amount was put
 put_has : (x : ℕ) (ys : List ℕ) (z : ℕ) → Has (put_amount x ys) z → (z ≡ x) ⊎ Has ys z
 put_has x [] z h = h
 put_has x (y ∷ ys) z h = by_less (put_has x ys z) (nat_lt x y) h
   where
-    behind : (Has (put_amount x ys) z → (z ≡ x) ⊎ Has ys z) → Has (y ∷ put_amount x ys) z → (z ≡ x) ⊎ Has (y ∷ ys) z
-    behind further (inl e) = inr (inl e)
-    behind further (inr k) = elim (further k) [ inl e ↦ inl e | inr there ↦ inr (inr there) ]
+    after : (Has (put_amount x ys) z → (z ≡ x) ⊎ Has ys z) → Has (y ∷ put_amount x ys) z → (z ≡ x) ⊎ Has (y ∷ ys) z
+    after further (inl e) = inr (inl e)
+    after further (inr k) = elim (further k) [ inl e ↦ inl e | inr there ↦ inr (inr there) ]
 
     by_same : (Has (put_amount x ys) z → (z ≡ x) ⊎ Has ys z) → (t : Bool) →
         Has (if t then y ∷ ys else y ∷ put_amount x ys) z → (z ≡ x) ⊎ Has (y ∷ ys) z
     by_same further true h = inr h
-    by_same further false h = behind further h
+    by_same further false h = after further h
 
     by_less : (Has (put_amount x ys) z → (z ≡ x) ⊎ Has ys z) → (t : Bool) →
         Has (if t then x ∷ y ∷ ys else if x == y then y ∷ ys else y ∷ put_amount x ys) z →
@@ -84,10 +84,10 @@ has_put : (x : ℕ) (ys : List ℕ) (z : ℕ) → (z ≡ x) ⊎ Has ys z → Has
 has_put x [] z h = h
 has_put x (y ∷ ys) z h = by_less (has_put x ys z) (nat_lt x y)
   where
-    behind : ((z ≡ x) ⊎ Has ys z → Has (put_amount x ys) z) → (z ≡ x) ⊎ Has (y ∷ ys) z → Has (y ∷ put_amount x ys) z
-    behind further (inl e) = inr (further (inl e))
-    behind further (inr (inl e)) = inl e
-    behind further (inr (inr k)) = inr (further (inr k))
+    after : ((z ≡ x) ⊎ Has ys z → Has (put_amount x ys) z) → (z ≡ x) ⊎ Has (y ∷ ys) z → Has (y ∷ put_amount x ys) z
+    after further (inl e) = inr (further (inl e))
+    after further (inr (inl e)) = inl e
+    after further (inr (inr k)) = inr (further (inr k))
 
     here : x ≡ y → (z ≡ x) ⊎ Has (y ∷ ys) z → Has (y ∷ ys) z
     here e (inl is) = inl (is ∙ e)
@@ -96,7 +96,7 @@ has_put x (y ∷ ys) z h = by_less (has_put x ys z) (nat_lt x y)
     by_same : ((z ≡ x) ⊎ Has ys z → Has (put_amount x ys) z) → (t : Bool) → x == y ≡ t →
         Has (if t then y ∷ ys else y ∷ put_amount x ys) z
     by_same further true e = here (same_is x y e) h
-    by_same further false e = behind further h
+    by_same further false e = after further h
 
     by_less : ((z ≡ x) ⊎ Has ys z → Has (put_amount x ys) z) → (t : Bool) →
         Has (if t then x ∷ y ∷ ys else if x == y then y ∷ ys else y ∷ put_amount x ys) z
@@ -113,21 +113,21 @@ put_rising x (y ∷ ys) h = by_less (put_rising x ys h.1) (nat_lt x y) refl
     more : nat_lt x y ≡ false → x == y ≡ false → y < x
     more e f = grind (arith, nat_tests)
 
-    in_front : x < y → (z : ℕ) → Has (y ∷ ys) z → x < z
-    in_front l z (inl e) = omega arith
-    in_front l z (inr k) = omega (arith, h.0 z k)
+    in_prefix : x < y → (z : ℕ) → Has (y ∷ ys) z → x < z
+    in_prefix l z (inl e) = omega arith
+    in_prefix l z (inr k) = omega (arith, h.0 z k)
 
-    behind : y < x → (z : ℕ) → Has (put_amount x ys) z → y < z
-    behind l z k = elim (put_has x ys z k) [ inl e ↦ omega arith | inr there ↦ h.0 z there ]
+    after : y < x → (z : ℕ) → Has (put_amount x ys) z → y < z
+    after l z k = elim (put_has x ys z k) [ inl e ↦ omega arith | inr there ↦ h.0 z there ]
 
     by_same : IsRising (put_amount x ys) → (t : Bool) → x == y ≡ t → nat_lt x y ≡ false →
         IsRising (if t then y ∷ ys else y ∷ put_amount x ys)
     by_same further true e f = h
-    by_same further false e f = (behind (more f e), further)
+    by_same further false e f = (after (more f e), further)
 
     by_less : IsRising (put_amount x ys) → (t : Bool) → nat_lt x y ≡ t →
         IsRising (if t then x ∷ y ∷ ys else if x == y then y ∷ ys else y ∷ put_amount x ys)
-    by_less further true e = (in_front (less e), h)
+    by_less further true e = (in_prefix (less e), h)
     by_less further false e = by_same further (x == y) refl e
 
 rising_is : (xs : List ℕ) → IsRising (rising xs)
@@ -197,31 +197,31 @@ non_falling (x ∷ xs) h = (
   non_falling xs (λ i j d l u. h (suc i) (suc j) d (omega arith) (omega arith)),
 )
 
-abbrev front : ℕ → List ℕ → ℕ
-front x zs = prefix_len (λ y. y == x) zs
+abbrev prefix : ℕ → List ℕ → ℕ
+prefix x zs = prefix_len (λ y. y == x) zs
 
--- what comes behind the run
-abbrev behind : ℕ → List ℕ → List ℕ
-behind x zs = drop (front x zs) zs
+-- what comes after the run
+abbrev after : ℕ → List ℕ → List ℕ
+after x zs = drop (prefix x zs) zs
 
-behind-same : (x z : ℕ) (zs : List ℕ) → z ≡ x → behind x (z ∷ zs) ≡ behind x zs
-behind-same x z zs e =
-    rw (is_same z x e) (let one : drop (1 + front x zs) (z ∷ zs) ≡ drop (front x zs) zs =
-    ap (λ n. drop n (z ∷ zs)) (more (front x zs)) in one)
+after-same : (x z : ℕ) (zs : List ℕ) → z ≡ x → after x (z ∷ zs) ≡ after x zs
+after-same x z zs e =
+    rw (is_same z x e) (let one : drop (1 + prefix x zs) (z ∷ zs) ≡ drop (prefix x zs) zs =
+    ap (λ n. drop n (z ∷ zs)) (more (prefix x zs)) in one)
   where
     more : (n : ℕ) → 1 + n ≡ suc n
     more n = omega arith
 
-behind-other : (x z : ℕ) (zs : List ℕ) → z ≢ x → behind x (z ∷ zs) ≡ z ∷ zs
-behind-other x z zs e = rw (is_other z x e) refl
+after-other : (x z : ℕ) (zs : List ℕ) → z ≢ x → after x (z ∷ zs) ≡ z ∷ zs
+after-other x z zs e = rw (is_other z x e) refl
 
-greater : (x : ℕ) (zs : List ℕ) → IsNonFalling zs → ((y : ℕ) → Has zs y → x ≤ y) → (y : ℕ) → Has (behind x zs) y → x < y
+greater : (x : ℕ) (zs : List ℕ) → IsNonFalling zs → ((y : ℕ) → Has zs y → x ≤ y) → (y : ℕ) → Has (after x zs) y → x < y
 greater x [] h low y k = absurd k
 greater x (z ∷ zs) h low y k = elim (cases_eq z x) [
   | inl same ↦
-      greater x zs h.1 (λ w j. low w (inr j)) y (let there : Has (behind x zs) y = rw (behind-same x z zs same) at k in
+      greater x zs h.1 (λ w j. low w (inr j)) y (let there : Has (after x zs) y = rw (after-same x z zs same) at k in
       there)
-  | inr other ↦ above other (let there : Has (z ∷ zs) y = rw (behind-other x z zs other) at k in there)
+  | inr other ↦ above other (let there : Has (z ∷ zs) y = rw (after-other x z zs other) at k in there)
 ]
   where
     above : z ≢ x → Has (z ∷ zs) y → x < y
@@ -234,26 +234,26 @@ greater x (z ∷ zs) h low y k = elim (cases_eq z x) [
         strictly : x ≤ z → z ≢ x → z ≤ y → x < y
         strictly l o m = grind arith
 
-put-front : (x : ℕ) (ys : List ℕ) → ((y : ℕ) → Has ys y → x < y) → put_amount x ys ≡ x ∷ ys
-put-front x [] h = refl
-put-front x (y ∷ ys) h = rw (is_less x y (h y (inl refl))) refl
+put-prefix : (x : ℕ) (ys : List ℕ) → ((y : ℕ) → Has ys y → x < y) → put_amount x ys ≡ x ∷ ys
+put-prefix x [] h = refl
+put-prefix x (y ∷ ys) h = rw (is_less x y (h y (inl refl))) refl
 
 put-again : (x : ℕ) (ys : List ℕ) → put_amount x (x ∷ ys) ≡ x ∷ ys
 put-again x ys = rw (is_no_less x x (omega arith), is_same x x refl) refl
 
 first_rising : (x : ℕ) (zs : List ℕ) → IsNonFalling zs → ((y : ℕ) → Has zs y → x ≤ y) →
-    rising (x ∷ zs) ≡ x ∷ rising (behind x zs)
+    rising (x ∷ zs) ≡ x ∷ rising (after x zs)
 first_rising x [] h low = refl
 first_rising x (z ∷ zs) h low = elim (cases_eq z x) [
   | inl same ↦
       ap (λ w. put_amount x (rising (w ∷ zs))) same
       ∙ (ap (put_amount x) (first_rising x zs h.1 (λ w j. low w (inr j)))
-      ∙ (put-again x (rising (behind x zs)) ∙ ap (λ ws. x ∷ rising ws) (sym (behind-same x z zs same))))
+      ∙ (put-again x (rising (after x zs)) ∙ ap (λ ws. x ∷ rising ws) (sym (after-same x z zs same))))
   | inr other ↦
-      put-front x (rising (z ∷ zs))
-      (λ y k. greater x (z ∷ zs) h low y (let there : Has (behind x (z ∷ zs)) y =
-      rw (behind-other x z zs other) (rising_has (z ∷ zs) y k) in there))
-      ∙ ap (λ ws. x ∷ rising ws) (sym (behind-other x z zs other))
+      put-prefix x (rising (z ∷ zs))
+      (λ y k. greater x (z ∷ zs) h low y (let there : Has (after x (z ∷ zs)) y =
+      rw (after-other x z zs other) (rising_has (z ∷ zs) y k) in there))
+      ∙ ap (λ ws. x ∷ rising ws) (sym (after-other x z zs other))
 ]
 
 none_counted : (x : ℕ) (ys : List ℕ) → ((y : ℕ) → Has ys y → x < y) → count_of x ys ≡ 0
@@ -262,54 +262,54 @@ none_counted x (y ∷ ys) h =
     let none : unit (y == x) ≡ 0 = ap unit (is_other y x (λ e. omega (arith, h y (inl refl)))) in
     omega (arith, count-cons x y ys, none_counted x ys (λ w k. h w (inr k)))
 
-count_front : (x : ℕ) (zs : List ℕ) → IsNonFalling zs → ((y : ℕ) → Has zs y → x ≤ y) → count_of x zs ≡ front x zs
-count_front x [] h low = refl
-count_front x (z ∷ zs) h low = elim (cases_eq z x) [
+count_prefix : (x : ℕ) (zs : List ℕ) → IsNonFalling zs → ((y : ℕ) → Has zs y → x ≤ y) → count_of x zs ≡ prefix x zs
+count_prefix x [] h low = refl
+count_prefix x (z ∷ zs) h low = elim (cases_eq z x) [
   | inl same ↦
       let one : unit (z == x) ≡ 1 = ap unit (is_same z x same) in
-      let more : front x (z ∷ zs) ≡ 1 + front x zs = rw (is_same z x same) refl in
-      omega (arith, count-cons x z zs, count_front x zs h.1 (λ w j. low w (inr j)))
+      let more : prefix x (z ∷ zs) ≡ 1 + prefix x zs = rw (is_same z x same) refl in
+      omega (arith, count-cons x z zs, count_prefix x zs h.1 (λ w j. low w (inr j)))
   | inr other ↦
-      let end : front x (z ∷ zs) ≡ 0 = rw (is_other z x other) refl in
+      let end : prefix x (z ∷ zs) ≡ 0 = rw (is_other z x other) refl in
       none_counted x (z ∷ zs)
-      (λ y k. greater x (z ∷ zs) h low y (let there : Has (behind x (z ∷ zs)) y =
-      rw (behind-other x z zs other) k in there)) ∙ sym end
+      (λ y k. greater x (z ∷ zs) h low y (let there : Has (after x (z ∷ zs)) y =
+      rw (after-other x z zs other) k in there)) ∙ sym end
 ]
 
-count_behind : (x y : ℕ) (zs : List ℕ) → x ≢ y → count_of y zs ≡ count_of y (behind x zs)
-count_behind x y [] other = refl
-count_behind x y (z ∷ zs) other = elim (cases_eq z x) [
+count_after : (x y : ℕ) (zs : List ℕ) → x ≢ y → count_of y zs ≡ count_of y (after x zs)
+count_after x y [] other = refl
+count_after x y (z ∷ zs) other = elim (cases_eq z x) [
   | inl same ↦
       let none : unit (z == y) ≡ 0 = ap unit (is_other z y (λ e. other (sym same ∙ e))) in
-      let further : count_of y zs ≡ count_of y (behind x zs) = count_behind x y zs other in
+      let further : count_of y zs ≡ count_of y (after x zs) = count_after x y zs other in
       let whole : count_of y (z ∷ zs) ≡ count_of y zs = omega (arith, count-cons y z zs) in
-      whole ∙ (further ∙ ap (count_of y) (sym (behind-same x z zs same)))
-  | inr not ↦ ap (count_of y) (sym (behind-other x z zs not))
+      whole ∙ (further ∙ ap (count_of y) (sym (after-same x z zs same)))
+  | inr not ↦ ap (count_of y) (sym (after-other x z zs not))
 ]
 
--- the lines of such a list are that of its first amount and those of what comes behind
+-- the lines of such a list are that of its first amount and those of what comes after
 pub first_line : (x : ℕ) (zs : List ℕ) → IsNonFalling (x ∷ zs) →
-    yearly_lines (x ∷ zs) ≡ line.Yearly x (1 + front x zs) ∷ yearly_lines (behind x zs)
+    yearly_lines (x ∷ zs) ≡ line.Yearly x (1 + prefix x zs) ∷ yearly_lines (after x zs)
 first_line x zs h =
     ap (map (λ y. line.Yearly y (count_of y (x ∷ zs)))) (first_rising x zs h.1 h.0)
-    ∙ (ap (λ n. line.Yearly x n ∷ map (λ y. line.Yearly y (count_of y (x ∷ zs))) (rising (behind x zs))) counted
-    ∙ ap (λ ls. line.Yearly x (1 + front x zs) ∷ ls)
-    (map_same (λ y. line.Yearly y (count_of y (x ∷ zs))) (λ y. line.Yearly y (count_of y (behind x zs)))
-    (rising (behind x zs)) others))
+    ∙ (ap (λ n. line.Yearly x n ∷ map (λ y. line.Yearly y (count_of y (x ∷ zs))) (rising (after x zs))) counted
+    ∙ ap (λ ls. line.Yearly x (1 + prefix x zs) ∷ ls)
+    (map_same (λ y. line.Yearly y (count_of y (x ∷ zs))) (λ y. line.Yearly y (count_of y (after x zs)))
+    (rising (after x zs)) others))
   where
     one : unit (x == x) ≡ 1
     one = ap unit (is_same x x refl)
 
-    counted : count_of x (x ∷ zs) ≡ 1 + front x zs
-    counted = omega (arith, count-cons x x zs, one, count_front x zs h.1 h.0)
+    counted : count_of x (x ∷ zs) ≡ 1 + prefix x zs
+    counted = omega (arith, count-cons x x zs, one, count_prefix x zs h.1 h.0)
 
-    others : (y : ℕ) → Has (rising (behind x zs)) y →
-        line.Yearly y (count_of y (x ∷ zs)) ≡ line.Yearly y (count_of y (behind x zs))
+    others : (y : ℕ) → Has (rising (after x zs)) y →
+        line.Yearly y (count_of y (x ∷ zs)) ≡ line.Yearly y (count_of y (after x zs))
     others y k =
-        let less : x < y = greater x zs h.1 h.0 y (rising_has (behind x zs) y k) in
+        let less : x < y = greater x zs h.1 h.0 y (rising_has (after x zs) y k) in
         let other : x ≢ y = λ e. omega arith in
         let none : unit (x == y) ≡ 0 = ap unit (is_other x y other) in
-        ap (λ n. line.Yearly y n) (omega (arith, count-cons y x zs, count_behind x y zs other))
+        ap (λ n. line.Yearly y n) (omega (arith, count-cons y x zs, count_after x y zs other))
 
 -- the same of the list as a whole
 pub first_of_rest : (xs : List ℕ) (count : ℕ) → IsNonDecreasingBy (λ x. x) xs → 0 < length xs →
@@ -317,10 +317,10 @@ pub first_of_rest : (xs : List ℕ) (count : ℕ) → IsNonDecreasingBy (λ x. x
     yearly_lines xs ≡ line.Yearly (slice_index xs 0) count ∷ yearly_lines (drop count xs)
 first_of_rest [] count h l is = absurd (omega arith)
 first_of_rest (x ∷ zs) count h l is =
-    let whole : count ≡ 1 + front x zs = is ∙ (rw (is_same x x refl) refl) in
-    let step : drop count (x ∷ zs) ≡ behind x zs = ap (λ n. drop n (x ∷ zs)) (whole ∙ more (front x zs)) in
+    let whole : count ≡ 1 + prefix x zs = is ∙ (rw (is_same x x refl) refl) in
+    let step : drop count (x ∷ zs) ≡ after x zs = ap (λ n. drop n (x ∷ zs)) (whole ∙ more (prefix x zs)) in
     first_line x zs (non_falling (x ∷ zs) h)
-    ∙ (ap (λ n. line.Yearly x n ∷ yearly_lines (behind x zs)) (sym whole)
+    ∙ (ap (λ n. line.Yearly x n ∷ yearly_lines (after x zs)) (sym whole)
     ∙ ap (λ ws. line.Yearly x count ∷ yearly_lines ws) (sym step))
   where
     more : (n : ℕ) → 1 + n ≡ suc n

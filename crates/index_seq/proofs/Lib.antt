@@ -1,8 +1,8 @@
-pub mod Turning
+pub mod Rotation
 pub mod OneResult
 pub mod Counting
 pub mod Putting
-pub mod Fronts
+pub mod Prefixes
 pub mod Examples
 pub mod Running
 pub mod Lines

@@ -3,19 +3,19 @@ use Rattle.std.proofs.Common.{◌≡◌, ℕ, sym, ap, subst, ◌∙◌, List, [
 use Rattle.std.specs.Prelude.{slice_index_or}
 use Rattle.std.specs.List.{flat_map}
 use Rattle.std.specs.List.Sorted.{IsNonDecreasingBy, IsPermutation}
-use Rattle.water_model.specs.Places.{seniors_first}
+use Rattle.water_model.specs.Indices.{seniors_first}
 use Rattle.water_model.specs.declared.types.Basin.{Basin}
 use Rattle.water_model.specs.declared.types.Inflows.{Inflows}
 use Rattle.water_model.proofs.Order.{seniors_below, flat_same}
 use Rattle.index_seq.specs.Ends.{HaveLines}
 use Rattle.index_seq.specs.Sums.{HaveSums}
-use Rattle.water_edge.proofs.Puts.{PutsFront}
+use Rattle.water_edge.proofs.Puts.{PutsPrefix}
 use Rattle.water_model.specs.declared.types.MonthRecord.{MonthRecord}
 use Rattle.index_seq.specs.Entries.{whole_line}
-use Rattle.index_seq.specs.declared.entry.Entry.{Entry}
+use Rattle.index_seq.specs.declared.entry.EnsembleLine.{EnsembleLine}
 use Rattle.index_seq.specs.Text.{right_lines, ensemble_lines, ensemble_text, yearly_lines}
 use Rattle.index_seq.specs.Traces.{AreTraces, years_of, yearly_deliveries}
-use Rattle.index_seq.specs.declared.entry.Entry.TheVariants as line
+use Rattle.index_seq.specs.declared.entry.EnsembleLine.TheVariants as line
 use Rattle.index_seq.proofs.Counting.{same_lines}
 use Rattle.index_seq.proofs.Running.{traces_whole, sums_whole}
 
@@ -36,10 +36,10 @@ sorted_lines b series sums amounts h count moved sorted = record {
       ∙ ap yearly_lines (sums_whole b series sums h r (seniors_below b.rights r k)))));
 }
 
--- a front of these lines is a front of the text of the traces
+-- a prefix of these lines is a prefix of the text of the traces
 pub text_cut : (b : Basin) (series : Inflows) (amounts : List (List ℕ)) (old new : Option (List ℕ)) →
     HaveLines b series amounts →
-    PutsFront old new (flat_map (whole_line b) (ensemble_lines b (λ r. slice_index_or amounts r []))) →
-    (traces : List (List MonthRecord)) × AreTraces b series traces × PutsFront old new (ensemble_text b traces)
+    PutsPrefix old new (flat_map (whole_line b) (ensemble_lines b (λ r. slice_index_or amounts r []))) →
+    (traces : List (List MonthRecord)) × AreTraces b series traces × PutsPrefix old new (ensemble_text b traces)
 text_cut b series amounts old new h cut =
-    (h.traces, h.whole, subst (λ (ls : List Entry). PutsFront old new (flat_map (whole_line b) ls)) h.lines cut)
+    (h.traces, h.whole, subst (λ (ls : List EnsembleLine). PutsPrefix old new (flat_map (whole_line b) ls)) h.lines cut)

@@ -5,7 +5,7 @@ use Rattle.std.specs.Prelude.{slice_index, slice_get, sum_by}
 use Rattle.std.specs.List.{flat_map}
 use Rattle.std.proofs.lemmas.List.Sums.{sum_by-cons}
 use Rattle.water_model.specs.History.{IsHistory}
-use Rattle.water_model.specs.Places.{numbers_from}
+use Rattle.water_model.specs.Indices.{numbers_from}
 use Rattle.water_model.specs.declared.types.MonthRecord.{MonthRecord}
 use Rattle.water_model.proofs.Outcome.{one_outcome}
 use Rattle.index_seq.specs.Laws.{TracesHaveOneResult}

@@ -8,15 +8,15 @@ use Rattle.std.specs.Io.KnownBytes.{Appends}
 use Rattle.std.proofs.lemmas.List.Sorted.{IsNonDecreasingBy-drop}
 use Rattle.water_edge.specs.Edge.{Puts}
 use Rattle.water_model.specs.declared.types.Basin.{Basin}
-use Rattle.water_edge.proofs.Puts.{PutsFront, PutsFront-fails, PutsFront-then, PutsFront-cut}
+use Rattle.water_edge.proofs.Puts.{PutsPrefix, PutsPrefix-fails, PutsPrefix-then, PutsPrefix-cut}
 use Rattle.index_seq.specs.Entries.{whole_line}
 use Rattle.index_seq.specs.Text.{yearly_lines, right_lines, ensemble_lines}
 use Rattle.index_seq.specs.Traces.{years_of}
-use Rattle.index_seq.specs.declared.entry.Entry.{Entry}
+use Rattle.index_seq.specs.declared.entry.EnsembleLine.{EnsembleLine}
 use Rattle.std.proofs.lemmas.Grind.{flat_map-append}
 use Rattle.std.proofs.KnownBytes.{Appends-trans}
-use Rattle.water_model.specs.Places.{seniors_first}
-use Rattle.index_seq.specs.declared.entry.Entry.TheVariants as line
+use Rattle.water_model.specs.Indices.{seniors_first}
+use Rattle.index_seq.specs.declared.entry.EnsembleLine.TheVariants as line
 use Rattle.index_seq.proofs.Counting.{first_of_rest}
 
 -- so far the lines of the lower amounts were put, and those of the rest are still to come
@@ -27,7 +27,7 @@ pub record IsPutSoFar (b : Basin) (amounts rest : List ℕ) (old now : Option (L
   pub sorted : IsNonDecreasingBy (λ x. x) rest
   pub later : before ≤ after
 
--- the line of the first amount of the rest, and then those behind its run
+-- the line of the first amount of the rest, and then those after its run
 rest_lines : (b : Basin) (rest : List ℕ) (count : ℕ) → IsNonDecreasingBy (λ x. x) rest → 0 < length rest →
     count ≡ prefix_len (λ x. x == slice_index rest 0) rest →
     flat_map (whole_line b) (yearly_lines rest)
@@ -60,13 +60,13 @@ pub put_fails : {E : Type 0} (b : Basin) (amounts rest : List ℕ) (count : ℕ)
     (before between : ℕ) (r : Result (Unit {0}) E) →
     IsPutSoFar b amounts rest old mid before between → 0 < length rest →
     count ≡ prefix_len (λ x. x == slice_index rest 0) rest →
-    PutsFront mid new (flat_map (whole_line b) (line.Yearly (slice_index rest 0) count ∷ [])) → IsErr r →
+    PutsPrefix mid new (flat_map (whole_line b) (line.Yearly (slice_index rest 0) count ∷ [])) → IsErr r →
     Puts old new r (flat_map (whole_line b) (yearly_lines amounts))
 put_fails b amounts rest count old mid new before between r s l is here failed =
     subst (λ (bytes : List ℕ). Puts old new r bytes)
     (sym (s.whole ∙ ap (λ t. s.done ++ t) (rest_lines b rest count s.sorted l is)))
-    (PutsFront-fails old new r (s.done ++ (piece ++ further)) failed
-    (PutsFront-then old mid new s.done (piece ++ further) s.put (PutsFront-cut mid new piece further here)))
+    (PutsPrefix-fails old new r (s.done ++ (piece ++ further)) failed
+    (PutsPrefix-then old mid new s.done (piece ++ further) s.put (PutsPrefix-cut mid new piece further here)))
   where
     piece : List ℕ
     piece = flat_map (whole_line b) (line.Yearly (slice_index rest 0) count ∷ [])
@@ -86,5 +86,5 @@ text_pieces b amounts =
     ∙ ap (λ t. whole_line b (line.Ensemble b.first (years_of b)) ++ t)
     (sym (flat_map-append (whole_line b) rights (line.Done (years_of b) ∷ [])))
   where
-    rights : List Entry
+    rights : List EnsembleLine
     rights = flat_map (right_lines amounts) (seniors_first b)

@@ -7,15 +7,15 @@ use Rattle.std.proofs.Math.Nat.{mul-le-mul_right, add-mul, mul_assoc}
 use Rattle.std.proofs.lemmas.Grind.{flat_map-append}
 use Rattle.std.proofs.lemmas.List.{drop-append-le, take-append-le, length-drop, drop_all}
 use Rattle.std.proofs.lemmas.List.Sums.{sum_by-take-drop, sum_by_push}
-use Rattle.month_fold.specs.Runs.{RunSeen, StandsFor, run_pushes}
+use Rattle.month_fold.specs.Runs.{RunView, RunStandsFor, run_pushes}
 use Rattle.reports.proofs.Room.{delivered_small}
 use Rattle.water_model.specs.History.{IsPartialHistory, IsHistory}
-use Rattle.water_model.specs.Places.{numbers_from}
+use Rattle.water_model.specs.Indices.{numbers_from}
 use Rattle.water_model.specs.Valid.{IsValidBasin, IsSeriesOf}
 use Rattle.water_model.specs.declared.types.Basin.{Basin}
 use Rattle.water_model.specs.declared.types.Inflows.{Inflows}
 use Rattle.water_model.specs.declared.types.MonthRecord.{MonthRecord}
-use Rattle.index_seq.specs.Sums.{IsEmptyYear, IsUnderWay, HaveSums}
+use Rattle.index_seq.specs.Sums.{IsEmptyYear, IsWithinTrace, HaveSums}
 use Rattle.index_seq.specs.Traces.{begun_after, delivered_in_year, yearly_deliveries, years_of, HasWholeYears}
 use Rattle.index_seq.specs.Traces.{AreTraces}
 use Rattle.senior_hold.specs.MonthNetwork.{month_pushes}
@@ -47,9 +47,9 @@ map_more f from (suc n) =
     omega arith in is)
 
 -- the month that follows
-pub partial_next : (b : Basin) (series : Inflows) (next : RunSeen) (records : List MonthRecord) (m : MonthRecord) →
+pub partial_next : (b : Basin) (series : Inflows) (next : RunView) (records : List MonthRecord) (m : MonthRecord) →
     next.basin ≡ b → next.series ≡ series → m ≡ next.last →
-    StandsFor next (records ++ next.last ∷ []) → IsPartialHistory b series (records ++ m ∷ [])
+    RunStandsFor next (records ++ next.last ∷ []) → IsPartialHistory b series (records ++ m ∷ [])
 partial_next b series next records m same fits last stands = rw (← same, ← fits, last) stands.partial
 
 -- it has a delivery for each right
@@ -57,16 +57,16 @@ pub month_fits : (b : Basin) (series : Inflows) (records : List MonthRecord) (m 
     length so_far ≡ length b.rights →
     IsPartialHistory b series (records ++ m ∷ []) → length so_far ≡ length m.delivered
 month_fits b series records m so_far count partial =
-    count ∙ sym (partial.each (length records) m (at_end records)).behind.fits.delivered
+    count ∙ sym (partial.each (length records) m (at_end records)).after.fits.delivered
   where
     at_end : (xs : List MonthRecord) → slice_get (xs ++ m ∷ []) (length xs) ≡ Some m
     at_end [] = refl
     at_end (x ∷ xs) = at_end xs
 
 -- there is room for it
-pub month_room : (b : Basin) (series : Inflows) (trace years months : ℕ) (run : RunSeen) (all : List (List ℕ))
+pub month_room : (b : Basin) (series : Inflows) (trace years months : ℕ) (run : RunView) (all : List (List ℕ))
     (so_far : List ℕ) (m : MonthRecord) → IsValidBasin b →
-    IsSeriesOf b (begun_after series trace) → (u : IsUnderWay b series trace years months run all so_far) →
+    IsSeriesOf b (begun_after series trace) → (u : IsWithinTrace b series trace years months run all so_far) →
     IsPartialHistory b (begun_after series trace) (u.records ++ m ∷ []) →
     (r : ℕ) → r < length so_far → slice_index so_far r + slice_index m.delivered r < 2 ^ 64
 month_room b series trace years months run all so_far m valid fits u partial r l =
@@ -83,13 +83,13 @@ month_room b series trace years months run all so_far m valid fits u partial r l
     )
 
 -- with it the trace is under way by one month more
-pub month_more : (b : Basin) (series : Inflows) (trace years months : ℕ) (run next : RunSeen) (all : List (List ℕ))
+pub month_more : (b : Basin) (series : Inflows) (trace years months : ℕ) (run next : RunView) (all : List (List ℕ))
     (so_far more : List ℕ) (m : MonthRecord) →
-    (u : IsUnderWay b series trace years months run all so_far) → next.basin ≡ run.basin → next.series ≡ run.series →
-    StandsFor next (u.records ++ m ∷ []) →
+    (u : IsWithinTrace b series trace years months run all so_far) → next.basin ≡ run.basin → next.series ≡ run.series →
+    RunStandsFor next (u.records ++ m ∷ []) →
     length more ≡ length so_far →
     ((r : ℕ) → r < length so_far → slice_index more r ≡ slice_index so_far r + slice_index m.delivered r) →
-    IsUnderWay b series trace years (months + 1) next all more
+    IsWithinTrace b series trace years (months + 1) next all more
 month_more b series trace years months run next all so_far more m u same fits stands long added = record {
   traces = u.traces;
   number = u.number;
@@ -121,13 +121,13 @@ month_more b series trace years months run next all so_far more m u same fits st
         (drop-append-le (12 * years) u.records (m ∷ []) (omega (arith, u.count)))
         ∙ sum_by_push (λ k. slice_index k.delivered r) (drop (12 * years) u.records) m
 
--- when a year is over, its sums stand behind those before, and another year begins
-pub year_more : (b : Basin) (series : Inflows) (trace years : ℕ) (run : RunSeen) (all more : List (List ℕ))
+-- when a year is over, its sums stand after those before, and another year begins
+pub year_more : (b : Basin) (series : Inflows) (trace years : ℕ) (run : RunView) (all more : List (List ℕ))
     (so_far none : List ℕ) →
-    IsUnderWay b series trace years 12 run all so_far → length more ≡ length all →
+    IsWithinTrace b series trace years 12 run all so_far → length more ≡ length all →
     ((r : ℕ) → r < length all → slice_index_or more r [] ≡ slice_index_or all r [] ++ slice_index so_far r ∷ []) →
     length none ≡ length so_far → ((r : ℕ) → r < length so_far → slice_index none r ≡ 0) →
-    IsUnderWay b series trace (years + 1) 0 run more none
+    IsWithinTrace b series trace (years + 1) 0 run more none
 year_more b series trace years run all more so_far none u long added short zeros = record {
   traces = u.traces;
   number = u.number;
@@ -174,10 +174,10 @@ unfolding numbers_from
 no_years f xs = sym (append-nil xs)
 
 -- a trace begins where those before it are whole
-pub trace_start : (b : Basin) (series : Inflows) (trace : ℕ) (run : RunSeen) (all : List (List ℕ)) (none : List ℕ) →
+pub trace_start : (b : Basin) (series : Inflows) (trace : ℕ) (run : RunView) (all : List (List ℕ)) (none : List ℕ) →
     (h : HaveSums b series trace all) →
-    run.basin ≡ b → run.series ≡ begun_after series trace → StandsFor run [] → IsEmptyYear b none →
-    IsUnderWay b series trace 0 0 run all none
+    run.basin ≡ b → run.series ≡ begun_after series trace → RunStandsFor run [] → IsEmptyYear b none →
+    IsWithinTrace b series trace 0 0 run all none
 trace_start b series trace run all none h same fits stands empty = record {
   traces = h.traces;
   number = h.number;
@@ -192,8 +192,8 @@ trace_start b series trace run all none h same fits stands empty = record {
 }
 
 -- and when all its years are over, it is whole too
-pub trace_over : (b : Basin) (series : Inflows) (trace : ℕ) (run : RunSeen) (all : List (List ℕ)) (none : List ℕ) →
-    IsUnderWay b series trace (years_of b) 0 run all none →
+pub trace_over : (b : Basin) (series : Inflows) (trace : ℕ) (run : RunView) (all : List (List ℕ)) (none : List ℕ) →
+    IsWithinTrace b series trace (years_of b) 0 run all none →
     HasWholeYears b → HaveSums b series (trace + 1) all
 trace_over b series trace run all none u whole = record {
   traces = u.traces ++ u.records ∷ [];
@@ -230,9 +230,9 @@ trace_over b series trace run all none u whole = record {
         (u.records ∷ []))
         ∙ no_years (delivered_in_year [] r) (yearly_deliveries b (u.traces ++ u.records ∷ []) r))
 
--- the year behind its last one is empty
-pub year_over : (b : Basin) (series : Inflows) (trace : ℕ) (run : RunSeen) (all : List (List ℕ)) (none : List ℕ) →
-    IsUnderWay b series trace (years_of b) 0 run all none →
+-- the year after its last one is empty
+pub year_over : (b : Basin) (series : Inflows) (trace : ℕ) (run : RunView) (all : List (List ℕ)) (none : List ℕ) →
+    IsWithinTrace b series trace (years_of b) 0 run all none →
     IsEmptyYear b none
 year_over b series trace run all none u = record {
   count = u.year.count;
@@ -263,14 +263,14 @@ sums_whole b series all h r l =
     h.sums.each r l ∙ sym (no_years (delivered_in_year [] r) (yearly_deliveries b h.traces r))
 
 -- the pushes of some steps and of one more are within those of all
-pub within_steps : (most first before after i n : ℕ) → before ≤ first + i * most → after ≤ before + most → i < n →
-    after ≤ first + n * most
-within_steps most first before after i n sofar more l = let all : (i + 1) * most ≤ n * most =
+pub within_steps : (most first before later i n : ℕ) → before ≤ first + i * most → later ≤ before + most → i < n →
+    later ≤ first + n * most
+within_steps most first before later i n sofar more l = let all : (i + 1) * most ≤ n * most =
     mul-le-mul_right most (omega arith) in omega (arith, add-mul i 1 most)
 
-pub one_step : (most first before after i : ℕ) → before ≤ first + i * most → after ≤ before + most →
-    after ≤ first + (i + 1) * most
-one_step most first before after i sofar more = omega (arith, add-mul i 1 most)
+pub one_step : (most first before later i : ℕ) → before ≤ first + i * most → later ≤ before + most →
+    later ≤ first + (i + 1) * most
+one_step most first before later i sofar more = omega (arith, add-mul i 1 most)
 
 -- the months of all years are those of the run
 pub year_pushes : (b : Basin) → HasWholeYears b → years_of b * (12 * month_pushes b) ≡ run_pushes b
@@ -278,6 +278,6 @@ year_pushes b whole =
     sym (mul_assoc (years_of b) 12 (month_pushes b))
     ∙ ap (λ m. m * month_pushes b) (let is : years_of b * 12 ≡ b.months = omega arith in is)
 
-pub pushes_of_run : (b : Basin) (first after : ℕ) → HasWholeYears b →
-    after ≤ first + years_of b * (12 * month_pushes b) → after ≤ first + run_pushes b
-pushes_of_run b first after whole h = subst (λ (n : ℕ). after ≤ first + n) (year_pushes b whole) h
+pub pushes_of_run : (b : Basin) (first later : ℕ) → HasWholeYears b →
+    later ≤ first + years_of b * (12 * month_pushes b) → later ≤ first + run_pushes b
+pushes_of_run b first later whole h = subst (λ (n : ℕ). later ≤ first + n) (year_pushes b whole) h

@@ -18,11 +18,11 @@ pub record HaveLines (b : Basin) (series : Inflows) (amounts : List (List ℕ)) 
   pub sorted : (r : ℕ) → IsNonDecreasingBy (λ x. x) (slice_index_or amounts r [])
   pub lines : ensemble_lines b (λ r. slice_index_or amounts r []) ≡ ensemble_lines b (yearly_deliveries b traces)
 
--- the text of the traces is appended, or after a failure of the sink a front of it
-abbrev pub Tells : Basin → Inflows → Result (Unit {0}) EnsembleStop → Option (List ℕ) → Option (List ℕ) → Type 0
-Tells b series (Ok _) old new = (traces : List (List MonthRecord)) × AreTraces b series traces ×
+-- the text of the traces is appended, or after a failure of the sink a prefix of it
+abbrev pub WritesTraces : Basin → Inflows → Result (Unit {0}) EnsembleStop → Option (List ℕ) → Option (List ℕ) → Type 0
+WritesTraces b series (Ok _) old new = (traces : List (List MonthRecord)) × AreTraces b series traces ×
     Appends old new (ensemble_text b traces)
-Tells b series (Err stop.SinkFailed) old new =
+WritesTraces b series (Err stop.SinkFailed) old new =
     (traces : List (List MonthRecord)) × AreTraces b series traces
     × ((count : ℕ) × (count ≤ length (ensemble_text b traces)) × Appends old new (take count (ensemble_text b traces)))
-Tells b series (Err stop.OutOfMemory) old new = ⊤
+WritesTraces b series (Err stop.OutOfMemory) old new = ⊤

@@ -1,9 +1,9 @@
 -- What is kept of the traces, in place of their months.
 use Rattle.std.specs.Prelude.{◌≡◌, ℕ, ◌+◌, ◌*◌, ◌<◌, List, [], ◌++◌, drop, map, length, sum_by, slice_index}
 use Rattle.std.specs.Prelude.{slice_index_or, slice_get, Some}
-use Rattle.month_fold.specs.Runs.{RunSeen, StandsFor}
+use Rattle.month_fold.specs.Runs.{RunView, RunStandsFor}
 use Rattle.water_model.specs.History.{IsHistory}
-use Rattle.water_model.specs.Places.{numbers_from}
+use Rattle.water_model.specs.Indices.{numbers_from}
 use Rattle.water_model.specs.declared.types.Basin.{Basin}
 use Rattle.water_model.specs.declared.types.Inflows.{Inflows}
 use Rattle.water_model.specs.declared.types.MonthRecord.{MonthRecord}
@@ -17,7 +17,7 @@ pub record AreSums (b : Basin) (traces : List (List MonthRecord)) (records : Lis
       slice_index_or sums r [] ≡ yearly_deliveries b traces r ++ map (delivered_in_year records r)
       (numbers_from 0 years)
 
--- by right, what it was delivered since so many years of a trace
+-- by right, what it was delivered since a given number of years of a trace
 pub record IsYear (b : Basin) (records : List MonthRecord) (years : ℕ) (year : List ℕ) : Type 0 where
   pub count : length year ≡ length b.rights
   pub each : (r : ℕ) → r < length b.rights →
@@ -34,7 +34,7 @@ pub record AreFirst (b : Basin) (series : Inflows) (traces : List (List MonthRec
       IsHistory b (begun_after series y) records
 
 -- a trace is under way, after whole years and some months of one more; its number is that of the traces before it
-pub record IsUnderWay (b : Basin) (series : Inflows) (trace years months : ℕ) (run : RunSeen) (all : List (List ℕ))
+pub record IsWithinTrace (b : Basin) (series : Inflows) (trace years months : ℕ) (run : RunView) (all : List (List ℕ))
     (so_far : List ℕ) : Type 0 where
   pub traces : List (List MonthRecord)
   pub number : length traces ≡ trace
@@ -42,7 +42,7 @@ pub record IsUnderWay (b : Basin) (series : Inflows) (trace years months : ℕ) 
   pub basin : run.basin ≡ b
   pub fits : run.series ≡ begun_after series trace
   pub records : List MonthRecord
-  pub stands : StandsFor run records
+  pub stands : RunStandsFor run records
   pub count : length records ≡ 12 * years + months
   pub sums : AreSums b traces records years all
   pub year : IsYear b records years so_far

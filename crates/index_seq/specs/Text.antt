@@ -1,25 +1,25 @@
 -- The text of an ensemble.
 use Rattle.std.specs.Prelude.{ℕ, List, [], ◌∷◌, ◌++◌, map}
 use Rattle.std.specs.List.{flat_map}
-use Rattle.water_model.specs.Places.{seniors_first}
+use Rattle.water_model.specs.Indices.{seniors_first}
 use Rattle.water_model.specs.declared.types.Basin.{Basin}
 use Rattle.water_model.specs.declared.types.MonthRecord.{MonthRecord}
 use Rattle.index_seq.specs.Counts.{rising, count_of}
 use Rattle.index_seq.specs.Entries.{whole_line}
 use Rattle.index_seq.specs.Traces.{years_of, yearly_deliveries}
-use Rattle.index_seq.specs.declared.entry.Entry.{Entry}
-use Rattle.index_seq.specs.declared.entry.Entry.TheVariants as line
+use Rattle.index_seq.specs.declared.entry.EnsembleLine.{EnsembleLine}
+use Rattle.index_seq.specs.declared.entry.EnsembleLine.TheVariants as line
 
 -- a line for each different amount, rising, with how often it came
-abbrev pub yearly_lines : List ℕ → List Entry
+abbrev pub yearly_lines : List ℕ → List EnsembleLine
 yearly_lines amounts = map (λ x. line.Yearly x (count_of x amounts)) (rising amounts)
 
 -- the lines of a right, by the amounts that it was delivered in the years
-abbrev pub right_lines : (ℕ → List ℕ) → ℕ → List Entry
+abbrev pub right_lines : (ℕ → List ℕ) → ℕ → List EnsembleLine
 right_lines amounts right = line.Right right ∷ yearly_lines (amounts right)
 
 -- all lines, rights seniors first
-abbrev pub ensemble_lines : Basin → (ℕ → List ℕ) → List Entry
+abbrev pub ensemble_lines : Basin → (ℕ → List ℕ) → List EnsembleLine
 ensemble_lines b amounts =
     line.Ensemble b.first
     (years_of b) ∷ (flat_map (right_lines amounts) (seniors_first b) ++ line.Done (years_of b) ∷ [])

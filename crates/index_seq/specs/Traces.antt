@@ -3,7 +3,7 @@ use Rattle.std.specs.Prelude.{◌≡◌, ℕ, ◌+◌, ◌*◌, ◌/◌, ◌%◌
 use Rattle.std.specs.Prelude.{slice_get, Some}
 use Rattle.std.specs.List.{flat_map}
 use Rattle.water_model.specs.History.{IsHistory}
-use Rattle.water_model.specs.Places.{numbers_from}
+use Rattle.water_model.specs.Indices.{numbers_from}
 use Rattle.water_model.specs.declared.types.Basin.{Basin}
 use Rattle.water_model.specs.declared.types.Inflows.{Inflows}
 use Rattle.water_model.specs.declared.types.MonthRecord.{MonthRecord}
@@ -15,7 +15,7 @@ HasWholeYears b = b.months % 12 ≡ 0
 abbrev pub years_of : Basin → ℕ
 years_of b = b.months / 12
 
--- the series whose gauges' record begins so many years later; what stood before comes last
+-- the series whose gauges' record begins a given number of years later; what stood before comes last
 abbrev pub begun_after : Inflows → ℕ → Inflows
 begun_after series years =
     record series {
@@ -24,12 +24,12 @@ begun_after series years =
     }
 
 -- a series that differs from another at most in the gauges' amounts, of which it has as many
-pub record IsTurnOf (series begun : Inflows) : Type 0 where
+pub record IsRotationOf (series begun : Inflows) : Type 0 where
   pub rest : begun ≡ record series { amount = begun.amount }
   pub count : length begun.amount ≡ length series.amount
 
--- the amount of each gauge in a month is that of so many years later, counted on from the beginning past the end. The
--- wants stay
+-- the amount of each gauge in a month is that of a given number of years later, counted on from the beginning past the
+-- end. The wants stay
 pub record IsBegunAfter (b : Basin) (series : Inflows) (years : ℕ) (begun : Inflows) : Type 0 where
   pub gauged : begun.gauged ≡ series.gauged
   pub amount : (i gauge : ℕ) → i < b.months → gauge < length series.gauged →

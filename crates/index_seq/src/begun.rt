@@ -1,39 +1,39 @@
 //! The series begun in another of its years.
 ghost use Rattle.std.specs.Prelude.{◌≡◌, ◌<◌, ◌≤◌, ◌++◌, drop, take, length, IfOk};
 ghost use Rattle.water_model.specs.Valid.{IsValidBasin, IsSeriesOf};
-ghost use Rattle.index_seq.specs.Traces.{HasWholeYears, years_of, begun_after, IsBegunAfter, IsTurnOf};
+ghost use Rattle.index_seq.specs.Traces.{HasWholeYears, years_of, begun_after, IsBegunAfter, IsRotationOf};
 
 use std::alloc::{AllocError, Global};
 use water_model::types::{Basin, Inflows};
 
 /// Writes the amounts from a place on, and then those before it.
-fn turn(amounts: &[u64], at: usize, into: &mut [u64])
+fn rotate_one(amounts: &[u64], at: usize, into: &mut [u64])
     requires at { at ≤ length amounts.now }
     requires room { length into.old ≡ length amounts.now }
     ensures { into.new ≡ drop at amounts.now ++ take at amounts.now }
 {
-    let (front, back) = into.split_at_mut(amounts.len() - at);
-    front.copy_from_slice(&amounts[at..]);
+    let (prefix, back) = into.split_at_mut(amounts.len() - at);
+    prefix.copy_from_slice(&amounts[at..]);
     back.copy_from_slice(&amounts[..at]);
 }
 
-/// Writes into `begun` the series whose gauges' record begins so many years later and is wrapped round at its end.
-/// `begun` differs from the series in what the gauges measured alone, as those do that were written before.
-pub fn turn_series(basin: &Basin, series: &Inflows, years: u32, begun: &mut Inflows)
+/// Writes into `begun` the series whose gauges' record begins a given number of years later and is wrapped round at its
+/// end. `begun` differs from the series in what the gauges measured alone, as those do that were written before.
+pub fn rotate_series(basin: &Basin, series: &Inflows, years: u32, begun: &mut Inflows)
     requires basin { IsValidBasin basin.now }
     requires whole { HasWholeYears basin.now }
     requires series { IsSeriesOf basin.now series.now }
     requires years { years < years_of basin.now }
-    requires begun { IsTurnOf series.now begun.old }
+    requires begun { IsRotationOf series.now begun.old }
     ensures value { begun.new ≡ begun_after series.now years }
-    ensures begun { IsTurnOf series.now begun.new }
+    ensures begun { IsRotationOf series.now begun.new }
 {
     let at = 12 * years as usize * series.gauged.len();
-    turn(series.amount.as_slice(), at, begun.amount.as_mut_slice());
+    rotate_one(series.amount.as_slice(), at, begun.amount.as_mut_slice());
 }
 
-/// The series whose gauges' record begins so many years later and is wrapped round at its end. The wants stay.
-/// AllocError comes where memory is lacking.
+/// The series whose gauges' record begins a given number of years later and is wrapped round at its end. The wants
+/// stay. AllocError comes where memory is lacking.
 pub fn rotate(
     alloc: Global,
     basin: &Basin,
@@ -49,6 +49,6 @@ pub fn rotate(
     ensures series { IfOk result (IsSeriesOf basin.now) }
 {
     let mut begun = series.copy(alloc)?;
-    turn_series(basin, series, years, &mut begun);
+    rotate_series(basin, series, years, &mut begun);
     Ok(begun)
 }

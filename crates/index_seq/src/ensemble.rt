@@ -2,13 +2,13 @@
 ghost use Rattle.std.specs.Prelude.{◌≡◌, ◌+◌, ◌*◌, ◌≤◌, Err, IfOk};
 ghost use Rattle.water_edge.specs.Edge.{HasCause};
 ghost use Rattle.water_model.specs.Valid.{IsValidBasin, IsSeriesOf};
-ghost use Rattle.index_seq.specs.Ends.{HaveLines, Tells};
+ghost use Rattle.index_seq.specs.Ends.{HaveLines, WritesTraces};
 ghost use Rattle.index_seq.specs.Sums.{HaveSums};
 ghost use Rattle.index_seq.specs.Traces.{HasWholeYears, years_of};
 ghost use Rattle.index_seq.specs.declared.stop.EnsembleStop.TheVariants.{SinkFailed, OutOfMemory};
 ghost use Rattle.month_fold.specs.Runs.{run_pushes};
 
-use crate::months::{Gathered, run_traces};
+use crate::months::{EnsembleState, run_traces};
 use crate::stop::EnsembleStop;
 use crate::sums::sort_sums;
 use crate::writer::put_ensemble;
@@ -35,7 +35,7 @@ fn sorted_amounts<'b, L: Ledger>(
     basin: &'b Basin,
     series: &Inflows,
     searches: &mut Steps<L>,
-) -> Result<Gathered<'b>, AllocError>
+) -> Result<EnsembleState<'b>, AllocError>
     requires basin { IsValidBasin basin.now }
     requires whole { HasWholeYears basin.now }
     requires series { IsSeriesOf basin.now series.now }
@@ -53,7 +53,7 @@ fn sorted_amounts<'b, L: Ledger>(
 /// each right came. Nothing is put before all traces are run.
 ///
 /// A run and the yearly deliveries of all traces take memory. OutOfMemory comes where that is lacking, and nothing was
-/// put then; SinkFailed comes only where the sink counted a fault, and a front of the text stands.
+/// put then; SinkFailed comes only where the sink counted a fault, and a prefix of the text stands.
 pub fn ensemble_report<K: Sink, L: Ledger>(
     alloc: Global,
     basin: &Basin,
@@ -64,7 +64,7 @@ pub fn ensemble_report<K: Sink, L: Ledger>(
     requires basin { IsValidBasin basin.now }
     requires whole { HasWholeYears basin.now }
     requires series { IsSeriesOf basin.now series.now }
-    ensures text { Tells basin.now series.now result (K.taken sink.old) (K.taken sink.new) }
+    ensures text { WritesTraces basin.now series.now result (K.taken sink.old) (K.taken sink.new) }
     ensures cause { HasCause (K.faults sink.old) (K.faults sink.new) (result ≡ Err SinkFailed) }
     ensures stays { result ≡ Err OutOfMemory → sink.new ≡ sink.old }
     ensures pushes { searches.new ≤ searches.old + years_of basin.now * run_pushes basin.now }

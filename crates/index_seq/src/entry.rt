@@ -3,7 +3,7 @@ use water_text::month::Month;
 
 /// What one line of an ensemble says. Amounts are in units of 1,000 cubic metres.
 #[derive(Clone, Copy, Debug, PartialEq, Eq)]
-pub enum Entry {
+pub enum EnsembleLine {
     /// The first month of each trace, and how many there are.
     Ensemble { first: Month, traces: u32 },
     /// The lines up to the next right are of this one.

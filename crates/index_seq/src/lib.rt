@@ -14,5 +14,5 @@ mod writer;
 
 pub use begun::rotate;
 pub use ensemble::ensemble_report;
-pub use entry::Entry;
+pub use entry::EnsembleLine;
 pub use stop::EnsembleStop;

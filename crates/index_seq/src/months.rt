@@ -1,12 +1,12 @@
 //! A trace, month by month and year by year.
 ghost use Rattle.std.specs.Prelude.{ℕ, ◌≡◌, ◌+◌, ◌*◌, ◌<◌, ◌≤◌, length, slice_index, IfOk, OnOk};
 ghost use Rattle.water_model.specs.Valid.{IsValidBasin, IsSeriesOf};
-ghost use Rattle.index_seq.specs.Sums.{IsUnderWay, IsEmptyYear, HaveSums};
-ghost use Rattle.index_seq.specs.Traces.{HasWholeYears, IsTurnOf, years_of};
+ghost use Rattle.index_seq.specs.Sums.{IsWithinTrace, IsEmptyYear, HaveSums};
+ghost use Rattle.index_seq.specs.Traces.{HasWholeYears, IsRotationOf, years_of};
 ghost use Rattle.senior_hold.specs.MonthNetwork.{month_pushes};
 ghost use Rattle.month_fold.specs.Runs.{run_pushes};
 
-use crate::begun::turn_series;
+use crate::begun::rotate_series;
 use crate::sums::{add_month, empty_sums, end_year};
 use month_fold::engine::Engine;
 use month_fold::run::Run;
@@ -36,9 +36,9 @@ fn run_month<L: Ledger>(
     searches: &mut Steps<L>,
 )
     requires left { run.old.done < basin.now.months }
-    requires under_way { IsUnderWay basin.now series.now at.trace at.years at.months run.old sums.now year.old }
+    requires under_way { IsWithinTrace basin.now series.now at.trace at.years at.months run.old sums.now year.old }
     ensures done { run.new.done ≡ run.old.done + 1 }
-    ensures under_way { IsUnderWay basin.now series.now at.trace at.years (at.months + 1) run.new sums.now year.new }
+    ensures under_way { IsWithinTrace basin.now series.now at.trace at.years (at.months + 1) run.new sums.now year.new }
     ensures pushes { searches.new ≤ searches.old + month_pushes basin.now }
 {
     run.step(searches);
@@ -57,9 +57,9 @@ fn run_year<L: Ledger>(
     searches: &mut Steps<L>,
 )
     requires left { run.old.done + 12 ≤ basin.now.months }
-    requires under_way { IsUnderWay basin.now series.now trace years 0 run.old sums.now year.old }
+    requires under_way { IsWithinTrace basin.now series.now trace years 0 run.old sums.now year.old }
     ensures done { run.new.done ≡ run.old.done + 12 }
-    ensures under_way { IsUnderWay basin.now series.now trace years 12 run.new sums.now year.new }
+    ensures under_way { IsWithinTrace basin.now series.now trace years 12 run.new sums.now year.new }
     ensures pushes { searches.new ≤ searches.old + 12 * month_pushes basin.now }
 {
     for months in 0..12u32 {
@@ -84,9 +84,9 @@ fn next_year<L: Ledger>(
     searches: &mut Steps<L>,
 ) -> Result<(), AllocError>
     requires left { run.old.done + 12 ≤ basin.now.months }
-    requires under_way { IsUnderWay basin.now series.now trace years 0 run.old sums.old year.old }
+    requires under_way { IsWithinTrace basin.now series.now trace years 0 run.old sums.old year.old }
     ensures done { OnOk result (run.new.done ≡ run.old.done + 12) }
-    ensures under_way { OnOk result (IsUnderWay basin.now series.now trace (years + 1) 0 run.new sums.new year.new) }
+    ensures under_way { OnOk result (IsWithinTrace basin.now series.now trace (years + 1) 0 run.new sums.new year.new) }
     ensures zeros { OnOk result ((r : ℕ) → r < length basin.now.rights → slice_index year.new r ≡ 0) }
     ensures pushes { searches.new ≤ searches.old + 12 * month_pushes basin.now }
 {
@@ -107,9 +107,9 @@ fn run_years<L: Ledger>(
 ) -> Result<(), AllocError>
     requires whole { HasWholeYears basin.now }
     requires first { run.old.done ≡ 0 }
-    requires under_way { IsUnderWay basin.now series.now trace 0 0 run.old sums.old year.old }
+    requires under_way { IsWithinTrace basin.now series.now trace 0 0 run.old sums.old year.old }
     ensures under_way { OnOk result
-        (IsUnderWay basin.now series.now trace (years_of basin.now) 0 run.new sums.new year.new) }
+        (IsWithinTrace basin.now series.now trace (years_of basin.now) 0 run.new sums.new year.new) }
     ensures pushes { searches.new ≤ searches.old + run_pushes basin.now }
 {
     let count = basin.months / 12;
@@ -136,16 +136,16 @@ fn run_trace<'b, L: Ledger>(
     requires series { IsSeriesOf basin.now series.now }
     requires trace { trace < years_of basin.now }
     requires engine { engine.basin ≡ basin.now }
-    requires begun { IsTurnOf series.now begun.old }
+    requires begun { IsRotationOf series.now begun.old }
     requires sums { HaveSums basin.now series.now trace sums.old }
     requires year { IsEmptyYear basin.now year.old }
     ensures engine { IfOk result (λ kept. kept.basin ≡ basin.now) }
-    ensures begun { IsTurnOf series.now begun.new }
+    ensures begun { IsRotationOf series.now begun.new }
     ensures sums { OnOk result (HaveSums basin.now series.now (trace + 1) sums.new) }
     ensures year { OnOk result (IsEmptyYear basin.now year.new) }
     ensures pushes { searches.new ≤ searches.old + run_pushes basin.now }
 {
-    turn_series(basin, series, trace, begun);
+    rotate_series(basin, series, trace, begun);
     let mut run = Run::begin(engine, begun);
     run_years(basin, series, trace, &mut run, sums, year, searches)?;
     Ok(run.close())
@@ -153,7 +153,7 @@ fn run_trace<'b, L: Ledger>(
 
 /// What each right was delivered in each year of each trace, by right, and the engine that ran the traces.
 #[derive(Drop)]
-pub struct Gathered<'b> {
+pub struct EnsembleState<'b> {
     pub engine: Engine<'b>,
     pub amounts: Rows<Rows<u64>>,
 }
@@ -166,7 +166,7 @@ pub fn run_traces<'b, L: Ledger>(
     series: &Inflows,
     mut engine: Engine<'b>,
     searches: &mut Steps<L>,
-) -> Result<Gathered<'b>, AllocError>
+) -> Result<EnsembleState<'b>, AllocError>
     requires basin { IsValidBasin basin.now }
     requires whole { HasWholeYears basin.now }
     requires series { IsSeriesOf basin.now series.now }
@@ -192,7 +192,7 @@ pub fn run_traces<'b, L: Ledger>(
             searches,
         )?;
     }
-    Ok(Gathered {
+    Ok(EnsembleState {
         engine,
         amounts: sums,
     })

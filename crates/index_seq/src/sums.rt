@@ -14,7 +14,8 @@ fn empty_amounts(alloc: Global, room: usize) -> Result<Rows<u64>, AllocError>
     Ok(Rows::from_vec(Vec::with_capacity(alloc, room)?))
 }
 
-/// No amounts yet for each of so many rights, with room for so many. AllocError comes where memory is lacking.
+/// No amounts yet for each of a given number of rights, with room for so many. AllocError comes where memory is
+/// lacking.
 pub fn empty_sums(alloc: Global, count: usize, room: usize) -> Result<Rows<Rows<u64>>, AllocError>
     ensures count { IfOk result (λ sums. length sums ≡ count) }
     ensures empty { IfOk result (λ sums. (r : ℕ) → slice_index_or sums r [] ≡ []) }

@@ -8,9 +8,9 @@ ghost use Rattle.water_model.specs.Valid.{IsValidBasin};
 ghost use Rattle.index_seq.specs.Entries.{IsOfBasin, whole_line};
 ghost use Rattle.index_seq.specs.Text.{yearly_lines, right_lines, ensemble_lines};
 ghost use Rattle.rights_roll.specs.Rolls.{IsRollOf};
-ghost use Rattle.water_model.specs.Places.{seniors_first};
+ghost use Rattle.water_model.specs.Indices.{seniors_first};
 
-use crate::entry::Entry;
+use crate::entry::EnsembleLine;
 use crate::spelling::spell;
 use rights_roll::roll::Roll;
 use water_edge::{Sink, SinkFailed};
@@ -19,7 +19,7 @@ use water_model::types::Basin;
 use water_text::line::Line;
 
 /// Puts the line of an entry.
-fn put_entry<K: Sink>(sink: &mut K, basin: &Basin, entry: Entry) -> Result<(), SinkFailed>
+fn put_entry<K: Sink>(sink: &mut K, basin: &Basin, entry: EnsembleLine) -> Result<(), SinkFailed>
     requires basin { IsValidBasin basin.now }
     requires entry { IsOfBasin basin.now entry }
     ensures text { Puts (K.taken sink.old) (K.taken sink.new) result
@@ -32,7 +32,7 @@ fn put_entry<K: Sink>(sink: &mut K, basin: &Basin, entry: Entry) -> Result<(), S
 }
 
 /// How many amounts at the front are the first one.
-#[tactic(auto, using(crate::proofs::Fronts::fronts))]
+#[tactic(auto, using(crate::proofs::Prefixes::prefixes))]
 fn run_length(amounts: &[u64]) -> usize
     requires { 0 < length amounts.now }
     ensures count { result ≡ prefix_len (λ x. x == slice_index amounts.now 0) amounts.now }
@@ -46,8 +46,8 @@ fn run_length(amounts: &[u64]) -> usize
     count
 }
 
-/// The amounts behind so many at the front.
-fn behind(amounts: &[u64], count: usize) -> &[u64]
+/// The amounts after so many at the front.
+fn after(amounts: &[u64], count: usize) -> &[u64]
     requires { count ≤ length amounts.now }
     ensures { result.now ≡ drop count amounts.now }
 {
@@ -65,12 +65,12 @@ pub fn put_yearly<K: Sink>(sink: &mut K, basin: &Basin, amounts: &[u64]) -> Resu
     let mut rest = amounts;
     while !rest.is_empty() {
         let count = run_length(rest);
-        let entry = Entry::Yearly {
+        let entry = EnsembleLine::Yearly {
             amount: rest[0],
             count: count as u64,
         };
         put_entry(sink, basin, entry)?;
-        rest = behind(rest, count);
+        rest = after(rest, count);
     }
     Ok(())
 }
@@ -86,10 +86,10 @@ fn put_right<K: Sink>(
     requires right { right < length basin.now.rights }
     requires sorted { IsNonDecreasingBy (λ x. x) amounts.now }
     ensures text { Puts (K.taken sink.old) (K.taken sink.new) result
-        (flat_map (whole_line basin.now) (Entry.Right right ∷ yearly_lines amounts.now)) }
+        (flat_map (whole_line basin.now) (EnsembleLine.Right right ∷ yearly_lines amounts.now)) }
     ensures cause { HasCause (K.faults sink.old) (K.faults sink.new) (IsErr result) }
 {
-    put_entry(sink, basin, Entry::Right { right })?;
+    put_entry(sink, basin, EnsembleLine::Right { right })?;
     put_yearly(sink, basin, amounts)
 }
 
@@ -124,11 +124,11 @@ fn put_rights<K: Sink>(
     Ok(())
 }
 
-/// Puts the text of an ensemble of so many traces, by the amounts that each right was delivered in their years, which
-/// don't fall.
+/// Puts the text of an ensemble of a given number of traces, by the amounts that each right was delivered in their
+/// years, which don't fall.
 ///
-/// Each line is one `put`. `SinkFailed` comes only where the sink counted a fault; a front of the text was then put. No
-/// memory is taken.
+/// Each line is one `put`. `SinkFailed` comes only where the sink counted a fault; a prefix of the text was then put.
+/// No memory is taken.
 pub fn put_ensemble<K: Sink>(
     sink: &mut K,
     basin: &Basin,
@@ -144,11 +144,11 @@ pub fn put_ensemble<K: Sink>(
     ensures cause { HasCause (K.faults sink.old) (K.faults sink.new) (IsErr result) }
 {
     let traces = basin.months / 12;
-    let first = Entry::Ensemble {
+    let first = EnsembleLine::Ensemble {
         first: basin.first,
         traces,
     };
     put_entry(sink, basin, first)?;
     put_rights(sink, basin, roll, amounts)?;
-    put_entry(sink, basin, Entry::Done { traces })
+    put_entry(sink, basin, EnsembleLine::Done { traces })
 }

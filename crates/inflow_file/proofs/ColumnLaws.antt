@@ -9,7 +9,7 @@ use Rattle.std.proofs.lemmas.List.{get_or_append_left, get_or_push, length-appen
 use Rattle.std.proofs.lemmas.List.Elements.{filter-append}
 use Rattle.water_model.proofs.Lists.{numbers_more}
 use Rattle.water_model.specs.Hydrology.{place_in}
-use Rattle.water_model.specs.Places.{numbers_from}
+use Rattle.water_model.specs.Indices.{numbers_from}
 use Rattle.water_model.specs.Valid.{is_gauged, gauged_nodes, is_in_series, rights_in_series}
 use Rattle.water_model.specs.declared.types.Basin.{Basin}
 use Rattle.inflow_file.specs.Columns.{IsColumn, column_numbers, count_of_both, is_column, right_number}
@@ -160,7 +160,7 @@ place_added p places passing n k count is each l =
           rw same (get_or_push places (length passing) 0 n count ∙ ap length is)
     ]
 
--- Gauges come first among the columns, and wants behind them.
+-- Gauges come first among the columns, and wants after them.
 
 pub gauge_column : (b : Basin) (node : ℕ) → node < length b.nodes → is_column b node ≡ is_gauged b node
 gauge_column b node l = let below : nat_lt node (length b.nodes) ≡ true = lt-ltb node (length b.nodes) l in
@@ -168,9 +168,9 @@ gauge_column b node l = let below : nat_lt node (length b.nodes) ≡ true = lt-l
 
 pub want_column : (b : Basin) (right : ℕ) → is_column b (right_number b right) ≡ is_in_series b right
 want_column b right =
-    let behind : nat_lt (length b.nodes + right) (length b.nodes) ≡ false = not_below (length b.nodes) right in
+    let after : nat_lt (length b.nodes + right) (length b.nodes) ≡ false = not_below (length b.nodes) right in
     let place : length b.nodes + right - length b.nodes ≡ right = omega arith in
-    rw (behind, place) refl
+    rw (after, place) refl
   where
     not_below : (n k : ℕ) → nat_lt (n + k) n ≡ false
     not_below n k = grind (arith, nat_tests)
@@ -249,7 +249,7 @@ below_right b right =
 pub count_of_columns : (b : Basin) → length (column_numbers b) ≡ length (gauged_nodes b) + length (rights_in_series b)
 count_of_columns b = below_right b (length b.rights)
 
--- a gauge has its place among the gauges, and a right its place among the wants, behind all gauges
+-- a gauge has its place among the gauges, and a right its place among the wants, after all gauges
 pub place_of_gauge : (b : Basin) (node : ℕ) → node < length b.nodes → is_gauged b node ≡ true →
     place_in (column_numbers b) node ≡ place_in (gauged_nodes b) node
 place_of_gauge b node l h =

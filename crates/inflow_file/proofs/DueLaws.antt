@@ -12,14 +12,14 @@ use Rattle.std.proofs.lemmas.Nat.{div-add-mod', div_below, mod_below, mul-le}
 use Rattle.water_text.specs.Months.{IsMonth}
 use Rattle.water_text.specs.declared.month.Month.{Month}
 use Rattle.water_model.specs.Hydrology.{run_month, place_in}
-use Rattle.water_model.specs.Valid.{HasFewEntries}
+use Rattle.water_model.specs.Valid.{HasBoundedEntries}
 use Rattle.water_model.specs.declared.types.Basin.{Basin}
 use Rattle.water_model.proofs.Gauges.{cell_within}
 use Rattle.inflow_file.specs.Columns.{IsColumn, column_numbers, count_of_both, is_column}
 use Rattle.inflow_file.specs.Entries.{IsEntry}
 use Rattle.inflow_file.specs.Given.{given}
 use Rattle.inflow_file.specs.SeriesFaults.{amount_for, due, is_same_month, months_of, repeats, is_in_run}
-use Rattle.inflow_file.specs.declared.entry.Entry.{Entry}
+use Rattle.inflow_file.specs.declared.entry.SeriesRecord.{SeriesRecord}
 use Rattle.inflow_file.proofs.ColumnLaws.{passed_most, place_holds, place_of_passing}
 use Rattle.inflow_file.proofs.RunLaws.{same_itself, length-months, month_there, month_in_run}
 use Rattle.inflow_file.proofs.RunLaws.{same_index, same_month_is, same_month_itself}
@@ -79,12 +79,13 @@ due_at b i g m l k =
     grid_at (months_of b) (column_numbers b) i g m 0 (omega (arith, length-months b)) k
     ∙ ap (λ (month : Month). (month, get_or (column_numbers b) g 0)) (month_there b i m l)
 
-pub few_columns : (b : Basin) → HasFewEntries b → width b ≤ 4000
-few_columns b few = omega (arith, few.nodes, few.rights, passed_most (λ n. is_column b n) (count_of_both b))
+pub bounded_columns : (b : Basin) → HasBoundedEntries b → width b ≤ 4000
+bounded_columns b bounded = omega
+    (arith, bounded.nodes, bounded.rights, passed_most (λ n. is_column b n) (count_of_both b))
 
 -- the table is small enough for numbers of the machine
-pub small_table : (b : Basin) → b.months ≤ 1200 → HasFewEntries b → b.months * width b ≤ 4800000
-small_table b months few = small b.months (width b) months (few_columns b few)
+pub small_table : (b : Basin) → b.months ≤ 1200 → HasBoundedEntries b → b.months * width b ≤ 4800000
+small_table b months bounded = small b.months (width b) months (bounded_columns b bounded)
   where
     small : (m g : ℕ) → m ≤ 1200 → g ≤ 4000 → m * g ≤ 4800000
     small m g h k = mul-le m g 1200 4000 h k
@@ -94,11 +95,11 @@ pub column_there : (b : Basin) (n : ℕ) → IsColumn b n →
     (place_in (column_numbers b) n < width b) × (get_or (column_numbers b) (place_in (column_numbers b) n) 0 ≡ n)
 column_there b n h = place_holds (λ k. is_column b k) 0 (count_of_both b) n n h.within (omega arith) h.due
 
-pub small_place : (b : Basin) (i n : ℕ) → b.months ≤ 1200 → HasFewEntries b → i < b.months → IsColumn b n →
+pub small_place : (b : Basin) (i n : ℕ) → b.months ≤ 1200 → HasBoundedEntries b → i < b.months → IsColumn b n →
     (i * width b ≤ 4800000) × (i * width b + place_in (column_numbers b) n < b.months * width b)
-small_place b i n months few l h =
+small_place b i n months bounded l h =
     let within = cell_within i b.months (width b) (place_in (column_numbers b) n) l (column_there b n h).0 in
-    (omega (arith, within, small_table b months few), within)
+    (omega (arith, within, small_table b months bounded), within)
 
 -- the row and the column of a place
 pub record IsSplit (b : Basin) (k : ℕ) : Type 0 where
@@ -120,11 +121,11 @@ split b k l =
     some_gauge m zero h = absurd (omega arith)
     some_gauge m (suc g) h = omega arith
 
-pub length-given : (b : Basin) (entries : List Entry) → length (given b entries) ≡ b.months * width b
+pub length-given : (b : Basin) (entries : List SeriesRecord) → length (given b entries) ≡ b.months * width b
 unfolding given
 length-given b entries = length-map (due b) (λ d. amount_for entries d.0 d.1) ∙ length-due b
 
-pub given_at : (b : Basin) (entries : List Entry) (i g : ℕ) → i < b.months → g < width b →
+pub given_at : (b : Basin) (entries : List SeriesRecord) (i g : ℕ) → i < b.months → g < width b →
     get_or (given b entries) (i * width b + g) None ≡ amount_for entries (run_month b i) (get_or (column_numbers b) g 0)
 unfolding given
 given_at b entries i g l k =
@@ -133,16 +134,16 @@ given_at b entries i g l k =
     ∙ ap (λ (d : Month × ℕ). amount_for entries d.0 d.1) (due_at b i g (run_month b i) l k)
 
 -- one entry more
-abbrev is_for : Month → ℕ → Entry → Bool
+abbrev is_for : Month → ℕ → SeriesRecord → Bool
 is_for month node e = is_same_month month e.month && e.column == node
 
-pub one_entry_more : (entries : List Entry) (e : Entry) (month : Month) (node : ℕ) →
+pub one_entry_more : (entries : List SeriesRecord) (e : SeriesRecord) (month : Month) (node : ℕ) →
     amount_for (entries ++ e ∷ []) month node ≡ option_or (amount_for entries month node)
     (if is_for month node e then Some e.amount else None)
 one_entry_more [] e month node = by_test (is_for month node e)
   where
     by_test : (t : Bool) →
-        option_map (λ (x : Entry). x.amount) (if t then Some e else None) ≡ (if t then Some e.amount else None)
+        option_map (λ (x : SeriesRecord). x.amount) (if t then Some e else None) ≡ (if t then Some e.amount else None)
     by_test true = refl
     by_test false = refl
 one_entry_more (x ∷ entries) e month node = by_test (is_for month node x) (one_entry_more entries e month node)
@@ -150,8 +151,9 @@ one_entry_more (x ∷ entries) e month node = by_test (is_for month node x) (one
     by_test : (t : Bool) →
         amount_for (entries ++ e ∷ []) month node ≡ option_or (amount_for entries month node)
         (if is_for month node e then Some e.amount else None) →
-        option_map (λ (y : Entry). y.amount) (if t then Some x else find (is_for month node) (entries ++ e ∷ []))
-        ≡ option_or (option_map (λ (y : Entry). y.amount) (if t then Some x else find (is_for month node) entries))
+        option_map (λ (y : SeriesRecord). y.amount) (if t then Some x else find (is_for month node) (entries ++ e ∷ []))
+        ≡ option_or (option_map (λ (y : SeriesRecord). y.amount)
+        (if t then Some x else find (is_for month node) entries))
         (if is_for month node e then Some e.amount else None)
     by_test true h = refl
     by_test false h = h
@@ -166,7 +168,7 @@ abbrev pub place_for : Basin → ℕ → ℕ → ℕ
 place_for b i node = i * width b + place_in (column_numbers b) node
 
 -- an entry that is for a place of the table has this place
-same_place : (b : Basin) (e : Entry) (i k g : ℕ) → IsMonth b.first → k < b.months → g < width b →
+same_place : (b : Basin) (e : SeriesRecord) (i k g : ℕ) → IsMonth b.first → k < b.months → g < width b →
     e.month ≡ run_month b i →
     is_for (run_month b k) (get_or (column_numbers b) g 0) e ≡ true → k * width b + g ≡ place_for b i e.column
 same_place b e i k g first l m month h =
@@ -177,7 +179,7 @@ same_place b e i k g first l m month h =
     rw (index, gauge) refl
 
 -- an entry for a month of the run adds its amount, where there was none
-added_here : (b : Basin) (earlier : List Entry) (e : Entry) (i : ℕ) → IsEntry b e → i < b.months →
+added_here : (b : Basin) (earlier : List SeriesRecord) (e : SeriesRecord) (i : ℕ) → IsEntry b e → i < b.months →
     e.month ≡ run_month b i →
     amount_for earlier (run_month b i) e.column ≡ None →
     get_or (given b (earlier ++ e ∷ [])) (place_for b i e.column) None ≡ Some e.amount
@@ -189,7 +191,7 @@ added_here b earlier e i entry l month absent =
     ∙ (ap (amount_for (earlier ++ e ∷ []) (run_month b i)) there.1
     ∙ (one_entry_more earlier e (run_month b i) e.column ∙ rw (absent, for_it) refl))
 
-kept_elsewhere : (b : Basin) (earlier : List Entry) (e : Entry) (i k n g : ℕ) → IsMonth b.first →
+kept_elsewhere : (b : Basin) (earlier : List SeriesRecord) (e : SeriesRecord) (i k n g : ℕ) → IsMonth b.first →
     e.month ≡ run_month b i →
     n < b.months → g < width b → n * width b + g ≡ k → k ≢ place_for b i e.column →
     get_or (given b (earlier ++ e ∷ [])) k None ≡ get_or (given b earlier) k None
@@ -204,7 +206,8 @@ kept_elsewhere b earlier e i k n g first month row gauge place other =
     ∙ (rw apart (or_none (amount_for earlier (run_month b n) (get_or (column_numbers b) g 0)))
     ∙ sym (given_at b earlier n g row gauge))))
 
-pub enters : (b : Basin) (earlier : List Entry) (e : Entry) (i : ℕ) → IsMonth b.first → IsEntry b e → i < b.months →
+pub enters : (b : Basin) (earlier : List SeriesRecord) (e : SeriesRecord) (i : ℕ) → IsMonth b.first → IsEntry b e →
+    i < b.months →
     e.month ≡ run_month b i →
     amount_for earlier (run_month b i) e.column ≡ None →
     given b (earlier ++ e ∷ []) ≡ set (given b earlier) (place_for b i e.column) (Some e.amount)
@@ -233,7 +236,7 @@ enters b earlier e i first entry l month absent =
         ∙ sym (get_or-set_other (given b earlier) (place_for b i e.column) k (Some e.amount) None other)
 
 -- an entry for a month outside the run adds nothing
-pub passes_by : (b : Basin) (earlier : List Entry) (e : Entry) → is_in_run b e.month ≡ false →
+pub passes_by : (b : Basin) (earlier : List SeriesRecord) (e : SeriesRecord) → is_in_run b e.month ≡ false →
     given b (earlier ++ e ∷ []) ≡ given b earlier
 passes_by b earlier e outside =
     ext_get_or None (given b (earlier ++ e ∷ [])) (given b earlier)
@@ -260,13 +263,14 @@ passes_by b earlier e outside =
         ∙ sym (given_at b earlier (k / width b) (k % width b) s.row s.gauge))))
 
 -- what entering an entry does, where its month is outside the run
-pub outside_is : (b : Basin) (earlier : List Entry) (e : Entry) (amounts : List (Option ℕ)) →
+pub outside_is : (b : Basin) (earlier : List SeriesRecord) (e : SeriesRecord) (amounts : List (Option ℕ)) →
     is_in_run b e.month ≡ false → amounts ≡ given b earlier →
     (repeats b earlier e ≡ false) × (amounts ≡ given b (earlier ++ e ∷ []))
 outside_is b earlier e amounts outside is = (rw outside refl, is ∙ sym (passes_by b earlier e outside))
 
 -- where it has a place in the table, what stands there
-pub stands_there : (b : Basin) (earlier : List Entry) (e : Entry) (i : ℕ) (amounts : List (Option ℕ)) → IsEntry b e →
+pub stands_there : (b : Basin) (earlier : List SeriesRecord) (e : SeriesRecord) (i : ℕ) (amounts : List (Option ℕ)) →
+    IsEntry b e →
     i < b.months → e.month ≡ run_month b i → amounts ≡ given b earlier →
     get_or amounts (place_for b i e.column) None ≡ amount_for earlier e.month e.column
 stands_there b earlier e i amounts entry l month is =
@@ -275,14 +279,16 @@ stands_there b earlier e i amounts entry l month is =
     ∙ (given_at b earlier i (place_in (column_numbers b) e.column) l there.0
     ∙ (ap (amount_for earlier (run_month b i)) there.1 ∙ ap (λ m. amount_for earlier m e.column) (sym month)))
 
-pub repeated_is : (b : Basin) (earlier : List Entry) (e : Entry) (i : ℕ) (amounts : List (Option ℕ)) → IsEntry b e →
+pub repeated_is : (b : Basin) (earlier : List SeriesRecord) (e : SeriesRecord) (i : ℕ) (amounts : List (Option ℕ)) →
+    IsEntry b e →
     i < b.months → e.month ≡ run_month b i → amounts ≡ given b earlier →
     is_some (get_or amounts (place_for b i e.column) None) ≡ repeats b earlier e
 repeated_is b earlier e i amounts entry l month is =
     let inside : is_in_run b e.month ≡ true = ap (is_in_run b) month ∙ month_in_run b i l in
     rw (inside, stands_there b earlier e i amounts entry l month is) refl
 
-pub entered_is : (b : Basin) (earlier : List Entry) (e : Entry) (i : ℕ) (amounts : List (Option ℕ)) → IsMonth b.first →
+pub entered_is : (b : Basin) (earlier : List SeriesRecord) (e : SeriesRecord) (i : ℕ) (amounts : List (Option ℕ)) →
+    IsMonth b.first →
     IsEntry b e → i < b.months → e.month ≡ run_month b i →
     amounts ≡ given b earlier → is_some (get_or amounts (place_for b i e.column) None) ≡ false →
     (repeats b earlier e ≡ false) × (set amounts (place_for b i e.column) (Some e.amount) ≡ given b (earlier ++ e ∷ []))

@@ -29,7 +29,7 @@ use Rattle.inflow_file.specs.CsvRecords.{records_of}
 use Rattle.inflow_file.specs.Given.{Completes, TookTable, given, given_by}
 use Rattle.inflow_file.specs.SeriesFaults.{IsRefusalOf, IsSeriesRefusal, SpellsAmounts, SpellsSeries, amount_for}
 use Rattle.inflow_file.specs.SeriesFaults.{body_of, series_fault, due, entries_of, is_same_month, missing, missing_of}
-use Rattle.inflow_file.specs.declared.entry.Entry.{Entry}
+use Rattle.inflow_file.specs.declared.entry.SeriesRecord.{SeriesRecord}
 use Rattle.inflow_file.specs.declared.refused.SeriesFault.{SeriesFault}
 use Rattle.inflow_file.specs.declared.refused.SeriesFault.TheVariants as fault
 use Rattle.inflow_file.specs.declared.refused.SeriesRefused.{SeriesRefused}
@@ -53,13 +53,13 @@ find_none p [] d none = refl
 find_none p (x ∷ xs) d none = rw (none 0 (omega arith)) (find_none p xs d (λ j m. none (suc j) (omega arith)))
 
 -- whether an amount that is due is given
-given_there : (b : Basin) (entries : List Entry) (k : ℕ) (d : Month × ℕ) → k < length (due b) →
+given_there : (b : Basin) (entries : List SeriesRecord) (k : ℕ) (d : Month × ℕ) → k < length (due b) →
     get_or (given b entries) k None ≡ amount_for entries (get_or (due b) k d).0 (get_or (due b) k d).1
 unfolding given
 given_there b entries k d l = get_or-map (λ e. amount_for entries e.0 e.1) (due b) k d None l
 
 -- where every amount is given, none is missing
-pub none_missing : (b : Basin) (entries : List Entry) (amounts : List (Option ℕ)) → amounts ≡ given b entries →
+pub none_missing : (b : Basin) (entries : List SeriesRecord) (amounts : List (Option ℕ)) → amounts ≡ given b entries →
     ((k : ℕ) → k < length amounts → is_some (get_or amounts k None) ≡ true) → missing b entries ≡ None
 none_missing b entries amounts is all =
     ap (option_map (λ (d : Month × ℕ). missing_of b d.0 d.1))
@@ -71,7 +71,8 @@ none_missing b entries amounts is all =
     there k l h = rw (← given_there b entries k (b.first, 0) l, ← is, h) refl
 
 -- the first that isn't
-pub first_missing : (b : Basin) (entries : List Entry) (amounts : List (Option ℕ)) (k : ℕ) → amounts ≡ given b entries →
+pub first_missing : (b : Basin) (entries : List SeriesRecord) (amounts : List (Option ℕ)) (k : ℕ) →
+    amounts ≡ given b entries →
     k < length amounts →
     ((j : ℕ) → j < k → is_some (get_or amounts j None) ≡ true) → is_some (get_or amounts k None) ≡ false →
     missing b entries ≡ Some (missing_of b (run_month b (k / width b)) (get_or (column_numbers b) (k % width b) 0))
@@ -93,7 +94,7 @@ first_missing b entries amounts k is l before here =
     pair s = ap (λ j. get_or (due b) j (b.first, 0)) (sym s.place)
         ∙ due_at b (k / width b) (k % width b) b.first s.row s.gauge
 
-abbrev AreSmall : List Entry → Type 0
+abbrev AreSmall : List SeriesRecord → Type 0
 AreSmall [] = Unit {0}
 AreSmall (e ∷ entries) = (e.amount ≤ 10 ^ 9) × AreSmall entries
 
@@ -108,7 +109,7 @@ needed : {X Y : Type 0} (f : SeriesFault) (o : Option X) (next : X → Result Y 
 needed f None next y e = cc
 needed f (Some x) next y e = record { value = x; there = refl; gave = e }
 
-same_ok : (x y : Entry) → ◌≡◌ {A = Result Entry SeriesFault} (Ok x) (Ok y) → x ≡ y
+same_ok : (x y : SeriesRecord) → ◌≡◌ {A = Result SeriesRecord SeriesFault} (Ok x) (Ok y) → x ≡ y
 same_ok x y e = cc
 
 -- what came of what was found
@@ -122,19 +123,19 @@ gone_on (Err f) next y e = cc
 gone_on (Ok x) next y e = record { value = x; gave = e }
 
 -- the last steps of reading a record
-abbrev amount_in : List ℕ → Month → ℕ → Result Entry SeriesFault
+abbrev amount_in : List ℕ → Month → ℕ → Result SeriesRecord SeriesFault
 amount_in amount m n =
     need fault.BadAmount (read_amount amount (10 ^ 9)) (λ a. Ok (record { month = m; column = n; amount = a }))
 
-small_in : (amount : List ℕ) (m : Month) (n : ℕ) (e : Entry) → amount_in amount m n ≡ Ok e → e.amount ≤ 10 ^ 9
+small_in : (amount : List ℕ) (m : Month) (n : ℕ) (e : SeriesRecord) → amount_in amount m n ≡ Ok e → e.amount ≤ 10 ^ 9
 small_in amount m n e h =
     let a = needed fault.BadAmount (read_amount amount (10 ^ 9))
     (λ a. Ok (record { month = m; column = n; amount = a })) e h in
     let same : record { month = m; column = n; amount = a.value } ≡ e =
     same_ok (record { month = m; column = n; amount = a.value }) e a.gave in
-    rw (← ap (λ (x : Entry). x.amount) same) (amount_is_read amount (10 ^ 9) a.value a.there).within
+    rw (← ap (λ (x : SeriesRecord). x.amount) same) (amount_is_read amount (10 ^ 9) a.value a.there).within
 
-small_record : (b : Basin) (row : List (List ℕ)) (e : Entry) → read_record b row ≡ Ok e → e.amount ≤ 10 ^ 9
+small_record : (b : Basin) (row : List (List ℕ)) (e : SeriesRecord) → read_record b row ≡ Ok e → e.amount ≤ 10 ^ 9
 unfolding read_record
 small_record b [] e h = cc
 small_record b (month ∷ []) e h = cc
@@ -151,19 +152,19 @@ small_entries : (b : Basin) (rows : List (List (List ℕ))) → AreSmall (entrie
 small_entries b [] = tt
 small_entries b (row ∷ rows) = by_read (read_record b row) refl (small_entries b rows)
   where
-    by_read : (r : Result Entry SeriesFault) → read_record b row ≡ r → AreSmall (entries_of b rows) →
+    by_read : (r : Result SeriesRecord SeriesFault) → read_record b row ≡ r → AreSmall (entries_of b rows) →
         AreSmall (cons_option (result_ok r) (entries_of b rows))
     by_read (Ok e) h further = (small_record b row e h, further)
     by_read (Err f) h further = further
 
-small_given : (entries : List Entry) (month : Month) (n a : ℕ) → AreSmall entries →
+small_given : (entries : List SeriesRecord) (month : Month) (n a : ℕ) → AreSmall entries →
     amount_for entries month n ≡ Some a → a ≤ 10 ^ 9
 small_given [] month n a small e = cc
 small_given (x ∷ entries) month n a small e =
     by_test (is_same_month month x.month && x.column == n) e (small_given entries month n a small.1)
   where
     by_test : (t : Bool) →
-        option_map (λ (y : Entry). y.amount)
+        option_map (λ (y : SeriesRecord). y.amount)
         (if t then Some x else find (λ y. is_same_month month y.month && y.column == n) entries) ≡ Some a →
         (amount_for entries month n ≡ Some a → a ≤ 10 ^ 9) → a ≤ 10 ^ 9
     by_test true h further = rw (← same_Some x.amount a h) small.0
@@ -203,7 +204,7 @@ part_more f part n k x count each is l =
       | inr past ↦ let same : k ≡ n = omega arith in rw same (get_or_push part x 0 n count ∙ is)
     ]
 
--- a place below so many columns of months is one of some column
+-- a place below a given number of columns of months is one of some column
 pub some_column : (k m g : ℕ) → k < m * g → 0 < g
 some_column k m zero h = absurd (omega arith)
 some_column k m (suc g) h = omega arith

@@ -71,7 +71,7 @@ end_step st.AfterCr c =
     (goes_on (st.StartRecord, act.Skip) refl) (end_start_record c)
 
 -- what is left behind a record is shorter, and the reader is between two records
-record IsBehind (bytes : List ℕ) (r : Read) : Type 0 where
+record IsAfter (bytes : List ℕ) (r : Read) : Type 0 where
   fewer : length r.2 ≤ length bytes
   between : ends_at_end r.1 ≡ false
 
@@ -80,8 +80,8 @@ same_read a b e = cc
 
 one_byte : (s : State) (fields : List (List ℕ)) (field : List ℕ) (c : ℕ) (bytes : List ℕ) (r : Read)
     → (next_record default_config (step default_config s c).0 (fields_after (step default_config s c).1 fields field)
-    (field_after (step default_config s c).1 c field) bytes ≡ Some r → IsBehind bytes r)
-    → next_record default_config s fields field (c ∷ bytes) ≡ Some r → IsBehind bytes r
+    (field_after (step default_config s c).1 c field) bytes ≡ Some r → IsAfter bytes r)
+    → next_record default_config s fields field (c ∷ bytes) ≡ Some r → IsAfter bytes r
 unfolding next_record
 one_byte s fields field c bytes r further =
     by_test (is_end (step default_config s c).1) (fields_after (step default_config s c).1 fields field)
@@ -89,29 +89,29 @@ one_byte s fields field c bytes r further =
   where
     by_test : (t : Bool) (all : List (List ℕ)) (after : State) {later : Option Read} →
         (t ≡ true → ends_at_end after ≡ false)
-        → (later ≡ Some r → IsBehind bytes r) → (if t then Some (all, after, bytes) else later) ≡ Some r →
-        IsBehind bytes r
+        → (later ≡ Some r → IsAfter bytes r) → (if t then Some (all, after, bytes) else later) ≡ Some r →
+        IsAfter bytes r
     by_test true all after between further e =
         let same = same_read (all, after, bytes) r e in
         record { fewer = rw (← same) (omega arith); between = rw (← same) (between refl) }
     by_test false all after between further e = further e
 
-behind : (s : State) (fields : List (List ℕ)) (field bytes : List ℕ) (r : Read) →
-    next_record default_config s fields field bytes ≡ Some r → IsBehind bytes r
+beyond : (s : State) (fields : List (List ℕ)) (field bytes : List ℕ) (r : Read) →
+    next_record default_config s fields field bytes ≡ Some r → IsAfter bytes r
 unfolding next_record
-behind s fields field [] r = by_test (ends_at_end s)
+beyond s fields field [] r = by_test (ends_at_end s)
   where
     by_test : (t : Bool) → (if t then Some (fields ++ (field ∷ []), st.StartRecord, []) else None) ≡ Some r →
-        IsBehind [] r
+        IsAfter [] r
     by_test true e =
         let same = same_read (fields ++ (field ∷ []), st.StartRecord, []) r e in
         record { fewer = rw (← same) (omega arith); between = rw (← same) refl }
     by_test false e = cc
-behind s fields field (c ∷ bytes) r = λ e. further (one_byte s fields field c bytes r
-    (behind (step default_config s c).0 (fields_after (step default_config s c).1 fields field)
+beyond s fields field (c ∷ bytes) r = λ e. further (one_byte s fields field c bytes r
+    (beyond (step default_config s c).0 (fields_after (step default_config s c).1 fields field)
     (field_after (step default_config s c).1 c field) bytes r) e)
   where
-    further : IsBehind bytes r → IsBehind (c ∷ bytes) r
+    further : IsAfter bytes r → IsAfter (c ∷ bytes) r
     further h = record { fewer = omega (arith, h.fewer); between = h.between }
 
 -- so a record that is read between two records takes at least one byte
@@ -125,7 +125,7 @@ unfolding next_record
 takes_bytes s [] r between e = let none = rw between at e in cc
 takes_bytes s (c ∷ bytes) r between e =
     let h = one_byte s [] [] c bytes r
-    (behind (step default_config s c).0 (fields_after (step default_config s c).1 [] [])
+    (beyond (step default_config s c).0 (fields_after (step default_config s c).1 [] [])
     (field_after (step default_config s c).1 c []) bytes r) e in
     record { fewer = omega (arith, h.fewer); between = h.between }
 
@@ -164,11 +164,12 @@ unfolding records_from
 no_more s bytes e = rw (add-one, e) refl
 
 -- there are no more records than bytes
-pub few_from : (n : ℕ) (s : State) (bytes : List ℕ) → ends_at_end s ≡ false →
+pub bounded_from : (n : ℕ) (s : State) (bytes : List ℕ) → ends_at_end s ≡ false →
     length (records_from default_config n s bytes) ≤ length bytes
 unfolding records_from
-few_from zero s bytes between = omega arith
-few_from (suc n) s bytes between = by_read (next_record default_config s [] [] bytes) refl (λ t rest. few_from n t rest)
+bounded_from zero s bytes between = omega arith
+bounded_from (suc n) s bytes between = by_read (next_record default_config s [] [] bytes) refl
+    (λ t rest. bounded_from n t rest)
   where
     by_read : (o : Option Read) → next_record default_config s [] [] bytes ≡ o →
         ((t : State) (rest : List ℕ) → ends_at_end t ≡ false →
@@ -189,10 +190,10 @@ strip_shorter (a ∷ b ∷ c ∷ rest) = by_test ((a == 0xEF) && (b == 0xBB) && 
     by_test true = omega arith
     by_test false = omega arith
 
-pub few_records : (text : List ℕ) → length (records_of text) ≤ length text
+pub bounded_records : (text : List ℕ) → length (records_of text) ≤ length text
 unfolding records_of
-few_records text =
-    omega (arith, strip_shorter text, few_from (length (strip_bom text) + 1) st.StartRecord (strip_bom text) refl)
+bounded_records text =
+    omega (arith, strip_shorter text, bounded_from (length (strip_bom text) + 1) st.StartRecord (strip_bom text) refl)
 
 meets : (s after : State) (bytes rest : List ℕ) (fields : List (List ℕ)) (known later : Option (List ℕ)) (p : Read) →
     known ≡ Some bytes → later ≡ Some rest →

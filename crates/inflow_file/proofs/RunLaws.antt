@@ -84,7 +84,7 @@ month_in_run b i l =
     some_from b (run_month b i) 0 b.months i l (sym (ap (λ k. is_same_month (run_month b i) (run_month b k)) same)
     ∙ same_month_itself (run_month b i))
 
--- a month before the run or behind it
+-- a month before the run or after it
 pub month_outside : (b : Basin) (m : Month) → IsMonth b.first →
     ((i : ℕ) → i < b.months → 12 * m.year + m.month ≡ 12 * b.first.year + b.first.month + i → ⊥) → is_in_run b m ≡ false
 month_outside b m h outside = none_from b m 0 b.months (λ i l k. differs i (outside i (omega arith)))

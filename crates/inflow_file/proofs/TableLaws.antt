@@ -10,22 +10,22 @@ use Rattle.inflow_file.specs.CsvRecords.{is_header, with_kind}
 use Rattle.inflow_file.specs.Entries.{read_record}
 use Rattle.inflow_file.specs.Given.{given, Takes, TakesAll, TakesTable}
 use Rattle.inflow_file.specs.SeriesFaults.{IsRefusalOf, entries_of, first_fault, record_fault, repeats, table_fault}
-use Rattle.inflow_file.specs.SeriesFaults.{tells_kinds}
-use Rattle.inflow_file.specs.declared.entry.Entry.{Entry}
+use Rattle.inflow_file.specs.SeriesFaults.{has_kinds}
+use Rattle.inflow_file.specs.declared.entry.SeriesRecord.{SeriesRecord}
 use Rattle.inflow_file.specs.declared.refused.SeriesFault.{SeriesFault}
 use Rattle.inflow_file.specs.declared.refused.SeriesFault.TheVariants as fault
 use Rattle.inflow_file.specs.declared.refused.SeriesRefused.{SeriesRefused}
 use Rattle.inflow_file.specs.declared.refused.SeriesRefused.TheVariants as refused
 
 -- the entries of one record more
-entries_more : (b : Basin) (before : List (List (List ℕ))) (row : List (List ℕ)) (e : Entry) →
+entries_more : (b : Basin) (before : List (List (List ℕ))) (row : List (List ℕ)) (e : SeriesRecord) →
     Ok e ≡ read_record b row →
     entries_of b (before ++ row ∷ []) ≡ entries_of b before ++ e ∷ []
 entries_more b before row e reads =
     filter_map-append (λ r. result_ok (read_record b r)) before (row ∷ []) ∙ rw (← reads) refl
 
 -- an entry that is entered or refused is a record that is taken or refused
-pub entry_taken : (b : Basin) (before : List (List (List ℕ))) (row : List (List ℕ)) (e : Entry)
+pub entry_taken : (b : Basin) (before : List (List (List ℕ))) (row : List (List ℕ)) (e : SeriesRecord)
     (old new : List (Option ℕ)) (result : Result (Unit {0}) SeriesFault) →
     Ok e ≡ read_record b row →
     (old ≡ given b (entries_of b before) → MatchResult result
@@ -59,7 +59,7 @@ pub no_fault_left : (b : Basin) (before : List (List (List ℕ))) (number : ℕ)
 unfolding first_fault
 no_fault_left b before number left is = rw is refl
 
--- the records before and behind, one further
+-- the records before and after, one further
 pub one_further : {X : Type 0} (before left rows all : List X) (row : X) → left ≡ row ∷ rows → before ++ left ≡ all →
     (before ++ row ∷ []) ++ rows ≡ all
 one_further before left rows all row is h = append_assoc before (row ∷ []) rows ∙ (ap (λ xs. before ++ xs) (sym is) ∙ h)
@@ -70,7 +70,7 @@ none_further before left all is h = sym (append-nil before) ∙ (ap (λ xs. befo
 -- the records of a table whose header is one are all taken, or refused
 pub table_taken : (b : Basin) (header : List (List ℕ)) (rows table : List (List (List ℕ))) (kinds : Bool)
     (new : List (Option ℕ)) (result : Result (Unit {0}) SeriesRefused) →
-    table ≡ header ∷ rows → kinds ≡ tells_kinds b header → (is_header header || kinds) ≡ true →
+    table ≡ header ∷ rows → kinds ≡ has_kinds b header → (is_header header || kinds) ≡ true →
     TakesAll b (map (with_kind kinds) rows) new result → TakesTable b table new result
 table_taken b header rows table kinds new (Ok done) is tells good took = record {
   fault = rw (is, ← tells, good, took.0) refl;
@@ -91,6 +91,6 @@ table_taken b header rows table kinds new (Err e) is tells good took = by_kind e
 
 -- and one without a header is refused
 pub no_header : (b : Basin) (header : List (List ℕ)) (rows table : List (List (List ℕ))) (kinds : Bool) →
-    table ≡ header ∷ rows → kinds ≡ tells_kinds b header → (is_header header || kinds) ≡ false →
+    table ≡ header ∷ rows → kinds ≡ has_kinds b header → (is_header header || kinds) ≡ false →
     table_fault b table ≡ Some (refused.Record fault.Header 1)
 no_header b header rows table kinds is tells bad = rw (is, ← tells, bad) refl

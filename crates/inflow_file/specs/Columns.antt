@@ -2,11 +2,11 @@
 use Rattle.std.specs.Prelude.{◌≡◌, ℕ, ◌+◌, ◌-◌, ◌<◌, List, length, slice_index, filter, nat_lt, Bool, true}
 use Rattle.std.specs.Prelude.{if◌then◌else◌}
 use Rattle.water_model.specs.Hydrology.{place_in}
-use Rattle.water_model.specs.Places.{numbers_from}
+use Rattle.water_model.specs.Indices.{numbers_from}
 use Rattle.water_model.specs.Valid.{is_gauged, is_in_series}
 use Rattle.water_model.specs.declared.types.Basin.{Basin}
 
--- nodes and rights in one list of numbers: the nodes by their own, and the rights behind them
+-- nodes and rights in one list of numbers: the nodes by their own, and the rights after them
 abbrev pub count_of_both : Basin → ℕ
 count_of_both b = length b.nodes + length b.rights
 

@@ -22,12 +22,12 @@ is_kind_header (month ∷ kind ∷ name ∷ amount ∷ []) =
     (codes "amount"))
 is_kind_header _ = false
 
--- a record behind the header of three fields is an inflow
+-- a record after the header of three fields is an inflow
 abbrev pub as_inflow : List (List ℕ) → List (List ℕ)
 as_inflow (month ∷ name ∷ amount ∷ []) = month ∷ codes "inflow" ∷ name ∷ amount ∷ []
 as_inflow _ = []
 
--- a record behind a header with kinds, or without, as one with its kind
+-- a record after a header with kinds, or without, as one with its kind
 abbrev pub with_kind : Bool → List (List ℕ) → List (List ℕ)
 with_kind true row = row
 with_kind false row = as_inflow row

@@ -8,7 +8,7 @@ use Rattle.water_text.specs.Months.{IsMonth, read_month}
 use Rattle.water_model.specs.Valid.{is_gauged, is_in_series}
 use Rattle.water_model.specs.declared.types.Basin.{Basin}
 use Rattle.inflow_file.specs.Columns.{IsColumn, right_number}
-use Rattle.inflow_file.specs.declared.entry.Entry.{Entry}
+use Rattle.inflow_file.specs.declared.entry.SeriesRecord.{SeriesRecord}
 use Rattle.inflow_file.specs.declared.refused.SeriesFault.{SeriesFault}
 use Rattle.inflow_file.specs.declared.refused.SeriesFault.TheVariants as fault
 
@@ -38,7 +38,7 @@ column_of b kind name =
     else (if bytes_eq kind (codes "want") then wanted_of b name else Err fault.BadKind)
 
 -- what a record with its kind says, or the first fault that it has by itself
-unfoldable pub read_record : Basin → List (List ℕ) → Result Entry SeriesFault
+unfoldable pub read_record : Basin → List (List ℕ) → Result SeriesRecord SeriesFault
 read_record b (month ∷ kind ∷ name ∷ amount ∷ []) =
     need fault.BadMonth (read_month month) (λ m.
     go_on (column_of b kind name) (λ n.
@@ -46,6 +46,6 @@ read_record b (month ∷ kind ∷ name ∷ amount ∷ []) =
 read_record b _ = Err fault.Csv
 
 -- the month is one that there is, and the column is one: so it is with every entry that is read
-pub record IsEntry (b : Basin) (e : Entry) : Type 0 where
+pub record IsEntry (b : Basin) (e : SeriesRecord) : Type 0 where
   pub month : IsMonth e.month
   pub column : IsColumn b e.column

@@ -12,7 +12,7 @@ use Rattle.water_model.specs.declared.types.Inflows.{Inflows}
 use Rattle.inflow_file.specs.Columns.{column_numbers, right_number}
 use Rattle.inflow_file.specs.CsvRecords.{records_of, is_header, is_kind_header, with_kind}
 use Rattle.inflow_file.specs.Entries.{read_record}
-use Rattle.inflow_file.specs.declared.entry.Entry.{Entry}
+use Rattle.inflow_file.specs.declared.entry.SeriesRecord.{SeriesRecord}
 use Rattle.inflow_file.specs.declared.refused.SeriesFault.{SeriesFault}
 use Rattle.inflow_file.specs.declared.refused.SeriesFault.TheVariants as fault
 use Rattle.inflow_file.specs.declared.refused.SeriesRefused.{SeriesRefused}
@@ -30,24 +30,24 @@ abbrev pub is_in_run : Basin → Month → Bool
 is_in_run b m = list_any (λ n. is_same_month m n) (months_of b)
 
 -- the amount that entries give for a month and a column: that of the first entry for them
-abbrev pub amount_for : List Entry → Month → ℕ → Option ℕ
+abbrev pub amount_for : List SeriesRecord → Month → ℕ → Option ℕ
 amount_for entries month column =
     option_map (λ e. e.amount) (find (λ e. is_same_month month e.month && e.column == column) entries)
 
 -- what records say, where they can be read
-abbrev pub entries_of : Basin → List (List (List ℕ)) → List Entry
+abbrev pub entries_of : Basin → List (List (List ℕ)) → List SeriesRecord
 entries_of b rows = filter_map (λ row. result_ok (read_record b row)) rows
 
 -- the month of the entry is in the run, and earlier entries have this month and column
-abbrev pub repeats : Basin → List Entry → Entry → Bool
+abbrev pub repeats : Basin → List SeriesRecord → SeriesRecord → Bool
 repeats b earlier e = is_in_run b e.month && is_some (amount_for earlier e.month e.column)
 
 -- the fault of a record by itself, and else that earlier entries have its month and column
-abbrev pub fault_after : Basin → List Entry → Result Entry SeriesFault → Option SeriesFault
+abbrev pub fault_after : Basin → List SeriesRecord → Result SeriesRecord SeriesFault → Option SeriesFault
 fault_after b earlier (Err fault) = Some fault
 fault_after b earlier (Ok e) = if repeats b earlier e then Some fault.Repeated else None
 
--- the first fault of a record behind the header, after the records between
+-- the first fault of a record after the header, after the records between
 abbrev pub record_fault : Basin → List (List (List ℕ)) → List (List ℕ) → Option SeriesFault
 record_fault b before row = fault_after b (entries_of b before) (read_record b row)
 
@@ -68,24 +68,24 @@ missing_of b month n =
     if nat_lt n (length b.nodes) then refused.Missing month n else refused.MissingWant month (n - length b.nodes)
 
 -- the first of these that the entries give no amount for
-abbrev pub missing : Basin → List Entry → Option SeriesRefused
+abbrev pub missing : Basin → List SeriesRecord → Option SeriesRefused
 missing b entries =
     option_map (λ d. missing_of b d.0 d.1) (find (λ d. not (is_some (amount_for entries d.0 d.1))) (due b))
 
 -- whether a table's header tells kinds. That of a basin of format 1 never does
-abbrev pub tells_kinds : Basin → List (List ℕ) → Bool
-tells_kinds b header = b.format == 2 && is_kind_header header
+abbrev pub has_kinds : Basin → List (List ℕ) → Bool
+has_kinds b header = b.format == 2 && is_kind_header header
 
--- the records behind the header, each with its kind
+-- the records after the header, each with its kind
 abbrev pub body_of : Basin → List (List (List ℕ)) → List (List (List ℕ))
 body_of b [] = []
-body_of b (header ∷ rows) = map (with_kind (tells_kinds b header)) rows
+body_of b (header ∷ rows) = map (with_kind (has_kinds b header)) rows
 
 -- the first fault of a table
 abbrev pub table_fault : Basin → List (List (List ℕ)) → Option SeriesRefused
 table_fault b [] = Some (refused.Record fault.Header 1)
 table_fault b (header ∷ rows) =
-    if is_header header || tells_kinds b header
+    if is_header header || has_kinds b header
     then option_or (first_fault b [] 2 (body_of b (header ∷ rows)))
     (missing b (entries_of b (body_of b (header ∷ rows))))
     else Some (refused.Record fault.Header 1)
@@ -103,7 +103,7 @@ abbrev pub IsSeriesRefusal : SeriesRefused → Basin → List ℕ → Type 0
 IsSeriesRefusal e b text = IsRefusalOf (series_fault b text) e
 
 -- in each month of the run the inflow of each gauged node, and the want of each right in the series, is the amount that
--- the records behind the header give
+-- the records after the header give
 pub record SpellsAmounts (b : Basin) (rows : List (List (List ℕ))) (series : Inflows) : Type 0 where
   pub each : (node i : ℕ) → node < length b.nodes → is_gauged b node ≡ true → i < b.months →
       amount_for (entries_of b rows) (run_month b i) node ≡ Some (inflow_at b series node i)

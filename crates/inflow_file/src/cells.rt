@@ -10,10 +10,10 @@ ghost use Rattle.inflow_file.specs.Given.{given, given_by, Completes};
 ghost use Rattle.inflow_file.specs.Cells.{IsPart, cell_in};
 ghost use Rattle.inflow_file.specs.Columns.{IsColumn, column_numbers};
 ghost use Rattle.inflow_file.specs.SeriesFaults.{is_in_run, missing_of, repeats};
-ghost use Rattle.inflow_file.specs.declared.entry.Entry.{Entry};
+ghost use Rattle.inflow_file.specs.declared.entry.SeriesRecord.{SeriesRecord};
 
 use crate::columns::{Columns, gauged_of, wanted_of};
-use crate::entry::Entry;
+use crate::entry::SeriesRecord;
 use crate::refused::{SeriesFault, SeriesRefused};
 use std::alloc::{AllocError, Global};
 use water_model::calls::month_at;
@@ -56,12 +56,12 @@ fn place_of(columns: &Columns, index: u32, number: u32) -> usize
 pub(crate) fn enter(
     columns: &Columns,
     amounts: &mut [Option<u64>],
-    entry: &Entry,
+    entry: &SeriesRecord,
 ) -> Result<(), SeriesFault>
     requires basin { IsValidBasin columns.now.basin.now }
     requires entry { IsEntry columns.now.basin.now entry.now }
     requires count { length amounts.old ≡ columns.now.basin.now.months * length (column_numbers columns.now.basin.now) }
-    ensures { (earlier : List Entry) → amounts.old ≡ given columns.now.basin.now earlier → MatchResult result
+    ensures { (earlier : List SeriesRecord) → amounts.old ≡ given columns.now.basin.now earlier → MatchResult result
         (λ _. (repeats columns.now.basin.now earlier entry.now ≡ false) ×
         (amounts.new ≡ given columns.now.basin.now (earlier ++ entry.now ∷ [])))
         (λ fault. (fault ≡ SeriesFault.Repeated) × (repeats columns.now.basin.now earlier entry.now ≡ true)) }
@@ -126,7 +126,8 @@ fn missing_at(columns: &Columns, place: usize) -> SeriesRefused
     )
 }
 
-/// Number `place` of the amounts of so many columns from one on. `cells` has all columns, `width` in each month.
+/// Number `place` of the amounts of a given number of columns from one on. `cells` has all columns, `width` in each
+/// month.
 fn cell_in(cells: &[Option<u64>], width: usize, from: usize, count: usize, place: usize) -> u64
     requires count { 0 < count }
     requires within { place / count * width + from + place % count < length cells.now }
@@ -137,7 +138,7 @@ fn cell_in(cells: &[Option<u64>], width: usize, from: usize, count: usize, place
     cells[row * width + from + place % count].unwrap_or(0)
 }
 
-/// The amounts of so many columns from one on, month by month, out of those of all columns.
+/// The amounts of a given number of columns from one on, month by month, out of those of all columns.
 fn part_of(
     alloc: Global,
     columns: &Columns,

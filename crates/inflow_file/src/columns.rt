@@ -10,7 +10,7 @@ ghost use Rattle.inflow_file.specs.Columns.{IsColumn, ArePlaces, column_numbers,
 ghost use Rattle.inflow_file.specs.CsvRecords.{with_kind};
 ghost use Rattle.inflow_file.specs.Entries.{IsEntry, column_of, gauge_of, read_record, wanted_of};
 
-use crate::entry::Entry;
+use crate::entry::SeriesRecord;
 use crate::records::{four_fields, three_fields};
 use crate::refused::SeriesFault;
 use basin_names::SpaceNames;
@@ -29,7 +29,7 @@ struct Places {
 }
 
 /// A basin with its names, the columns of a series of it, and for each number how many columns stand before it. Nodes
-/// are numbered from 0, and rights go on behind them.
+/// are numbered from 0, and rights go on after them.
 #[derive(Drop)]
 pub(crate) struct Columns<'a> {
     pub basin: &'a Basin,
@@ -37,7 +37,7 @@ pub(crate) struct Columns<'a> {
     rights: SpaceNames<'a>,
     pub numbers: Vec<u32>,
     places: Vec<u32>,
-    ghost few: { count_of_both basin.now ≤ 4000 },
+    ghost bounded: { count_of_both basin.now ≤ 4000 },
     ghost node_names: { (nodes.basin.now ≡ basin.now) × (nodes.space ≡ Nodes) },
     ghost right_names: { (rights.basin.now ≡ basin.now) × (rights.space ≡ Rights) },
     ghost columns_are: { numbers.items ≡ column_numbers basin.now },
@@ -99,7 +99,7 @@ fn count_of_both(basin: &Basin) -> u32
 }
 
 /// The columns of a basin.
-fn places_of(alloc: Global, basin: &Basin) -> Result<Places, AllocError>
+fn indices_of(alloc: Global, basin: &Basin) -> Result<Places, AllocError>
     requires { IsValidBasin basin.now }
     ensures { IfOk result (λ places. ArePlaces basin.now places.numbers.items places.of_number.items) }
 {
@@ -166,7 +166,7 @@ impl<'a> Columns<'a> {
     {
         let nodes = SpaceNames::of(alloc, Space::Nodes, basin)?;
         let rights = SpaceNames::of(alloc, Space::Rights, basin)?;
-        let Places { numbers, of_number } = places_of(alloc, basin)?;
+        let Places { numbers, of_number } = indices_of(alloc, basin)?;
         Ok(Columns {
             basin,
             nodes,
@@ -257,7 +257,7 @@ impl<'a> Columns<'a> {
         kind: &[u8],
         name: &[u8],
         amount: &[u8],
-    ) -> Result<Entry, SeriesFault>
+    ) -> Result<SeriesRecord, SeriesFault>
         ensures reads { result ≡ read_record self.now.basin.now (month.now ∷ kind.now ∷ name.now ∷ amount.now ∷ []) }
         ensures entry { IfOk result (IsEntry self.now.basin.now) }
     {
@@ -271,7 +271,7 @@ impl<'a> Columns<'a> {
         let Some(amount) = read_amount(amount, 1_000_000_000) else {
             return Err(SeriesFault::BadAmount);
         };
-        Ok(Entry {
+        Ok(SeriesRecord {
             month,
             column,
             amount,
@@ -279,7 +279,7 @@ impl<'a> Columns<'a> {
     }
 
     /// What a record of four fields says.
-    fn read_with_kind(&self, row: &ByteRecord) -> Result<Entry, SeriesFault>
+    fn read_with_kind(&self, row: &ByteRecord) -> Result<SeriesRecord, SeriesFault>
         ensures reads { result ≡ read_record self.now.basin.now (with_kind true (fields_of row.now)) }
         ensures entry { IfOk result (IsEntry self.now.basin.now) }
     {
@@ -290,7 +290,7 @@ impl<'a> Columns<'a> {
     }
 
     /// What a record of three fields says, which is an inflow.
-    fn read_inflow(&self, row: &ByteRecord) -> Result<Entry, SeriesFault>
+    fn read_inflow(&self, row: &ByteRecord) -> Result<SeriesRecord, SeriesFault>
         ensures reads { result ≡ read_record self.now.basin.now (with_kind false (fields_of row.now)) }
         ensures entry { IfOk result (IsEntry self.now.basin.now) }
     {
@@ -305,8 +305,8 @@ impl<'a> Columns<'a> {
         }
     }
 
-    /// What a record says behind a header that tells kinds or doesn't, or the first fault that it has by itself.
-    pub fn read_record(&self, kinds: bool, row: &ByteRecord) -> Result<Entry, SeriesFault>
+    /// What a record says after a header that tells kinds or doesn't, or the first fault that it has by itself.
+    pub fn read_record(&self, kinds: bool, row: &ByteRecord) -> Result<SeriesRecord, SeriesFault>
         ensures reads { result ≡ read_record self.now.basin.now (with_kind kinds (fields_of row.now)) }
         ensures entry { IfOk result (IsEntry self.now.basin.now) }
     {

@@ -7,7 +7,7 @@ ghost use Rattle.inflow_file.specs.Columns.{column_numbers};
 ghost use Rattle.inflow_file.specs.CsvRecords.{records_of, is_header, with_kind};
 ghost use Rattle.inflow_file.specs.Given.{given_by, Takes, TakesAll, TakesTable, TookTable};
 ghost use Rattle.inflow_file.specs.RecordsLeft.{IsReading, records_left};
-ghost use Rattle.inflow_file.specs.SeriesFaults.{IsSeriesRefusal, SpellsSeries, series_fault, tells_kinds};
+ghost use Rattle.inflow_file.specs.SeriesFaults.{IsSeriesRefusal, SpellsSeries, series_fault, has_kinds};
 
 use crate::cells::{complete, enter};
 use crate::columns::Columns;
@@ -17,7 +17,7 @@ use csv::{ByteRecord, Reader};
 use std::alloc::{AllocError, Global};
 use water_model::types::{Basin, Inflows};
 
-/// Takes a record behind the header, unless it is at fault.
+/// Takes a record after the header, unless it is at fault.
 fn take(
     columns: &Columns,
     kinds: bool,
@@ -45,7 +45,7 @@ fn take_all(
     amounts: &mut [Option<u64>],
 ) -> Result<(), SeriesRefused>
     requires reader { IsReading reader.old }
-    requires few { length (records_left reader.old) + 1 < 2 ^ 64 }
+    requires bounded { length (records_left reader.old) + 1 < 2 ^ 64 }
     requires basin { IsValidBasin columns.now.basin.now }
     requires empty { amounts.old ≡ given_by columns.now.basin.now [] }
     ensures { TakesAll columns.now.basin.now (map (with_kind kinds) (records_left reader.old)) amounts.new result }
@@ -70,8 +70,8 @@ fn no_header() -> SeriesRefused
 }
 
 /// Whether a header tells kinds. That of a basin of format 1 never does.
-fn tells_kinds(basin: &Basin, row: &ByteRecord) -> bool
-    ensures { result ≡ tells_kinds basin.now (fields_of row.now) }
+fn has_kinds(basin: &Basin, row: &ByteRecord) -> bool
+    ensures { result ≡ has_kinds basin.now (fields_of row.now) }
 {
     basin.format == 2 && is_kind_header(row)
 }
@@ -100,7 +100,7 @@ fn take_table(
     if !found {
         return Err(no_header());
     }
-    let kinds = tells_kinds(columns.basin, &row);
+    let kinds = has_kinds(columns.basin, &row);
     if !has_header(&row, kinds) {
         return Err(no_header());
     }

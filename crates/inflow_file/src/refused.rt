@@ -10,7 +10,7 @@ use water_text::month::Month;
 /// which is looked for at the first record alone.
 #[derive(Clone, Copy, Debug, PartialEq, Eq)]
 pub enum SeriesFault {
-    /// A record behind the header hasn't as many fields as the header.
+    /// A record after the header hasn't as many fields as the header.
     Csv,
     /// The first record is absent, or other than `month,node,amount` and, for a basin of format 2, than
     /// `month,kind,name,amount`.

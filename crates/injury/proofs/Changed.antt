@@ -4,8 +4,8 @@ use Rattle.std.proofs.Common.{inr, take}
 use Rattle.std.proofs.lemmas.Bool.{or_left, or_right}
 use Rattle.std.specs.Prelude.{if◌then◌else◌, slice_index, slice_get, Option, Some, None, unwrap_or, option_map}
 use Rattle.std.specs.Prelude.{IsTrue}
-use Rattle.place_sums.specs.Sums.{total_where}
-use Rattle.place_sums.proofs.Totals.{total_same}
+use Rattle.finite_sums.specs.Sums.{total_where}
+use Rattle.finite_sums.proofs.Totals.{total_same}
 use Rattle.water_model.specs.Basin.{instream_link, link_of_kind, is_senior, HasStrictPriority}
 use Rattle.water_model.specs.Alike.{IsUpTo, HasSameSeniors}
 use Rattle.water_model.specs.History.{IsPartialHistory, Follows, is_zone_of, is_zone_of_kind}
@@ -110,7 +110,7 @@ module _ (b : Basin) (rights : List Right) (changed : ℕ → Bool)
       ((r : ℕ) → IsSeniorToChange b (with_rights b rights) changed r →
       slice_index m.delivered r ≡ slice_index n.delivered r) → LeaveSame b m n
   leaves_same series other before others m n spares f g same = record {
-    closing = same_lists m.closing n.closing (length b.reservoirs) f.behind.fits.closing g.behind.fits.closing
+    closing = same_lists m.closing n.closing (length b.reservoirs) f.after.fits.closing g.after.fits.closing
         (λ v l. f.closing v l ∙ (closes v ∙ sym (g.closing v l)));
     returning = λ k row is. same row.right (spares.returns k row is);
   }
@@ -135,9 +135,9 @@ module _ (b : Basin) (rights : List Right) (changed : ℕ → Bool)
               slice_index m.plan.take r ≡ slice_index n.plan.take r
           taken r l zone is =
               sym (delivery_by_take b m.want m.plan r (zone_on_no_link b r v zone))
-              ∙ (sym (f.behind.delivered r l)
+              ∙ (sym (f.after.delivered r l)
               ∙ (same r is
-              ∙ (g.behind.delivered r (let e = change.count in omega arith)
+              ∙ (g.after.delivered r (let e = change.count in omega arith)
               ∙ delivery_by_take (with_rights b rights) n.want n.plan r
               (zone_on_no_link (with_rights b rights) r v (zone_same r is ∙ zone)))))
 

@@ -5,7 +5,7 @@ use Rattle.std.specs.List.{cons_option}
 use Rattle.std.specs.Prelude.{Option, Some, None, option_map, filter_map}
 use Rattle.std.specs.Prelude.{Contains}
 use Rattle.water_model.specs.Basin.{right_name}
-use Rattle.water_model.specs.Places.{seniors_first}
+use Rattle.water_model.specs.Indices.{seniors_first}
 use Rattle.water_model.specs.Valid.{IsValidBasin}
 use Rattle.water_model.specs.declared.space.Space.TheVariants.{Rights}
 use Rattle.water_model.specs.declared.types.Basin.{Basin}
@@ -40,12 +40,12 @@ module _ (first second : Basin) where
       ap (pair_of first second) (sym here) ∙ ap (λ o. option_map (λ s. record { first = r; second = s }) o) e in
       subst (λ (o : Option Pair). Contains (cons_option o (filter_map (pair_of first second) xs)) p) (sym pair)
       (0, omega arith, refl)
-  among (x ∷ xs) r s e (inr further) = behind (pair_of first second x) (among xs r s e further)
+  among (x ∷ xs) r s e (inr further) = after (pair_of first second x) (among xs r s e further)
     where
-      behind : (o : Option Pair) → Contains (filter_map (pair_of first second) xs) (record { first = r; second = s }) →
+      after : (o : Option Pair) → Contains (filter_map (pair_of first second) xs) (record { first = r; second = s }) →
           Contains (cons_option o (filter_map (pair_of first second) xs)) (record { first = r; second = s })
-      behind None c = c
-      behind (Some q) c = (suc c.0, (let l = c.1 in omega arith), c.2)
+      after None c = c
+      after (Some q) c = (suc c.0, (let l = c.1 in omega arith), c.2)
 
   among_common : (r s : ℕ) → IsValidBasin second → HaveOneName first second r s →
       Contains (common_rights first second) (record { first = r; second = s })

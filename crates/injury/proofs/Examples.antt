@@ -5,7 +5,7 @@ use Rattle.std.specs.Prelude.{codes, All, IsTrue, ◌==◌, ◌||◌, slice_get}
 use Rattle.std.specs.Fmt.{digits}
 use Rattle.water_model.specs.Basin.{is_senior}
 use Rattle.water_model.specs.History.{is_zone_of}
-use Rattle.water_model.specs.Places.{numbers_from, by_seniority}
+use Rattle.water_model.specs.Indices.{numbers_from, by_seniority}
 use Rattle.water_model.specs.Rights.{is_lower, priority}
 use Rattle.water_model.specs.Valid.{rank_of_kind}
 use Rattle.water_model.specs.declared.types.Basin.{Basin}
@@ -47,7 +47,7 @@ none_injured : comparison_text (stream 80 (old ∷ [])) (stream 80 (old ∷ new 
 unfolding common_rights injuries row comparison_text by_seniority numbers_from digits
 none_injured = refl
 
--- it stands behind the other diversion, before the instream right
+-- it stands after the other diversion, before the instream right
 last : All (λ r. rank_of_kind (new 1920).kind < rank_of_kind r.kind) (fish ∷ [])
 last zero d l = omega arith
 last (suc k) d l = absurd (omega arith)
@@ -59,7 +59,7 @@ junior (suc (suc k)) d l = absurd (omega arith)
 
 one_more : HasOneMore (stream 80 (old ∷ fish ∷ [])) (stream 80 (old ∷ new 1920 ∷ fish ∷ [])) 1 (new 1920)
 one_more =
-    record { basin = refl; place = omega arith; no_zone = omega arith; last_of_kind = last; most_junior = junior }
+    record { basin = refl; position = omega arith; no_zone = omega arith; last_of_kind = last; most_junior = junior }
 
 -- the right at the top gets another date, between those of the others
 abbrev was : Basin

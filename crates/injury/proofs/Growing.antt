@@ -3,14 +3,14 @@ use Rattle.std.proofs.Common.{◌≡◌, ℕ, zero, suc, ◌+◌, ◌*◌, ◌<�
 use Rattle.std.proofs.Common.{append-nil, append_assoc, length-append}
 use Rattle.std.specs.Prelude.{All}
 use Rattle.water_model.specs.History.{FitsBasin}
-use Rattle.water_model.specs.Places.{seniors_first}
+use Rattle.water_model.specs.Indices.{seniors_first}
 use Rattle.water_model.specs.Valid.{IsValidBasin}
 use Rattle.water_model.specs.declared.types.Basin.{Basin}
 use Rattle.water_model.specs.declared.types.MonthRecord.{MonthRecord}
 use Rattle.water_model.proofs.Order.{length-by_seniority}
 use Rattle.injury.specs.Common.{HaveDeliveries, common_rights}
 use Rattle.injury.specs.Injuries.{injuries_of, injuries}
-use Rattle.injury.proofs.Pairs.{Each, IsPair, common_have_one_name, pairs_few}
+use Rattle.injury.proofs.Pairs.{Each, IsPair, common_have_one_name, pairs_bounded}
 use Rattle.injury.proofs.Put.{injuries-count}
 
 -- the records of two basins have deliveries of their common rights
@@ -28,11 +28,11 @@ common_deliver first second m n f g =
       (let l = one.in_second in let e = g.delivered in omega arith),
     )) (common_have_one_name first second)
 
-pub common_few : (first second : Basin) → IsValidBasin first → length (common_rights first second) ≤ 2000
+pub common_bounded : (first second : Basin) → IsValidBasin first → length (common_rights first second) ≤ 2000
 unfolding common_rights
-common_few first second valid =
-    let few = valid.few.rights in
-    omega (arith, pairs_few first second (seniors_first first), length-by_seniority first.rights)
+common_bounded first second valid =
+    let bounded = valid.bounded.rights in
+    omega (arith, pairs_bounded first second (seniors_first first), length-by_seniority first.rights)
 
 -- one month more
 pub injuries_more : (first second : Basin) (records others : List MonthRecord) (m n : MonthRecord) →
@@ -49,17 +49,17 @@ injuries_more first second (x ∷ xs) (y ∷ ys) m n e =
     (injuries_of (common_rights first second) m n))
 
 -- in each month there are at most as many injuries as common rights
-pub injuries_few : (first second : Basin) (records others : List MonthRecord) →
+pub injuries_bounded : (first second : Basin) (records others : List MonthRecord) →
     length (injuries first second records others) ≤ length records * length (common_rights first second)
 unfolding injuries
-injuries_few first second [] others = omega arith
-injuries_few first second (x ∷ xs) [] = omega arith
-injuries_few first second (x ∷ xs) (y ∷ ys) =
+injuries_bounded first second [] others = omega arith
+injuries_bounded first second (x ∷ xs) [] = omega arith
+injuries_bounded first second (x ∷ xs) (y ∷ ys) =
     omega (
       arith,
       length-append (injuries_of (common_rights first second) x y) (injuries first second xs ys),
       injuries-count (common_rights first second) x y,
-      injuries_few first second xs ys,
+      injuries_bounded first second xs ys,
       suc_times (length xs) (length (common_rights first second)),
     )
   where

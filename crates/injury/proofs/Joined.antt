@@ -50,7 +50,7 @@ module _ (b : Basin) (at : ℕ) (x : Right) where
     new_not_senior r l = by_test (is_senior (with_right b at x) at (moved at r)) refl
       where
         lower : is_senior (with_right b at x) at (moved at r) ≡ is_lower (priority x) (priority_of b r)
-        lower = ap₂ is_lower (of_new priority [] more.place) (of_moved priority [] r more.place)
+        lower = ap₂ is_lower (of_new priority [] more.position) (of_moved priority [] r more.position)
 
         by_test : (t : Bool) → is_senior (with_right b at x) at (moved at r) ≡ t → t ≡ false
         by_test false e = refl
@@ -60,7 +60,7 @@ module _ (b : Basin) (at : ℕ) (x : Right) where
 
     -- a diversion of the first stands before the new right
     pub diversion_before : (r : ℕ) → is_diversion b r ≡ true → r < at
-    diversion_before r h = elim (cases_lt r at) [ inl before ↦ before | inr behind ↦ absurd (clash behind) ]
+    diversion_before r h = elim (cases_lt r at) [ inl before ↦ before | inr after ↦ absurd (clash after) ]
       where
         no_rank_0 : (k : RightKind) → rank_of_kind x.kind < rank_of_kind k → is_diversion_kind k ≡ false
         no_rank_0 (Diversion node) l = absurd (omega arith)
@@ -77,10 +77,10 @@ module _ (b : Basin) (at : ℕ) (x : Right) where
         dropped (y ∷ ys) (suc n) (suc r) l all = dropped ys n r (omega arith) all
 
         clash : at ≤ r → ⊥
-        clash behind = cc (dropped b.rights at r behind more.last_of_kind)
+        clash after = cc (dropped b.rights at r after more.last_of_kind)
 
     pub new_no_zone : (v : ℕ) → is_zone_of (with_right b at x) at v ≡ false
-    new_no_zone v = of_new (λ y. is_zone_of_kind y.kind v) false more.place ∙ of_kind x.kind more.no_zone
+    new_no_zone v = of_new (λ y. is_zone_of_kind y.kind v) false more.position ∙ of_kind x.kind more.no_zone
       where
         of_kind : (k : RightKind) → rank_of_kind k < 2 → is_zone_of_kind k v ≡ false
         of_kind (Diversion node) l = refl

@@ -55,9 +55,9 @@ comes {X} {Y} f p (x ∷ xs) y c = by_test (p x) refl (comes f p xs y) c
   where
     by_test : (t : Bool) → p x ≡ t → (Contains (map f (filter p xs)) y → ComesFrom f p xs y) →
         Contains (map f (if t then x ∷ filter p xs else filter p xs)) y → ComesFrom f p (x ∷ xs) y
-    by_test true e behind (zero, l, h) = record { source = x; there = (0, omega arith, refl); passes = e; is = h }
-    by_test true e behind (suc k, l, h) = further f p x xs y (behind (k, omega arith, h))
-    by_test false e behind d = further f p x xs y (behind d)
+    by_test true e later (zero, l, h) = record { source = x; there = (0, omega arith, refl); passes = e; is = h }
+    by_test true e later (suc k, l, h) = further f p x xs y (later (k, omega arith, h))
+    by_test false e later d = further f p x xs y (later d)
 
 module _ (first second : Basin) (valid : IsValidBasin second) where
   -- an injury in one month
@@ -145,7 +145,7 @@ module _ (first second : Basin) (valid : IsValidBasin second) where
       elim (Contains-append_cases (injuries_of (common_rights first second) x y) (injuries first second xs ys)
       injury c) [
         | inl here ↦ of_month x y xs ys injury here
-        | inr behind ↦ next x y xs ys injury (is_injury xs ys injury behind)
+        | inr later ↦ next x y xs ys injury (is_injury xs ys injury later)
       ]
 
 pub injuries_are_all_listed : InjuriesAreAllListed

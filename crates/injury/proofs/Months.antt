@@ -3,7 +3,7 @@ use Rattle.std.proofs.Common.{◌≡◌, ℕ, zero, suc, ◌+◌, ◌-◌, ◌*�
 use Rattle.std.proofs.Common.{ap₂, subst, arith, List, [], ◌∷◌, length, map, take, length-take, inl, inr}
 use Rattle.std.proofs.lemmas.Option.{slice_get_within}
 use Rattle.std.specs.Prelude.{if◌then◌else◌, ◌==◌, slice_index, slice_get, Option, Some, None, unwrap_or, option_map}
-use Rattle.place_sums.proofs.Totals.{total_same}
+use Rattle.finite_sums.proofs.Totals.{total_same}
 use Rattle.water_model.specs.Lookups.{of_entry}
 use Rattle.water_model.specs.Basin.{instream_link, link_of_kind, is_senior, HasStrictPriority}
 use Rattle.water_model.specs.Alike.{IsUpTo, HasSameSeniors, IsCertified}
@@ -189,7 +189,7 @@ module _ (b : Basin) (rights : List Right) (at : ℕ → ℕ) (S : ℕ → Type 
       (record_is_certified (with_rights b rights) other others n g)))
     where
       in_run : m.index < b.months
-      in_run = let e = f.behind.index in omega arith
+      in_run = let e = f.after.index in omega arith
 
       alike : BeginAlike m n
       alike = begin_alike b rights series other before others m n same.count same.storage
@@ -203,22 +203,22 @@ module _ (b : Basin) (rights : List Right) (at : ℕ → ℕ) (S : ℕ → Type 
 
       wants : (s : ℕ) → S s → slice_index n.want (at s) ≡ slice_index m.want s
       wants s kept =
-          g.behind.want (at s) (same_there b (with_rights b rights) s (at s) entry)
+          g.after.want (at s) (same_there b (with_rights b rights) s (at s) entry)
           ∙ (ap₂ (λ i u. want_of (with_rights b rights) other (at s) i u) (sym alike.index) (sym used)
           ∙ (sym (want_same b rights s (at s) entry series other m.index
           (λ listed. give.wants s m.index kept listed in_run) (slice_index m.used s))
-          ∙ sym (f.behind.want s entry.here)))
+          ∙ sym (f.after.want s entry.here)))
         where
           entry : IsSame b (with_rights b rights) s (at s)
           entry = let x = retained.alike s kept in
               record { here = x.in_range; entry = x.same s x.in_range (inl refl) }
 
           used : slice_index m.used s ≡ slice_index n.used (at s)
-          used = f.behind.used s entry.here
+          used = f.after.used s entry.here
               ∙ (used_same b rights s (at s) entry (map (λ k. k.delivered) before) (map (λ k. k.delivered) others)
               (λ j. same.deliveries s j kept) m.index
               ∙ (ap (λ i. used_of (with_rights b rights) (map (λ k. k.delivered) others) (at s) i) alike.index
-              ∙ sym (g.behind.used (at s) (same_there b (with_rights b rights) s (at s) entry))))
+              ∙ sym (g.after.used (at s) (same_there b (with_rights b rights) s (at s) entry))))
 
   -- by the months before, where each of them leaves the same
   module _ (records others : List MonthRecord) (f : IsPartialHistory b series records)

@@ -1,57 +1,57 @@
--- Places behind an inserted one move on: what that does to lists and sums.
+-- Places after an inserted one move on: what that does to lists and sums.
 use Rattle.std.proofs.Common.{◌≡◌, ℕ, zero, suc, ◌+◌, ◌<◌, ◌≤◌, Bool, true, false, refl, sym, ◌∙◌, ap, arith, List}
 use Rattle.std.proofs.Common.{[], ◌∷◌, length, inl, inr}
 use Rattle.std.proofs.lemmas.Bool.{cases_lt, cases_order}
 use Rattle.std.proofs.lemmas.Bool.Decides.{nat_tests}
 use Rattle.std.proofs.lemmas.List.Edits.{length-insert}
 use Rattle.std.specs.Prelude.{if◌then◌else◌, insert, slice_get, Some, ◌≢◌}
-use Rattle.place_sums.specs.Sums.{total, total_where}
-use Rattle.place_sums.proofs.Totals.{total_same}
+use Rattle.finite_sums.specs.Sums.{total, total_where}
+use Rattle.finite_sums.proofs.Totals.{total_same}
 use Rattle.injury.specs.OneMore.{moved}
 
 pub moved_below : (at r : ℕ) → r < at → moved at r ≡ r
 unfolding moved
 moved_below at r l = grind (arith, nat_tests)
 
-pub moved_behind : (at r : ℕ) → at ≤ r → moved at r ≡ suc r
+pub moved_after : (at r : ℕ) → at ≤ r → moved at r ≡ suc r
 unfolding moved
-moved_behind at r l = grind (arith, nat_tests)
+moved_after at r l = grind (arith, nat_tests)
 
 moved_suc : (at r : ℕ) → moved (suc at) (suc r) ≡ suc (moved at r)
 moved_suc at r = elim (cases_lt r at) [
   | inl below ↦ moved_below (suc at) (suc r) (omega arith) ∙ ap suc (sym (moved_below at r below))
-  | inr behind ↦ moved_behind (suc at) (suc r) (omega arith) ∙ ap suc (sym (moved_behind at r behind))
+  | inr after ↦ moved_after (suc at) (suc r) (omega arith) ∙ ap suc (sym (moved_after at r after))
 ]
 
 pub moved_within : (at r n : ℕ) → r < n → moved at r < suc n
 moved_within at r n l = elim (cases_lt r at) [
   | inl below ↦ omega (arith, moved_below at r below)
-  | inr behind ↦ omega (arith, moved_behind at r behind)
+  | inr after ↦ omega (arith, moved_after at r after)
 ]
 
 -- each place but the inserted one is that of an old place
 pub record IsMoved (at n s : ℕ) : Type 0 where
-  pub place : ℕ
-  pub within : place < n
-  pub moves : s ≡ moved at place
+  pub position : ℕ
+  pub within : position < n
+  pub moves : s ≡ moved at position
 
 pub old_place : (at n s : ℕ) → at ≤ n → s < suc n → s ≢ at → IsMoved at n s
 old_place at n s le l apart = elim (cases_order s at) [
   | inl same ↦ absurd (apart same)
   | inr o ↦ elim o [
-    | inl below ↦ record { place = s; within = omega arith; moves = sym (moved_below at s below) }
-    | inr above ↦ behind s above l
+    | inl below ↦ record { position = s; within = omega arith; moves = sym (moved_below at s below) }
+    | inr above ↦ after s above l
   ]
 ]
   where
-    behind : (s : ℕ) → at < s → s < suc n → IsMoved at n s
-    behind zero a l = absurd (omega arith)
-    behind (suc k) a l = record { place = k; within = omega arith; moves = sym (moved_behind at k (omega arith)) }
+    after : (s : ℕ) → at < s → s < suc n → IsMoved at n s
+    after zero a l = absurd (omega arith)
+    after (suc k) a l = record { position = k; within = omega arith; moves = sym (moved_after at k (omega arith)) }
 
 -- the entries of a list beside an inserted one
 pub entry_at_moved : {X : Type 0} (xs : List X) (at : ℕ) (x : X) (r : ℕ) → at ≤ length xs →
     slice_get (insert xs at x) (moved at r) ≡ slice_get xs r
-entry_at_moved xs zero x r l = ap (slice_get (x ∷ xs)) (moved_behind 0 r (omega arith))
+entry_at_moved xs zero x r l = ap (slice_get (x ∷ xs)) (moved_after 0 r (omega arith))
 entry_at_moved [] (suc at) x r l = absurd (omega arith)
 entry_at_moved (y ∷ ys) (suc at) x zero l = ap (slice_get (y ∷ insert ys at x)) (moved_below (suc at) 0 (omega arith))
 entry_at_moved (y ∷ ys) (suc at) x (suc r) l =
@@ -73,7 +73,7 @@ total_moved zero at f l = let e : f at ≡ f 0 = ap f (omega arith) in omega ari
 total_moved (suc n) at f l = elim (cases_lt n at) [
   | inl last ↦ (let e : f at ≡ f (suc n) = ap f (omega arith) in
       omega (arith, total_same (suc n) (λ r. f (moved at r)) f (λ r k. ap f (moved_below at r (omega arith)))))
-  | inr before ↦ (let e : f (moved at n) ≡ f (suc n) = ap f (moved_behind at n before) in
+  | inr before ↦ (let e : f (moved at n) ≡ f (suc n) = ap f (moved_after at n before) in
       omega (arith, total_moved n at f before))
 ]
 

@@ -8,7 +8,7 @@ use Rattle.std.specs.List.{cons_option}
 use Rattle.std.specs.Prelude.{slice_index, slice_get, option_to_list, Option, Some, None, filter}
 use Rattle.std.specs.Prelude.{filter_map, nat_lt}
 use Rattle.water_model.specs.Basin.{right_name}
-use Rattle.water_model.specs.Places.{seniors_first}
+use Rattle.water_model.specs.Indices.{seniors_first}
 use Rattle.water_model.specs.declared.space.Space.TheVariants.{Rights}
 use Rattle.water_model.specs.declared.types.Basin.{Basin}
 use Rattle.water_model.specs.declared.types.MonthRecord.{MonthRecord}
@@ -107,10 +107,10 @@ unfolding common_rights
 pairs_all first second order i l same = ap (filter_map (pair_of first second)) (take_all i order l ∙ same)
 
 -- there are no more pairs than rights
-pub pairs_few : (first second : Basin) (order : List ℕ) →
+pub pairs_bounded : (first second : Basin) (order : List ℕ) →
     length (filter_map (pair_of first second) order) ≤ length order
-pairs_few first second [] = omega arith
-pairs_few first second (r ∷ order) = one (pair_of first second r) (pairs_few first second order)
+pairs_bounded first second [] = omega arith
+pairs_bounded first second (r ∷ order) = one (pair_of first second r) (pairs_bounded first second order)
   where
     one : (o : Option Pair) → length (filter_map (pair_of first second) order) ≤ length order →
         length (cons_option o (filter_map (pair_of first second) order)) ≤ length (r ∷ order)

@@ -10,7 +10,7 @@ use Rattle.std.proofs.lemmas.Grind.{flat_map-append}
 use Rattle.std.proofs.KnownBytes.{Appends-nil, Appends-trans}
 use Rattle.water_model.specs.declared.types.Basin.{Basin}
 use Rattle.water_model.specs.declared.types.MonthRecord.{MonthRecord}
-use Rattle.water_edge.proofs.Puts.{PutsFront, PutsFront-then, PutsFront-cut}
+use Rattle.water_edge.proofs.Puts.{PutsPrefix, PutsPrefix-then, PutsPrefix-cut}
 use Rattle.injury.specs.Injuries.{is_injured, injury_of, injuries_of, injured_row, PutsInjuries}
 use Rattle.injury.specs.declared.pair.Pair.{Pair}
 
@@ -66,21 +66,21 @@ module _ (b : Basin) (m n : MonthRecord) (pairs : List Pair) (i : ℕ) (p : Pair
 
   pub fails : {E : Type 0} (old mid new : Option (List ℕ)) (before between count : ℕ) (r : Result ℕ E) →
       SoFar b m n pairs i old mid before between count →
-      PutsFront mid new (flat_map (injured_row b) (injuries_of (p ∷ []) m n)) → IsErr r →
+      PutsPrefix mid new (flat_map (injured_row b) (injuries_of (p ∷ []) m n)) → IsErr r →
       PutsInjuries b (injuries_of pairs m n) old new r
-  fails old mid new before between count (Ok k) s front failed = cc
-  fails old mid new before between count (Err e) s front failed =
-      subst (λ (piece : List ℕ). PutsFront old new piece) (sym whole)
-      (PutsFront-cut old new (flat_map (injured_row b) (injuries_of (take (i + 1) pairs) m n))
+  fails old mid new before between count (Ok k) s prefix failed = cc
+  fails old mid new before between count (Err e) s prefix failed =
+      subst (λ (piece : List ℕ). PutsPrefix old new piece) (sym whole)
+      (PutsPrefix-cut old new (flat_map (injured_row b) (injuries_of (take (i + 1) pairs) m n))
       (flat_map (injured_row b) (injuries_of (drop (i + 1) pairs) m n))
-      (subst (λ (piece : List ℕ). PutsFront old new piece) (sym front_rows)
-      (PutsFront-then old mid new (flat_map (injured_row b) (injuries_of (take i pairs) m n))
-      (flat_map (injured_row b) (injuries_of (p ∷ []) m n)) s.put front)))
+      (subst (λ (piece : List ℕ). PutsPrefix old new piece) (sym prefix_rows)
+      (PutsPrefix-then old mid new (flat_map (injured_row b) (injuries_of (take i pairs) m n))
+      (flat_map (injured_row b) (injuries_of (p ∷ []) m n)) s.put prefix)))
     where
-      front_rows : flat_map (injured_row b) (injuries_of (take (i + 1) pairs) m n)
+      prefix_rows : flat_map (injured_row b) (injuries_of (take (i + 1) pairs) m n)
           ≡ flat_map (injured_row b) (injuries_of (take i pairs) m n) ++ flat_map (injured_row b)
           (injuries_of (p ∷ []) m n)
-      front_rows = ap (flat_map (injured_row b)) one_more
+      prefix_rows = ap (flat_map (injured_row b)) one_more
           ∙ flat_map-append (injured_row b) (injuries_of (take i pairs) m n) (injuries_of (p ∷ []) m n)
 
       whole : flat_map (injured_row b) (injuries_of pairs m n)

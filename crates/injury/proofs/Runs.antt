@@ -3,7 +3,7 @@ use Rattle.std.proofs.Common.{◌≡◌, ℕ, ◌<◌, true, false, sym, ◌∙�
 use Rattle.std.proofs.Common.{length, inl, inr, take}
 use Rattle.std.proofs.lemmas.Bool.{cases_eq, cases_order}
 use Rattle.std.specs.Prelude.{slice_index, IsTrue, insert}
-use Rattle.place_sums.specs.Sums.{total_where}
+use Rattle.finite_sums.specs.Sums.{total_where}
 use Rattle.water_model.specs.Basin.{is_senior, right_name}
 use Rattle.water_model.specs.History.{IsPartialHistory, Follows, is_zone_of, is_zone_of_kind}
 use Rattle.water_model.specs.Valid.{IsValidBasin, IsValidReturn}
@@ -31,7 +31,7 @@ module _ (b : Basin) (at : ℕ) (x : Right) (more : HasOneMore b (with_right b a
   are_retained = record {
     alike = λ r l. record {
       in_range = l;
-      same = λ s k up. entry_at_moved b.rights at x s more.place;
+      same = λ s k up. entry_at_moved b.rights at x s more.position;
       no_other = no_other r l;
     };
     closed = λ s r l k h. l;
@@ -44,16 +44,16 @@ module _ (b : Basin) (at : ℕ) (x : Right) (more : HasOneMore b (with_right b a
         | inl new ↦ absurd (let senior : is_senior (with_right b at x) at (moved at r) ≡ true =
             ap (λ v. is_senior (with_right b at x) v (moved at r)) (sym new) ∙ h in
             cc (new_not_senior b at x more r l))
-        | inr apart ↦ of_old (old_place at (length b.rights) u more.place
-            (let e = one_more_right b at x more.place in omega arith) apart)
+        | inr apart ↦ of_old (old_place at (length b.rights) u more.position
+            (let e = one_more_right b at x more.position in omega arith) apart)
       ]
         where
           of_old : IsMoved at (length b.rights) u →
               (s : ℕ) × (s < length b.rights) × IsTrue (is_senior b s r) × (moved at s ≡ u)
           of_old old = (
-            old.place,
+            old.position,
             old.within,
-            sym (moved_senior b at x old.place r more.place)
+            sym (moved_senior b at x old.position r more.position)
                 ∙ (ap (λ v. is_senior (with_right b at x) v (moved at r)) (sym old.moves) ∙ h),
             sym old.moves,
           )
@@ -64,7 +64,7 @@ module _ (b : Basin) (at : ℕ) (x : Right) (more : HasOneMore b (with_right b a
       ((r : ℕ) → r < length b.rights → slice_index m.delivered r ≡ slice_index n.delivered (moved at r)) →
       LeaveSame b m n
   leaves_same series other before others m n valid f g same = record {
-    closing = same_lists m.closing n.closing (length b.reservoirs) f.behind.fits.closing g.behind.fits.closing
+    closing = same_lists m.closing n.closing (length b.reservoirs) f.after.fits.closing g.after.fits.closing
         (λ v l. f.closing v l ∙ (sym (closes v) ∙ sym (g.closing v l)));
     returning = λ k row is. of_row row (all_at (λ y. IsValidReturn b y) b.returns k row valid.returns is);
   }
@@ -82,9 +82,9 @@ module _ (b : Basin) (at : ℕ) (x : Right) (more : HasOneMore b (with_right b a
       closes v = total_where_moved (length (with_right b at x).rights) (length b.rights) at
           (λ r. is_zone_of b r v) (λ s. is_zone_of (with_right b at x) s v)
           (λ r. slice_index m.plan.take r) (λ s. slice_index n.plan.take s)
-          (one_more_right b at x more.place) more.place
+          (one_more_right b at x more.position) more.position
           (λ h. absurd (clash h))
-          (λ r l. of_moved b at x (λ y. is_zone_of_kind y.kind v) false r more.place)
+          (λ r l. of_moved b at x (λ y. is_zone_of_kind y.kind v) false r more.position)
           takes
         where
           clash : is_zone_of (with_right b at x) at v ≡ true → ⊥
@@ -94,11 +94,11 @@ module _ (b : Basin) (at : ℕ) (x : Right) (more : HasOneMore b (with_right b a
               slice_index n.plan.take (moved at r) ≡ slice_index m.plan.take r
           takes r l zone =
               sym (delivery_by_take (with_right b at x) n.want n.plan (moved at r)
-              (moved_link b at x r more.place ∙ zone_on_no_link b r v zone))
-              ∙ (sym (g.behind.delivered (moved at r)
-              (omega (arith, moved_within at r (length b.rights) l, one_more_right b at x more.place)))
+              (moved_link b at x r more.position ∙ zone_on_no_link b r v zone))
+              ∙ (sym (g.after.delivered (moved at r)
+              (omega (arith, moved_within at r (length b.rights) l, one_more_right b at x more.position)))
               ∙ (sym (same r l)
-              ∙ (f.behind.delivered r l ∙ delivery_by_take b m.want m.plan r (zone_on_no_link b r v zone))))
+              ∙ (f.after.delivered r l ∙ delivery_by_take b m.want m.plan r (zone_on_no_link b r v zone))))
 
   -- the place of the right that has a common name
   one_place : (r s : ℕ) → IsValidBasin (with_right b at x) → HaveOneName b (with_right b at x) r s → s ≡ moved at r
@@ -111,10 +111,10 @@ module _ (b : Basin) (at : ℕ) (x : Right) (more : HasOneMore b (with_right b a
   ]
     where
       within : moved at r < length (with_right b at x).rights
-      within = omega (arith, moved_within at r (length b.rights) one.in_first, one_more_right b at x more.place)
+      within = omega (arith, moved_within at r (length b.rights) one.in_first, one_more_right b at x more.position)
 
       name : right_name (with_right b at x) (moved at r) ≡ right_name (with_right b at x) s
-      name = of_moved b at x (λ y. y.name) [] r more.place ∙ one.name
+      name = of_moved b at x (λ y. y.name) [] r more.position ∙ one.name
 
 pub junior_injures_nobody : JuniorInjuresNobody
 junior_injures_nobody first second at x series other records others valid valid' more give f g i m n here there r s

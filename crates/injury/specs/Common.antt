@@ -2,7 +2,7 @@
 use Rattle.std.specs.Prelude.{◌≡◌, ℕ, ◌<◌, List, length, Option, option_map, filter_map, All}
 use Rattle.basin_names.specs.Named.{right_named}
 use Rattle.water_model.specs.Basin.{right_name}
-use Rattle.water_model.specs.Places.{seniors_first}
+use Rattle.water_model.specs.Indices.{seniors_first}
 use Rattle.water_model.specs.declared.types.Basin.{Basin}
 use Rattle.water_model.specs.declared.types.MonthRecord.{MonthRecord}
 use Rattle.injury.specs.declared.pair.Pair.{Pair}

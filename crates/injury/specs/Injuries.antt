@@ -66,7 +66,7 @@ comparison_text first second records others =
     flat_map (injured_row first) (injuries first second records others)
     ++ compared_row (length (common_rights first second)) (length (injuries first second records others))
 
--- a row for each injury was put, and they were counted; or after a failure of the sink a front of the rows was put
+-- a row for each injury was put, and they were counted; or after a failure of the sink a prefix of the rows was put
 abbrev pub PutsInjuries : {E : Type 0} → Basin → List Injury → Option (List ℕ) → Option (List ℕ) → Result ℕ E → Type 0
 PutsInjuries b all old new (Ok count) = (count ≡ length all) × Appends old new (flat_map (injured_row b) all)
 PutsInjuries b all old new (Err _) =

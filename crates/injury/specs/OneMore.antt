@@ -13,7 +13,7 @@ use Rattle.water_model.specs.declared.types.Right.{Right}
 abbrev pub with_right : Basin → ℕ → Right → Basin
 with_right b at right = record b { rights = insert b.rights at right }
 
--- where a right of the basin stands beside a right that is put at a place: behind it one further on
+-- where a right of the basin stands beside a right that is put at a place: after it one further on
 unfoldable pub moved : ℕ → ℕ → ℕ
 moved at r = if nat_lt r at then r else suc r
 
@@ -22,7 +22,7 @@ moved at r = if nat_lt r at then r else suc r
 -- right. So the rows stay as they are, and none of them is the new right's.
 pub record HasOneMore (first second : Basin) (at : ℕ) (right : Right) : Type 0 where
   pub basin : second ≡ with_right first at right
-  pub place : at ≤ length first.rights
+  pub position : at ≤ length first.rights
   pub no_zone : rank_of_kind right.kind < 2
   pub last_of_kind : All (λ r. rank_of_kind right.kind < rank_of_kind r.kind) (drop at first.rights)
   pub most_junior : All (λ r. IsTrue (is_lower (priority r) (priority right))) first.rights

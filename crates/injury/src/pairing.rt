@@ -81,7 +81,7 @@ impl Pairing {
     /// The pairs of common rights, in the first basin's order of seniority.
     pub fn common(&self) -> &[Pair]
         ensures pairs { result.now ≡ self.now }
-        ensures few { length result.now ≤ 2000 }
+        ensures bounded { length result.now ≤ 2000 }
     {
         self.pairs.as_slice()
     }
@@ -98,7 +98,8 @@ impl Pairing {
     /// Puts a row for each injury of a month, in the order of the pairs, and answers their number. The basin is the
     /// first.
     ///
-    /// Each row is one `put`. `SinkFailed` comes only where the sink counted a fault; a front of the rows was then put.
+    /// Each row is one `put`. `SinkFailed` comes only where the sink counted a fault; a prefix of the rows was then
+    /// put.
     pub fn put_injured<K: Sink>(
         &self,
         sink: &mut K,

@@ -8,10 +8,10 @@ use Rattle.std.proofs.lemmas.List.{length-map, length-drop, get_or-drop}
 use Rattle.std.proofs.lemmas.Option.{slice_get-map, unwrap_or-slice_get}
 use Rattle.std.proofs.Math.Nat.{mul-add}
 use Rattle.circular_buffer.specs.Buffer.{keep_last}
-use Rattle.place_sums.proofs.Totals.{total_start, total_more}
+use Rattle.finite_sums.proofs.Totals.{total_start, total_more}
 use Rattle.water_model.specs.Hydrology.{delivered_in, delivered_before, returned_by}
 use Rattle.lag_returns.specs.ReturnFlows.{due, arriving}
-use Rattle.lag_returns.specs.Lags.{OnTheWay, IsOnTheWay, delivered_to}
+use Rattle.lag_returns.specs.Lags.{InTransit, IsInTransit, delivered_to}
 
 delivered_at : (deliveries : List (List ℕ)) (right j : ℕ) →
     get_or (delivered_to deliveries right) j 0 ≡ delivered_in deliveries right j
@@ -20,9 +20,9 @@ delivered_at deliveries right j =
     ∙ ap (λ o. unwrap_or o 0) (slice_get-map (λ d. slice_index d right) deliveries j)
 
 -- how many deliveries are on their way
-on_the_way : (deliveries : List (List ℕ)) (right lag : ℕ) →
+in_transit : (deliveries : List (List ℕ)) (right lag : ℕ) →
     length (keep_last lag (delivered_to deliveries right)) ≡ length deliveries - (length deliveries - lag)
-on_the_way deliveries right lag =
+in_transit deliveries right lag =
     let n = length-map deliveries (λ d. slice_index d right) in
     omega (arith, n, length-drop (length (delivered_to deliveries right) - lag) (delivered_to deliveries right))
 
@@ -32,28 +32,28 @@ oldest : (deliveries : List (List ℕ)) (right lag : ℕ) →
     (length deliveries - lag)
 oldest deliveries right lag =
     get_or-drop (length (delivered_to deliveries right) - lag) (delivered_to deliveries right) 0 0
-    ∙ ap (λ n. get_or (delivered_to deliveries right) n 0) (place (length-map deliveries (λ d. slice_index d right)))
+    ∙ ap (λ n. get_or (delivered_to deliveries right) n 0) (index (length-map deliveries (λ d. slice_index d right)))
     ∙ delivered_at deliveries right (length deliveries - lag)
   where
-    place : {n m : ℕ} → n ≡ m → n - lag + 0 ≡ m - lag
-    place e = omega arith
+    index : {n m : ℕ} → n ≡ m → n - lag + 0 ≡ m - lag
+    index e = omega arith
 
 -- what came to be due now, beside the remainder
-pub record IsDue (deliveries : List (List ℕ)) (w : OnTheWay) (amount : ℕ) : Type 0 where
+pub record IsDue (deliveries : List (List ℕ)) (w : InTransit) (amount : ℕ) : Type 0 where
   pub more : delivered_before deliveries w.row.right (length deliveries + 1 - w.row.lag)
       ≡ delivered_before deliveries w.row.right (length deliveries - w.row.lag) + amount
   pub parts : due w ≡ (w.row.part * delivered_before deliveries w.row.right (length deliveries - w.row.lag)) % 10000 +
       w.row.part * amount
 
-pub is_due : (deliveries : List (List ℕ)) (w : OnTheWay) → IsOnTheWay deliveries w → (amount : ℕ) ×
+pub is_due : (deliveries : List (List ℕ)) (w : InTransit) → IsInTransit deliveries w → (amount : ℕ) ×
     IsDue deliveries w amount
 is_due deliveries w h = elim (cases_Bool (nat_lt (length w.waiting) w.row.lag)) [
-  | inl few ↦ (0, none few)
+  | inl bounded ↦ (0, none bounded)
   | inr full ↦ (delivered_in deliveries w.row.right (length deliveries - w.row.lag), some full)
 ]
   where
     waiting : length w.waiting ≡ length deliveries - (length deliveries - w.row.lag)
-    waiting = ap length h.waiting ∙ on_the_way deliveries w.row.right w.row.lag
+    waiting = ap length h.waiting ∙ in_transit deliveries w.row.right w.row.lag
 
     below : (m n : ℕ) → nat_lt m n ≡ true → m < n
     below m n e = grind (arith, nat_tests)
@@ -62,7 +62,7 @@ is_due deliveries w h = elim (cases_Bool (nat_lt (length w.waiting) w.row.lag)) 
     above m n e = grind (arith, nat_tests)
 
     none_due : nat_lt (length w.waiting) w.row.lag ≡ true → due w ≡ 0
-    none_due few = rw few refl
+    none_due bounded = rw bounded refl
 
     due_of_oldest : nat_lt (length w.waiting) w.row.lag ≡ false →
         due w ≡ w.remainder + w.row.part * slice_index w.waiting 0
@@ -78,13 +78,13 @@ is_due deliveries w h = elim (cases_Bool (nat_lt (length w.waiting) w.row.lag)) 
     no_parts p d e = rw e (omega arith)
 
     none : nat_lt (length w.waiting) w.row.lag ≡ true → IsDue deliveries w 0
-    none few =
-        let l = below (length w.waiting) w.row.lag few in
+    none bounded =
+        let l = below (length w.waiting) w.row.lag bounded in
         let m : length deliveries < w.row.lag = omega (arith, waiting) in
         let e : length deliveries + 1 - w.row.lag ≡ length deliveries - w.row.lag = omega arith in
         record {
           more = omega (arith, ap (delivered_before deliveries w.row.right) e);
-          parts = none_due few
+          parts = none_due bounded
               ∙ no_parts w.row.part (delivered_before deliveries w.row.right (length deliveries - w.row.lag))
               (begins m);
         }
@@ -110,7 +110,7 @@ quotient x y = omega arith
 pub remainder : (x y : ℕ) → (x % 10000 + y) % 10000 ≡ (x + y) % 10000
 remainder x y = omega arith
 
-pub arriving_is : (deliveries : List (List ℕ)) (w : OnTheWay) → IsOnTheWay deliveries w →
+pub arriving_is : (deliveries : List (List ℕ)) (w : InTransit) → IsInTransit deliveries w →
     arriving w ≡ returned_by w.row deliveries (length deliveries)
 arriving_is deliveries w h = by (is_due deliveries w h)
   where

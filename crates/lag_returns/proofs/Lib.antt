@@ -1,4 +1,4 @@
 pub mod Arrivals
 pub mod Months
-pub mod Places
+pub mod Indices
 pub mod ValidRows

@@ -10,10 +10,10 @@ use Rattle.std.proofs.lemmas.List.Elements.{All-map}
 use Rattle.std.proofs.Math.Nat.{mul-add}
 use Rattle.circular_buffer.specs.Buffer.{keep_last}
 use Rattle.circular_buffer.proofs.Places.{slice_get-append_left}
-use Rattle.place_sums.proofs.Totals.{total_same}
+use Rattle.finite_sums.proofs.Totals.{total_same}
 use Rattle.water_model.specs.Hydrology.{delivered_in, delivered_before}
 use Rattle.lag_returns.specs.ReturnFlows.{due, after_month, emptied, fresh}
-use Rattle.lag_returns.specs.Lags.{OnTheWay, IsOnTheWay, StandsFor, IsLagged, return_rows, delivered_to}
+use Rattle.lag_returns.specs.Lags.{InTransit, IsInTransit, LagsStandFor, IsLagged, return_rows, delivered_to}
 use Rattle.lag_returns.proofs.Arrivals.{IsDue, is_due, remainder}
 use Rattle.water_model.specs.declared.types.ReturnRow.{ReturnRow}
 
@@ -39,9 +39,9 @@ last_of_more {X = X} n xs x =
       length-append xs (x ∷ []),
     ))
 
-on_the_way_after : (deliveries : List (List ℕ)) (delivered : List ℕ) (w : OnTheWay) → 1 ≤ w.row.lag →
-    IsOnTheWay deliveries w → IsOnTheWay (deliveries ++ delivered ∷ []) (after_month delivered w)
-on_the_way_after deliveries delivered w lag h = record { waiting = waiting; remainder = by (is_due deliveries w h) }
+in_transit_after : (deliveries : List (List ℕ)) (delivered : List ℕ) (w : InTransit) → 1 ≤ w.row.lag →
+    IsInTransit deliveries w → IsInTransit (deliveries ++ delivered ∷ []) (after_month delivered w)
+in_transit_after deliveries delivered w lag h = record { waiting = waiting; remainder = by (is_due deliveries w h) }
   where
     more : length (deliveries ++ delivered ∷ []) ≡ length deliveries + 1
     more = length-append deliveries (delivered ∷ [])
@@ -66,21 +66,21 @@ on_the_way_after deliveries delivered w lag h = record { waiting = waiting; rema
         (length (deliveries ++ delivered ∷ []) - w.row.lag)) % 10000
     by found = rw (before, found.1.parts, remainder, found.1.more, mul-add) refl
 
-pub rows_after : (delivered : List ℕ) (lags : List OnTheWay) →
+pub rows_after : (delivered : List ℕ) (lags : List InTransit) →
     return_rows (map (after_month delivered) lags) ≡ return_rows lags
 rows_after delivered [] = refl
 rows_after delivered (w ∷ lags) = ap (λ rows. w.row ∷ rows) (rows_after delivered lags)
 
-pub stands_after : (deliveries : List (List ℕ)) (delivered : List ℕ) (rows : List ReturnRow) (lags : List OnTheWay) →
-    All (λ w. IsLagged w.row) lags → StandsFor lags rows deliveries →
-    StandsFor (map (after_month delivered) lags) rows (deliveries ++ delivered ∷ [])
+pub stands_after : (deliveries : List (List ℕ)) (delivered : List ℕ) (rows : List ReturnRow) (lags : List InTransit) →
+    All (λ w. IsLagged w.row) lags → LagsStandFor lags rows deliveries →
+    LagsStandFor (map (after_month delivered) lags) rows (deliveries ++ delivered ∷ [])
 stands_after deliveries delivered rows lags lagged h = record {
   of_rows = rows_after delivered lags ∙ h.of_rows;
-  each = All-map (IsOnTheWay (deliveries ++ delivered ∷ [])) (after_month delivered) lags
-      (λ k d l. on_the_way_after deliveries delivered _ (lagged k d l).lag.0 (h.each k d l));
+  each = All-map (IsInTransit (deliveries ++ delivered ∷ [])) (after_month delivered) lags
+      (λ k d l. in_transit_after deliveries delivered _ (lagged k d l).lag.0 (h.each k d l));
 }
 
-pub lagged_after : (delivered : List ℕ) (lags : List OnTheWay) → All (λ w. IsLagged w.row) lags →
+pub lagged_after : (delivered : List ℕ) (lags : List InTransit) → All (λ w. IsLagged w.row) lags →
     All (λ w. IsLagged w.row) (map (after_month delivered) lags)
 lagged_after delivered lags h = All-map (λ w. IsLagged w.row) (after_month delivered) lags h
 
@@ -97,6 +97,6 @@ written f v now seen e same len =
     with_items_is v now (ap length e ∙ length-map seen f ∙ len) ∙ e ∙ ap (map f) same
 
 -- rows with nothing on their way any more are those before the first month
-pub emptied_are : (lags : List OnTheWay) → map emptied lags ≡ map fresh (return_rows lags)
+pub emptied_are : (lags : List InTransit) → map emptied lags ≡ map fresh (return_rows lags)
 emptied_are [] = refl
 emptied_are (w ∷ lags) = ap (λ ws. fresh w.row ∷ ws) (emptied_are lags)

@@ -5,8 +5,8 @@ use Rattle.std.specs.Prelude.{All, if◌then◌else◌, ◌==◌, nat_lt, option
 use Rattle.std.proofs.lemmas.Bool.{cases_Bool}
 use Rattle.std.proofs.lemmas.Bool.Decides.{nat_tests}
 use Rattle.std.proofs.Math.Nat.{mul-add}
-use Rattle.place_sums.specs.Sums.{total}
-use Rattle.place_sums.proofs.Totals.{total_exchange, total_at, total_more}
+use Rattle.finite_sums.specs.Sums.{total}
+use Rattle.finite_sums.proofs.Totals.{total_exchange, total_at, total_more}
 use Rattle.water_model.specs.Hydrology.{delivered_in, delivered_before, returned_by}
 use Rattle.water_model.specs.Lookups.{of_entry}
 use Rattle.water_model.specs.Valid.{IsValidBasin, IsValidReturn, rows_of}
@@ -33,11 +33,11 @@ inside : (k n x : ℕ) → k < n → (if nat_lt k n then x else 0) ≡ x
 inside k n x l = grind (arith, nat_tests)
 
 -- each row is a row of one right, and a right has at most 8
-few_rows : (b : Basin) → IsValidBasin b → length b.returns ≤ 8 * length b.rights
-few_rows b valid =
+bounded_rows : (b : Basin) → IsValidBasin b → length b.returns ≤ 8 * length b.rights
+bounded_rows b valid =
     omega (
       arith,
-      each_at_most (length b.rights) (λ r. rows_of b r) 8 valid.few.rows,
+      each_at_most (length b.rights) (λ r. rows_of b r) 8 valid.bounded.rows,
       total_exchange (length b.rights) (length b.returns) (λ r k. is_row r k),
       each_one (length b.returns) (λ k. total (length b.rights) (λ r. is_row r k)) one,
     )
@@ -60,7 +60,7 @@ valid_rows b valid = record {
   lagged = λ k d l. let row = valid.returns k d l in record { part = row.part; lag = row.lag };
   nodes = λ k d l. let row = valid.returns k d l in row.node;
   rights = λ k d l. let row = valid.returns k d l in row.right;
-  few = let few = few_rows b valid in let rights = valid.few.rights in omega arith;
+  bounded = let bounded = bounded_rows b valid in let rights = valid.bounded.rights in omega arith;
 }
 
 -- a month more of at most 10^9 brings at most 10^9 more

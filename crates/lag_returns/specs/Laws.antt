@@ -1,6 +1,6 @@
 -- What users of return rows may rely on.
 use Rattle.std.specs.Prelude.{◌≡◌, ℕ, ◌*◌, ◌^◌, ◌<◌, ◌≤◌, List, length, All}
-use Rattle.place_sums.specs.Sums.{total}
+use Rattle.finite_sums.specs.Sums.{total}
 use Rattle.water_model.specs.Hydrology.{returned_at}
 use Rattle.water_model.specs.Valid.{IsValidBasin}
 use Rattle.water_model.specs.declared.types.Basin.{Basin}
@@ -17,7 +17,7 @@ pub record HasLaggedRows (b : Basin) : Type 0 where
   pub lagged : All IsLagged b.returns
   pub nodes : All (λ row. row.node < length b.nodes) b.returns
   pub rights : All (λ row. row.right < length b.rights) b.returns
-  pub few : length b.returns ≤ 16000
+  pub bounded : length b.returns ≤ 16000
 
 abbrev pub ValidRowsAreLagged : Type 0
 ValidRowsAreLagged = (b : Basin) → IsValidBasin b → HasLaggedRows b

@@ -4,7 +4,7 @@
 ghost use Rattle.std.specs.Prelude.{◌≡◌, ℕ, ◌+◌, ◌*◌, ◌^◌, ◌<◌, ◌≤◌, ◌++◌, ◌∷◌, [], List, length, slice_index};
 ghost use Rattle.std.specs.Prelude.{slice_set, map, All, IfOk};
 ghost use Rattle.lag_returns.specs.ReturnFlows.{after_month, arriving, brought, due, emptied, fresh, with_delivery};
-ghost use Rattle.lag_returns.specs.Lags.{HasReturned, IsLagged, StandsFor, return_rows, arrivals_at};
+ghost use Rattle.lag_returns.specs.Lags.{HasReturned, IsLagged, LagsStandFor, return_rows, arrivals_at};
 ghost use Rattle.water_model.specs.Valid.{IsValidBasin};
 ghost use Rattle.water_model.specs.declared.types.ReturnRow.{ReturnRow};
 
@@ -26,9 +26,9 @@ struct ReturnFlow {
 }
 
 impl Model for ReturnFlow {
-    ghost use Rattle.lag_returns.specs.Lags.{OnTheWay};
+    ghost use Rattle.lag_returns.specs.Lags.{InTransit};
 
-    ghost Value = { OnTheWay };
+    ghost Value = { InTransit };
 
     ghost view = { λ f. record { row = f.row; waiting = f.waiting.items; remainder = f.remainder } };
 
@@ -140,9 +140,9 @@ pub struct Lags {
 
 impl Model for Lags {
     ghost use Rattle.std.specs.Prelude.{List, All};
-    ghost use Rattle.lag_returns.specs.Lags.{OnTheWay, IsLagged};
+    ghost use Rattle.lag_returns.specs.Lags.{InTransit, IsLagged};
 
-    ghost Value = { List OnTheWay };
+    ghost Value = { List InTransit };
 
     ghost view = { λ l. l.flows.items };
 
@@ -154,7 +154,7 @@ impl Lags {
     /// memory runs out. No other call takes memory.
     pub fn open(alloc: Global, rows: &[ReturnRow]) -> Result<Lags, AllocError>
         requires { All IsLagged rows.now }
-        ensures { IfOk result (λ lags. StandsFor lags rows.now []) }
+        ensures { IfOk result (λ lags. LagsStandFor lags rows.now []) }
     {
         let mut flows = Vec::with_capacity(alloc, rows.len())?;
         for row in rows {
@@ -169,7 +169,7 @@ impl Lags {
         requires nodes { All (λ row. row.node < length into.old) (return_rows self.now) }
         requires room { All (λ n. n + 10 ^ 9 * length (return_rows self.now) ≤ 10 ^ 15) into.old }
         ensures length { length into.new ≡ length into.old }
-        ensures adds { (rows : List ReturnRow) (deliveries : List (List ℕ)) → StandsFor self.now rows deliveries →
+        ensures adds { (rows : List ReturnRow) (deliveries : List (List ℕ)) → LagsStandFor self.now rows deliveries →
             (node : ℕ) → node < length into.old →
             slice_index into.new node ≡ slice_index into.old node + arrivals_at rows deliveries node }
     {
@@ -182,7 +182,7 @@ impl Lags {
         requires rows { return_rows self.now ≡ basin.now.returns }
         requires returned { length returned.old ≡ length basin.now.nodes }
         ensures length { length returned.new ≡ length returned.old }
-        ensures each { (deliveries : List (List ℕ)) → StandsFor self.now basin.now.returns deliveries →
+        ensures each { (deliveries : List (List ℕ)) → LagsStandFor self.now basin.now.returns deliveries →
             HasReturned basin.now deliveries returned.new }
     {
         returned.fill(0);
@@ -191,12 +191,12 @@ impl Lags {
 
     /// Writes what comes back to each node of a basin this month, by the basin's return rows, over what stood there.
     /// The list is indexed by node. The cost is linear in the nodes and rows.
-    pub fn bring_back(&self, basin: &Basin, returned: &mut Rows<u64>)
+    pub fn write_returns(&self, basin: &Basin, returned: &mut Rows<u64>)
         requires basin { IsValidBasin basin.now }
         requires rows { return_rows self.now ≡ basin.now.returns }
         requires returned { length returned.old ≡ length basin.now.nodes }
         ensures length { length returned.new ≡ length returned.old }
-        ensures each { (deliveries : List (List ℕ)) → StandsFor self.now basin.now.returns deliveries →
+        ensures each { (deliveries : List (List ℕ)) → LagsStandFor self.now basin.now.returns deliveries →
             HasReturned basin.now deliveries returned.new }
     {
         self.write_arrivals(basin, returned.as_mut_slice());
@@ -208,8 +208,8 @@ impl Lags {
         requires rights { All (λ row. row.right < length delivered.now) (return_rows self.old) }
         requires small { All (λ n. n ≤ 10 ^ 9) delivered.now }
         ensures rows { return_rows self.new ≡ return_rows self.old }
-        ensures stands { (rows : List ReturnRow) (deliveries : List (List ℕ)) → StandsFor self.old rows deliveries →
-            StandsFor self.new rows (deliveries ++ delivered.now ∷ []) }
+        ensures stands { (rows : List ReturnRow) (deliveries : List (List ℕ)) → LagsStandFor self.old rows deliveries →
+            LagsStandFor self.new rows (deliveries ++ delivered.now ∷ []) }
     {
         take_each(&mut self.flows, delivered);
     }
@@ -217,7 +217,7 @@ impl Lags {
     /// Nothing is on its way any more, as after `open`: the value stands for its rows, and for no month. The cost is
     /// linear in the rows.
     pub fn clear(&mut self)
-        ensures { StandsFor self.new (return_rows self.old) [] }
+        ensures { LagsStandFor self.new (return_rows self.old) [] }
     {
         clear_each(&mut self.flows);
     }

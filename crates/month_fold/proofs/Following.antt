@@ -2,7 +2,7 @@
 use Rattle.std.proofs.Common.{◌≡◌, ℕ, zero, suc, ◌+◌, ◌^◌, ◌<◌, ◌≤◌, Bool, refl, sym, ◌∙◌, ap, ap₂, subst, arith, List}
 use Rattle.std.proofs.Common.{[], ◌∷◌, length, map, inl, inr, get_or}
 use Rattle.std.specs.Prelude.{slice_index, Option, Some, None, if◌then◌else◌, All}
-use Rattle.place_sums.proofs.Totals.{total_same, term_le_total}
+use Rattle.finite_sums.proofs.Totals.{total_same, term_le_total}
 use Rattle.water_model.specs.Cuts.{IsReach}
 use Rattle.water_model.specs.CutSets.{CutSets, set_of, without_sets}
 use Rattle.water_model.specs.History.{IsPartialHistory, Follows, IsShort, cut_of, opening_after, is_zone_of}
@@ -21,12 +21,12 @@ use Rattle.water_model.proofs.Wants.{want_most, want_carried}
 use Rattle.month_terms.proofs.Amounts.{supply_small, follows_small}
 use Rattle.senior_hold.specs.Solved.{IsGiven, IsSolved, AreSupplies, AreWants, FitsCuts}
 use Rattle.senior_hold.specs.Solved as sweep
-use Rattle.month_fold.specs.Runs.{RunSeen, StandsFor, IsNext}
+use Rattle.month_fold.specs.Runs.{RunView, RunStandsFor, IsNext}
 use Rattle.std.proofs.lemmas.List.{length-map}
 use Rattle.lag_returns.specs.Lags.{HasReturned}
 use Rattle.water_model.proofs.SetEntries.{emptied}
 
--- a record in which the next month begins, behind these records
+-- a record in which the next month begins, after these records
 pub record IsBegun (b : Basin) (series : Inflows) (records : List MonthRecord) (m : MonthRecord) : Type 0 where
   pub partial : IsPartialHistory b series records
   pub stored : m.closing ≡ opening_after b records
@@ -167,7 +167,7 @@ pub made_follows : (b : Basin) (series : Inflows) (records : List MonthRecord) (
     IsMade b series i begun settled planned made → IsNext b series records made
 made_follows b series records i begun settled planned made valid fits starts at is = record {
   follows = record {
-    behind = record {
+    after = record {
       fits = (made_fits b series i begun settled planned made is).fits;
       index = f.index ∙ at;
       month = f.month ∙ (is.is_settled.month ∙ ap (run_month b) (sym f.index));
@@ -233,7 +233,7 @@ made_follows b series records i begun settled planned made valid fits starts at 
     deliveries = record { each = rw (sym f.planned_want) is.is_concluded.delivered }
 
     settled_right : (r : ℕ) → r < length b.rights →
-        sweep.IsSettled b settled.month settled.supply settled.want made.delivered planned.cuts r
+        sweep.IsMetOrReached b settled.month settled.supply settled.want made.delivered planned.cuts r
     settled_right r l = is.solved.settled made.delivered deliveries r l
 
     reach : (r : ℕ) → r < length b.rights → IsShort made r → (cut : List Bool) × (cut_of made r ≡ Some cut) ×
@@ -309,7 +309,7 @@ pub next_small : (b : Basin) (series : Inflows) (records : List MonthRecord) (m 
 next_small b series records m valid fits next = deliveries_small b series records m valid fits next.follows
 
 -- the record in which a run's next month begins, with what comes back
-pub run_begun : (run : RunSeen) (records : List MonthRecord) (m : MonthRecord) → StandsFor run records →
+pub run_begun : (run : RunView) (records : List MonthRecord) (m : MonthRecord) → RunStandsFor run records →
     m ≡ record run.last { returned = m.returned; used = m.used } →
     HasReturned run.basin (map (λ k. k.delivered) records) m.returned →
     m.used ≡ run.used → IsBegun run.basin run.series records m

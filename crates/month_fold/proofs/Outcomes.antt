@@ -56,8 +56,8 @@ same_cut b m n same f g r l = elim (cases_lt (slice_index m.delivered r) (slice_
 pub runs_have_one_outcome : RunsHaveOneOutcome
 runs_have_one_outcome b series records others valid f g reaches other_reaches len i m n at at' =
     let same = one_outcome b series records others valid f g len i m n at at' in
-    let count : length m.cuts.sets ≡ length b.rights = (f.each i m at).behind.fits.cuts in
-    let other_count : length n.cuts.sets ≡ length b.rights = (g.each i n at').behind.fits.cuts in (
+    let count : length m.cuts.sets ≡ length b.rights = (f.each i m at).after.fits.cuts in
+    let other_count : length n.cuts.sets ≡ length b.rights = (g.each i n at').after.fits.cuts in (
       same,
       same_sets m.cuts.sets n.cuts.sets (count ∙ sym other_count)
           (λ r l. same_cut b m n same (reaches i m at) (other_reaches i n at') r (omega (arith, count))),

@@ -14,9 +14,9 @@ use Rattle.water_model.specs.declared.types.Basin.{Basin}
 use Rattle.water_model.specs.declared.types.Inflows.{Inflows}
 use Rattle.water_model.specs.declared.types.MonthRecord.{MonthRecord}
 use Rattle.month_terms.specs.Terms.{HasUsed}
-use Rattle.month_fold.specs.Uses.{HasDeliveries, TellUse, TellsUse}
+use Rattle.month_fold.specs.Uses.{HasDeliveries, StateUse, StatesUse}
 use Rattle.water_model.specs.History.{HaveReaches}
-use Rattle.month_fold.specs.Runs.{EngineSeen, RunSeen, StandsFor, run_with}
+use Rattle.month_fold.specs.Runs.{EngineView, RunView, RunStandsFor, run_with}
 use Rattle.month_terms.proofs.Amounts.{deliveries_small as all_small}
 use Rattle.month_terms.proofs.WaterYears.{nothing_used, used_most}
 use Rattle.month_fold.proofs.Following.{deliveries_small}
@@ -29,52 +29,52 @@ have_deliveries f b series xs valid fits partial = λ k d l.
     let follows =
     partial.each k (f (get_or xs k d)) (slice_get-map f xs k ∙ ap (option_map f) (slice_get-get_or xs k d l)) in
     record {
-      count = follows.behind.fits.delivered;
+      count = follows.after.fits.delivered;
       small = deliveries_small b series (take k (map f xs)) (f (get_or xs k d)) valid fits follows;
     }
 
 -- what was used
 
-delivered_front : (records : List MonthRecord) (i r j : ℕ) →
+delivered_prefix : (records : List MonthRecord) (i r j : ℕ) →
     delivered_in (map (λ k. k.delivered) (take i records)) r j ≤ delivered_in (map (λ k. k.delivered) records) r j
-delivered_front [] zero r j = omega arith
-delivered_front [] (suc i) r j = omega arith
-delivered_front (m ∷ ms) zero r j = omega arith
-delivered_front (m ∷ ms) (suc i) r zero = omega arith
-delivered_front (m ∷ ms) (suc i) r (suc j) = delivered_front ms i r j
+delivered_prefix [] zero r j = omega arith
+delivered_prefix [] (suc i) r j = omega arith
+delivered_prefix (m ∷ ms) zero r j = omega arith
+delivered_prefix (m ∷ ms) (suc i) r zero = omega arith
+delivered_prefix (m ∷ ms) (suc i) r (suc j) = delivered_prefix ms i r j
 
-pub tell_use : (b : Basin) (series : Inflows) (records : List MonthRecord) → IsValidBasin b → IsSeriesOf b series →
-    IsPartialHistory b series records → TellUse b records
-tell_use b series records valid fits partial i m at =
+pub state_use : (b : Basin) (series : Inflows) (records : List MonthRecord) → IsValidBasin b → IsSeriesOf b series →
+    IsPartialHistory b series records → StateUse b records
+state_use b series records valid fits partial i m at =
     let follows = partial.each i m at in
     let within = slice_get_within records i m at in
     let count = length-take i records in
     record {
-      index = follows.behind.index;
-      within = omega (arith, follows.behind.index, partial.within);
+      index = follows.after.index;
+      within = omega (arith, follows.after.index, partial.within);
       delivered =
           record {
-            count = follows.behind.fits.delivered;
+            count = follows.after.fits.delivered;
             small =
                 deliveries_small b series (take i records) m valid fits follows;
           };
       used = record {
-        count = follows.behind.fits.used;
-        each = λ r l. follows.behind.used r l ∙ ap (used_of b (map (λ k. k.delivered) (take i records)) r)
-            (omega (arith, follows.behind.index, length-map (take i records) (λ (k : MonthRecord). k.delivered)));
+        count = follows.after.fits.used;
+        each = λ r l. follows.after.used r l ∙ ap (used_of b (map (λ k. k.delivered) (take i records)) r)
+            (omega (arith, follows.after.index, length-map (take i records) (λ (k : MonthRecord). k.delivered)));
       };
       little = λ r l. omega (
         arith,
-        follows.behind.used r l,
+        follows.after.used r l,
         used_most b (map (λ k. k.delivered) (take i records)) r m.index (10 ^ 9) (small r),
-        follows.behind.index,
+        follows.after.index,
         partial.within,
         valid.run.months.1,
       );
     }
   where
     small : (r j : ℕ) → delivered_in (map (λ k. k.delivered) (take i records)) r j ≤ 10 ^ 9
-    small r j = omega (arith, delivered_front records i r j, all_small b series records valid fits partial r j)
+    small r j = omega (arith, delivered_prefix records i r j, all_small b series records valid fits partial r j)
 
 -- all months are those before the last, and the last
 whole : (ys : List MonthRecord) (i : ℕ) (y : MonthRecord) → slice_get ys i ≡ Some y → i + 1 ≡ length ys →
@@ -92,7 +92,7 @@ last_at f xs x m same at =
     ap (λ n. slice_get (map f xs) (n - 1)) (length-map xs f)
     ∙ (slice_get-map f xs (length xs - 1) ∙ (ap (option_map f) (sym at) ∙ ap (λ (k : MonthRecord). Some k) (sym same)))
 
-pub used_by_last : (b : Basin) (records : List MonthRecord) (m : MonthRecord) (used : List ℕ) → TellUse b records →
+pub used_by_last : (b : Basin) (records : List MonthRecord) (m : MonthRecord) (used : List ℕ) → StateUse b records →
     slice_get records (length records - 1) ≡ Some m →
     ((deliveries : List (List ℕ)) → length deliveries ≡ m.index → HasUsed b deliveries m.used →
     HasUsed b (deliveries ++ m.delivered ∷ []) used) →
@@ -114,8 +114,8 @@ used_by_none b (m ∷ ms) used none count zeros =
 
 -- what the last of some months tells
 pub last_tells : {X : Type 0} (f : X → MonthRecord) (b : Basin) (xs : List X) (x : X) (m : MonthRecord) →
-    TellUse b (map f xs) → m ≡ f x → Some x ≡ slice_get xs (length xs - 1) →
-    TellsUse b (take (length (map f xs) - 1) (map f xs)) m
+    StateUse b (map f xs) → m ≡ f x → Some x ≡ slice_get xs (length xs - 1) →
+    StatesUse b (take (length (map f xs) - 1) (map f xs)) m
 last_tells f b xs x m tell same at = tell (length (map f xs) - 1) m (last_at f xs x m same at)
 
 pub used_by_zeros : {X : Type 0} (f : X → MonthRecord) (b : Basin) (xs : List X) (used : List ℕ) →
@@ -129,7 +129,7 @@ used_by_zeros f b xs used none zeros =
     (λ r. ap (λ ys. slice_index ys r) zeros ∙ no_numbers (length b.rights) r)
 
 -- what a run keeps is little
-pub used_little : (run : RunSeen) (records : List MonthRecord) → StandsFor run records →
+pub used_little : (run : RunView) (records : List MonthRecord) → RunStandsFor run records →
     (r : ℕ) → r < length run.basin.rights → slice_index run.used r ≤ 10 ^ 15
 used_little run records stands r l = omega (
   arith,
@@ -150,15 +150,15 @@ stored_count b series records partial = by_last (slice_get records (length recor
     by_last : (o : Option MonthRecord) → slice_get records (length records - 1) ≡ o →
         length (unwrap_or (option_map (λ m. m.closing) o) (map (λ v. v.opening) b.reservoirs)) ≡ length b.reservoirs
     by_last None e = length-map b.reservoirs (λ v. v.opening)
-    by_last (Some m) e = (partial.each (length records - 1) m e).behind.fits.closing
+    by_last (Some m) e = (partial.each (length records - 1) m e).after.fits.closing
 
--- behind the last of some months it is what that one left
+-- after the last of some months it is what that one left
 pub stored_by_last : (b : Basin) (records : List MonthRecord) (m : MonthRecord) →
     slice_get records (length records - 1) ≡ Some m → opening_after b records ≡ m.closing
 stored_by_last b records m at =
     ap (λ o. unwrap_or (option_map (λ k. k.closing) o) (map (λ v. v.opening) b.reservoirs)) at
 
--- and behind none what the basin file says
+-- and after none what the basin file says
 pub stored_by_none : {X : Type 0} (f : X → MonthRecord) (b : Basin) (xs : List X) →
     None ≡ slice_get xs (length xs - 1) → opening_after b (map f xs) ≡ map (λ v. v.opening) b.reservoirs
 stored_by_none f b xs none =
@@ -178,20 +178,21 @@ deliveries_more {X = X} f xs i x delivered l is e =
     ∙ ap (λ (d : List ℕ). map (λ m. m.delivered) (map f (take i xs)) ++ d ∷ []) (sym (e ∙ ap (λ y. (f y).delivered) is))
 
 -- before the first month nothing was used
-pub none_tell : (b : Basin) → TellUse b []
-none_tell b i m at = let none : None ≡ Some m = at in cc
+pub none_state : (b : Basin) → StateUse b []
+none_state b i m at = let none : None ≡ Some m = at in cc
 
 pub none_reach : (b : Basin) → HaveReaches b []
 none_reach b i m at = let none : None ≡ Some m = at in cc
 
--- an engine behind some months makes a run that stands for them
-pub stands_behind : (engine : EngineSeen) (series : Inflows) (records : List MonthRecord) (done : ℕ) →
+-- an engine after some months makes a run that stands for them
+pub starts_after : (engine : EngineView) (series : Inflows) (records : List MonthRecord) (done : ℕ) →
     IsValidBasin engine.basin → IsSeriesOf engine.basin series → IsPartialHistory engine.basin series records →
     HaveReaches engine.basin records → done ≡ length records →
     engine.last.closing ≡ opening_after engine.basin records →
-    lag.StandsFor engine.lags engine.basin.returns (map (λ m. m.delivered) records) →
-    HasUsed engine.basin (map (λ m. m.delivered) records) engine.used → StandsFor (run_with engine series done) records
-stands_behind engine series records done valid fits partial reaches count stored lags used = record {
+    lag.LagsStandFor engine.lags engine.basin.returns (map (λ m. m.delivered) records) →
+    HasUsed engine.basin (map (λ m. m.delivered) records) engine.used → RunStandsFor (run_with engine series done)
+    records
+starts_after engine series records done valid fits partial reaches count stored lags used = record {
   valid = valid;
   fits = fits;
   partial = partial;

@@ -2,20 +2,20 @@
 use Rattle.std.proofs.Common.{◌≡◌, ℕ, ◌+◌, ◌<◌, sym, subst, arith, List, [], ◌∷◌, ◌++◌, map, inl, inr}
 use Rattle.std.proofs.Common.{length-append}
 use Rattle.std.proofs.lemmas.List.{map-append}
-use Rattle.lag_returns.specs.Lags.{OnTheWay}
+use Rattle.lag_returns.specs.Lags.{InTransit}
 use Rattle.lag_returns.specs.Lags as lag
 use Rattle.water_model.specs.declared.types.MonthRecord.{MonthRecord}
 use Rattle.water_model.proofs.Histories.{at_end, one_month_more, opens_with_last}
 use Rattle.month_terms.specs.Terms.{HasUsed}
 use Rattle.water_model.specs.History.{HasReaches}
-use Rattle.month_fold.specs.Runs.{RunSeen, StandsFor, IsNext}
+use Rattle.month_fold.specs.Runs.{RunView, RunStandsFor, IsNext}
 
-pub stands_next : (run : RunSeen) (records : List MonthRecord) (m : MonthRecord) (lags : List OnTheWay)
-    (used : List ℕ) → StandsFor run records →
+pub stands_next : (run : RunView) (records : List MonthRecord) (m : MonthRecord) (lags : List InTransit)
+    (used : List ℕ) → RunStandsFor run records →
     run.done < run.basin.months → IsNext run.basin run.series records m →
-    lag.StandsFor lags run.basin.returns (map (λ k. k.delivered) records ++ m.delivered ∷ []) →
+    lag.LagsStandFor lags run.basin.returns (map (λ k. k.delivered) records ++ m.delivered ∷ []) →
     HasUsed run.basin (map (λ k. k.delivered) records ++ m.delivered ∷ []) used →
-    StandsFor (record {
+    RunStandsFor (record {
       basin = run.basin;
       series = run.series;
       done = run.done + 1;
@@ -36,7 +36,7 @@ stands_next run records m lags used stands left next way spent = record {
       ];
   done = omega (arith, stands.done, length-append records (m ∷ []));
   stored = sym (opens_with_last run.basin records m);
-  lags = subst (lag.StandsFor lags run.basin.returns) (sym delivered) way;
+  lags = subst (lag.LagsStandFor lags run.basin.returns) (sym delivered) way;
   used = subst (λ ds. HasUsed run.basin ds used) (sym delivered) spent;
 }
   where

@@ -6,10 +6,10 @@ use Rattle.water_model.specs.History.{IsHistory}
 use Rattle.water_model.specs.declared.types.Basin.{Basin}
 use Rattle.water_model.specs.declared.types.MonthRecord.{MonthRecord}
 use Rattle.water_model.proofs.Histories.{all_months}
-use Rattle.month_fold.specs.Runs.{RunSeen, StandsFor, run_pushes}
+use Rattle.month_fold.specs.Runs.{RunView, RunStandsFor, run_pushes}
 
 -- the months that a run went through are a history where they are all
-pub whole_history : (run : RunSeen) (records : List MonthRecord) → StandsFor run records →
+pub whole_history : (run : RunView) (records : List MonthRecord) → RunStandsFor run records →
     run.done ≡ run.basin.months → IsHistory run.basin run.series records
 whole_history run records stands done =
     all_months run.basin run.series records stands.partial (omega (arith, stands.done, done))

@@ -3,11 +3,11 @@ use Rattle.std.specs.Prelude.{◌≡◌, length, map}
 use Rattle.lag_returns.specs.Lags.{return_rows}
 use Rattle.water_model.specs.Valid.{IsValidBasin}
 use Rattle.month_terms.specs.Terms.{FitsRecord}
-use Rattle.month_fold.specs.Runs.{EngineSeen, RunSeen, HasMonths, run_with}
+use Rattle.month_fold.specs.Runs.{EngineView, RunView, HasMonths, run_with}
 use Rattle.month_fold.specs.declared.engine.Engine.TheInside.{Inside as EngineInside}
 use Rattle.month_fold.specs.declared.run.Run.TheInside.{Inside}
 
-abbrev pub engine_of : EngineInside → EngineSeen
+abbrev pub engine_of : EngineInside → EngineView
 engine_of e = record { basin = e.basin.now; last = e.month.value; lags = e.lags; used = e.used }
 
 -- a valid basin, what is derived from it once, and room for its months
@@ -19,9 +19,9 @@ pub record IsFitted (e : EngineInside) : Type 0 where
   pub rows : return_rows e.lags ≡ e.basin.now.returns
   pub used : length e.used ≡ length e.basin.now.rights
 
-abbrev pub seen_of : Inside → RunSeen
-seen_of i = run_with i.engine i.series.now i.done
+abbrev pub view_of : Inside → RunView
+view_of i = run_with i.engine i.series.now i.done
 
--- some months stand behind the run
-abbrev pub IsReady : Inside → Type 0
-IsReady i = HasMonths (seen_of i)
+-- some months stand after the run
+abbrev pub IsValidState : Inside → Type 0
+IsValidState i = HasMonths (view_of i)

@@ -1,6 +1,6 @@
 -- Runs, and the months that they went through.
 use Rattle.std.specs.Prelude.{◌≡◌, ℕ, ◌*◌, List, map, length}
-use Rattle.lag_returns.specs.Lags.{OnTheWay}
+use Rattle.lag_returns.specs.Lags.{InTransit}
 use Rattle.lag_returns.specs.Lags as lag
 use Rattle.water_model.specs.History.{IsPartialHistory, Follows, opening_after}
 use Rattle.month_terms.specs.Terms.{HasUsed}
@@ -14,23 +14,23 @@ use Rattle.water_model.specs.declared.types.MonthRecord.{MonthRecord}
 -- a run of a basin and a series: how many months are done, the record of the last one, what is on its way back to the
 -- river, and what each right with a volume used of it before the next month. Before the first month the last record has
 -- nothing but the closing storage, which is the basin's opening
-pub record RunSeen : Type 0 where
+pub record RunView : Type 0 where
   pub basin : Basin
   pub series : Inflows
   pub done : ℕ
   pub last : MonthRecord
-  pub lags : List OnTheWay
+  pub lags : List InTransit
   pub used : List ℕ
 
 -- what a run is made with, apart from its series
-pub record EngineSeen : Type 0 where
+pub record EngineView : Type 0 where
   pub basin : Basin
   pub last : MonthRecord
-  pub lags : List OnTheWay
+  pub lags : List InTransit
   pub used : List ℕ
 
--- the run that it makes of a series, after so many months
-abbrev pub run_with : EngineSeen → Inflows → ℕ → RunSeen
+-- the run that it makes of a series, after a given number of months
+abbrev pub run_with : EngineView → Inflows → ℕ → RunView
 run_with engine series done = record {
   basin = engine.basin;
   series = series;
@@ -42,20 +42,20 @@ run_with engine series done = record {
 
 -- the run of a valid basin and a series of it went through these months: they are a partial history, with the reaches
 -- as the sets of short rights, after which the next month opens with what is stored, on its way and used
-pub record StandsFor (run : RunSeen) (records : List MonthRecord) : Type 0 where
+pub record RunStandsFor (run : RunView) (records : List MonthRecord) : Type 0 where
   pub valid : IsValidBasin run.basin
   pub fits : IsSeriesOf run.basin run.series
   pub partial : IsPartialHistory run.basin run.series records
   pub reaches : HaveReaches run.basin records
   pub done : run.done ≡ length records
   pub stored : run.last.closing ≡ opening_after run.basin records
-  pub lags : lag.StandsFor run.lags run.basin.returns (map (λ m. m.delivered) records)
+  pub lags : lag.LagsStandFor run.lags run.basin.returns (map (λ m. m.delivered) records)
   pub used : HasUsed run.basin (map (λ m. m.delivered) records) run.used
 
 -- the run went through some months
-pub record HasMonths (run : RunSeen) : Type 0 where
+pub record HasMonths (run : RunView) : Type 0 where
   pub records : List MonthRecord
-  pub stands : StandsFor run records
+  pub stands : RunStandsFor run records
 
 -- the record follows these, and its sets are the reaches of its short rights
 pub record IsNext (b : Basin) (series : Inflows) (records : List MonthRecord) (m : MonthRecord) : Type 0 where
@@ -63,7 +63,7 @@ pub record IsNext (b : Basin) (series : Inflows) (records : List MonthRecord) (m
   pub reaches : HasReaches b m
 
 -- a later moment of the run: its basin and its series are the same
-pub record GoesOn (run later : RunSeen) : Type 0 where
+pub record GoesOn (run later : RunView) : Type 0 where
   pub basin : later.basin ≡ run.basin
   pub series : later.series ≡ run.series
 

@@ -11,7 +11,7 @@ pub record HasDeliveries (b : Basin) (m : MonthRecord) : Type 0 where
 
 -- a record says what each right with a volume used before it, by the deliveries of the records before, and what it was
 -- delivered
-pub record TellsUse (b : Basin) (before : List MonthRecord) (m : MonthRecord) : Type 0 where
+pub record StatesUse (b : Basin) (before : List MonthRecord) (m : MonthRecord) : Type 0 where
   pub index : m.index ≡ length before
   pub within : m.index < b.months
   pub delivered : HasDeliveries b m
@@ -19,5 +19,5 @@ pub record TellsUse (b : Basin) (before : List MonthRecord) (m : MonthRecord) : 
   pub little : (r : ℕ) → r < length b.rights → slice_index m.used r ≤ 10 ^ 15
 
 -- each record of a list does
-abbrev pub TellUse : Basin → List MonthRecord → Type 0
-TellUse b records = (i : ℕ) (m : MonthRecord) → slice_get records i ≡ Some m → TellsUse b (take i records) m
+abbrev pub StateUse : Basin → List MonthRecord → Type 0
+StateUse b records = (i : ℕ) (m : MonthRecord) → slice_get records i ≡ Some m → StatesUse b (take i records) m

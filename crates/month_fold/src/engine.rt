@@ -6,12 +6,12 @@ ghost use Rattle.water_model.specs.History.{IsPartialHistory, opening_after};
 ghost use Rattle.water_model.specs.Valid.{IsValidBasin, IsSeriesOf};
 ghost use Rattle.water_model.specs.declared.types.Inflows.{Inflows};
 ghost use Rattle.water_model.specs.declared.types.MonthRecord.{MonthRecord};
-ghost use Rattle.month_fold.specs.Uses.{HasDeliveries, TellUse};
+ghost use Rattle.month_fold.specs.Uses.{HasDeliveries, StateUse};
 ghost use Rattle.water_model.specs.History.{HaveReaches};
-ghost use Rattle.month_fold.specs.Runs.{StandsFor, HasMonths, run_with};
+ghost use Rattle.month_fold.specs.Runs.{RunStandsFor, HasMonths, run_with};
 
 use crate::next::{next_month, use_volumes};
-use crate::resume::{bring_behind, store_behind, use_behind};
+use crate::resume::{replay_returns, store_after, use_after};
 use lag_returns::Lags;
 use month_terms::evaporation::tables_of;
 use month_terms::opening::blank_month;
@@ -42,9 +42,9 @@ pub struct Engine<'b> {
 }
 
 impl<'b> Model for Engine<'b> {
-    ghost use Rattle.month_fold.specs.Runs.{EngineSeen};
+    ghost use Rattle.month_fold.specs.Runs.{EngineView};
 
-    ghost Value = { EngineSeen };
+    ghost Value = { EngineView };
 
     ghost use Rattle.month_fold.specs.RunInside.{engine_of, IsFitted};
 
@@ -82,23 +82,23 @@ impl<'b> Engine<'b> {
         })
     }
 
-    /// Goes behind these months of a run, which another engine may have solved: behind none it stands before the first.
+    /// Starts after these months of a run, which another engine may have solved: after none it stands before the first.
     /// Nothing is left of the run that it served before. No month is solved, and no memory is taken: the cost is linear
     /// in the return rows times the months.
-    pub fn go_behind(&mut self, months: &[Box<MonthRecord>])
+    pub fn start_after(&mut self, months: &[Box<MonthRecord>])
         requires deliveries { All (λ m. HasDeliveries self.old.basin m.value) months.now }
-        requires told { TellUse self.old.basin (map (λ m. m.value) months.now) }
+        requires stated { StateUse self.old.basin (map (λ m. m.value) months.now) }
         requires stored { length (opening_after self.old.basin (map (λ m. m.value) months.now))
             ≡ length self.old.basin.reservoirs }
         ensures basin { self.new.basin ≡ self.old.basin }
         ensures stands { (series : Inflows) → IsSeriesOf self.new.basin series →
             IsPartialHistory self.new.basin series (map (λ m. m.value) months.now) →
             HaveReaches self.new.basin (map (λ m. m.value) months.now) →
-            StandsFor (run_with self.new series (length months.now)) (map (λ m. m.value) months.now) }
+            RunStandsFor (run_with self.new series (length months.now)) (map (λ m. m.value) months.now) }
     {
-        bring_behind(self.basin, months, &mut self.lags);
-        use_behind(self.basin, months, &mut self.used);
-        store_behind(self.basin, months, &mut *self.month);
+        replay_returns(self.basin, months, &mut self.lags);
+        use_after(self.basin, months, &mut self.used);
+        store_after(self.basin, months, &mut *self.month);
     }
 
     /// The basin, which is valid.
@@ -116,22 +116,22 @@ impl<'b> Engine<'b> {
         self.solver.roll()
     }
 
-    /// The record of the month that was solved last. Where none was since the engine went behind some months, it says
-    /// nothing but the storage with which the next one opens, as its closing.
+    /// The record of the month that was solved last. Where none was since the engine was started after some months, it
+    /// says nothing but the storage with which the next one opens, as its closing.
     pub fn month(&self) -> &MonthRecord
         ensures { result.now ≡ self.now.last }
     {
         &self.month
     }
 
-    /// Solves the month behind so many of a series, whose record `month` then gives. Each search that finds a walk
-    /// ticks `searches` once.
+    /// Solves the month after so many of a series, whose record `month` then gives. Each search that finds a walk ticks
+    /// `searches` once.
     pub fn step<L: Ledger>(&mut self, series: &Inflows, done: u32, searches: &mut Steps<L>)
         requires left { done < self.old.basin.months }
         requires months { HasMonths (run_with self.old series.now done) }
         ensures basin { self.new.basin ≡ self.old.basin }
-        ensures month { (records : List MonthRecord) → StandsFor (run_with self.old series.now done) records →
-            StandsFor (run_with self.new series.now (done + 1)) (records ++ self.new.last ∷ []) }
+        ensures month { (records : List MonthRecord) → RunStandsFor (run_with self.old series.now done) records →
+            RunStandsFor (run_with self.new series.now (done + 1)) (records ++ self.new.last ∷ []) }
         ensures pushes { searches.new ≤ searches.old + month_pushes self.old.basin }
     {
         next_month(

@@ -8,7 +8,7 @@ ghost use Rattle.senior_hold.specs.MonthNetwork.{month_pushes};
 ghost use Rattle.water_model.specs.Valid.{IsValidBasin};
 ghost use Rattle.water_model.specs.declared.types.MonthRecord.{MonthRecord};
 ghost use Rattle.month_fold.specs.Uses.{HasDeliveries};
-ghost use Rattle.month_fold.specs.Runs.{StandsFor, HasMonths, IsNext};
+ghost use Rattle.month_fold.specs.Runs.{RunStandsFor, HasMonths, IsNext};
 
 use lag_returns::Lags;
 use month_terms::month::{conclude, settle};
@@ -21,22 +21,22 @@ use water_model::rows::Rows;
 use water_model::types::{Basin, Inflows, MonthRecord};
 
 /// Writes what comes back to each node this month into its record, and what each right used of its volume before.
-fn bring_back(basin: &Basin, lags: &Lags, used: &[u64], month: &mut MonthRecord)
+fn write_returns(basin: &Basin, lags: &Lags, used: &[u64], month: &mut MonthRecord)
     requires basin { IsValidBasin basin.now }
     requires rows { return_rows lags.now ≡ basin.now.returns }
     requires returned { length month.old.returned ≡ length basin.now.nodes }
     requires used { length month.old.used ≡ length used.now }
-    ensures each { (deliveries : List (List ℕ)) → lag.StandsFor lags.now basin.now.returns deliveries →
+    ensures each { (deliveries : List (List ℕ)) → lag.LagsStandFor lags.now basin.now.returns deliveries →
         HasReturned basin.now deliveries month.new.returned }
     ensures used { month.new.used ≡ used.now }
     ensures rest { month.new ≡ record month.old { returned = month.new.returned; used = month.new.used } }
     ensures length { length month.new.returned ≡ length month.old.returned }
 {
-    lags.bring_back(basin, &mut month.returned);
+    lags.write_returns(basin, &mut month.returned);
     month.used.as_mut_slice().copy_from_slice(used);
 }
 
-/// Goes on to the month behind the one with this index and record: `used` is what each right with a volume used of it
+/// Goes on to the month after the one with this index and record: `used` is what each right with a volume used of it
 /// before the one month, and then before the other.
 pub fn use_volumes(basin: &Basin, index: u32, month: &MonthRecord, used: &mut Rows<u64>)
     requires basin { IsValidBasin basin.now }
@@ -85,7 +85,7 @@ pub fn next_month<L: Ledger>(
     ensures fits { FitsRecord basin.now month.new }
     ensures small { All (λ n. n ≤ 10 ^ 9) month.new.delivered }
     ensures next { (records : List MonthRecord) →
-        StandsFor
+        RunStandsFor
         (record {
           basin = basin.now;
           series = series.now;
@@ -98,7 +98,7 @@ pub fn next_month<L: Ledger>(
         IsNext basin.now series.now records month.new }
     ensures pushes { searches.new ≤ searches.old + month_pushes basin.now }
 {
-    bring_back(basin, lags, used, month);
+    write_returns(basin, lags, used, month);
     settle(basin, series, tables, index, month);
     month.cuts.clear();
     solver.solve_month(

@@ -1,11 +1,11 @@
-//! What a run goes on from: what is stored, on its way and used behind some months.
+//! What a run goes on from: what is stored, on its way and used after some months.
 ghost use Rattle.std.specs.Prelude.{ℕ, List, ◌≡◌, ◌<◌, ◌≤◌, ◌^◌, ◌++◌, ◌∷◌, [], All, length, map, slice_index};
 ghost use Rattle.lag_returns.specs.Lags.{return_rows};
 ghost use Rattle.lag_returns.specs.Lags as lag;
 ghost use Rattle.water_model.specs.History.{opening_after};
 ghost use Rattle.water_model.specs.Valid.{IsValidBasin};
 ghost use Rattle.month_terms.specs.Terms.{HasUsed};
-ghost use Rattle.month_fold.specs.Uses.{HasDeliveries, TellUse};
+ghost use Rattle.month_fold.specs.Uses.{HasDeliveries, StateUse};
 
 use crate::next::use_volumes;
 use lag_returns::Lags;
@@ -13,8 +13,8 @@ use month_terms::opening::write_openings;
 use water_model::rows::Rows;
 use water_model::types::{Basin, MonthRecord};
 
-/// Writes what each reservoir holds when the month behind these opens into a record, as its closing. All else stays.
-pub fn store_behind(basin: &Basin, months: &[Box<MonthRecord>], month: &mut MonthRecord)
+/// Writes what each reservoir holds when the month after these opens into a record, as its closing. All else stays.
+pub fn store_after(basin: &Basin, months: &[Box<MonthRecord>], month: &mut MonthRecord)
     requires room { length month.old.closing ≡ length basin.now.reservoirs }
     requires stored { length (opening_after basin.now (map (λ m. m.value) months.now)) ≡ length basin.now.reservoirs }
     ensures { month.new ≡ record month.old {
@@ -30,13 +30,13 @@ pub fn store_behind(basin: &Basin, months: &[Box<MonthRecord>], month: &mut Mont
     }
 }
 
-/// Brings what is on its way back to the river to where it is behind these months, whatever it was. The cost is linear
+/// Brings what is in transit back to the river to where it is after these months, whatever it was. The cost is linear
 /// in the return rows times the months.
-pub fn bring_behind(basin: &Basin, months: &[Box<MonthRecord>], lags: &mut Lags)
+pub fn replay_returns(basin: &Basin, months: &[Box<MonthRecord>], lags: &mut Lags)
     requires basin { IsValidBasin basin.now }
     requires deliveries { All (λ m. HasDeliveries basin.now m.value) months.now }
     requires rows { return_rows lags.old ≡ basin.now.returns }
-    ensures { lag.StandsFor lags.new basin.now.returns (map (λ m. m.delivered) (map (λ m. m.value) months.now)) }
+    ensures { lag.LagsStandFor lags.new basin.now.returns (map (λ m. m.delivered) (map (λ m. m.value) months.now)) }
 {
     lags.clear();
     for month in months {
@@ -44,7 +44,7 @@ pub fn bring_behind(basin: &Basin, months: &[Box<MonthRecord>], lags: &mut Lags)
     }
 }
 
-/// Writes what each right with a volume used of it before the month behind this one.
+/// Writes what each right with a volume used of it before the month after this one.
 fn use_last(basin: &Basin, month: &MonthRecord, used: &mut Rows<u64>)
     requires basin { IsValidBasin basin.now }
     requires index { month.now.index < basin.now.months }
@@ -60,11 +60,11 @@ fn use_last(basin: &Basin, month: &MonthRecord, used: &mut Rows<u64>)
     use_volumes(basin, month.index, month, used);
 }
 
-/// Writes what each right with a volume used of it before the month behind these, in that month's water year. The last
+/// Writes what each right with a volume used of it before the month after these, in that month's water year. The last
 /// month says what was used before it, so the cost is linear in the rights alone.
-pub fn use_behind(basin: &Basin, months: &[Box<MonthRecord>], used: &mut Rows<u64>)
+pub fn use_after(basin: &Basin, months: &[Box<MonthRecord>], used: &mut Rows<u64>)
     requires basin { IsValidBasin basin.now }
-    requires told { TellUse basin.now (map (λ m. m.value) months.now) }
+    requires stated { StateUse basin.now (map (λ m. m.value) months.now) }
     requires room { length used.old ≡ length basin.now.rights }
     ensures { HasUsed basin.now (map (λ m. m.delivered) (map (λ m. m.value) months.now)) used.new }
 {

@@ -6,7 +6,7 @@ ghost use Rattle.water_model.specs.Valid.{IsValidBasin, IsSeriesOf};
 ghost use Rattle.water_model.specs.declared.types.MonthRecord.{MonthRecord};
 ghost use Rattle.water_model.specs.History.{IsPartialHistory};
 ghost use Rattle.water_model.specs.History.{HaveReaches};
-ghost use Rattle.month_fold.specs.Runs.{StandsFor};
+ghost use Rattle.month_fold.specs.Runs.{RunStandsFor};
 
 use crate::engine::Engine;
 use rights_roll::roll::Roll;
@@ -28,15 +28,15 @@ pub struct Run<'b, 's> {
 }
 
 impl<'b, 's> Model for Run<'b, 's> {
-    ghost use Rattle.month_fold.specs.Runs.{RunSeen};
+    ghost use Rattle.month_fold.specs.Runs.{RunView};
 
-    ghost Value = { RunSeen };
+    ghost Value = { RunView };
 
-    ghost use Rattle.month_fold.specs.RunInside.{seen_of, IsReady};
+    ghost use Rattle.month_fold.specs.RunInside.{view_of, IsValidState};
 
-    ghost view = { seen_of };
+    ghost view = { view_of };
 
-    ghost invariant = { IsReady };
+    ghost invariant = { IsValidState };
 }
 
 impl<'b, 's> Run<'b, 's> {
@@ -50,7 +50,7 @@ impl<'b, 's> Run<'b, 's> {
         requires series { IsSeriesOf basin.now series.now }
         ensures basin { IfOk result (λ run. run.basin ≡ basin.now) }
         ensures series { IfOk result (λ run. run.series ≡ series.now) }
-        ensures stands { IfOk result (λ run. StandsFor run []) }
+        ensures stands { IfOk result (λ run. RunStandsFor run []) }
     {
         Ok(Run::begin(Engine::open(alloc, basin)?, series))
     }
@@ -61,9 +61,9 @@ impl<'b, 's> Run<'b, 's> {
         requires { IsSeriesOf engine.basin series.now }
         ensures basin { result.basin ≡ engine.entry.basin }
         ensures series { result.series ≡ series.now }
-        ensures stands { StandsFor result [] }
+        ensures stands { RunStandsFor result [] }
     {
-        engine.go_behind(&[]);
+        engine.start_after(&[]);
         Run {
             engine,
             series,
@@ -98,10 +98,10 @@ impl<'b, 's> Run<'b, 's> {
         requires reaches { HaveReaches basin.now (map (λ m. m.value) months.now) }
         ensures basin { IfOk result (λ run. run.basin ≡ basin.now) }
         ensures series { IfOk result (λ run. run.series ≡ series.now) }
-        ensures stands { IfOk result (λ run. StandsFor run (map (λ m. m.value) months.now)) }
+        ensures stands { IfOk result (λ run. RunStandsFor run (map (λ m. m.value) months.now)) }
     {
         let mut engine = Engine::open(alloc, basin)?;
-        engine.go_behind(months);
+        engine.start_after(months);
         Ok(Run {
             engine,
             series,
@@ -154,8 +154,8 @@ impl<'b, 's> Run<'b, 's> {
         requires left { self.old.done < self.old.basin.months }
         ensures basin { self.new.basin ≡ self.old.basin }
         ensures series { self.new.series ≡ self.old.series }
-        ensures month { (records : List MonthRecord) → StandsFor self.old records →
-            StandsFor self.new (records ++ self.new.last ∷ []) }
+        ensures month { (records : List MonthRecord) → RunStandsFor self.old records →
+            RunStandsFor self.new (records ++ self.new.last ∷ []) }
         ensures pushes { searches.new ≤ searches.old + month_pushes self.old.basin }
     {
         self.engine.step(self.series, self.done, searches);

@@ -5,11 +5,11 @@ use Rattle.std.specs.Prelude.{◌==◌, slice_index, slice_get, slice_set, Optio
 use Rattle.std.specs.Prelude.{option_map}
 use Rattle.std.proofs.lemmas.Option.{slice_get_within}
 use Rattle.std.proofs.lemmas.Bool.Decides.{nat_tests}
-use Rattle.place_sums.specs.Sums.{total_where, when}
-use Rattle.place_sums.proofs.Totals.{total_more, total_grows, total_where_start}
+use Rattle.finite_sums.specs.Sums.{total_where, when}
+use Rattle.finite_sums.proofs.Totals.{total_more, total_grows, total_where_start}
 use Rattle.water_model.specs.Basin.{is_at, node_of_reservoir}
 use Rattle.water_model.specs.History.{is_zone_of, is_zone_of_kind}
-use Rattle.water_model.specs.Valid.{IsValidBasin, IsValidReservoir, IsValidRight, HasValidPlace}
+use Rattle.water_model.specs.Valid.{IsValidBasin, IsValidReservoir, IsValidRight, HasValidSite}
 use Rattle.water_model.specs.declared.types.Basin.{Basin}
 use Rattle.water_model.specs.declared.types.Reservoir.{Reservoir}
 use Rattle.water_model.specs.declared.types.Right.{Right}
@@ -82,17 +82,17 @@ pub zone_told : (b : Basin) (r v : ℕ) (right : Right) → slice_get b.rights r
 zone_told b r v right e = ap (λ o. unwrap_or (option_map (λ x. is_zone_of_kind x.kind v) o) false) e
 
 pub place_valid : (b : Basin) (r : ℕ) (right : Right) → IsValidBasin b → slice_get b.rights r ≡ Some right →
-    HasValidPlace b right.kind
+    HasValidSite b right.kind
 place_valid b r right valid e =
     let found = entry_holds (λ x. IsValidRight b x) b.rights r valid.rights (slice_get_within b.rights r right e) in
     let some : Some found.0 ≡ Some right = sym found.1 ∙ e in
     let same : found.0 ≡ right = cc in
-    subst (λ (x : Right). HasValidPlace b x.kind) same found.2.place
+    subst (λ (x : Right). HasValidSite b x.kind) same found.2.place
 
 pub zone_within : (b : Basin) (r at level : ℕ) (right : Right) → IsValidBasin b → slice_get b.rights r ≡ Some right →
     right.kind ≡ Zone at level →
     at < length b.reservoirs
-zone_within b r at level right valid e kind = (subst (HasValidPlace b) kind (place_valid b r right valid e)).0
+zone_within b r at level right valid e kind = (subst (HasValidSite b) kind (place_valid b r right valid e)).0
 
 -- a zone's take is added at its reservoir
 pub zone_more : (b : Basin) (take closing : List ℕ) (r v at level sum : ℕ) (right : Right) →

@@ -5,8 +5,8 @@ use Rattle.std.specs.Prelude.{slice_index, slice_get, Option, Some, None, unwrap
 use Rattle.std.proofs.lemmas.Bool.{cases_lt}
 use Rattle.std.proofs.lemmas.List.{get_or_past}
 use Rattle.std.proofs.lemmas.Option.{slice_get-map, get_or_from_slice_get}
-use Rattle.place_sums.specs.Sums.{total}
-use Rattle.place_sums.proofs.Totals.{total_add}
+use Rattle.finite_sums.specs.Sums.{total}
+use Rattle.finite_sums.proofs.Totals.{total_add}
 use Rattle.water_model.specs.Basin.{instream_link}
 use Rattle.water_model.specs.Plans.{delivery_by_link}
 use Rattle.water_model.specs.Hydrology.{inflow_at, returned_at, stored_at, delivered_in}
@@ -29,10 +29,10 @@ pub follows_small : (b : Basin) (series : Inflows) (before : List MonthRecord) (
 follows_small b series before m valid fits follows = record { takes = takes; delivered = delivered }
   where
     wanted : (r : ℕ) → r < length b.rights → slice_index m.want r ≤ 10 ^ 9
-    wanted r l = rw (follows.behind.want r l) (want_most b series r m.index (slice_index m.used r) valid fits l)
+    wanted r l = rw (follows.after.want r l) (want_most b series r m.index (slice_index m.used r) valid fits l)
 
     takes : (r : ℕ) → r < length b.rights → slice_index m.plan.take r ≤ 10 ^ 9
-    takes r l = omega (arith, follows.behind.plan.wants r l, wanted r l)
+    takes r l = omega (arith, follows.after.plan.wants r l, wanted r l)
 
     by_link : (o : Option ℕ) (r w : ℕ) → w ≤ 10 ^ 9 → slice_index m.plan.take r ≤ 10 ^ 9 →
         delivery_by_link o w m.plan r ≤ 10 ^ 9
@@ -42,9 +42,9 @@ follows_small b series before m valid fits follows = record { takes = takes; del
     delivered : (r : ℕ) → slice_index m.delivered r ≤ 10 ^ 9
     delivered r = elim (cases_lt r (length b.rights)) [
       | inl within ↦
-          rw (follows.behind.delivered r within)
+          rw (follows.after.delivered r within)
           (by_link (instream_link b r) r (slice_index m.want r) (wanted r within) (takes r within))
-      | inr past ↦ rw (get_or_past m.delivered r 0 (omega (arith, follows.behind.fits.delivered))) (omega arith)
+      | inr past ↦ rw (get_or_past m.delivered r 0 (omega (arith, follows.after.fits.delivered))) (omega arith)
     ]
 
 pub deliveries_small : (b : Basin) (series : Inflows) (records : List MonthRecord) → IsValidBasin b →

@@ -5,9 +5,9 @@ use Rattle.std.specs.Prelude.{◌==◌, slice_index, slice_get, Option, Some, No
 use Rattle.std.specs.Prelude.{nat_lt}
 use Rattle.std.proofs.lemmas.Bool.Decides.{nat_tests}
 use Rattle.std.proofs.Math.Nat.{mul-le-mul_right}
-use Rattle.place_sums.specs.Sums.{total, total_where}
-use Rattle.place_sums.proofs.Totals.{total_le, total_same, total_zero, total_exchange, total_at, total_grows}
-use Rattle.place_sums.proofs.Totals.{total_more, total_most}
+use Rattle.finite_sums.specs.Sums.{total, total_where}
+use Rattle.finite_sums.proofs.Totals.{total_le, total_same, total_zero, total_exchange, total_at, total_grows}
+use Rattle.finite_sums.proofs.Totals.{total_more, total_most}
 use Rattle.water_model.specs.Basin.{is_at, node_of_reservoir}
 use Rattle.water_model.specs.Lookups.{of_entry}
 use Rattle.water_model.specs.Hydrology.{inflow_at, inflow_of_kind, in_year, returned_by, returned_at, delivered_in}
@@ -75,7 +75,7 @@ inflows_small b series i valid fits =
     let most =
     total_most (length b.nodes) (10 ^ 9) (λ n. inflow_at b series n i)
     (λ n l. inflow_most b series n i valid fits l) in
-    omega (arith, most, valid.few.nodes)
+    omega (arith, most, valid.bounded.nodes)
 
 -- what a month's delivery brings by a row is at most the part of it
 one_month : (row : ReturnRow) (deliveries : List (List ℕ)) (i : ℕ) →
@@ -119,7 +119,7 @@ parts_small b valid =
     let most =
     total_most (length b.rights) (10 ^ 4) (λ r. parts_in b.returns r)
     (λ r l. omega (arith, valid.roll.parts r l)) in
-    omega (arith, whole, by_right, most, valid.few.rights)
+    omega (arith, whole, by_right, most, valid.bounded.rights)
   where
     rows_within : (k : ℕ) → k < length b.returns → of_entry b.returns k (λ row. row.right) 0 < length b.rights
     rows_within k l =
@@ -221,7 +221,7 @@ first_stored b opening evaporated valid small =
     (λ i j l k one other. valid.names.reservoirs i j l k
     (same_place (node_of_reservoir b i) (node_of_reservoir b j) n one other))
     (λ v l. omega (arith, small v l))) in
-    omega (arith, most, valid.few.nodes)
+    omega (arith, most, valid.bounded.nodes)
   where
     same_place : (o q : Option ℕ) (n : ℕ) → is_at o n ≡ true → is_at q n ≡ true → o ≡ q
     same_place None q n h k = cc
@@ -254,7 +254,7 @@ later_stored b opening evaporated take valid closed small =
     spread (length b.reservoirs) (length b.rights) (λ r. zone_place (slice_get b.rights r))
     (λ r. slice_index take r) in
     let most = total_most (length b.rights) (10 ^ 9) (λ r. slice_index take r) small in
-    omega (arith, at_nodes, less, by_zone, at_zones, most, valid.few.rights)
+    omega (arith, at_nodes, less, by_zone, at_zones, most, valid.bounded.rights)
   where
     place_of_kind : RightKind → Option ℕ
     place_of_kind (Diversion node) = None

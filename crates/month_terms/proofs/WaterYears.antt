@@ -4,15 +4,15 @@ use Rattle.std.proofs.Common.{ap, arith, List, [], ◌∷◌, ◌++◌, length, 
 use Rattle.std.specs.Prelude.{◌==◌, slice_index, slice_get, Option, Some, None, if◌then◌else◌, is_some, unwrap_or}
 use Rattle.std.specs.Prelude.{option_map, nat_lt}
 use Rattle.std.proofs.lemmas.Bool.Decides.{nat_tests}
-use Rattle.place_sums.specs.Sums.{total_where}
-use Rattle.place_sums.proofs.Totals.{total_same, total_where_more, total_where_start}
+use Rattle.finite_sums.specs.Sums.{total_where}
+use Rattle.finite_sums.proofs.Totals.{total_same, total_where_more, total_where_start}
 use Rattle.water_model.specs.Hydrology.{delivered_in, water_year, begins_year, used_in_year, used_by_volume, used_of}
 use Rattle.water_model.specs.Hydrology.{volume_of}
 use Rattle.water_model.specs.Valid.{IsValidBasin}
 use Rattle.water_model.specs.declared.types.Basin.{Basin}
 use Rattle.water_model.specs.declared.types.Right.{Right}
 use Rattle.water_model.proofs.Balance.{total_where_none_pass}
-use Rattle.place_sums.proofs.Totals.{total_most}
+use Rattle.finite_sums.proofs.Totals.{total_most}
 use Rattle.month_terms.specs.Terms.{HasUsed}
 
 -- what was delivered before stays, where one month more is delivered
@@ -184,7 +184,7 @@ nothing_used b used count none = record {
     by None used e = refl
     by (Some volume) used e = e
 
--- in so many months no more than so many deliveries are used
+-- in a given number of months no more than a given number of deliveries are used
 pub used_most : (b : Basin) (deliveries : List (List ℕ)) (r i most : ℕ) →
     ((j : ℕ) → delivered_in deliveries r j ≤ most) → used_of b deliveries r i ≤ i * most
 used_most b deliveries r i most small =

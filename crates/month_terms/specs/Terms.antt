@@ -6,7 +6,7 @@ use Rattle.water_model.specs.Hydrology.{run_month, in_year, inflow_at, evaporati
 use Rattle.water_model.specs.Hydrology.{want_of}
 use Rattle.water_model.specs.History.{FitsBasin, is_zone_of}
 use Rattle.water_model.specs.Plans.{delivery}
-use Rattle.place_sums.specs.Sums.{total_where}
+use Rattle.finite_sums.specs.Sums.{total_where}
 use Rattle.water_model.specs.declared.types.Basin.{Basin}
 use Rattle.water_model.specs.declared.types.Inflows.{Inflows}
 use Rattle.water_model.specs.declared.types.MonthRecord.{MonthRecord}

@@ -1,6 +1,6 @@
 //! An amount added at a place of a list.
 ghost use Rattle.std.specs.Prelude.{ℕ, ◌≡◌, ◌+◌, ◌<◌, ◌^◌, length, slice_index};
-ghost use Rattle.place_sums.specs.Sums.{when};
+ghost use Rattle.finite_sums.specs.Sums.{when};
 ghost use Rattle.std.specs.Prelude.{◌==◌};
 
 /// Adds an amount at a place.

@@ -1,6 +1,6 @@
 //! What reservoirs hold when a month closes.
 ghost use Rattle.std.specs.Prelude.{ℕ, ◌≡◌, ◌<◌, ◌≤◌, ◌^◌, length, slice_index};
-ghost use Rattle.place_sums.specs.Sums.{total_where};
+ghost use Rattle.finite_sums.specs.Sums.{total_where};
 ghost use Rattle.water_model.specs.History.{is_zone_of};
 ghost use Rattle.water_model.specs.Valid.{IsValidBasin};
 

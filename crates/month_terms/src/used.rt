@@ -25,8 +25,8 @@ fn add_deliveries(basin: &Basin, delivered: &[u64], used: &mut [u64])
     }
 }
 
-/// Goes on to the month behind the one with this index, which delivered this: `used` has, for each right with a volume,
-/// what it used in the water year of the month before, and then of the month behind it, in units of 1,000 cubic metres.
+/// Goes on to the month after the one with this index, which delivered this: `used` has, for each right with a volume,
+/// what it used in the water year of the month before, and then of the month after it, in units of 1,000 cubic metres.
 /// With a water year all volumes are given back. For other rights it stays 0.
 pub fn use_month(basin: &Basin, index: u32, delivered: &[u64], used: &mut [u64])
     requires basin { IsValidBasin basin.now }

@@ -3,11 +3,11 @@ use Rattle.std.proofs.Common.{◌≡◌, ℕ, true, ◌∙◌, ap, arith, length
 use Rattle.std.proofs.lemmas.Bool.{both_ways}
 use Rattle.std.proofs.lemmas.Bool.Decides.{eqb_tells}
 use Rattle.std.proofs.Common.{inl, inr}
-use Rattle.place_sums.specs.Sums.{total_where, when}
+use Rattle.finite_sums.specs.Sums.{total_where, when}
 use Rattle.water_model.specs.Plans.{carry_of}
 use Rattle.water_model.specs.Cuts.{enters}
 use Rattle.water_model.proofs.Duality.{cut_slack}
-use Rattle.place_sums.proofs.Terms.{same_where}
+use Rattle.finite_sums.proofs.Terms.{same_where}
 use Rattle.next_unit.specs.Core.{raised_carry}
 use Rattle.next_unit.specs.Laws.{NoCarryPastTightCutsHelps}
 

@@ -5,14 +5,14 @@ use Rattle.std.proofs.lemmas.Bool.{and_from, both_ways, cases_eq, eq-eqb}
 use Rattle.std.proofs.lemmas.Bool.Decides.{eqb_tells}
 use Rattle.std.proofs.lemmas.List.{get_or-set_same, get_or-set_other, length-set}
 use Rattle.std.specs.Prelude.{◌&&◌, ◌==◌, if◌then◌else◌, slice_index, Some, None, Option}
-use Rattle.place_sums.specs.Sums.{when}
-use Rattle.place_sums.proofs.Totals.{total_change, term_le_greatest}
+use Rattle.finite_sums.specs.Sums.{when}
+use Rattle.finite_sums.proofs.Totals.{total_change, term_le_greatest}
 use Rattle.water_model.specs.Basin.{instream_link, taking_node, takes_at, is_on_link, is_at, is_senior, is_outlet}
 use Rattle.water_model.specs.Basin.{link_of_kind}
 use Rattle.water_model.specs.Plans.{IsFeasible, delivery, delivery_by_link, taken_at}
 use Rattle.water_model.specs.History.{IsShort}
 use Rattle.water_model.specs.Laws.{ServesSeniors}
-use Rattle.water_model.specs.Valid.{HasValidPlace}
+use Rattle.water_model.specs.Valid.{HasValidSite}
 use Rattle.water_model.specs.declared.types.Basin.{Basin}
 use Rattle.water_model.specs.declared.types.MonthRecord.{MonthRecord}
 use Rattle.water_model.specs.declared.types.Plan.{Plan}
@@ -81,7 +81,7 @@ serves b m r carry own from to rank q given now same = record {
     place : (s e : ℕ) → s < length b.rights → instream_link b s ≡ Some e → e < length b.links
     place s e l is = let k = kind_is b given.valid s l in of_kind k.kind k.place (sym k.link ∙ is)
       where
-        of_kind : (k : RightKind) → HasValidPlace b k → link_of_kind k ≡ Some e → e < length b.links
+        of_kind : (k : RightKind) → HasValidSite b k → link_of_kind k ≡ Some e → e < length b.links
         of_kind (Diversion node) h i = cc
         of_kind (Instream link) h i = let same : link ≡ e = cc in omega (arith, h, same)
         of_kind (Zone reservoir level) h i = cc

@@ -4,7 +4,7 @@ use Rattle.std.proofs.Common.{subst, List, length, inl, inr}
 use Rattle.std.proofs.lemmas.Bool.{both_ways, cases_eq, cases_Bool, ltb-true}
 use Rattle.std.proofs.lemmas.List.{get_or-set_same, get_or-set_other, length-set}
 use Rattle.std.specs.Prelude.{◌==◌, slice_index, Some, None, Option}
-use Rattle.place_sums.specs.Sums.{when}
+use Rattle.finite_sums.specs.Sums.{when}
 use Rattle.water_model.specs.Network.{HasRiverOut}
 use Rattle.water_model.specs.Basin.{head_of, tail_of, is_river, is_outlet, instream_link}
 use Rattle.water_model.specs.Plans.{IsPlan, carry_of, inflow_to, outflow_from, delivery, delivery_by_link}
@@ -102,8 +102,8 @@ RiversCanRise b m = (e : ℕ) → e < length b.links → is_river b e ≡ true �
 send : (fuel : ℕ) (b : Basin) (m : MonthRecord) (numbers : HasNumbers b) (from to : ℕ) (flow : List ℕ) →
     HasPlan b m → RiversCanRise b m → to < length b.nodes → numbers.most < numbers.number to + fuel →
     IsSent b m numbers.number from to flow → IsSentOut b m numbers.number from
-send zero b m numbers from to flow given room l few now = absurd (omega (arith, few, numbers.bound to l))
-send (suc fuel) b m numbers from to flow given room l few now = elim (cases_Bool (is_outlet b to)) [
+send zero b m numbers from to flow given room l bounded now = absurd (omega (arith, bounded, numbers.bound to l))
+send (suc fuel) b m numbers from to flow given room l bounded now = elim (cases_Bool (is_outlet b to)) [
   | inl outlet ↦ record { node = to; below = l; outlet = outlet; flow = flow; sent = now }
   | inr inner ↦ by_river (given.valid.network.rivers to l inner)
       (λ next flow k more moved. send fuel b m numbers from next flow given room k more moved)
@@ -119,7 +119,7 @@ send (suc fuel) b m numbers from to flow given room l few now = elim (cases_Bool
         let tail : tail_of b e ≡ to = river.tail in
         let up : numbers.number to < numbers.number (head_of b e) =
         subst (λ v. numbers.number v < numbers.number (head_of b e)) tail (numbers.runs.runs e k) in
-        further (head_of b e) (one_more flow e) (ends b given.valid e k).1 (omega (arith, few, up))
+        further (head_of b e) (one_more flow e) (ends b given.valid e k).1 (omega (arith, bounded, up))
         (sent_on b m numbers.number from to e flow k tail up (room e k river.river) now)
 
 -- a plan of the month with one more unit of supply that delivers at least the same to each right

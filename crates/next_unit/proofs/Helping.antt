@@ -7,7 +7,7 @@ use Rattle.std.specs.Prelude.{Option, Some, None, slice_index, slice_index_or, s
 use Rattle.water_model.specs.Basin.{instream_link}
 use Rattle.water_model.specs.Cuts.{IsReach}
 use Rattle.water_model.specs.History.{HasReaches, IsShort}
-use Rattle.water_model.specs.Places.{seniors_first}
+use Rattle.water_model.specs.Indices.{seniors_first}
 use Rattle.water_model.specs.declared.types.Basin.{Basin}
 use Rattle.water_model.specs.declared.types.MonthRecord.{MonthRecord}
 use Rattle.water_model.proofs.Greatest.{delivery_le_want}

@@ -3,8 +3,8 @@ use Rattle.std.proofs.Common.{◌≡◌, ℕ, ◌+◌, ◌-◌, ◌<◌, ◌≤�
 use Rattle.std.proofs.Common.{length}
 use Rattle.std.proofs.lemmas.Bool.{and_parts, both_ways, false_from_ne_true, ltb-true, not-true, not_from_false}
 use Rattle.std.specs.Prelude.{not, nat_lt, if◌then◌else◌, slice_index, Some, None, Option}
-use Rattle.place_sums.specs.Sums.{greatest_where}
-use Rattle.place_sums.proofs.Totals.{term_le_greatest}
+use Rattle.finite_sums.specs.Sums.{greatest_where}
+use Rattle.finite_sums.proofs.Totals.{term_le_greatest}
 use Rattle.water_model.specs.Lookups.{has}
 use Rattle.water_model.specs.Network.{IsForward}
 use Rattle.water_model.specs.Basin.{head_of, tail_of, instream_link, taking_node}

@@ -5,13 +5,13 @@ use Rattle.std.proofs.lemmas.Bool.{cases_eq}
 use Rattle.std.proofs.Common.{take, length-take}
 use Rattle.std.proofs.lemmas.Option.{slice_get_within}
 use Rattle.std.specs.Prelude.{slice_index, slice_get, Some, None, Option, ◌⊎◌, ◌≢◌}
-use Rattle.place_sums.specs.Sums.{total}
-use Rattle.place_sums.proofs.Totals.{total_same}
+use Rattle.finite_sums.specs.Sums.{total}
+use Rattle.finite_sums.proofs.Totals.{total_same}
 use Rattle.water_text.specs.Months.{IsMonth}
 use Rattle.water_model.specs.Basin.{instream_link}
 use Rattle.water_model.specs.Plans.{IsGreatest, carry_of, delivery}
 use Rattle.water_model.specs.Cuts.{node_within}
-use Rattle.water_model.specs.History.{IsPartialHistory, IsMonthBehind, Follows, IsShort, opening_after}
+use Rattle.water_model.specs.History.{IsPartialHistory, IsNextMonth, Follows, IsShort, opening_after}
 use Rattle.water_model.specs.Hydrology.{inflow_at, returned_at, stored_at, want_by_volume, volume_of}
 use Rattle.water_model.specs.Hydrology.{target_of}
 use Rattle.water_model.specs.Hydrology.{cap_by_link, run_month, number_of}
@@ -24,7 +24,7 @@ use Rattle.water_model.specs.declared.types.MonthRecord.{MonthRecord}
 use Rattle.water_model.specs.declared.types.Plan.{Plan}
 use Rattle.water_model.proofs.Histories.{IsMonth-run_month}
 use Rattle.water_model.proofs.Greatest.{record_is_greatest}
-use Rattle.water_model.proofs.Lists.{front_partial}
+use Rattle.water_model.proofs.Lists.{prefix_partial}
 use Rattle.water_model.proofs.Seniority.{senior_total}
 use Rattle.month_terms.proofs.Amounts.{supply_small}
 use Rattle.plan_residual.specs.Residual.{HasPlan}
@@ -55,8 +55,8 @@ month_of b series records i m partial at =
     let below = slice_get_within records i m at in
     record {
       follows = follows;
-      partial = front_partial b series records i partial;
-      index = omega (arith, follows.behind.index, length-take i records, below, partial.within);
+      partial = prefix_partial b series records i partial;
+      index = omega (arith, follows.after.index, length-take i records, below, partial.within);
     }
 
 -- it has a plan
@@ -64,21 +64,21 @@ pub has_plan : (b : Basin) (series : Inflows) (records : List MonthRecord) (i : 
     IsMonthOf b series records i m → HasPlan b m
 has_plan b series records i m valid month = record {
   valid = valid;
-  month = subst IsMonth (sym month.follows.behind.month) (IsMonth-run_month b m.index valid.run month.index);
-  fits = month.follows.behind.fits;
-  plan = month.follows.behind.plan;
-  delivered = record { each = month.follows.behind.delivered };
+  month = subst IsMonth (sym month.follows.after.month) (IsMonth-run_month b m.index valid.run month.index);
+  fits = month.follows.after.fits;
+  plan = month.follows.after.plan;
+  delivered = record { each = month.follows.after.delivered };
 }
 
 -- an instream right wants no more than its link carries
 want_carried : (b : Basin) (series : Inflows) (before : List MonthRecord) (m : MonthRecord) (r e : ℕ) →
-    IsMonthBehind b series before m → r < length b.rights → instream_link b r ≡ Some e →
+    IsNextMonth b series before m → r < length b.rights → instream_link b r ≡ Some e →
     slice_index m.want r ≤ carry_of b m.month e
-want_carried b series before m r e behind l is =
-    subst (λ (month : Month). slice_index m.want r ≤ carry_of b month e) (sym behind.month)
+want_carried b series before m r e after l is =
+    subst (λ (month : Month). slice_index m.want r ≤ carry_of b month e) (sym after.month)
     (omega (
       arith,
-      behind.want r l,
+      after.want r l,
       by_volume (volume_of b r) (target_of b series r m.index) (slice_index m.used r),
       by_link (of_entry b.rights r (λ x. number_of b series r m.index x) 0),
     ))
@@ -112,8 +112,8 @@ small_supply b series records i m valid fits month =
         + stored_at b (opening_after b (take i records)) m.evaporated n
     same n k = omega (
       arith,
-      month.follows.behind.supply n k,
-      month.follows.behind.returned n k,
+      month.follows.after.supply n k,
+      month.follows.after.returned n k,
       ap (λ (o : List ℕ). stored_at b o m.evaporated n) month.follows.opening,
     )
 
@@ -124,7 +124,7 @@ pub has_room_down : (b : Basin) (series : Inflows) (records : List MonthRecord) 
 has_room_down b series records i m r valid fits month l short =
     small_supply_leaves_room b m r (has_plan b series records i m valid month) l short
     (small_supply b series records i m valid fits month)
-    (λ e is. want_carried b series (take i records) m r e month.follows.behind l is)
+    (λ e is. want_carried b series (take i records) m r e month.follows.after l is)
 
 -- so a short right, which has a tight cut, is helped exactly there
 pub histories_show_where_supply_helps : HistoriesShowWhereSupplyHelps
@@ -227,8 +227,8 @@ next_unit_shows_in_histories b series other records others i m n node right vali
     index : n.index ≡ m.index
     index = omega (
       arith,
-      here.behind.index,
-      follows.behind.index,
+      here.after.index,
+      follows.after.index,
       length-take i records,
       length-take i others,
       slice_get_within records i m at,
@@ -236,10 +236,10 @@ next_unit_shows_in_histories b series other records others i m n node right vali
     )
 
     month : n.month ≡ m.month
-    month = follows.behind.month ∙ (ap (run_month b) index ∙ sym here.behind.month)
+    month = follows.after.month ∙ (ap (run_month b) index ∙ sym here.after.month)
 
     there : (s : ℕ) → s < length b.rights → slice_index n.delivered s ≡ delivery b m.want n.plan s
-    there s l = follows.behind.delivered s l ∙ ap (λ w. delivery b w n.plan s) want
+    there s l = follows.after.delivered s l ∙ ap (λ w. delivery b w n.plan s) want
 
     gives : GivesOneMore b m n.plan right
     gives = next_unit_goes_to_one b series records i m node right n.plan valid fits partial at next

@@ -7,8 +7,8 @@ use Rattle.std.proofs.lemmas.Bool.Decides.{nat_tests}
 use Rattle.std.proofs.lemmas.List.{get_or-set_same, get_or-set_other}
 use Rattle.std.specs.Prelude.{◌==◌, ◌&&◌, ◌||◌, not, if◌then◌else◌, slice_index, Some, None, ◌⊎◌, nat_lt}
 use Rattle.std.specs.Option.{option_map_or}
-use Rattle.place_sums.specs.Sums.{when}
-use Rattle.place_sums.proofs.Totals.{total_change}
+use Rattle.finite_sums.specs.Sums.{when}
+use Rattle.finite_sums.proofs.Totals.{total_change}
 use Rattle.water_model.specs.Lookups.{has}
 use Rattle.water_model.specs.Basin.{is_senior, HasStrictPriority, instream_link}
 use Rattle.water_model.specs.Basin.{taking_node_of_kind, link_of_kind}

@@ -5,8 +5,8 @@ use Rattle.std.proofs.Common.{subst, List, length, inl, inr}
 use Rattle.std.proofs.lemmas.Bool.{and_parts, both_ways, cases_eq, cases_Bool, eq-eqb, eqb-true, ltb-true, not-true}
 use Rattle.std.proofs.lemmas.List.{get_or-set_same, get_or-set_other, length-set}
 use Rattle.std.specs.Prelude.{◌==◌, not, nat_lt, if◌then◌else◌, slice_index, slice_set, Some, None, Option}
-use Rattle.place_sums.specs.Sums.{total, when}
-use Rattle.place_sums.proofs.Totals.{total_change}
+use Rattle.finite_sums.specs.Sums.{total, when}
+use Rattle.finite_sums.proofs.Totals.{total_change}
 use Rattle.water_model.specs.Basin.{head_of, tail_of, instream_link, is_on_link, is_at}
 use Rattle.water_model.specs.Plans.{carry_of, inflow_to, outflow_from}
 use Rattle.water_model.specs.Cuts.{kept_on}
@@ -238,14 +238,14 @@ move_on : (fuel : ℕ) (b : Basin) (m : MonthRecord) (r : ℕ) (carry : ℕ → 
     (rank : ℕ → ℕ) (node : ℕ) (flow : List ℕ) → ((e : ℕ) → carry_of b m.month e ≤ carry e) →
     LeadOn b m r inside is_end rank → rank node < fuel → inside node ≡ true →
     IsMoved b m r carry own from node rank flow → HasCome b m r carry own from inside is_end rank
-move_on zero b m r carry own from inside is_end rank node flow wide leads few here now = absurd (omega arith)
-move_on (suc fuel) b m r carry own from inside is_end rank node flow wide leads few here now =
+move_on zero b m r carry own from inside is_end rank node flow wide leads bounded here now = absurd (omega arith)
+move_on (suc fuel) b m r carry own from inside is_end rank node flow wide leads bounded here now =
     elim (cases_Bool (is_end node)) [
       | inl at_end ↦ record { node = node; is_inside = here; at_end = at_end; flow = flow; moved = now }
       | inr not_end ↦ (let s = leads.step node here not_end in
           step_on b m r carry own from inside is_end rank node flow wide now
           (λ to next lower there moved. move_on fuel b m r carry own from inside is_end rank to next wide leads
-          (omega (arith, lower, few)) there moved)
+          (omega (arith, lower, bounded)) there moved)
           s.0.back s.0.link s.0.below s.0.room s.0.start s.0.ends s.0.lower s.1)
     ]
 

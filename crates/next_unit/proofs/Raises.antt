@@ -7,7 +7,7 @@ use Rattle.std.proofs.lemmas.Bool.{false_from_ne_true}
 use Rattle.std.proofs.lemmas.Bool.{ltb-true, not-true, not_from_false}
 use Rattle.std.proofs.lemmas.List.{get_or-set_same, get_or-set_other, length-set}
 use Rattle.std.specs.Prelude.{◌&&◌, ◌==◌, not, if◌then◌else◌, slice_index, ◌⊎◌, Some, None, Option}
-use Rattle.place_sums.specs.Sums.{when}
+use Rattle.finite_sums.specs.Sums.{when}
 use Rattle.water_model.specs.Lookups.{has}
 use Rattle.water_model.specs.Basin.{head_of, tail_of, instream_link, taking_node, is_on_link, is_at, is_senior}
 use Rattle.water_model.specs.Plans.{carry_of, taken_at}

@@ -8,8 +8,8 @@ use Rattle.std.proofs.lemmas.Bool.{not_from_false}
 use Rattle.std.proofs.lemmas.List.FromFn.{length-map-range_with_len, get_or-map-range_with_len}
 use Rattle.std.specs.List.{range_with_len}
 use Rattle.std.specs.Prelude.{not, nat_le, if◌then◌else◌, slice_index, option_map, unwrap_or}
-use Rattle.place_sums.specs.Sums.{total}
-use Rattle.place_sums.proofs.Totals.{total_le, term_le_total_where}
+use Rattle.finite_sums.specs.Sums.{total}
+use Rattle.finite_sums.proofs.Totals.{total_le, term_le_total_where}
 use Rattle.water_model.specs.Lookups.{has}
 use Rattle.water_model.specs.Network.{is_river_kind}
 use Rattle.water_model.specs.Basin.{head_of, tail_of, is_river}
@@ -41,7 +41,7 @@ river_carry b month e valid l h =
     of_kind River h = refl
     of_kind (Canal per_day shut) h = cc
 
--- the nodes that are not behind a node
+-- the nodes that are not after a node
 up_to : (n : ℕ) → (ℕ → ℕ) → ℕ → List Bool
 up_to n number at = map (λ v. nat_le (number v) at) (range_with_len 0 n)
 

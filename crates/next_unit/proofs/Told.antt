@@ -232,7 +232,7 @@ pub none_told_of : (b : Basin) (m : MonthRecord) (helped : List (Option ℕ)) (u
 none_told_of b m helped undecided one other = record {
   for_helped = one;
   for_list = other;
-  few = omega arith;
+  bounded = omega arith;
   listed = λ j l. absurd (omega arith);
   each = λ e l. absurd (omega arith);
   decided = λ e l. absurd (omega arith);
@@ -264,7 +264,7 @@ module _ (b : Basin) (m : MonthRecord) (helped : List (Option ℕ)) (undecided :
   one_decided here is = record {
     for_helped = length-set helped link answer ∙ now.for_helped;
     for_list = now.for_list;
-    few = let few = now.few in omega arith;
+    bounded = let bounded = now.bounded in omega arith;
     listed = now.listed;
     each = told here;
     decided = λ e k. elim (cases_eq e link) [
@@ -283,7 +283,7 @@ module _ (b : Basin) (m : MonthRecord) (helped : List (Option ℕ)) (undecided :
   one_listed here = record {
     for_helped = length-set helped link answer ∙ now.for_helped;
     for_list = length-set undecided count link ∙ now.for_list;
-    few = let few = now.few in omega arith;
+    bounded = let bounded = now.bounded in omega arith;
     listed = λ j k. elim (cases_eq j count) [
       | inl same ↦ subst (λ (f : ℕ). f < length b.links) (sym (ap (slice_index (slice_set undecided count link)) same
           ∙ last)) l
@@ -304,7 +304,7 @@ module _ (b : Basin) (m : MonthRecord) (helped : List (Option ℕ)) (undecided :
   }
     where
       last : slice_index (slice_set undecided count link) count ≡ link
-      last = get_or-set_same undecided count link 0 (omega (arith, now.few, now.for_list, l))
+      last = get_or-set_same undecided count link 0 (omega (arith, now.bounded, now.for_list, l))
 
       before : (j : ℕ) → (j ≡ count → ⊥) → slice_index (slice_set undecided count link) j ≡ slice_index undecided j
       before j other = get_or-set_other undecided count j link 0 other
@@ -328,6 +328,6 @@ pub all_decided_of : (b : Basin) (m : MonthRecord) (helped : List (Option ℕ)) 
     length b.links ≤ links → links ≤ length b.links → AreToldOf b m helped undecided count links →
     AreUndecided b m helped undecided count
 all_decided_of b m helped undecided count links all most now = record {
-  links = (omega (arith, now.few, now.for_list), now.listed);
+  links = (omega (arith, now.bounded, now.for_list), now.listed);
   each = λ e l. now.decided e (omega arith);
 }

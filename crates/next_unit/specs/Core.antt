@@ -1,6 +1,6 @@
 -- The least tight cut of a right, and what one unit more of supply or of carry is.
 use Rattle.std.specs.Prelude.{◌≡◌, ℕ, ◌+◌, ◌<◌, ◌==◌, Bool, List, length, slice_index, slice_set, Some, IsTrue}
-use Rattle.place_sums.specs.Sums.{when}
+use Rattle.finite_sums.specs.Sums.{when}
 use Rattle.water_model.specs.Lookups.{has}
 use Rattle.water_model.specs.Basin.{is_river, instream_link}
 use Rattle.water_model.specs.Plans.{carry_of}

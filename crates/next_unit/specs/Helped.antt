@@ -70,7 +70,7 @@ pub record AreToldOf (b : Basin) (m : MonthRecord) (helped : List (Option ℕ)) 
   where
     pub for_helped : length helped ≡ length b.links
     pub for_list : length undecided ≡ length b.links
-    pub few : count ≤ links
+    pub bounded : count ≤ links
     pub listed : (j : ℕ) → j < count → slice_index undecided j < length b.links
     pub each : (e : ℕ) → e < links → IsHelpedTo b m 0 e (slice_index_or helped e None)
     pub decided : (e : ℕ) → e < links →

@@ -1,7 +1,7 @@
 -- Laws over the definitions.
 use Rattle.std.specs.Prelude.{◌≡◌, ◌↔◌, ℕ, ◌+◌, ◌<◌, ◌≤◌, ◌^◌, Bool, false, List, length, slice_index, slice_get, Some}
 use Rattle.std.specs.Prelude.{IsTrue, ◌⊎◌}
-use Rattle.place_sums.specs.Sums.{total}
+use Rattle.finite_sums.specs.Sums.{total}
 use Rattle.water_model.specs.Lookups.{has}
 use Rattle.water_model.specs.Basin.{tail_of, head_of, instream_link, taking_node, is_senior}
 use Rattle.water_model.specs.Plans.{IsPlan, IsFeasible, IsGreatest, carry_of, delivery}

@@ -6,7 +6,7 @@ use Rattle.std.proofs.lemmas.List.{get_or-set_same, get_or-set_other, length-rep
 use Rattle.std.specs.Prelude.{◌||◌, ◌⊎◌, slice_index, slice_index_or, slice_set, Option, Some, None}
 use Rattle.water_model.specs.Lookups.{has}
 use Rattle.water_model.specs.History.{IsShort}
-use Rattle.water_model.specs.Places.{seniors_first}
+use Rattle.water_model.specs.Indices.{seniors_first}
 use Rattle.water_model.specs.declared.types.Basin.{Basin}
 use Rattle.water_model.specs.declared.types.MonthRecord.{MonthRecord}
 use Rattle.water_model.proofs.Sets.{has_below}
@@ -123,8 +123,8 @@ no_marks n = replicate n None
 pub none_claimed : (b : Basin) (m : MonthRecord) (seen : List Bool) (queue : List ℕ) (next : List (Option ℕ)) →
     seen ≡ replicate (length b.nodes) false → next ≡ no_marks (length b.nodes) →
     length queue ≡ length b.nodes → length b.nodes ≤ 2000 → AreClaimed b m 0 seen queue 0 next
-none_claimed b m seen queue next is none room few = record {
-  in_queue = queue_none (length b.nodes) seen queue is room few;
+none_claimed b m seen queue next is none room bounded = record {
+  in_queue = queue_none (length b.nodes) seen queue is room bounded;
   count = ap (λ (xs : List Bool). length xs) is ∙ length-replicate (length b.nodes) false;
   one_each = ap (λ (xs : List (Option ℕ)). length xs) none ∙ length-replicate {A = Option ℕ} (length b.nodes) None;
   closed = λ i a l short. record { steps = λ s l from room. absurd (both_ways _ (off _) from) };
@@ -204,15 +204,15 @@ claimed_more b m place seen seen' queue queue' size size' next next' given o bel
         let q = now.in_queue.each n old in
         let inside = q.1 in
         mark.kept n (λ j a k same. claim.in_queue.once q.0 j (omega arith) k
-        (claim.extends.front q.0 q.1 ∙ (q.2 ∙ sym same)))
+        (claim.extends.prefix q.0 q.1 ∙ (q.2 ∙ sym same)))
 
     added : (n : ℕ) → has seen' n ≡ true → has seen n ≡ false → slice_index_or next' n None ≡ Some r
     added n h fresh =
         let q = claim.in_queue.each n h in
         ap (λ (v : ℕ). slice_index_or next' v None) (sym q.2) ∙ mark.marked q.0 (elim (cases_lt q.0 size) [
           | inl before ↦ absurd (both_ways (has seen n) fresh
-              (ap (has seen) (sym q.2 ∙ claim.extends.front q.0 before) ∙ now.in_queue.queued q.0 before))
-          | inr behind ↦ behind
+              (ap (has seen) (sym q.2 ∙ claim.extends.prefix q.0 before) ∙ now.in_queue.queued q.0 before))
+          | inr after ↦ after
         ]) q.1
 
     owned : (n : ℕ) → has seen' n ≡ true → has seen n ≡ false → IsNextAt b m n r

@@ -9,7 +9,7 @@ use Rattle.water_model.specs.Basin.{head_of, tail_of, taking_node, instream_link
 use Rattle.water_model.specs.Basin.{taking_node_of_kind}
 use Rattle.water_model.specs.Cuts.{takes_within, node_within, IsCut, IsTight, separates, leaves}
 use Rattle.water_model.specs.History.{IsShort}
-use Rattle.water_model.specs.Valid.{IsValidBasin, IsValidReservoir, HasValidPlace}
+use Rattle.water_model.specs.Valid.{IsValidBasin, IsValidReservoir, HasValidSite}
 use Rattle.water_model.specs.declared.types.Basin.{Basin}
 use Rattle.water_model.specs.declared.types.MonthRecord.{MonthRecord}
 use Rattle.water_model.specs.declared.types.RightKind.{RightKind}
@@ -37,7 +37,7 @@ taking_below : (b : Basin) → IsValidBasin b → (s n : ℕ) → s < length b.r
 taking_below b valid s n l is =
     let k = kind_is b valid s l in of_kind k.kind k.place (sym k.node ∙ is)
   where
-    of_kind : (k : RightKind) → HasValidPlace b k → taking_node_of_kind b k ≡ Some n → n < length b.nodes
+    of_kind : (k : RightKind) → HasValidSite b k → taking_node_of_kind b k ≡ Some n → n < length b.nodes
     of_kind (Diversion node) place e = let same : node ≡ n = cc in omega (arith, place)
     of_kind (Instream link) place e = cc
     of_kind (Zone reservoir level) place e =

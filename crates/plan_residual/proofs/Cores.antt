@@ -2,7 +2,7 @@
 use Rattle.std.proofs.Common.{◌≡◌, ℕ, ◌<◌, Bool, refl, ◌∙◌, ap, ap₂, List, length}
 use Rattle.std.specs.Prelude.{Some, None, option_map, unwrap_or}
 use Rattle.water_model.specs.Basin.{tail_of, taking_node_of_kind, link_of_kind}
-use Rattle.water_model.specs.Valid.{HasValidPlace, IsValidReservoir}
+use Rattle.water_model.specs.Valid.{HasValidSite, IsValidReservoir}
 use Rattle.water_model.specs.declared.types.Basin.{Basin}
 use Rattle.water_model.specs.declared.types.MonthRecord.{MonthRecord}
 use Rattle.water_model.specs.declared.types.RightKind.{RightKind}
@@ -21,7 +21,7 @@ node_is b m r given l =
     ≡ Some node) = of_kind k.kind k.place in
     (of.0, of.1, ap₂ (λ t o. node_by_link b t o) k.node k.link ∙ of.2)
   where
-    of_kind : (k : RightKind) → HasValidPlace b k → (node : ℕ) × (node < length b.nodes)
+    of_kind : (k : RightKind) → HasValidSite b k → (node : ℕ) × (node < length b.nodes)
         × (node_by_link b (taking_node_of_kind b k) (link_of_kind k) ≡ Some node)
     of_kind (Diversion node) place = (node, place, refl)
     of_kind (Instream link) place = (tail_of b link, (ends b given.valid link place).0, refl)

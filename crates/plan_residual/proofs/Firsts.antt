@@ -8,7 +8,7 @@ use Rattle.water_model.specs.Cuts.{IsTight}
 use Rattle.water_model.specs.History.{FitsBasin, IsShort}
 use Rattle.water_model.specs.declared.types.Basin.{Basin}
 use Rattle.water_model.specs.declared.types.MonthRecord.{MonthRecord}
-use Rattle.water_model.specs.Places.{seniors_first}
+use Rattle.water_model.specs.Indices.{seniors_first}
 use Rattle.water_model.specs.Valid.{IsValidBasin}
 use Rattle.rights_roll.proofs.Seniors.{by_seniority_order}
 use Rattle.plan_residual.specs.Reaches.{HaveTightSets}

@@ -5,9 +5,9 @@ use Rattle.std.proofs.lemmas.Bool.{both_ways, cases_eq, cases_lt}
 use Rattle.std.proofs.lemmas.Bool.Decides.{nat_tests}
 use Rattle.std.proofs.lemmas.List.{get_or-set_same, get_or-set_other, length-replicate, length-set}
 use Rattle.std.specs.Prelude.{◌==◌, slice_index, slice_set, if◌then◌else◌}
-use Rattle.place_sums.specs.Sums.{count_where}
-use Rattle.place_sums.proofs.Totals.{total_same, total_add, total_at, total_change, total_zero, count_at_most}
-use Rattle.place_sums.proofs.Counts.{at_inside, fewer}
+use Rattle.finite_sums.specs.Sums.{count_where}
+use Rattle.finite_sums.proofs.Totals.{total_same, total_add, total_at, total_change, total_zero, count_at_most}
+use Rattle.finite_sums.proofs.Counts.{at_inside, fewer}
 use Rattle.water_model.specs.Lookups.{has}
 use Rattle.water_model.proofs.Sets.{has_below}
 use Rattle.plan_residual.specs.Search.{IsQueue, Extends, IsVisit}
@@ -23,9 +23,9 @@ nowhere (suc n) (suc v) = nowhere n v
 
 pub queue_none : (n : ℕ) (seen : List Bool) (queue : List ℕ) → seen ≡ replicate n false → length queue ≡ n → n ≤ 2000 →
     IsQueue seen queue 0
-queue_none n seen queue is room few = record {
+queue_none n seen queue is room bounded = record {
   sized = room ∙ sym sized;
-  few = omega (arith, sized, few);
+  bounded = omega (arith, sized, bounded);
   number = total_zero (length seen) (λ v. if has seen v then 1 else 0) (λ v l. ap (λ t. if t then 1 else 0) (none v));
   queued = λ j l. absurd (omega arith);
   each = λ v h. absurd (both_ways (has seen v) (none v) h);
@@ -40,14 +40,14 @@ queue_none n seen queue is room few = record {
 
 -- nothing is added
 pub extends_same : (seen : List Bool) (queue : List ℕ) (size : ℕ) → Extends seen seen queue queue size size
-extends_same seen queue size = record { kept = λ v h. h; front = λ j l. refl; larger = omega arith }
+extends_same seen queue size = record { kept = λ v h. h; prefix = λ j l. refl; larger = omega arith }
 
--- one addition behind another
+-- one addition after another
 pub extends_then : {seen one two : List Bool} {queue q1 q2 : List ℕ} {size s1 s2 : ℕ} →
     Extends seen one queue q1 size s1 → Extends one two q1 q2 s1 s2 → Extends seen two queue q2 size s2
 extends_then x y = record {
   kept = λ v h. y.kept v (x.kept v h);
-  front = λ j l. y.front j (let m = x.larger in omega arith) ∙ x.front j l;
+  prefix = λ j l. y.prefix j (let m = x.larger in omega arith) ∙ x.prefix j l;
   larger = let m = x.larger in let n = y.larger in omega arith;
 }
 
@@ -79,7 +79,7 @@ pub visit_new : (seen : List Bool) (queue : List ℕ) (size node : ℕ) → IsQu
 visit_new seen queue size node now l fresh = record {
   in_queue = record {
     sized = length-set queue size node ∙ (now.sized ∙ sym (length-set seen node true));
-    few = (let n = length-set seen node true in let f = now.few in omega arith);
+    bounded = (let n = length-set seen node true in let f = now.bounded in omega arith);
     number = ap (λ n. count_where n (λ v. has (slice_set seen node true) v))
         (length-set seen node true)
         ∙ total_same (length seen) (λ v. if has (slice_set seen node true) v then 1 else 0)
@@ -88,7 +88,7 @@ visit_new seen queue size node now l fresh = record {
         ∙ (let n = now.number in let t = total_at (length seen) node 1 in let i = at_inside node (length seen) 1 l in
         omega arith));
     queued = λ j m. elim (cases_lt j size) [
-      | inl before ↦ subst (λ v. has (slice_set seen node true) v ≡ true) (sym (front j before))
+      | inl before ↦ subst (λ v. has (slice_set seen node true) v ≡ true) (sym (prefix j before))
           (kept (slice_index queue j) (now.queued j before))
       | inr here ↦ (let same : j ≡ size = omega arith in
           subst (λ k. has (slice_set seen node true) (slice_index (slice_set queue size node) k) ≡ true) (sym same)
@@ -97,18 +97,18 @@ visit_new seen queue size node now l fresh = record {
     each = λ v h. elim (cases_eq v node) [
       | inl same ↦ (size, omega arith, last ∙ sym same)
       | inr other ↦ (let q = now.each v (sym (apart v other) ∙ h) in let b = q.1 in
-          (q.0, omega arith, front q.0 b ∙ q.2))
+          (q.0, omega arith, prefix q.0 b ∙ q.2))
     ];
     once = λ i j a m same. elim (cases_lt j size) [
-      | inl before ↦ now.once i j a before (sym (front i (omega arith)) ∙ (same ∙ front j before))
+      | inl before ↦ now.once i j a before (sym (prefix i (omega arith)) ∙ (same ∙ prefix j before))
       | inr here ↦ (let at : j ≡ size = omega arith in
           both_ways (has seen node) fresh
-          (sym (ap (has seen) (sym (front i (omega arith)) ∙ (same
+          (sym (ap (has seen) (sym (prefix i (omega arith)) ∙ (same
           ∙ (ap (slice_index (slice_set queue size node)) at ∙ last)))) ∙ now.queued i (omega arith)))
     ];
   };
   count = length-set seen node true;
-  extends = record { kept = kept; front = front; larger = omega arith };
+  extends = record { kept = kept; prefix = prefix; larger = omega arith };
   on = on;
   only = λ v h. elim (cases_eq v node) [ inl same ↦ inl same | inr other ↦ inr (sym (apart v other) ∙ h) ];
 }
@@ -128,8 +128,8 @@ visit_new seen queue size node now l fresh = record {
       | inr other ↦ apart v other ∙ h
     ]
 
-    front : (j : ℕ) → j < size → slice_index (slice_set queue size node) j ≡ slice_index queue j
-    front j m = get_or-set_other queue size j node 0 (λ e. absurd (omega arith))
+    prefix : (j : ℕ) → j < size → slice_index (slice_set queue size node) j ≡ slice_index queue j
+    prefix j m = get_or-set_other queue size j node 0 (λ e. absurd (omega arith))
 
     last : slice_index (slice_set queue size node) size ≡ node
     last = get_or-set_same queue size node 0 room
@@ -156,7 +156,7 @@ pub forget_last : (seen : List Bool) (queue : List ℕ) (size : ℕ) → IsQueue
     IsQueue (slice_set seen (slice_index queue size) false) queue size
 forget_last seen queue size now = record {
   sized = now.sized ∙ sym (length-set seen node false);
-  few = (let n = length-set seen node false in let f = now.few in omega arith);
+  bounded = (let n = length-set seen node false in let f = now.bounded in omega arith);
   number = ap (λ n. count_where n (λ v. has (slice_set seen node false) v)) (length-set seen node false)
       ∙ (let n = now.number in
       let other = total_change (length seen) node (λ v. one_if (has (slice_set seen node false) v))
@@ -194,6 +194,6 @@ forget_last seen queue size now = record {
 pub same_queue : (one two : List Bool) (queue queue' : List ℕ) (size : ℕ) → IsQueue one queue size →
     IsQueue two queue' size → ((j : ℕ) → j < size → slice_index queue' j ≡ slice_index queue j) →
     (v : ℕ) → has one v ≡ true → has two v ≡ true
-same_queue one two queue queue' size now other front v h =
+same_queue one two queue queue' size now other prefix v h =
     let q = now.each v h in
-    ap (has two) (sym q.2 ∙ sym (front q.0 q.1)) ∙ other.queued q.0 q.1
+    ap (has two) (sym q.2 ∙ sym (prefix q.0 q.1)) ∙ other.queued q.0 q.1

@@ -20,8 +20,8 @@ use Rattle.plan_residual.proofs.Queues.{nowhere, queue_none}
 pub reaching_none : (b : Basin) (m : MonthRecord) (r n : ℕ) (seen : List Bool) (queue : List ℕ) →
     seen ≡ replicate n false → n ≡ length b.nodes → length queue ≡ length b.nodes → length b.nodes ≤ 2000 →
     IsReaching b m r seen queue 0
-reaching_none b m r n seen queue is count room few = record {
-  in_queue = queue_none n seen queue is (room ∙ sym count) (omega (arith, count, few));
+reaching_none b m r n seen queue is count room bounded = record {
+  in_queue = queue_none n seen queue is (room ∙ sym count) (omega (arith, count, bounded));
   count = ap (λ (xs : List Bool). length xs) is ∙ (length-replicate n false ∙ count);
   least = λ other closed v h. absurd (both_ways (has seen v)
       (ap (λ (xs : List Bool). has xs v) is ∙ nowhere n v) h);

@@ -4,8 +4,8 @@ use Rattle.std.proofs.Common.{inr}
 use Rattle.std.proofs.lemmas.Bool.{and_from, and_parts, eq-eqb, eqb-true, ltb-true, ne_eqb}
 use Rattle.std.proofs.lemmas.Bool.{false_from_ne_true, and_right, not-true, eqb-false}
 use Rattle.std.specs.Prelude.{◌==◌, slice_index, ◌&&◌, not, Option, Some, None, min, if◌then◌else◌, nat_lt}
-use Rattle.place_sums.specs.Sums.{total_where}
-use Rattle.place_sums.proofs.Totals.{total_same, total_pick, total_where_le, greatest_where_le}
+use Rattle.finite_sums.specs.Sums.{total_where}
+use Rattle.finite_sums.proofs.Totals.{total_same, total_pick, total_where_le, greatest_where_le}
 use Rattle.water_model.specs.Lookups.{has}
 use Rattle.water_model.specs.Basin.{taking_node, instream_link, is_at, is_on_link, is_senior}
 use Rattle.water_model.specs.Plans.{delivery_by_link, carry_of}
@@ -23,7 +23,7 @@ use Rattle.water_model.proofs.Sets.{total_crossing}
 use Rattle.plan_residual.specs.Residual.{HasPlan}
 use Rattle.plan_residual.specs.Slack.{HasNoSlack}
 use Rattle.plan_residual.specs.Laws.{TightMeansNoSlack}
-use Rattle.place_sums.proofs.Terms.{terms_equal_where, same_where, none_where}
+use Rattle.finite_sums.proofs.Terms.{terms_equal_where, same_where, none_where}
 
 -- what leaves a cut over other links than the right's own, and over its own
 abbrev over_others : Basin → ℕ → List Bool → (ℕ → ℕ) → ℕ

@@ -38,7 +38,7 @@ grown_by_step b m r d step seen seen' queue queue' size size' visit l from room 
   ];
 }
 
--- one addition behind another
+-- one addition after another
 pub grown_then : {b : Basin} {m : MonthRecord} {r : ℕ} {d : Direction} {seen one two : List Bool}
     {queue q1 q2 : List ℕ} {size s1 s2 : ℕ} → HasGrown b m r d seen one queue q1 size s1 →
     HasGrown b m r d one two q1 q2 s1 s2 → HasGrown b m r d seen two queue q2 size s2
@@ -111,14 +111,14 @@ spreading_next {b = b} {m = m} {r = r} {d = d} {two = two} {q2 = q2} {s1 = s1} {
     now more this further = record {
       grown = grown_then now.grown more;
       before = λ j s l k at room. more.extends.kept (end_of b s)
-          (now.before j s l k (at ∙ more.extends.front j (omega arith)) room);
+          (now.before j s l k (at ∙ more.extends.prefix j (omega arith)) room);
       leaves = subst (λ v. IfSome next (λ s. (s < step_count b) × (start_of b s ≡ v))) here
           (next_leaves b (start_of b step) (step + 1) next further);
       followed = λ s l at before room. elim (cases_eq s step) [
         | inl same ↦ subst (λ k. IsFollowed b m r d two k) (sym same) this room
         | inr other ↦ (let less = passed b (start_of b step) (step + 1) next further s l (at ∙ sym here) before in
             more.extends.kept (end_of b s)
-            (now.followed s l (at ∙ more.extends.front done inside) (lt-ltb s step (omega arith)) room))
+            (now.followed s l (at ∙ more.extends.prefix done inside) (lt-ltb s step (omega arith)) room))
       ];
     }
   where
@@ -126,9 +126,9 @@ spreading_next {b = b} {m = m} {r = r} {d = d} {two = two} {q2 = q2} {s1 = s1} {
     inside = let l = now.grown.extends.larger in omega arith
 
     here : start_of b step ≡ slice_index q2 done
-    here = now.leaves.1 ∙ sym (more.extends.front done inside)
+    here = now.leaves.1 ∙ sym (more.extends.prefix done inside)
 
--- behind the last step of the node
+-- after the last step of the node
 pub spreading_end : {b : Basin} {m : MonthRecord} {r : ℕ} {d : Direction} {seen seen' : List Bool}
     {queue queue' : List ℕ} {size size' done : ℕ} →
     IsSpreading b m r d seen seen' queue queue' size size' done None → AreFollowed b m r d seen' queue' (done + 1)
@@ -153,9 +153,9 @@ pub followed_from_closed : (b : Basin) (m : MonthRecord) (r : ℕ) (d : Directio
     ((v : ℕ) → has seen v ≡ true → has seen' v ≡ true) →
     ((j : ℕ) → j < size → slice_index queue' j ≡ slice_index queue j) → IsClosedAlong b m r d seen →
     AreFollowed b m r d seen' queue' size
-followed_from_closed b m r d seen seen' queue queue' size size' now kept front closed = λ j s l below at.
+followed_from_closed b m r d seen seen' queue queue' size size' now kept prefix closed = λ j s l below at.
     followed_stays b m r d s seen seen' kept
-    (closed.steps s below (ap (has seen) (at ∙ front j l) ∙ now.queued j l))
+    (closed.steps s below (ap (has seen) (at ∙ prefix j l) ∙ now.queued j l))
 
 -- how many steps there are from the next one on
 abbrev pub steps_left : ℕ → Option ℕ → ℕ

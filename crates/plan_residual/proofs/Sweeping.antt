@@ -4,12 +4,12 @@ use Rattle.std.proofs.Common.{List, length, get_or, inl, inr}
 use Rattle.std.proofs.lemmas.Bool.{and_from, and_parts, both_ways, cases_Bool, cases_eq, eqb-true}
 use Rattle.std.proofs.lemmas.Bool.{false_from_ne_true, lt-ltb, ltb-false, ltb-true, not-true, not_from_false}
 use Rattle.std.specs.Prelude.{◌&&◌, not, nat_lt, min, slice_index, Option, Some, None, ◌⊎◌}
-use Rattle.place_sums.proofs.Totals.{greatest_where_le, term_le_greatest}
-use Rattle.place_sums.proofs.Terms.{greatest_is}
+use Rattle.finite_sums.proofs.Totals.{greatest_where_le, term_le_greatest}
+use Rattle.finite_sums.proofs.Terms.{greatest_is}
 use Rattle.water_model.specs.Lookups.{has}
 use Rattle.water_model.specs.Basin.{head_of, instream_link, is_at, is_on_link, is_senior}
 use Rattle.water_model.specs.Cuts.{kept_on}
-use Rattle.water_model.specs.Places.{seniors_first}
+use Rattle.water_model.specs.Indices.{seniors_first}
 use Rattle.water_model.specs.Plans.{delivery_by_link}
 use Rattle.water_model.specs.declared.types.Basin.{Basin}
 use Rattle.water_model.specs.declared.types.MonthRecord.{MonthRecord}
@@ -187,7 +187,7 @@ pub advanced : (b : Basin) (m : MonthRecord) (place before : ℕ) (seen seen' : 
     ArePassed b m (right_at b place) seen seen' (place + 1) (before + 1) →
     AreFollowed b m (right_at b place) FromSources seen' queue' size
 advanced b m place before seen seen' queue queue' size size' o now more passed =
-    λ j s l below at. step s below (ap (has seen) (at ∙ more.front j l) ∙ now.in_queue.queued j l)
+    λ j s l below at. step s below (ap (has seen) (at ∙ more.prefix j l) ∙ now.in_queue.queued j l)
   where
     r : ℕ
     r = right_at b place

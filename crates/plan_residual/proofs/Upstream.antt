@@ -6,8 +6,8 @@ use Rattle.std.proofs.lemmas.Bool.{and_from, and_parts, both_ways, cases_eq, cas
 use Rattle.std.proofs.lemmas.Bool.{true_from_ne_false}
 use Rattle.std.proofs.lemmas.List.{get_or-set_same, get_or-set_other, length-set, length-replicate}
 use Rattle.std.specs.Prelude.{◌&&◌, ◌==◌, not, if◌then◌else◌, slice_set, ◌⊎◌}
-use Rattle.place_sums.specs.Sums.{count_where}
-use Rattle.place_sums.proofs.Totals.{total_change}
+use Rattle.finite_sums.specs.Sums.{count_where}
+use Rattle.finite_sums.proofs.Totals.{total_change}
 use Rattle.water_model.specs.Lookups.{has}
 use Rattle.water_model.specs.Basin.{head_of, tail_of}
 use Rattle.water_model.specs.Valid.{IsValidBasin}
@@ -207,11 +207,11 @@ grown b m r target set valid now further =
 
 grow : (fuel : ℕ) (b : Basin) (m : MonthRecord) (r target : ℕ) (set : List Bool) → IsValidBasin b →
     AreRanked b m r target set → count_out b set ≤ fuel → HasRanks b m r target
-grow zero b m r target set valid now few = grown b m r target set valid now
-    (λ more ranked one. absurd (omega (arith, one, few)))
-grow (suc fuel) b m r target set valid now few =
+grow zero b m r target set valid now bounded = grown b m r target set valid now
+    (λ more ranked one. absurd (omega (arith, one, bounded)))
+grow (suc fuel) b m r target set valid now bounded =
     grown b m r target set valid now (λ more ranked one.
-    grow fuel b m r target more valid ranked (omega (arith, one, few)))
+    grow fuel b m r target more valid ranked (omega (arith, one, bounded)))
 
 -- one node alone
 ranked_alone : (b : Basin) (m : MonthRecord) (r target : ℕ) (none : List Bool) → none ≡ replicate (length b.nodes)
@@ -250,14 +250,14 @@ closed_by b m r set closed false e l room to = closed.forward e l room to
 within_by : (fuel : ℕ) (b : Basin) (m : MonthRecord) (r target : ℕ) (set other : List Bool)
     (ranked : AreRanked b m r target set) → IsClosedBackward b m r other → has other target ≡ true →
     (n : ℕ) → ranked.rank n < fuel → has set n ≡ true → has other n ≡ true
-within_by zero b m r target set other ranked closed there n few h = absurd (omega arith)
-within_by (suc fuel) b m r target set other ranked closed there n few h = elim (cases_eq n target) [
+within_by zero b m r target set other ranked closed there n bounded h = absurd (omega arith)
+within_by (suc fuel) b m r target set other ranked closed there n bounded h = elim (cases_eq n target) [
   | inl same ↦ ap (has other) same ∙ there
   | inr ne ↦ (let s = ranked.step n h ne in
       subst (λ k. has other k ≡ true) s.start
       (closed_by b m r other closed s.back s.link s.below s.room
       (within_by fuel b m r target set other ranked closed there (end_by b s.back s.link)
-      (omega (arith, s.lower, few)) s.ends)))
+      (omega (arith, s.lower, bounded)) s.ends)))
 ]
 
 -- a set with ranks is within every set that is closed backward and has its node

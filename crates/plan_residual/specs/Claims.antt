@@ -30,7 +30,7 @@ pub record AreMarked (queue : List ℕ) (from to right : ℕ) (next next' : List
       slice_index_or next' v None ≡ slice_index_or next v None
 
 -- The nodes in the queue are those at which a short right before a place of the order could use one more unit, each
--- marked as the most senior one's. As seen from the short rights behind, no step with room leads to them.
+-- marked as the most senior one's. As seen from the short rights after, no step with room leads to them.
 pub record AreClaimed (b : Basin) (m : MonthRecord) (place : ℕ) (seen : List Bool) (queue : List ℕ) (size : ℕ)
     (next : List (Option ℕ)) : Type 0 where
   pub in_queue : IsQueue seen queue size

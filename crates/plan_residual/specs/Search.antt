@@ -1,7 +1,7 @@
 -- A search breadth first, from nodes on along steps or against them.
 use Rattle.std.specs.Prelude.{◌≡◌, ◌≢◌, ℕ, ◌<◌, ◌≤◌, ◌⊎◌, Bool, true, false, List, length, slice_index}
 use Rattle.std.specs.Prelude.{Option, Some, IsTrue}
-use Rattle.place_sums.specs.Sums.{count_where}
+use Rattle.finite_sums.specs.Sums.{count_where}
 use Rattle.water_model.specs.Lookups.{has}
 use Rattle.water_model.specs.Basin.{head_of, instream_link, is_senior}
 use Rattle.water_model.specs.Cuts.{takes_within}
@@ -15,16 +15,16 @@ use Rattle.plan_residual.specs.Rows.{step_count}
 -- the first places of the queue have the nodes that were seen, each once
 pub record IsQueue (seen : List Bool) (queue : List ℕ) (size : ℕ) : Type 0 where
   pub sized : length queue ≡ length seen
-  pub few : length seen ≤ 2000
+  pub bounded : length seen ≤ 2000
   pub number : count_where (length seen) (λ v. has seen v) ≡ size
   pub queued : (j : ℕ) → j < size → has seen (slice_index queue j) ≡ true
   pub each : (v : ℕ) → has seen v ≡ true → (j : ℕ) × (j < size) × (slice_index queue j ≡ v)
   pub once : (i j : ℕ) → i < j → j < size → slice_index queue i ≢ slice_index queue j
 
--- nodes may have been added behind those that were there
+-- nodes may have been added after those that were there
 pub record Extends (seen seen' : List Bool) (queue queue' : List ℕ) (size size' : ℕ) : Type 0 where
   pub kept : (v : ℕ) → has seen v ≡ true → has seen' v ≡ true
-  pub front : (j : ℕ) → j < size → slice_index queue' j ≡ slice_index queue j
+  pub prefix : (j : ℕ) → j < size → slice_index queue' j ≡ slice_index queue j
   pub larger : size ≤ size'
 
 -- the node was added, or was there

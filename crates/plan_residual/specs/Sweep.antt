@@ -6,7 +6,7 @@ use Rattle.water_model.specs.Lookups.{has}
 use Rattle.water_model.specs.Basin.{head_of, instream_link, is_senior}
 use Rattle.water_model.specs.Cuts.{takes_within}
 use Rattle.water_model.specs.History.{IsShort}
-use Rattle.water_model.specs.Places.{seniors_first}
+use Rattle.water_model.specs.Indices.{seniors_first}
 use Rattle.water_model.specs.declared.types.Basin.{Basin}
 use Rattle.water_model.specs.declared.types.MonthRecord.{MonthRecord}
 use Rattle.plan_residual.specs.Residual.{HasPlan}
@@ -48,7 +48,7 @@ pub record IsBetween (b : Basin) (m : MonthRecord) (place before : ℕ) (seen : 
     pub in_queue : IsQueue seen queue size
     pub reached : AreReachedApart b m (right_at b before) seen
 
--- how far a sweep has come, most junior first: at a short right at a place of the order or behind it, with the nodes
+-- how far a sweep has come, most junior first: at a short right at a place of the order or after it, with the nodes
 -- that are reached as seen from it but for those only from the end of its own link, or at none yet
 abbrev pub IsAt : Basin → MonthRecord → List Bool → List ℕ → ℕ → Option ℕ → ℕ → Type 0
 IsAt b m seen queue from None size = ⊤

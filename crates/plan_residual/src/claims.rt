@@ -48,7 +48,7 @@ fn claim(
 fn mark(queue: &[u32], from: usize, to: usize, right: u32, next: &mut [Option<u32>])
     requires from { from ≤ to }
     requires to { to ≤ length queue.now }
-    requires few { length queue.now ≤ 2000 }
+    requires bounded { length queue.now ≤ 2000 }
     requires nodes { (j : ℕ) → j < to → slice_index queue.now j < length next.old }
     ensures { AreMarked queue.now from to right next.old next.new }
 {

@@ -20,7 +20,7 @@ use water_model::types::{Basin, MonthRecord};
 pub fn covers(seen: &[bool], cuts: &CutList, right: u32) -> bool
     requires right { right < length cuts.now.sets }
     requires nodes { length seen.now ≡ cuts.now.nodes }
-    requires few { length seen.now ≤ 2000 }
+    requires bounded { length seen.now ≤ 2000 }
     ensures { Covers result seen.now (cut_at cuts.now right) cuts.now.nodes }
 {
     for node in 0..seen.len() {

@@ -9,11 +9,11 @@ use Rattle.std.proofs.lemmas.Bool.{cases_lt}
 use Rattle.std.proofs.lemmas.List.Sums.{sum_by-cons}
 use Rattle.water_model.specs.History.{HasReaches}
 use Rattle.water_text.specs.Months.{month_digits}
-use Rattle.water_model.specs.Balance.{whole_inflow}
+use Rattle.water_model.specs.Balance.{total_inflow}
 use Rattle.water_model.specs.Cuts.{IsReach}
 use Rattle.water_model.specs.History.{cut_of, opening_after}
 use Rattle.water_model.specs.Laws.{HaveSameOutcome}
-use Rattle.water_model.specs.Places.{places_of, seniors_first}
+use Rattle.water_model.specs.Indices.{indices_of, seniors_first}
 use Rattle.water_model.specs.History.{calls}
 use Rattle.water_model.specs.Text.{calling_right}
 use Rattle.water_model.specs.declared.types.Basin.{Basin}
@@ -167,7 +167,7 @@ one_water : (b : Basin) (series : Inflows) (records others : List MonthRecord) �
 unfolding waters_of
 one_water b series records others are len =
     same_waters _ _ _ _ _ _ _ _ _ _ _ _ _ _ refl
-    (same_sums b _ records others are (λ m n is. ap (λ i. whole_inflow b series i) is.same.index))
+    (same_sums b _ records others are (λ m n is. ap (λ i. total_inflow b series i) is.same.index))
     (same_sums b _ records others are (λ m n is. ap (λ xs. sum xs) is.same.returned))
     (ap (λ xs. sum xs) closing)
     (same_sums b _ records others are (λ m n is. ap (λ xs. sum xs) is.same.evaporated))
@@ -207,7 +207,7 @@ one_called : (b : Basin) (records others : List MonthRecord) → AreAlike b reco
 one_called b records others are =
     same_sums b (λ m. called_in b m) records others are
     (λ m n is. over_rights (λ r. counted (calling_right b m r)) (λ r. counted (calling_right b n r))
-    (places_of b.rights)
+    (indices_of b.rights)
     (λ r. ap counted (one_caller b r m n is)))
   where
     counted : Option ℕ → ℕ
@@ -237,11 +237,11 @@ one_report b series records others number size valid one reaches other further =
 
     summary : trial_text number size b series records ≡ trial_text number size b series others
     summary = rw (
-      over_rights (λ r. wanted records r) (λ r. wanted others r) (places_of b.rights)
+      over_rights (λ r. wanted records r) (λ r. wanted others r) (indices_of b.rights)
           (λ r. one_wanted b r records others are),
-      over_rights (λ r. delivered records r) (λ r. delivered others r) (places_of b.rights)
+      over_rights (λ r. delivered records r) (λ r. delivered others r) (indices_of b.rights)
           (λ r. one_delivered b r records others are),
-      over_rights (λ r. short_months records r) (λ r. short_months others r) (places_of b.rights)
+      over_rights (λ r. short_months records r) (λ r. short_months others r) (indices_of b.rights)
           (λ r. one_short b r records others are),
       one_called b records others are,
       one_water b series records others are len,

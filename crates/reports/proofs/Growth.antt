@@ -4,7 +4,7 @@ use Rattle.std.proofs.Common.{map}
 use Rattle.std.specs.Prelude.{sum, sum_by, max, nat_lt, slice_index, Option, Some, option_map, if◌then◌else◌}
 use Rattle.std.proofs.lemmas.List.Sums.{sum_by_push}
 use Rattle.water_model.proofs.Histories.{opens_with_last}
-use Rattle.water_model.specs.Balance.{whole_inflow, diverted}
+use Rattle.water_model.specs.Balance.{total_inflow, diverted}
 use Rattle.water_model.specs.declared.types.Basin.{Basin}
 use Rattle.water_model.specs.declared.types.Inflows.{Inflows}
 use Rattle.water_model.specs.declared.types.MonthRecord.{MonthRecord}
@@ -44,7 +44,7 @@ waters_first b series opening is = same_waters opening 0 0 opening 0 0 0 _ _ _ _
 -- the water with that of one month more
 pub waters_more : (b : Basin) (series : Inflows) (records : List MonthRecord) (m : MonthRecord) (w : Waters)
     (inflow returned closing evaporated delivered out : ℕ) →
-    w ≡ waters_of b series records → inflow ≡ whole_inflow b series m.index → returned ≡ sum m.returned →
+    w ≡ waters_of b series records → inflow ≡ total_inflow b series m.index → returned ≡ sum m.returned →
     closing ≡ sum m.closing →
     evaporated ≡ sum m.evaporated → delivered ≡ diverted b m → out ≡ sum m.plan.out →
     (let more : Waters = record {
@@ -61,7 +61,7 @@ unfolding waters_of
 waters_more b series records m w inflow returned closing evaporated delivered out is i r c e d o =
     same_waters _ _ _ _ _ _ _ _ _ _ _ _ _ _
     (ap (λ v. v.opening) is)
-    (grown (λ k. whole_inflow b series k.index) w.inflows inflow (ap (λ v. v.inflows) is) i)
+    (grown (λ k. total_inflow b series k.index) w.inflows inflow (ap (λ v. v.inflows) is) i)
     (grown (λ k. sum k.returned) w.returns returned (ap (λ v. v.returns) is) r)
     (c ∙ sym (ap (λ xs. sum xs) (opens_with_last b records m)))
     (grown (λ k. sum k.evaporated) w.evaporated evaporated (ap (λ v. v.evaporated) is) e)

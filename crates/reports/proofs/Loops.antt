@@ -1,6 +1,6 @@
 -- All months of a run.
 use Rattle.std.proofs.Common.{◌≡◌, List, [], ◌∷◌, ◌++◌}
-use Rattle.month_fold.specs.Runs.{GoesOn, RunSeen, StandsFor}
+use Rattle.month_fold.specs.Runs.{GoesOn, RunView, RunStandsFor}
 use Rattle.month_fold.proofs.Whole.{whole_history}
 use Rattle.water_model.specs.declared.types.Basin.{Basin}
 use Rattle.water_model.specs.declared.types.Inflows.{Inflows}
@@ -10,7 +10,7 @@ use Rattle.reports.specs.Tallies.{IsKeptBefore, IsKeptOf, IsKeptOfRun}
 use Rattle.reports.proofs.Balanced.{figures_balanced}
 
 -- the months that a run went through are a whole run where they are all
-whole_run : (run : RunSeen) (records : List MonthRecord) → StandsFor run records → run.done ≡ run.basin.months →
+whole_run : (run : RunView) (records : List MonthRecord) → RunStandsFor run records → run.done ≡ run.basin.months →
     IsRun run.basin run.series records
 whole_run run records stands done = record {
   history = whole_history run records stands done;
@@ -19,10 +19,10 @@ whole_run run records stands done = record {
 }
 
 module _ {Kept : Type 0} (IsOf : Basin → Inflows → List MonthRecord → Kept → Type 0) where
-  module _ (run next : RunSeen) (kept : Kept) (goes : GoesOn run next) (of : IsKeptOf IsOf run kept) where
+  module _ (run next : RunView) (kept : Kept) (goes : GoesOn run next) (of : IsKeptOf IsOf run kept) where
     -- what is kept before the next month, and with it
-    module _ (more : (records : List MonthRecord) → StandsFor run records →
-        StandsFor next (records ++ next.last ∷ [])) where
+    module _ (more : (records : List MonthRecord) → RunStandsFor run records →
+        RunStandsFor next (records ++ next.last ∷ [])) where
       pub kept_before : IsKeptBefore IsOf next.basin next.series kept next.last
       kept_before = record {
         records = of.records;
@@ -39,7 +39,7 @@ module _ {Kept : Type 0} (IsOf : Basin → Inflows → List MonthRecord → Kept
       }
 
   -- what is kept of all months
-  pub kept_whole : (run later : RunSeen) (kept : Kept) → GoesOn run later → later.done ≡ run.basin.months →
+  pub kept_whole : (run later : RunView) (kept : Kept) → GoesOn run later → later.done ≡ run.basin.months →
       IsKeptOf IsOf later kept → IsKeptOfRun IsOf run.basin run.series kept
   kept_whole run later kept goes done of = record {
     records = of.records;

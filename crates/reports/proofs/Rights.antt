@@ -5,25 +5,25 @@ use Rattle.std.specs.Prelude.{slice_get, Some, option_map, count_by, if◌then�
 use Rattle.std.proofs.lemmas.Option.{slice_get-map, slice_get_within}
 use Rattle.std.proofs.lemmas.List.Sums.{sum_by_push}
 use Rattle.water_model.proofs.Lists.{numbers_more}
-use Rattle.water_model.specs.Places.{numbers_from, places_of}
+use Rattle.water_model.specs.Indices.{numbers_from, indices_of}
 use Rattle.water_model.proofs.Order.{length-numbers_from, numbers_from-get}
 
 -- the entry of a list that has something for each place
-pub entry_is : {X Y : Type 0} (f : ℕ → X) (ys : List Y) (xs : List X) (k : ℕ) → xs ≡ map f (places_of ys) →
+pub entry_is : {X Y : Type 0} (f : ℕ → X) (ys : List Y) (xs : List X) (k : ℕ) → xs ≡ map f (indices_of ys) →
     k < length ys → slice_get xs k ≡ Some (f k)
 entry_is f ys xs k is l =
     ap (λ zs. slice_get zs k) is
-    ∙ (slice_get-map f (places_of ys) k ∙ ap (option_map f) (numbers_from-get 0 (length ys) k k l (omega arith)))
+    ∙ (slice_get-map f (indices_of ys) k ∙ ap (option_map f) (numbers_from-get 0 (length ys) k k l (omega arith)))
 
-pub entries_count : {X Y : Type 0} (f : ℕ → X) (ys : List Y) (xs : List X) → xs ≡ map f (places_of ys) →
+pub entries_count : {X Y : Type 0} (f : ℕ → X) (ys : List Y) (xs : List X) → xs ≡ map f (indices_of ys) →
     length xs ≡ length ys
-entries_count f ys xs is = ap length is ∙ (mapped (places_of ys) ∙ length-numbers_from 0 (length ys))
+entries_count f ys xs is = ap length is ∙ (mapped (indices_of ys) ∙ length-numbers_from 0 (length ys))
   where
     mapped : (ns : List ℕ) → length (map f ns) ≡ length ns
     mapped [] = refl
     mapped (n ∷ ns) = omega (arith, mapped ns)
 
-pub entry_told : {X Y : Type 0} (f : ℕ → X) (ys : List Y) (xs : List X) (k : ℕ) (x : X) → xs ≡ map f (places_of ys) →
+pub entry_told : {X Y : Type 0} (f : ℕ → X) (ys : List Y) (xs : List X) (k : ℕ) (x : X) → xs ≡ map f (indices_of ys) →
     slice_get xs k ≡ Some x →
     (k < length ys) × (x ≡ f k)
 entry_told f ys xs k x is at =
@@ -46,7 +46,7 @@ by_entries f from (x ∷ xs) h =
 
 pub list_is : {X Y : Type 0} (f : ℕ → X) (ys : List Y) (xs : List X) → length xs ≡ length ys →
     ((k : ℕ) → k < length ys → slice_get xs k ≡ Some (f k)) →
-    xs ≡ map f (places_of ys)
+    xs ≡ map f (indices_of ys)
 list_is f ys xs count h =
     by_entries f 0 xs (λ k l. h k (omega arith) ∙ ap (λ n. Some (f n)) (omega arith))
     ∙ ap (λ n. map f (numbers_from 0 n)) count

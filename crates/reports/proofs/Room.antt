@@ -4,13 +4,13 @@ use Rattle.std.proofs.Common.{◌∷◌, ◌++◌, length, map, take, get_or, le
 use Rattle.std.specs.Prelude.{is_some, sum, sum_by, All, slice_index, nat_lt}
 use Rattle.std.proofs.lemmas.List.Sums.{sum_by-le, sum_by_push, sum-map, count_by-le-length}
 use Rattle.std.proofs.lemmas.Option.{slice_get-get_or}
-use Rattle.place_sums.specs.Sums.{total}
-use Rattle.place_sums.proofs.Totals.{total_same}
-use Rattle.water_model.proofs.Lists.{front_partial}
-use Rattle.water_model.specs.Balance.{IsBalanced, whole_inflow, diverted}
+use Rattle.finite_sums.specs.Sums.{total}
+use Rattle.finite_sums.proofs.Totals.{total_same}
+use Rattle.water_model.proofs.Lists.{prefix_partial}
+use Rattle.water_model.specs.Balance.{IsBalanced, total_inflow, diverted}
 use Rattle.water_model.specs.History.{IsPartialHistory, Follows}
 use Rattle.water_model.specs.Hydrology.{returned_at}
-use Rattle.water_model.specs.Places.{places_of}
+use Rattle.water_model.specs.Indices.{indices_of}
 use Rattle.water_model.specs.Text.{calling_right}
 use Rattle.water_model.specs.Valid.{IsValidBasin, IsSeriesOf}
 use Rattle.water_model.specs.declared.types.Basin.{Basin}
@@ -35,7 +35,7 @@ each_month : (P : MonthRecord → Type 0) (b : Basin) (series : Inflows) (record
     ((before : List MonthRecord) (m : MonthRecord) → IsPartialHistory b series before → Follows b series before m →
     P m) → All P records
 each_month P b series records partial h =
-    λ k d l. h (take k records) (get_or records k d) (front_partial b series records k partial)
+    λ k d l. h (take k records) (get_or records k d) (prefix_partial b series records k partial)
     (partial.each k (get_or records k d) (slice_get-get_or records k d l))
 
 -- the figures of a right
@@ -47,8 +47,8 @@ wanted_small b series records r valid fits partial l =
   where
     most : (before : List MonthRecord) (m : MonthRecord) → IsPartialHistory b series before →
         Follows b series before m → slice_index m.want r ≤ 10 ^ 9
-    most before m front follows =
-        rw (follows.behind.want r l) (want_most b series r m.index (slice_index m.used r) valid fits l)
+    most before m prefix follows =
+        rw (follows.after.want r l) (want_most b series r m.index (slice_index m.used r) valid fits l)
 
 pub delivered_small : (b : Basin) (series : Inflows) (records : List MonthRecord) (r : ℕ) → IsValidBasin b →
     IsSeriesOf b series →
@@ -56,7 +56,7 @@ pub delivered_small : (b : Basin) (series : Inflows) (records : List MonthRecord
 delivered_small b series records r valid fits partial =
     sum_by-le (λ m. slice_index m.delivered r) (10 ^ 9) records
     (each_month _ b series records partial
-    (λ before m front follows. (follows_small b series before m valid fits follows).delivered r))
+    (λ before m prefix follows. (follows_small b series before m valid fits follows).delivered r))
 
 -- there is room for one month more
 pub right_room : (b : Basin) (series : Inflows) (records : List MonthRecord) (m : MonthRecord) (r : ℕ)
@@ -95,9 +95,9 @@ right_room b series records m r f valid fits partial l is = record {
 -- what comes in over the months
 inflows_all_small : (b : Basin) (series : Inflows) (records : List MonthRecord) → IsValidBasin b → IsSeriesOf b series →
     IsPartialHistory b series records →
-    sum_by (λ m. whole_inflow b series m.index) records ≤ length records * (2 * 10 ^ 12)
+    sum_by (λ m. total_inflow b series m.index) records ≤ length records * (2 * 10 ^ 12)
 inflows_all_small b series records valid fits partial =
-    sum_by-le (λ m. whole_inflow b series m.index) (2 * 10 ^ 12) records
+    sum_by-le (λ m. total_inflow b series m.index) (2 * 10 ^ 12) records
     (λ k d l. inflows_small b series (get_or records k d).index valid fits)
 
 returns_all_small : (b : Basin) (series : Inflows) (records : List MonthRecord) → IsValidBasin b → IsSeriesOf b series →
@@ -108,18 +108,18 @@ returns_all_small b series records valid fits partial =
   where
     most : (before : List MonthRecord) (m : MonthRecord) → IsPartialHistory b series before →
         Follows b series before m → sum m.returned ≤ 2 * 10 ^ 12
-    most before m front follows =
+    most before m prefix follows =
         let whole : sum m.returned ≡ total (length b.nodes) (λ n. slice_index m.returned n) =
-        sum_total m.returned ∙ ap (λ k. total k (λ n. slice_index m.returned n)) follows.behind.fits.returned in
+        sum_total m.returned ∙ ap (λ k. total k (λ n. slice_index m.returned n)) follows.after.fits.returned in
         let each =
         total_same (length b.nodes) (λ n. slice_index m.returned n)
-        (λ n. returned_at b (map (λ k. k.delivered) before) n m.index) follows.behind.returned in
+        (λ n. returned_at b (map (λ k. k.delivered) before) n m.index) follows.after.returned in
         omega (
           arith,
           whole,
           each,
           returns_small b (map (λ k. k.delivered) before) m.index valid
-              (deliveries_small b series before valid fits front),
+              (deliveries_small b series before valid fits prefix),
         )
 
 -- and so what is left and went out
@@ -150,7 +150,7 @@ waters_small b series records valid fits partial = record {
     opening : sum (map (λ v. v.opening) b.reservoirs) ≤ 32 * 10 ^ 12
     opening = omega (arith, sum-map (λ v. v.opening) b.reservoirs, openings_small b valid)
 
-    inflows : sum_by (λ m. whole_inflow b series m.index) records ≤ length records * (2 * 10 ^ 12)
+    inflows : sum_by (λ m. total_inflow b series m.index) records ≤ length records * (2 * 10 ^ 12)
     inflows = inflows_all_small b series records valid fits partial
 
     returns : sum_by (λ m. sum m.returned) records ≤ length records * (2 * 10 ^ 12)
@@ -165,7 +165,7 @@ pub month_room : (b : Basin) (series : Inflows) (records : List MonthRecord) (m 
 unfolding waters_of
 month_room b series records m w valid fits partial is = record {
   inflows =
-      omega (arith, all.inflows, ap (λ v. v.inflows) is, sum_by_push (λ k. whole_inflow b series k.index) records m);
+      omega (arith, all.inflows, ap (λ v. v.inflows) is, sum_by_push (λ k. total_inflow b series k.index) records m);
   returns = omega (arith, all.returns, ap (λ v. v.returns) is, sum_by_push (λ k. sum k.returned) records m);
   closing = omega (arith, all.closing, ap (λ xs. sum xs) (opens_with_last b records m));
   evaporated = omega (arith, all.evaporated, ap (λ v. v.evaporated) is, sum_by_push (λ k. sum k.evaporated) records m);
@@ -177,11 +177,11 @@ month_room b series records m w valid fits partial is = record {
     all = waters_small b series (records ++ m ∷ []) valid fits partial
 
 -- how many right-months had a calling right
-called_in_few : (b : Basin) (m : MonthRecord) → called_in b m ≤ length b.rights
-called_in_few b m =
+called_in_bounded : (b : Basin) (m : MonthRecord) → called_in b m ≤ length b.rights
+called_in_bounded b m =
     omega (
       arith,
-      count_by-le-length (λ right. is_some (calling_right b m right)) (places_of b.rights),
+      count_by-le-length (λ right. is_some (calling_right b m right)) (indices_of b.rights),
       length-numbers_from 0 (length b.rights),
     )
 
@@ -190,5 +190,5 @@ pub called_room : (b : Basin) (records : List MonthRecord) (m : MonthRecord) →
 called_room b records m valid within =
     let most : called_count b records ≤ length records * 2000 =
     sum_by-le (λ k. called_in b k) 2000 records
-    (λ k d l. omega (arith, called_in_few b (get_or records k d), valid.few.rights)) in
-    omega (arith, most, within, called_in_few b m, valid.few.rights, valid.run.months.1)
+    (λ k d l. omega (arith, called_in_bounded b (get_or records k d), valid.bounded.rights)) in
+    omega (arith, most, within, called_in_bounded b m, valid.bounded.rights, valid.run.months.1)

@@ -2,14 +2,14 @@
 use Rattle.std.proofs.Common.{ℕ, ◌+◌, ◌*◌, ◌^◌, ◌<◌, ◌≤◌, arith, length}
 use Rattle.std.specs.Prelude.{sum_by, All}
 use Rattle.std.proofs.lemmas.List.Sums.{sum_by-le}
-use Rattle.place_sums.specs.Sums.{total}
-use Rattle.place_sums.proofs.Totals.{total_more, total_grows}
+use Rattle.finite_sums.specs.Sums.{total}
+use Rattle.finite_sums.proofs.Totals.{total_more, total_grows}
 use Rattle.water_model.specs.Hydrology.{inflow_at}
 use Rattle.water_model.specs.Valid.{IsValidBasin, IsSeriesOf}
 use Rattle.water_model.specs.declared.types.Basin.{Basin}
 use Rattle.water_model.specs.declared.types.Inflows.{Inflows}
 use Rattle.month_terms.proofs.Bounds.{inflows_small}
-use Rattle.water_model.proofs.Entries.{few_reservoirs}
+use Rattle.water_model.proofs.Entries.{bounded_reservoirs}
 
 -- one node's inflow more is within the month's
 pub inflow_fits : (b : Basin) (series : Inflows) (i n : ℕ) → IsValidBasin b → IsSeriesOf b series → n < length b.nodes →
@@ -26,4 +26,4 @@ inflow_fits b series i n valid fits l =
 pub openings_small : (b : Basin) → IsValidBasin b → sum_by (λ v. v.opening) b.reservoirs ≤ 32 * 10 ^ 12
 openings_small b valid =
     let each : All (λ v. v.opening ≤ 16000000000) b.reservoirs = λ k d l. (valid.reservoirs k d l).opening in
-    omega (arith, sum_by-le (λ v. v.opening) 16000000000 b.reservoirs each, few_reservoirs b valid)
+    omega (arith, sum_by-le (λ v. v.opening) 16000000000 b.reservoirs each, bounded_reservoirs b valid)

@@ -12,19 +12,19 @@ use Rattle.std.proofs.lemmas.List.Elements.{All-tail}
 use Rattle.std.proofs.lemmas.Option.{slice_get-get_or}
 use Rattle.water_text.specs.Months.{IsMonth}
 use Rattle.water_model.specs.History.{IsPartialHistory}
-use Rattle.water_model.specs.Places.{places_of, seniors_first}
+use Rattle.water_model.specs.Indices.{indices_of, seniors_first}
 use Rattle.water_model.specs.Valid.{IsValidBasin, IsSeriesOf}
 use Rattle.water_model.specs.declared.types.Basin.{Basin}
 use Rattle.water_model.specs.declared.types.Inflows.{Inflows}
 use Rattle.water_model.specs.declared.types.MonthRecord.{MonthRecord}
 use Rattle.water_model.proofs.Order.{Has, seniors_below}
-use Rattle.water_edge.proofs.Puts.{PutsFront}
+use Rattle.water_edge.proofs.Puts.{PutsPrefix}
 use Rattle.result_text.proofs.Whole.{FitsText-follows}
 use Rattle.reports.specs.Ends.{IsRun, Reports}
 use Rattle.reports.specs.Figures.{short_months, wanted, delivered, short_count, all_wanted, all_delivered, called_count}
 use Rattle.reports.specs.Figures.{waters_of}
 use Rattle.reports.specs.Reports.{row, balance_row, done_row, right_row, report_text, trial_text}
-use Rattle.reports.specs.Tallies.{figures_of, IsTally, AreFew}
+use Rattle.reports.specs.Tallies.{figures_of, IsTally, AreBounded}
 use Rattle.reports.specs.Texts.{row_in, run_row, tally_text, trial_row, size_row, summary_text}
 use Rattle.reports.specs.declared.figures.RightFigures.{RightFigures}
 use Rattle.reports.specs.declared.stop.ReportStop.TheVariants as stop
@@ -43,7 +43,7 @@ same_rows g h (r ∷ rights) same =
     ∙ ap (λ t. h r ++ t) (same_rows g h rights (λ k has. same k (inr has)))
 
 row_told : (b : Basin) (records : List MonthRecord) (rights : List RightFigures) (r : ℕ) →
-    rights ≡ map (figures_of records) (places_of b.rights) → r < length b.rights →
+    rights ≡ map (figures_of records) (indices_of b.rights) → r < length b.rights →
     row_in b rights r ≡ right_row b records r
 unfolding figures_of
 row_told b records rights r is l =
@@ -95,7 +95,7 @@ pub entries_told : (b : Basin) (series : Inflows) (records : List MonthRecord) (
     IsTally b series records t → length t.rights ≡ length b.rights
 entries_told b series records t is = entries_count (figures_of records) b.rights t.rights is.rights
 
--- the report of a run, or a front of it
+-- the report of a run, or a prefix of it
 pub report_put : (b : Basin) (series : Inflows) (records : List MonthRecord) (t : Tally) (old new : Option (List ℕ)) →
     IsRun b series records → IsTally b series records t →
     Appends old new (tally_text b t) → Reports (λ k. report_text b series k) b series (Ok tt) old new
@@ -104,9 +104,9 @@ report_put b series records t old new run is put =
 
 pub report_cut : (b : Basin) (series : Inflows) (records : List MonthRecord) (t : Tally) (old new : Option (List ℕ)) →
     IsRun b series records → IsTally b series records t →
-    PutsFront old new (tally_text b t) → Reports (λ k. report_text b series k) b series (Err stop.SinkFailed) old new
+    PutsPrefix old new (tally_text b t) → Reports (λ k. report_text b series k) b series (Err stop.SinkFailed) old new
 report_cut b series records t old new run is put =
-    (records, run, subst (λ (text : List ℕ). PutsFront old new text) (report_told b series records t is) put)
+    (records, run, subst (λ (text : List ℕ). PutsPrefix old new text) (report_told b series records t is) put)
 
 -- sums over the figures of all rights
 sum_mapped : {X : Type 0} (f : X → ℕ) (g : ℕ → X) (ns : List ℕ) → sum_by f (map g ns) ≡ sum_by (λ n. f (g n)) ns
@@ -117,7 +117,7 @@ sum_mapped f g (n ∷ ns) =
 -- which fit
 pub totals_room : (b : Basin) (series : Inflows) (records : List MonthRecord) (t : Tally) → IsValidBasin b →
     IsSeriesOf b series → IsPartialHistory b series records →
-    IsTally b series records t → AreFew t.rights
+    IsTally b series records t → AreBounded t.rights
 unfolding figures_of
 totals_room b series records t valid fits partial is = record {
   short_months =
@@ -125,13 +125,13 @@ totals_room b series records t valid fits partial is = record {
         arith,
         sum_by-le (λ f. f.short_months) 1200 t.rights (each 1200 (λ f. f.short_months) short),
         count,
-        valid.few.rights,
+        valid.bounded.rights,
       );
   wanted = omega (
     arith,
     sum_by-le (λ f. f.wanted) (1200 * 10 ^ 9) t.rights (each (1200 * 10 ^ 9) (λ f. f.wanted) want),
     count,
-    valid.few.rights,
+    valid.bounded.rights,
   );
   delivered =
       omega (
@@ -139,7 +139,7 @@ totals_room b series records t valid fits partial is = record {
         sum_by-le (λ f. f.delivered) (1200 * 10 ^ 9) t.rights
             (each (1200 * 10 ^ 9) (λ f. f.delivered) given),
         count,
-        valid.few.rights,
+        valid.bounded.rights,
       );
 }
   where
@@ -194,18 +194,18 @@ summary_told number size b series records t totals called is c s w d = rw (short
     short : totals.short_months ≡ short_count b records
     short = s
         ∙ (ap (sum_by (λ f. f.short_months)) is.rights
-        ∙ sum_mapped (λ f. f.short_months) (figures_of records) (places_of b.rights))
+        ∙ sum_mapped (λ f. f.short_months) (figures_of records) (indices_of b.rights))
 
     want : totals.wanted ≡ all_wanted b records
     want = w ∙ (ap (sum_by (λ f. f.wanted)) is.rights
-        ∙ sum_mapped (λ f. f.wanted) (figures_of records) (places_of b.rights))
+        ∙ sum_mapped (λ f. f.wanted) (figures_of records) (indices_of b.rights))
 
     given : totals.delivered ≡ all_delivered b records
     given = d
         ∙ (ap (sum_by (λ f. f.delivered)) is.rights
-        ∙ sum_mapped (λ f. f.delivered) (figures_of records) (places_of b.rights))
+        ∙ sum_mapped (λ f. f.delivered) (figures_of records) (indices_of b.rights))
 
--- the summary of a run, or a front of it
+-- the summary of a run, or a prefix of it
 pub summary_put : (number size : ℕ) (b : Basin) (series : Inflows) (records : List MonthRecord) (text : List ℕ)
     (old new : Option (List ℕ)) → IsRun b series records →
     text ≡ trial_text number size b series records → Appends old new text →
@@ -215,7 +215,7 @@ summary_put number size b series records text old new run told put =
 
 pub summary_cut : (number size : ℕ) (b : Basin) (series : Inflows) (records : List MonthRecord) (text : List ℕ)
     (old new : Option (List ℕ)) → IsRun b series records →
-    text ≡ trial_text number size b series records → PutsFront old new text →
+    text ≡ trial_text number size b series records → PutsPrefix old new text →
     Reports (λ k. trial_text number size b series k) b series (Err stop.SinkFailed) old new
 summary_cut number size b series records text old new run told put =
-    (records, run, subst (λ (t : List ℕ). PutsFront old new t) told put)
+    (records, run, subst (λ (t : List ℕ). PutsPrefix old new t) told put)

@@ -4,13 +4,13 @@ use Rattle.std.specs.Prelude.{slice_get, Some, unwrap_or, option_map}
 use Rattle.std.specs.List.{flat_map}
 use Rattle.reports.specs.Reports.{row, balance_row}
 use Rattle.water_model.specs.declared.types.Basin.{Basin}
-use Rattle.reports.specs.Texts.{balance_front, balance_rest, figures_row, row_in}
+use Rattle.reports.specs.Texts.{balance_prefix, balance_rest, figures_row, row_in}
 use Rattle.reports.specs.declared.figures.RightFigures.{RightFigures}
 use Rattle.reports.specs.declared.waters.Waters.{Waters}
 
 -- the row of the balance in two pieces
-pub balance_split : (w : Waters) → balance_front w ++ balance_rest w ≡ balance_row w
-unfolding balance_front balance_rest row
+pub balance_split : (w : Waters) → balance_prefix w ++ balance_rest w ≡ balance_row w
+unfolding balance_prefix balance_rest row
 balance_split w = simp append_assoc
 
 -- the row of a right by its entry

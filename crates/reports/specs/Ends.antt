@@ -16,7 +16,7 @@ pub record IsRun (b : Basin) (series : Inflows) (records : List MonthRecord) : T
   pub reaches : HaveReaches b records
   pub balanced : AreBalanced (waters_of b series records)
 
--- the text of a run is appended, or after a failure of the sink a front of it
+-- the text of a run is appended, or after a failure of the sink a prefix of it
 abbrev pub Reports : (List MonthRecord → List ℕ) → Basin → Inflows → Result (Unit {0}) ReportStop → Option (List ℕ) →
     Option (List ℕ) → Type 0
 Reports text b series (Ok _) old new =

@@ -3,9 +3,9 @@ use Rattle.std.specs.Prelude.{◌≡◌, ℕ, ◌+◌, ◌-◌, ◌&&◌, List, 
 use Rattle.std.specs.Prelude.{option_map, nat_lt, nat_le, is_some}
 use Rattle.std.specs.List.{list_all}
 use Rattle.water_text.specs.declared.month.Month.{Month}
-use Rattle.water_model.specs.Balance.{whole_inflow, diverted}
+use Rattle.water_model.specs.Balance.{total_inflow, diverted}
 use Rattle.water_model.specs.History.{opening_after}
-use Rattle.water_model.specs.Places.{places_of}
+use Rattle.water_model.specs.Indices.{indices_of}
 use Rattle.water_model.specs.Text.{calling_right}
 use Rattle.water_model.specs.declared.types.Basin.{Basin}
 use Rattle.water_model.specs.declared.types.Inflows.{Inflows}
@@ -39,7 +39,7 @@ worst_month records right =
 unfoldable pub waters_of : Basin → Inflows → List MonthRecord → Waters
 waters_of b series records = record {
   opening = sum (map (λ v. v.opening) b.reservoirs);
-  inflows = sum_by (λ m. whole_inflow b series m.index) records;
+  inflows = sum_by (λ m. total_inflow b series m.index) records;
   returns = sum_by (λ m. sum m.returned) records;
   closing = sum (opening_after b records);
   evaporated = sum_by (λ m. sum m.evaporated) records;
@@ -54,17 +54,17 @@ AreBalanced w = w.opening + w.inflows + w.returns ≡ w.closing + w.evaporated +
 -- counts of right-months, in which a month counts once for each right: in which a right was short, and in which it had
 -- a calling right
 abbrev pub short_count : Basin → List MonthRecord → ℕ
-short_count b records = sum_by (λ right. short_months records right) (places_of b.rights)
+short_count b records = sum_by (λ right. short_months records right) (indices_of b.rights)
 
 abbrev pub called_in : Basin → MonthRecord → ℕ
-called_in b m = count_by (λ right. is_some (calling_right b m right)) (places_of b.rights)
+called_in b m = count_by (λ right. is_some (calling_right b m right)) (indices_of b.rights)
 
 abbrev pub called_count : Basin → List MonthRecord → ℕ
 called_count b records = sum_by (λ m. called_in b m) records
 
 -- what all rights wanted and what they were delivered
 abbrev pub all_wanted : Basin → List MonthRecord → ℕ
-all_wanted b records = sum_by (λ right. wanted records right) (places_of b.rights)
+all_wanted b records = sum_by (λ right. wanted records right) (indices_of b.rights)
 
 abbrev pub all_delivered : Basin → List MonthRecord → ℕ
-all_delivered b records = sum_by (λ right. delivered records right) (places_of b.rights)
+all_delivered b records = sum_by (λ right. delivered records right) (indices_of b.rights)

@@ -1,9 +1,9 @@
 -- What is kept of the months of a run, in place of the months.
 use Rattle.std.specs.Prelude.{◌≡◌, ℕ, ◌+◌, ◌<◌, ◌^◌, max, List, [], ◌∷◌, ◌++◌, map, sum, sum_by, slice_index}
-use Rattle.month_fold.specs.Runs.{RunSeen, StandsFor}
-use Rattle.water_model.specs.Balance.{whole_inflow, diverted}
+use Rattle.month_fold.specs.Runs.{RunView, RunStandsFor}
+use Rattle.water_model.specs.Balance.{total_inflow, diverted}
 use Rattle.water_model.specs.History.{IsPartialHistory}
-use Rattle.water_model.specs.Places.{places_of}
+use Rattle.water_model.specs.Indices.{indices_of}
 use Rattle.water_model.specs.declared.types.Basin.{Basin}
 use Rattle.water_model.specs.declared.types.Inflows.{Inflows}
 use Rattle.water_model.specs.declared.types.MonthRecord.{MonthRecord}
@@ -31,7 +31,7 @@ figures_of records right = record {
 
 -- a tally of some months: the figures of each right, and the water
 pub record IsTally (b : Basin) (series : Inflows) (records : List MonthRecord) (t : Tally) : Type 0 where
-  pub rights : t.rights ≡ map (figures_of records) (places_of b.rights)
+  pub rights : t.rights ≡ map (figures_of records) (indices_of b.rights)
   pub waters : t.waters ≡ waters_of b series records
 
 -- a tally of some months, and of how many right-months of them had a calling right
@@ -47,10 +47,10 @@ pub record IsKeptBefore {Kept : Type 0} (IsOf : Basin → Inflows → List Month
   pub is : IsOf b series records kept
 
 -- it is of the months that a run went through
-pub record IsKeptOf {Kept : Type 0} (IsOf : Basin → Inflows → List MonthRecord → Kept → Type 0) (run : RunSeen)
+pub record IsKeptOf {Kept : Type 0} (IsOf : Basin → Inflows → List MonthRecord → Kept → Type 0) (run : RunView)
     (kept : Kept) : Type 0 where
   pub records : List MonthRecord
-  pub stands : StandsFor run records
+  pub stands : RunStandsFor run records
   pub is : IsOf run.basin run.series records kept
 
 -- it is of a whole run
@@ -68,7 +68,7 @@ pub record HasRoom (f : RightFigures) (m : MonthRecord) (right : ℕ) : Type 0 w
 
 -- and those of the water
 pub record HasRoomForMonth (b : Basin) (series : Inflows) (w : Waters) (m : MonthRecord) : Type 0 where
-  pub inflows : w.inflows + whole_inflow b series m.index < 2 ^ 64
+  pub inflows : w.inflows + total_inflow b series m.index < 2 ^ 64
   pub returns : w.returns + sum m.returned < 2 ^ 64
   pub closing : sum m.closing < 2 ^ 64
   pub evaporated : w.evaporated + sum m.evaporated < 2 ^ 64
@@ -76,7 +76,7 @@ pub record HasRoomForMonth (b : Basin) (series : Inflows) (w : Waters) (m : Mont
   pub out : w.out + sum m.plan.out < 2 ^ 64
 
 -- the sums over some rights fit
-pub record AreFew (rights : List RightFigures) : Type 0 where
+pub record AreBounded (rights : List RightFigures) : Type 0 where
   pub short_months : sum_by (λ f. f.short_months) rights < 2 ^ 64
   pub wanted : sum_by (λ f. f.wanted) rights < 2 ^ 64
   pub delivered : sum_by (λ f. f.delivered) rights < 2 ^ 64

@@ -5,7 +5,7 @@ use Rattle.std.specs.List.{flat_map, join_with_byte}
 use Rattle.water_text.specs.Months.{month_digits}
 use Rattle.water_model.specs.Basin.{right_name}
 use Rattle.water_model.specs.Lookups.{of_entry}
-use Rattle.water_model.specs.Places.{seniors_first}
+use Rattle.water_model.specs.Indices.{seniors_first}
 use Rattle.water_model.specs.declared.types.Basin.{Basin}
 use Rattle.reports.specs.Reports.{row, month_or_dash, balance_row, done_row}
 use Rattle.reports.specs.declared.figures.RightFigures.{RightFigures}
@@ -23,8 +23,8 @@ abbrev pub row_in : Basin → List RightFigures → ℕ → List ℕ
 row_in b rights right = of_entry rights right (figures_row b right) []
 
 -- the row of the balance in two pieces
-unfoldable pub balance_front : Waters → List ℕ
-balance_front w =
+unfoldable pub balance_prefix : Waters → List ℕ
+balance_prefix w =
     join_with_byte 32
     (codes "balance" ∷ decimal w.opening ∷ decimal w.inflows ∷ decimal w.returns ∷ decimal w.closing ∷ [])
 

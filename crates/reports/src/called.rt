@@ -42,7 +42,7 @@ fn called_in(basin: &Basin, roll: &Roll, month: &MonthRecord) -> u64
     requires roll { IsRollOf basin.now.rights roll.now }
     requires month { FitsBasin basin.now month.now }
     ensures value { result ≡ called_in basin.now month.now }
-    ensures few { result ≤ length basin.now.rights }
+    ensures bounded { result ≤ length basin.now.rights }
 {
     let callers = callers_by_node(basin, roll, month);
     let mut count = 0;

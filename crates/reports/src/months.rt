@@ -1,7 +1,7 @@
 //! All months of a run, one after the other.
 ghost use Rattle.std.specs.Prelude.{[], ◌≡◌, ◌+◌, ◌<◌, ◌≤◌, IfOk, OnErr};
 ghost use Rattle.senior_hold.specs.MonthNetwork.{month_pushes};
-ghost use Rattle.month_fold.specs.Runs.{GoesOn, StandsFor, run_pushes};
+ghost use Rattle.month_fold.specs.Runs.{GoesOn, RunStandsFor, run_pushes};
 ghost use Rattle.reports.specs.Tallies.{IsKeptOf, IsKeptOfRun, IsTally, IsTrial};
 
 use crate::called::Trial;
@@ -44,7 +44,7 @@ pub fn tally_of<L: Ledger>(
     run: &mut Run,
     searches: &mut Steps<L>,
 ) -> Result<Tally, AllocError>
-    requires { StandsFor run.old [] }
+    requires { RunStandsFor run.old [] }
     ensures goes_on { GoesOn run.old run.new }
     ensures tally { IfOk result (IsKeptOfRun IsTally run.old.basin run.old.series) }
     ensures unsolved { OnErr result (searches.new ≡ searches.old) }
@@ -87,7 +87,7 @@ pub fn trial_of<L: Ledger>(
     run: &mut Run,
     searches: &mut Steps<L>,
 ) -> Result<Trial, AllocError>
-    requires { StandsFor run.old [] }
+    requires { RunStandsFor run.old [] }
     ensures trial { IfOk result (IsKeptOfRun IsTrial run.old.basin run.old.series) }
     ensures unsolved { OnErr result (searches.new ≡ searches.old) }
     ensures pushes { searches.new ≤ searches.old + run_pushes run.old.basin }

@@ -5,7 +5,7 @@ ghost use Rattle.water_edge.specs.Edge.{HasCause, Puts};
 ghost use Rattle.water_model.specs.Valid.{IsValidBasin};
 ghost use Rattle.water_text.specs.Months.{IsMonth};
 ghost use Rattle.reports.specs.Reports.{row, balance_row, done_row, month_or_dash};
-ghost use Rattle.reports.specs.Texts.{run_row, figures_row, trial_row, size_row, balance_front, balance_rest};
+ghost use Rattle.reports.specs.Texts.{run_row, figures_row, trial_row, size_row, balance_prefix, balance_rest};
 
 use crate::figures::RightFigures;
 use crate::waters::Waters;
@@ -15,7 +15,7 @@ use water_model::types::Basin;
 use water_text::line::Line;
 use water_text::month::Month;
 
-/// Appends a month, or `-` for none, behind a space.
+/// Appends a month, or `-` for none, after a space.
 #[tactic(auto, unfolding(crate::specs::Reports::month_or_dash))]
 fn add_month_or_dash(line: &mut Line, month: Option<Month>)
     requires room { length line.old + 8 ≤ 128 }
@@ -159,10 +159,10 @@ pub fn put_size<K: Sink>(sink: &mut K, basin: &Basin) -> Result<(), SinkFailed>
 }
 
 /// Makes the front of the balance: what came in, and what is stored.
-#[tactic(auto, unfolding(crate::specs::Texts::balance_front))]
-fn spell_front(line: &mut Line, waters: &Waters)
+#[tactic(auto, unfolding(crate::specs::Texts::balance_prefix))]
+fn spell_prefix(line: &mut Line, waters: &Waters)
     requires { line.old ≡ [] }
-    ensures { line.new ≡ balance_front waters.now }
+    ensures { line.new ≡ balance_prefix waters.now }
 {
     line.word(b"balance");
     line.add_number(waters.opening);
@@ -172,12 +172,12 @@ fn spell_front(line: &mut Line, waters: &Waters)
 }
 
 /// Puts the front of the balance.
-fn put_front<K: Sink>(sink: &mut K, waters: &Waters) -> Result<(), SinkFailed>
-    ensures text { Puts (K.taken sink.old) (K.taken sink.new) result (balance_front waters.now) }
+fn put_prefix<K: Sink>(sink: &mut K, waters: &Waters) -> Result<(), SinkFailed>
+    ensures text { Puts (K.taken sink.old) (K.taken sink.new) result (balance_prefix waters.now) }
     ensures cause { HasCause (K.faults sink.old) (K.faults sink.new) (IsErr result) }
 {
     let mut line = Line::new();
-    spell_front(&mut line, waters);
+    spell_prefix(&mut line, waters);
     sink.put(line.bytes())
 }
 
@@ -208,7 +208,7 @@ fn put_balance<K: Sink>(sink: &mut K, waters: &Waters) -> Result<(), SinkFailed>
     ensures text { Puts (K.taken sink.old) (K.taken sink.new) result (balance_row waters.now) }
     ensures cause { HasCause (K.faults sink.old) (K.faults sink.new) (IsErr result) }
 {
-    put_front(sink, waters)?;
+    put_prefix(sink, waters)?;
     put_rest(sink, waters)
 }
 

@@ -3,7 +3,7 @@ ghost use Rattle.std.specs.Prelude.{◌≡◌, ◌<◌, ◌++◌, length, All, I
 ghost use Rattle.std.specs.List.{flat_map};
 ghost use Rattle.rights_roll.specs.Rolls.{IsRollOf};
 ghost use Rattle.water_edge.specs.Edge.{HasCause, Puts};
-ghost use Rattle.water_model.specs.Places.{seniors_first};
+ghost use Rattle.water_model.specs.Indices.{seniors_first};
 ghost use Rattle.water_model.specs.Valid.{IsValidBasin};
 ghost use Rattle.water_text.specs.Months.{IsMonth};
 ghost use Rattle.reports.specs.Texts.{row_in, tally_text, made_rows, amount_rows, count_rows, summary_text};

@@ -1,6 +1,6 @@
 //! Sums over all rights.
 ghost use Rattle.std.specs.Prelude.{◌≡◌, sum_by};
-ghost use Rattle.reports.specs.Tallies.{AreFew};
+ghost use Rattle.reports.specs.Tallies.{AreBounded};
 
 use crate::figures::RightFigures;
 use water_model::rows::Rows;
@@ -15,7 +15,7 @@ pub struct Totals {
 
 /// The sums over these rights.
 pub fn totals_of(rights: &Rows<RightFigures>) -> Totals
-    requires { AreFew rights.now }
+    requires { AreBounded rights.now }
     ensures short_months { result.short_months ≡ sum_by (λ f. f.short_months) rights.now }
     ensures wanted { result.wanted ≡ sum_by (λ f. f.wanted) rights.now }
     ensures delivered { result.delivered ≡ sum_by (λ f. f.delivered) rights.now }

@@ -20,8 +20,8 @@ use water_model::types::{Basin, Inflows};
 
 /// Runs all months of a basin that was made from a number and a size, and then puts the summary of the run.
 ///
-/// It takes memory before the first month is solved, and none behind that. OutOfMemory comes where that is lacking, and
-/// nothing was solved or put then; SinkFailed comes only where the sink counted a fault, and a front of the text
+/// It takes memory before the first month is solved, and none after that. OutOfMemory comes where that is lacking, and
+/// nothing was solved or put then; SinkFailed comes only where the sink counted a fault, and a prefix of the text
 /// stands.
 pub fn trial_report<K: Sink, L: Ledger>(
     alloc: Global,

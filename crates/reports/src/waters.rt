@@ -1,7 +1,7 @@
 //! The water of a run.
 ghost use Rattle.std.specs.Prelude.{List, ◌≡◌, ◌+◌, ◌<◌, ◌^◌, ◌++◌, ◌∷◌, [], length, sum, map, slice_index};
 ghost use Rattle.std.specs.Prelude.{if◌then◌else◌};
-ghost use Rattle.water_model.specs.Balance.{whole_inflow, diverted};
+ghost use Rattle.water_model.specs.Balance.{total_inflow, diverted};
 ghost use Rattle.water_model.specs.History.{FitsBasin};
 ghost use Rattle.water_model.specs.Valid.{IsValidBasin, IsSeriesOf, is_diversion};
 ghost use Rattle.water_model.specs.declared.types.MonthRecord.{MonthRecord};
@@ -11,7 +11,7 @@ ghost use Rattle.reports.specs.Tallies.{HasRoomForMonth};
 use water_model::calls::inflow_of;
 use water_model::types::{Basin, Inflows, MonthRecord, RightKind};
 
-/// The water of a run: what was stored before its first month, flowed in and came back, and what is stored behind its
+/// The water of a run: what was stored before its first month, flowed in and came back, and what is stored after its
 /// last month, evaporated, was delivered to diversions and flowed out.
 #[derive(Clone, Copy)]
 pub struct Waters {
@@ -33,11 +33,11 @@ fn sum_of(amounts: &[u64]) -> u64
 }
 
 /// The inflow to all nodes in the month with this index.
-fn whole_inflow(basin: &Basin, series: &Inflows, index: u32) -> u64
+fn total_inflow(basin: &Basin, series: &Inflows, index: u32) -> u64
     requires basin { IsValidBasin basin.now }
     requires series { IsSeriesOf basin.now series.now }
     requires index { index < basin.now.months }
-    ensures { result ≡ whole_inflow basin.now series.now index }
+    ensures { result ≡ total_inflow basin.now series.now index }
 {
     let mut inflow = 0;
     for node in 0..basin.nodes.len() {
@@ -113,7 +113,7 @@ impl Waters {
     {
         Waters {
             opening: self.opening,
-            inflows: self.inflows + whole_inflow(basin, series, month.index),
+            inflows: self.inflows + total_inflow(basin, series, month.index),
             returns: self.returns + sum_of(month.returned.as_slice()),
             closing: sum_of(month.closing.as_slice()),
             evaporated: self.evaporated + sum_of(month.evaporated.as_slice()),

@@ -7,7 +7,7 @@ use Rattle.water_model.specs.Valid.{IsAreaTable, RisesFrom}
 use Rattle.water_model.specs.declared.types.AreaPoint.{AreaPoint}
 use Rattle.reservoirs.specs.declared.TableRefused.{TableRefused}
 use Rattle.reservoirs.specs.declared.TableRefused.TheVariants.{Empty, FirstNotZero, NotRising, AreaFalls, OutOfMemory}
-use Rattle.reservoirs.specs.AreaFaults.{fault_behind, table_fault, IsTableRefusal}
+use Rattle.reservoirs.specs.AreaFaults.{fault_after, table_fault, IsTableRefusal}
 
 above : (s t : ℕ) → nat_le s t ≡ false → t < s
 above s t e = grind (arith, nat_tests)
@@ -18,7 +18,7 @@ at_least s t e = grind (arith, nat_tests)
 is_zero : (s : ℕ) → (eqb s 0) ≡ true → s ≡ 0
 is_zero s e = grind (arith, nat_tests)
 
-rises : (before : AreaPoint) (n : ℕ) (points : List AreaPoint) → fault_behind before n points ≡ None →
+rises : (before : AreaPoint) (n : ℕ) (points : List AreaPoint) → fault_after before n points ≡ None →
     RisesFrom before points
 rises before n [] e = tt
 rises before n (p ∷ points) e =
@@ -47,28 +47,28 @@ not_below s t l = grind (arith, nat_tests)
 begins_at_zero : (s : ℕ) → s ≡ 0 → eqb s 0 ≡ true
 begins_at_zero s e = grind (arith, nat_tests)
 
-no_fault_behind : (before : AreaPoint) (n : ℕ) (points : List AreaPoint) → RisesFrom before points →
-    fault_behind before n points ≡ None
-no_fault_behind before n [] h = refl
-no_fault_behind before n (p ∷ points) h =
+no_fault_after : (before : AreaPoint) (n : ℕ) (points : List AreaPoint) → RisesFrom before points →
+    fault_after before n points ≡ None
+no_fault_after before n [] h = refl
+no_fault_after before n (p ∷ points) h =
     rw (not_above p.storage before.storage h.0, not_below p.area before.area h.1)
-    (no_fault_behind p (n + 1) points h.2)
+    (no_fault_after p (n + 1) points h.2)
 
 -- and an area table has no fault
 pub no_fault : (points : List AreaPoint) → IsAreaTable points → table_fault points ≡ None
 no_fault [] h = absurd h
-no_fault (p ∷ points) h = rw (begins_at_zero p.storage h.0) (no_fault_behind p 1 points h.1)
+no_fault (p ∷ points) h = rw (begins_at_zero p.storage h.0) (no_fault_after p 1 points h.1)
 
 -- want of memory is no fault of points
-not_memory_behind : (before : AreaPoint) (n : ℕ) (points : List AreaPoint) →
-    fault_behind before n points ≡ Some OutOfMemory → ⊥
-not_memory_behind before n [] h = cc
-not_memory_behind before n (p ∷ points) h =
+not_memory_after : (before : AreaPoint) (n : ℕ) (points : List AreaPoint) →
+    fault_after before n points ≡ Some OutOfMemory → ⊥
+not_memory_after before n [] h = cc
+not_memory_after before n (p ∷ points) h =
     elim (cases_Bool (nat_le p.storage before.storage)) [
       | inl low ↦ (let found = rw low at h in cc)
       | inr high ↦ elim (cases_Bool (nat_lt p.area before.area)) [
         | inl falls ↦ (let found = rw (high, falls) at h in cc)
-        | inr stays ↦ not_memory_behind p (n + 1) points (rw (high, stays) at h)
+        | inr stays ↦ not_memory_after p (n + 1) points (rw (high, stays) at h)
       ]
     ]
 
@@ -76,7 +76,7 @@ pub not_memory : (points : List AreaPoint) → table_fault points ≡ Some OutOf
 not_memory [] h = cc
 not_memory (p ∷ points) h =
     elim (cases_Bool (eqb p.storage 0)) [
-      | inl begins ↦ not_memory_behind p 1 points (rw begins at h)
+      | inl begins ↦ not_memory_after p 1 points (rw begins at h)
       | inr other ↦ (let found = rw other at h in cc)
     ]
 

@@ -5,7 +5,7 @@ ghost use Rattle.std.specs.Prelude.{◌≡◌, ◌+◌, ◌-◌, ◌*◌, ◌/�
 ghost use Rattle.std.specs.Prelude.{IfErr};
 ghost use Rattle.water_model.specs.Hydrology.{area_at, area_from, evaporation};
 ghost use Rattle.water_model.specs.Valid.{IsAreaTable, RisesFrom};
-ghost use Rattle.reservoirs.specs.AreaFaults.{table_fault, fault_behind, IsTableRefusal};
+ghost use Rattle.reservoirs.specs.AreaFaults.{table_fault, fault_after, IsTableRefusal};
 
 use std::alloc::Global;
 use std::marker::Model;
@@ -49,10 +49,10 @@ impl Model for AreaTable {
     ghost invariant = { λ t. IsAreaTable t.points.items };
 }
 
-/// The first fault of the points behind one.
-fn fault_behind(first: AreaPoint, rest: &[AreaPoint]) -> Option<TableRefused>
+/// The first fault of the points after one.
+fn fault_after(first: AreaPoint, rest: &[AreaPoint]) -> Option<TableRefused>
     requires { length rest.now ≤ 64 }
-    ensures { result ≡ fault_behind first 1 rest.now }
+    ensures { result ≡ fault_after first 1 rest.now }
 {
     let mut before = first;
     for (i, point) in rest.iter().enumerate() {
@@ -76,7 +76,7 @@ fn first_fault(points: &[AreaPoint]) -> Option<TableRefused>
         [] => Some(TableRefused::Empty),
         [first, rest @ ..] => {
             if first.storage == 0 {
-                fault_behind(*first, rest)
+                fault_after(*first, rest)
             } else {
                 Some(TableRefused::FirstNotZero)
             }
@@ -86,7 +86,7 @@ fn first_fault(points: &[AreaPoint]) -> Option<TableRefused>
 
 /// The first fault of a list of at most 64 points, or `None` where it is an area table. It never names want of memory.
 ///
-/// `FirstNotZero` comes where the first storage isn't 0. Behind it the first point at fault decides: it is `NotRising`
+/// `FirstNotZero` comes where the first storage isn't 0. After it the first point at fault decides: it is `NotRising`
 /// where its storage isn't above the one before, and else `AreaFalls` where its area is below the one before.
 #[tactic(auto, using(crate::proofs::Tables::sound_by))]
 pub fn table_fault(points: &[AreaPoint]) -> Option<TableRefused>
@@ -112,7 +112,7 @@ fn area_between(before: AreaPoint, after: AreaPoint, storage: u64) -> u64
 }
 
 /// The area at a storage that isn't below the first point.
-fn area_behind(first: AreaPoint, rest: &[AreaPoint], storage: u64) -> u64
+fn area_after(first: AreaPoint, rest: &[AreaPoint], storage: u64) -> u64
     requires rises { RisesFrom first rest.now }
     requires from { first.storage ≤ storage }
     ensures { result ≡ area_from first rest.now storage }
@@ -130,7 +130,7 @@ fn area_behind(first: AreaPoint, rest: &[AreaPoint], storage: u64) -> u64
 /// What a reservoir holds when the month ends, in units of 1,000 cubic metres: the sum of what its zones took. It has
 /// at most 16 zones.
 pub fn close(fills: &[u64]) -> u64
-    requires few { length fills.now ≤ 16 }
+    requires bounded { length fills.now ≤ 16 }
     requires each { All (λ n. n ≤ 10 ^ 9) fills.now }
     ensures { result ≡ sum fills.now }
 {
@@ -142,7 +142,7 @@ pub fn close(fills: &[u64]) -> u64
 }
 
 impl AreaTable {
-    /// The table with these points, at most 64, or their first fault. The points are copied, which takes memory, behind
+    /// The table with these points, at most 64, or their first fault. The points are copied, which takes memory, after
     /// the look for faults: `OutOfMemory` comes only where it runs out, and only for a list without fault.
     pub fn build(alloc: Global, points: &[AreaPoint]) -> Result<AreaTable, TableRefused>
         requires { length points.now ≤ 64 }
@@ -167,7 +167,7 @@ impl AreaTable {
     {
         match self.points.as_slice() {
             [] => 0,
-            [first, rest @ ..] => area_behind(*first, rest, storage),
+            [first, rest @ ..] => area_after(*first, rest, storage),
         }
     }
 

@@ -1,13 +1,13 @@
 pub mod Marked
 pub mod Opposites
 pub mod Changes
-pub mod Hangs
+pub mod Adopts
 pub mod Frees
 pub mod Grows
 pub mod Seeds
 pub mod Outgoing
 pub mod Overs
-pub mod Dry
+pub mod UnlabeledCut
 pub mod Ranks
 pub mod Walks
 pub mod Pushes

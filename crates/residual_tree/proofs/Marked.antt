@@ -5,8 +5,8 @@ use Rattle.std.specs.Int.{bit_at}
 use Rattle.std.proofs.lemmas.List.{get_or-replicate, length-replicate}
 use Rattle.std.proofs.lemmas.Nat.Bits.{bit_at_ones}
 use Rattle.bit_words.specs.Marks.{words_for, is_marked}
-use Rattle.residual_tree.specs.Tree.{word_of}
-use Rattle.residual_tree.specs.DryMarks.{HasDryMarks}
+use Rattle.residual_tree.specs.Tree.{label_of}
+use Rattle.residual_tree.specs.UnlabeledMarks.{HasUnlabeledMarks}
 
 -- where all bits are 1, all places are marked
 full : (m v : ℕ) → v / 64 < m → is_marked (replicate m (2 ^ 64 - 1)) v ≡ true
@@ -15,8 +15,9 @@ full m v b =
     ap (λ (w : ℕ). bit_at w (v % 64) == 1) (get_or-replicate m (v / 64) (2 ^ 64 - 1) 0 b) ∙
     ap (λ (b : ℕ). b == 1) (bit_at_ones 64 (v % 64) bit)
 
--- all nodes are dry
-all_marked : (n nodes : ℕ) → n ≡ nodes + 1 → HasDryMarks (replicate n 0) (replicate (words_for nodes) (2 ^ 64 - 1))
+-- all nodes are unlabeled
+all_marked : (n nodes : ℕ) → n ≡ nodes + 1 → HasUnlabeledMarks (replicate n 0)
+    (replicate (words_for nodes) (2 ^ 64 - 1))
 all_marked n nodes is =
     let long : length {A = ℕ} (replicate n 0) ≡ n = length-replicate n 0 in
     let short : length {A = ℕ} (replicate n 0) - 1 ≡ nodes = omega (arith, long, is) in
@@ -24,14 +25,16 @@ all_marked n nodes is =
       outside = omega (arith, long, is);
       count = length-replicate (words_for nodes) (2 ^ 64 - 1) ∙ ap words_for (sym short);
       marks = λ v b.
-          let zero : word_of (replicate n 0) v ≡ 0 = get_or-replicate n v 0 0 (omega (arith, b, long)) in
+          let zero : label_of (replicate n 0) v ≡ 0 = get_or-replicate n v 0 0 (omega (arith, b, long)) in
           full (words_for nodes) v (omega (arith, b, long, is)) ∙ ap (λ (w : ℕ). w == 0) (sym zero);
     }
 
 -- the words of all nodes are 0, and all bits are 1
-pub marked_all : (way dry : List ℕ) (n m nodes : ℕ) → n ≡ nodes + 1 → m ≡ words_for nodes → way ≡ replicate n 0 →
-    dry ≡ replicate m (2 ^ 64 - 1) → HasDryMarks way dry
-marked_all way dry n m nodes is count none full =
-    subst (λ (x : List ℕ). HasDryMarks x dry) (sym none)
-    (subst (λ (x : List ℕ). HasDryMarks (replicate n 0) x) (sym full)
-    (subst (λ (k : ℕ). HasDryMarks (replicate n 0) (replicate k (2 ^ 64 - 1))) (sym count) (all_marked n nodes is)))
+pub marked_all : (labels unlabeled : List ℕ) (n m nodes : ℕ) → n ≡ nodes + 1 → m ≡ words_for nodes →
+    labels ≡ replicate n 0 →
+    unlabeled ≡ replicate m (2 ^ 64 - 1) → HasUnlabeledMarks labels unlabeled
+marked_all labels unlabeled n m nodes is count none full =
+    subst (λ (x : List ℕ). HasUnlabeledMarks x unlabeled) (sym none)
+    (subst (λ (x : List ℕ). HasUnlabeledMarks (replicate n 0) x) (sym full)
+    (subst (λ (k : ℕ). HasUnlabeledMarks (replicate n 0) (replicate k (2 ^ 64 - 1))) (sym count)
+    (all_marked n nodes is)))

@@ -2,16 +2,18 @@
 use Rattle.std.proofs.Common.{ℕ, zero, suc, Bool, not, max, ◌≡◌, ◌≢◌, ◌+◌, ◌-◌, ◌*◌, ◌<◌, ◌≤◌, ◌⊎◌, List, length}
 use Rattle.std.proofs.Common.{slice_index, slice_set, refl, arith, ap, sym, subst, inl, inr, ◌∙◌}
 use Rattle.std.proofs.lemmas.Bool.{cases_eq}
-use Rattle.place_sums.specs.Sums.{when}
+use Rattle.finite_sums.specs.Sums.{when}
 use Rattle.circulation.specs.Network.{Network}
 use Rattle.std.proofs.lemmas.List.{get_or-set_other, get_or-set_same}
 use Rattle.circulation.specs.Contents.{Contents, network, flow_of, arcs, step_of, held_contents, IsCirculation}
-use Rattle.circulation.specs.Residual.{arc_of, is_back, by_way, start_of, end_of, room_of, IsClosedWalk, IsPushed}
+use Rattle.circulation.specs.Residual.{arc_of, is_backward, by_direction, start_of, end_of, room_of, IsClosedWalk}
+use Rattle.circulation.specs.Residual.{IsPushed}
 use Rattle.augment.specs.Search.{SameButScratch}
-use Rattle.residual_tree.specs.Tree.{word_of, IsReached, IsResidualTree}
-use Rattle.residual_tree.specs.Growth.{Stands, none, only, IsTreeBut, IsWornTree, IsLentTree, IsLent}
+use Rattle.residual_tree.specs.Tree.{label_of, IsLabeled, IsResidualTree}
+use Rattle.residual_tree.specs.Repair.{OccursIn, none, only, IsTreeBut, IsSaturatedTree, HasArtificialStep}
+use Rattle.residual_tree.specs.Repair.{HasSomeArtificial}
 use Rattle.residual_tree.proofs.Changes.{tree_map}
-use Rattle.residual_tree.proofs.Grows.{lent_some, lent_closed}
+use Rattle.residual_tree.proofs.Grows.{artificial_some, artificial_closed}
 use Rattle.residual_tree.proofs.Overs.{over_forward, over_either}
 
 -- a step of a walk that goes over the arc a
@@ -43,34 +45,35 @@ on_walk step first last a b =
     subst (λ (n : ℕ). IsOn step first n a ⊎ ((i : ℕ) → first ≤ i → i < n → arc_of (step i) ≢ a)) e
     (on_or (last - first) step first a)
 
--- where the ends of the steps of a closed walk are reached, so are their starts
-walk_starts : (w : Network) (g step : ℕ → ℕ) (first last amount : ℕ) (way : List ℕ) →
-    IsClosedWalk w g step first last amount → ((i : ℕ) → first ≤ i → i < last → IsReached way (end_of w (step i))) →
-    (i : ℕ) → first ≤ i → i < last → IsReached way (start_of w (step i))
-walk_starts w g step first last amount way walk ends i b c = elim (cases_eq i first) [
+-- where the ends of the steps of a closed walk are labeled, so are their starts
+walk_starts : (w : Network) (g step : ℕ → ℕ) (first last amount : ℕ) (labels : List ℕ) →
+    IsClosedWalk w g step first last amount → ((i : ℕ) → first ≤ i → i < last → IsLabeled labels (end_of w (step i))) →
+    (i : ℕ) → first ≤ i → i < last → IsLabeled labels (start_of w (step i))
+walk_starts w g step first last amount labels walk ends i b c = elim (cases_eq i first) [
   | inl e ↦
       let some = walk.some in
       let at_end : last - 1 + 1 ≡ last = omega arith in
-      subst (λ (u : ℕ). IsReached way u) (walk.closed (last - 1) at_end ∙ ap (λ (k : ℕ). start_of w (step k)) (sym e))
+      subst (λ (u : ℕ). IsLabeled labels u)
+      (walk.closed (last - 1) at_end ∙ ap (λ (k : ℕ). start_of w (step k)) (sym e))
       (ends (last - 1) (omega arith) (omega arith))
   | inr ne ↦
       let before : i - 1 + 1 ≡ i = omega arith in
-      subst (λ (u : ℕ). IsReached way u)
+      subst (λ (u : ℕ). IsLabeled labels u)
       (walk.joined (i - 1) (omega arith) (omega arith) ∙ ap (λ (k : ℕ). start_of w (step k)) before)
       (ends (i - 1) (omega arith) (omega arith))
 ]
 
 -- a step over an arc of the walk ends where the step of the walk ends or starts
-walk_end : (w : Network) (s t : ℕ) (way : List ℕ) → arc_of s ≡ arc_of t → IsReached way (start_of w t) →
-    IsReached way (end_of w t) → IsReached way (end_of w s)
-walk_end w s t way e start end = elim (over_either w (λ x. 0) s) [
+walk_end : (w : Network) (s t : ℕ) (labels : List ℕ) → arc_of s ≡ arc_of t → IsLabeled labels (start_of w t) →
+    IsLabeled labels (end_of w t) → IsLabeled labels (end_of w s)
+walk_end w s t labels e start end = elim (over_either w (λ x. 0) s) [
   | inl f ↦ elim (over_either w (λ x. 0) t) [
-    | inl h ↦ subst (λ (u : ℕ). IsReached way u) (h.1.enters ∙ ap w.to (sym e) ∙ sym f.1.enters) end
-    | inr h ↦ subst (λ (u : ℕ). IsReached way u) (h.1.starts ∙ ap w.to (sym e) ∙ sym f.1.enters) start
+    | inl h ↦ subst (λ (u : ℕ). IsLabeled labels u) (h.1.enters ∙ ap w.to (sym e) ∙ sym f.1.enters) end
+    | inr h ↦ subst (λ (u : ℕ). IsLabeled labels u) (h.1.starts ∙ ap w.to (sym e) ∙ sym f.1.enters) start
   ]
   | inr f ↦ elim (over_either w (λ x. 0) t) [
-    | inl h ↦ subst (λ (u : ℕ). IsReached way u) (h.1.starts ∙ ap w.from (sym e) ∙ sym f.1.enters) start
-    | inr h ↦ subst (λ (u : ℕ). IsReached way u) (h.1.enters ∙ ap w.from (sym e) ∙ sym f.1.enters) end
+    | inl h ↦ subst (λ (u : ℕ). IsLabeled labels u) (h.1.starts ∙ ap w.from (sym e) ∙ sym f.1.enters) start
+    | inr h ↦ subst (λ (u : ℕ). IsLabeled labels u) (h.1.enters ∙ ap w.from (sym e) ∙ sym f.1.enters) end
   ]
 ]
 
@@ -79,8 +82,9 @@ same_room : (c : Contents) (lower flow : List ℕ) (s : ℕ) → slice_index flo
     slice_index lower (arc_of s) ≡ slice_index c.lower (arc_of s) →
     room_of (network (record c { lower = lower; flow = flow })) (slice_index flow) s ≡ room_of (network c) (flow_of c) s
 same_room c lower flow s f l =
-    ap (λ (x : ℕ). by_way (is_back s) (slice_index c.upper (arc_of s) - x) (x - slice_index lower (arc_of s))) f
-    ∙ ap (λ (x : ℕ). by_way (is_back s) (slice_index c.upper (arc_of s) - flow_of c (arc_of s))
+    ap (λ (x : ℕ). by_direction (is_backward s) (slice_index c.upper (arc_of s) - x) (x - slice_index lower (arc_of s)))
+    f
+    ∙ ap (λ (x : ℕ). by_direction (is_backward s) (slice_index c.upper (arc_of s) - flow_of c (arc_of s))
     (flow_of c (arc_of s) - x)) l
 
 -- a step against a step of the walk gains room
@@ -88,7 +92,8 @@ gains : (c : Contents) (lower flow : List ℕ) (s t amount : ℕ) → arc_of s �
     slice_index lower (arc_of s) ≡ slice_index c.lower (arc_of s) →
     slice_index c.lower (arc_of s) ≤ flow_of c (arc_of s) → flow_of c (arc_of s) ≤ slice_index c.upper (arc_of s) →
     amount ≤ room_of (network c) (flow_of c) t →
-    slice_index flow (arc_of t) + when (is_back t) amount ≡ flow_of c (arc_of t) + when (not (is_back t)) amount →
+    slice_index flow (arc_of t) + when (is_backward t) amount ≡ flow_of c (arc_of t) + when (not (is_backward t))
+    amount →
     0 < room_of (network (record c { lower = lower; flow = flow })) (slice_index flow) s
 gains c lower flow s t amount e ne positive l low high room on =
     let flow_at = ap (slice_index flow) e in
@@ -100,30 +105,30 @@ gains c lower flow s t amount e ne positive l low high room on =
         | inl h ↦ absurd (ne (f.0 ∙ ap (λ (a : ℕ). 2 * a) e ∙ sym h.0))
         | inr h ↦
             let moved = subst (λ (b : Bool). slice_index flow (arc_of t) + when b amount
-            ≡ flow_of c (arc_of t) + when (not b) amount) h.1.way on in
+            ≡ flow_of c (arc_of t) + when (not b) amount) h.1.labels on in
             omega (arith, f.1.room, h.1.room, room, moved, flow_at, old_at, upper_at, lower_at, l, low, high, positive)
       ]
       | inr f ↦ elim (over_either (network c) (flow_of c) t) [
         | inl h ↦
             let moved = subst (λ (b : Bool). slice_index flow (arc_of t) + when b amount
-            ≡ flow_of c (arc_of t) + when (not b) amount) h.1.way on in
+            ≡ flow_of c (arc_of t) + when (not b) amount) h.1.labels on in
             omega (arith, f.1.room, h.1.room, room, moved, flow_at, old_at, upper_at, lower_at, l, low, high, positive)
         | inr h ↦ absurd (ne (f.0 ∙ ap (λ (a : ℕ). 2 * a + 1) e ∙ sym h.0))
       ]
     ]
 
 -- a step that stands in the scratch words of a walk, or the lent one
-abbrev pub IsWorn : List ℕ → ℕ → ℕ → ℕ → ℕ → Type 0
-IsWorn scratch first last lent s = Stands scratch first last s ⊎ (s ≡ lent)
+abbrev pub IsSaturated : List ℕ → ℕ → ℕ → ℕ → ℕ → Type 0
+IsSaturated scratch first last artificial s = OccursIn scratch first last s ⊎ (s ≡ artificial)
 
--- after a push along a closed walk of nodes that are reached, only its steps and a lent one may have no room
-pub pushed_worn : (c : Contents) (way lower flow : List ℕ) (r first last amount : ℕ) → IsCirculation c →
-    (t : IsLent c way r) → IsClosedWalk (network c) (flow_of c) (step_of c) first last amount →
+-- after a push along a closed walk of nodes that are labeled, only its steps and a lent one may have no room
+pub pushed_saturated : (c : Contents) (labels lower flow : List ℕ) (r first last amount : ℕ) → IsCirculation c →
+    (t : HasSomeArtificial c labels r) → IsClosedWalk (network c) (flow_of c) (step_of c) first last amount →
     IsPushed (flow_of c) (slice_index flow) (step_of c) first last amount → step_of c first ≡ 2 * r →
-    ((i : ℕ) → first ≤ i → i < last → IsReached way (end_of (network c) (step_of c i))) →
+    ((i : ℕ) → first ≤ i → i < last → IsLabeled labels (end_of (network c) (step_of c i))) →
     flow_of c r ≤ slice_index c.lower r → ((a : ℕ) → a ≢ r → slice_index lower a ≡ slice_index c.lower a) →
-    IsTreeBut (record c { lower = lower; flow = flow }) way (IsWorn c.scratch first last t.step) none none none
-pushed_worn c way lower flow r first last amount k t walk pushed forward ends held lowers =
+    IsTreeBut (record c { lower = lower; flow = flow }) labels (IsSaturated c.scratch first last t.step) none none none
+pushed_saturated c labels lower flow r first last amount k t walk pushed forward ends held lowers =
     let arc_first : arc_of (step_of c first) ≡ r = ap arc_of forward ∙ (over_forward (network c) (flow_of c) r).arc in
     let off_room = λ (s : ℕ) (off : (i : ℕ) → first ≤ i → i < last → arc_of (step_of c i) ≢ arc_of s).
     let ne : arc_of s ≢ r = λ e. off first (omega arith) walk.some (arc_first ∙ sym e) in
@@ -137,9 +142,9 @@ pushed_worn c way lower flow r first last amount k t walk pushed forward ends he
           record { arc = was.arc; enters = was.enters; before = was.before; marked = was.marked };
       room = λ v b m.
           let was = t.tree.branch v b m in
-          let s = word_of way v - 1 in
+          let s = label_of labels v - 1 in
           elim (t.tree.room v b m) [
-            | inr lent ↦ inr (inr lent)
+            | inr artificial ↦ inr (inr artificial)
             | inl here ↦ elim (on_walk (step_of c) first last (arc_of s) walk.some) [
               | inl on ↦ elim (cases_eq (step_of c on.place) s) [
                 | inl same ↦ inr (inl record { place = on.place; from = on.from; below = on.below; is = same })
@@ -170,18 +175,20 @@ pushed_worn c way lower flow r first last amount k t walk pushed forward ends he
             ]
           ];
       closed = λ s b room m. inl (elim (on_walk (step_of c) first last (arc_of s) walk.some) [
-        | inl on ↦ walk_end (network c) s (step_of c on.place) way (sym on.arc)
-            (walk_starts (network c) (flow_of c) (step_of c) first last amount way walk ends on.place on.from on.below)
+        | inl on ↦ walk_end (network c) s (step_of c on.place) labels (sym on.arc)
+            (walk_starts (network c) (flow_of c) (step_of c) first last amount labels walk ends on.place on.from
+            on.below)
             (ends on.place on.from on.below)
-        | inr off ↦ lent_closed c way t.step s t.tree b (omega (arith, off_room s off, room)) m
+        | inr off ↦ artificial_closed c labels t.step s t.tree b (omega (arith, off_room s off, room)) m
       ]);
     }
 
 -- after a hold on an arc only the step back over it may have lost its room
-pub held_worn : (c : Contents) (way lower : List ℕ) (r at : ℕ) → IsResidualTree c way → step_of c at ≡ 2 * r + 1 →
+pub held_saturated : (c : Contents) (labels lower : List ℕ) (r at : ℕ) → IsResidualTree c labels →
+    step_of c at ≡ 2 * r + 1 →
     ((a : ℕ) → a ≢ r → slice_index lower a ≡ slice_index c.lower a) → slice_index c.lower r ≤ slice_index lower r →
-    IsWornTree (record c { lower = lower }) way at (at + 1)
-held_worn c way lower r at t is lowers more = record {
+    IsSaturatedTree (record c { lower = lower }) labels at (at + 1)
+held_saturated c labels lower r at t is lowers more = record {
   words = t.words;
   root = t.root;
   rank = t.rank;
@@ -190,7 +197,7 @@ held_worn c way lower r at t is lowers more = record {
       record { arc = was.arc; enters = was.enters; before = was.before; marked = inl was.marked };
   room = λ v b m.
       let was = t.branch v b m in
-      let s = word_of way v - 1 in
+      let s = label_of labels v - 1 in
       elim (over_either (network c) (flow_of c) s) [
         | inl f ↦ elim (over_either (network (record c { lower = lower })) (flow_of c) s) [
           | inl h ↦ inl (omega (arith, f.1.room, h.1.room, was.room))
@@ -231,9 +238,9 @@ held_worn c way lower r at t is lowers more = record {
 }
 
 -- the tree does not depend on the scratch words
-pub tree_over : (c : Contents) (way scratch : List ℕ) → IsResidualTree c way →
-    IsResidualTree (record c { scratch = scratch }) way
-tree_over c way scratch t = record {
+pub tree_over : (c : Contents) (labels scratch : List ℕ) → IsResidualTree c labels →
+    IsResidualTree (record c { scratch = scratch }) labels
+tree_over c labels scratch t = record {
   words = t.words;
   root = t.root;
   rank = t.rank;
@@ -244,25 +251,26 @@ tree_over c way scratch t = record {
 }
 
 -- after a hold on an arc, whose step back was written down
-pub hold_worn : (c d e : Contents) (way : List ℕ) (r amount s : ℕ) → IsCirculation c → IsResidualTree c way →
+pub hold_saturated : (c d e : Contents) (labels : List ℕ) (r amount s : ℕ) → IsCirculation c → IsResidualTree c labels →
     r < arcs c → s ≡ 2 * r + 1 → d ≡ record c { scratch = slice_set c.scratch 0 s } → e ≡ held_contents d r amount →
-    IsWornTree e way 0 1
-hold_worn c d e way r amount s k t b is written held =
+    IsSaturatedTree e labels 0 1
+hold_saturated c d e labels r amount s k t b is written held =
     let long : r < length c.lower = omega (arith, k.shape.lower, b) in
     let now = held ∙ ap (λ (x : Contents). held_contents x r amount) written in
     let more = max (slice_index c.lower r) amount in
     let here = get_or-set_same c.lower r more 0 long in
     let at : slice_index (slice_set c.scratch 0 s) 0 ≡ 2 * r + 1 =
     get_or-set_same c.scratch 0 s 0 (omega (arith, k.shape.scratch)) ∙ is in
-    subst (λ (x : Contents). IsWornTree x way 0 1) (sym now)
-    (held_worn (record c { scratch = slice_set c.scratch 0 s }) way (slice_set c.lower r more) r 0
-    (tree_over c way (slice_set c.scratch 0 s) t) at
+    subst (λ (x : Contents). IsSaturatedTree x labels 0 1) (sym now)
+    (held_saturated (record c { scratch = slice_set c.scratch 0 s }) labels (slice_set c.lower r more) r 0
+    (tree_over c labels (slice_set c.scratch 0 s) t) at
     (λ a ne. get_or-set_other c.lower r a more 0 ne) (omega (arith, here)))
 
 -- a tree that is repaired does not depend on the scratch words
-pub but_over : (c : Contents) (way scratch : List ℕ) (worn orphan free raw : ℕ → Type 0) →
-    IsTreeBut c way worn orphan free raw → IsTreeBut (record c { scratch = scratch }) way worn orphan free raw
-but_over c way scratch worn orphan free raw t = record {
+pub but_over : (c : Contents) (labels scratch : List ℕ) (saturated orphan free unscanned : ℕ → Type 0) →
+    IsTreeBut c labels saturated orphan free unscanned → IsTreeBut (record c { scratch = scratch }) labels saturated
+    orphan free unscanned
+but_over c labels scratch saturated orphan free unscanned t = record {
   words = t.words;
   root = t.root;
   rank = t.rank;
@@ -273,67 +281,76 @@ but_over c way scratch worn orphan free raw t = record {
   closed = t.closed;
 }
 
--- a tree in which all steps have room, as one with a lent step to the head of an arc
-pub residual_lent : (c : Contents) (way : List ℕ) (r : ℕ) → IsResidualTree c way → IsLent c way r
-residual_lent c way r t = record {
+-- a tree in which all steps have room, as one with a artificial step to the head of an arc
+pub residual_artificial : (c : Contents) (labels : List ℕ) (r : ℕ) → IsResidualTree c labels →
+    HasSomeArtificial c labels r
+residual_artificial c labels r t = record {
   step = 2 * r;
   enters = (over_forward (network c) (flow_of c) r).enters;
-  tree = lent_some c way (2 * r) t;
+  tree = artificial_some c labels (2 * r) t;
 }
 
--- the lent step was written in front of the walk
-pub worn_written : (c : Contents) (way : List ℕ) (first first' last lent : ℕ) → first' + 1 ≡ first →
-    first ≤ length c.scratch → first ≤ last → IsTreeBut c way (IsWorn c.scratch first last lent) none none none →
-    IsWornTree (record c { scratch = slice_set c.scratch (first - 1) lent }) way first' last
-worn_written c way first first' last lent before long order t =
+-- the artificial step was written in front of the walk
+pub saturated_written : (c : Contents) (labels : List ℕ) (first first' last artificial : ℕ) → first' + 1 ≡ first →
+    first ≤ length c.scratch → first ≤ last → IsTreeBut c labels (IsSaturated c.scratch first last artificial) none none
+    none →
+    IsSaturatedTree (record c { scratch = slice_set c.scratch (first - 1) artificial }) labels first' last
+saturated_written c labels first first' last artificial before long order t =
     let place : first - 1 ≡ first' = omega arith in
-    tree_map (record c { scratch = slice_set c.scratch (first - 1) lent }) way (IsWorn c.scratch first last lent) none
+    tree_map (record c { scratch = slice_set c.scratch (first - 1) artificial }) labels
+    (IsSaturated c.scratch first last artificial) none
     none none
-    (Stands (slice_set c.scratch (first - 1) lent) first' last) none none none
-    (but_over c way (slice_set c.scratch (first - 1) lent) (IsWorn c.scratch first last lent) none none none t)
+    (OccursIn (slice_set c.scratch (first - 1) artificial) first' last) none none none
+    (but_over c labels (slice_set c.scratch (first - 1) artificial) (IsSaturated c.scratch first last artificial) none
+    none none t)
     (λ u d m e o. elim o [
-      | inl stands ↦ inr record {
-        place = stands.place;
-        from = omega (arith, stands.from);
-        below = stands.below;
-        is = get_or-set_other c.scratch (first - 1) stands.place lent 0 (λ f. absurd (omega (arith, stands.from, f)))
-            ∙ stands.is;
+      | inl occurs ↦ inr record {
+        place = occurs.place;
+        from = omega (arith, occurs.from);
+        below = occurs.below;
+        is = get_or-set_other c.scratch (first - 1) occurs.place artificial 0
+            (λ f. absurd (omega (arith, occurs.from, f)))
+            ∙ occurs.is;
       }
       | inr own ↦ inr record {
         place = first';
         from = omega arith;
         below = omega arith;
-        is = ap (slice_index (slice_set c.scratch (first - 1) lent)) (sym place)
-            ∙ get_or-set_same c.scratch (first - 1) lent 0 (omega arith) ∙ sym own;
+        is = ap (slice_index (slice_set c.scratch (first - 1) artificial)) (sym place)
+            ∙ get_or-set_same c.scratch (first - 1) artificial 0 (omega arith) ∙ sym own;
       }
     ])
     (λ u s d e b g o. o)
     (λ s b r m o. inr o)
 
 -- the tree stays where only scratch words were written
-pub stopped_tree : (c d : Contents) (way way' : List ℕ) → IsResidualTree c way → SameButScratch c d → way' ≡ way →
-    IsResidualTree d way'
-stopped_tree c d way way' t rest same =
+pub stopped_tree : (c d : Contents) (labels labels' : List ℕ) → IsResidualTree c labels → SameButScratch c d →
+    labels' ≡ labels →
+    IsResidualTree d labels'
+stopped_tree c d labels labels' t rest same =
     subst (λ (x : List ℕ). IsResidualTree d x) (sym same)
-    (subst (λ (x : Contents). IsResidualTree x way) (sym rest) (tree_over c way d.scratch t))
+    (subst (λ (x : Contents). IsResidualTree x labels) (sym rest) (tree_over c labels d.scratch t))
 
--- a tree with a lent step, which was written down
-pub settle_worn : (c d : Contents) (way : List ℕ) (lent s : ℕ) → IsCirculation c → IsLentTree c way lent → s ≡ lent →
-    d ≡ record c { scratch = slice_set c.scratch 0 s } → IsWornTree d way 0 1
-settle_worn c d way lent s k t is written =
-    let at : slice_index (slice_set c.scratch 0 s) 0 ≡ lent =
+-- a tree with a artificial step, which was written down
+pub settle_saturated : (c d : Contents) (labels : List ℕ) (artificial s : ℕ) → IsCirculation c →
+    HasArtificialStep c labels artificial → s ≡ artificial →
+    d ≡ record c { scratch = slice_set c.scratch 0 s } → IsSaturatedTree d labels 0 1
+settle_saturated c d labels artificial s k t is written =
+    let at : slice_index (slice_set c.scratch 0 s) 0 ≡ artificial =
     get_or-set_same c.scratch 0 s 0 (omega (arith, k.shape.scratch)) ∙ is in
-    subst (λ (x : Contents). IsWornTree x way 0 1) (sym written)
-    (tree_map (record c { scratch = slice_set c.scratch 0 s }) way (only lent) none none none
-    (Stands (slice_set c.scratch 0 s) 0 1) none none none
-    (but_over c way (slice_set c.scratch 0 s) (only lent) none none none t)
+    subst (λ (x : Contents). IsSaturatedTree x labels 0 1) (sym written)
+    (tree_map (record c { scratch = slice_set c.scratch 0 s }) labels (only artificial) none none none
+    (OccursIn (slice_set c.scratch 0 s) 0 1) none none none
+    (but_over c labels (slice_set c.scratch 0 s) (only artificial) none none none t)
     (λ u d m e o. inr record { place = 0; from = omega arith; below = omega arith; is = at ∙ sym o })
     (λ u s d e b g o. o)
     (λ s b r m o. inr o))
 
--- a tree with a lent step stays where only scratch words were written
-pub stopped_lent : (c d : Contents) (way way' : List ℕ) (lent : ℕ) → IsLentTree c way lent → SameButScratch c d →
-    way' ≡ way → IsLentTree d way' lent
-stopped_lent c d way way' lent t rest same =
-    subst (λ (x : List ℕ). IsLentTree d x lent) (sym same)
-    (subst (λ (x : Contents). IsLentTree x way lent) (sym rest) (but_over c way d.scratch (only lent) none none none t))
+-- a tree with a artificial step stays where only scratch words were written
+pub stopped_artificial : (c d : Contents) (labels labels' : List ℕ) (artificial : ℕ) →
+    HasArtificialStep c labels artificial → SameButScratch c d →
+    labels' ≡ labels → HasArtificialStep d labels' artificial
+stopped_artificial c d labels labels' artificial t rest same =
+    subst (λ (x : List ℕ). HasArtificialStep d x artificial) (sym same)
+    (subst (λ (x : Contents). HasArtificialStep x labels artificial) (sym rest)
+    (but_over c labels d.scratch (only artificial) none none none t))

@@ -1,8 +1,8 @@
 -- Ranks as places up to the number of nodes: how many nodes have a lesser rank.
 use Rattle.std.proofs.Common.{ℕ, zero, suc, Bool, nat_lt, ◌≡◌, ◌+◌, ◌<◌, ◌≤◌, if◌then◌else◌, arith, ap, inl, inr, refl}
 use Rattle.std.proofs.lemmas.Bool.{cases_eq, cases_lt, lt-ltb, le-ltb}
-use Rattle.place_sums.specs.Sums.{total}
-use Rattle.place_sums.proofs.Totals.{total_le}
+use Rattle.finite_sums.specs.Sums.{total}
+use Rattle.finite_sums.proofs.Totals.{total_le}
 
 -- sums of terms in order, of which one is less
 total_lt : (n a : ℕ) (f g : ℕ → ℕ) → a < n → ((k : ℕ) → f k ≤ g k) → f a + 1 ≤ g a → total n f + 1 ≤ total n g

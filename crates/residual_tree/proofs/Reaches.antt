@@ -2,28 +2,28 @@
 use Rattle.std.proofs.Common.{ℕ, zero, suc, Bool, false, not, ◌==◌, ◌&&◌, ◌≡◌, ◌+◌, ◌-◌, ◌<◌, ◌≤◌, List, [], ◌∷◌}
 use Rattle.std.proofs.Common.{slice_index, refl, arith, ap, sym, subst, inl, inr, ◌∙◌}
 use Rattle.std.proofs.lemmas.Bool.{cases_eq, cases_lt, eq-eqb, and_right}
-use Rattle.place_sums.specs.Sums.{total, when}
-use Rattle.place_sums.proofs.Totals.{total_same}
+use Rattle.finite_sums.specs.Sums.{total, when}
+use Rattle.finite_sums.proofs.Totals.{total_same}
 use Rattle.circulation.specs.Network.{leaves, cut_in, cut_out, IsCut, IsTight}
 use Rattle.circulation.specs.Contents.{Contents, network, flow_of, arcs, IsCirculation}
 use Rattle.circulation.specs.Residual.{start_of}
 use Rattle.augment.proofs.Trees.{start_within}
 use Rattle.augment.specs.Search.{SameButScratch}
-use Rattle.residual_tree.specs.Tree.{word_of, IsReached, IsResidualTree}
+use Rattle.residual_tree.specs.Tree.{label_of, IsLabeled, IsResidualTree}
 use Rattle.residual_tree.specs.Raised.{IsRaisedOver}
-use Rattle.residual_tree.specs.Laws.{IsWalkTo, ReachedIsReachable, DryIsGreatestCut, CutStaysWhenHeld}
-use Rattle.residual_tree.proofs.Dry.{dry_cut}
-use Rattle.residual_tree.proofs.Pushes.{residual_lent, stopped_tree}
+use Rattle.residual_tree.specs.Laws.{IsWalkTo, LabeledIsReachable, UnlabeledIsGreatestCut, CutStaysWhenHeld}
+use Rattle.residual_tree.proofs.UnlabeledCut.{unlabeled_cut}
+use Rattle.residual_tree.proofs.Pushes.{residual_artificial, stopped_tree}
 
 -- along the tree
-walk_from : (n : ℕ) (c : Contents) (way : List ℕ) → IsCirculation c → (t : IsResidualTree c way) → (v : ℕ) →
-    v ≤ c.nodes → IsReached way v → t.rank v < n → (path : List ℕ) × IsWalkTo c v path
-walk_from zero c way k t v b m less = absurd (omega arith)
-walk_from (suc n) c way k t v b m less = elim (cases_lt v c.nodes) [
+walk_from : (n : ℕ) (c : Contents) (labels : List ℕ) → IsCirculation c → (t : IsResidualTree c labels) → (v : ℕ) →
+    v ≤ c.nodes → IsLabeled labels v → t.rank v < n → (path : List ℕ) × IsWalkTo c v path
+walk_from zero c labels k t v b m less = absurd (omega arith)
+walk_from (suc n) c labels k t v b m less = elim (cases_lt v c.nodes) [
   | inl inner ↦
       let branch = t.branch v inner m in
-      let s = word_of way v - 1 in
-      let before = walk_from n c way k t (start_of (network c) s) (start_within (network c) s k.ends branch.arc)
+      let s = label_of labels v - 1 in
+      let before = walk_from n c labels k t (start_of (network c) s) (start_within (network c) s k.ends branch.arc)
       branch.marked
       (omega (arith, branch.before, less)) in
       (s ∷ before.0, (branch.arc, branch.enters, branch.room, before.1))
@@ -31,30 +31,31 @@ walk_from (suc n) c way k t v b m less = elim (cases_lt v c.nodes) [
 ]
 
 -- along a walk
-reached_by : (c : Contents) (way : List ℕ) → IsResidualTree c way → (v : ℕ) (path : List ℕ) → IsWalkTo c v path →
-    IsReached way v
-reached_by c way t v [] e = omega (arith, ap (word_of way) e, t.root)
-reached_by c way t v (s ∷ path) walk =
-    subst (λ (u : ℕ). IsReached way u) walk.1
-    (t.closed s walk.0 walk.2 (reached_by c way t (start_of (network c) s) path walk.3))
+labeled_by : (c : Contents) (labels : List ℕ) → IsResidualTree c labels → (v : ℕ) (path : List ℕ) → IsWalkTo c v path →
+    IsLabeled labels v
+labeled_by c labels t v [] e = omega (arith, ap (label_of labels) e, t.root)
+labeled_by c labels t v (s ∷ path) walk =
+    subst (λ (u : ℕ). IsLabeled labels u) walk.1
+    (t.closed s walk.0 walk.2 (labeled_by c labels t (start_of (network c) s) path walk.3))
 
-pub reached_is_reachable_lem : ReachedIsReachable
-reached_is_reachable_lem c way v k t b = (
-  λ m. walk_from (suc (t.rank v)) c way k t v b m (omega arith),
-  λ w. reached_by c way t v w.0 w.1,
+pub labeled_is_reachable_lem : LabeledIsReachable
+labeled_is_reachable_lem c labels v k t b = (
+  λ m. walk_from (suc (t.rank v)) c labels k t v b m (omega arith),
+  λ w. labeled_by c labels t v w.0 w.1,
 )
 
 -- what a tree reaches, another reaches too, where all is the same but scratch words
-pub same_reached : (c d : Contents) (way way' : List ℕ) (v : ℕ) → IsCirculation c → SameButScratch c d →
-    IsResidualTree c way → IsResidualTree d way' → v ≤ c.nodes → IsReached way v → IsReached way' v
-same_reached c d way way' v k same t t' b m =
+pub same_labeled : (c d : Contents) (labels labels' : List ℕ) (v : ℕ) → IsCirculation c → SameButScratch c d →
+    IsResidualTree c labels → IsResidualTree d labels' → v ≤ c.nodes → IsLabeled labels v → IsLabeled labels' v
+same_labeled c d labels labels' v k same t t' b m =
     let back : c ≡ record d { scratch = c.scratch } =
     ap (λ (x : Contents). record x { scratch = c.scratch }) (sym same) in
-    let own = stopped_tree d c way' way' t' back refl in
-    (reached_is_reachable_lem c way' v k own b).1 ((reached_is_reachable_lem c way v k t b).0 m)
+    let own = stopped_tree d c labels' labels' t' back refl in
+    (labeled_is_reachable_lem c labels' v k own b).1 ((labeled_is_reachable_lem c labels v k t b).0 m)
 
-pub dry_is_greatest_cut_lem : DryIsGreatestCut
-dry_is_greatest_cut_lem c way r k t b none head = dry_cut c way r k (residual_lent c way r t) b none head
+pub unlabeled_is_greatest_cut_lem : UnlabeledIsGreatestCut
+unlabeled_is_greatest_cut_lem c labels r k t b none head = unlabeled_cut c labels r k (residual_artificial c labels r t)
+    b none head
 
 -- what leaves a cut besides the arc itself
 same_out : (old new : Contents) (r : ℕ) (y : ℕ → Bool) → IsRaisedOver old new r →

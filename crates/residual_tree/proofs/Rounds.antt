@@ -8,9 +8,9 @@ use Rattle.circulation.specs.Contents.{Contents, flow_of, arcs, step_of, held_co
 use Rattle.circulation.specs.Residual.{arc_of, IsPushed}
 use Rattle.augment.specs.Search.{SameButScratch}
 use Rattle.augment.proofs.Raises.{pushed_first}
-use Rattle.residual_tree.specs.Growth.{none, only, IsWornTree, IsLent}
+use Rattle.residual_tree.specs.Repair.{none, only, IsSaturatedTree, HasSomeArtificial}
 use Rattle.residual_tree.specs.Raised.{IsTraced, IsRaisedOver}
-use Rattle.residual_tree.proofs.Pushes.{but_over, pushed_worn, worn_written}
+use Rattle.residual_tree.proofs.Pushes.{but_over, pushed_saturated, saturated_written}
 
 -- nothing changed but scratch words
 pub raised_scratch : (c d : Contents) (r : ℕ) → d ≡ record c { scratch = d.scratch } → IsRaisedOver c d r
@@ -38,17 +38,20 @@ raised_is c d e f r amount written pushed held =
     held ∙ ap (λ (x : Contents). held_contents x r amount) pushed
     ∙ ap (λ (x : Contents). held_contents (record x { flow = e.flow }) r amount) written
 
--- the tree after a walk was written, a push, a hold, and the lent step in front of the walk
-pub record IsRoundTree (c g : Contents) (way : List ℕ) (first last : ℕ) : Type 0 where
-  pub worn : IsWornTree g way first last
+-- the tree after a walk was written, a push, a hold, and the artificial step in front of the walk
+pub record IsRoundTree (c g : Contents) (labels : List ℕ) (first last : ℕ) : Type 0 where
+  pub saturated : IsSaturatedTree g labels first last
   pub arcs : (i : ℕ) → first ≤ i → i < last → arc_of (step_of g i) < arcs g
 
-pub round_worn : (c d e f g : Contents) (way : List ℕ) (r most first first' last last' amount flow : ℕ) →
-    IsCirculation d → (t : IsLent c way r) → arc_of t.step < arcs c → flow_of c r ≡ slice_index c.lower r →
-    IsTraced c d way r most first amount → 0 < amount → e ≡ record d { flow = e.flow } → last ≡ 4 * c.nodes + 8 →
+pub round_saturated : (c d e f g : Contents) (labels : List ℕ) (r most first first' last last' amount flow : ℕ) →
+    IsCirculation d → (t : HasSomeArtificial c labels r) → arc_of t.step < arcs c →
+    flow_of c r ≡ slice_index c.lower r →
+    IsTraced c d labels r most first amount → 0 < amount → e ≡ record d { flow = e.flow } → last ≡ 4 * c.nodes + 8 →
     IsPushed (flow_of d) (flow_of e) (step_of d) first last amount → f ≡ held_contents e r flow → first' + 1 ≡ first →
-    g ≡ record f { scratch = slice_set f.scratch (first - 1) t.step } → last' ≡ last → IsRoundTree c g way first' last'
-round_worn c d e f g way r most first first' last last' amount flow k t b held traced positive pushed is p made before
+    g ≡ record f { scratch = slice_set f.scratch (first - 1) t.step } → last' ≡ last →
+    IsRoundTree c g labels first' last'
+round_saturated c d e f g labels r most first first' last last' amount flow k t b held traced positive pushed is p made
+    before
     written more =
     let rest = traced.rest in
     let kept = subst IsCirculation rest k in
@@ -58,18 +61,20 @@ round_worn c d e f g way r most first first' last last' amount flow k t b held t
     let walk = traced.walk positive in
     let here = raised_contents c d.scratch e.flow r flow in
     let after = written ∙ ap (λ (x : Contents). record x { scratch = slice_set x.scratch (first - 1) t.step }) now in
-    let over : IsLent (record c { scratch = d.scratch }) way r = record {
+    let over : HasSomeArtificial (record c { scratch = d.scratch }) labels r = record {
       step = t.step;
       enters = t.enters;
-      tree = but_over c way d.scratch (only t.step) none none none t.tree;
+      tree = but_over c labels d.scratch (only t.step) none none none t.tree;
     } in
     let long : first ≤ length d.scratch = omega (arith, kept.shape.scratch, traced.some) in
-    subst (λ (x : Contents). IsRoundTree c x way first' last') (sym after)
-    (subst (λ (n : ℕ). IsRoundTree c (record here { scratch = slice_set d.scratch (first - 1) t.step }) way first' n)
+    subst (λ (x : Contents). IsRoundTree c x labels first' last') (sym after)
+    (subst (λ (n : ℕ). IsRoundTree c (record here { scratch = slice_set d.scratch (first - 1) t.step }) labels first' n)
     (sym (more ∙ is))
     record {
-      worn = worn_written here way first first' (4 * c.nodes + 8) t.step before long (omega (arith, traced.some))
-          (pushed_worn (record c { scratch = d.scratch }) way (slice_set c.lower r (max (slice_index c.lower r) flow))
+      saturated = saturated_written here labels first first' (4 * c.nodes + 8) t.step before long
+          (omega (arith, traced.some))
+          (pushed_saturated (record c { scratch = d.scratch }) labels
+          (slice_set c.lower r (max (slice_index c.lower r) flow))
           e.flow r
           first (4 * c.nodes + 8) amount kept over walk whole traced.forward traced.ends
           (omega (arith, held)) (λ a ne. get_or-set_other c.lower r a (max (slice_index c.lower r) flow) 0 ne));
@@ -94,11 +99,12 @@ pub record IsRound (c f : Contents) (r amount : ℕ) : Type 0 where
   pub raised : flow_of f r ≡ flow_of c r + amount
   pub held : flow_of f r ≡ slice_index f.lower r
 
-pub round_is : (c d e f : Contents) (way : List ℕ) (r most first last amount flow : ℕ) → IsCirculation d → r < arcs c →
-    flow_of c r ≡ slice_index c.lower r → IsTraced c d way r most first amount → 0 < amount →
+pub round_is : (c d e f : Contents) (labels : List ℕ) (r most first last amount flow : ℕ) → IsCirculation d →
+    r < arcs c →
+    flow_of c r ≡ slice_index c.lower r → IsTraced c d labels r most first amount → 0 < amount →
     e ≡ record d { flow = e.flow } → last ≡ 4 * c.nodes + 8 → IsPushed (flow_of d) (flow_of e)
     (step_of d) first last amount → flow ≡ flow_of e r → f ≡ held_contents e r flow → IsRound c f r amount
-round_is c d e f way r most first last amount flow k b held traced positive pushed is p seen made =
+round_is c d e f labels r most first last amount flow k b held traced positive pushed is p seen made =
     let rest = traced.rest in
     let now = raised_is c d e f r flow rest pushed made in
     let more = max (slice_index c.lower r) flow in

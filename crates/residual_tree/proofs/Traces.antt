@@ -7,38 +7,38 @@ use Rattle.circulation.specs.Contents.{Contents, network, flow_of, arcs, step_of
 use Rattle.circulation.specs.Residual.{start_of, end_of, room_of}
 use Rattle.augment.specs.Search.{SameButScratch}
 use Rattle.augment.proofs.Trails.{IsTrail, IsWayBack, trail_start, trail_next, trail_closed}
-use Rattle.residual_tree.specs.Tree.{word_of, IsReached}
+use Rattle.residual_tree.specs.Tree.{label_of, IsLabeled}
 use Rattle.residual_tree.specs.Raised.{IsExit, IsTraced}
-use Rattle.residual_tree.specs.Growth.{IsLent}
-use Rattle.residual_tree.proofs.Grows.{lent_closed, lent_marked}
+use Rattle.residual_tree.specs.Repair.{HasSomeArtificial}
+use Rattle.residual_tree.proofs.Grows.{artificial_closed, artificial_marked}
 use Rattle.residual_tree.proofs.Overs.{over_forward}
 use Rattle.residual_tree.proofs.Ranks.{place_of, place_positive, place_most}
 use Rattle.residual_tree.proofs.Walks.{way_back, trail_exit}
 
--- a step of the trail ends at a basin node that is reached, and not at the head of the arc r
-pub record IsPassed (c : Contents) (way : List ℕ) (r s : ℕ) : Type 0 where
-  pub reached : IsReached way (end_of (network c) s)
+-- a step of the trail ends at a basin node that is labeled, and not at the head of the arc r
+pub record IsPassed (c : Contents) (labels : List ℕ) (r s : ℕ) : Type 0 where
+  pub labeled : IsLabeled labels (end_of (network c) s)
   pub head : end_of (network c) s ≢ slice_index c.to r
   pub basin : end_of (network c) s ≢ c.nodes
 
 -- the trail from the node to the tail of the arc r stands in the scratch words from `first` on
-pub record IsTracing (c d : Contents) (way : List ℕ) (r most first node amount : ℕ) : Type 0 where
+pub record IsTracing (c d : Contents) (labels : List ℕ) (r most first node amount : ℕ) : Type 0 where
   pub rest : SameButScratch c d
   pub kept : IsCirculation d
-  pub reached : IsReached way node
-  pub trail : (t : IsLent c way r) → IsTrail (network c) (flow_of c) r most (place_of c.nodes t.tree.rank)
+  pub labeled : IsLabeled labels node
+  pub trail : (t : HasSomeArtificial c labels r) → IsTrail (network c) (flow_of c) r most (place_of c.nodes t.tree.rank)
       (step_of d) first (4 * c.nodes + 8) node amount
-  pub passed : (i : ℕ) → first ≤ i → i < 4 * c.nodes + 8 → IsPassed c way r (step_of d i)
+  pub passed : (i : ℕ) → first ≤ i → i < 4 * c.nodes + 8 → IsPassed c labels r (step_of d i)
 
 -- at the tail
-pub tracing_start : (c : Contents) (way : List ℕ) (r most : ℕ) → IsCirculation c → r < arcs c → 0 < most →
-    IsReached way (slice_index c.from r) → IsTracing c c way r most (4 * c.nodes + 8) (slice_index c.from r) most
-tracing_start c way r most k b positive m =
+pub tracing_start : (c : Contents) (labels : List ℕ) (r most : ℕ) → IsCirculation c → r < arcs c → 0 < most →
+    IsLabeled labels (slice_index c.from r) → IsTracing c c labels r most (4 * c.nodes + 8) (slice_index c.from r) most
+tracing_start c labels r most k b positive m =
     let inside = k.ends.from_in r b in
     record {
       rest = refl;
       kept = k;
-      reached = m;
+      labeled = m;
       trail = λ t. trail_start (network c) (flow_of c) r most (place_of c.nodes t.tree.rank) (step_of c)
           (4 * c.nodes + 8) inside (place_positive c.nodes t.tree.rank (slice_index c.from r))
           (omega (arith, place_most c.nodes t.tree.rank (slice_index c.from r) inside)) positive;
@@ -75,25 +75,27 @@ rest_more c d e scratch rest is =
 pub long_as : (c d : Contents) → SameButScratch c d → IsCirculation d → length d.scratch ≡ 4 * c.nodes + 8
 long_as c d rest k = k.shape.scratch ∙ ap (λ (x : Contents). 4 * x.nodes + 8) rest
 
--- the step by which the node is reached
-pub tracing_back : (c d : Contents) (way : List ℕ) (r most first node amount s : ℕ) → IsCirculation c →
-    IsTracing c d way r most first node amount → (t : IsLent c way r) → flow_of c r ≡ slice_index c.lower r →
-    node ≢ slice_index c.to r → node ≢ c.nodes → s ≡ word_of way node - 1 →
+-- the step by which the node is labeled
+pub tracing_back : (c d : Contents) (labels : List ℕ) (r most first node amount s : ℕ) → IsCirculation c →
+    IsTracing c d labels r most first node amount → (t : HasSomeArtificial c labels r) →
+    flow_of c r ≡ slice_index c.lower r →
+    node ≢ slice_index c.to r → node ≢ c.nodes → s ≡ label_of labels node - 1 →
     IsWayBack (network c) (flow_of c) r 1 (place_of c.nodes t.tree.rank) node s
-tracing_back c d way r most first node amount s k p t held ne basin is =
+tracing_back c d labels r most first node amount s k p t held ne basin is =
     let inside = (p.trail t).inside in
-    way_back c way r node s k t (omega (arith, held)) (omega (arith, inside, basin)) p.reached ne is
+    way_back c labels r node s k t (omega (arith, held)) (omega (arith, inside, basin)) p.labeled ne is
 
 -- one more step back
-pub tracing_next : (c d e : Contents) (way : List ℕ) (r most first first' node next amount more s : ℕ) →
-    IsCirculation c → IsTracing c d way r most first node amount → (t : IsLent c way r) →
-    flow_of c r ≡ slice_index c.lower r → node ≢ slice_index c.to r → node ≢ c.nodes → s ≡ word_of way node - 1 →
+pub tracing_next : (c d e : Contents) (labels : List ℕ) (r most first first' node next amount more s : ℕ) →
+    IsCirculation c → IsTracing c d labels r most first node amount → (t : HasSomeArtificial c labels r) →
+    flow_of c r ≡ slice_index c.lower r → node ≢ slice_index c.to r → node ≢ c.nodes → s ≡ label_of labels node - 1 →
     next ≡ start_of (network d) s → more ≡ min amount (room_of (network d) (flow_of d) s) → first' + 1 ≡ first →
     e ≡ record d { scratch = slice_set d.scratch (first - 1) s } → IsCirculation e →
-    IsTracing c e way r most first' next more
-tracing_next c d e way r most first first' node next amount more s k p t held ne basin is is_next is_more before written
+    IsTracing c e labels r most first' next more
+tracing_next c d e labels r most first first' node next amount more s k p t held ne basin is is_next is_more before
+    written
     kept =
-    let back = tracing_back c d way r most first node amount s k p t held ne basin is in
+    let back = tracing_back c d labels r most first node amount s k p t held ne basin is in
     let trail = p.trail t in
     let wr = wrote d e first first' s written before (omega (arith, long_as c d p.rest p.kept, trail.within)) in
     let start = is_next ∙ ap (λ (x : Contents). start_of (network x) s) p.rest in
@@ -102,11 +104,11 @@ tracing_next c d e way r most first first' node next amount more s k p t held ne
     record {
       rest = rest_more c d e (slice_set d.scratch (first - 1) s) p.rest written;
       kept = kept;
-      reached = subst (λ (u : ℕ). IsReached way u) (sym start)
-          (subst (λ (x : ℕ). IsReached way (start_of (network c) x)) (sym is)
-          (lent_marked c way t.step node t.tree (omega (arith, inside, basin)) p.reached));
+      labeled = subst (λ (u : ℕ). IsLabeled labels u) (sym start)
+          (subst (λ (x : ℕ). IsLabeled labels (start_of (network c) x)) (sym is)
+          (artificial_marked c labels t.step node t.tree (omega (arith, inside, basin)) p.labeled));
       trail = λ t'.
-          let back' = tracing_back c d way r most first node amount s k p t' held ne basin is in
+          let back' = tracing_back c d labels r most first node amount s k p t' held ne basin is in
           let moved = trail_next (network c) (flow_of c) r most (place_of c.nodes t'.tree.rank) (step_of d) (step_of e)
           first first'
           (4 * c.nodes + 8) node amount s (sym before) (p.trail t') back' wr.at wr.others in
@@ -115,32 +117,33 @@ tracing_next c d e way r most first first' node next amount more s k p t held ne
           (subst (λ (x : ℕ). IsTrail (network c) (flow_of c) r most (place_of c.nodes t'.tree.rank) (step_of e) first'
           (4 * c.nodes + 8) (start_of (network c) s) x) (sym room) moved);
       passed = λ i h j. elim (cases_eq i first') [
-        | inl f ↦ subst (λ (x : ℕ). IsPassed c way r x) (sym (ap (step_of e) f ∙ wr.at)) record {
-          reached = subst (λ (u : ℕ). IsReached way u) (sym back.enters) p.reached;
+        | inl f ↦ subst (λ (x : ℕ). IsPassed c labels r x) (sym (ap (step_of e) f ∙ wr.at)) record {
+          labeled = subst (λ (u : ℕ). IsLabeled labels u) (sym back.enters) p.labeled;
           head = λ g. ne (sym back.enters ∙ g);
           basin = λ g. basin (sym back.enters ∙ g);
         }
-        | inr other ↦ subst (λ (x : ℕ). IsPassed c way r x) (sym (wr.others i (omega arith)))
+        | inr other ↦ subst (λ (x : ℕ). IsPassed c labels r x) (sym (wr.others i (omega arith)))
             (p.passed i (omega arith) j)
       ];
     }
 
--- the head of an arc with room is reached where its tail is
-pub head_reached : (c : Contents) (way : List ℕ) (r most : ℕ) → IsLent c way r → r < arcs c → 0 < most →
-    flow_of c r + most ≤ slice_index c.upper r → IsReached way (slice_index c.from r) →
-    IsReached way (slice_index c.to r)
-head_reached c way r most t b positive room m =
+-- the head of an arc with room is labeled where its tail is
+pub head_labeled : (c : Contents) (labels : List ℕ) (r most : ℕ) → HasSomeArtificial c labels r → r < arcs c →
+    0 < most →
+    flow_of c r + most ≤ slice_index c.upper r → IsLabeled labels (slice_index c.from r) →
+    IsLabeled labels (slice_index c.to r)
+head_labeled c labels r most t b positive room m =
     let o = over_forward (network c) (flow_of c) r in
-    subst (λ (u : ℕ). IsReached way u) o.enters
-    (lent_closed c way t.step (2 * r) t.tree (omega (arith, o.arc, b)) (omega (arith, o.room, positive, room))
-    (subst (λ (u : ℕ). IsReached way u) (sym o.starts) m))
+    subst (λ (u : ℕ). IsLabeled labels u) o.enters
+    (artificial_closed c labels t.step (2 * r) t.tree (omega (arith, o.arc, b)) (omega (arith, o.room, positive, room))
+    (subst (λ (u : ℕ). IsLabeled labels u) (sym o.starts) m))
 
 -- the tree comes by the head of the arc
-pub tracing_head : (c d e : Contents) (way : List ℕ) (r most first first' node amount s : ℕ) → IsCirculation c →
-    r < arcs c → IsTracing c d way r most first node amount → IsLent c way r →
+pub tracing_head : (c d e : Contents) (labels : List ℕ) (r most first first' node amount s : ℕ) → IsCirculation c →
+    r < arcs c → IsTracing c d labels r most first node amount → HasSomeArtificial c labels r →
     flow_of c r + most ≤ slice_index c.upper r → node ≡ slice_index c.to r → s ≡ 2 * r → first' + 1 ≡ first →
-    e ≡ record d { scratch = slice_set d.scratch (first - 1) s } → IsTraced c e way r most first' amount
-tracing_head c d e way r most first first' node amount s k b p t room is step before written =
+    e ≡ record d { scratch = slice_set d.scratch (first - 1) s } → IsTraced c e labels r most first' amount
+tracing_head c d e labels r most first first' node amount s k b p t room is step before written =
     let trail = p.trail t in
     let wr = wrote d e first first' s written before (omega (arith, long_as c d p.rest p.kept, trail.within)) in
     let home = subst (λ (u : ℕ). IsTrail (network c) (flow_of c) r most (place_of c.nodes t.tree.rank) (step_of d) first
@@ -148,35 +151,36 @@ tracing_head c d e way r most first first' node amount s k b p t room is step be
     record {
       rest = rest_more c d e (slice_set d.scratch (first - 1) s) p.rest written;
       some = omega (arith, before, trail.within);
-      front = omega (arith, before, trail.space);
+      prefix = omega (arith, before, trail.space);
       walk = λ positive. trail_closed (network c) (flow_of c) r most (place_of c.nodes t.tree.rank) (step_of d)
           (step_of e) first first' (4 * c.nodes + 8) amount s k.ends b (sym before) home (omega (arith, room)) step
           wr.at wr.others;
       limit = trail.limit;
       forward = wr.at ∙ step;
       ends = λ i h j. elim (cases_eq i first') [
-        | inl f ↦ subst (λ (u : ℕ). IsReached way u)
+        | inl f ↦ subst (λ (u : ℕ). IsLabeled labels u)
             (is ∙ sym (ap (λ (x : ℕ). end_of (network c) (step_of e x)) f ∙ ap (end_of (network c)) (wr.at ∙ step)
-            ∙ (over_forward (network c) (flow_of c) r).enters)) p.reached
-        | inr other ↦ subst (λ (x : ℕ). IsReached way (end_of (network c) x)) (sym (wr.others i (omega arith)))
-            (p.passed i (omega arith) j).reached
+            ∙ (over_forward (network c) (flow_of c) r).enters)) p.labeled
+        | inr other ↦ subst (λ (x : ℕ). IsLabeled labels (end_of (network c) x)) (sym (wr.others i (omega arith)))
+            (p.passed i (omega arith) j).labeled
       ];
     }
 
 -- the tree came from the outside, and the walk goes out by the exit
-pub tracing_exit : (c d d' e : Contents) (way : List ℕ) (r x most first first' first'' node amount more s s' : ℕ) →
-    IsCirculation c → r < arcs c → 0 < most → IsTracing c d way r most first node amount → IsLent c way r →
-    flow_of c r + most ≤ slice_index c.upper r → IsReached way (slice_index c.from r) → IsExit c r x →
+pub tracing_exit : (c d d' e : Contents) (labels : List ℕ) (r x most first first' first'' node amount more s s' : ℕ) →
+    IsCirculation c → r < arcs c → 0 < most → IsTracing c d labels r most first node amount →
+    HasSomeArtificial c labels r →
+    flow_of c r + most ≤ slice_index c.upper r → IsLabeled labels (slice_index c.from r) → IsExit c r x →
     node ≢ slice_index c.to r → node ≡ c.nodes → s ≡ 2 * x → s' ≡ 2 * r →
     more ≡ min amount (room_of (network d) (flow_of d) s) → first' + 1 ≡ first → first'' + 1 ≡ first' →
     d' ≡ record d { scratch = slice_set d.scratch (first - 1) s } → IsCirculation d' →
-    e ≡ record d' { scratch = slice_set d'.scratch (first' - 1) s' } → IsTraced c e way r most first'' more
-tracing_exit c d d' e way r x most first first' first'' node amount more s s' k b some p t room m exit ne is step_x
+    e ≡ record d' { scratch = slice_set d'.scratch (first' - 1) s' } → IsTraced c e labels r most first'' more
+tracing_exit c d d' e labels r x most first first' first'' node amount more s s' k b some p t room m exit ne is step_x
     step_r is_more before before' written kept' written' =
     let trail = p.trail t in
     let apart : slice_index c.to r ≢ c.nodes = λ f. ne (is ∙ sym f) in
     let ex = exit apart in
-    let head = head_reached c way r most t b some room m in
+    let head = head_labeled c labels r most t b some room m in
     let rest' = rest_more c d d' (slice_set d.scratch (first - 1) s) p.rest written in
     let wr = wrote d d' first first' s written before (omega (arith, long_as c d p.rest p.kept, trail.within)) in
     let wr' = wrote d' e first' first'' s' written' before'
@@ -194,7 +198,7 @@ tracing_exit c d d' e way r x most first first' first'' node amount more s s' k 
     record {
       rest = rest_more c d' e (slice_set d'.scratch (first' - 1) s') rest' written';
       some = omega (arith, before, before', trail.within);
-      front = omega (arith, before, before', trail.space);
+      prefix = omega (arith, before, before', trail.space);
       walk = λ positive. trail_exit (network c) (flow_of c) r x most (place_of c.nodes t.tree.rank) (step_of d)
           (step_of e) first first'' (4 * c.nodes + 8) amount more k.ends b ex.0 (omega (arith, before, before')) home
           (omega (arith, room)) (wr'.at ∙ step_r) second others ex.1 ex.2 apart
@@ -204,24 +208,25 @@ tracing_exit c d d' e way r x most first first' first'' node amount more s s' k 
       forward = wr'.at ∙ step_r;
       ends = λ i h j. elim (cases_lt i first) [
         | inl near ↦ elim (cases_eq i first'') [
-          | inl f ↦ subst (λ (u : ℕ). IsReached way u)
+          | inl f ↦ subst (λ (u : ℕ). IsLabeled labels u)
               (sym (ap (λ (y : ℕ). end_of (network c) (step_of e y)) f ∙ ap (end_of (network c)) (wr'.at ∙ step_r)
               ∙ (over_forward (network c) (flow_of c) r).enters)) head
           | inr other ↦
               let here : i ≡ first'' + 1 = omega (arith, h, near, before, before', other) in
-              subst (λ (u : ℕ). IsReached way u)
+              subst (λ (u : ℕ). IsLabeled labels u)
               (is ∙ sym (ap (λ (y : ℕ). end_of (network c) (step_of e y)) here ∙ ap (end_of (network c)) second
-              ∙ over_exit.enters ∙ ex.2)) p.reached
+              ∙ over_exit.enters ∙ ex.2)) p.labeled
         ]
-        | inr far ↦ subst (λ (y : ℕ). IsReached way (end_of (network c) y)) (sym (others i far))
-            (p.passed i far j).reached
+        | inr far ↦ subst (λ (y : ℕ). IsLabeled labels (end_of (network c) y)) (sym (others i far))
+            (p.passed i far j).labeled
       ];
     }
 
 -- there is room for two more words in front
-pub tracing_space : (c d : Contents) (way : List ℕ) (r most first node amount : ℕ) →
-    IsTracing c d way r most first node amount → IsLent c way r → (2 ≤ first) × (first ≤ 4 * d.nodes + 8)
-tracing_space c d way r most first node amount p t =
+pub tracing_space : (c d : Contents) (labels : List ℕ) (r most first node amount : ℕ) →
+    IsTracing c d labels r most first node amount → HasSomeArtificial c labels r → (2 ≤ first) ×
+    (first ≤ 4 * d.nodes + 8)
+tracing_space c d labels r most first node amount p t =
     let trail = p.trail t in (
       omega (arith, trail.space),
       omega (arith, trail.within, ap (λ (x : Contents). 4 * x.nodes + 8) p.rest),

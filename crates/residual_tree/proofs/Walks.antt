@@ -7,26 +7,26 @@ use Rattle.circulation.specs.Contents.{Contents, network, flow_of, IsCirculation
 use Rattle.circulation.specs.Residual.{arc_of, start_of, end_of, room_of, IsClosedWalk}
 use Rattle.augment.proofs.Trees.{start_within}
 use Rattle.augment.proofs.Trails.{IsTrail, IsWayBack}
-use Rattle.residual_tree.specs.Tree.{word_of, IsReached}
-use Rattle.residual_tree.specs.Growth.{IsLent}
+use Rattle.residual_tree.specs.Tree.{label_of, IsLabeled}
+use Rattle.residual_tree.specs.Repair.{HasSomeArtificial}
 use Rattle.residual_tree.proofs.Overs.{over_forward, over_either}
 use Rattle.residual_tree.proofs.Ranks.{place_of, place_positive, place_falls}
 
--- the step by which a basin node other than the head of the arc r is reached, where no flow can be taken back from r
-pub way_back : (c : Contents) (way : List ℕ) (r node s : ℕ) → IsCirculation c → (t : IsLent c way r) →
-    flow_of c r ≤ slice_index c.lower r → node < c.nodes → IsReached way node → node ≢ slice_index c.to r →
-    s ≡ word_of way node - 1 → IsWayBack (network c) (flow_of c) r 1 (place_of c.nodes t.tree.rank) node s
-way_back c way r node s k t held b m ne is =
+-- the step by which a basin node other than the head of the arc r is labeled, where no flow can be taken back from r
+pub way_back : (c : Contents) (labels : List ℕ) (r node s : ℕ) → IsCirculation c → (t : HasSomeArtificial c labels r) →
+    flow_of c r ≤ slice_index c.lower r → node < c.nodes → IsLabeled labels node → node ≢ slice_index c.to r →
+    s ≡ label_of labels node - 1 → IsWayBack (network c) (flow_of c) r 1 (place_of c.nodes t.tree.rank) node s
+way_back c labels r node s k t held b m ne is =
     let branch = t.tree.branch node b m in
-    let marked_room : 0 < room_of (network c) (flow_of c) (word_of way node - 1) = elim (t.tree.room node b m) [
+    let marked_room : 0 < room_of (network c) (flow_of c) (label_of labels node - 1) = elim (t.tree.room node b m) [
       | inl room ↦ room
-      | inr lent ↦ absurd (ne (sym branch.enters ∙ ap (end_of (network c)) lent ∙ t.enters))
+      | inr artificial ↦ absurd (ne (sym branch.enters ∙ ap (end_of (network c)) artificial ∙ t.enters))
     ] in
-    let inside = start_within (network c) (word_of way node - 1) k.ends branch.arc in
+    let inside = start_within (network c) (label_of labels node - 1) k.ends branch.arc in
     subst (λ (x : ℕ). IsWayBack (network c) (flow_of c) r 1 (place_of c.nodes t.tree.rank) node x) (sym is)
     record {
       arc = branch.arc;
-      other = λ e. elim (over_either (network c) (flow_of c) (word_of way node - 1)) [
+      other = λ e. elim (over_either (network c) (flow_of c) (label_of labels node - 1)) [
         | inl f ↦ ne (sym branch.enters ∙ f.1.enters ∙ ap (slice_index c.to) e)
         | inr f ↦ omega (
           arith,
@@ -39,8 +39,9 @@ way_back c way r node s k t held b m ne is =
       ];
       enters = branch.enters;
       inside = inside;
-      marked = place_positive c.nodes t.tree.rank (start_of (network c) (word_of way node - 1));
-      before = place_falls c.nodes t.tree.rank (start_of (network c) (word_of way node - 1)) node inside branch.before;
+      marked = place_positive c.nodes t.tree.rank (start_of (network c) (label_of labels node - 1));
+      before = place_falls c.nodes t.tree.rank (start_of (network c) (label_of labels node - 1)) node inside
+          branch.before;
       room = marked_room;
     }
 

@@ -4,8 +4,8 @@ use Rattle.residual_tree.specs.declared.ResidualTree.TheInside.{Inside}
 
 -- the word of each node
 abbrev pub words : Inside → List ℕ
-words i = i.way
+words i = i.labels
 
 -- there is room for all basin nodes among those freed, those reached and the ways that were found
-pub record IsKept (i : Inside) : Type 0 where
-  pub room : length i.room.now + 3 ≡ 3 * length i.way
+pub record HasTreeRoom (i : Inside) : Type 0 where
+  pub room : length i.room.now + 3 ≡ 3 * length i.labels

@@ -3,7 +3,7 @@ use Rattle.std.specs.Prelude.{ℕ, ◌≡◌, ◌<◌, ◌≤◌, ◌↔◌, Boo
 use Rattle.circulation.specs.Contents.{Contents, network, flow_of, arcs, IsCirculation}
 use Rattle.circulation.specs.Residual.{arc_of, start_of, end_of, room_of}
 use Rattle.augment.specs.Raised.{IsGreatestCut}
-use Rattle.residual_tree.specs.Tree.{word_of, IsReached, IsResidualTree, dry}
+use Rattle.residual_tree.specs.Tree.{label_of, IsLabeled, IsResidualTree, unlabeled}
 use Rattle.residual_tree.specs.Raised.{IsRaisedOver}
 
 -- these steps, the last first, are a walk with room from the outside to the node
@@ -14,15 +14,17 @@ IsWalkTo c v (s ∷ path) =
     IsWalkTo c (start_of (network c) s) path
 
 -- the tree reaches exactly the nodes to which such a walk leads
-abbrev pub ReachedIsReachable : Type 0
-ReachedIsReachable = (c : Contents) (way : List ℕ) (v : ℕ) → IsCirculation c → IsResidualTree c way → v ≤ c.nodes →
-    IsReached way v ↔ ((path : List ℕ) × IsWalkTo c v path)
+abbrev pub LabeledIsReachable : Type 0
+LabeledIsReachable = (c : Contents) (labels : List ℕ) (v : ℕ) → IsCirculation c → IsResidualTree c labels →
+    v ≤ c.nodes →
+    IsLabeled labels v ↔ ((path : List ℕ) × IsWalkTo c v path)
 
--- where the tail of an arc is dry and its head is not, the dry nodes are its greatest tight cut
-abbrev pub DryIsGreatestCut : Type 0
-DryIsGreatestCut = (c : Contents) (way : List ℕ) (r : ℕ) → IsCirculation c → IsResidualTree c way → r < arcs c →
-    word_of way (slice_index c.from r) ≡ 0 → IsReached way (slice_index c.to r) →
-    IsGreatestCut (network c) (flow_of c) r (dry c way)
+-- where the tail of an arc is unlabeled and its head is not, the unlabeled nodes are its greatest tight cut
+abbrev pub UnlabeledIsGreatestCut : Type 0
+UnlabeledIsGreatestCut = (c : Contents) (labels : List ℕ) (r : ℕ) → IsCirculation c → IsResidualTree c labels →
+    r < arcs c →
+    label_of labels (slice_index c.from r) ≡ 0 → IsLabeled labels (slice_index c.to r) →
+    IsGreatestCut (network c) (flow_of c) r (unlabeled c labels)
 
 -- the greatest tight cut of an arc does not depend on what is held on the arc itself
 abbrev pub CutStaysWhenHeld : Type 0

@@ -1,8 +1,8 @@
 pub mod Tree
-pub mod DryMarks
+pub mod UnlabeledMarks
 pub mod TreeWords
-pub mod Growth
-pub mod Hanging
+pub mod Repair
+pub mod Adopting
 pub mod Raised
 pub mod Kept
 pub mod Laws

@@ -3,7 +3,7 @@ use Rattle.std.specs.Prelude.{ℕ, ◌≡◌, ◌≢◌, ◌+◌, ◌*◌, ◌<�
 use Rattle.circulation.specs.Contents.{Contents, arcs, network, flow_of, step_of}
 use Rattle.circulation.specs.Residual.{end_of, room_of, IsClosedWalk}
 use Rattle.augment.specs.Search.{SameButScratch}
-use Rattle.residual_tree.specs.Tree.{IsReached}
+use Rattle.residual_tree.specs.Tree.{IsLabeled}
 
 -- only the flow, scratch words and the lower bound of the arc r changed
 pub record IsRaisedOver (old new : Contents) (r : ℕ) : Type 0 where
@@ -19,12 +19,12 @@ IsExit c r x = slice_index c.to r ≢ c.nodes → (x < arcs c) × (slice_index c
 abbrev pub IsFull : Contents → ℕ → Type 0
 IsFull c x = room_of (network c) (flow_of c) (2 * x) ≡ 0
 
--- the scratch words from `first` on are a closed walk over the arc r and nodes that are reached, unless it has no room
-pub record IsTraced (c e : Contents) (way : List ℕ) (r most first amount : ℕ) : Type 0 where
+-- the scratch words from `first` on are a closed walk over the arc r and nodes that are labeled, unless it has no room
+pub record IsTraced (c e : Contents) (labels : List ℕ) (r most first amount : ℕ) : Type 0 where
   pub rest : SameButScratch c e
   pub some : first < 4 * c.nodes + 8
-  pub front : 0 < first
+  pub prefix : 0 < first
   pub walk : 0 < amount → IsClosedWalk (network c) (flow_of c) (step_of e) first (4 * c.nodes + 8) amount
   pub limit : amount ≤ most
   pub forward : step_of e first ≡ 2 * r
-  pub ends : (i : ℕ) → first ≤ i → i < 4 * c.nodes + 8 → IsReached way (end_of (network c) (step_of e i))
+  pub ends : (i : ℕ) → first ≤ i → i < 4 * c.nodes + 8 → IsLabeled labels (end_of (network c) (step_of e i))

@@ -1,10 +1,10 @@
-//! A tree of the nodes that the outside reaches over the residual network of a circulation, kept from push to push.
+//! A tree of the nodes that the outside comes to over the residual network of a circulation, kept from push to push.
 //!
-//! The kept tree is that of Boykov and Kolmogorov, An Experimental Comparison of Min-Cut/Max-Flow Algorithms
-//! for Energy Minimization in Vision (2004), in a simple form: where a step lost its room, the subtree
-//! below it is freed, and grows again from what is still reached. The terms are those of Ahuja, Magnanti
-//! and Orlin, Network Flows (1993), section 2.4. A basin node that the outside doesn't reach is dry.
-//! All amounts are in units of 1,000 cubic metres. A tree lies in words that are borrowed: no call takes memory.
+//! The kept tree is that of Boykov and Kolmogorov, An Experimental Comparison of Min-Cut/Max-Flow Algorithms for Energy
+//! Minimization in Vision (2004), in a simple form: where a step lost its room, the subtree below it is freed, and
+//! grows again from what is still reached. The terms are those of Ahuja, Magnanti and Orlin, Network Flows (1993),
+//! section 2.4. A basin node that the outside doesn't reach is unlabeled. All amounts are in units of 1,000 cubic
+//! metres. A tree lies in words that are borrowed: no call takes memory.
 #![tactic(auto)]
 
 ghost use Rattle.std.specs.Prelude.{◌≡◌, ℕ, ◌+◌, ◌-◌, ◌*◌, ◌<◌, ◌≤◌, ◌==◌, length, slice_index, IsTrue, ◌↔◌};
@@ -12,41 +12,41 @@ ghost use Rattle.circulation.specs.Contents.{arcs, flow_of, step_of, held_conten
 ghost use Rattle.circulation.specs.Residual.{arc_of};
 ghost use Rattle.augment.specs.Search.{SameButScratch};
 ghost use Rattle.bit_words.specs.Marks.{words_for, is_marked};
-ghost use Rattle.residual_tree.specs.Tree.{word_of, IsReached, IsResidualTree, dry};
-ghost use Rattle.residual_tree.specs.Growth.{IsWornTree, IsLentTree};
+ghost use Rattle.residual_tree.specs.Tree.{label_of, IsLabeled, IsResidualTree, unlabeled};
+ghost use Rattle.residual_tree.specs.Repair.{IsSaturatedTree, HasArtificialStep};
 ghost use Rattle.residual_tree.specs.TreeWords.{tree_words};
 
+mod adopting;
 mod freeing;
 mod growing;
-mod hanging;
+mod labels;
 pub mod laws;
 mod parts;
 mod raising;
 mod tracing;
-mod words;
 
-use crate::parts::{grow_all, lend_back, regrow};
-pub use crate::raising::{Pulled, raise_by_tree, raise_within_dry};
-use crate::words::Words;
+use crate::labels::Labels;
+use crate::parts::{grow_all, label_back, regrow};
+pub use crate::raising::{TreeRaised, raise_by_tree, raise_within_unlabeled};
 use bit_words::words_for;
-use circulation::Lent;
+use circulation::CirculationMut;
 use std::marker::Model;
 
 /// The word of the outside node, which no step has.
 const ROOT: u64 = u64::MAX;
 
-/// How many words a tree of so many basin nodes takes.
+/// How many words a tree of a given number of basin nodes takes.
 pub fn tree_words(nodes: u32) -> usize
     ensures { result ≡ tree_words nodes }
 {
     4 * nodes as usize + 1 + words_for(nodes)
 }
 
-/// The tree, by a word for each node and a mark for each that is dry, and room for a search. Contracts see it as the
-/// list of its words.
+/// The tree, by a word for each node and a mark for each that is unlabeled, and room for a search. Contracts see it as
+/// the list of its words.
 #[derive(Drop)]
 pub struct ResidualTree<'t> {
-    way: Words<'t>,
+    labels: Labels<'t>,
     room: &'t mut [u64],
 }
 
@@ -55,68 +55,68 @@ impl<'t> Model for ResidualTree<'t> {
 
     ghost Value = { List ℕ };
 
-    ghost use Rattle.residual_tree.specs.Kept.{words, IsKept};
+    ghost use Rattle.residual_tree.specs.Kept.{words, HasTreeRoom};
 
     ghost view = { words };
 
-    ghost invariant = { IsKept };
+    ghost invariant = { HasTreeRoom };
 }
 
 impl<'t> ResidualTree<'t> {
     /// The tree that grows from the outside alone, over all steps with room, in these words, which may be any.
-    pub fn plant(circ: &Lent<'_>, words: &'t mut [u64]) -> ResidualTree<'t>
+    pub fn plant(circ: &CirculationMut<'_>, words: &'t mut [u64]) -> ResidualTree<'t>
         requires { length words.old ≡ tree_words circ.now.nodes }
         ensures { IsResidualTree circ.now result }
     {
         let nodes = circ.nodes();
-        let (way, words) = words.split_at_mut(nodes as usize + 1);
-        let (dry, room) = words.split_at_mut(words_for(nodes));
-        let mut way = Words::over(way, dry);
-        grow_all(circ, room, &mut way);
-        ResidualTree { way, room }
+        let (labels, words) = words.split_at_mut(nodes as usize + 1);
+        let (unlabeled, room) = words.split_at_mut(words_for(nodes));
+        let mut labels = Labels::over(labels, unlabeled);
+        grow_all(circ, room, &mut labels);
+        ResidualTree { labels, room }
     }
 
     /// Repairs the tree after steps may have lost their room: those that stand in `count` scratch words from word
     /// `first` on. Only nodes below such steps are searched.
-    pub fn repair(&mut self, circ: &Lent<'_>, first: usize, count: usize)
+    pub fn repair(&mut self, circ: &CirculationMut<'_>, first: usize, count: usize)
         requires fits { first + count ≤ 4 * circ.now.nodes + 8 }
         requires arcs { (i : ℕ) → first ≤ i → i < first + count → arc_of (step_of circ.now i) < arcs circ.now }
-        requires worn { IsWornTree circ.now self.old first (first + count) }
+        requires saturated { IsSaturatedTree circ.now self.old first (first + count) }
         ensures { IsResidualTree circ.now self.new }
     {
         // This call tells that the circulation is kept.
         let _nodes = circ.nodes();
-        regrow(circ, self.room, &mut self.way, first, count);
+        regrow(circ, self.room, &mut self.labels, first, count);
     }
 
-    /// The word of a node: 0 where it is dry, else one more than the step by which the outside reaches it.
+    /// The word of a node: 0 where it is unlabeled, else one more than the step by which the outside comes to it.
     fn word(&self, node: u32) -> u64
         requires { node < length self.now }
-        ensures { result ≡ word_of self.now node }
+        ensures { result ≡ label_of self.now node }
     {
-        self.way.get(node)
+        self.labels.get(node)
     }
 
-    /// The marks of the dry nodes, 64 to a word, as `bit_words` has them. The outside has none, and the bits above the
-    /// last basin node's mean nothing.
-    pub fn dry_marks(&self) -> &[u64]
+    /// The marks of the unlabeled nodes, 64 to a word, as `bit_words` has them. The outside has none, and the bits
+    /// above the last basin node's mean nothing.
+    pub fn unlabeled_marks(&self) -> &[u64]
         ensures count { length result.now ≡ words_for (length self.now - 1) }
-        ensures marks { (v : ℕ) → v + 1 < length self.now → is_marked result.now v ≡ (word_of self.now v == 0) }
+        ensures marks { (v : ℕ) → v + 1 < length self.now → is_marked result.now v ≡ (label_of self.now v == 0) }
     {
-        self.way.dry()
+        self.labels.unlabeled()
     }
 
     /// Whether a node is a basin node that the outside does not reach.
-    pub fn is_dry(&self, node: u32) -> bool
+    pub fn is_unlabeled(&self, node: u32) -> bool
         requires { node < length self.now }
-        ensures { IsTrue result ↔ (word_of self.now node ≡ 0) }
+        ensures { IsTrue result ↔ (label_of self.now node ≡ 0) }
     {
-        self.way.get(node) == 0
+        self.labels.get(node) == 0
     }
 
-    /// Holds an amount on an arc, in units of 1,000 cubic metres, as `Lent::hold` does, and repairs the tree. Where as
-    /// much is held already, nothing changes.
-    pub fn hold(&mut self, circ: &mut Lent<'_>, arc: u32, amount: u64)
+    /// Holds an amount on an arc, in units of 1,000 cubic metres, as `CirculationMut::hold` does, and repairs the tree.
+    /// Where as much is held already, nothing changes.
+    pub fn hold(&mut self, circ: &mut CirculationMut<'_>, arc: u32, amount: u64)
         requires arc { arc < arcs circ.old }
         requires amount { amount ≤ flow_of circ.old arc }
         requires tree { IsResidualTree circ.old self.old }
@@ -134,25 +134,25 @@ impl<'t> ResidualTree<'t> {
         self.repair(circ, 0, 1);
     }
 
-    /// Reaches the dry tail of an exit, an arc to the outside, as though the outside lent water back over the
-    /// exit, and all that is below it.
-    pub fn lend(&mut self, circ: &Lent<'_>, exit: u32)
+    /// labels the unlabeled tail of an exit, an arc to the outside, as though the outside artificial water back over
+    /// the exit, and all that is below it.
+    pub fn add_artificial(&mut self, circ: &CirculationMut<'_>, exit: u32)
         requires exit { exit < arcs circ.now }
         requires out { slice_index circ.now.to exit ≡ circ.now.nodes }
-        requires dry { word_of self.old (slice_index circ.now.from exit) ≡ 0 }
+        requires unlabeled { label_of self.old (slice_index circ.now.from exit) ≡ 0 }
         requires tree { IsResidualTree circ.now self.old }
-        ensures tree { IsLentTree circ.now self.new (2 * exit + 1) }
-        ensures head { IsReached self.new (slice_index circ.now.from exit) }
+        ensures tree { HasArtificialStep circ.now self.new (2 * exit + 1) }
+        ensures head { IsLabeled self.new (slice_index circ.now.from exit) }
     {
         // This call tells that the circulation is kept.
         let _nodes = circ.nodes();
-        lend_back(circ, self.room, &mut self.way, exit);
+        label_back(circ, self.room, &mut self.labels, exit);
     }
 
     /// Takes back what was lent over an exit.
-    pub fn settle(&mut self, circ: &mut Lent<'_>, exit: u32)
+    pub fn drop_artificial(&mut self, circ: &mut CirculationMut<'_>, exit: u32)
         requires exit { exit < arcs circ.old }
-        requires tree { IsLentTree circ.old self.old (2 * exit + 1) }
+        requires tree { HasArtificialStep circ.old self.old (2 * exit + 1) }
         ensures kept { IsCirculation circ.new }
         ensures rest { SameButScratch circ.old circ.new }
         ensures tree { IsResidualTree circ.new self.new }

@@ -4,26 +4,26 @@ ghost use Rattle.circulation.specs.Contents.{arcs, flow_of, network, IsCirculati
 ghost use Rattle.circulation.specs.Residual.{arc_of, end_of};
 ghost use Rattle.augment.specs.Raised.{IsGreatestCut};
 ghost use Rattle.augment.specs.Search.{SameButScratch};
-ghost use Rattle.residual_tree.specs.Tree.{word_of, IsReached, IsResidualTree, dry};
-ghost use Rattle.residual_tree.specs.Growth.{IsLentTree};
+ghost use Rattle.residual_tree.specs.Tree.{label_of, IsLabeled, IsResidualTree, unlabeled};
+ghost use Rattle.residual_tree.specs.Repair.{HasArtificialStep};
 ghost use Rattle.residual_tree.specs.Raised.{IsExit, IsFull, IsRaisedOver};
 
 use crate::ResidualTree;
 use crate::tracing::{trace, write_step};
-use circulation::Lent;
+use circulation::CirculationMut;
 use std::sync::ledger::Ledger;
 use steps::Steps;
 
 /// One push along the walk over the arc, the exit and the tree, after which the flow of the arc is held and the tree
-/// repaired. The step `lent` to the head of the arc may have no room. Answers whether there was room for the
+/// repaired. The step `artificial` to the head of the arc may have no room. Answers whether there was room for the
 /// push, which lacks only where the walk goes over the exit and that has none.
 fn round<L: Ledger>(
-    circ: &mut Lent<'_>,
+    circ: &mut CirculationMut<'_>,
     tree: &mut ResidualTree<'_>,
     arc: u32,
     exit: u32,
     most: u64,
-    lent: u64,
+    artificial: u64,
     searches: &mut Steps<L>,
 ) -> bool
     requires arc { arc < arcs circ.old }
@@ -31,10 +31,10 @@ fn round<L: Ledger>(
     requires most { flow_of circ.old arc + most ≤ slice_index circ.old.upper arc }
     requires held { flow_of circ.old arc ≡ slice_index circ.old.lower arc }
     requires exit { IsExit circ.old arc exit }
-    requires lent_arc { arc_of lent < arcs circ.old }
-    requires lent_end { end_of (network circ.old) lent ≡ slice_index circ.old.to arc }
-    requires tree { IsLentTree circ.old tree.old lent }
-    requires reached { IsReached tree.old (slice_index circ.old.from arc) }
+    requires artificial_arc { arc_of artificial < arcs circ.old }
+    requires artificial_end { end_of (network circ.old) artificial ≡ slice_index circ.old.to arc }
+    requires tree { HasArtificialStep circ.old tree.old artificial }
+    requires labeled { IsLabeled tree.old (slice_index circ.old.from arc) }
     requires kept { IsCirculation circ.old }
     ensures kept { IsCirculation circ.new }
     ensures rest { IsRaisedOver circ.old circ.new arc }
@@ -55,19 +55,19 @@ fn round<L: Ledger>(
     circ.push(walk.first, count, walk.amount, searches);
     let flow = circ.flow(arc);
     circ.hold(arc, flow);
-    let first = write_step(circ, walk.first, lent);
+    let first = write_step(circ, walk.first, artificial);
     tree.repair(circ, first, count + 1);
     true
 }
 
-/// Pushes as long as the flow on the arc is less than wanted and its tail is reached, and at most so often.
-fn pull<L: Ledger>(
-    circ: &mut Lent<'_>,
+/// Pushes as long as the flow on the arc is less than wanted and its tail is labeled, and at most so often.
+fn raise_labeled<L: Ledger>(
+    circ: &mut CirculationMut<'_>,
     tree: &mut ResidualTree<'_>,
     arc: u32,
     exit: u32,
     want: u64,
-    most_pushes: u32,
+    max_pushes: u32,
     searches: &mut Steps<L>,
 )
     requires arc { arc < arcs circ.old }
@@ -83,16 +83,16 @@ fn pull<L: Ledger>(
     ensures tree { IsResidualTree circ.new tree.new }
     ensures rises { flow_of circ.old arc ≤ flow_of circ.new arc }
     ensures limit { flow_of circ.new arc ≤ want }
-    ensures cost { searches.new ≤ searches.old + most_pushes }
+    ensures cost { searches.new ≤ searches.old + max_pushes }
     ensures each { flow_of circ.old arc + (searches.new - searches.old) ≤ flow_of circ.new arc }
-    ensures why { flow_of circ.new arc < want → IsReached tree.new (slice_index circ.old.from arc) →
-        (searches.new ≡ searches.old + most_pushes) ⊎
+    ensures why { flow_of circ.new arc < want → IsLabeled tree.new (slice_index circ.old.from arc) →
+        (searches.new ≡ searches.old + max_pushes) ⊎
         ((slice_index circ.old.to arc ≢ circ.old.nodes) × IsFull circ.new exit) }
     ensures count { searches.old ≤ searches.new }
     ensures still { searches.new ≡ searches.old → SameButScratch circ.old circ.new }
 {
     let tail = circ.ends(arc).from;
-    for _pushes in 0..most_pushes {
+    for _pushes in 0..max_pushes {
         let flow = circ.flow(arc);
         if flow == want {
             return;
@@ -100,8 +100,8 @@ fn pull<L: Ledger>(
         if tree.word(tail) == 0 {
             return;
         }
-        let lent = 2 * u64::from(arc);
-        if !round(circ, tree, arc, exit, want - flow, lent, searches) {
+        let artificial = 2 * u64::from(arc);
+        if !round(circ, tree, arc, exit, want - flow, artificial, searches) {
             return;
         }
     }
@@ -109,28 +109,28 @@ fn pull<L: Ledger>(
 
 /// What a raise by the tree came to.
 #[derive(Clone, Copy, Debug, PartialEq, Eq)]
-pub enum Pulled {
+pub enum TreeRaised {
     /// The flow on the arc is what was wanted.
     Met,
-    /// The flow on the arc is less than what was wanted, and its tail is dry.
-    Dry,
+    /// The flow on the arc is less than what was wanted, and its tail is unlabeled.
+    Stopped,
     /// The flow on the arc is less than what was wanted: the pushes were used up, or the exit has no room.
     Unfinished,
 }
 
-/// Raises the flow on an arc towards `want`, in units of 1,000 cubic metres, by at most `most_pushes` pushes along the
-/// tree, each of which ticks `searches` once. The flow on the arc is held as it rises. Where the head of the arc
-/// is not the outside, `exit` is an arc from there to the outside. Each push costs about as much as the
-/// walk is long, and as there are arcs at the nodes below the steps that it fills.
+/// Raises the flow on an arc towards `want`, in units of 1,000 cubic metres, by at most `max_pushes` pushes along the
+/// tree, each of which ticks `searches` once. The flow on the arc is held as it rises. Where the head of the arc is not
+/// the outside, `exit` is an arc from there to the outside. Each push costs about as much as the walk is long, and as
+/// there are arcs at the nodes below the steps that it fills.
 pub fn raise_by_tree<L: Ledger>(
-    circ: &mut Lent<'_>,
+    circ: &mut CirculationMut<'_>,
     tree: &mut ResidualTree<'_>,
     arc: u32,
     exit: u32,
     want: u64,
-    most_pushes: u32,
+    max_pushes: u32,
     searches: &mut Steps<L>,
-) -> Pulled
+) -> TreeRaised
     requires arc { arc < arcs circ.old }
     requires want { want ≤ slice_index circ.old.upper arc }
     requires less { flow_of circ.old arc ≤ want }
@@ -143,19 +143,19 @@ pub fn raise_by_tree<L: Ledger>(
     ensures tree { IsResidualTree circ.new tree.new }
     ensures rises { flow_of circ.old arc ≤ flow_of circ.new arc }
     ensures limit { flow_of circ.new arc ≤ want }
-    ensures met { (result ≡ Pulled.Met) ↔ (flow_of circ.new arc ≡ want) }
+    ensures met { (result ≡ TreeRaised.Met) ↔ (flow_of circ.new arc ≡ want) }
 
-    // After Dry the dry nodes are the greatest tight cut of the arc, where its head is the outside or reached.
-    ensures dry { result ≡ Pulled.Dry → word_of tree.new (slice_index circ.old.from arc) ≡ 0 }
-    ensures cut { result ≡ Pulled.Dry → IsReached tree.new (slice_index circ.old.to arc) →
-        IsGreatestCut (network circ.new) (flow_of circ.new) arc (dry circ.new tree.new) }
+    // After Dry the unlabeled nodes are the greatest tight cut of the arc, where its head is the outside or reached.
+    ensures unlabeled { result ≡ TreeRaised.Stopped → label_of tree.new (slice_index circ.old.from arc) ≡ 0 }
+    ensures cut { result ≡ TreeRaised.Stopped → IsLabeled tree.new (slice_index circ.old.to arc) →
+        IsGreatestCut (network circ.new) (flow_of circ.new) arc (unlabeled circ.new tree.new) }
 
     // Each push raises the flow, and Unfinished comes only where all pushes were made, or where the head is not the
     // outside and the exit is full.
     ensures count { searches.old ≤ searches.new }
-    ensures cost { searches.new ≤ searches.old + most_pushes }
+    ensures cost { searches.new ≤ searches.old + max_pushes }
     ensures each { flow_of circ.old arc + (searches.new - searches.old) ≤ flow_of circ.new arc }
-    ensures unfinished { result ≡ Pulled.Unfinished → (searches.new ≡ searches.old + most_pushes) ⊎
+    ensures unfinished { result ≡ TreeRaised.Unfinished → (searches.new ≡ searches.old + max_pushes) ⊎
         ((slice_index circ.old.to arc ≢ circ.old.nodes) × IsFull circ.new exit) }
 
     // Without a push, an arc that was held at its flow leaves all as it was but scratch words.
@@ -164,30 +164,30 @@ pub fn raise_by_tree<L: Ledger>(
 {
     let start = circ.flow(arc);
     tree.hold(circ, arc, start);
-    pull(circ, tree, arc, exit, want, most_pushes, searches);
+    raise_labeled(circ, tree, arc, exit, want, max_pushes, searches);
     if circ.flow(arc) == want {
-        return Pulled::Met;
+        return TreeRaised::Met;
     }
     let tail = circ.ends(arc).from;
     if tree.word(tail) == 0 {
-        Pulled::Dry
+        TreeRaised::Stopped
     } else {
-        Pulled::Unfinished
+        TreeRaised::Unfinished
     }
 }
 
-/// Raises the flow on an arc within the dry nodes, where its head is dry too: by walks from the head to the tail, which
-/// need no water. After Dry the tree is lent over the exit, so that `settle` has to follow; until then the
-/// nodes that it does not reach are the greatest tight cut of the arc. The rest is as at `raise_by_tree`.
-pub fn raise_within_dry<L: Ledger>(
-    circ: &mut Lent<'_>,
+/// Raises the flow on an arc within the unlabeled nodes, where its head is unlabeled too: by walks from the head to the
+/// tail, which need no water. After Dry the tree is lent over the exit, so that `drop_artificial` has to follow; until
+/// then the nodes that it does not reach are the greatest tight cut of the arc. The rest is as at `raise_by_tree`.
+pub fn raise_within_unlabeled<L: Ledger>(
+    circ: &mut CirculationMut<'_>,
     tree: &mut ResidualTree<'_>,
     arc: u32,
     exit: u32,
     want: u64,
-    most_pushes: u32,
+    max_pushes: u32,
     searches: &mut Steps<L>,
-) -> Pulled
+) -> TreeRaised
     requires arc { arc < arcs circ.old }
     requires want { want ≤ slice_index circ.old.upper arc }
     requires less { flow_of circ.old arc ≤ want }
@@ -202,46 +202,46 @@ pub fn raise_within_dry<L: Ledger>(
     ensures held { flow_of circ.new arc ≡ slice_index circ.new.lower arc }
     ensures rises { flow_of circ.old arc ≤ flow_of circ.new arc }
     ensures limit { flow_of circ.new arc ≤ want }
-    ensures met { (result ≡ Pulled.Met) ↔ (flow_of circ.new arc ≡ want) }
-    ensures tree { result ≢ Pulled.Dry → IsResidualTree circ.new tree.new }
+    ensures met { (result ≡ TreeRaised.Met) ↔ (flow_of circ.new arc ≡ want) }
+    ensures tree { result ≢ TreeRaised.Stopped → IsResidualTree circ.new tree.new }
 
     // After Dry no flow has more on the arc.
-    ensures lent { result ≡ Pulled.Dry → IsLentTree circ.new tree.new (2 * exit + 1) }
-    ensures cut { result ≡ Pulled.Dry →
-        IsGreatestCut (network circ.new) (flow_of circ.new) arc (dry circ.new tree.new) }
+    ensures artificial { result ≡ TreeRaised.Stopped → HasArtificialStep circ.new tree.new (2 * exit + 1) }
+    ensures cut { result ≡ TreeRaised.Stopped →
+        IsGreatestCut (network circ.new) (flow_of circ.new) arc (unlabeled circ.new tree.new) }
 
     // Each push raises the flow, and Unfinished comes only where all pushes were made, the exit is full, or the head is
     // not dry. Before the first push the head is as it was at first.
     ensures count { searches.old ≤ searches.new }
-    ensures cost { searches.new ≤ searches.old + most_pushes }
+    ensures cost { searches.new ≤ searches.old + max_pushes }
     ensures each { flow_of circ.old arc + (searches.new - searches.old) ≤ flow_of circ.new arc }
-    ensures unfinished { result ≡ Pulled.Unfinished → (searches.new ≡ searches.old + most_pushes) ⊎
-        (IsFull circ.new exit ⊎ IsReached tree.new (slice_index circ.old.to arc)) }
-    ensures at_first { result ≡ Pulled.Unfinished → searches.new ≡ searches.old → 0 < most_pushes →
-        IsFull circ.new exit ⊎ IsReached tree.old (slice_index circ.old.to arc) }
+    ensures unfinished { result ≡ TreeRaised.Unfinished → (searches.new ≡ searches.old + max_pushes) ⊎
+        (IsFull circ.new exit ⊎ IsLabeled tree.new (slice_index circ.old.to arc)) }
+    ensures at_first { result ≡ TreeRaised.Unfinished → searches.new ≡ searches.old → 0 < max_pushes →
+        IsFull circ.new exit ⊎ IsLabeled tree.old (slice_index circ.old.to arc) }
 {
     let ends = circ.ends(arc);
-    for _pushes in 0..most_pushes {
+    for _pushes in 0..max_pushes {
         let flow = circ.flow(arc);
         if flow == want {
-            return Pulled::Met;
+            return TreeRaised::Met;
         }
         if tree.word(ends.to) != 0 {
-            return Pulled::Unfinished;
+            return TreeRaised::Unfinished;
         }
-        tree.lend(circ, exit);
+        tree.add_artificial(circ, exit);
         if tree.word(ends.from) == 0 {
-            return Pulled::Dry;
+            return TreeRaised::Stopped;
         }
-        let lent = 2 * u64::from(exit) + 1;
-        if !round(circ, tree, arc, exit, want - flow, lent, searches) {
-            tree.settle(circ, exit);
-            return Pulled::Unfinished;
+        let artificial = 2 * u64::from(exit) + 1;
+        if !round(circ, tree, arc, exit, want - flow, artificial, searches) {
+            tree.drop_artificial(circ, exit);
+            return TreeRaised::Unfinished;
         }
     }
     if circ.flow(arc) == want {
-        Pulled::Met
+        TreeRaised::Met
     } else {
-        Pulled::Unfinished
+        TreeRaised::Unfinished
     }
 }

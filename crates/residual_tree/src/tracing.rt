@@ -1,12 +1,12 @@
 //! The closed walk along which a raise pushes.
 ghost use Rattle.std.specs.Prelude.{◌≡◌, ◌≢◌, ◌+◌, ◌-◌, ◌*◌, ◌<◌, ◌≤◌, slice_index, slice_set};
 ghost use Rattle.circulation.specs.Contents.{arcs, flow_of, IsCirculation};
-ghost use Rattle.residual_tree.specs.Tree.{IsReached};
-ghost use Rattle.residual_tree.specs.Growth.{IsLent};
+ghost use Rattle.residual_tree.specs.Tree.{IsLabeled};
+ghost use Rattle.residual_tree.specs.Repair.{HasSomeArtificial};
 ghost use Rattle.residual_tree.specs.Raised.{IsExit, IsFull, IsTraced};
 
 use crate::ResidualTree;
-use circulation::Lent;
+use circulation::CirculationMut;
 use circulation::residual::{room, start};
 
 /// Where a walk begins among the scratch words, up to their end, and how much it can carry.
@@ -17,7 +17,7 @@ pub struct Walk {
 }
 
 /// Writes a step in front of the scratch words from `first` on, and answers where they begin then.
-pub fn write_step(circ: &mut Lent<'_>, first: usize, step: u64) -> usize
+pub fn write_step(circ: &mut CirculationMut<'_>, first: usize, step: u64) -> usize
     requires some { 0 < first }
     requires fits { first ≤ 4 * circ.old.nodes + 8 }
     requires kept { IsCirculation circ.old }
@@ -32,14 +32,20 @@ pub fn write_step(circ: &mut Lent<'_>, first: usize, step: u64) -> usize
 /// Writes the closed walk that goes over the arc, then from its head over the exit to the outside, and then along
 /// the tree to its tail; where the tree comes by the head, the walk goes on from there. It carries the
 /// least of its rooms, and at most `most`.
-pub fn trace(circ: &mut Lent<'_>, tree: &ResidualTree<'_>, arc: u32, exit: u32, most: u64) -> Walk
+pub fn trace(
+    circ: &mut CirculationMut<'_>,
+    tree: &ResidualTree<'_>,
+    arc: u32,
+    exit: u32,
+    most: u64,
+) -> Walk
     requires arc { arc < arcs circ.old }
     requires positive { 0 < most }
     requires most { flow_of circ.old arc + most ≤ slice_index circ.old.upper arc }
     requires held { flow_of circ.old arc ≡ slice_index circ.old.lower arc }
     requires exit { IsExit circ.old arc exit }
-    requires tree { IsLent circ.old tree.now arc }
-    requires reached { IsReached tree.now (slice_index circ.old.from arc) }
+    requires tree { HasSomeArtificial circ.old tree.now arc }
+    requires labeled { IsLabeled tree.now (slice_index circ.old.from arc) }
     requires kept { IsCirculation circ.old }
     ensures kept { IsCirculation circ.new }
     ensures traced { IsTraced circ.old circ.new tree.now arc most result.first result.amount }

@@ -5,11 +5,11 @@ use Rattle.water_model.specs.Valid.{IsValidBasin}
 use Rattle.water_model.specs.declared.item.Item.{Item}
 use Rattle.water_model.specs.declared.types.Basin.{Basin}
 use Rattle.result_reader.specs.Due.{Due, all_due, due_after}
-use Rattle.result_reader.specs.Form.{IsFront}
-use Rattle.result_reader.specs.Laws.{LineSaysItsItem, FrontsAreDue, FrontsAreAccepted, OthersAreOutOfPlace}
+use Rattle.result_reader.specs.Form.{IsPrefix}
+use Rattle.result_reader.specs.Laws.{LineSaysItsItem, PrefixesAreDue, PrefixesAreAccepted, OthersAreOutOfPlace}
 use Rattle.result_reader.specs.Reading.{item_of, read_line}
 use Rattle.result_reader.specs.declared.bad_line.BadLine.TheVariants as bad
-use Rattle.result_reader.proofs.Fronts.{front_due, due_front}
+use Rattle.result_reader.proofs.Prefixes.{prefix_due, due_prefix}
 use Rattle.result_reader.proofs.Sayings.{item_is_said, through}
 use Rattle.result_reader.proofs.Spelled.{item-line}
 
@@ -19,25 +19,25 @@ line_says_its_item b bytes item valid = (
   λ h. ap (item_of b) h.0 ∙ item-line b valid item h.1,
 )
 
-pub fronts_are_due : FrontsAreDue
-fronts_are_due b items valid = (
-  λ h. due_front b valid.few.some_node items h.0 h.1,
-  λ f. front_due b items f,
+pub prefixes_are_due : PrefixesAreDue
+prefixes_are_due b items valid = (
+  λ h. due_prefix b valid.bounded.some_node items h.0 h.1,
+  λ f. prefix_due b items f,
 )
 
 -- an item that is said and may come is answered
 pub may_come : (b : Basin) (before : List Item) (bytes : List ℕ) (item : Item) → item_of b bytes ≡ Ok item →
-    IsFront b (before ++ item ∷ []) →
+    IsPrefix b (before ++ item ∷ []) →
     read_line b before bytes ≡ Ok item
 unfolding read_line
-may_come b before bytes item said front =
-    let t = front_due b (before ++ item ∷ []) front in
+may_come b before bytes item said prefix =
+    let t = prefix_due b (before ++ item ∷ []) prefix in
     rw (said, t.1) refl
 
 -- what is answered is said, and may come
 has_come : (b : Basin) → IsValidBasin b → (before : List Item) (bytes : List ℕ) (item : Item) →
     read_line b before bytes ≡ Ok item →
-    (item_of b bytes ≡ Ok item) × IsFront b (before ++ item ∷ [])
+    (item_of b bytes ≡ Ok item) × IsPrefix b (before ++ item ∷ [])
 unfolding read_line
 has_come b valid before bytes item h =
     let t = through (item_of b bytes)
@@ -46,18 +46,18 @@ has_come b valid before bytes item h =
   where
     by_due : (i : Item) (o : Option Due) → due_after b (all_due b) (before ++ i ∷ []) ≡ o → item_of b bytes ≡ Ok i →
         (if is_some o then Ok i else Err bad.OutOfPlace) ≡ Ok item → (item_of b bytes ≡ Ok item) ×
-        IsFront b (before ++ item ∷ [])
+        IsPrefix b (before ++ item ∷ [])
     by_due i None d said e = let never : Err bad.OutOfPlace ≡ Ok item = e in cc
     by_due i (Some t) d said e =
         let both : Ok i ≡ Ok item = e in
         let is : i ≡ item = cc in (
           said ∙ ap (λ x. Ok x) is,
-          subst (λ (x : Item). IsFront b (before ++ x ∷ [])) is
-              (due_front b valid.few.some_node (before ++ i ∷ []) t d),
+          subst (λ (x : Item). IsPrefix b (before ++ x ∷ [])) is
+              (due_prefix b valid.bounded.some_node (before ++ i ∷ []) t d),
         )
 
-pub fronts_are_accepted : FrontsAreAccepted
-fronts_are_accepted b before bytes item valid = (
+pub prefixes_are_accepted : PrefixesAreAccepted
+prefixes_are_accepted b before bytes item valid = (
   λ h. (let c = has_come b valid before bytes item h in let s = item_is_said b bytes item c.0 in
       (s.spelled, s.of_text, c.1)),
   λ h. may_come b before bytes item (ap (item_of b) h.0 ∙ item-line b valid item h.1) h.2,
@@ -65,7 +65,7 @@ fronts_are_accepted b before bytes item valid = (
 
 -- what may not come is out of place
 may_not_come : (b : Basin) → IsValidBasin b → (before : List Item) (bytes : List ℕ) (item : Item) →
-    item_of b bytes ≡ Ok item → (IsFront b (before ++ item ∷ []) → ⊥) →
+    item_of b bytes ≡ Ok item → (IsPrefix b (before ++ item ∷ []) → ⊥) →
     read_line b before bytes ≡ Err bad.OutOfPlace
 unfolding read_line
 may_not_come b valid before bytes item said never = by_due (due_after b (all_due b) (before ++ item ∷ [])) refl
@@ -73,10 +73,10 @@ may_not_come b valid before bytes item said never = by_due (due_after b (all_due
     by_due : (o : Option Due) → due_after b (all_due b) (before ++ item ∷ []) ≡ o →
         read_line b before bytes ≡ Err bad.OutOfPlace
     by_due None d = rw (said, d) refl
-    by_due (Some t) d = absurd (never (due_front b valid.few.some_node (before ++ item ∷ []) t d))
+    by_due (Some t) d = absurd (never (due_prefix b valid.bounded.some_node (before ++ item ∷ []) t d))
 
 pub others_are_out_of_place : OthersAreOutOfPlace
 others_are_out_of_place b before bytes item valid said = (
-  λ h front. (let never : Err bad.OutOfPlace ≡ Ok item = sym h ∙ may_come b before bytes item said front in cc),
+  λ h prefix. (let never : Err bad.OutOfPlace ≡ Ok item = sym h ∙ may_come b before bytes item said prefix in cc),
   λ never. may_not_come b valid before bytes item said never,
 )

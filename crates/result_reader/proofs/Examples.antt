@@ -1,4 +1,4 @@
--- Lines that are accepted and refused behind others.
+-- Lines that are accepted and refused after others.
 use Rattle.std.proofs.Common.{◌≡◌, ℕ, refl, List, [], ◌∷◌, ◌++◌, replicate}
 use Rattle.std.specs.Prelude.{codes, map, Result, Ok, Err}
 use Rattle.std.specs.Fmt.{digits}
@@ -6,7 +6,7 @@ use Rattle.water_text.specs.Amounts.{read_amount, read_plain}
 use Rattle.water_text.specs.Months.{read_month}
 use Rattle.water_text.specs.Names.{is_name}
 use Rattle.water_text.specs.Shapes.{has_shape}
-use Rattle.water_model.specs.Places.{numbers_from, by_seniority}
+use Rattle.water_model.specs.Indices.{numbers_from, by_seniority}
 use Rattle.water_model.specs.declared.item.Item.{Item}
 use Rattle.water_model.specs.declared.item.Item.TheVariants as line
 use Rattle.water_model.specs.declared.quantity.Quantity.TheVariants as quantity
@@ -21,7 +21,7 @@ use Rattle.result_reader.specs.declared.bad_line.BadLine.TheVariants as bad
 abbrev basin : Basin
 basin = stream 50 (new 1920 ∷ old ∷ [])
 
--- the items before, a line, and what it says behind them
+-- the items before, a line, and what it says after them
 abbrev Case : Type 0
 Case = List Item × List ℕ × Result Item BadLine
 
@@ -50,15 +50,15 @@ answers : Answers
     ∷ (january, codes "flow b 0", Err bad.OutOfPlace)
     ∷ (january, codes "flow c 0", Err bad.OutOfPlace)
     ∷ (january, codes "flow a 60", Ok (line.Amount quantity.Flow 0 60))
-    -- a node behind no call, a call with no node, and an earlier node
+    -- a node after no call, a call with no node, and an earlier node
     ∷ (outflows, codes "in top", Err bad.OutOfPlace)
     ∷ (outflows ++ line.Call 1 ∷ [], codes "end", Err bad.OutOfPlace)
     ∷ (outflows ++ line.Call 1 ∷ line.Member 1 ∷ [], codes "in top", Err bad.OutOfPlace)
-    -- the senior right called behind the junior, a junior caller, and a senior one
+    -- the senior right called after the junior, a junior caller, and a senior one
     ∷ (outflows ++ line.Call 0 ∷ line.Member 1 ∷ [], codes "call old", Err bad.OutOfPlace)
     ∷ (outflows, codes "called old new", Err bad.OutOfPlace)
     ∷ (outflows, codes "called new old", Ok (line.Called 0 1))
-    -- another number of months, and a line behind the end
+    -- another number of months, and a line after the end
     ∷ (outflows ++ line.End ∷ [], codes "done 2", Err bad.OutOfPlace)
     ∷ (outflows ++ line.End ∷ line.Done 1 ∷ [], codes "river-result 1", Err bad.OutOfPlace)
     ∷ [])

@@ -4,7 +4,7 @@ use Rattle.std.proofs.Common.{length, inl, inr}
 use Rattle.std.specs.Prelude.{◌&&◌, not, Some, None}
 use Rattle.std.specs.List.{list_all, list_any}
 use Rattle.water_model.specs.declared.types.Basin.{Basin}
-use Rattle.water_model.specs.Places.{numbers_from, members_from}
+use Rattle.water_model.specs.Indices.{numbers_from, members_from}
 use Rattle.result_reader.specs.Form.{shape_of, is_optional, fits}
 use Rattle.result_reader.specs.Form.{IsFollowedBy, Fills}
 use Rattle.result_reader.specs.Due.{is_call, is_member, is_member_shape, opened, take_line, step}
@@ -79,12 +79,12 @@ fills_accepted b (d ∷ ds) items (inr (i, members, others, f, group, are, h)) =
 
     by_item : IsPlain b i → accepts b false ds others ≡ true → accepts b false (d ∷ ds) (i ∷ (members ++ others)) ≡ true
     by_item (call right is) rest =
-        first ∙ behind_call right is (subst (λ (x : Item). IsFollowedBy b x members) is group) rest
+        first ∙ after_call right is (subst (λ (x : Item). IsFollowedBy b x members) is group) rest
       where
-        behind_call : (right : ℕ) → i ≡ line.Call right → IsFollowedBy b (line.Call right) members →
+        after_call : (right : ℕ) → i ≡ line.Call right → IsFollowedBy b (line.Call right) members →
             accepts b false ds others ≡ true →
             accepts b (is_call i) (opened b i ++ ds) (members ++ others) ≡ true
-        behind_call right is (set, sized, some, named) rest =
+        after_call right is (set, sized, some, named) rest =
             rw (is, named, ← sized) (members_forward b ds others set true 0 rest (λ t. some))
     by_item (other none still nothing _) rest = first ∙ rw (none, still, nothing members group) rest
 
@@ -93,7 +93,7 @@ fills_accepted b (d ∷ ds) items (inr (i, members, others, f, group, are, h)) =
 abbrev pub has_no_members : List Shape → Bool
 has_no_members ds = list_all (λ d. not (is_member_shape d)) ds
 
--- the lines begin with the nodes of a set, and the others are accepted behind them
+-- the lines begin with the nodes of a set, and the others are accepted after them
 pub record SplitsAt (b : Basin) (ds : List Shape) (must : Bool) (k n : ℕ) (items : List Item) : Type 0 where
   pub set : List Bool
   pub sized : length set ≡ n

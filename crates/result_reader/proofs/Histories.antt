@@ -40,7 +40,7 @@ pub IsTextMonth-Follows : (b : Basin) (series : Inflows) (before : List MonthRec
     Follows b series before m → HasTextAmounts m →
     IsTextMonth b series before m
 IsTextMonth-Follows b series before m f amounts = record {
-  month = f.behind;
+  month = f.after;
   sets = record {
     short = λ r l short. (let s = f.short r l short in
         (s.0, s.1, s.2.is_cut.one_each, cut_has_some b (taking_node b r) (instream_link b r) s.0 s.2.is_cut.separates));

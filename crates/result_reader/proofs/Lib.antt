@@ -1,6 +1,6 @@
 pub mod Steps
 pub mod Grammar
-pub mod Fronts
+pub mod Prefixes
 pub mod Placing
 pub mod Members
 pub mod Growing
@@ -14,9 +14,9 @@ pub mod Spelled
 pub mod Accepting
 pub mod Telling
 pub mod Sets
-pub mod MonthTold
+pub mod MonthRead
 pub mod WholeMonth
-pub mod AllTold
+pub mod AllRead
 pub mod OfTexts
 pub mod OneReading
 mod Examples

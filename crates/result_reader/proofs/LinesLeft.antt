@@ -5,11 +5,11 @@ use Rattle.std.specs.Prelude.{Some, None, is_some, not, ◌&&◌, if◌then◌el
 use Rattle.std.specs.List.{flat_map}
 use Rattle.std.proofs.Math.Nat.{mul-le-mul}
 use Rattle.std.proofs.lemmas.List.Sums.{sum_by-append, sum_by-cons}
-use Rattle.water_model.proofs.Entries.{few_in, length-in_order}
+use Rattle.water_model.proofs.Entries.{bounded_in, length-in_order}
 use Rattle.water_model.proofs.Order.{length-numbers_from}
 use Rattle.water_model.specs.Basin.{taking_node}
 use Rattle.water_model.specs.Entries.{count_in, in_order}
-use Rattle.water_model.specs.Places.{numbers_from}
+use Rattle.water_model.specs.Indices.{numbers_from}
 use Rattle.water_model.specs.Quantities.{has_line}
 use Rattle.water_model.specs.Text.{section_space}
 use Rattle.water_model.specs.Hydrology.{run_month}
@@ -22,7 +22,7 @@ use Rattle.water_model.specs.declared.types.Basin.{Basin}
 use Rattle.result_reader.specs.Due.{is_member, opened, take_line, step}
 use Rattle.result_reader.specs.Form.{shape_of, is_optional, fits, shapes_at, shapes_in, due, due_in_month}
 use Rattle.result_reader.specs.Form.{due_for_month, due_from}
-use Rattle.result_reader.specs.Standing.{most_for, most_lines}
+use Rattle.result_reader.specs.Standing.{most_for, max_lines}
 use Rattle.result_reader.specs.declared.shape.Shape.{Shape}
 use Rattle.result_reader.specs.declared.shape.Shape.TheVariants as shape
 use Rattle.result_reader.proofs.Grammar.{plain}
@@ -42,38 +42,38 @@ most_for-some b (shape.Called right) = omega arith
 most_for-some b shape.End = omega arith
 most_for-some b (shape.Done months) = omega arith
 
--- so many lines for each entry of a list
-most_lines-map : (b : Basin) (f : ℕ → Shape) (n : ℕ) → ((x : ℕ) → most_for b (f x) ≡ n) → (xs : List ℕ) →
-    most_lines b (map f xs) ≡ n * length xs
-most_lines-map b f n h [] = omega arith
-most_lines-map b f n h (x ∷ xs) =
+-- a given number of lines for each entry of a list
+max_lines-map : (b : Basin) (f : ℕ → Shape) (n : ℕ) → ((x : ℕ) → most_for b (f x) ≡ n) → (xs : List ℕ) →
+    max_lines b (map f xs) ≡ n * length xs
+max_lines-map b f n h [] = omega arith
+max_lines-map b f n h (x ∷ xs) =
     sum_by-cons (most_for b) (f x) (map f xs)
-    ∙ more (most_for b (f x)) (most_lines b (map f xs)) (length xs) (h x) (most_lines-map b f n h xs)
+    ∙ more (most_for b (f x)) (max_lines b (map f xs)) (length xs) (h x) (max_lines-map b f n h xs)
   where
     more : (w m k : ℕ) → w ≡ n → m ≡ n * k → w + m ≡ n * suc k
     more w m k e g = omega arith
 
 -- the lines that a line opens are fewer than those that were due for it
-opened-fewer : (b : Basin) (i : Item) → most_lines b (opened b i) + 1 ≤ most_for b (shape_of i)
+opened-fewer : (b : Basin) (i : Item) → max_lines b (opened b i) + 1 ≤ most_for b (shape_of i)
 opened-fewer b i = by_item (plain b i)
   where
-    by_item : IsPlain b i → most_lines b (opened b i) + 1 ≤ most_for b (shape_of i)
+    by_item : IsPlain b i → max_lines b (opened b i) + 1 ≤ most_for b (shape_of i)
     by_item (call right is) =
         rw is (omega (
           arith,
-          most_lines-map b (λ n. shape.Member n) 1 (λ n. refl) (numbers_from 0 (length b.nodes)),
+          max_lines-map b (λ n. shape.Member n) 1 (λ n. refl) (numbers_from 0 (length b.nodes)),
           length-numbers_from 0 (length b.nodes),
         ))
     by_item (other none still nothing empty) = rw none (most_for-some b (shape_of i))
 
 take_line-fewer : (b : Basin) (ds : List Shape) (i : Item) (es : List Shape) → take_line b ds i ≡ Some es →
-    most_lines b es + 1 ≤ most_lines b ds
+    max_lines b es + 1 ≤ max_lines b ds
 take_line-fewer b [] i es h = let none : None ≡ Some es = h in cc
 take_line-fewer b (d ∷ ds) i es h = by_fit (fits b d i) refl (is_optional d) refl (take_line-fewer b ds i es)
   where
     by_fit : (f : Bool) → fits b d i ≡ f → (p : Bool) → is_optional d ≡ p →
-        (take_line b ds i ≡ Some es → most_lines b es + 1 ≤ most_lines b ds) →
-        most_lines b es + 1 ≤ most_lines b (d ∷ ds)
+        (take_line b ds i ≡ Some es → max_lines b es + 1 ≤ max_lines b ds) →
+        max_lines b es + 1 ≤ max_lines b (d ∷ ds)
     by_fit true f p q further =
         let same : Some (opened b i ++ ds) ≡ Some es = sym (take_fits b d ds i f) ∙ h in
         let is : opened b i ++ ds ≡ es = cc in
@@ -86,18 +86,18 @@ take_line-fewer b (d ∷ ds) i es h = by_fit (fits b d i) refl (is_optional d) r
 
 -- with each line that comes fewer are left
 pub step-fewer : (b : Basin) (must : Bool) (ds : List Shape) (i : Item) (es : List Shape) → step b must ds i ≡ Some es →
-    most_lines b es + 1 ≤ most_lines b ds
+    max_lines b es + 1 ≤ max_lines b ds
 step-fewer b must ds i es h = by_guard (must && not (is_member i)) refl
   where
-    by_guard : (g : Bool) → must && not (is_member i) ≡ g → most_lines b es + 1 ≤ most_lines b ds
+    by_guard : (g : Bool) → must && not (is_member i) ≡ g → max_lines b es + 1 ≤ max_lines b ds
     by_guard true g = let none : None ≡ Some es = sym (step_shut b must ds i g) ∙ h in cc
     by_guard false g = take_line-fewer b ds i es (sym (step_open b must ds i g) ∙ h)
 
 -- At first.
 
--- so many more lines than lines that are due
+-- a given number of more lines than lines that are due
 abbrev Exceeds : Basin → List Shape → ℕ → Type 0
-Exceeds b ds n = most_lines b ds ≡ length ds + n
+Exceeds b ds n = max_lines b ds ≡ length ds + n
 
 exceed_both : (b : Basin) (ds es : List Shape) (n m : ℕ) → Exceeds b ds n → Exceeds b es m →
     Exceeds b (ds ++ es) (n + m)
@@ -151,7 +151,7 @@ exceed_sections b (k ∷ ks) =
 
 -- what is due in a month: a line for each, and for each right that may have a `call` the nodes
 pub most_in_month : (b : Basin) →
-    most_lines b (due_in_month b) ≡ length (due_in_month b) + length b.nodes * length b.rights
+    max_lines b (due_in_month b) ≡ length (due_in_month b) + length b.nodes * length b.rights
 unfolding due_in_month
 most_in_month b =
     exceed_both b (flat_map (λ k. shapes_in k b) SECTIONS) (shape.End ∷ []) (more_in b SECTIONS) 0
@@ -164,71 +164,76 @@ most_in_month b =
     all v n e r = omega arith
 
 -- what is due in a month is not much
-few_entry : (b : Basin) (k : Section) (x : ℕ) → length (shapes_at k b x) ≤ 1
-few_entry b (section.Amounts q) x = by_test (has_line b q x)
+bounded_entry : (b : Basin) (k : Section) (x : ℕ) → length (shapes_at k b x) ≤ 1
+bounded_entry b (section.Amounts q) x = by_test (has_line b q x)
   where
     by_test : (t : Bool) → length (if t then shape.Amount q x ∷ [] else []) ≤ 1
     by_test true = omega arith
     by_test false = omega arith
-few_entry b section.Deliveries x = omega arith
-few_entry b section.Calls x = omega arith
-few_entry b section.Called x = by_test (is_some (taking_node b x))
+bounded_entry b section.Deliveries x = omega arith
+bounded_entry b section.Calls x = omega arith
+bounded_entry b section.Called x = by_test (is_some (taking_node b x))
   where
     by_test : (t : Bool) → length (if t then shape.Called x ∷ [] else []) ≤ 1
     by_test true = omega arith
     by_test false = omega arith
 
-few_entries : (b : Basin) (k : Section) (xs : List ℕ) → length (flat_map (shapes_at k b) xs) ≤ length xs
-few_entries b k [] = omega arith
-few_entries b k (x ∷ xs) =
-    omega (arith, length-append (shapes_at k b x) (flat_map (shapes_at k b) xs), few_entry b k x, few_entries b k xs)
+bounded_entries : (b : Basin) (k : Section) (xs : List ℕ) → length (flat_map (shapes_at k b) xs) ≤ length xs
+bounded_entries b k [] = omega arith
+bounded_entries b k (x ∷ xs) =
+    omega (
+      arith,
+      length-append (shapes_at k b x) (flat_map (shapes_at k b) xs),
+      bounded_entry b k x,
+      bounded_entries b k xs,
+    )
 
-few_sections : (b : Basin) → IsValidBasin b → (ks : List Section) →
+bounded_sections : (b : Basin) → IsValidBasin b → (ks : List Section) →
     length (flat_map (λ k. shapes_in k b) ks) ≤ 4000 * length ks
-few_sections b valid [] = omega arith
-few_sections b valid (k ∷ ks) =
+bounded_sections b valid [] = omega arith
+bounded_sections b valid (k ∷ ks) =
     omega (
       arith,
       length-append (shapes_in k b) (flat_map (λ k. shapes_in k b) ks),
-      few_entries b k (in_order (section_space k) b),
+      bounded_entries b k (in_order (section_space k) b),
       length-in_order (section_space k) b,
-      few_in (section_space k) b valid,
-      few_sections b valid ks,
+      bounded_in (section_space k) b valid,
+      bounded_sections b valid ks,
     )
 
-pub few_due : (b : Basin) → IsValidBasin b → length (due_in_month b) ≤ 50000
+pub bounded_due : (b : Basin) → IsValidBasin b → length (due_in_month b) ≤ 50000
 unfolding due_in_month
-few_due b valid =
+bounded_due b valid =
     omega (
       arith,
       length-append (flat_map (λ k. shapes_in k b) SECTIONS) (shape.End ∷ []),
-      few_sections b valid SECTIONS,
+      bounded_sections b valid SECTIONS,
     )
 
 -- what is due in a run
-months : (b : Basin) (n from count : ℕ) → most_lines b (due_in_month b) ≡ n →
-    most_lines b (flat_map (due_for_month b) (numbers_from from count)) ≡ count * (1 + n)
+months : (b : Basin) (n from count : ℕ) → max_lines b (due_in_month b) ≡ n →
+    max_lines b (flat_map (due_for_month b) (numbers_from from count)) ≡ count * (1 + n)
 unfolding numbers_from
 months b n from zero h = omega arith
 months b n from (suc count) h =
     sum_by-append (most_for b) (due_for_month b from) (flat_map (due_for_month b) (numbers_from (suc from) count))
-    ∙ more (most_lines b (due_for_month b from))
-    (most_lines b (flat_map (due_for_month b) (numbers_from (suc from) count)))
+    ∙ more (max_lines b (due_for_month b from))
+    (max_lines b (flat_map (due_for_month b) (numbers_from (suc from) count)))
     (sum_by-cons (most_for b) (shape.Month (run_month b from)) (due_in_month b) ∙ ap (λ k. 1 + k) h)
     (months b n (suc from) count h)
   where
     more : (x y : ℕ) → x ≡ 1 + n → y ≡ count * (1 + n) → x + y ≡ suc count * (1 + n)
     more x y e g = omega arith
 
-pub most_in_run : (b : Basin) (n : ℕ) → most_lines b (due_in_month b) ≡ n →
-    most_lines b (due b) ≡ b.months * (1 + n) + 3
+pub most_in_run : (b : Basin) (n : ℕ) → max_lines b (due_in_month b) ≡ n →
+    max_lines b (due b) ≡ b.months * (1 + n) + 3
 unfolding due
 most_in_run b n h =
     sum_by-cons (most_for b) shape.Title (shape.Run ∷ due_from b 0 b.months)
     ∙ (ap (λ k. 1 + k) (sum_by-cons (most_for b) shape.Run (due_from b 0 b.months)
     ∙ ap (λ k. 1 + k)
     (sum_by-append (most_for b) (flat_map (due_for_month b) (numbers_from 0 b.months)) (shape.Done b.months ∷ [])))
-    ∙ last (most_lines b (flat_map (due_for_month b) (numbers_from 0 b.months))) (months b n 0 b.months h))
+    ∙ last (max_lines b (flat_map (due_for_month b) (numbers_from 0 b.months))) (months b n 0 b.months h))
   where
     last : (x : ℕ) → x ≡ b.months * (1 + n) → 1 + (1 + (x + 1)) ≡ b.months * (1 + n) + 3
     last x e = omega arith
@@ -236,7 +241,7 @@ most_in_run b n h =
 -- a bound on a run's lines
 pub most_of_run : (b : Basin) (dues count nodes rights : ℕ) → dues ≡ length (due_in_month b) → count ≡ b.months →
     nodes ≡ length b.nodes → rights ≡ length b.rights →
-    most_lines b (due b) ≡ count * (1 + dues + rights * nodes) + 3
+    max_lines b (due b) ≡ count * (1 + dues + rights * nodes) + 3
 most_of_run b dues count nodes rights d m n r =
     most_in_run b (length (due_in_month b) + length b.nodes * length b.rights) (most_in_month b)
     ∙ rw (d, m, n, r) (same b.months (length (due_in_month b)) (length b.nodes) (length b.rights))
@@ -245,9 +250,9 @@ most_of_run b dues count nodes rights d m n r =
     same m d n r = ap (λ k. m * k + 3) (let p : n * r ≡ r * n = mul_comm n r in omega arith)
 
 -- which is small
-pub few_lines : (dues count nodes rights : ℕ) → dues ≤ 50000 → count ≤ 1200 → nodes ≤ 2000 → rights ≤ 2000 →
+pub bounded_lines : (dues count nodes rights : ℕ) → dues ≤ 50000 → count ≤ 1200 → nodes ≤ 2000 → rights ≤ 2000 →
     count * (1 + dues + rights * nodes) + 3 ≤ 5 * 10 ^ 9
-few_lines dues count nodes rights d m n r =
+bounded_lines dues count nodes rights d m n r =
     let members : rights * nodes ≤ 2000 * 2000 = mul-le-mul r n in
     let month : 1 + dues + rights * nodes ≤ 1 + 50000 + 2000 * 2000 = omega arith in
     let all : count * (1 + dues + rights * nodes) ≤ 1200 * (1 + 50000 + 2000 * 2000) = mul-le-mul m month in

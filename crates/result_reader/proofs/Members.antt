@@ -4,7 +4,7 @@ use Rattle.std.proofs.Common.{inr, List, [], ◌∷◌, ◌++◌, length, drop, 
 use Rattle.std.specs.Prelude.{Option, Some, None, ◌&&◌, not}
 use Rattle.std.proofs.lemmas.Bool.{cases_order}
 use Rattle.water_model.specs.declared.types.Basin.{Basin}
-use Rattle.water_model.specs.Places.{numbers_from}
+use Rattle.water_model.specs.Indices.{numbers_from}
 use Rattle.result_reader.specs.Form.{fits, due_in_month}
 use Rattle.result_reader.specs.Due.{opened, take_line, step, is_member, is_member_shape, is_call}
 use Rattle.result_reader.specs.Progress.{due_at, months_due}
@@ -13,12 +13,12 @@ use Rattle.water_model.specs.declared.item.Item.{Item}
 use Rattle.water_model.specs.declared.item.Item.TheVariants as line
 use Rattle.result_reader.specs.declared.shape.Shape.{Shape}
 use Rattle.result_reader.specs.declared.shape.Shape.TheVariants as shape
-use Rattle.result_reader.specs.declared.place.Place.{Place}
-use Rattle.result_reader.specs.declared.place.Place.TheVariants as place
+use Rattle.result_reader.specs.declared.position.Position.{Position}
+use Rattle.result_reader.specs.declared.position.Position.TheVariants as position
 use Rattle.result_reader.proofs.Grammar.{member_only, has_no_members}
 use Rattle.result_reader.proofs.Steps.{fits_itself, take_fits, take_skips, step_open}
 use Rattle.result_reader.proofs.Grammar.{no_member_due, plain, IsPlain, call, other}
-use Rattle.result_reader.proofs.Fronts.{from_no_members, in_month_no_members, append_no_members}
+use Rattle.result_reader.proofs.Prefixes.{from_no_members, in_month_no_members, append_no_members}
 
 fits_not : (b : Basin) (k : ℕ) (i : Item) → (i ≡ line.Member k → ⊥) → fits b (shape.Member k) i ≡ false
 fits_not b k i h = by_fit (fits b (shape.Member k) i) refl
@@ -95,15 +95,15 @@ drop_no_members (d ∷ ds) (suc k) h = drop_no_members ds k (second (not (is_mem
     second true q h = h
     second false q h = cc
 
-pub place_no_members : (b : Basin) (dues : List Shape) (p : Place) → dues ≡ due_in_month b →
+pub place_no_members : (b : Basin) (dues : List Shape) (p : Position) → dues ≡ due_in_month b →
     has_no_members (due_at b dues p) ≡ true
-place_no_members b dues place.Title is = from_no_members b 0 (b.months - 0)
-place_no_members b dues place.Run is = from_no_members b 0 (b.months - 0)
-place_no_members b dues (place.Month begun at) is =
+place_no_members b dues position.Title is = from_no_members b 0 (b.months - 0)
+place_no_members b dues position.Run is = from_no_members b 0 (b.months - 0)
+place_no_members b dues (position.Month begun at) is =
     append_no_members (drop at dues) (months_due b begun)
     (drop_no_members dues at (ap has_no_members is ∙ in_month_no_members b))
     (from_no_members b begun (b.months - begun))
-place_no_members b dues place.After is = refl
+place_no_members b dues position.After is = refl
 
 -- The steps of a progress.
 

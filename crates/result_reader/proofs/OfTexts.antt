@@ -9,7 +9,7 @@ use Rattle.water_model.proofs.Entries.{in_order-below}
 use Rattle.water_model.proofs.Order.{Has, seniors_below, find-passes}
 use Rattle.water_model.specs.Entries.{count_in, in_order}
 use Rattle.water_model.specs.History.{cut_of}
-use Rattle.water_model.specs.Places.{members_from, seniors_first}
+use Rattle.water_model.specs.Indices.{members_from, seniors_first}
 use Rattle.water_model.specs.Quantities.{amounts_of, has_line, space_of}
 use Rattle.water_model.specs.History.{calls}
 use Rattle.water_model.specs.Text.{calling_right, call_items, called_items, section_space, lines_at, lines_in}
@@ -25,7 +25,7 @@ use Rattle.water_model.specs.declared.types.Inflows.{Inflows}
 use Rattle.water_model.specs.declared.types.MonthRecord.{MonthRecord}
 use Rattle.result_reader.specs.OfText.{IsOfText}
 use Rattle.result_reader.specs.Records.{IsTextMonth, AreTextMonths, AreTextAmounts}
-use Rattle.result_reader.proofs.AllTold.{amounts_sized, has_set, month_of}
+use Rattle.result_reader.proofs.AllRead.{amounts_sized, has_set, month_of}
 
 -- lines that a text of the basin may have
 abbrev pub AreOfText : Basin → List Item → Type 0
@@ -143,11 +143,11 @@ months_of_text : (b : Basin) (series : Inflows) (records before ms : List MonthR
 months_of_text b series records before [] valid are is = tt
 months_of_text b series records before (m ∷ ms) valid are is =
     are_both b (items_of_month b m) (flat_map (items_of_month b) ms)
-    (month_of_text b series before m valid (month_of b series records before ms m are is) few)
+    (month_of_text b series before m valid (month_of b series records before ms m are is) bounded)
     (months_of_text b series records (before ++ m ∷ []) ms valid are (is ∙ sym (append_assoc before (m ∷ []) ms)))
   where
-    few : length before < b.months
-    few = omega (arith, are.within, ap length is, length-append before (m ∷ ms))
+    bounded : length before < b.months
+    bounded = omega (arith, are.within, ap length is, length-append before (m ∷ ms))
 
 pub records_of_text : (b : Basin) (series : Inflows) (records : List MonthRecord) → IsValidBasin b →
     AreTextMonths b series records → AreOfText b (items_of b records)

@@ -10,7 +10,7 @@ use Rattle.water_model.specs.declared.types.Basin.{Basin}
 use Rattle.result_reader.specs.Laws.{TextsHaveOneReading}
 use Rattle.result_reader.specs.OfText.{IsOfText}
 use Rattle.result_reader.specs.Reading.{item_of}
-use Rattle.result_reader.proofs.AllTold.{are_all_told}
+use Rattle.result_reader.proofs.AllRead.{are_all_read}
 use Rattle.result_reader.proofs.OfTexts.{AreOfText, records_of_text}
 use Rattle.result_reader.proofs.Spelled.{cut_at, cut-first, item-line, line_lacks_feed}
 use Rattle.result_reader.proofs.WholeMonth.{one_reading_of_items}
@@ -59,7 +59,7 @@ pub texts_have_one_reading : TextsHaveOneReading
 texts_have_one_reading b series records others valid are be e =
     let first = records_of_text b series records valid are in
     let second = records_of_text b series others valid be in
-    one_reading_of_items b series records others (are_all_told b series records are) (are_all_told b series others be)
+    one_reading_of_items b series records others (are_all_read b series records are) (are_all_read b series others be)
     (one_items b valid (items_of b records) (items_of b others) first second
     (before_last (map (line_of b) (items_of b records)) (map (line_of b) (items_of b others)) []
     (sym (lines_of_bytes b valid (items_of b records) first)

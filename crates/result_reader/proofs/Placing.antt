@@ -5,7 +5,7 @@ use Rattle.std.specs.Prelude.{Some, None, IsTrue, ◌↔◌}
 use Rattle.std.specs.List.{flat_map}
 use Rattle.water_model.specs.Hydrology.{run_month}
 use Rattle.water_model.specs.declared.types.Basin.{Basin}
-use Rattle.water_model.specs.Places.{numbers_from}
+use Rattle.water_model.specs.Indices.{numbers_from}
 use Rattle.result_reader.specs.Form.{is_same_shape, fits, due_in_month, due_for_month}
 use Rattle.result_reader.specs.Due.{opened, take_line}
 use Rattle.result_reader.specs.Progress.{months_due}
@@ -26,7 +26,7 @@ same_result r a b h = by_both r refl (is_same_shape a b) refl
         subst (λ (x : Shape). is_same_shape a x ≡ true) same (same_shape_itself a) in cc
     by_both false e true f = let yes : r ≡ true = h.1 (same_shape_is a b f) in cc
 
--- the first of what is due behind some months
+-- the first of what is due after some months
 pub month_is_due : (b : Basin) (begun : ℕ) → begun < b.months →
     months_due b begun ≡ shape.Month (run_month b begun) ∷ (due_in_month b ++ months_due b (begun + 1))
 unfolding numbers_from

@@ -1,4 +1,4 @@
--- The sets that `call` lines tell.
+-- The sets that `call` lines say.
 use Rattle.std.proofs.Common.{◌≡◌, ◌≢◌, ℕ, zero, suc, ◌<◌, Bool, refl, sym, ap, ◌∙◌, arith, inl, inr, List, [], ◌∷◌}
 use Rattle.std.proofs.Common.{length, replicate}
 use Rattle.std.specs.Prelude.{Option, Some, None, slice_set}
@@ -103,12 +103,12 @@ put_sets-has (r ∷ rs) k cut ys l h m =
           (put_one-here r k cut ys same l h)
       | inr other ↦
           put_sets-has rs k cut (put_one r (cut r) ys) (omega (arith, length-put_one r (cut r) ys))
-          (put_one-other r k (cut r) ys other ∙ h) (behind m other)
+          (put_one-other r k (cut r) ys other ∙ h) (after m other)
     ]
   where
-    behind : Has (r ∷ rs) k → k ≢ r → Has rs k
-    behind (inl is) other = absurd (other is)
-    behind (inr there) other = there
+    after : Has (r ∷ rs) k → k ≢ r → Has rs k
+    after (inl is) other = absurd (other is)
+    after (inr there) other = there
 
 pub no_sets : (n k : ℕ) → (let xs : Sets = replicate n None in set_in xs k) ≡ None
 no_sets zero k = refl

@@ -1,4 +1,4 @@
--- A small machine that accepts the fronts of what fills the lines that are due, and its steps.
+-- A small machine that accepts the prefixes of what fills the lines that are due, and its steps.
 use Rattle.std.proofs.Common.{◌≡◌, ℕ, Bool, true, false, refl, sym, ◌∙◌, ap, subst, List, [], ◌∷◌, ◌++◌}
 use Rattle.std.proofs.Common.{inl, inr}
 use Rattle.std.specs.Prelude.{◌&&◌, not, ◌⊎◌, Option, Some, None, if◌then◌else◌, ◌==◌, slice_index}
@@ -122,9 +122,9 @@ within_trans cs ds (e ∷ es) h (inr (rest, same, k)) =
     by_kept further (inl (o, j)) = inl (o, further cs j)
     by_kept further (inr (first, is, j)) = inr (first, is, further first j)
 
-within_behind : (xs ds es : List Shape) → Within ds es → Within (xs ++ ds) (xs ++ es)
-within_behind [] ds es h = h
-within_behind (x ∷ xs) ds es h = inr (xs ++ ds, refl, within_behind xs ds es h)
+within_after : (xs ds es : List Shape) → Within ds es → Within (xs ++ ds) (xs ++ es)
+within_after [] ds es h = h
+within_after (x ∷ xs) ds es h = inr (xs ++ ds, refl, within_after xs ds es h)
 
 -- what takes an optional line leaves optional lines out
 abbrev TakesOptional : Basin → List Shape → Item → List Shape → Type 0
@@ -164,7 +164,7 @@ take_within b ds (e ∷ es) i less w h =
           opened b i ++ es,
           take_fits b e es i f,
           subst (λ (xs : List Shape). Within xs (opened b i ++ es)) (sym t.1)
-              (within_behind (opened b i) t.0 es (within_trans t.0 ds es t.2 j)),
+              (within_after (opened b i) t.0 es (within_trans t.0 ds es t.2 j)),
         )
     by_fit (inr (rest, is, j)) true f p q further =
         let same : Some (opened b i ++ rest) ≡ Some less =
@@ -172,7 +172,7 @@ take_within b ds (e ∷ es) i less w h =
         let less_is : opened b i ++ rest ≡ less = cc in (
           opened b i ++ es,
           take_fits b e es i f,
-          subst (λ (xs : List Shape). Within xs (opened b i ++ es)) less_is (within_behind (opened b i) rest es j),
+          subst (λ (xs : List Shape). Within xs (opened b i ++ es)) less_is (within_after (opened b i) rest es j),
         )
     by_fit (inl (o, j)) false f p q further =
         let t = further ds j h in

@@ -9,9 +9,9 @@ use Rattle.std.proofs.lemmas.Grind.{get_or-set_at}
 use Rattle.std.proofs.lemmas.Grind.{same_number_lists}
 use Rattle.water_model.specs.declared.types.Basin.{Basin}
 use Rattle.water_model.specs.declared.types.Inflows.{Inflows}
-use Rattle.water_model.specs.Places.{members_from}
+use Rattle.water_model.specs.Indices.{members_from}
 use Rattle.water_model.specs.Text.{call_items}
-use Rattle.result_reader.specs.Telling.{Told, tell, with_member}
+use Rattle.result_reader.specs.ReadSoFar.{ReadSoFar, read_item, with_member}
 use Rattle.water_model.specs.CutSets.{set_of, with_set}
 use Rattle.water_model.specs.declared.item.Item.TheVariants as line
 use Rattle.water_model.proofs.Order.{Has}
@@ -72,59 +72,60 @@ pub fold-both : {A B : Type 0} (f : A → B → A) (t : A) (xs ys : List B) → 
 fold-both f t [] ys = refl
 fold-both f t (x ∷ xs) ys = fold-both f (f t x) xs ys
 
-slice_set-behind : (front rest : List Bool) (x y : Bool) →
-    slice_set (front ++ x ∷ rest) (length front) y ≡ front ++ y ∷ rest
-slice_set-behind [] rest x y = refl
-slice_set-behind (z ∷ front) rest x y = ap (λ xs. z ∷ xs) (slice_set-behind front rest x y)
+slice_set-after : (prefix rest : List Bool) (x y : Bool) →
+    slice_set (prefix ++ x ∷ rest) (length prefix) y ≡ prefix ++ y ∷ rest
+slice_set-after [] rest x y = refl
+slice_set-after (z ∷ prefix) rest x y = ap (λ xs. z ∷ xs) (slice_set-after prefix rest x y)
 
 -- a month with a right's set
-abbrev pub put_cut : Told → ℕ → List Bool → Told
+abbrev pub put_cut : ReadSoFar → ℕ → List Bool → ReadSoFar
 put_cut t right set = record t { now = record t.now { cuts = with_set t.now.cuts right (Some set) } }
 
--- the `in` lines of a set, behind those of its front
-tell_members : (b : Basin) (series : Inflows) (right : ℕ) (set front : List Bool) (k : ℕ) (t : Told) →
-    t.calling ≡ Some right → length front ≡ k →
-    right < length t.now.cuts.sets → set_of t.now.cuts right ≡ Some (front ++ replicate (length set) false) →
-    fold (tell b series) t (map (λ n. line.Member n) (members_from k set)) ≡ put_cut t right (front ++ set)
+-- the `in` lines of a set, after those of its prefix
+tell_members : (b : Basin) (series : Inflows) (right : ℕ) (set prefix : List Bool) (k : ℕ) (t : ReadSoFar) →
+    t.calling ≡ Some right → length prefix ≡ k →
+    right < length t.now.cuts.sets → set_of t.now.cuts right ≡ Some (prefix ++ replicate (length set) false) →
+    fold (read_item b series) t (map (λ n. line.Member n) (members_from k set)) ≡ put_cut t right (prefix ++ set)
 unfolding members_from
-tell_members b series right [] front k t c n l h =
+tell_members b series right [] prefix k t c n l h =
     ap (λ xs. record t { now = record t.now { cuts = record t.now.cuts { sets = xs } } })
-    (sym (set_entry t.now.cuts.sets right (Some (front ++ [])) l h))
-tell_members b series right (true ∷ set) front k t c n l h =
-    ap (λ u. fold (tell b series) u (map (λ n. line.Member n) (members_from (suc k) set))) told
-    ∙ (tell_members b series right set (front ++ true ∷ []) (suc k)
-    (put_cut t right (front ++ true ∷ replicate (length set) false)) c
-    (omega (arith, length-append front (true ∷ [])))
-    (omega (arith, length-set t.now.cuts.sets right (Some (front ++ true ∷ replicate (length set) false))))
-    (entry_set t.now.cuts.sets right (Some (front ++ true ∷ replicate (length set) false)) l
-    ∙ ap (λ xs. Some xs) (sym (append_assoc front (true ∷ []) (replicate (length set) false))))
+    (sym (set_entry t.now.cuts.sets right (Some (prefix ++ [])) l h))
+tell_members b series right (true ∷ set) prefix k t c n l h =
+    ap (λ u. fold (read_item b series) u (map (λ n. line.Member n) (members_from (suc k) set))) so_far
+    ∙ (tell_members b series right set (prefix ++ true ∷ []) (suc k)
+    (put_cut t right (prefix ++ true ∷ replicate (length set) false)) c
+    (omega (arith, length-append prefix (true ∷ [])))
+    (omega (arith, length-set t.now.cuts.sets right (Some (prefix ++ true ∷ replicate (length set) false))))
+    (entry_set t.now.cuts.sets right (Some (prefix ++ true ∷ replicate (length set) false)) l
+    ∙ ap (λ xs. Some xs) (sym (append_assoc prefix (true ∷ []) (replicate (length set) false))))
     ∙ (ap (λ xs. record t { now = record t.now { cuts = record t.now.cuts { sets = xs } } })
-    (set_twice t.now.cuts.sets right (Some (front ++ true ∷ replicate (length set) false))
-    (Some ((front ++ true ∷ []) ++ set)))
-    ∙ ap (λ xs. put_cut t right xs) (append_assoc front (true ∷ []) set)))
+    (set_twice t.now.cuts.sets right (Some (prefix ++ true ∷ replicate (length set) false))
+    (Some ((prefix ++ true ∷ []) ++ set)))
+    ∙ ap (λ xs. put_cut t right xs) (append_assoc prefix (true ∷ []) set)))
   where
-    placed : slice_set (front ++ false ∷ replicate (length set) false) k true ≡ front ++ true ∷ replicate (length set)
+    placed : slice_set (prefix ++ false ∷ replicate (length set) false) k true ≡ prefix ++ true ∷ replicate (length set)
         false
-    placed = rw (← n) (slice_set-behind front (replicate (length set) false) false true)
+    placed = rw (← n) (slice_set-after prefix (replicate (length set) false) false true)
 
-    told : with_member t t.calling k ≡ put_cut t right (front ++ true ∷ replicate (length set) false)
-    told =
+    so_far : with_member t t.calling k ≡ put_cut t right (prefix ++ true ∷ replicate (length set) false)
+    so_far =
         ap (λ o. with_member t o k) c
         ∙ (ap (λ o. record t {
           now =
               record t.now { cuts = with_set t.now.cuts right (option_map (λ xs. slice_set xs k true) o) };
         }) h
         ∙ ap (λ xs. put_cut t right xs) placed)
-tell_members b series right (false ∷ set) front k t c n l h =
-    tell_members b series right set (front ++ false ∷ []) (suc k) t c (omega (arith, length-append front (false ∷ [])))
+tell_members b series right (false ∷ set) prefix k t c n l h =
+    tell_members b series right set (prefix ++ false ∷ []) (suc k) t c
+    (omega (arith, length-append prefix (false ∷ [])))
     l
-    (h ∙ ap (λ xs. Some xs) (sym (append_assoc front (false ∷ []) (replicate (length set) false))))
-    ∙ ap (λ xs. put_cut t right xs) (append_assoc front (false ∷ []) set)
+    (h ∙ ap (λ xs. Some xs) (sym (append_assoc prefix (false ∷ []) (replicate (length set) false))))
+    ∙ ap (λ xs. put_cut t right xs) (append_assoc prefix (false ∷ []) set)
 
 -- the lines of one right's set
-pub tell_call : (b : Basin) (series : Inflows) (right : ℕ) (set : List Bool) (t : Told) →
+pub tell_call : (b : Basin) (series : Inflows) (right : ℕ) (set : List Bool) (t : ReadSoFar) →
     right < length t.now.cuts.sets → length set ≡ length b.nodes →
-    fold (tell b series) t (call_items right (Some set)) ≡ record (put_cut t right set) { calling = Some right }
+    fold (read_item b series) t (call_items right (Some set)) ≡ record (put_cut t right set) { calling = Some right }
 tell_call b series right set t l sized =
     tell_members b series right set [] 0
     (record (put_cut t right (replicate (length b.nodes) false)) { calling = Some right }) refl refl

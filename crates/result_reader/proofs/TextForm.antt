@@ -10,7 +10,7 @@ use Rattle.water_model.specs.Cuts.{takes_within, node_within}
 use Rattle.water_model.specs.Entries.{in_order}
 use Rattle.water_model.specs.Hydrology.{run_month}
 use Rattle.water_model.specs.History.{cut_of}
-use Rattle.water_model.specs.Places.{numbers_from, members_from, seniors_first}
+use Rattle.water_model.specs.Indices.{numbers_from, members_from, seniors_first}
 use Rattle.water_model.specs.Quantities.{amounts_of, has_line}
 use Rattle.water_model.specs.Spelling.{line_of}
 use Rattle.water_model.specs.History.{calls}
@@ -32,7 +32,7 @@ use Rattle.result_reader.specs.Records.{IsTextMonth, AreTextMonths}
 use Rattle.result_reader.specs.declared.shape.Shape.{Shape}
 use Rattle.result_reader.specs.declared.shape.Shape.TheVariants as shape
 use Rattle.result_reader.proofs.Accepting.{may_come}
-use Rattle.result_reader.proofs.AllTold.{has_set, month_of}
+use Rattle.result_reader.proofs.AllRead.{has_set, month_of}
 use Rattle.result_reader.proofs.Steps.{fits_itself}
 use Rattle.result_reader.proofs.OfTexts.{AreOfText, records_of_text}
 use Rattle.result_reader.proofs.Spelled.{item-line}
@@ -223,7 +223,7 @@ text_fills b series records are all =
       ),
     )
 
--- each line of a text is accepted behind those before it
+-- each line of a text is accepted after those before it
 pub texts_are_accepted : TextsAreAccepted
 texts_are_accepted b series records before after item valid are all is =
     may_come b before (line_of b item) item

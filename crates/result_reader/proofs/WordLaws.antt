@@ -7,16 +7,16 @@ use Rattle.std.proofs.lemmas.Slice.Eq.{bytes_eq-Decides}
 use Rattle.result_reader.specs.Words.{spelling_of, words, word_of}
 use Rattle.result_reader.specs.declared.words.Word.{Word}
 
--- the search goes on behind an element that fails
+-- the search goes on after an element that fails
 pub find-next : {X : Type 0} (p : X → Bool) (xs : List X) (i : ℕ) (x : X) (answer : Option X) →
     slice_get xs i ≡ Some x → p x ≡ false →
     find p (drop i xs) ≡ answer → find p (drop (i + 1) xs) ≡ answer
-find-next {X} p xs i x answer at fails h = ap (λ n. find p (drop n xs)) (add-one i) ∙ (behind xs i at ∙ h)
+find-next {X} p xs i x answer at fails h = ap (λ n. find p (drop n xs)) (add-one i) ∙ (after xs i at ∙ h)
   where
-    behind : (xs : List X) (i : ℕ) → slice_get xs i ≡ Some x → find p (drop (suc i) xs) ≡ find p (drop i xs)
-    behind [] i at = let none : None ≡ Some x = at in cc
-    behind (y ∷ ys) zero at = let same : Some y ≡ Some x = at in let is : y ≡ x = cc in rw (is, fails) refl
-    behind (y ∷ ys) (suc i) at = behind ys i at
+    after : (xs : List X) (i : ℕ) → slice_get xs i ≡ Some x → find p (drop (suc i) xs) ≡ find p (drop i xs)
+    after [] i at = let none : None ≡ Some x = at in cc
+    after (y ∷ ys) zero at = let same : Some y ≡ Some x = at in let is : y ≡ x = cc in rw (is, fails) refl
+    after (y ∷ ys) (suc i) at = after ys i at
 
 find-Some : {X : Type 0} (p : X → Bool) (xs : List X) (x : X) → find p xs ≡ Some x → p x ≡ true
 find-Some p [] x h = cc

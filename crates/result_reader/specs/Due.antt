@@ -1,9 +1,9 @@
--- What is due behind some lines. The machine that a reader runs.
+-- What is due after some lines. The machine that a reader runs.
 use Rattle.std.specs.Prelude.{Bool, true, false, ◌&&◌, not, List, [], ◌∷◌, ◌++◌, map, length, Option, Some, None}
 use Rattle.std.specs.Prelude.{if◌then◌else◌}
 use Rattle.std.specs.Option.{option_and_then}
 use Rattle.water_model.specs.declared.types.Basin.{Basin}
-use Rattle.water_model.specs.Places.{numbers_from}
+use Rattle.water_model.specs.Indices.{numbers_from}
 use Rattle.result_reader.specs.Form.{is_optional, fits, due}
 use Rattle.water_model.specs.declared.item.Item.{Item}
 use Rattle.water_model.specs.declared.item.Item.TheVariants as line
@@ -27,7 +27,7 @@ abbrev pub opened : Basin → Item → List Shape
 opened b (line.Call right) = map (λ n. shape.Member n) (numbers_from 0 (length b.nodes))
 opened b other = []
 
--- what is due behind a line, if it may come
+-- what is due after a line, if it may come
 abbrev pub take_line : Basin → List Shape → Item → Option (List Shape)
 take_line b [] item = None
 take_line b (d ∷ ds) item =
@@ -46,7 +46,7 @@ pub record Due : Type 0 where
 abbrev pub all_due : Basin → Due
 all_due b = record { must = false; dues = due b }
 
--- what is due behind some lines, if they may come
+-- what is due after some lines, if they may come
 abbrev pub due_after : Basin → Due → List Item → Option Due
 due_after b s [] = Some s
 due_after b s (item ∷ items) =

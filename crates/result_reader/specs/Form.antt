@@ -6,7 +6,7 @@ use Rattle.std.specs.Str.{bytes_eq}
 use Rattle.water_model.specs.Basin.{is_senior, taking_node}
 use Rattle.water_model.specs.Entries.{in_order}
 use Rattle.water_model.specs.Hydrology.{run_month}
-use Rattle.water_model.specs.Places.{numbers_from, members_from}
+use Rattle.water_model.specs.Indices.{numbers_from, members_from}
 use Rattle.water_model.specs.Quantities.{has_line}
 use Rattle.water_model.specs.Text.{section_space}
 use Rattle.water_model.specs.declared.item.Item.{Item}
@@ -101,7 +101,7 @@ shapes_at section.Called b r = if is_some (taking_node b r) then shape.Called r 
 abbrev pub shapes_in : Section → Basin → List Shape
 shapes_in s b = flat_map (shapes_at s b) (in_order (section_space s) b)
 
--- the lines that are due in each month, behind its `month` line
+-- the lines that are due in each month, after its `month` line
 unfoldable pub due_in_month : Basin → List Shape
 due_in_month b = flat_map (λ s. shapes_in s b) SECTIONS ++ shape.End ∷ []
 
@@ -109,7 +109,7 @@ due_in_month b = flat_map (λ s. shapes_in s b) SECTIONS ++ shape.End ∷ []
 abbrev pub due_for_month : Basin → ℕ → List Shape
 due_for_month b i = shape.Month (run_month b i) ∷ due_in_month b
 
--- the lines that are due from month i on, for so many months
+-- the lines that are due from month i on, for a given number of months
 abbrev pub due_from : Basin → ℕ → ℕ → List Shape
 due_from b i count = flat_map (due_for_month b) (numbers_from i count) ++ shape.Done b.months ∷ []
 
@@ -117,7 +117,7 @@ due_from b i count = flat_map (due_for_month b) (numbers_from i count) ++ shape.
 unfoldable pub due : Basin → List Shape
 due b = shape.Title ∷ shape.Run ∷ due_from b 0 b.months
 
--- the lines are the front of a whole list of lines that has the form
-pub record IsFront (b : Basin) (items : List Item) : Type 0 where
+-- the lines are the prefix of a whole list of lines that has the form
+pub record IsPrefix (b : Basin) (items : List Item) : Type 0 where
   pub rest : List Item
   pub whole : Fills b (due b) (items ++ rest)

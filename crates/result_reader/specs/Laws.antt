@@ -8,7 +8,7 @@ use Rattle.water_model.specs.declared.types.Basin.{Basin}
 use Rattle.water_model.specs.declared.types.Inflows.{Inflows}
 use Rattle.water_model.specs.declared.types.MonthRecord.{MonthRecord}
 use Rattle.result_reader.specs.Due.{Due, all_due, due_after}
-use Rattle.result_reader.specs.Form.{IsFront}
+use Rattle.result_reader.specs.Form.{IsPrefix}
 use Rattle.result_reader.specs.OfText.{IsOfText}
 use Rattle.result_reader.specs.Reading.{item_of, read_line}
 use Rattle.result_reader.specs.Records.{AreTextMonths}
@@ -21,26 +21,26 @@ LineSaysItsItem =
     (b : Basin) (bytes : List ℕ) (item : Item) → IsValidBasin b →
     (item_of b bytes ≡ Ok item) ↔ ((bytes ≡ line_of b item) × IsOfText b item)
 
--- Something is due behind some lines exactly where they are the front of a whole text.
-abbrev pub FrontsAreDue : Type 0
-FrontsAreDue =
+-- Something is due after some lines exactly where they are the prefix of a whole text.
+abbrev pub PrefixesAreDue : Type 0
+PrefixesAreDue =
     (b : Basin) (items : List Item) → IsValidBasin b →
-    ((after : Due) × (due_after b (all_due b) items ≡ Some after)) ↔ IsFront b items
+    ((after : Due) × (due_after b (all_due b) items ≡ Some after)) ↔ IsPrefix b items
 
--- A line is accepted behind others exactly where it spells an item with which they are the front of a whole text.
-abbrev pub FrontsAreAccepted : Type 0
-FrontsAreAccepted =
+-- A line is accepted after others exactly where it spells an item with which they are the prefix of a whole text.
+abbrev pub PrefixesAreAccepted : Type 0
+PrefixesAreAccepted =
     (b : Basin) (before : List Item) (bytes : List ℕ) (item : Item) → IsValidBasin b →
     (read_line b before bytes ≡ Ok item)
-    ↔ ((bytes ≡ line_of b item) × IsOfText b item × IsFront b (before ++ item ∷ []))
+    ↔ ((bytes ≡ line_of b item) × IsOfText b item × IsPrefix b (before ++ item ∷ []))
 
 -- A line that says an item is out of place exactly where with it they are not.
 abbrev pub OthersAreOutOfPlace : Type 0
 OthersAreOutOfPlace =
     (b : Basin) (before : List Item) (bytes : List ℕ) (item : Item) → IsValidBasin b → item_of b bytes ≡ Ok item →
-    (read_line b before bytes ≡ Err bad.OutOfPlace) ↔ (IsFront b (before ++ item ∷ []) → ⊥)
+    (read_line b before bytes ≡ Err bad.OutOfPlace) ↔ (IsPrefix b (before ++ item ∷ []) → ⊥)
 
--- What is written can be read. Each line of the text of records of all months is accepted behind those before it.
+-- What is written can be read. Each line of the text of records of all months is accepted after those before it.
 abbrev pub TextsAreAccepted : Type 0
 TextsAreAccepted =
     (b : Basin) (series : Inflows) (records : List MonthRecord) (before after : List Item) (item : Item) →

@@ -5,6 +5,6 @@ pub mod Words
 pub mod Reading
 pub mod OfText
 pub mod Standing
-pub mod Telling
+pub mod ReadSoFar
 pub mod Records
 pub mod Laws

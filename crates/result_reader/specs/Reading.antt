@@ -27,10 +27,10 @@ use Rattle.result_reader.specs.declared.words.Word.TheVariants as word
 abbrev pub pieces_of : List ℕ → List (List ℕ)
 pieces_of bytes = slice_split (λ byte. byte == 32) bytes
 
--- and in what is behind a space, if there is one
-abbrev pub pieces_behind : Option (Bor (List ℕ)) → List (List ℕ)
-pieces_behind None = []
-pieces_behind (Some rest) = pieces_of rest.now
+-- and in what is after a space, if there is one
+abbrev pub pieces_after : Option (Bor (List ℕ)) → List (List ℕ)
+pieces_after None = []
+pieces_after (Some rest) = pieces_of rest.now
 
 -- what f makes of a good answer
 abbrev pub and_then : {X Y : Type 0} → Result X BadLine → (X → Result Y BadLine) → Result Y BadLine

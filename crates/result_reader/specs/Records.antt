@@ -2,7 +2,7 @@
 use Rattle.std.specs.Prelude.{◌≡◌, ℕ, ◌<◌, ◌≤◌, ◌^◌, Bool, List, length, slice_index, slice_get, take, All}
 use Rattle.std.specs.Prelude.{Some, None, IsTrue}
 use Rattle.std.specs.List.{list_any}
-use Rattle.water_model.specs.History.{IsMonthBehind, IsShort, cut_of}
+use Rattle.water_model.specs.History.{IsNextMonth, IsShort, cut_of}
 use Rattle.water_model.specs.Quantities.{amounts_of}
 use Rattle.water_model.specs.declared.quantity.Quantity.{Quantity}
 use Rattle.water_model.specs.declared.types.Basin.{Basin}
@@ -26,11 +26,11 @@ pub record HasTextAmounts (m : MonthRecord) : Type 0 where
   pub want : AreTextAmounts m.want
 
 pub record IsTextMonth (b : Basin) (series : Inflows) (before : List MonthRecord) (m : MonthRecord) : Type 0 where
-  pub month : IsMonthBehind b series before m
+  pub month : IsNextMonth b series before m
   pub sets : HasSets b m
   pub amounts : HasTextAmounts m
 
--- records of the run's months, one behind another
+-- records of the run's months, one after another
 pub record AreTextMonths (b : Basin) (series : Inflows) (records : List MonthRecord) : Type 0 where
   pub within : length records ≤ b.months
   pub each : (i : ℕ) (m : MonthRecord) → slice_get records i ≡ Some m → IsTextMonth b series (take i records) m

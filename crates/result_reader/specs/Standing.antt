@@ -11,14 +11,14 @@ use Rattle.result_reader.specs.declared.shape.Shape.{Shape}
 use Rattle.result_reader.specs.declared.shape.Shape.TheVariants as shape
 
 -- what contracts see of a reader: its basin, what is due, and how many lines it may still accept at most
-pub record ReaderSeen : Type 0 where
+pub record ReaderView : Type 0 where
   pub basin : Basin
   pub due : Due
   pub left : ℕ
 
 -- the reader accepted the lines of these items, and no others
-abbrev pub StandsFor : ReaderSeen → List Item → Type 0
-StandsFor r items = due_after r.basin (all_due r.basin) items ≡ Some r.due
+abbrev pub ReaderStandsFor : ReaderView → List Item → Type 0
+ReaderStandsFor r items = due_after r.basin (all_due r.basin) items ≡ Some r.due
 
 -- how many lines may come at most for a line that is due: a `call` with an `in` line for each node, and one for every
 -- other
@@ -26,12 +26,12 @@ abbrev pub most_for : Basin → Shape → ℕ
 most_for b (shape.Call right) = 1 + length b.nodes
 most_for b other = 1
 
-abbrev pub most_lines : Basin → List Shape → ℕ
-most_lines b dues = sum_by (most_for b) dues
+abbrev pub max_lines : Basin → List Shape → ℕ
+max_lines b dues = sum_by (most_for b) dues
 
 -- what a reader keeps is right for its basin
 pub record IsReader (b : Basin) (dues : List Shape) (p : Progress) (left : ℕ) : Type 0 where
   pub valid : IsValidBasin b
   pub dues_are : dues ≡ due_in_month b
   pub progress : IsProgress b dues p
-  pub left_is : most_lines b (dues_of b dues p) ≤ left
+  pub left_is : max_lines b (dues_of b dues p) ≤ left

@@ -78,8 +78,8 @@ fn add_section(
 {
     let space = section.space();
     let count = count_in(space, basin);
-    for place in 0..count {
-        let entry = entry_at(space, basin, roll.by_seniority(), place);
+    for position in 0..count {
+        let entry = entry_at(space, basin, roll.by_seniority(), position);
         add_entry(dues, basin, returned, section, entry)?;
     }
     Ok(())
@@ -99,7 +99,7 @@ fn sections_of(alloc: Global, basin: &Basin, roll: &Roll) -> Result<Vec<Shape>, 
     Ok(dues)
 }
 
-/// The lines that are due in each month, behind its `month` line.
+/// The lines that are due in each month, after its `month` line.
 #[tactic(auto, unfolding(crate::specs::Form::due_in_month))]
 pub fn dues_of(alloc: Global, basin: &Basin, roll: &Roll) -> Result<Vec<Shape>, AllocError>
     requires basin { IsValidBasin basin.now }

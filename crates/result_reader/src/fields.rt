@@ -16,9 +16,9 @@ fn first_space(text: &[u8]) -> Option<usize>
     text.iter().position(|byte| *byte == b' ')
 }
 
-/// The bytes up to the first space, and those behind it, if there is one.
+/// The bytes up to the first space, and those after it, if there is one.
 pub fn cut(text: &[u8]) -> (&[u8], Option<&[u8]>)
-    ensures { reading.pieces_of text.now ≡ result.0.now ∷ reading.pieces_behind result.1 }
+    ensures { reading.pieces_of text.now ≡ result.0.now ∷ reading.pieces_after result.1 }
 {
     match first_space(text) {
         Some(at) => (&text[..at], Some(&text[at + 1..])),
@@ -28,7 +28,7 @@ pub fn cut(text: &[u8]) -> (&[u8], Option<&[u8]>)
 
 /// Makes sure that there is no field.
 pub fn no_field(rest: Option<&[u8]>) -> Result<(), BadLine>
-    ensures { result ≡ reading.no_field (reading.pieces_behind rest.entry) }
+    ensures { result ≡ reading.no_field (reading.pieces_after rest.entry) }
 {
     match rest {
         None => Ok(()),
@@ -39,7 +39,7 @@ pub fn no_field(rest: Option<&[u8]>) -> Result<(), BadLine>
 /// The only field.
 pub fn one_field(rest: Option<&[u8]>) -> Result<&[u8], BadLine>
     ensures { result_map_both (λ field. field.now) (λ e. e) result
-        ≡ reading.one_field (reading.pieces_behind rest.entry) }
+        ≡ reading.one_field (reading.pieces_after rest.entry) }
 {
     let Some(text) = rest else {
         return Err(BadLine::BadField);
@@ -52,7 +52,7 @@ pub fn one_field(rest: Option<&[u8]>) -> Result<&[u8], BadLine>
 /// The two fields.
 pub fn two_fields(rest: Option<&[u8]>) -> Result<(&[u8], &[u8]), BadLine>
     ensures { result_map_both (λ fields. (fields.0.now, fields.1.now)) (λ e. e) result
-        ≡ reading.two_fields (reading.pieces_behind rest.entry) }
+        ≡ reading.two_fields (reading.pieces_after rest.entry) }
 {
     let Some(text) = rest else {
         return Err(BadLine::BadField);
@@ -65,7 +65,7 @@ pub fn two_fields(rest: Option<&[u8]>) -> Result<(&[u8], &[u8]), BadLine>
 /// The three fields.
 pub fn three_fields(rest: Option<&[u8]>) -> Result<(&[u8], &[u8], &[u8]), BadLine>
     ensures { result_map_both (λ fields. (fields.0.now, fields.1.now, fields.2.now)) (λ e. e) result
-        ≡ reading.three_fields (reading.pieces_behind rest.entry) }
+        ≡ reading.three_fields (reading.pieces_after rest.entry) }
 {
     let Some(text) = rest else {
         return Err(BadLine::BadField);

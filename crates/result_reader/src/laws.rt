@@ -1,5 +1,5 @@
 //! Laws over what is read, and over the form of a text. Each is the contract of a function that does nothing.
-ghost use Rattle.result_reader.specs.Laws.{LineSaysItsItem, FrontsAreDue, FrontsAreAccepted, OthersAreOutOfPlace};
+ghost use Rattle.result_reader.specs.Laws.{LineSaysItsItem, PrefixesAreDue, PrefixesAreAccepted, OthersAreOutOfPlace};
 ghost use Rattle.result_reader.specs.Laws.{TextsAreAccepted, TextsHaveOneReading};
 
 /// What is read is what the line says, and nothing else is.
@@ -7,14 +7,14 @@ pub fn line_says_its_item()
     ensures { LineSaysItsItem }
 {}
 
-/// The lines behind which something is due are the fronts of whole texts.
-pub fn fronts_are_due()
-    ensures { FrontsAreDue }
+/// The lines after which something is due are the prefixes of whole texts.
+pub fn prefixes_are_due()
+    ensures { PrefixesAreDue }
 {}
 
 /// The lines that are accepted are those that may come by the form of a text.
-pub fn fronts_are_accepted()
-    ensures { FrontsAreAccepted }
+pub fn prefixes_are_accepted()
+    ensures { PrefixesAreAccepted }
 {}
 
 /// Every other line that says something is out of place.

@@ -12,7 +12,7 @@ mod fields;
 pub mod laws;
 mod likely;
 mod names;
-mod place;
+mod position;
 mod progress;
 mod reader;
 mod reading;

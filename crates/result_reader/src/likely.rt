@@ -1,7 +1,7 @@
 //! The entries that the next line most likely names. Where they are right, no name is looked up; what a line says does
 //! not depend on them.
 
-use crate::place::Place;
+use crate::position::Position;
 use crate::progress::Progress;
 use crate::shape::Shape;
 use water_model::item::Item;
@@ -26,10 +26,10 @@ fn entry_of(shape: &Shape) -> u32 {
 }
 
 /// The first entry that the line at a place among those of a month names.
-fn due_entry(dues: &[Shape], place: Place) -> u32 {
-    match place {
-        Place::Month { at, .. } => dues.get(at).map_or(0, |shape| entry_of(shape)),
-        Place::Title | Place::Run | Place::After => 0,
+fn due_entry(dues: &[Shape], position: Position) -> u32 {
+    match position {
+        Position::Month { at, .. } => dues.get(at).map_or(0, |shape| entry_of(shape)),
+        Position::Title | Position::Run | Position::After => 0,
     }
 }
 
@@ -41,17 +41,17 @@ fn node_at(nodes: &[u32], at: Option<u32>) -> u32 {
     }
 }
 
-/// The entries that the next line most likely names: the one that is due, and of an `in` line the node that came behind
+/// The entries that the next line most likely names: the one that is due, and of an `in` line the node that came after
 /// the last line's before. The sets of a month, and of one month and the next, differ little. `followers` has this node
-/// for each node one place behind its own, and for a `call` line at the first.
+/// for each node one place after its own, and for a `call` line at the first.
 pub fn likely_entries(dues: &[Shape], followers: &[u32], progress: Progress) -> Likely {
     Likely {
         member: node_at(followers, progress.next_member),
-        entry: due_entry(dues, progress.place),
+        entry: due_entry(dues, progress.position),
     }
 }
 
-/// Keeps the node of an `in` line as that which came behind the line before it.
+/// Keeps the node of an `in` line as that which came after the line before it.
 pub fn follow(followers: &mut [u32], progress: Progress, item: &Item) {
     if let (Some(next), Item::Member { node }) = (progress.next_member, *item)
         && (next as usize) < followers.len()

@@ -7,7 +7,7 @@ ghost use Rattle.result_reader.specs.Due as due;
 ghost use Rattle.result_reader.specs.Form as form;
 ghost use Rattle.result_reader.specs.Progress.{IsProgress, IsNextProgress};
 
-use crate::place::{Place, next_place};
+use crate::position::{Position, next_position};
 use crate::shape::{Shape, is_call};
 use water_model::item::Item;
 use water_model::types::Basin;
@@ -16,12 +16,12 @@ use water_model::types::Basin;
 /// must.
 #[derive(Clone, Copy)]
 pub struct Progress {
-    pub place: Place,
+    pub position: Position,
     pub next_member: Option<u32>,
     pub must: bool,
 }
 
-/// The progress behind an `in` line of a node.
+/// The progress after an `in` line of a node.
 fn next_member(basin: &Basin, dues: &[Shape], progress: Progress, node: u32) -> Option<Progress>
     requires basin { IsValidBasin basin.now }
     requires dues { dues.now ≡ form.due_in_month basin.now }
@@ -32,7 +32,7 @@ fn next_member(basin: &Basin, dues: &[Shape], progress: Progress, node: u32) -> 
     let next = progress.next_member?;
     if next <= node {
         Some(Progress {
-            place: progress.place,
+            position: progress.position,
             next_member: Some(node + 1),
             must: false,
         })
@@ -41,7 +41,7 @@ fn next_member(basin: &Basin, dues: &[Shape], progress: Progress, node: u32) -> 
     }
 }
 
-/// The progress behind a line that is no `in` line.
+/// The progress after a line that is no `in` line.
 fn next_other(basin: &Basin, dues: &[Shape], progress: Progress, item: &Item) -> Option<Progress>
     requires basin { IsValidBasin basin.now }
     requires dues { dues.now ≡ form.due_in_month basin.now }
@@ -53,23 +53,23 @@ fn next_other(basin: &Basin, dues: &[Shape], progress: Progress, item: &Item) ->
     if progress.must {
         return None;
     }
-    let place = next_place(basin, dues, progress.place, item)?;
+    let position = next_position(basin, dues, progress.position, item)?;
     if is_call(item) {
         Some(Progress {
-            place,
+            position,
             next_member: Some(0),
             must: true,
         })
     } else {
         Some(Progress {
-            place,
+            position,
             next_member: None,
             must: false,
         })
     }
 }
 
-/// The progress behind a line, if the line may come.
+/// The progress after a line, if the line may come.
 pub fn next_progress(
     basin: &Basin,
     dues: &[Shape],

@@ -7,13 +7,13 @@ ghost use Rattle.water_model.specs.declared.item.Item.{Item};
 ghost use Rattle.result_reader.specs.Form.{due, due_in_month};
 ghost use Rattle.result_reader.specs.OfText.{IsOfText};
 ghost use Rattle.result_reader.specs.Reading.{read_line};
-ghost use Rattle.result_reader.specs.Standing.{StandsFor, most_lines};
+ghost use Rattle.result_reader.specs.Standing.{ReaderStandsFor, max_lines};
 
 use crate::bad_line::BadLine;
 use crate::dues::dues_of;
 use crate::likely::{follow, likely_entries};
 use crate::names::Names;
-use crate::place::Place;
+use crate::position::Position;
 use crate::progress::{Progress, next_progress};
 use crate::reading::item_of;
 use crate::shape::Shape;
@@ -37,9 +37,9 @@ pub struct ResultReader<'b> {
 
 impl<'b> Model for ResultReader<'b> {
     ghost use Rattle.result_reader.specs.Progress.{due_of};
-    ghost use Rattle.result_reader.specs.Standing.{ReaderSeen, IsReader};
+    ghost use Rattle.result_reader.specs.Standing.{ReaderView, IsReader};
 
-    ghost Value = { ReaderSeen };
+    ghost Value = { ReaderView };
 
     ghost view = { λ r. record {
       basin = r.names.basin.now;
@@ -52,11 +52,11 @@ impl<'b> Model for ResultReader<'b> {
 }
 
 /// How many lines a text may have at most, where these are due in each month.
-fn most_lines(basin: &Basin, dues: &[Shape]) -> u64
+fn max_lines(basin: &Basin, dues: &[Shape]) -> u64
     requires basin { IsValidBasin basin.now }
     requires dues { dues.now ≡ due_in_month basin.now }
-    ensures enough { most_lines basin.now (due basin.now) ≤ result }
-    ensures few { result ≤ 5 * 10 ^ 9 }
+    ensures enough { max_lines basin.now (due basin.now) ≤ result }
+    ensures bounded { result ≤ 5 * 10 ^ 9 }
 {
     let members = basin.rights.len() as u64 * basin.nodes.len() as u64;
     let month = 1 + dues.len() as u64 + members;
@@ -74,18 +74,18 @@ impl<'b> ResultReader<'b> {
         requires basin { IsValidBasin basin.now }
         requires roll { IsRollOf basin.now.rights roll.now }
         ensures basin { IfOk result (λ reader. reader.basin ≡ basin.now) }
-        ensures none { IfOk result (λ reader. StandsFor reader []) }
-        ensures few { IfOk result (λ reader. reader.left ≤ 5 * 10 ^ 9) }
+        ensures none { IfOk result (λ reader. ReaderStandsFor reader []) }
+        ensures bounded { IfOk result (λ reader. reader.left ≤ 5 * 10 ^ 9) }
     {
         let dues = dues_of(alloc, basin, roll)?;
-        let left = most_lines(basin, &dues);
+        let left = max_lines(basin, &dues);
         let names = Names::of(alloc, basin)?;
         let followers = vec![in alloc; 0; basin.nodes.len() + 1]?;
         Ok(ResultReader {
             names,
             dues,
             progress: Progress {
-                place: Place::Title,
+                position: Position::Title,
                 next_member: None,
                 must: false,
             },
@@ -100,16 +100,16 @@ impl<'b> ResultReader<'b> {
     /// A line is refused as `OverLong` where it has more than 128 bytes; else as `UnknownWord` where its first word is
     /// none of a text's; else as `BadField` where its fields aren't those of its word, spelled as names, months,
     /// amounts up to 10^15 or numbers of months from 1 to 1,200; and else as `OutOfPlace` exactly where it names what
-    /// the basin doesn't have, or the lines accepted so far and this one aren't the front of a whole text. A refused
+    /// the basin doesn't have, or the lines accepted so far and this one aren't the prefix of a whole text. A refused
     /// line changes nothing.
     ///
     /// No memory is taken. The cost is the line's length, a look-up of each name that isn't the likely one, and a step
     /// for each line that is due, may be left out and is passed over.
     pub fn line(&mut self, text: &[u8]) -> Result<Item, BadLine>
-        ensures answer { (items : List Item) → StandsFor self.old items →
+        ensures answer { (items : List Item) → ReaderStandsFor self.old items →
             result ≡ read_line self.old.basin items text.now }
-        ensures accepted { IfOk result (λ item. (items : List Item) → StandsFor self.old items →
-            StandsFor self.new (items ++ item ∷ [])) }
+        ensures accepted { IfOk result (λ item. (items : List Item) → ReaderStandsFor self.old items →
+            ReaderStandsFor self.new (items ++ item ∷ [])) }
         ensures spelled { IfOk result (λ item. (text.now ≡ line_of self.old.basin item) ×
             IsOfText self.old.basin item) }
         ensures refused { OnErr result (self.new ≡ self.old) }
@@ -133,7 +133,7 @@ impl<'b> ResultReader<'b> {
     /// more for each node. It falls by one with each accepted line.
     pub fn lines_left(&self) -> u64
         ensures value { result ≡ self.now.left }
-        ensures bound { most_lines self.now.basin self.now.due.dues ≤ result }
+        ensures bound { max_lines self.now.basin self.now.due.dues ≤ result }
     {
         self.left
     }

@@ -26,7 +26,7 @@ fn entry_named(names: &Names, space: Space, likely: u32, name: &[u8]) -> Result<
 
 #[tactic(auto, unfolding(crate::specs::Reading::item_with))]
 fn title(names: &Names, rest: Option<&[u8]>) -> Result<Item, BadLine>
-    ensures { result ≡ reading.item_with names.now.basin.now word.Title (reading.pieces_behind rest.entry) }
+    ensures { result ≡ reading.item_with names.now.basin.now word.Title (reading.pieces_after rest.entry) }
 {
     if one_field(rest)? == b"1".as_slice() {
         Ok(Item::Title)
@@ -37,7 +37,7 @@ fn title(names: &Names, rest: Option<&[u8]>) -> Result<Item, BadLine>
 
 #[tactic(auto, unfolding(crate::specs::Reading::item_with))]
 fn run(names: &Names, rest: Option<&[u8]>) -> Result<Item, BadLine>
-    ensures { result ≡ reading.item_with names.now.basin.now word.Run (reading.pieces_behind rest.entry) }
+    ensures { result ≡ reading.item_with names.now.basin.now word.Run (reading.pieces_after rest.entry) }
 {
     let (first, months) = two_fields(rest)?;
     let first = month_field(first)?;
@@ -47,7 +47,7 @@ fn run(names: &Names, rest: Option<&[u8]>) -> Result<Item, BadLine>
 
 #[tactic(auto, unfolding(crate::specs::Reading::item_with))]
 fn month(names: &Names, rest: Option<&[u8]>) -> Result<Item, BadLine>
-    ensures { result ≡ reading.item_with names.now.basin.now word.Month (reading.pieces_behind rest.entry) }
+    ensures { result ≡ reading.item_with names.now.basin.now word.Month (reading.pieces_after rest.entry) }
 {
     let month = month_field(one_field(rest)?)?;
     Ok(Item::Month { month })
@@ -61,7 +61,7 @@ fn amount(
     rest: Option<&[u8]>,
 ) -> Result<Item, BadLine>
     requires { IsValidBasin names.now.basin.now }
-    ensures { result ≡ reading.item_with names.now.basin.now (word.Amount quantity) (reading.pieces_behind rest.entry) }
+    ensures { result ≡ reading.item_with names.now.basin.now (word.Amount quantity) (reading.pieces_after rest.entry) }
 {
     let (name, amount) = two_fields(rest)?;
     let name = name_field(name)?;
@@ -77,7 +77,7 @@ fn amount(
 #[tactic(auto, unfolding(crate::specs::Reading::item_with))]
 fn delivery(names: &Names, likely: Likely, rest: Option<&[u8]>) -> Result<Item, BadLine>
     requires { IsValidBasin names.now.basin.now }
-    ensures { result ≡ reading.item_with names.now.basin.now word.Deliver (reading.pieces_behind rest.entry) }
+    ensures { result ≡ reading.item_with names.now.basin.now word.Deliver (reading.pieces_after rest.entry) }
 {
     let (name, amount, want) = three_fields(rest)?;
     let name = name_field(name)?;
@@ -94,7 +94,7 @@ fn delivery(names: &Names, likely: Likely, rest: Option<&[u8]>) -> Result<Item, 
 #[tactic(auto, unfolding(crate::specs::Reading::item_with))]
 fn call(names: &Names, likely: Likely, rest: Option<&[u8]>) -> Result<Item, BadLine>
     requires { IsValidBasin names.now.basin.now }
-    ensures { result ≡ reading.item_with names.now.basin.now word.Call (reading.pieces_behind rest.entry) }
+    ensures { result ≡ reading.item_with names.now.basin.now word.Call (reading.pieces_after rest.entry) }
 {
     let name = name_field(one_field(rest)?)?;
     let right = entry_named(names, Space::Rights, likely.entry, name)?;
@@ -104,7 +104,7 @@ fn call(names: &Names, likely: Likely, rest: Option<&[u8]>) -> Result<Item, BadL
 #[tactic(auto, unfolding(crate::specs::Reading::item_with))]
 fn member(names: &Names, likely: Likely, rest: Option<&[u8]>) -> Result<Item, BadLine>
     requires { IsValidBasin names.now.basin.now }
-    ensures { result ≡ reading.item_with names.now.basin.now word.Member (reading.pieces_behind rest.entry) }
+    ensures { result ≡ reading.item_with names.now.basin.now word.Member (reading.pieces_after rest.entry) }
 {
     let name = name_field(one_field(rest)?)?;
     let node = entry_named(names, Space::Nodes, likely.member, name)?;
@@ -114,7 +114,7 @@ fn member(names: &Names, likely: Likely, rest: Option<&[u8]>) -> Result<Item, Ba
 #[tactic(auto, unfolding(crate::specs::Reading::item_with))]
 fn called(names: &Names, likely: Likely, rest: Option<&[u8]>) -> Result<Item, BadLine>
     requires { IsValidBasin names.now.basin.now }
-    ensures { result ≡ reading.item_with names.now.basin.now word.Called (reading.pieces_behind rest.entry) }
+    ensures { result ≡ reading.item_with names.now.basin.now word.Called (reading.pieces_after rest.entry) }
 {
     let (name, other) = two_fields(rest)?;
     let name = name_field(name)?;
@@ -126,7 +126,7 @@ fn called(names: &Names, likely: Likely, rest: Option<&[u8]>) -> Result<Item, Ba
 
 #[tactic(auto, unfolding(crate::specs::Reading::item_with))]
 fn done(names: &Names, rest: Option<&[u8]>) -> Result<Item, BadLine>
-    ensures { result ≡ reading.item_with names.now.basin.now word.Done (reading.pieces_behind rest.entry) }
+    ensures { result ≡ reading.item_with names.now.basin.now word.Done (reading.pieces_after rest.entry) }
 {
     let months = count_field(one_field(rest)?)?;
     Ok(Item::Done { months })
@@ -134,13 +134,13 @@ fn done(names: &Names, rest: Option<&[u8]>) -> Result<Item, BadLine>
 
 #[tactic(auto, unfolding(crate::specs::Reading::item_with))]
 fn end(names: &Names, rest: Option<&[u8]>) -> Result<Item, BadLine>
-    ensures { result ≡ reading.item_with names.now.basin.now word.End (reading.pieces_behind rest.entry) }
+    ensures { result ≡ reading.item_with names.now.basin.now word.End (reading.pieces_after rest.entry) }
 {
     no_field(rest)?;
     Ok(Item::End)
 }
 
-/// What a line of this word says, with the fields behind it.
+/// What a line of this word says, with the fields after it.
 fn item_with(
     names: &Names,
     likely: Likely,
@@ -148,7 +148,7 @@ fn item_with(
     rest: Option<&[u8]>,
 ) -> Result<Item, BadLine>
     requires { IsValidBasin names.now.basin.now }
-    ensures { result ≡ reading.item_with names.now.basin.now word (reading.pieces_behind rest.entry) }
+    ensures { result ≡ reading.item_with names.now.basin.now word (reading.pieces_after rest.entry) }
 {
     match word {
         Word::Title => title(names, rest),

@@ -2,7 +2,7 @@
 use Rattle.std.proofs.Common.{◌≡◌, ℕ, ◌<◌, ◌≤◌, List, length, get_or, ap, ◌∙◌, arith, Some}
 use Rattle.std.specs.Prelude.{slice_get}
 use Rattle.std.proofs.lemmas.Option.{slice_get-get_or}
-use Rattle.water_model.specs.Places.{numbers_from}
+use Rattle.water_model.specs.Indices.{numbers_from}
 use Rattle.water_model.proofs.Order.{length-numbers_from, numbers_from-get}
 
 -- a place is its own entry

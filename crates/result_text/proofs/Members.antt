@@ -8,7 +8,7 @@ use Rattle.std.proofs.KnownBytes.{Appends-nil}
 use Rattle.bit_words.specs.Marks.{is_marked, in_both, marks, IsNextInBoth}
 use Rattle.bit_words.proofs.Marks.{get_or-marks, length-marks}
 use Rattle.water_model.specs.Lookups.{has}
-use Rattle.water_model.specs.Places.{numbers_from, members_from}
+use Rattle.water_model.specs.Indices.{numbers_from, members_from}
 use Rattle.water_model.specs.Spelling.{whole_line}
 use Rattle.water_model.specs.Text.{call_items}
 use Rattle.water_model.specs.declared.item.Item.{Item}

@@ -57,7 +57,7 @@ Puts-month b records m old mid new r begun h =
     subst (λ (bytes : List ℕ). Puts old new r bytes) (sym (begun-more b records m))
     (Puts-then old mid new r (begun_bytes b records) (flat_map (whole_line b) (items_of_month b m)) begun h)
 
--- the tail behind all months makes the text
+-- the tail after all months makes the text
 pub Puts-tail : {E : Type 0} (b : Basin) (records : List MonthRecord) (old mid new : Option (List ℕ))
     (r : Result (Unit {0}) E) →
     Appends old mid (begun_bytes b records) → Puts mid new r (flat_map (whole_line b) (items_of_tail b)) →
@@ -85,7 +85,7 @@ sets_sized b series before m f right = by_range (cases_lt right (length b.rights
     outside : length b.rights ≤ right → cut_of m right ≡ None
     outside l =
         ap (λ (o : Option (Option (List Bool))). unwrap_or (option_map (λ set. set) o) None)
-        (slice_get_past m.cuts.sets right (omega (arith, f.behind.fits.cuts)))
+        (slice_get_past m.cuts.sets right (omega (arith, f.after.fits.cuts)))
 
     by_range : (right < length b.rights) ⊎ (length b.rights ≤ right) → is_sized (cut_of m right)
     by_range (inr beyond) = no_set (outside beyond)
@@ -99,9 +99,9 @@ pub FitsText-follows : (b : Basin) (series : Inflows) (before : List MonthRecord
     Follows b series before m →
     length before < b.months → FitsText b m
 FitsText-follows b series before m valid f l = record {
-  fits = f.behind.fits;
-  month = subst IsMonth (sym f.behind.month) (IsMonth-run_month b m.index valid.run (omega (arith, f.behind.index)));
-  flow = f.behind.plan.flow_len;
-  out = f.behind.plan.out_len;
+  fits = f.after.fits;
+  month = subst IsMonth (sym f.after.month) (IsMonth-run_month b m.index valid.run (omega (arith, f.after.index)));
+  flow = f.after.plan.flow_len;
+  out = f.after.plan.out_len;
   sets = sets_sized b series before m f;
 }

@@ -2,7 +2,7 @@
 use Rattle.std.specs.Prelude.{ℕ, List, [], ◌∷◌, if◌then◌else◌}
 use Rattle.std.specs.List.{flat_map}
 use Rattle.bit_words.specs.Marks.{is_marked}
-use Rattle.water_model.specs.Places.{numbers_from}
+use Rattle.water_model.specs.Indices.{numbers_from}
 use Rattle.water_model.specs.declared.item.Item.{Item}
 use Rattle.water_model.specs.declared.item.Item.TheVariants as line
 
@@ -10,6 +10,6 @@ use Rattle.water_model.specs.declared.item.Item.TheVariants as line
 abbrev pub member_at : List ℕ → ℕ → List Item
 member_at words n = if is_marked words n then line.Member n ∷ [] else []
 
--- and those of so many nodes
+-- and those of a given number of nodes
 abbrev pub members_of : ℕ → List ℕ → List Item
 members_of nodes words = flat_map (member_at words) (numbers_from 0 nodes)

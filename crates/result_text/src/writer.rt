@@ -205,7 +205,7 @@ fn put_sections<K: Sink>(
 ///
 /// Return rows are gone over once, and so are the sets of short rights, for the callers.
 ///
-/// Each line is one `put`. `SinkFailed` comes only where the sink counted a fault; a front of the lines was then put.
+/// Each line is one `put`. `SinkFailed` comes only where the sink counted a fault; a prefix of the lines was then put.
 pub fn put_month<K: Sink>(
     sink: &mut K,
     basin: &Basin,
@@ -226,7 +226,7 @@ pub fn put_month<K: Sink>(
 
 /// Puts the head of a text: its title, and the run's first month and number of months.
 ///
-/// Each line is one `put`. `SinkFailed` comes only where the sink counted a fault; a front of the lines was then put.
+/// Each line is one `put`. `SinkFailed` comes only where the sink counted a fault; a prefix of the lines was then put.
 pub fn put_head<K: Sink>(sink: &mut K, basin: &Basin) -> Result<(), SinkFailed>
     requires { IsValidBasin basin.now }
     ensures text { Puts (K.taken sink.old) (K.taken sink.new) result
@@ -243,7 +243,7 @@ pub fn put_head<K: Sink>(sink: &mut K, basin: &Basin) -> Result<(), SinkFailed>
 
 /// Puts the tail of a text: one line with the run's number of months.
 ///
-/// The line is one `put`. `SinkFailed` comes only where the sink counted a fault; a front of the line was then put.
+/// The line is one `put`. `SinkFailed` comes only where the sink counted a fault; a prefix of the line was then put.
 pub fn put_tail<K: Sink>(sink: &mut K, basin: &Basin) -> Result<(), SinkFailed>
     requires { IsValidBasin basin.now }
     ensures text { Puts (K.taken sink.old) (K.taken sink.new) result

@@ -16,10 +16,10 @@ find-from p q m (x ∷ xs) same =
     later k below = (let e : m + 1 + k ≡ m + suc k = omega arith in ap p e) ∙ same (suc k) (omega arith)
 
 -- a test of places, as a test of the elements there
-pub find-places : (p q : ℕ → Bool) (xs : List ℕ) (n : ℕ) → n ≡ length xs →
+pub find-indices : (p q : ℕ → Bool) (xs : List ℕ) (n : ℕ) → n ≡ length xs →
     ((k : ℕ) → k < length xs → p k ≡ q (get_or xs k 0)) →
     find p (range_with_len 0 n) ≡ position q xs
-find-places p q xs n e same =
+find-indices p q xs n e same =
     ap (λ c. find p (range_with_len 0 c)) e
     ∙ (find-from p q 0 xs (λ k below. zero_first k ∙ same k below) ∙ sym (position_from-zero q xs))
   where
@@ -32,8 +32,8 @@ pub find-place : (p : ℕ → Bool) (n at : ℕ) → at < n → ((k : ℕ) → k
 find-place p n at below before here = find_first p 0 n at (omega arith) (omega arith) here (λ k f b. before k b)
 
 -- no place passes
-pub find-no_place : (p : ℕ → Bool) (n : ℕ) → ((k : ℕ) → k < n → p k ≡ false) → find p (range_with_len 0 n) ≡ None
-find-no_place p n all = find_none p 0 n (λ k f b. all k (omega arith))
+pub find-no_index : (p : ℕ → Bool) (n : ℕ) → ((k : ℕ) → k < n → p k ≡ false) → find p (range_with_len 0 n) ≡ None
+find-no_index p n all = find_none p 0 n (λ k f b. all k (omega arith))
 
 -- where none is found, no place passes
 pub place-fails : (p : ℕ → Bool) (n k : ℕ) → find p (range_with_len 0 n) ≡ None → k < n → p k ≡ false

@@ -1,7 +1,7 @@
 pub mod Chains
 pub mod Firsts
 pub mod Parts
-pub mod Places
+pub mod Indices
 pub mod Ranks
 pub mod PriorityOrder
 pub mod SameSeniority

@@ -6,7 +6,7 @@ use Rattle.std.proofs.lemmas.Bool.{cases_eq}
 use Rattle.std.proofs.lemmas.Bool.Decides.{nat_tests}
 use Rattle.std.proofs.lemmas.List.{take_more, length-replicate, get_or-replicate, length-set, get_or-set_same}
 use Rattle.std.proofs.lemmas.List.{get_or-set_other}
-use Rattle.place_sums.proofs.Totals.{total_first, total_start}
+use Rattle.finite_sums.proofs.Totals.{total_first, total_start}
 use Rattle.water_model.specs.Lookups.{of_entry}
 use Rattle.water_model.specs.Rights.{parts_in}
 use Rattle.water_model.specs.declared.types.ReturnRow.{ReturnRow}
@@ -14,7 +14,7 @@ use Rattle.water_model.specs.declared.types.Right.{Right}
 use Rattle.rights_roll.specs.RollFaults.{has_many_parts, parts_fault}
 use Rattle.rights_roll.specs.Tables.{AreParts}
 use Rattle.rights_roll.specs.declared.RollRefused.TheVariants.{ReturnParts}
-use Rattle.rights_roll.proofs.Firsts.{find-places}
+use Rattle.rights_roll.proofs.Firsts.{find-indices}
 
 -- what a row adds to the parts of a right
 abbrev pub part_for : ReturnRow → ℕ → ℕ
@@ -98,7 +98,7 @@ pub parts_fault_is : (rights : List Right) (returns : List ReturnRow) (sums : Li
     found ≡ position (nat_lt 10000) sums → parts_fault rights returns ≡ option_map ReturnParts found
 parts_fault_is rights returns sums found parts is =
     ap (λ (o : Option ℕ). option_map ReturnParts o)
-    (find-places (has_many_parts returns) (nat_lt 10000) sums (length rights) (sym parts.count) same ∙ sym is)
+    (find-indices (has_many_parts returns) (nat_lt 10000) sums (length rights) (sym parts.count) same ∙ sym is)
   where
     capped : (x y : ℕ) → x ≡ min 4294967295 y → nat_lt 10000 y ≡ nat_lt 10000 x
     capped x y e = grind (arith, nat_tests)

@@ -15,7 +15,7 @@ use Rattle.std.specs.Option.{option_or}
 use Rattle.std.specs.Ordering.{is_eq}
 use Rattle.std.specs.Str.{bytes_eq}
 use Rattle.std.proofs.lemmas.Bool.{lt-ltb}
-use Rattle.water_model.specs.Places.{by_seniority}
+use Rattle.water_model.specs.Indices.{by_seniority}
 use Rattle.water_model.specs.Rights.{priority, priority_in, is_senior_in, is_lower, AreStrict}
 use Rattle.water_model.specs.declared.types.Right.{Right}
 use Rattle.water_model.proofs.Order.{Has, IsOrdered as IsSeniorsFirst}
@@ -24,8 +24,8 @@ use Rattle.rights_roll.specs.RollFaults.{same_seniority}
 use Rattle.rights_roll.specs.Tables.{AreRanks}
 use Rattle.rights_roll.specs.declared.RollRefused.TheVariants.{SameSeniority}
 use Rattle.rights_roll.specs.declared.priority.Priority.{Priority}
-use Rattle.rights_roll.proofs.Places.{same_bytes, bytes_same, position-append, position_or_len-found}
-use Rattle.rights_roll.proofs.Places.{position_or_len-past}
+use Rattle.rights_roll.proofs.Indices.{same_bytes, bytes_same, position-append, position_or_len-found}
+use Rattle.rights_roll.proofs.Indices.{position_or_len-past}
 use Rattle.rights_roll.proofs.PriorityOrder.{priority_total, same_priority, lower_priority}
 use Rattle.rights_roll.proofs.SameSeniority.{IsFresh, first_like, same_seniority-found, same_seniority-none}
 use Rattle.rights_roll.proofs.SameSeniority.{priority_in-is, strict-from_none}
@@ -37,23 +37,23 @@ pub record AreFresh (rights : List Right) (ranks : BTreeMap Priority ℕ) (i : �
   pub fresh : (k : ℕ) → k < i → IsFresh (map priority rights) k
 
 -- the priority of a right that the map looks for
-abbrev pub at_front : List Right → ℕ → Priority → Option ℕ
-at_front rights i p = position (bytes_eq (numbers_of p)) (take i (map priority rights))
+abbrev pub at_prefix : List Right → ℕ → Priority → Option ℕ
+at_prefix rights i p = position (bytes_eq (numbers_of p)) (take i (map priority rights))
 
-front_is : (rights : List Right) (ranks : BTreeMap Priority ℕ) (i : ℕ) (p : Priority) → AreFresh rights ranks i →
-    tree.get priority_cmp ranks p ≡ at_front rights i p
-front_is rights ranks i p fresh =
+prefix_is : (rights : List Right) (ranks : BTreeMap Priority ℕ) (i : ℕ) (p : Priority) → AreFresh rights ranks i →
+    tree.get priority_cmp ranks p ≡ at_prefix rights i p
+prefix_is rights ranks i p fresh =
     fresh.ranked p ∙ ap (position (bytes_eq (numbers_of p))) (sym (take-map priority i rights))
 
 key_is : (rights : List Right) (i : ℕ) (r : Right) (p : Priority) → i < length rights → r ≡ get_or rights i r →
     numbers_of p ≡ priority r → numbers_of p ≡ get_or (map priority rights) i []
-key_is rights i r p below is parts = parts ∙ at_place rights i r below is
+key_is rights i r p below is parts = parts ∙ at_index rights i r below is
   where
-    at_place : (xs : List Right) (k : ℕ) (x : Right) → k < length xs → x ≡ get_or xs k x →
+    at_index : (xs : List Right) (k : ℕ) (x : Right) → k < length xs → x ≡ get_or xs k x →
         priority x ≡ get_or (map priority xs) k []
-    at_place [] k x h e = absurd (omega arith)
-    at_place (y ∷ ys) zero x h e = ap priority e
-    at_place (y ∷ ys) (suc k) x h e = at_place ys k x (omega arith) e
+    at_index [] k x h e = absurd (omega arith)
+    at_index (y ∷ ys) zero x h e = ap priority e
+    at_index (y ∷ ys) (suc k) x h e = at_index ys k x (omega arith) e
 
 -- a right whose priority the map has
 pub ranks-found : (rights : List Right) (ranks : BTreeMap Priority ℕ) (i first : ℕ) (r : Right) (p : Priority) →
@@ -62,7 +62,7 @@ pub ranks-found : (rights : List Right) (ranks : BTreeMap Priority ℕ) (i first
     same_seniority rights ≡ Some (SameSeniority first i)
 ranks-found rights ranks i first r p below is parts fresh found =
     let at = position_or_len-found (bytes_eq (numbers_of p)) (map priority rights) i first []
-    (omega (arith, length-map rights priority)) (sym (front_is rights ranks i p fresh) ∙ sym found) in
+    (omega (arith, length-map rights priority)) (sym (prefix_is rights ranks i p fresh) ∙ sym found) in
     let like : first_like (map priority rights) i ≡ first =
     ap (λ q. position_or_len (bytes_eq q) (map priority rights)) (sym (key_is rights i r p below is parts)) ∙ at.1 in
     same_seniority-found rights i below fresh.fresh (omega (arith, at.0, like))
@@ -83,14 +83,14 @@ ranks-more rights old new i r p below is parts absent updates fresh = record {
   fresh = below_more (λ k. IsFresh (map priority rights) k) i fresh.fresh here;
 }
   where
-    front : position (bytes_eq (numbers_of p)) (take i (map priority rights)) ≡ None
-    front = sym (front_is rights old i p fresh) ∙ sym absent
+    prefix : position (bytes_eq (numbers_of p)) (take i (map priority rights)) ≡ None
+    prefix = sym (prefix_is rights old i p fresh) ∙ sym absent
 
     here : IsFresh (map priority rights) i
     here =
         let past =
         position_or_len-past (bytes_eq (numbers_of p)) (map priority rights) i []
-        (omega (arith, length-map rights priority)) front in
+        (omega (arith, length-map rights priority)) prefix in
         omega (
           arith,
           past,
@@ -100,8 +100,8 @@ ranks-more rights old new i r p below is parts absent updates fresh = record {
 
     none_at : (q : Priority) → numbers_of p ≡ numbers_of q → tree.get priority_cmp old q ≡ None
     none_at q same =
-        front_is rights old i q fresh
-        ∙ (ap (λ n. position (bytes_eq n) (take i (map priority rights))) (sym same) ∙ front)
+        prefix_is rights old i q fresh
+        ∙ (ap (λ n. position (bytes_eq n) (take i (map priority rights))) (sym same) ∙ prefix)
 
     by_test : (t : Bool) (o : Option ℕ) → (t ≡ true → o ≡ None) → cond t (Some i) o ≡ option_or o (cond t (Some i) None)
     by_test true o none = ap (λ x. option_or x (Some i)) (sym (none refl))
@@ -173,23 +173,23 @@ values-below rights [] r entries h = absurd h
 values-below rights (e ∷ es) r entries (inl is) = let first = entries.0 in omega (arith, first)
 values-below rights (e ∷ es) r entries (inr h) = values-below rights es r entries.1.1 h
 
-values-behind : (rights : List Right) (p : Priority) (r : ℕ) (es : List (Priority × ℕ)) (s : ℕ) →
+values-after : (rights : List Right) (p : Priority) (r : ℕ) (es : List (Priority × ℕ)) (s : ℕ) →
     numbers_of p ≡ priority_in rights r → AreEntries rights es →
     AllByRecursion (λ q. priority_cmp p q ≡ Less) (keys_of es) → Has (values_of es) s → is_senior_in rights r s ≡ true
 unfolding AreEntries
-values-behind rights p r [] s is entries less h = absurd h
-values-behind rights p r (e ∷ es) s is entries less (inl same) =
+values-after rights p r [] s is entries less h = absurd h
+values-after rights p r (e ∷ es) s is entries less (inl same) =
     ap (λ n. is_lower n (priority_in rights s)) (sym is)
     ∙ (ap (λ k. is_lower (numbers_of p) (priority_in rights k)) same
     ∙ (ap (is_lower (numbers_of p)) (sym entries.1.0) ∙ lower_priority p e.0 less.0))
-values-behind rights p r (e ∷ es) s is entries less (inr h) = values-behind rights p r es s is entries.1.1 less.1 h
+values-after rights p r (e ∷ es) s is entries less (inr h) = values-after rights p r es s is entries.1.1 less.1 h
 
 values-ordered : (rights : List Right) (es : List (Priority × ℕ)) → AreEntries rights es →
     IsStrictlySortedBy priority_cmp (keys_of es) → IsSeniorsFirst rights (values_of es)
 unfolding AreEntries
 values-ordered rights [] entries sorted = tt
 values-ordered rights (e ∷ es) entries sorted = (
-  λ s h. values-behind rights e.0 e.1 es s entries.1.0 entries.1.1 (sorted_head priority_cmp e.0 (keys_of es) sorted) h,
+  λ s h. values-after rights e.0 e.1 es s entries.1.0 entries.1.1 (sorted_head priority_cmp e.0 (keys_of es) sorted) h,
   values-ordered rights es entries.1.1 (sorted_tail priority_cmp e.0 (keys_of es) sorted),
 )
 

@@ -5,7 +5,7 @@ use Rattle.std.proofs.lemmas.Bool.{cases_eq, cases_order}
 use Rattle.std.proofs.lemmas.Bool.Decides.{nat_tests}
 use Rattle.std.specs.Prelude.{◌==◌, nat_lt, ◌≢◌, if◌then◌else◌}
 use Rattle.water_model.specs.Rights.{is_senior_in, priority_in, AreStrict}
-use Rattle.water_model.specs.Places.{by_seniority}
+use Rattle.water_model.specs.Indices.{by_seniority}
 use Rattle.water_model.specs.declared.types.Right.{Right}
 use Rattle.water_model.proofs.Duality.{not_lower}
 use Rattle.water_model.proofs.Order.{Has, IsOrdered, length-by_seniority, seniors_have, seniors_below, seniors_ordered}
@@ -22,9 +22,9 @@ not_both rights r s h k = let both : true ≡ false =
 
 -- Two orders of the same rights are equal.
 
--- a right in front of an order is not behind it
-not_behind : (rights : List Right) (x : ℕ) (xs : List ℕ) (r : ℕ) → IsOrdered rights (x ∷ xs) → Has xs r → r ≢ x
-not_behind rights x xs r order has e = let both : true ≡ false =
+-- a right in front of an order is not after it
+not_after : (rights : List Right) (x : ℕ) (xs : List ℕ) (r : ℕ) → IsOrdered rights (x ∷ xs) → Has xs r → r ≢ x
+not_after rights x xs r order has e = let both : true ≡ false =
     sym (order.0 r has) ∙ not_senior_to_same rights x r (sym e) in cc
 
 same_first : (rights : List Right) (x y : ℕ) (xs ys : List ℕ) → IsOrdered rights (x ∷ xs) → IsOrdered rights (y ∷ ys) →
@@ -41,14 +41,14 @@ one_order rights (x ∷ xs) [] first second there back = absurd (there x (inl re
 one_order rights (x ∷ xs) (y ∷ ys) first second there back =
     let e : x ≡ y = same_first rights x y xs ys first second (there x (inl refl)) (back y (inl refl)) in
     let rest : xs ≡ ys =
-    one_order rights xs ys first.1 second.1 (λ r h. behind x y xs ys r first e h (there r (inr h)))
-    (λ r h. behind y x ys xs r second (sym e) h (back r (inr h))) in
+    one_order rights xs ys first.1 second.1 (λ r h. later x y xs ys r first e h (there r (inr h)))
+    (λ r h. later y x ys xs r second (sym e) h (back r (inr h))) in
     ap (λ z. z ∷ xs) e ∙ ap (λ zs. y ∷ zs) rest
   where
-    behind : (x y : ℕ) (xs ys : List ℕ) (r : ℕ) → IsOrdered rights (x ∷ xs) → x ≡ y → Has xs r → Has (y ∷ ys) r →
+    later : (x y : ℕ) (xs ys : List ℕ) (r : ℕ) → IsOrdered rights (x ∷ xs) → x ≡ y → Has xs r → Has (y ∷ ys) r →
         Has ys r
-    behind x y xs ys r order e h (inl same) = absurd (not_behind rights x xs r order h (same ∙ sym e))
-    behind x y xs ys r order e h (inr k) = k
+    later x y xs ys r order e h (inl same) = absurd (not_after rights x xs r order h (same ∙ sym e))
+    later x y xs ys r order e h (inr k) = k
 
 -- a list that has each right, seniors first
 pub is_by_seniority : (rights : List Right) (xs : List ℕ) → AreStrict rights → IsOrdered rights xs →
@@ -73,67 +73,67 @@ by_seniority-below rights i h =
     (has-get_or (by_seniority rights) i (omega (arith, length-by_seniority rights)))
 
 -- the first place at which a number stands, or the length
-abbrev pub place_in : List ℕ → ℕ → ℕ
-place_in [] r = 0
-place_in (x ∷ xs) r = if r == x then 0 else suc (place_in xs r)
+abbrev pub index_in : List ℕ → ℕ → ℕ
+index_in [] r = 0
+index_in (x ∷ xs) r = if r == x then 0 else suc (index_in xs r)
 
-place_in-here : (x r : ℕ) (xs : List ℕ) → r ≡ x → place_in (x ∷ xs) r ≡ 0
-place_in-here x r xs e = let test : r == x ≡ true = grind (arith, nat_tests) in rw test refl
+index_in-here : (x r : ℕ) (xs : List ℕ) → r ≡ x → index_in (x ∷ xs) r ≡ 0
+index_in-here x r xs e = let test : r == x ≡ true = grind (arith, nat_tests) in rw test refl
 
-place_in-further : (x r : ℕ) (xs : List ℕ) → r ≢ x → place_in (x ∷ xs) r ≡ suc (place_in xs r)
-place_in-further x r xs e = let test : r == x ≡ false = grind (arith, nat_tests) in rw test refl
+index_in-further : (x r : ℕ) (xs : List ℕ) → r ≢ x → index_in (x ∷ xs) r ≡ suc (index_in xs r)
+index_in-further x r xs e = let test : r == x ≡ false = grind (arith, nat_tests) in rw test refl
 
-place_in-below : (xs : List ℕ) (r : ℕ) → Has xs r → place_in xs r < length xs
-place_in-below [] r h = absurd h
-place_in-below (x ∷ xs) r h = elim (cases_eq r x) [
-  | inl same ↦ (let e = place_in-here x r xs same in omega arith)
+index_in-below : (xs : List ℕ) (r : ℕ) → Has xs r → index_in xs r < length xs
+index_in-below [] r h = absurd h
+index_in-below (x ∷ xs) r h = elim (cases_eq r x) [
+  | inl same ↦ (let e = index_in-here x r xs same in omega arith)
   | inr other ↦
-      (let e = place_in-further x r xs other in let further : place_in xs r < length xs =
-      place_in-below xs r (behind h other) in omega arith)
+      (let e = index_in-further x r xs other in let further : index_in xs r < length xs =
+      index_in-below xs r (later h other) in omega arith)
 ]
   where
-    behind : Has (x ∷ xs) r → r ≢ x → Has xs r
-    behind (inl is) other = absurd (other is)
-    behind (inr rest) other = rest
+    later : Has (x ∷ xs) r → r ≢ x → Has xs r
+    later (inl is) other = absurd (other is)
+    later (inr rest) other = rest
 
-get_or-place_in : (xs : List ℕ) (r : ℕ) → Has xs r → get_or xs (place_in xs r) 0 ≡ r
-get_or-place_in [] r h = absurd h
-get_or-place_in (x ∷ xs) r h = elim (cases_eq r x) [
-  | inl same ↦ ap (λ k. get_or (x ∷ xs) k 0) (place_in-here x r xs same) ∙ sym same
-  | inr other ↦ ap (λ k. get_or (x ∷ xs) k 0) (place_in-further x r xs other) ∙ get_or-place_in xs r (behind h other)
+get_or-index_in : (xs : List ℕ) (r : ℕ) → Has xs r → get_or xs (index_in xs r) 0 ≡ r
+get_or-index_in [] r h = absurd h
+get_or-index_in (x ∷ xs) r h = elim (cases_eq r x) [
+  | inl same ↦ ap (λ k. get_or (x ∷ xs) k 0) (index_in-here x r xs same) ∙ sym same
+  | inr other ↦ ap (λ k. get_or (x ∷ xs) k 0) (index_in-further x r xs other) ∙ get_or-index_in xs r (later h other)
 ]
   where
-    behind : Has (x ∷ xs) r → r ≢ x → Has xs r
-    behind (inl is) other = absurd (other is)
-    behind (inr rest) other = rest
+    later : Has (x ∷ xs) r → r ≢ x → Has xs r
+    later (inl is) other = absurd (other is)
+    later (inr rest) other = rest
 
-place_in-get_or : (rights : List Right) (xs : List ℕ) (i : ℕ) → IsOrdered rights xs → i < length xs →
-    place_in xs (get_or xs i 0) ≡ i
-place_in-get_or rights [] i order h = absurd (omega arith)
-place_in-get_or rights (x ∷ xs) zero order h = place_in-here x x xs refl
-place_in-get_or rights (x ∷ xs) (suc i) order h =
-    place_in-further x (get_or xs i 0) xs (not_behind rights x xs (get_or xs i 0) order (has-get_or xs i (omega arith)))
-    ∙ ap suc (place_in-get_or rights xs i order.1 (omega arith))
+index_in-get_or : (rights : List Right) (xs : List ℕ) (i : ℕ) → IsOrdered rights xs → i < length xs →
+    index_in xs (get_or xs i 0) ≡ i
+index_in-get_or rights [] i order h = absurd (omega arith)
+index_in-get_or rights (x ∷ xs) zero order h = index_in-here x x xs refl
+index_in-get_or rights (x ∷ xs) (suc i) order h =
+    index_in-further x (get_or xs i 0) xs (not_after rights x xs (get_or xs i 0) order (has-get_or xs i (omega arith)))
+    ∙ ap suc (index_in-get_or rights xs i order.1 (omega arith))
 
 -- of two entries the one at the lower place is senior
-pub senior_by_place : (rights : List Right) (xs : List ℕ) (i j : ℕ) → IsOrdered rights xs → i < j → j < length xs →
+pub senior_by_index : (rights : List Right) (xs : List ℕ) (i j : ℕ) → IsOrdered rights xs → i < j → j < length xs →
     is_senior_in rights (get_or xs i 0) (get_or xs j 0) ≡ true
-senior_by_place rights [] i j order h k = absurd (omega arith)
-senior_by_place rights (x ∷ xs) i zero order h k = absurd (omega arith)
-senior_by_place rights (x ∷ xs) zero (suc j) order h k = order.0 (get_or xs j 0) (has-get_or xs j (omega arith))
-senior_by_place rights (x ∷ xs) (suc i) (suc j) order h k =
-    senior_by_place rights xs i j order.1 (omega arith) (omega arith)
+senior_by_index rights [] i j order h k = absurd (omega arith)
+senior_by_index rights (x ∷ xs) i zero order h k = absurd (omega arith)
+senior_by_index rights (x ∷ xs) zero (suc j) order h k = order.0 (get_or xs j 0) (has-get_or xs j (omega arith))
+senior_by_index rights (x ∷ xs) (suc i) (suc j) order h k =
+    senior_by_index rights xs i j order.1 (omega arith) (omega arith)
 
-senior-places : (rights : List Right) (xs : List ℕ) (i j : ℕ) → IsOrdered rights xs → i < length xs → j < length xs →
+senior-indices : (rights : List Right) (xs : List ℕ) (i j : ℕ) → IsOrdered rights xs → i < length xs → j < length xs →
     is_senior_in rights (get_or xs i 0) (get_or xs j 0) ≡ nat_lt i j
-senior-places rights xs i j order h k = elim (cases_order i j) [
+senior-indices rights xs i j order h k = elim (cases_order i j) [
   | inl same ↦ not_senior_to_same rights (get_or xs i 0) (get_or xs j 0) (ap (λ q. get_or xs q 0) same)
       ∙ not_lt i j (omega arith)
   | inr o ↦ elim o [
-    | inl before ↦ senior_by_place rights xs i j order before k ∙ lt i j before
+    | inl before ↦ senior_by_index rights xs i j order before k ∙ lt i j before
     | inr after ↦
         false_by (is_senior_in rights (get_or xs i 0) (get_or xs j 0)) refl
-        (senior_by_place rights xs j i order after h) ∙ not_lt i j (omega arith)
+        (senior_by_index rights xs j i order after h) ∙ not_lt i j (omega arith)
   ]
 ]
   where
@@ -152,25 +152,25 @@ senior-places rights xs i j order h k = elim (cases_order i j) [
 pub by_seniority_order : (rights : List Right) → AreStrict rights → IsSeniorityOrder rights (by_seniority rights)
 by_seniority_order rights strict = record {
   count = length-by_seniority rights;
-  place = place_in (by_seniority rights);
+  place = index_in (by_seniority rights);
   below = by_seniority-below rights;
-  placed = λ i h. place_in-get_or rights (by_seniority rights) i (seniors_ordered rights strict)
+  placed = λ i h. index_in-get_or rights (by_seniority rights) i (seniors_ordered rights strict)
       (omega (arith, length-by_seniority rights));
   in_range =
-      λ r h. (let b = place_in-below (by_seniority rights) r (seniors_have rights r h) in
+      λ r h. (let b = index_in-below (by_seniority rights) r (seniors_have rights r h) in
       omega (arith, length-by_seniority rights));
-  each = λ r h. get_or-place_in (by_seniority rights) r (seniors_have rights r h);
+  each = λ r h. get_or-index_in (by_seniority rights) r (seniors_have rights r h);
   senior = λ r s h k. senior r s h k;
 }
   where
     senior : (r s : ℕ) → r < length rights → s < length rights →
-        is_senior_in rights r s ≡ nat_lt (place_in (by_seniority rights) r) (place_in (by_seniority rights) s)
+        is_senior_in rights r s ≡ nat_lt (index_in (by_seniority rights) r) (index_in (by_seniority rights) s)
     senior r s h k =
         let first = seniors_have rights r h in
         let second = seniors_have rights s k in
-        ap (λ q. is_senior_in rights q s) (sym (get_or-place_in (by_seniority rights) r first))
-        ∙ (ap (λ q. is_senior_in rights (get_or (by_seniority rights) (place_in (by_seniority rights) r) 0) q)
-        (sym (get_or-place_in (by_seniority rights) s second))
-        ∙ senior-places rights (by_seniority rights) (place_in (by_seniority rights) r)
-        (place_in (by_seniority rights) s) (seniors_ordered rights strict)
-        (place_in-below (by_seniority rights) r first) (place_in-below (by_seniority rights) s second))
+        ap (λ q. is_senior_in rights q s) (sym (get_or-index_in (by_seniority rights) r first))
+        ∙ (ap (λ q. is_senior_in rights (get_or (by_seniority rights) (index_in (by_seniority rights) r) 0) q)
+        (sym (get_or-index_in (by_seniority rights) s second))
+        ∙ senior-indices rights (by_seniority rights) (index_in (by_seniority rights) r)
+        (index_in (by_seniority rights) s) (seniors_ordered rights strict)
+        (index_in-below (by_seniority rights) r first) (index_in-below (by_seniority rights) s second))

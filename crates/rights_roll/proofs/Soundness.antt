@@ -15,7 +15,7 @@ use Rattle.rights_roll.specs.RollFaults.{roll_fault, IsRefusal}
 use Rattle.rights_roll.specs.declared.RollRefused.{RollRefused}
 use Rattle.rights_roll.specs.declared.RollRefused.TheVariants.{BadDate, SameSeniority, ZoneOrder, ReturnParts}
 use Rattle.rights_roll.specs.declared.RollRefused.TheVariants.{OutOfMemory}
-use Rattle.rights_roll.proofs.Firsts.{find-no_place, place-fails}
+use Rattle.rights_roll.proofs.Firsts.{find-no_index, place-fails}
 use Rattle.rights_roll.proofs.SameSeniority.{strict-from_none, none-from_strict}
 
 -- a fault that comes from none came from no place
@@ -44,8 +44,8 @@ none-from_dates (x ∷ xs) n fine =
     let first : has_bad_date x ≡ false = fine 0 (omega arith) in
     rw first (none-from_dates xs (n + 1) (λ r h. fine (suc r) (omega arith)))
 
-few_parts : (returns : List ReturnRow) (r : ℕ) → has_many_parts returns r ≡ false → parts_in returns r ≤ 10000
-few_parts returns r h = at_most (parts_in returns r) h
+bounded_parts : (returns : List ReturnRow) (r : ℕ) → has_many_parts returns r ≡ false → parts_in returns r ≤ 10000
+bounded_parts returns r h = at_most (parts_in returns r) h
   where
     at_most : (n : ℕ) → nat_lt 10000 n ≡ false → n ≤ 10000
     at_most n e = grind (arith, nat_tests)
@@ -65,7 +65,7 @@ sound-from_none rights returns dates seniority zones parts = record {
   strict = strict-from_none rights seniority;
   zones = λ r h. place-fails (has_zone_fault rights) (length rights) r
       (none-mapped ZoneOrder (find (has_zone_fault rights) (range_with_len 0 (length rights))) zones) h;
-  parts = λ r h. few_parts returns r
+  parts = λ r h. bounded_parts returns r
       (place-fails (has_many_parts returns) (length rights) r
       (none-mapped ReturnParts (find (has_many_parts returns) (range_with_len 0 (length rights))) parts) h);
 }
@@ -111,9 +111,9 @@ roll_fault-sound rights returns sound =
     (ap (λ (o : Option ℕ). option_map BadDate o)
     (position_from-zero has_bad_date rights ∙ none-from_dates rights 0 sound.dates))
     (none-from_strict rights sound.strict)
-    (ap (λ (o : Option ℕ). option_map ZoneOrder o) (find-no_place (has_zone_fault rights) (length rights) sound.zones))
+    (ap (λ (o : Option ℕ). option_map ZoneOrder o) (find-no_index (has_zone_fault rights) (length rights) sound.zones))
     (ap (λ (o : Option ℕ). option_map ReturnParts o)
-    (find-no_place (has_many_parts returns) (length rights) (λ r h. not_many_parts returns r (sound.parts r h))))
+    (find-no_index (has_many_parts returns) (length rights) (λ r h. not_many_parts returns r (sound.parts r h))))
 
 -- A refusal of one part is a refusal of the whole where the parts before it have no fault.
 

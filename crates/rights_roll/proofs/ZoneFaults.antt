@@ -15,7 +15,7 @@ use Rattle.water_model.specs.declared.types.RightKind.TheVariants.{Diversion, In
 use Rattle.rights_roll.specs.RollFaults.{zone_fault}
 use Rattle.rights_roll.specs.Zones.{ZoneTable, same_zone, has_senior, AreSeniorZones}
 use Rattle.rights_roll.specs.declared.RollRefused.TheVariants.{ZoneOrder}
-use Rattle.rights_roll.proofs.Firsts.{find-place, find-no_place}
+use Rattle.rights_roll.proofs.Firsts.{find-place, find-no_index}
 use Rattle.rights_roll.proofs.ZoneTables.{other_kind}
 
 -- a set of reservoirs and levels
@@ -106,7 +106,7 @@ pub zone_fault-none : (rights : List Right) (i : ℕ) (seen : ZoneSet) → lengt
     zone_fault rights ≡ None
 zone_fault-none rights i seen past all =
     ap (λ (o : Option ℕ). option_map ZoneOrder o)
-    (find-no_place (has_zone_fault rights) (length rights) (λ k below. all.clear k (omega arith)))
+    (find-no_index (has_zone_fault rights) (length rights) (λ k below. all.clear k (omega arith)))
 
 -- one more zone that is not at fault
 pub clear-zone : (rights : List Right) (i : ℕ) (r : Right) (at its : ℕ) (seen new : ZoneSet) → i < length rights →

@@ -1,6 +1,6 @@
 -- Laws over rolls of rights.
 use Rattle.std.specs.Prelude.{◌≡◌, ◌↔◌, List, None}
-use Rattle.water_model.specs.Places.{by_seniority}
+use Rattle.water_model.specs.Indices.{by_seniority}
 use Rattle.water_model.specs.Rights.{AreStrict, IsSoundRoll}
 use Rattle.water_model.specs.declared.types.ReturnRow.{ReturnRow}
 use Rattle.water_model.specs.declared.types.Right.{Right}

@@ -1,4 +1,4 @@
-pub mod RollSeen
+pub mod RollView
 pub mod Rolls
 pub mod RollFaults
 pub mod SeniorityOrder

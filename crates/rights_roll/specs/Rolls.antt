@@ -2,9 +2,9 @@
 use Rattle.std.specs.Prelude.{◌≡◌, ◌≢◌, ℕ, ◌+◌, ◌<◌, ◌≤◌, List, length, map, Option, Some, None, slice_index_or}
 use Rattle.water_model.specs.Lookups.{of_entry}
 use Rattle.water_model.specs.Basin.{link_of_kind}
-use Rattle.water_model.specs.Places.{by_seniority}
+use Rattle.water_model.specs.Indices.{by_seniority}
 use Rattle.water_model.specs.declared.types.Right.{Right}
-use Rattle.rights_roll.specs.RollSeen.{RollSeen}
+use Rattle.rights_roll.specs.RollView.{RollView}
 
 -- the link of an instream right
 abbrev pub link_in : List Right → ℕ → Option ℕ
@@ -27,7 +27,7 @@ pub record AreChains (rights : List Right) (first_on next_on : List (Option ℕ)
   pub others : (right : ℕ) → right < length rights → link_in rights right ≡ None →
       slice_index_or next_on right None ≡ None
 
-pub record IsRollOf (rights : List Right) (roll : RollSeen) : Type 0 where
+pub record IsRollOf (rights : List Right) (roll : RollView) : Type 0 where
   pub order : roll.order ≡ by_seniority rights
   pub wants : roll.wants ≡ map (λ r. r.want) rights
   pub firsts : (link : ℕ) → IsNextOn rights link 0 (slice_index_or roll.first_on link None)

@@ -57,7 +57,7 @@ pub fn check_parts(
     rights: &[Right],
     returns: &[ReturnRow],
 ) -> Result<(), RollRefused>
-    requires few { length rights.now ≤ 2000 }
+    requires bounded { length rights.now ≤ 2000 }
     requires rows { All (λ row. row.right < length rights.now) returns.now }
     ensures none { OnOk result (parts_fault rights.now returns.now ≡ None) }
     ensures refused { IfErr result (λ e. IsRefusal e (parts_fault rights.now returns.now)) }

@@ -1,7 +1,7 @@
 //! The order of the rights by seniority.
 ghost use Rattle.std.specs.Prelude.{◌≡◌, ◌≤◌, length, None, OnOk, IfOk, IfErr};
 ghost use Rattle.std.specs.BTreeMap.{IsOrdered, values};
-ghost use Rattle.water_model.specs.Places.{by_seniority};
+ghost use Rattle.water_model.specs.Indices.{by_seniority};
 ghost use Rattle.rights_roll.specs.Priorities.{priority_cmp};
 ghost use Rattle.rights_roll.specs.RollFaults.{same_seniority, IsRefusal};
 ghost use Rattle.rights_roll.specs.Tables.{AreRanks};

@@ -27,9 +27,9 @@ pub struct Roll {
 
 impl Model for Roll {
     ghost use Rattle.std.specs.Prelude.{◌≡◌, length};
-    ghost use Rattle.rights_roll.specs.RollSeen.{RollSeen};
+    ghost use Rattle.rights_roll.specs.RollView.{RollView};
 
-    ghost Value = { RollSeen };
+    ghost Value = { RollView };
 
     ghost view = { λ r. record {
       order = r.order.items;
@@ -63,7 +63,7 @@ impl Roll {
         rights: &[Right],
         returns: &[ReturnRow],
     ) -> Result<Roll, RollRefused>
-        requires few { length rights.now ≤ 2000 }
+        requires bounded { length rights.now ≤ 2000 }
         requires rows { All (λ row. row.right < length rights.now) returns.now }
         ensures ok { IfOk result (IsRollOf rights.now) }
         ensures sound { OnOk result (IsSoundRoll rights.now returns.now) }

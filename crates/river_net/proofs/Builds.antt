@@ -9,7 +9,7 @@ use Rattle.water_model.specs.Network.{tail_in, head_in, is_river_in, is_outlet_i
 use Rattle.water_model.specs.declared.types.Link.{Link}
 use Rattle.water_model.specs.declared.types.Node.{Node}
 use Rattle.river_net.specs.Firsts.{AreFirsts, IsFirstFrom, leaves_as_river}
-use Rattle.river_net.specs.GraphSeen.{GraphSeen}
+use Rattle.river_net.specs.GraphView.{GraphView}
 use Rattle.river_net.specs.Net.{IsNet, IsRiverOf, IsRunningOrder}
 use Rattle.river_net.specs.Search.{reaches_itself}
 use Rattle.river_net.specs.Sorting.{IsReleased}
@@ -103,18 +103,18 @@ net_is nodes links order heads rivers ends sound run firsts heads_is = record {
 }
 
 -- the node on a cycle that the search over the graph found
-pub on_cycle : (nodes : List Node) (links : List Link) (g : GraphSeen) (o found : Option ℕ) →
+pub on_cycle : (nodes : List Node) (links : List Link) (g : GraphView) (o found : Option ℕ) →
     g ≡ record { nodes = length nodes; links = links } →
     found ≡ find (reaches_itself g) (range_with_len 0 g.nodes) → found ≡ o → first_on_cycle nodes links ≡ o
 unfolding first_on_cycle
 on_cycle nodes links g o found is search same =
-    sym (ap (λ (h : GraphSeen). find (reaches_itself h) (range_with_len 0 h.nodes)) is) ∙ (sym search ∙ same)
+    sym (ap (λ (h : GraphView). find (reaches_itself h) (range_with_len 0 h.nodes)) is) ∙ (sym search ∙ same)
 
 -- the order that the graph was sorted into
-pub order_runs : (nodes : List Node) (links : List Link) (g : GraphSeen) (order waits : List ℕ) →
+pub order_runs : (nodes : List Node) (links : List Link) (g : GraphView) (order waits : List ℕ) →
     All (λ l. HasNodes nodes l) links → IsSoundNetwork nodes links →
     g ≡ record { nodes = length nodes; links = links } → IsReleased g order waits (length order) →
     IsRunningOrder nodes links order
 order_runs nodes links g order waits ends sound is now =
     running_order nodes links order waits record { ends = ends_in nodes links ends }
-    (subst (λ (h : GraphSeen). IsReleased h order waits (length order)) is now) sound.acyclic
+    (subst (λ (h : GraphView). IsReleased h order waits (length order)) is now) sound.acyclic

@@ -1,12 +1,12 @@
--- Links behind one another, backwards: as many of them as there are nodes pass some node twice.
+-- Links after one another, backwards: as many of them as there are nodes pass some node twice.
 use Rattle.std.proofs.Common.{◌≡◌, ℕ, zero, suc, ◌<◌, ◌≤◌, true, refl, sym, ◌∙◌, ap, arith, List, length, inl, inr}
 use Rattle.std.proofs.lemmas.Bool.{cases_eq, cases_lt, eqb-true, ltb-false, ltb-true}
 use Rattle.std.specs.Prelude.{◌==◌, nat_lt, if◌then◌else◌}
-use Rattle.place_sums.specs.Sums.{total, count_where}
-use Rattle.place_sums.proofs.Totals.{total_same, total_exchange, total_at, total_le, place_counted}
+use Rattle.finite_sums.specs.Sums.{total, count_where}
+use Rattle.finite_sums.proofs.Totals.{total_same, total_exchange, total_at, total_le, index_counted}
 use Rattle.water_model.specs.Network.{walks, tail_in, head_in}
 use Rattle.water_model.specs.declared.types.Link.{Link}
-use Rattle.place_sums.proofs.Counts.{total_ones, all_or_one, at_inside}
+use Rattle.finite_sums.proofs.Counts.{total_ones, all_or_one, at_inside}
 use Rattle.river_net.proofs.Walks.{walk_by, walk_within}
 
 -- two places at which a function has one value
@@ -20,7 +20,7 @@ pub record Repeats (f : ℕ → ℕ) (n : ℕ) : Type 0 where
 -- among n + 1 numbers below n two are the same
 pub repeats : (n : ℕ) (f : ℕ → ℕ) → ((k : ℕ) → k ≤ n → f k < n) → Repeats f n
 repeats n f below = elim (all_or_one n (λ v. nat_lt (count_where (suc n) (λ k. f k == v)) 2)) [
-  | inl few ↦ absurd (too_few few)
+  | inl fewer ↦ absurd (too_few_counted fewer)
   | inr many ↦ twice many.0 (ltb-false (count_where (suc n) (λ k. f k == many.0)) 2 many.1.1)
 ]
   where
@@ -31,19 +31,19 @@ repeats n f below = elim (all_or_one n (λ v. nat_lt (count_where (suc n) (λ k.
         (λ k l. total_at n (f k) 1 ∙ at_inside (f k) n 1 (below k (omega arith)))
         ∙ total_ones (suc n))
 
-    too_few : ((v : ℕ) → v < n → nat_lt (count_where (suc n) (λ k. f k == v)) 2 ≡ true) → ⊥
-    too_few few = omega (
+    too_few_counted : ((v : ℕ) → v < n → nat_lt (count_where (suc n) (λ k. f k == v)) 2 ≡ true) → ⊥
+    too_few_counted fewer = omega (
       arith,
       all,
       total_ones n,
       total_le n (λ v. count_where (suc n) (λ k. f k == v)) (λ v. 1) (λ v l. let lt =
-          ltb-true (count_where (suc n) (λ k. f k == v)) 2 (few v l) in omega arith),
+          ltb-true (count_where (suc n) (λ k. f k == v)) 2 (fewer v l) in omega arith),
     )
 
     twice : (v : ℕ) → 2 ≤ count_where (suc n) (λ k. f k == v) → Repeats f n
     twice v two =
-        let one = place_counted (suc n) 0 (λ k. f k == v) (omega arith) in
-        let other = place_counted (suc n) 1 (λ k. f k == v) (omega arith) in
+        let one = index_counted (suc n) 0 (λ k. f k == v) (omega arith) in
+        let other = index_counted (suc n) 1 (λ k. f k == v) (omega arith) in
         let b = one.below in let c = other.below in
         elim (cases_lt one.place other.place) [
           | inl less ↦ record {
@@ -67,7 +67,7 @@ repeats n f below = elim (all_or_one n (λ v. nat_lt (count_where (suc n) (λ k.
           ]
         ]
 
--- so many links, each leading to where the one before it begins, the first to the node
+-- a given number of links, each leading to where the one before it begins, the first to the node
 pub record Chain (links : List Link) (nodes k node : ℕ) : Type 0 where
   pub at : ℕ → ℕ
   pub start : at 0 ≡ node

@@ -4,16 +4,16 @@ use Rattle.std.proofs.lemmas.Bool.{cases_eq, eq-eqb, ne_eqb}
 use Rattle.std.proofs.lemmas.List.{get_or-set_same, get_or-set_other, get_or-replicate, get_or_default, length-set}
 use Rattle.std.proofs.lemmas.List.{length-replicate}
 use Rattle.std.specs.Prelude.{◌==◌, slice_set, slice_index, if◌then◌else◌}
-use Rattle.place_sums.specs.Sums.{count_where}
-use Rattle.place_sums.proofs.Totals.{total_where_start, total_where_more, count_at_most}
+use Rattle.finite_sums.specs.Sums.{count_where}
+use Rattle.finite_sums.proofs.Totals.{total_where_start, total_where_more, count_at_most}
 use Rattle.water_model.specs.Network.{head_in}
 use Rattle.water_model.specs.declared.types.Link.{Link}
-use Rattle.river_net.specs.GraphSeen.{GraphSeen}
+use Rattle.river_net.specs.GraphView.{GraphView}
 use Rattle.river_net.specs.Sorting.{AreEntering}
 use Rattle.river_net.proofs.Entries.{entry_is}
 
 -- before the first link all counts are 0
-pub entering_start : (g : GraphSeen) (counts : List ℕ) → counts ≡ replicate g.nodes 0 → AreEntering g 0 counts
+pub entering_start : (g : GraphView) (counts : List ℕ) → counts ≡ replicate g.nodes 0 → AreEntering g 0 counts
 entering_start g counts is = record {
   count = ap length is ∙ length-replicate g.nodes 0;
   each = λ v l. ap (λ (xs : List ℕ). get_or xs v 0) is ∙ get_or-replicate g.nodes v 0 0 l
@@ -21,7 +21,7 @@ entering_start g counts is = record {
 }
 
 -- a link more
-pub entering_next : (g : GraphSeen) (k : ℕ) (counts : List ℕ) (x : Link) (old : ℕ) → k < length g.links →
+pub entering_next : (g : GraphView) (k : ℕ) (counts : List ℕ) (x : Link) (old : ℕ) → k < length g.links →
     x.to < g.nodes →
     x ≡ get_or g.links k x → old ≡ get_or counts x.to old → AreEntering g k counts →
     AreEntering g (k + 1) (slice_set counts x.to (old + 1))
@@ -58,7 +58,7 @@ entering_next g k counts x old below inside read at now = record {
     zero {v} other = ap (λ t. if t then 1 else 0) (ne_eqb (head_in g.links k) v (λ h. other (sym h ∙ head)))
 
 -- a count is small
-pub entering_small : (g : GraphSeen) (k : ℕ) (counts : List ℕ) (v old : ℕ) → v < g.nodes → old ≡ get_or counts v old →
+pub entering_small : (g : GraphView) (k : ℕ) (counts : List ℕ) (v old : ℕ) → v < g.nodes → old ≡ get_or counts v old →
     AreEntering g k counts → old ≤ k
 entering_small g k counts v old inside at now =
     let c = now.count in

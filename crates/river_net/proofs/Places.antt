@@ -4,12 +4,12 @@ use Rattle.std.proofs.lemmas.Bool.{cases_lt, cases_eq, le-ltb}
 use Rattle.std.proofs.lemmas.Bool.Decides.{nat_tests}
 use Rattle.std.proofs.lemmas.Grind.{common_steps}
 use Rattle.std.specs.Prelude.{◌==◌, slice_index, nat_lt, if◌then◌else◌, ◌⊎◌}
-use Rattle.place_sums.proofs.Totals.{total_same, total_zero, total_add, total_at}
+use Rattle.finite_sums.proofs.Totals.{total_same, total_zero, total_add, total_at}
 use Rattle.water_model.specs.Network.{tail_in, head_in}
 use Rattle.river_net.specs.Firsts.{IsWithin}
-use Rattle.river_net.specs.GraphSeen.{GraphSeen}
+use Rattle.river_net.specs.GraphView.{GraphView}
 use Rattle.river_net.specs.Sorting.{IsPlacing}
-use Rattle.place_sums.proofs.Counts.{fewer, at_inside}
+use Rattle.finite_sums.proofs.Counts.{fewer, at_inside}
 
 -- the places with one more
 abbrev pub with_place : (ℕ → ℕ) → ℕ → ℕ → ℕ → ℕ
@@ -24,7 +24,7 @@ pub off_place : (place : ℕ → ℕ) (v k u : ℕ) → u ≢ v → with_place p
 off_place place v k u ne = grind (arith, nat_tests)
 
 -- at the start no node has a place
-pub placing_start : (g : GraphSeen) → IsPlacing g [] (λ v. g.nodes)
+pub placing_start : (g : GraphView) → IsPlacing g [] (λ v. g.nodes)
 placing_start g = record {
   each = λ v l. inl refl;
   placed = λ k l. absurd (omega arith);
@@ -36,15 +36,15 @@ placing_start g = record {
     no n x = grind (arith, nat_tests)
 
 -- an order of fewer nodes than there are, where a node has no place
-pub room : (g : GraphSeen) (order : List ℕ) (place : ℕ → ℕ) (v : ℕ) → IsPlacing g order place → v < g.nodes →
+pub room : (g : GraphView) (order : List ℕ) (place : ℕ → ℕ) (v : ℕ) → IsPlacing g order place → v < g.nodes →
     place v ≡ g.nodes →
     length order < g.nodes
 room g order place v now l unplaced =
     let f = fewer g.nodes (λ u. nat_lt (place u) g.nodes) v l (le-ltb (place v) g.nodes (omega arith)) in
     omega (arith, now.number)
 
--- a node gets the next place, behind all tails of links to it
-pub placing_next : (g : GraphSeen) (order : List ℕ) (place : ℕ → ℕ) (v : ℕ) → IsWithin g.nodes g.links →
+-- a node gets the next place, after all tails of links to it
+pub placing_next : (g : GraphView) (order : List ℕ) (place : ℕ → ℕ) (v : ℕ) → IsWithin g.nodes g.links →
     IsPlacing g order place →
     v < g.nodes → place v ≡ g.nodes →
     ((e : ℕ) → e < length g.links → head_in g.links e ≡ v → place (tail_in g.links e) < length order) →

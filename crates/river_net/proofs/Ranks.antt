@@ -5,8 +5,8 @@ use Rattle.std.proofs.lemmas.Bool.{cases_lt, cases_Bool, and_parts, and_from, eq
 use Rattle.std.proofs.lemmas.Option.{slice_get_within}
 use Rattle.std.specs.Prelude.{◌==◌, ◌&&◌, max, if◌then◌else◌, unwrap_or, option_map}
 use Rattle.std.specs.List.{list_any}
-use Rattle.place_sums.specs.Sums.{greatest_where}
-use Rattle.place_sums.proofs.Totals.{greatest_where_le, term_le_greatest}
+use Rattle.finite_sums.specs.Sums.{greatest_where}
+use Rattle.finite_sums.proofs.Totals.{greatest_where_le, term_le_greatest}
 use Rattle.water_model.specs.Network.{tail_in, head_in, IsForward, IsSoundNetwork}
 use Rattle.water_model.specs.declared.types.Link.{Link}
 use Rattle.water_model.specs.declared.types.Node.{Node}
@@ -14,7 +14,7 @@ use Rattle.river_net.specs.Firsts.{IsWithin}
 use Rattle.river_net.proofs.Chains.{Chain, chain_start, chain_more, chain_turns}
 use Rattle.river_net.proofs.Walks.{any_place, place_any, link_at}
 
--- whether so many links, one behind the other, end at a node
+-- whether a given number of links, one after the other, end at a node
 has_chain : List Link → ℕ → ℕ → Bool
 has_chain links zero node = true
 has_chain links (suc k) node = list_any (λ l. l.to == node && has_chain links k l.from) links
@@ -35,7 +35,7 @@ chain_of links nodes within (suc k) v l h =
     (chain_of links nodes within k (tail_in links at.0) (within.ends at.0 below).0
     (ap (has_chain links k) tail ∙ parts.1)))
 
--- a link more behind a chain
+-- a link more after a chain
 longer : (links : List Link) (k e : ℕ) → e < length links → has_chain links k (tail_in links e) ≡ true →
     has_chain links (suc k) (head_in links e) ≡ true
 unfolding has_chain
@@ -68,7 +68,7 @@ reached (suc n) p first = elim (cases_Bool (p (suc n))) [
       (before.0, (let l = before.1 in omega arith), before.2, (let g = before.3 in omega arith)))
 ]
 
--- the greatest number of links that lead to a node one behind the other
+-- the greatest number of links that lead to a node one after the other
 rank_of : List Link → ℕ → ℕ → ℕ
 rank_of links nodes node = greatest_where nodes (λ k. has_chain links k node) (λ k. k)
 

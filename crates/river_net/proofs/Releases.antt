@@ -7,20 +7,20 @@ use Rattle.std.specs.Prelude.{◌==◌, ◌&&◌, ◌||◌, slice_index, slice_s
 use Rattle.std.specs.Prelude.{IfSome}
 use Rattle.water_model.specs.Network.{tail_in, head_in}
 use Rattle.river_net.specs.Firsts.{IsWithin, IsFirstFrom, leaves}
-use Rattle.river_net.specs.GraphSeen.{GraphSeen}
-use Rattle.place_sums.proofs.Totals.{count_at_most}
+use Rattle.river_net.specs.GraphView.{GraphView}
+use Rattle.finite_sums.proofs.Totals.{count_at_most}
 use Rattle.river_net.specs.Sorting.{IsPlacing, IsReleased, IsReleasing, is_before}
 use Rattle.river_net.proofs.Sorts.{and_link, waits_for, IsSettled, settled}
 
 -- what a first link says of itself
-pub first_leaves : (g : GraphSeen) (node from : ℕ) (next : Option ℕ) →
+pub first_leaves : (g : GraphView) (node from : ℕ) (next : Option ℕ) →
     IsFirstFrom (leaves g.links node) from (length g.links) next →
     IfSome next (λ e. (e < length g.links) × (tail_in g.links e ≡ node))
 first_leaves g node from None first = tt
 first_leaves g node from (Some e) first = (first.1, eqb-true (tail_in g.links e) node first.2)
 
 -- of the links that leave the node, those from a place on are those from the next one on
-pub splits : (g : GraphSeen) (node from : ℕ) (next : Option ℕ) →
+pub splits : (g : GraphView) (node from : ℕ) (next : Option ℕ) →
     IsFirstFrom (leaves g.links node) from (length g.links) next →
     (f : ℕ) → f < length g.links → tail_in g.links f ≡ node → is_before next f ≡ nat_lt f from
 splits g node from None first f l at =
@@ -36,20 +36,20 @@ splits g node from (Some e) first f l at =
     between f from e le h = grind (arith, nat_tests)
 
 -- an order has no more nodes than there are
-pub order_fits : (g : GraphSeen) (order : List ℕ) (place : ℕ → ℕ) → IsPlacing g order place → length order ≤ g.nodes
+pub order_fits : (g : GraphView) (order : List ℕ) (place : ℕ → ℕ) → IsPlacing g order place → length order ≤ g.nodes
 order_fits g order place now = omega (arith, now.number, count_at_most g.nodes (λ v. nat_lt (place v) g.nodes))
 
 -- the node that has a place is the one that stands there
-own_node : (g : GraphSeen) (order : List ℕ) (place : ℕ → ℕ) (done v : ℕ) → IsPlacing g order place → v < g.nodes →
+own_node : (g : GraphView) (order : List ℕ) (place : ℕ → ℕ) (done v : ℕ) → IsPlacing g order place → v < g.nodes →
     done < length order →
     place v ≡ done → v ≡ slice_index order done
 own_node g order place done v now inside below is = elim (now.each v inside) [
-  | inl none ↦ (let few = order_fits g order place now in absurd (omega arith))
+  | inl none ↦ (let bounded = order_fits g order place now in absurd (omega arith))
   | inr p ↦ sym p.1 ∙ ap (slice_index order) is
 ]
 
 -- before the first link of the node
-pub release_start : (g : GraphSeen) (order waits : List ℕ) (done : ℕ) (next : Option ℕ) → IsWithin g.nodes g.links →
+pub release_start : (g : GraphView) (order waits : List ℕ) (done : ℕ) (next : Option ℕ) → IsWithin g.nodes g.links →
     done < length order →
     IsFirstFrom (leaves g.links (slice_index order done)) 0 (length g.links) next → IsReleased g order waits done →
     IsReleasing g order waits done (slice_index order done) next
@@ -69,7 +69,7 @@ release_start g order waits done next within below first now = record {
     none_yet p d t e h = grind (arith, nat_tests)
 
 -- the link at hand is not handled
-pub next_open : (g : GraphSeen) (order waits : List ℕ) (done node e : ℕ) →
+pub next_open : (g : GraphView) (order waits : List ℕ) (done node e : ℕ) →
     (now : IsReleasing g order waits done node (Some e)) →
     (now.handled e ≡ false) × (now.place (tail_in g.links e) ≡ done)
 next_open g order waits done node e now =
@@ -82,7 +82,7 @@ next_open g order waits done node e now =
     not_below p d e h = grind (arith, nat_tests)
 
 -- so its head waits
-pub next_waits : (g : GraphSeen) (order waits : List ℕ) (done node e : ℕ) → IsWithin g.nodes g.links →
+pub next_waits : (g : GraphView) (order waits : List ℕ) (done node e : ℕ) → IsWithin g.nodes g.links →
     IsReleasing g order waits done node (Some e) →
     0 < slice_index waits (head_in g.links e)
 next_waits g order waits done node e within now =
@@ -90,7 +90,7 @@ next_waits g order waits done node e within now =
     (next_open g order waits done node e now).0
 
 -- the link at hand is handled
-pub release_next : (g : GraphSeen) (order waits order' waits' : List ℕ) (done node e : ℕ) (next : Option ℕ) →
+pub release_next : (g : GraphView) (order waits order' waits' : List ℕ) (done node e : ℕ) (next : Option ℕ) →
     IsWithin g.nodes g.links →
     IsReleasing g order waits done node (Some e) →
     IsFirstFrom (leaves g.links (tail_in g.links e)) (e + 1) (length g.links) next →
@@ -130,10 +130,10 @@ release_next g order waits order' waits' done node e next within now first waits
         f ≡ (nat_lt (s.place' (tail_in g.links f)) done || (s.place' (tail_in g.links f) == done && is_before next f))
     which f l =
         let inside = (within.ends f l).0 in
-        let few = order_fits g order now.place now.sorting.placing in
+        let bounded = order_fits g order now.place now.sorting.placing in
         let same =
         compares (now.place (tail_in g.links f)) (s.place' (tail_in g.links f)) done g.nodes (length order)
-        (s.grows (tail_in g.links f) inside) now.within few in
+        (s.grows (tail_in g.links f) inside) now.within bounded in
         by_place (now.handled f) (is_before next f) (now.place (tail_in g.links f)) done f e
         (λ q. ap (λ x. now.place (tail_in g.links x)) q ∙ (next_open g order waits done node e now).1) (now.which f l)
         (λ is. splits g node (e + 1) next on f l

@@ -5,8 +5,8 @@ use Rattle.std.proofs.lemmas.Bool.{cases_lt, cases_eq, cases_Bool, and_parts, an
 use Rattle.std.proofs.lemmas.Bool.Decides.{nat_tests}
 use Rattle.std.specs.Prelude.{◌==◌, ◌&&◌, ◌^◌, nat_lt, nat_le, if◌then◌else◌, ◌⊎◌, slice_index, slice_get, Option, Some}
 use Rattle.std.specs.Prelude.{None, unwrap_or, option_map}
-use Rattle.place_sums.specs.Sums.{total, total_where}
-use Rattle.place_sums.proofs.Totals.{total_same, total_zero, total_add, total_at, total_pick, total_le}
+use Rattle.finite_sums.specs.Sums.{total, total_where}
+use Rattle.finite_sums.proofs.Totals.{total_same, total_zero, total_add, total_at, total_pick, total_le}
 use Rattle.water_model.specs.Network.{tail_in, head_in, is_outlet_in, is_river_in, is_river_kind, IsForward}
 use Rattle.water_model.specs.Network.{IsSoundNetwork, HasRiverOut}
 use Rattle.water_model.specs.RunOfRiver.{IsFirstRiver, RunsNaturally, water_at}
@@ -22,7 +22,7 @@ use Rattle.water_model.proofs.Balance.{ends}
 use Rattle.water_model.proofs.Sets.{grouped, total_where_add}
 use Rattle.river_net.specs.Firsts.{IsWithin}
 use Rattle.river_net.specs.Laws.{RunOfRiverIsPlan}
-use Rattle.place_sums.proofs.Counts.{at_inside}
+use Rattle.finite_sums.proofs.Counts.{at_inside}
 use Rattle.river_net.proofs.Ranks.{forward_numbers}
 
 -- the least place that passes
@@ -226,7 +226,7 @@ river_carry b month e first = of_carry (slice_get b.links e) first.river
 
 -- the run of the river keeps the balance, carries and wants of a plan
 pub river_is_plan : RunOfRiverIsPlan
-river_is_plan b month supply want p valid few natural = record {
+river_is_plan b month supply want p valid bounded natural = record {
   flow_len = natural.run.flow_len;
   take_len = natural.take_len;
   out_len = natural.run.out_len;

@@ -5,15 +5,15 @@ use Rattle.std.proofs.lemmas.Bool.{cases_lt, cases_eq, eqb-true}
 use Rattle.std.proofs.lemmas.Bool.Decides.{nat_tests}
 use Rattle.std.specs.Prelude.{◌==◌, ◌^◌, slice_index, slice_index_or, Option, Some, None, IfSome, IfNone, All, nat_lt}
 use Rattle.std.specs.Prelude.{if◌then◌else◌}
-use Rattle.place_sums.specs.Sums.{total, total_where}
-use Rattle.place_sums.proofs.Totals.{total_same, total_zero, total_add, total_at, total_change, total_pick}
-use Rattle.place_sums.proofs.Totals.{term_le_total}
+use Rattle.finite_sums.specs.Sums.{total, total_where}
+use Rattle.finite_sums.proofs.Totals.{total_same, total_zero, total_add, total_at, total_change, total_pick}
+use Rattle.finite_sums.proofs.Totals.{term_le_total}
 use Rattle.water_model.specs.Network.{tail_in, head_in, is_outlet_in, is_river_in, HasNodes, IsSoundNetwork}
 use Rattle.water_model.specs.RunOfRiver.{IsFirstRiver, RunsNaturally}
 use Rattle.water_model.specs.declared.types.Link.{Link}
 use Rattle.water_model.specs.declared.types.Node.{Node}
 use Rattle.river_net.specs.Net.{IsNet, IsRiverOf, IsRunningOrder}
-use Rattle.river_net.specs.NetSeen.{NetSeen}
+use Rattle.river_net.specs.NetView.{NetView}
 use Rattle.river_net.specs.Running.{IsRunning, IsSent, CanSend}
 use Rattle.river_net.proofs.Entries.{ends_in}
 
@@ -258,13 +258,13 @@ runs_naturally nodes links supply order run flow out ends sound flow_len out_len
         ap (is_outlet_in nodes) (eqb-true (tail_in links e) n at) ∙ outlet in cc))
 
 -- what a node needs to send its water on, where others have sent theirs
-pub send_fits : (nodes : List Node) (links : List Link) (net : NetSeen) (is : IsNet nodes links net) (supply : ℕ →
+pub send_fits : (nodes : List Node) (links : List Link) (net : NetView) (is : IsNet nodes links net) (supply : ℕ →
     ℕ) (i : ℕ) (heads flow out : List ℕ) (f : ℕ → ℕ) →
     total (length nodes) supply < 10 ^ 15 → i < length nodes → heads ≡ net.heads → length flow ≡ length links →
     length out ≡ length nodes →
     IsRunning nodes links supply is.run.place i f (λ v. slice_index out v) →
     CanSend (slice_index_or net.rivers (slice_index net.order i) None) (slice_index net.order i) heads flow out
-send_fits nodes links net is supply i heads flow out f few l same lf lo now =
+send_fits nodes links net is supply i heads flow out f bounded l same lf lo now =
     of_river (slice_index_or net.rivers v None) (is.river v v_in)
   where
     v : ℕ
@@ -306,7 +306,7 @@ send_fits nodes links net is supply i heads flow out f few l same lf lo now =
         )
 
 -- what is left where a node has sent its water on
-pub send_done : (nodes : List Node) (links : List Link) (net : NetSeen) (is : IsNet nodes links net) (supply : ℕ →
+pub send_done : (nodes : List Node) (links : List Link) (net : NetView) (is : IsNet nodes links net) (supply : ℕ →
     ℕ) (i : ℕ) (heads flow flow' out out' : List ℕ) →
     i < length nodes → heads ≡ net.heads →
     IfNone (slice_index_or net.rivers (slice_index net.order i) None) ((flow' ≡ flow) × (out' ≡ out)) →

@@ -6,13 +6,13 @@ use Rattle.std.proofs.lemmas.Bool.Decides.{nat_tests}
 use Rattle.std.proofs.lemmas.List.{get_or-set_same, get_or-set_other, get_or-replicate, length-set, length-replicate}
 use Rattle.std.proofs.lemmas.Grind.{common_steps}
 use Rattle.std.specs.Prelude.{◌==◌, ◌||◌, nat_lt, slice_index, slice_set, if◌then◌else◌, Option, Some}
-use Rattle.place_sums.proofs.Totals.{total_same, total_add, total_at, count_at_most}
+use Rattle.finite_sums.proofs.Totals.{total_same, total_add, total_at, count_at_most}
 use Rattle.water_model.specs.Lookups.{has}
 use Rattle.water_model.specs.Network.{walks, tail_in, head_in}
 use Rattle.river_net.specs.Firsts.{IsWithin, IsFirstFrom, leaves}
-use Rattle.river_net.specs.GraphSeen.{GraphSeen}
+use Rattle.river_net.specs.GraphView.{GraphView}
 use Rattle.river_net.specs.Search.{IsSearch, IsExpanded, IsExpanding, reaches_itself}
-use Rattle.place_sums.proofs.Counts.{at_inside}
+use Rattle.finite_sums.proofs.Counts.{at_inside}
 use Rattle.river_net.proofs.Releases.{first_leaves, splits}
 use Rattle.river_net.proofs.Walks.{walk_on, walk_one, walk_within, walk_stays}
 
@@ -31,7 +31,7 @@ has_more seen v u l = elim (cases_eq u v) [
     there u v t e = grind (arith, nat_tests)
 
 -- at the start one node is seen
-pub search_start : (g : GraphSeen) (start : ℕ) (seen : List Bool) (queue : List ℕ) → start < g.nodes →
+pub search_start : (g : GraphView) (start : ℕ) (seen : List Bool) (queue : List ℕ) → start < g.nodes →
     seen ≡ slice_set (replicate g.nodes false) start true → queue ≡ start ∷ [] → IsExpanded g start seen queue 0
 search_start g start seen queue inside seen_is queue_is = record {
   search = record {
@@ -78,18 +78,18 @@ search_start g start seen queue inside seen_is queue_is = record {
         ap (slice_index queue) none ∙ ap (λ (xs : List ℕ). slice_index xs 0) queue_is
 
 -- a link to the start closes a walk
-pub expand_found : (g : GraphSeen) (start : ℕ) (seen : List Bool) (queue : List ℕ) (done node e : ℕ) →
+pub expand_found : (g : GraphView) (start : ℕ) (seen : List Bool) (queue : List ℕ) (done node e : ℕ) →
     IsExpanding g start seen queue done node (Some e) → head_in g.links e ≡ start → reaches_itself g start ≡ true
 expand_found g start seen queue done node e now found =
     let number = now.expanded.search.number in
-    let few = count_at_most g.nodes (λ v. has seen v) in
+    let bounded = count_at_most g.nodes (λ v. has seen v) in
     let within = now.within in
     walk_within g.links (done + 1) g.nodes start start (omega arith)
     (subst (λ v. walks g.links (done + 1) start v ≡ true) found
     (now.expanded.search.reached done e within now.leaves.0 (now.leaves.1 ∙ sym now.at)))
 
 -- a link is followed that does not lead to the start
-pub expand_next : (g : GraphSeen) (start : ℕ) (seen : List Bool) (queue : List ℕ) (done node e : ℕ) (seen' : List Bool)
+pub expand_next : (g : GraphView) (start : ℕ) (seen : List Bool) (queue : List ℕ) (done node e : ℕ) (seen' : List Bool)
     (queue' : List ℕ) (next : Option ℕ) →
     IsWithin g.nodes g.links → IsExpanding g start seen queue done node (Some e) → (head_in g.links e ≡ start → ⊥) →
     seen' ≡ slice_set seen (head_in g.links e) true →
@@ -203,7 +203,7 @@ expand_next g start seen queue done node e seen' queue' next within now other se
         one_more : (k : ℕ) → k + 1 ≡ suc k
         one_more k = omega arith
 
-        -- a walk goes on behind the new node
+        -- a walk goes on after the new node
         further : (f : ℕ) → f < length g.links → tail_in g.links f ≡ h →
             walks g.links (done + 1 + 1) start (head_in g.links f) ≡ true
         further f m at =
@@ -243,7 +243,7 @@ expand_next g start seen queue done node e seen' queue' next within now other se
         less f e apart h = grind (arith, nat_tests)
 
 -- where all places of the queue were followed, no walk leads back
-pub search_ends : (g : GraphSeen) (start : ℕ) (seen : List Bool) (queue : List ℕ) (done : ℕ) →
+pub search_ends : (g : GraphView) (start : ℕ) (seen : List Bool) (queue : List ℕ) (done : ℕ) →
     IsWithin g.nodes g.links → start < g.nodes → length queue ≤ done →
     IsExpanded g start seen queue done → reaches_itself g start ≡ false
 search_ends g start seen queue done within inside all now = false_from_ne_true (reaches_itself g start) (λ h.
@@ -252,6 +252,6 @@ search_ends g start seen queue done within inside all now = false_from_ne_true (
     let b = at.1 in now.closed at.0 e (omega arith) l (sym at.2)) now.search.start_seen h)
 
 -- the queue has no more places than there are nodes
-pub queue_fits : (g : GraphSeen) (start : ℕ) (seen : List Bool) (queue : List ℕ) → IsSearch g start seen queue →
+pub queue_fits : (g : GraphView) (start : ℕ) (seen : List Bool) (queue : List ℕ) → IsSearch g start seen queue →
     length queue ≤ g.nodes
 queue_fits g start seen queue now = omega (arith, now.number, count_at_most g.nodes (λ v. has seen v))

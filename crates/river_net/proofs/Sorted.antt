@@ -3,21 +3,21 @@ use Rattle.std.proofs.Common.{◌≡◌, ℕ, zero, suc, ◌<◌, ◌≤◌, fal
 use Rattle.std.proofs.lemmas.Bool.{cases_eq, cases_lt, and_parts, not-true, eqb-true, ltb-false, lt-ltb}
 use Rattle.std.proofs.lemmas.Bool.{false_from_ne_true, false≢true}
 use Rattle.std.specs.Prelude.{◌==◌, ◌&&◌, not, nat_lt, ◌⊎◌, slice_index}
-use Rattle.place_sums.proofs.Totals.{place_counted, IsCounted}
+use Rattle.finite_sums.proofs.Totals.{index_counted, IsCounted}
 use Rattle.water_model.specs.Network.{walks, tail_in, head_in}
 use Rattle.water_model.specs.declared.types.Link.{Link}
 use Rattle.water_model.specs.declared.types.Node.{Node}
 use Rattle.river_net.specs.Firsts.{IsWithin}
-use Rattle.river_net.specs.GraphSeen.{GraphSeen}
+use Rattle.river_net.specs.GraphView.{GraphView}
 use Rattle.river_net.specs.Net.{IsRunningOrder}
 use Rattle.river_net.specs.Sorting.{IsReleased}
-use Rattle.place_sums.proofs.Counts.{all_counted}
+use Rattle.finite_sums.proofs.Counts.{all_counted}
 use Rattle.river_net.proofs.Walks.{walk_rises}
 use Rattle.river_net.proofs.Chains.{Chain, chain_start, chain_more, chain_turns}
 use Rattle.river_net.proofs.Releases.{order_fits}
 
 -- a node that waits for no link is on no cycle
-pub off_cycle : (g : GraphSeen) (order waits : List ℕ) (done : ℕ) → IsReleased g order waits done → (v : ℕ) →
+pub off_cycle : (g : GraphView) (order waits : List ℕ) (done : ℕ) → IsReleased g order waits done → (v : ℕ) →
     v < g.nodes → slice_index waits v ≡ 0 →
     walks g.links g.nodes v v ≡ false
 off_cycle g order waits done now v l free = false_from_ne_true (walks g.links g.nodes v v) (λ h.
@@ -25,21 +25,21 @@ off_cycle g order waits done now v l free = false_from_ne_true (walks g.links g.
     (now.sorting.free v l l free) h in absurd (omega arith))
 
 -- a link leads to a node without a place from another without a place
-pub record HasOpenLink (g : GraphSeen) (order : List ℕ) (place : ℕ → ℕ) (node : ℕ) : Type 0 where
+pub record HasOpenLink (g : GraphView) (order : List ℕ) (place : ℕ → ℕ) (node : ℕ) : Type 0 where
   pub link : ℕ
   pub in_range : link < length g.links
   pub head : head_in g.links link ≡ node
   pub tail : length order ≤ place (tail_in g.links link)
 
 -- a node without a place waits for such a link
-open_link : (g : GraphSeen) (order waits : List ℕ) → (now : IsReleased g order waits (length order)) → (v : ℕ) →
+open_link : (g : GraphView) (order waits : List ℕ) → (now : IsReleased g order waits (length order)) → (v : ℕ) →
     v < g.nodes → length order ≤ now.place v →
     HasOpenLink g order now.place v
 open_link g order waits now v l unplaced = elim (cases_eq (slice_index waits v) 0) [
   | inl free ↦ (let p = now.sorting.free v l l free in absurd (omega arith))
   | inr some ↦
       (let w = now.sorting.waiting v l in
-      found (place_counted (length g.links) 0 (λ e. head_in g.links e == v && not (now.handled e)) (positive some w)))
+      found (index_counted (length g.links) 0 (λ e. head_in g.links e == v && not (now.handled e)) (positive some w)))
 ]
   where
     positive : {m n : ℕ} → (m ≡ 0 → ⊥) → m ≡ n → 0 < n
@@ -57,7 +57,7 @@ open_link g order waits now v l unplaced = elim (cases_eq (slice_index waits v) 
         }
 
 -- so there are chains of any length to it
-chain_to : (g : GraphSeen) (order waits : List ℕ) → IsWithin g.nodes g.links →
+chain_to : (g : GraphView) (order waits : List ℕ) → IsWithin g.nodes g.links →
     (now : IsReleased g order waits (length order)) →
     (k v : ℕ) → v < g.nodes → length order ≤ now.place v → Chain g.links g.nodes k v
 chain_to g order waits within now zero v l unplaced = chain_start g.links g.nodes v l
@@ -68,7 +68,7 @@ chain_to g order waits within now (suc k) v l unplaced =
     (chain_to g order waits within now k (tail_in g.links one.link) (within.ends one.link one.in_range).0 one.tail))
 
 -- where no node is on a cycle, every node has its place
-pub all_placed : (g : GraphSeen) (order waits : List ℕ) → IsWithin g.nodes g.links →
+pub all_placed : (g : GraphView) (order waits : List ℕ) → IsWithin g.nodes g.links →
     (now : IsReleased g order waits (length order)) →
     ((v : ℕ) → v < g.nodes → walks g.links g.nodes v v ≡ false) → (v : ℕ) → v < g.nodes → now.place v < length order
 all_placed g order waits within now none v l = elim (cases_lt (now.place v) (length order)) [
@@ -91,7 +91,7 @@ running_order nodes links order waits within now none = record {
   forward = record { runs = λ e l. now.sorting.placing.forward e l (placed (head_in links e) (within.ends e l).1) };
 }
   where
-    g : GraphSeen
+    g : GraphView
     g = record { nodes = length nodes; links = links }
 
     placed : (v : ℕ) → v < length nodes → now.place v < length order

@@ -6,21 +6,21 @@ use Rattle.std.proofs.lemmas.Bool.Decides.{nat_tests}
 use Rattle.std.proofs.lemmas.List.{get_or-set_same, get_or-set_other, length-set}
 use Rattle.std.proofs.lemmas.Grind.{common_steps}
 use Rattle.std.specs.Prelude.{◌==◌, ◌&&◌, ◌||◌, not, slice_index, slice_set, if◌then◌else◌, ◌⊎◌}
-use Rattle.place_sums.specs.Sums.{count_where}
-use Rattle.place_sums.proofs.Totals.{total_same, total_change}
+use Rattle.finite_sums.specs.Sums.{count_where}
+use Rattle.finite_sums.proofs.Totals.{total_same, total_change}
 use Rattle.water_model.specs.Network.{tail_in, head_in}
 use Rattle.river_net.specs.Firsts.{IsWithin}
-use Rattle.river_net.specs.GraphSeen.{GraphSeen}
+use Rattle.river_net.specs.GraphView.{GraphView}
 use Rattle.river_net.specs.Sorting.{AreEntering, IsPlacing, IsSorting, HasSources}
-use Rattle.place_sums.proofs.Counts.{none_passes}
+use Rattle.finite_sums.proofs.Counts.{none_passes}
 use Rattle.river_net.proofs.Places.{with_place, at_place, off_place, placing_start, placing_next, room}
 
 -- the count of the links to a node that are not handled
-abbrev pub waiting_at : GraphSeen → (ℕ → Bool) → ℕ → ℕ
+abbrev pub waiting_at : GraphView → (ℕ → Bool) → ℕ → ℕ
 waiting_at g handled v = count_where (length g.links) (λ e. head_in g.links e == v && not (handled e))
 
 -- a node that waits for none gets its place
-sorting_place : (g : GraphSeen) (order waits : List ℕ) (place : ℕ → ℕ) (handled : ℕ → Bool) (bound v : ℕ) →
+sorting_place : (g : GraphView) (order waits : List ℕ) (place : ℕ → ℕ) (handled : ℕ → Bool) (bound v : ℕ) →
     IsWithin g.nodes g.links → IsPlacing g order place → length waits ≡ g.nodes →
     ((u : ℕ) → u < g.nodes → slice_index waits u ≡ waiting_at g handled u) →
     ((u : ℕ) → u < g.nodes → u < bound → u ≢ v → slice_index waits u ≡ 0 → place u < length order) →
@@ -76,7 +76,7 @@ sorting_place g order waits place handled bound v within placing count waiting f
         tells x v h same fails = grind (arith, nat_tests)
 
 -- at the start no link is handled
-pub sources_start : (g : GraphSeen) (order waits : List ℕ) → order ≡ [] → AreEntering g (length g.links) waits →
+pub sources_start : (g : GraphView) (order waits : List ℕ) → order ≡ [] → AreEntering g (length g.links) waits →
     HasSources g order waits 0
 sources_start g order waits none entering = subst (λ xs. HasSources g xs waits 0) (sym none) record {
   place = λ v. g.nodes;
@@ -97,7 +97,7 @@ sources_start g order waits none entering = subst (λ xs. HasSources g xs waits 
     unhandled false = refl
 
 -- a node that no link leads to gets its place
-pub source_next : (g : GraphSeen) (order order' waits : List ℕ) (v : ℕ) → IsWithin g.nodes g.links → v < g.nodes →
+pub source_next : (g : GraphView) (order order' waits : List ℕ) (v : ℕ) → IsWithin g.nodes g.links → v < g.nodes →
     slice_index waits v ≡ 0 →
     order' ≡ order ++ v ∷ [] → HasSources g order waits v → HasSources g order' waits (v + 1)
 source_next g order order' waits v within inside none more now =
@@ -116,7 +116,7 @@ source_next g order order' waits v within inside none more now =
     }
 
 -- any other node waits
-pub source_skip : (g : GraphSeen) (order waits : List ℕ) (v : ℕ) → slice_index waits v ≢ 0 →
+pub source_skip : (g : GraphView) (order waits : List ℕ) (v : ℕ) → slice_index waits v ≢ 0 →
     HasSources g order waits v → HasSources g order waits (v + 1)
 source_skip g order waits v some now = record {
   place = now.place;
@@ -138,7 +138,7 @@ abbrev pub and_link : (ℕ → Bool) → ℕ → ℕ → Bool
 and_link handled e f = handled f || f == e
 
 -- its head waits for one link fewer
-less_waiting : (g : GraphSeen) (handled : ℕ → Bool) (e v : ℕ) → e < length g.links → handled e ≡ false →
+less_waiting : (g : GraphView) (handled : ℕ → Bool) (e v : ℕ) → e < length g.links → handled e ≡ false →
     waiting_at g (and_link handled e) v + (if head_in g.links e == v then 1 else 0) ≡ waiting_at g handled v
 less_waiting g handled e v below unhandled_yet =
     let change =
@@ -159,7 +159,7 @@ less_waiting g handled e v below unhandled_yet =
     one t h x unhandled_yet = grind (arith, nat_tests)
 
 -- the head of a link that is not handled waits
-pub waits_for : (g : GraphSeen) (order waits : List ℕ) (place : ℕ → ℕ) (handled : ℕ → Bool) (e : ℕ) →
+pub waits_for : (g : GraphView) (order waits : List ℕ) (place : ℕ → ℕ) (handled : ℕ → Bool) (e : ℕ) →
     IsWithin g.nodes g.links →
     IsSorting g order waits place handled g.nodes → e < length g.links → handled e ≡ false →
     0 < slice_index waits (head_in g.links e)
@@ -173,7 +173,7 @@ waits_for g order waits place handled e within now below unhandled_yet =
     own u x = grind (arith, nat_tests)
 
 -- what handling a link leaves: old places stay, and at most its head gets a new one
-pub record IsSettled (g : GraphSeen) (order waits : List ℕ) (place : ℕ → ℕ) (handled : ℕ →
+pub record IsSettled (g : GraphView) (order waits : List ℕ) (place : ℕ → ℕ) (handled : ℕ →
     Bool) (e : ℕ) (order' waits' : List ℕ) : Type 0 where
   pub place' : ℕ → ℕ
   pub sorting : IsSorting g order' waits' place' (and_link handled e) g.nodes
@@ -183,14 +183,14 @@ pub record IsSettled (g : GraphSeen) (order waits : List ℕ) (place : ℕ → �
   pub more : length order ≤ length order'
 
 -- handling a link
-pub settled : (g : GraphSeen) (order waits : List ℕ) (place : ℕ → ℕ) (handled : ℕ →
+pub settled : (g : GraphView) (order waits : List ℕ) (place : ℕ → ℕ) (handled : ℕ →
     Bool) (e : ℕ) (order' waits' : List ℕ) →
     IsWithin g.nodes g.links → IsSorting g order waits place handled g.nodes → e < length g.links → handled e ≡ false →
     place (tail_in g.links e) < length order →
     waits' ≡ slice_set waits (head_in g.links e) (slice_index waits (head_in g.links e) - 1) →
     order' ≡ (if slice_index waits (head_in g.links e) == 1 then order ++ head_in g.links e ∷ [] else order) →
     IsSettled g order waits place handled e order' waits'
-settled g order waits place handled e order' waits' within now below unhandled_yet behind waits_are order_is =
+settled g order waits place handled e order' waits' within now below unhandled_yet after waits_are order_is =
     elim (cases_eq (slice_index waits h) 1) [
       | inl last ↦
           subst (λ xs. IsSettled g order waits place handled e xs waits')
@@ -250,7 +250,7 @@ settled g order waits place handled e order' waits' within now below unhandled_y
     tails : (f : ℕ) → f < length g.links → and_link handled e f ≡ true → place (tail_in g.links f) < length order
     tails f l t = elim (or_cases (handled f) (f == e) t) [
       | inl before ↦ now.tails f l before
-      | inr here ↦ (let p = ap (λ x. place (tail_in g.links x)) (eqb-true f e here) in omega (arith, behind))
+      | inr here ↦ (let p = ap (λ x. place (tail_in g.links x)) (eqb-true f e here) in omega (arith, after))
     ]
 
     idle : (u : ℕ) → u < g.nodes → place u < length order → (u < g.nodes) × (slice_index waits' u ≡ 0)

@@ -38,5 +38,5 @@ pub record IsLeaving (nodes : ℕ) (links : List Link) (from : ℕ) (first next 
 pub record IsGraph (links : List Link) (first next : List (Option ℕ)) : Type 0 where
   pub leaving : IsLeaving (length first) links 0 first next
   pub within : IsWithin (length first) links
-  pub few_nodes : length first ≤ 2000
-  pub few_links : length links ≤ 4000
+  pub bounded_nodes : length first ≤ 2000
+  pub bounded_links : length links ≤ 4000

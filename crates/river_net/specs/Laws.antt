@@ -1,6 +1,6 @@
 -- Laws over the definitions.
 use Rattle.std.specs.Prelude.{◌≡◌, ◌↔◌, ℕ, ◌≤◌, ◌^◌, List, length, slice_index, None, All}
-use Rattle.place_sums.specs.Sums.{total}
+use Rattle.finite_sums.specs.Sums.{total}
 use Rattle.water_model.specs.Network.{HasNodes, IsSoundNetwork}
 use Rattle.water_model.specs.Plans.{IsPlan}
 use Rattle.water_model.specs.RunOfRiver.{IsRunOfRiver}

@@ -1,9 +1,9 @@
 pub mod NetFaults
 pub mod Firsts
-pub mod GraphSeen
+pub mod GraphView
 pub mod Sorting
 pub mod Search
-pub mod NetSeen
+pub mod NetView
 pub mod Net
 pub mod Running
 pub mod Laws

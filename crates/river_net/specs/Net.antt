@@ -1,12 +1,12 @@
 -- What a network says of its nodes and links.
 use Rattle.std.specs.Prelude.{◌≡◌, ℕ, ◌<◌, true, false, List, length, slice_index, slice_index_or, Option, Some, None}
 use Rattle.std.specs.Prelude.{All}
-use Rattle.place_sums.specs.Sums.{total}
+use Rattle.finite_sums.specs.Sums.{total}
 use Rattle.water_model.specs.Network.{tail_in, head_in, is_outlet_in, HasNodes, IsForward, IsSoundNetwork}
 use Rattle.water_model.specs.RunOfRiver.{IsFirstRiver}
 use Rattle.water_model.specs.declared.types.Link.{Link}
 use Rattle.water_model.specs.declared.types.Node.{Node}
-use Rattle.river_net.specs.NetSeen.{NetSeen}
+use Rattle.river_net.specs.NetView.{NetView}
 
 -- the order has every node once, each at its place, and each link leads from a node to one with a greater place
 pub record IsRunningOrder (nodes : List Node) (links : List Link) (order : List ℕ) : Type 0 where
@@ -25,7 +25,7 @@ IsRiverOf nodes links node (Some link) =
     (is_outlet_in nodes node ≡ false) × IsFirstRiver links link × (tail_in links link ≡ node)
 
 -- the network of nodes and links, whose ends are nodes
-pub record IsNet (nodes : List Node) (links : List Link) (net : NetSeen) : Type 0 where
+pub record IsNet (nodes : List Node) (links : List Link) (net : NetView) : Type 0 where
   pub ends : All (λ l. HasNodes nodes l) links
   pub run : IsRunningOrder nodes links net.order
   pub river_count : length net.rivers ≡ length nodes
@@ -34,7 +34,7 @@ pub record IsNet (nodes : List Node) (links : List Link) (net : NetSeen) : Type 
   pub head : (e : ℕ) → e < length links → slice_index net.heads e ≡ head_in links e
 
 -- it is the network of some nodes and links that are sound
-pub record IsNetOfSome (net : NetSeen) : Type 0 where
+pub record IsNetOfSome (net : NetView) : Type 0 where
   pub nodes : List Node
   pub links : List Link
   pub is_net : IsNet nodes links net

@@ -1,7 +1,7 @@
 -- Water sent down rivers, node by node in the order of a network.
 use Rattle.std.specs.Prelude.{◌≡◌, ◌≢◌, ◌⊎◌, ℕ, ◌+◌, ◌<◌, ◌≤◌, ◌^◌, ◌==◌, Option, IfSome, false, List, length}
 use Rattle.std.specs.Prelude.{slice_index}
-use Rattle.place_sums.specs.Sums.{total, total_where}
+use Rattle.finite_sums.specs.Sums.{total, total_where}
 use Rattle.water_model.specs.Network.{tail_in, head_in, is_outlet_in}
 use Rattle.water_model.specs.RunOfRiver.{IsFirstRiver}
 use Rattle.water_model.specs.declared.types.Link.{Link}

@@ -1,18 +1,18 @@
 -- How nodes get their places in an order in which each link runs forward.
 use Rattle.std.specs.Prelude.{◌≡◌, ◌⊎◌, ℕ, ◌<◌, ◌≤◌, ◌==◌, ◌&&◌, ◌||◌, Bool, true, false, not, nat_lt, List, length}
 use Rattle.std.specs.Prelude.{slice_index, Option, Some, None, IfSome}
-use Rattle.place_sums.specs.Sums.{count_where}
+use Rattle.finite_sums.specs.Sums.{count_where}
 use Rattle.water_model.specs.Network.{tail_in, head_in}
-use Rattle.river_net.specs.GraphSeen.{GraphSeen}
+use Rattle.river_net.specs.GraphView.{GraphView}
 
 -- how many of the links before a place lead to each node
-pub record AreEntering (g : GraphSeen) (bound : ℕ) (counts : List ℕ) : Type 0 where
+pub record AreEntering (g : GraphView) (bound : ℕ) (counts : List ℕ) : Type 0 where
   pub count : length counts ≡ g.nodes
   pub each : (v : ℕ) → v < g.nodes → slice_index counts v ≡ count_where bound (λ e. head_in g.links e == v)
 
--- the nodes of the order have their places in it, behind all nodes from which links lead to them; any other node has
--- the place `nodes`
-pub record IsPlacing (g : GraphSeen) (order : List ℕ) (place : ℕ → ℕ) : Type 0 where
+-- the nodes of the order have their places in it, after all nodes from which links lead to them; any other node has the
+-- place `nodes`
+pub record IsPlacing (g : GraphView) (order : List ℕ) (place : ℕ → ℕ) : Type 0 where
   pub each : (v : ℕ) → v < g.nodes →
       (place v ≡ g.nodes) ⊎ ((place v < length order) × (slice_index order (place v) ≡ v))
   pub placed : (k : ℕ) → k < length order → (slice_index order k < g.nodes) × (place (slice_index order k) ≡ k)
@@ -22,7 +22,7 @@ pub record IsPlacing (g : GraphSeen) (order : List ℕ) (place : ℕ → ℕ) : 
 
 -- each node waits for the links that lead to it and are not handled; of the nodes below a bound those that wait for
 -- none have places
-pub record IsSorting (g : GraphSeen) (order waits : List ℕ) (place : ℕ → ℕ) (handled : ℕ → Bool) (bound : ℕ) : Type 0
+pub record IsSorting (g : GraphView) (order waits : List ℕ) (place : ℕ → ℕ) (handled : ℕ → Bool) (bound : ℕ) : Type 0
   where
     pub placing : IsPlacing g order place
     pub count : length waits ≡ g.nodes
@@ -33,12 +33,12 @@ pub record IsSorting (g : GraphSeen) (order waits : List ℕ) (place : ℕ → �
     pub tails : (e : ℕ) → e < length g.links → handled e ≡ true → place (tail_in g.links e) < length order
 
 -- no link is handled, and the nodes below a bound that no link leads to have places
-pub record HasSources (g : GraphSeen) (order waits : List ℕ) (bound : ℕ) : Type 0 where
+pub record HasSources (g : GraphView) (order waits : List ℕ) (bound : ℕ) : Type 0 where
   pub place : ℕ → ℕ
   pub sorting : IsSorting g order waits place (λ e. false) bound
 
 -- the links are handled that leave the first nodes of the order
-pub record IsReleased (g : GraphSeen) (order waits : List ℕ) (done : ℕ) : Type 0 where
+pub record IsReleased (g : GraphView) (order waits : List ℕ) (done : ℕ) : Type 0 where
   pub place : ℕ → ℕ
   pub handled : ℕ → Bool
   pub sorting : IsSorting g order waits place handled g.nodes
@@ -49,8 +49,8 @@ abbrev pub is_before : Option ℕ → ℕ → Bool
 is_before None link = true
 is_before (Some next) link = nat_lt link next
 
--- so are those before the next that leave the node behind them
-pub record IsReleasing (g : GraphSeen) (order waits : List ℕ) (done node : ℕ) (next : Option ℕ) : Type 0 where
+-- so are those before the next that leave the node after them
+pub record IsReleasing (g : GraphView) (order waits : List ℕ) (done node : ℕ) (next : Option ℕ) : Type 0 where
   pub place : ℕ → ℕ
   pub handled : ℕ → Bool
   pub sorting : IsSorting g order waits place handled g.nodes

@@ -20,10 +20,10 @@ pub struct Graph<'a> {
 
 impl<'a> Model for Graph<'a> {
     ghost use Rattle.std.specs.Prelude.{length};
-    ghost use Rattle.river_net.specs.GraphSeen.{GraphSeen};
+    ghost use Rattle.river_net.specs.GraphView.{GraphView};
     ghost use Rattle.river_net.specs.Firsts.{IsGraph};
 
-    ghost Value = { GraphSeen };
+    ghost Value = { GraphView };
 
     ghost view = { λ g. record { nodes = length g.first.items; links = g.links.now } };
 
@@ -32,7 +32,7 @@ impl<'a> Model for Graph<'a> {
 
 /// For each node how many links lead to it.
 fn count_entering(alloc: Global, nodes: usize, links: &[Link]) -> Result<Vec<u32>, AllocError>
-    requires few_links { length links.now ≤ 4000 }
+    requires bounded_links { length links.now ≤ 4000 }
     requires within { IsWithin nodes links.now }
     ensures { IfOk result (λ counts.
         AreEntering (record { nodes = nodes; links = links.now }) (length links.now) counts.items) }
@@ -47,8 +47,8 @@ fn count_entering(alloc: Global, nodes: usize, links: &[Link]) -> Result<Vec<u32
 impl<'a> Graph<'a> {
     /// Puts each link into the list of the node that it leaves.
     pub fn build(alloc: Global, nodes: &[Node], links: &'a [Link]) -> Result<Graph<'a>, AllocError>
-        requires few_nodes { length nodes.now ≤ 2000 }
-        requires few_links { length links.now ≤ 4000 }
+        requires bounded_nodes { length nodes.now ≤ 2000 }
+        requires bounded_links { length links.now ≤ 4000 }
         requires ends { All (λ l. HasNodes nodes.now l) links.now }
         ensures { IfOk result (λ graph.
             graph ≡ record { nodes = length nodes.now; links = links.now }) }
@@ -66,7 +66,7 @@ impl<'a> Graph<'a> {
     /// How many nodes there are.
     pub fn nodes(&self) -> usize
         ensures value { result ≡ self.now.nodes }
-        ensures few { result ≤ 2000 }
+        ensures bounded { result ≤ 2000 }
         ensures within { IsWithin self.now.nodes self.now.links }
     {
         self.first.len()
@@ -77,7 +77,7 @@ impl<'a> Graph<'a> {
         ensures entering { IfOk result (λ counts.
             AreEntering self.now (length self.now.links) counts.items) }
         ensures within { IsWithin self.now.nodes self.now.links }
-        ensures few { self.now.nodes ≤ 2000 }
+        ensures bounded { self.now.nodes ≤ 2000 }
     {
         count_entering(alloc, self.first.len(), self.links)
     }

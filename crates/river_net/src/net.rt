@@ -30,9 +30,9 @@ pub struct Net {
 }
 
 impl Model for Net {
-    ghost use Rattle.river_net.specs.NetSeen.{NetSeen};
+    ghost use Rattle.river_net.specs.NetView.{NetView};
 
-    ghost Value = { NetSeen };
+    ghost Value = { NetView };
 
     ghost view = { λ n. record { order = n.order.items; rivers = n.rivers.items; heads = n.heads.items } };
 }
@@ -69,8 +69,8 @@ impl Net {
     /// out, and then says nothing of nodes and links.
     pub fn build(alloc: Global, nodes: &[Node], links: &[Link]) -> Result<Net, NetRefused>
         requires some { 1 ≤ length nodes.now }
-        requires few_nodes { length nodes.now ≤ 2000 }
-        requires few_links { length links.now ≤ 4000 }
+        requires bounded_nodes { length nodes.now ≤ 2000 }
+        requires bounded_links { length links.now ≤ 4000 }
         requires ends { All (λ l. HasNodes nodes.now l) links.now }
         ensures ok { IfOk result (λ net. IsNet nodes.now links.now net) }
         ensures sound { OnOk result (IsSoundNetwork nodes.now links.now) }

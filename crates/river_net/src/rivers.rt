@@ -18,7 +18,7 @@ pub fn first_rivers(
     nodes: &[Node],
     links: &[Link],
 ) -> Result<Vec<Option<u32>>, AllocError>
-    requires few_links { length links.now ≤ 4000 }
+    requires bounded_links { length links.now ≤ 4000 }
     requires ends { All (λ l. HasNodes nodes.now l) links.now }
     ensures { let test = leaves_as_river links.now in
         IfOk result (λ rivers.

@@ -5,7 +5,7 @@ use Rattle.std.proofs.lemmas.List.{get_or-replicate}
 use Rattle.std.proofs.lemmas.Grind.{same_number_lists}
 use Rattle.std.specs.Prelude.{◌^◌, slice_index, Option, Some}
 use Rattle.std.specs.Prelude.{None, is_some}
-use Rattle.place_sums.specs.Sums.{when}
+use Rattle.finite_sums.specs.Sums.{when}
 use Rattle.water_model.specs.Basin.{is_outlet, taking_node}
 use Rattle.water_model.specs.Valid.{IsValidBasin}
 use Rattle.water_model.specs.RunOfRiver.{IsRunOfRiver}
@@ -117,7 +117,7 @@ plan_same b month supply want p g fits plan laid =
 pub river_plan : (b : Basin) (month : Month) (supply want : List ℕ) (p : Plan) → IsValidBasin b → AreSupplies b supply →
     IsRunOfRiver b supply p → IsPlan b month supply want p
 river_plan b month supply want p valid given run =
-    river_is_plan b month supply want p valid (let few = given.small in omega arith) run
+    river_is_plan b month supply want p valid (let bounded = given.small in omega arith) run
 
 -- the same bounds and amounts in another list
 pub bounds_over : (b : Basin) (month : Month) (want xs ys : List ℕ) (most : ℕ → ℕ) → xs ≡ ys →

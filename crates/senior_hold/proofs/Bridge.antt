@@ -6,8 +6,8 @@ use Rattle.std.proofs.lemmas.Bool.Decides.{nat_tests}
 use Rattle.std.proofs.lemmas.List.FromFn.{get_or-map-range_with_len, length-map-range_with_len}
 use Rattle.std.proofs.Math.ListN.{get_or-eq_default}
 use Rattle.std.specs.Prelude.{◌==◌, slice_index, ◌&&◌, not, nat_lt, if◌then◌else◌, Option, Some, None, is_some}
-use Rattle.place_sums.specs.Sums.{total, total_where, when}
-use Rattle.place_sums.proofs.Totals.{total_same, total_zero}
+use Rattle.finite_sums.specs.Sums.{total, total_where, when}
+use Rattle.finite_sums.proofs.Totals.{total_same, total_zero}
 use Rattle.water_model.specs.Basin.{tail_of, head_of, taking_node, instream_link, is_senior, is_on_link, is_at}
 use Rattle.water_model.specs.Basin.{is_outlet}
 use Rattle.water_model.specs.Cuts.{enters, leaves, takes_within, node_within, kept_on, cut_capacity, cut_kept}
@@ -19,7 +19,8 @@ use Rattle.water_model.proofs.Duality.{not_senior_to_itself}
 use Rattle.circulation.specs.Network.{Network, cut_in, cut_out}
 use Rattle.circulation.specs.Network as arc
 use Rattle.augment.specs.Raised.{IsGreatestCut}
-use Rattle.senior_hold.specs.MonthNetwork.{takes, take_arc, out_arc, right_arc, arc_by_link, IsMonthNetwork, Holds}
+use Rattle.senior_hold.specs.MonthNetwork.{takes, take_arc, out_arc, right_arc, arc_by_link, IsMonthNetwork}
+use Rattle.senior_hold.specs.MonthNetwork.{KeepsForSeniors}
 use Rattle.senior_hold.specs.MonthNetwork.{list_of}
 use Rattle.senior_hold.proofs.MonthArcs.{arcs_total, take_arc_apart, IsKind, on_link, at_node}
 use Rattle.water_model.specs.Lookups.{has}
@@ -97,7 +98,8 @@ owns b right (at_node v l i t) =
     same x y h = grind (arith, nat_tests)
 
 pub kept_same : (b : Basin) (month : Month) (supply want delivered : List ℕ) (w : Network) (right : ℕ)
-    (cut : List Bool) → IsMonthNetwork b month supply want w → Holds b delivered (λ s. is_senior b s right) w →
+    (cut : List Bool) → IsMonthNetwork b month supply want w → KeepsForSeniors b delivered (λ s. is_senior b s right)
+    w →
     IsKind b right → length cut ≡ length b.nodes → cut_out w (right_arc b right)
     (has cut) ≡ cut_kept b delivered right cut
 kept_same b month supply want delivered w right cut net holds kind len =
@@ -220,7 +222,8 @@ arc_cut b month supply want w right cut net k kind len is = record { one_each = 
 
 -- tight cuts of a right and of its arc are the same
 pub arc_tight : (b : Basin) (month : Month) (supply want delivered : List ℕ) (w : Network) (g : ℕ → ℕ) (right : ℕ)
-    (cut : List Bool) → IsMonthNetwork b month supply want w → Holds b delivered (λ s. is_senior b s right) w →
+    (cut : List Bool) → IsMonthNetwork b month supply want w → KeepsForSeniors b delivered (λ s. is_senior b s right)
+    w →
     right < length b.rights → IsKind b right → g (right_arc b right) ≡ slice_index delivered right →
     length cut ≡ length b.nodes → arc.IsTight w g (right_arc b right) (has cut) →
     IsTight b month supply delivered right cut
@@ -235,7 +238,8 @@ arc_tight b month supply want delivered w g right cut net holds k kind gets len 
 }
 
 pub right_tight : (b : Basin) (month : Month) (supply want delivered : List ℕ) (w : Network) (g : ℕ → ℕ) (right : ℕ)
-    (cut : List Bool) → IsMonthNetwork b month supply want w → Holds b delivered (λ s. is_senior b s right) w →
+    (cut : List Bool) → IsMonthNetwork b month supply want w → KeepsForSeniors b delivered (λ s. is_senior b s right)
+    w →
     right < length b.rights → IsKind b right → g (right_arc b right) ≡ slice_index delivered right →
     IsTight b month supply delivered right cut → arc.IsTight w g (right_arc b right) (has cut)
 right_tight b month supply want delivered w g right cut net holds k kind gets tight = record {
@@ -250,7 +254,8 @@ right_tight b month supply want delivered w g right cut net holds k kind gets ti
 
 -- the greatest tight cut of a right's arc is the right's reach
 pub greatest_reach : (b : Basin) (month : Month) (supply want delivered : List ℕ) (w : Network) (g : ℕ → ℕ) (right : ℕ)
-    (cut : List Bool) → IsMonthNetwork b month supply want w → Holds b delivered (λ s. is_senior b s right) w →
+    (cut : List Bool) → IsMonthNetwork b month supply want w → KeepsForSeniors b delivered (λ s. is_senior b s right)
+    w →
     right < length b.rights → IsKind b right → g (right_arc b right) ≡ slice_index delivered right →
     length cut ≡ length b.nodes → IsGreatestCut w g (right_arc b right) (has cut) →
     IsReach b month supply delivered right cut

@@ -1,8 +1,8 @@
 -- No spill gets full, so that each turn loses at most one push of the budget.
 use Rattle.std.proofs.Common.{◌≡◌, ℕ, ◌+◌, ◌-◌, ◌^◌, ◌<◌, ◌≤◌, sym, ◌∙◌, ap, subst, arith, List, length}
 use Rattle.std.specs.Prelude.{slice_index}
-use Rattle.place_sums.specs.Sums.{total, when}
-use Rattle.place_sums.proofs.Totals.{term_le_total}
+use Rattle.finite_sums.specs.Sums.{total, when}
+use Rattle.finite_sums.proofs.Totals.{term_le_total}
 use Rattle.water_model.specs.Basin.{is_outlet}
 use Rattle.water_model.specs.Valid.{IsValidBasin}
 use Rattle.water_text.specs.declared.month.Month.{Month}
@@ -15,7 +15,7 @@ use Rattle.senior_hold.specs.Serving.{FillsExit}
 use Rattle.senior_hold.specs.Solved.{AreSupplies}
 use Rattle.senior_hold.specs.Spilled.{spilled, spills_of, SpillsAreWide}
 use Rattle.senior_hold.proofs.Plans.{list_get, list_len}
-use Rattle.senior_hold.proofs.SettledPlans.{spills_few}
+use Rattle.senior_hold.proofs.SettledPlans.{spills_bounded}
 use Rattle.senior_hold.proofs.Solves.{net_kept}
 use Rattle.senior_hold.proofs.Spilled.{spill_read}
 use Rattle.senior_hold.proofs.SpilledArcs.{spilled_count}
@@ -43,12 +43,12 @@ never_full b month supply want c arc exit first valid supplies net wide start ab
     let is : spill_arc b node ≡ exit = omega arith in
     let now = subst (λ (x : Contents). IsMonthNetwork (spilled b) month supply want (network x)) (sym fills.rest.rest)
     (net_kept (spilled b) month supply want c d.flow d.scratch d.lower net) in
-    let small : total (length b.nodes) (λ v. slice_index supply v) < 10 ^ 15 = let few = supplies.small in
+    let small : total (length b.nodes) (λ v. slice_index supply v) < 10 ^ 15 = let bounded = supplies.small in
     omega arith in
-    let few = spills_few b month supply want (network d) (flow_of d) valid now fills.kept.flow small in
+    let bounded = spills_bounded b month supply want (network d) (flow_of d) valid now fills.kept.flow small in
     let most = spill_most b (flow_of d) node inside in
     let upper = ap (λ (x : Contents). slice_index x.upper exit) fills.rest.rest
     ∙ (ap (slice_index c.upper) (sym is) ∙ wide node inside) in
     let flow = ap (flow_of d) is in
     let room = (over_forward (network d) (flow_of d) exit).room in
-    omega (arith, few, most, upper, flow, room, fills.full)
+    omega (arith, bounded, most, upper, flow, room, fills.full)

@@ -5,7 +5,7 @@ use Rattle.std.proofs.lemmas.Bool.{cases_lt}
 use Rattle.std.proofs.lemmas.Option.{slice_get-map, get_or_from_slice_get}
 use Rattle.std.proofs.lemmas.List.{length-map}
 use Rattle.std.specs.Prelude.{All, slice_get, slice_index, Option, Some, None, is_some, option_map, if◌then◌else◌}
-use Rattle.place_sums.proofs.Totals.{total_where_start}
+use Rattle.finite_sums.proofs.Totals.{total_where_start}
 use Rattle.water_model.specs.Basin.{tail_of, head_of, is_outlet, taking_node}
 use Rattle.water_model.specs.Valid.{IsValidBasin}
 use Rattle.water_model.specs.declared.types.Basin.{Basin}
@@ -14,7 +14,7 @@ use Rattle.circulation.specs.Contents.{Contents, network}
 use Rattle.senior_hold.specs.MonthNetwork.{takes, take_arc, out_arc, HasBasinEnds}
 use Rattle.senior_hold.proofs.MonthArcs.{IsKind, on_link, at_node, AreKinds, IsArc, is_link, is_take, is_out, arc_is}
 use Rattle.senior_hold.specs.Arcs.{AreEnds, AreEndsOf}
-use Rattle.senior_hold.proofs.WayOut.{ranks}
+use Rattle.senior_hold.proofs.PathOut.{ranks}
 use Rattle.senior_hold.proofs.Lists.{get_last, pushed_count}
 use Rattle.senior_hold.proofs.RightKinds.{take_arc_more, out_arc_more}
 use Rattle.water_model.proofs.Lists.{get_before}

@@ -2,7 +2,7 @@ pub mod MonthArcs
 pub mod Bridge
 pub mod Plans
 pub mod SpilledArcs
-pub mod WayOut
+pub mod PathOut
 pub mod Swept
 pub mod Sweeps
 pub mod Lists

@@ -115,13 +115,13 @@ is_unreached v n p t l both h = grind (arith, nat_tests)
 pub is_reached : (v n p : ℕ) (t : Bool) → (IsTrue t ↔ (0 < p)) → t ≡ true → nat_lt v n && (p == 0) ≡ false
 is_reached v n p t both h = grind (arith, nat_tests)
 
--- the marks of the nodes whose words are 0 are the set of the dry nodes
-pub marks_are : (n : ℕ) (marked way : List ℕ) → length way ≡ n + 1 →
-    ((v : ℕ) → v + 1 < length way → is_marked marked v ≡ (slice_index way v == 0)) →
-    marks n marked ≡ list_of n (λ v. nat_lt v n && (slice_index way v == 0))
-marks_are n marked way size each =
-    same_marks n (is_marked marked) (λ v. nat_lt v n && (slice_index way v == 0))
-    (λ v l. each v (omega (arith, size, l)) ∙ below v n (slice_index way v == 0) l)
+-- the marks of the nodes whose words are 0 are the set of the unlabeled nodes
+pub marks_are : (n : ℕ) (marked labels : List ℕ) → length labels ≡ n + 1 →
+    ((v : ℕ) → v + 1 < length labels → is_marked marked v ≡ (slice_index labels v == 0)) →
+    marks n marked ≡ list_of n (λ v. nat_lt v n && (slice_index labels v == 0))
+marks_are n marked labels size each =
+    same_marks n (is_marked marked) (λ v. nat_lt v n && (slice_index labels v == 0))
+    (λ v l. each v (omega (arith, size, l)) ∙ below v n (slice_index labels v == 0) l)
   where
     below : (i n : ℕ) (t : Bool) → i < n → t ≡ nat_lt i n && t
     below i n t l = grind (arith, nat_tests)

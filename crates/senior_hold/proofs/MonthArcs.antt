@@ -3,12 +3,12 @@ use Rattle.std.proofs.Common.{◌≡◌, ℕ, ◌+◌, ◌<◌, Bool, true, fals
 use Rattle.std.proofs.lemmas.Bool.{cases_lt}
 use Rattle.std.proofs.lemmas.Bool.Decides.{nat_tests}
 use Rattle.std.specs.Prelude.{◌==◌, Option, Some, None, is_some, if◌then◌else◌, ◌-◌, unwrap_or, option_map}
-use Rattle.place_sums.specs.Sums.{total, total_where, when}
-use Rattle.place_sums.proofs.Totals.{total_append, total_counted, count_less, count_apart, place_counted, total_same}
-use Rattle.place_sums.proofs.Totals.{total_zero, total_pick}
+use Rattle.finite_sums.specs.Sums.{total, total_where, when}
+use Rattle.finite_sums.proofs.Totals.{total_append, total_counted, count_less, count_apart, index_counted, total_same}
+use Rattle.finite_sums.proofs.Totals.{total_zero, total_pick}
 use Rattle.water_model.specs.Basin.{tail_of, head_of, is_outlet, taking_node, taking_node_of_kind, instream_link}
 use Rattle.water_model.specs.Basin.{link_of_kind, is_at, takes_at}
-use Rattle.water_model.specs.Valid.{IsValidBasin, IsValidReservoir, HasValidPlace}
+use Rattle.water_model.specs.Valid.{IsValidBasin, IsValidReservoir, HasValidSite}
 use Rattle.water_model.specs.declared.types.Basin.{Basin}
 use Rattle.water_model.specs.declared.types.RightKind.{RightKind}
 use Rattle.water_model.specs.declared.types.RightKind.TheVariants.{Diversion, Instream, Zone}
@@ -50,10 +50,10 @@ pub arc_is : (b : Basin) (a : ℕ) → a < arc_count b → IsArc b a
 arc_is b a l = elim (cases_lt a (length b.links)) [
   | inl link ↦ is_link link
   | inr above ↦ elim (cases_lt a (length b.links + taker_count b)) [
-    | inl take ↦ (let c = place_counted (length b.rights) (a - length b.links) (λ r. takes b r) (omega arith) in
+    | inl take ↦ (let c = index_counted (length b.rights) (a - length b.links) (λ r. takes b r) (omega arith) in
         let number = c.number in
         is_take c.place c.below c.passes (omega arith))
-    | inr out ↦ (let c = place_counted (length b.nodes) (a - (length b.links + taker_count b)) (λ n. is_outlet b n)
+    | inr out ↦ (let c = index_counted (length b.nodes) (a - (length b.links + taker_count b)) (λ n. is_outlet b n)
         (omega arith) in
         let number = c.number in
         is_out c.place c.below c.passes (omega arith))
@@ -72,7 +72,7 @@ right_kind b valid r l = of_kind k.kind k.link k.node k.place
     k = kind_is b valid r l
 
     of_kind : (kind : RightKind) → instream_link b r ≡ link_of_kind kind →
-        taking_node b r ≡ taking_node_of_kind b kind → HasValidPlace b kind → IsKind b r
+        taking_node b r ≡ taking_node_of_kind b kind → HasValidSite b kind → IsKind b r
     of_kind (Diversion node) i t h = at_node node h i t
     of_kind (Instream link) i t h = on_link link h i t
     of_kind (Zone reservoir level) i t h =

@@ -6,7 +6,7 @@ use Rattle.std.proofs.lemmas.List.{take_at, take_all, take-take, length-append}
 use Rattle.word_region.specs.Words.{Words, words_at, with_words, zeroed}
 use Rattle.word_region.specs.declared.Place.{Place}
 use Rattle.word_region.proofs.Words.{length-with_words, length-zeroed}
-use Rattle.place_sums.proofs.Totals.{count_at_most}
+use Rattle.finite_sums.proofs.Totals.{count_at_most}
 use Rattle.water_model.specs.declared.types.Basin.{Basin}
 use Rattle.water_model.specs.Valid.{IsValidBasin}
 use Rattle.water_model.proofs.Balance.{ends}
@@ -27,14 +27,14 @@ use Rattle.senior_hold.proofs.Laid.{laid_ends, laid_fits, links_apart}
 use Rattle.senior_hold.proofs.MonthArcs.{right_kind}
 use Rattle.senior_hold.proofs.SpilledArcs.{spilled_arcs, spilled_count, spilled_kinds}
 
--- a place and what lies behind it
+-- a place and what lies after it
 abbrev pub both_of : Places → Place
 both_of p = record { from = p.circ.place.from; len = p.circ.place.len + p.tree.len }
 
--- the front of a place
-place_front : (ws : List ℕ) (p : Place) (more : ℕ) →
+-- the prefix of a place
+place_prefix : (ws : List ℕ) (p : Place) (more : ℕ) →
     take p.len (words_at ws record { from = p.from; len = p.len + more }) ≡ words_at ws p
-place_front ws p more =
+place_prefix ws p more =
     let short : p.from + p.len - p.from ≡ p.len = omega arith in
     let long : p.from + (p.len + more) - p.from ≡ p.len + more = omega arith in
     ap (λ (n : ℕ). take p.len (take n (drop p.from ws))) long
@@ -69,7 +69,7 @@ pub record AreLent (r : Words) (p : Places) (fixed moving tree : List ℕ) : Typ
   pub words : List ℕ
   pub is : words ≡ words_at r.words (both_of p)
   pub count : length words ≡ p.circ.place.len + p.tree.len
-  pub front : held ≡ take p.circ.place.len words
+  pub prefix : held ≡ take p.circ.place.len words
   pub back : length tree + p.circ.place.len ≡ length words
   pub first : fixed ≡ take (fixed_count p.circ.nodes p.circ.arcs) held
   pub rest : moving ≡ drop (fixed_count p.circ.nodes p.circ.arcs) held
@@ -79,9 +79,9 @@ pub parts_lent : (b : Basin) (r : Words) (p : Places) (fixed moving tree : List 
     AreLent r p fixed moving tree → HasParts b p.circ fixed moving tree
 parts_lent b r p fixed moving tree h l =
     let n = fixed_count p.circ.nodes p.circ.arcs in
-    let held : l.held ≡ words_at r.words p.circ.place = l.front ∙ ap (take p.circ.place.len) l.is
-    ∙ place_front r.words p.circ.place p.tree.len in
-    let long : length l.held ≡ p.circ.place.len = ap length l.front
+    let held : l.held ≡ words_at r.words p.circ.place = l.prefix ∙ ap (take p.circ.place.len) l.is
+    ∙ place_prefix r.words p.circ.place p.tree.len in
+    let long : length l.held ≡ p.circ.place.len = ap length l.prefix
     ∙ length-take-le p.circ.place.len l.words (omega (arith, l.count)) in
     record {
       arcs = record {
@@ -102,7 +102,7 @@ pub places_again : (b : Basin) (r : Words) (p : Places) (fixed moving new tree :
       words = take (length r.words) (with_words r.words (both_of p).from ((fixed ++ new) ++ tree));
       used = r.used;
     }) p
-places_again b r p fixed moving new tree h a front all size =
+places_again b r p fixed moving new tree h a prefix all size =
     let n = fixed_count p.circ.nodes p.circ.arcs in
     let held = fixed ++ new in
     let long : length held ≡ p.circ.place.len = length-append fixed new ∙ all in
@@ -113,10 +113,10 @@ places_again b r p fixed moving new tree h a front all size =
     (with_words r.words (both_of p).from (held ++ tree))
     (omega (arith, length-with_words r.words (both_of p).from (held ++ tree) (omega (arith, whole, fits)))))
     ∙ length-with_words r.words (both_of p).from (held ++ tree) (omega (arith, whole, fits)) in
-    let place : words_at words p.circ.place ≡ held = sym (place_front words p.circ.place p.tree.len)
+    let place : words_at words p.circ.place ≡ held = sym (place_prefix words p.circ.place p.tree.len)
     ∙ ap (take p.circ.place.len) (written_place r.words (held ++ tree) (both_of p) whole fits)
     ∙ take_at held tree p.circ.place.len long in
-    let first : take n (words_at words p.circ.place) ≡ fixed = ap (take n) place ∙ take_at fixed new n front in
+    let first : take n (words_at words p.circ.place) ≡ fixed = ap (take n) place ∙ take_at fixed new n prefix in
     record {
       contents = a.contents;
       held = record {
@@ -132,15 +132,15 @@ places_again b r p fixed moving new tree h a front all size =
     }
 
 -- the arcs of a basin are few
-pub few_arcs : (b : Basin) → IsValidBasin b → arc_count (spilled b) < 2 ^ 32
-few_arcs b valid =
+pub bounded_arcs : (b : Basin) → IsValidBasin b → arc_count (spilled b) < 2 ^ 32
+bounded_arcs b valid =
     omega (
       arith,
       spilled_arcs b,
       count_at_most (length b.rights) (λ r. takes b r),
-      valid.few.nodes,
-      valid.few.links,
-      valid.few.rights,
+      valid.bounded.nodes,
+      valid.bounded.links,
+      valid.bounded.rights,
     )
 
 -- and their ends are nodes that differ

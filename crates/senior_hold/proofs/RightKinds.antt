@@ -1,7 +1,7 @@
 -- What the kind of a right says of its arc.
 use Rattle.std.proofs.Common.{◌≡◌, ℕ, ◌+◌, ◌<◌, true, false, refl, sym, ◌∙◌, ap, arith, length}
 use Rattle.std.specs.Prelude.{slice_get, Some, None, is_some, unwrap_or, option_map, if◌then◌else◌}
-use Rattle.place_sums.proofs.Totals.{total_where_more}
+use Rattle.finite_sums.proofs.Totals.{total_where_more}
 use Rattle.water_model.specs.Basin.{taking_node_of_kind, instream_link, link_of_kind, is_outlet}
 use Rattle.water_model.specs.Valid.{IsValidBasin}
 use Rattle.water_model.specs.declared.types.Basin.{Basin}

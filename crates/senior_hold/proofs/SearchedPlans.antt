@@ -4,8 +4,8 @@ use Rattle.std.proofs.Common.{List, length, inl, inr}
 use Rattle.std.proofs.lemmas.Bool.{cases_Bool, le-ltb, false≢true}
 use Rattle.std.proofs.lemmas.List.{length-replicate, get_or-replicate}
 use Rattle.std.specs.Prelude.{slice_index, nat_lt}
-use Rattle.place_sums.specs.Sums.{total, count_where, when}
-use Rattle.place_sums.proofs.Totals.{total_append, total_le, total_most}
+use Rattle.finite_sums.specs.Sums.{total, count_where, when}
+use Rattle.finite_sums.proofs.Totals.{total_append, total_le, total_most}
 use Rattle.water_model.specs.Basin.{is_outlet}
 use Rattle.water_model.specs.CutSets.{CutSets}
 use Rattle.water_model.specs.Laws.{AreDeliveries}
@@ -23,7 +23,7 @@ use Rattle.senior_hold.specs.Arcs.{AreBounds, AreAmounts}
 use Rattle.senior_hold.specs.Layouts.{IsBegun, OutletsAlone}
 use Rattle.senior_hold.specs.MonthNetwork.{taker_count, out_arc, spill_arc, arc_count, plan_of, HasBasinEnds}
 use Rattle.senior_hold.specs.MonthNetwork.{IsMonthNetwork}
-use Rattle.senior_hold.specs.Solved.{FitsPlan, IsGiven, IsSettled, IsSolved}
+use Rattle.senior_hold.specs.Solved.{FitsPlan, IsGiven, IsMetOrReached, IsSolved}
 use Rattle.senior_hold.specs.Spilled.{spilled}
 use Rattle.senior_hold.proofs.Begins.{begun_net, begun_flow, plan_same}
 use Rattle.senior_hold.proofs.MonthArcs.{AreKinds}
@@ -102,9 +102,9 @@ standing_start b month supply want order c cuts p q start given =
     (record { nodes = given.fits_cuts.nodes ∙ sym (spilled_count b); rights = given.fits_cuts.rights }) given.no_sets
 
 -- no more arcs may carry anything than the basin has links, takers and outlets
-pub open_few : (b : Basin) (c : Contents) → HasBasinEnds (spilled b) (network c) → OutletsAlone b c →
+pub open_bounded : (b : Basin) (c : Contents) → HasBasinEnds (spilled b) (network c) → OutletsAlone b c →
     open_arcs (network c) ≤ arc_count b
-open_few b c ends outlets =
+open_bounded b c ends outlets =
     let links = length b.links in
     let takers = taker_count b in
     let nodes = length b.nodes in
@@ -188,7 +188,7 @@ searched_solved b month supply want order c first cuts p q kinds o now outlets i
     plan : IsPlan b month supply want p
     plan = subst (IsPlan b month supply want) (sym is) (searched_plan b month supply want c now.net flow outlets)
 
-    settled : (r : ℕ) → r < length b.rights → IsSettled b month supply want d cuts r
+    settled : (r : ℕ) → r < length b.rights → IsMetOrReached b month supply want d cuts r
     settled r l = settled_down b month supply want d cuts r ((now.swept o).settled r l (o.in_range r l))
 
     delivers : (r : ℕ) → r < length b.rights → delivery b want p r ≡ delivered_by b want (flow_of c) r

@@ -6,8 +6,8 @@ use Rattle.std.proofs.lemmas.Bool.Decides.{nat_tests}
 use Rattle.std.proofs.lemmas.List.{length-replicate}
 use Rattle.std.proofs.lemmas.Grind.{same_number_lists}
 use Rattle.std.specs.Prelude.{slice_index, ◌==◌, ◌&&◌, not, is_some, min, nat_lt, nat_le, if◌then◌else◌, Some, None}
-use Rattle.place_sums.specs.Sums.{total, total_where, when}
-use Rattle.place_sums.proofs.Totals.{total_le, term_le_total_where}
+use Rattle.finite_sums.specs.Sums.{total, total_where, when}
+use Rattle.finite_sums.proofs.Totals.{total_le, term_le_total_where}
 use Rattle.water_model.specs.Lookups.{has}
 use Rattle.water_model.specs.Basin.{tail_of, head_of, instream_link, taking_node}
 use Rattle.water_model.specs.Cuts.{enters, leaves, cut_capacity, IsTight}
@@ -30,7 +30,7 @@ use Rattle.circulation.specs.Contents.{Contents, network, flow_of}
 use Rattle.circulation.specs.Network.{Network, IsFlow}
 use Rattle.rights_roll.specs.SeniorityOrder.{IsSeniorityOrder}
 use Rattle.senior_hold.specs.MonthNetwork.{takes, take_arc, arc_by_link, list_of, plan_of, IsMonthNetwork}
-use Rattle.senior_hold.specs.Solved.{IsSettled, IsSolved}
+use Rattle.senior_hold.specs.Solved.{IsMetOrReached, IsSolved}
 use Rattle.senior_hold.specs.Spilled.{spilled, spills_of, IsSettledPlan, IsSpilledStart}
 use Rattle.senior_hold.proofs.Swept.{delivered_by, deliveries_by}
 use Rattle.senior_hold.proofs.MonthArcs.{IsKind, on_link, at_node, AreKinds, right_kind}
@@ -41,11 +41,11 @@ use Rattle.senior_hold.proofs.Rivers.{made, river_is}
 use Rattle.senior_hold.proofs.Sweeps.{got, settled_stays}
 use Rattle.senior_hold.proofs.Solves.{IsStanding}
 use Rattle.senior_hold.proofs.SpilledArcs.{spilled_count}
-use Rattle.senior_hold.proofs.WayOut.{ranks, river_carry}
+use Rattle.senior_hold.proofs.PathOut.{ranks, river_carry}
 
 -- a settled right is met or has a tight cut
 pub met_or_tight : (b : Basin) (month : Month) (supply want d : List ℕ) (cuts : CutSets) (r : ℕ) →
-    IsSettled b month supply want d cuts r →
+    IsMetOrReached b month supply want d cuts r →
     (slice_index want r ≤ slice_index d r) ⊎ ((cut : List Bool) × IsTight b month supply d r cut)
 met_or_tight b month supply want d cuts r (inl met) = inl met.0
 met_or_tight b month supply want d cuts r (inr short) = inr (short.1.0, short.1.1.1.is_tight)
@@ -136,7 +136,7 @@ both_small b month supply want want' p q valid plan_p plan_q e l =
 pub settled_plan : (b : Basin) (month : Month) (supply want : List ℕ) (w : Network) (g : ℕ → ℕ) (p : Plan) →
     IsValidBasin b → IsMonthNetwork (spilled b) month supply want w → IsFlow w g →
     total (length b.nodes) (λ v. slice_index supply v) ≤ 10 ^ 15 → IsSettledPlan b g p → IsPlan b month supply want p
-settled_plan b month supply want w g p valid net flow few s = record {
+settled_plan b month supply want w g p valid net flow bounded s = record {
   flow_len = s.flow_len;
   take_len = ap length s.take ∙ list_len (length b.rights) took;
   out_len = s.natural.out_len;
@@ -204,15 +204,15 @@ settled_plan b month supply want w g p valid net flow few s = record {
     ]
 
 -- the spills are few
-pub spills_few : (b : Basin) (month : Month) (supply want : List ℕ) (w : Network) (g : ℕ → ℕ) → IsValidBasin b →
+pub spills_bounded : (b : Basin) (month : Month) (supply want : List ℕ) (w : Network) (g : ℕ → ℕ) → IsValidBasin b →
     IsMonthNetwork (spilled b) month supply want w → IsFlow w g → total (length b.nodes)
     (λ v. slice_index supply v) < 10 ^ 15 → total_of (spills_of b g) < 10 ^ 15
-spills_few b month supply want w g valid net flow few =
+spills_bounded b month supply want w g valid net flow bounded =
     let count : length (spills_of b g) ≡ length b.nodes = (plan_is (spilled b) month supply want w g net flow).out_len
     ∙ spilled_count b in
     omega (
       arith,
-      few,
+      bounded,
       ap (λ k. total k (λ v. slice_index (spills_of b g) v)) count,
       spills_most b month supply want (plan_of (spilled b) g) valid
           (plan_is (spilled b) month supply want w g net flow),
@@ -240,7 +240,7 @@ tight_up b month supply d r cut t = record {
 }
 
 pub settled_down : (b : Basin) (month : Month) (supply want d : List ℕ) (cuts : CutSets) (r : ℕ) →
-    IsSettled (spilled b) month supply want d cuts r → IsSettled b month supply want d cuts r
+    IsMetOrReached (spilled b) month supply want d cuts r → IsMetOrReached b month supply want d cuts r
 settled_down b month supply want d cuts r (inl met) = inl met
 settled_down b month supply want d cuts r (inr short) = inr (
   short.0,
@@ -260,7 +260,7 @@ settled_down b month supply want d cuts r (inr short) = inr (
 -- is settled by that
 pub settled_delivers : (b : Basin) (month : Month) (supply want : List ℕ) (g : ℕ → ℕ) (p : Plan) (cuts : CutSets) →
     AreKinds b → IsPlan b month supply want p → IsSettledPlan b g p →
-    ((r : ℕ) → r < length b.rights → IsSettled b month supply want (deliveries_by b want g) cuts r) → (r : ℕ) →
+    ((r : ℕ) → r < length b.rights → IsMetOrReached b month supply want (deliveries_by b want g) cuts r) → (r : ℕ) →
     r < length b.rights → delivery b want p r ≡ delivered_by b want g r
 settled_delivers b month supply want g p cuts kinds plan s settled r l =
     omega (arith, least r l (kinds r l), most (kinds r l) (settled r l))
@@ -291,7 +291,7 @@ settled_delivers b month supply want g p cuts kinds plan s settled r l =
     least r l (on_link e k i t) = omega (arith, link_delivery r e i, link_delivered r e i, s.flow e k)
     least r l (at_node v k i t) = omega (arith, node_delivery r v l i t)
 
-    most : IsKind b r → IsSettled b month supply want (deliveries_by b want g) cuts r →
+    most : IsKind b r → IsMetOrReached b month supply want (deliveries_by b want g) cuts r →
         delivery b want p r ≤ delivered_by b want g r
     most (at_node v k i t) h = omega (arith, node_delivery r v l i t)
     most (on_link e k i t) (inl met) = let m = met.0 in omega (arith, link_delivery r e i, got b want g r l)
@@ -311,7 +311,7 @@ pub tree_solved : (b : Basin) (month : Month) (supply want order : List ℕ) (c 
     (λ v. slice_index supply v) ≤ 10 ^ 15 → IsStanding (spilled b) month supply want order (length b.rights) c cuts →
     IsSettledPlan b (flow_of c) p → IsSpilledStart b month supply want first → (length b.rights ≡ 0 → c ≡ first) →
     IsSolved b month supply want p cuts
-tree_solved b month supply want order c first cuts p valid o few now s start none = record {
+tree_solved b month supply want order c first cuts p valid o bounded now s start none = record {
   greatest = cuts_make_plan_greatest b month supply want d p plan
       (record { each = λ r l. got b want (flow_of c) r l ∙ sym (delivers r l) })
       (λ r l. met_or_tight b month supply want d cuts r (settled r l));
@@ -333,9 +333,9 @@ tree_solved b month supply want order c first cuts p valid o few now s start non
     flow = (now.swept o).flow
 
     plan : IsPlan b month supply want p
-    plan = settled_plan b month supply want (network c) (flow_of c) p valid now.net flow few s
+    plan = settled_plan b month supply want (network c) (flow_of c) p valid now.net flow bounded s
 
-    settled : (r : ℕ) → r < length b.rights → IsSettled b month supply want d cuts r
+    settled : (r : ℕ) → r < length b.rights → IsMetOrReached b month supply want d cuts r
     settled r l = settled_down b month supply want d cuts r ((now.swept o).settled r l (o.in_range r l))
 
     delivers : (r : ℕ) → r < length b.rights → delivery b want p r ≡ delivered_by b want (flow_of c) r

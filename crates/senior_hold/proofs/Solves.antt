@@ -5,8 +5,8 @@ use Rattle.std.proofs.lemmas.Bool.{cases_eq}
 use Rattle.std.proofs.lemmas.Bool.Decides.{nat_tests}
 use Rattle.std.proofs.lemmas.List.{length-set}
 use Rattle.std.specs.Prelude.{◌&&◌, slice_index, slice_set, max, min, nat_lt, Some, None, ◌⊎◌}
-use Rattle.place_sums.specs.Sums.{when, greatest_where}
-use Rattle.place_sums.proofs.Totals.{greatest_where_le, greatest_same_tests}
+use Rattle.finite_sums.specs.Sums.{when, greatest_where}
+use Rattle.finite_sums.proofs.Totals.{greatest_where_le, greatest_same_tests}
 use Rattle.water_model.specs.Basin.{is_senior, is_on_link}
 use Rattle.water_model.specs.CutSets.{CutSets, set_of, with_set}
 use Rattle.water_text.specs.declared.month.Month.{Month}
@@ -14,7 +14,7 @@ use Rattle.water_model.specs.declared.types.Basin.{Basin}
 use Rattle.circulation.specs.Contents.{Contents, network, flow_of, IsCirculation}
 use Rattle.circulation.specs.Network.{Network, IsFlow}
 use Rattle.augment.specs.Raised.{IsGreatestCut}
-use Rattle.senior_hold.specs.MonthNetwork.{take_arc, out_arc, right_arc, arc_count, IsMonthNetwork, Holds}
+use Rattle.senior_hold.specs.MonthNetwork.{take_arc, out_arc, right_arc, arc_count, IsMonthNetwork, KeepsForSeniors}
 use Rattle.senior_hold.proofs.MonthArcs.{AreKinds, take_arc_below, out_arc_below}
 use Rattle.senior_hold.proofs.Bridge.{greatest_reach}
 use Rattle.senior_hold.proofs.Plans.{right_arc_in}
@@ -23,7 +23,7 @@ use Rattle.water_model.proofs.SetEntries.{set_of_with, set_of_other}
 use Rattle.water_model.specs.Lookups.{has}
 use Rattle.rights_roll.specs.SeniorityOrder.{IsSeniorityOrder}
 use Rattle.senior_hold.specs.Serving.{IsServed}
-use Rattle.senior_hold.specs.Solved.{IsSettled, FitsCuts}
+use Rattle.senior_hold.specs.Solved.{IsMetOrReached, FitsCuts}
 use Rattle.senior_hold.proofs.Swept.{delivered_by, deliveries_by, IsSwept}
 
 -- how a month stands after the first k rights
@@ -101,7 +101,8 @@ flow_kept c f s arc x inside flow = record {
 
 -- the lowers hold what the seniors of the next right are delivered
 holds_seniors : (b : Basin) (order d : List ℕ) (o : IsSeniorityOrder b.rights order) (r k : ℕ) (w : Network) →
-    r < length b.rights → o.place r ≡ k → Holds b d (λ s. nat_lt (o.place s) k) w → Holds b d (λ s. is_senior b s r) w
+    r < length b.rights → o.place r ≡ k → KeepsForSeniors b d (λ s. nat_lt (o.place s) k) w →
+    KeepsForSeniors b d (λ s. is_senior b s r) w
 holds_seniors b order d o r k w l at held = record {
   on_links = λ e m. held.on_links e m
       ∙ greatest_same_tests (length b.rights) (λ s. is_on_link b s e && nat_lt (o.place s) k)
@@ -205,7 +206,7 @@ served_next b month supply want order k r arc amount c f s cuts after kinds l at
         ⊎ ((slice_index f arc < amount)
         × ((cut : List Bool) × ((after ≡ with_set cuts r (Some cut))
         × ((length cut ≡ c.nodes) × IsGreatestCut (network c) (λ a. slice_index f a) arc (has cut))))) →
-        IsSettled b month supply want (deliveries_by b want (λ a. slice_index f a)) after r
+        IsMetOrReached b month supply want (deliveries_by b want (λ a. slice_index f a)) after r
     settled o (inl met) = inl (
       let d = got b want g r (r_in o) in let m = met.0 in omega (arith, d, is_amount, amount_is),
       ap (λ (d : CutSets). set_of d r) met.1 ∙ (before o).others r (r_in o) (omega (arith, place_is o)),

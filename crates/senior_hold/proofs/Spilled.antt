@@ -4,8 +4,8 @@ use Rattle.std.proofs.Common.{List, length, replicate, ◌^◌}
 use Rattle.std.proofs.lemmas.List.{length-map, length-replicate, get_or-replicate}
 use Rattle.std.proofs.lemmas.Bool.{false≢true}
 use Rattle.std.specs.Prelude.{◌==◌, slice_index, Option, Some, None, if◌then◌else◌}
-use Rattle.place_sums.specs.Sums.{when}
-use Rattle.place_sums.proofs.Totals.{total_where_start, total_zero}
+use Rattle.finite_sums.specs.Sums.{when}
+use Rattle.finite_sums.proofs.Totals.{total_where_start, total_zero}
 use Rattle.water_model.specs.Basin.{is_outlet, tail_of, head_of, takes_at}
 use Rattle.water_model.specs.declared.types.Basin.{Basin}
 use Rattle.circulation.specs.Contents.{Contents, network, month_contents}

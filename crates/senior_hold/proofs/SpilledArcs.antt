@@ -2,8 +2,8 @@
 use Rattle.std.proofs.Common.{◌≡◌, ℕ, zero, suc, ◌+◌, ◌<◌, ◌≤◌, true, refl, ap, ◌∙◌, arith, List, [], ◌∷◌, length, map}
 use Rattle.std.proofs.lemmas.List.{length-map}
 use Rattle.std.specs.Prelude.{if◌then◌else◌}
-use Rattle.place_sums.specs.Sums.{count_where}
-use Rattle.place_sums.proofs.Totals.{count_more, total_where_start}
+use Rattle.finite_sums.specs.Sums.{count_where}
+use Rattle.finite_sums.proofs.Totals.{count_more, total_where_start}
 use Rattle.water_model.specs.Basin.{is_outlet}
 use Rattle.water_model.specs.Network.{is_outlet_in}
 use Rattle.water_model.specs.declared.types.Basin.{Basin}

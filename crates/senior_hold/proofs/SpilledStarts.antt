@@ -5,7 +5,7 @@ use Rattle.std.proofs.lemmas.Grind.{common_steps}
 use Rattle.std.proofs.lemmas.List.{get_or-replicate, length-replicate}
 use Rattle.water_model.specs.declared.types.Basin.{Basin}
 use Rattle.water_model.specs.declared.types.Plan.{Plan}
-use Rattle.place_sums.proofs.Totals.{term_le_total}
+use Rattle.finite_sums.proofs.Totals.{term_le_total}
 use Rattle.water_text.specs.Months.{IsMonth}
 use Rattle.water_text.specs.declared.month.Month.{Month}
 use Rattle.water_model.specs.Plans.{IsPlan}
@@ -32,9 +32,9 @@ last_at : (arcs : ℕ) (xs : List ℕ) (k n : ℕ) → k + length xs ≡ arcs �
     slice_index (on_last arcs xs) (k + n) ≡ slice_index xs n
 last_at arcs xs k n is = grind (arith, common_steps)
 
--- there are so many amounts
+-- there are a given number of amounts
 pub length-on_last : (arcs : ℕ) (xs : List ℕ) → length xs ≤ arcs → length (on_last arcs xs) ≡ arcs
-length-on_last arcs xs few = grind (arith, common_steps)
+length-on_last arcs xs bounded = grind (arith, common_steps)
 
 -- and all are given where none is left
 pub last_all : (arcs : ℕ) (xs : List ℕ) → length xs ≡ arcs → on_last arcs xs ≡ xs
@@ -54,26 +54,26 @@ pub spilled_laid : (b : Basin) (supply : List ℕ) (arcs : ℕ) → arcs ≡ arc
     length supply ≡ length b.nodes →
     AreAmounts (spilled b) (spilled_of b supply) (λ a. slice_index (on_last arcs supply) a)
 spilled_laid b supply arcs all count = record {
-  on_links = λ e l. last_before arcs supply e (omega (arith, front, l))
+  on_links = λ e l. last_before arcs supply e (omega (arith, prefix, l))
       ∙ sym (get_or-replicate {A = ℕ} (length b.links) e 0 0 l);
-  on_takes = λ r l h. last_before arcs supply _ (omega (arith, front, take_arc_below b r l h))
+  on_takes = λ r l h. last_before arcs supply _ (omega (arith, prefix, take_arc_below b r l h))
       ∙ sym (get_or-replicate {A = ℕ} (length b.rights) r 0 0 l);
   on_outs = λ n l h. ap (slice_index (on_last arcs supply))
       (spill_is b n (omega (arith, l, spilled_count b)) ∙ omega arith)
-      ∙ last_at arcs supply (length b.links + taker_count b) n front;
+      ∙ last_at arcs supply (length b.links + taker_count b) n prefix;
 }
   where
-    front : length b.links + taker_count b + length supply ≡ arcs
-    front = omega (arith, all, count, spilled_arcs b)
+    prefix : length b.links + taker_count b + length supply ≡ arcs
+    prefix = omega (arith, all, count, spilled_arcs b)
 
 -- there are as many arcs as the basin has with a spill at each node
 pub held_arcs : (b : Basin) (circ : Circulation) (fixed moving : List ℕ) → HasArcs b circ fixed moving →
     circ.arcs ≡ arc_count (spilled b)
 held_arcs b circ fixed moving h = sym (frame_arcs circ h.contents fixed h.fixed) ∙ h.ends.arcs
 
-pub supplies_few : (b : Basin) (supply : List ℕ) (arcs : ℕ) → arcs ≡ arc_count (spilled b) → AreSupplies b supply →
+pub supplies_bounded : (b : Basin) (supply : List ℕ) (arcs : ℕ) → arcs ≡ arc_count (spilled b) → AreSupplies b supply →
     length supply ≤ arcs
-supplies_few b supply arcs all given = omega (arith, all, given.count, spilled_arcs b)
+supplies_bounded b supply arcs all given = omega (arith, all, given.count, spilled_arcs b)
 
 -- the plan is one of the month with a spill at each node
 spilled_is : (b : Basin) (month : Month) (supply want : List ℕ) → AreSupplies b supply →
@@ -97,7 +97,7 @@ spilled_begins b month supply want upper c arcs most ends all valid is_month giv
     start_is (spilled b) month supply want upper (on_last arcs supply) c (spilled_of b supply)
     (λ e l. carry_most b month e valid is_month l) ends (given.count ∙ sym (spilled_count b))
     (spilled_wants b month want wants) long
-    (length-on_last arcs supply (supplies_few b supply arcs all given) ∙ all) are
+    (length-on_last arcs supply (supplies_bounded b supply arcs all given) ∙ all) are
     (spilled_laid b supply arcs all given.count) (spilled_is b month supply want given)
     (λ n l. omega (arith, mosts n (omega (arith, l, spilled_count b))))
     (λ n l. omega (

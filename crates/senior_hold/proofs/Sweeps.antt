@@ -4,8 +4,8 @@ use Rattle.std.proofs.Common.{arith, List, length, inl, inr}
 use Rattle.std.proofs.lemmas.Bool.{cases_lt, cases_eq}
 use Rattle.std.proofs.lemmas.Bool.Decides.{nat_tests}
 use Rattle.std.specs.Prelude.{◌==◌, slice_index, ◌&&◌, max, is_some, nat_lt, ◌⊎◌}
-use Rattle.place_sums.specs.Sums.{greatest_where, when}
-use Rattle.place_sums.proofs.Totals.{term_le_greatest, greatest_same_tests, greatest_one_more}
+use Rattle.finite_sums.specs.Sums.{greatest_where, when}
+use Rattle.finite_sums.proofs.Totals.{term_le_greatest, greatest_same_tests, greatest_one_more}
 use Rattle.water_model.specs.Basin.{is_outlet, is_on_link, is_at, is_senior}
 use Rattle.water_model.specs.Cuts.{IsReach}
 use Rattle.water_model.specs.CutSets.{CutSets, set_of}
@@ -21,7 +21,7 @@ use Rattle.senior_hold.proofs.MonthArcs.{take_arc_apart}
 use Rattle.senior_hold.proofs.Plans.{list_get, plan_is, delivery_is, right_arc_in}
 use Rattle.water_model.specs.Plans.{delivery, carry_of}
 use Rattle.rights_roll.specs.SeniorityOrder.{IsSeniorityOrder}
-use Rattle.senior_hold.specs.Solved.{IsSettled}
+use Rattle.senior_hold.specs.Solved.{IsMetOrReached}
 use Rattle.senior_hold.proofs.Swept.{delivered_by, deliveries_by, IsSwept}
 
 pub got : (b : Basin) (want : List ℕ) (g : ℕ → ℕ) (r : ℕ) → r < length b.rights →
@@ -83,7 +83,7 @@ kept_below b month supply want order o k w g h cuts kinds net swept flow (suc i)
         omega arith
 
     most : ((s : ℕ) → s < length b.rights → o.place s < i → delivered_by b want h s ≡ delivered_by b want g s) →
-        i ≤ o.place r → IsSettled b month supply want (deliveries_by b want g) cuts r →
+        i ≤ o.place r → IsMetOrReached b month supply want (deliveries_by b want g) cuts r →
         delivered_by b want h r ≤ delivered_by b want g r
     most same at (inl met) = let m = met.0 in omega (arith, got b want g r l)
     most same at (inr short) =
@@ -128,7 +128,8 @@ reach_stays b month supply d d' r cut l own seniors reach = record {
 pub settled_stays : (b : Basin) (month : Month) (supply want d d' : List ℕ) (cuts new : CutSets) (r : ℕ) →
     r < length b.rights → slice_index d r ≡ slice_index d' r →
     ((s : ℕ) → s < length b.rights → is_senior b s r ≡ true → slice_index d s ≡ slice_index d' s) →
-    set_of new r ≡ set_of cuts r → IsSettled b month supply want d cuts r → IsSettled b month supply want d' new r
+    set_of new r ≡ set_of cuts r → IsMetOrReached b month supply want d cuts r → IsMetOrReached b month supply want d'
+    new r
 settled_stays b month supply want d d' cuts new r l own seniors sets (inl met) =
     inl (omega (arith, met.0), sets ∙ met.1)
 settled_stays b month supply want d d' cuts new r l own seniors sets (inr short) =
@@ -180,7 +181,8 @@ pub swept_next : (b : Basin) (month : Month) (supply want order : List ℕ) (o :
     IsFlow w' g → w'.lower (right_arc b r) ≡ max (w.lower (right_arc b r)) amount →
     ((a : ℕ) → a < arc_count b → a ≢ right_arc b r → w'.lower a ≡ w.lower a) →
     ((s : ℕ) → s < length b.rights → s ≢ r → set_of new s ≡ set_of cuts s) →
-    IsSettled b month supply want (deliveries_by b want g) new r → IsSwept b month supply want o.place (k + 1) w' g new
+    IsMetOrReached b month supply want (deliveries_by b want g) new r → IsSwept b month supply want o.place (k + 1) w' g
+    new
 swept_next b month supply want order o k r amount w w' g cuts new kinds l at swept is flow raised rest sets settled =
     record {
       flow = flow;
@@ -190,7 +192,7 @@ swept_next b month supply want order o k r amount w w' g cuts new kinds l at swe
         on_outs = on_outs (kinds r r_in);
       };
       settled = λ s m below. elim (cases_eq s r) [
-        | inl e ↦ subst (IsSettled b month supply want d new) (sym e) settled
+        | inl e ↦ subst (IsMetOrReached b month supply want d new) (sym e) settled
         | inr ne ↦ settled_stays b month supply want d d cuts new s m refl (λ t n i. refl) (sets s m ne)
             (swept.settled s m (earlier s m ne below))
       ];

@@ -4,8 +4,8 @@ use Rattle.water_model.specs.CutSets.{CutSets, set_of}
 use Rattle.water_text.specs.declared.month.Month.{Month}
 use Rattle.water_model.specs.declared.types.Basin.{Basin}
 use Rattle.circulation.specs.Network.{Network, IsFlow}
-use Rattle.senior_hold.specs.MonthNetwork.{right_arc, Holds, list_of}
-use Rattle.senior_hold.specs.Solved.{IsSettled}
+use Rattle.senior_hold.specs.MonthNetwork.{right_arc, KeepsForSeniors, list_of}
+use Rattle.senior_hold.specs.Solved.{IsMetOrReached}
 
 -- what a flow delivers to a right: at most its want, and at most the flow of its arc
 abbrev pub delivered_by : Basin → List ℕ → (ℕ → ℕ) → ℕ → ℕ
@@ -18,7 +18,7 @@ deliveries_by b want g = list_of (length b.rights) (delivered_by b want g)
 pub record IsSwept (b : Basin) (month : Month) (supply want : List ℕ) (place : ℕ → ℕ) (k : ℕ) (w : Network) (g : ℕ → ℕ)
     (cuts : CutSets) : Type 0 where
   pub flow : IsFlow w g
-  pub held : Holds b (deliveries_by b want g) (λ s. nat_lt (place s) k) w
+  pub held : KeepsForSeniors b (deliveries_by b want g) (λ s. nat_lt (place s) k) w
   pub settled : (r : ℕ) → r < length b.rights → place r < k →
-      IsSettled b month supply want (deliveries_by b want g) cuts r
+      IsMetOrReached b month supply want (deliveries_by b want g) cuts r
   pub others : (r : ℕ) → r < length b.rights → k ≤ place r → set_of cuts r ≡ None

@@ -7,7 +7,7 @@ use Rattle.std.proofs.lemmas.List.{length-set}
 use Rattle.std.proofs.lemmas.Grind.{same_number_lists}
 use Rattle.std.specs.Prelude.{slice_index, slice_set, max, min, nat_lt, ◌==◌, ◌&&◌, not, if◌then◌else◌, Some}
 use mathlib.Core.Path.{fun_ext}
-use Rattle.place_sums.proofs.Totals.{total_same}
+use Rattle.finite_sums.proofs.Totals.{total_same}
 use Rattle.water_model.specs.CutSets.{CutSets, with_set}
 use Rattle.water_model.specs.Lookups.{has}
 use Rattle.circulation.specs.Contents.{Contents, network, flow_of, arcs, IsCirculation}
@@ -15,7 +15,7 @@ use Rattle.circulation.specs.Network.{Network, IsTight, cut_out, leaves}
 use Rattle.augment.specs.Raised.{IsGreatestCut}
 use Rattle.augment.specs.Search.{SameButScratch}
 use Rattle.residual_tree.specs.Raised.{IsRaisedOver}
-use Rattle.residual_tree.specs.Tree.{word_of, dry}
+use Rattle.residual_tree.specs.Tree.{label_of, unlabeled}
 use Rattle.senior_hold.specs.MonthNetwork.{list_of}
 use Rattle.senior_hold.specs.Serving.{IsServed}
 use Rattle.senior_hold.proofs.Bridge.{has_list}
@@ -117,32 +117,37 @@ served_full old mid arc want cuts right kept_old kept_mid raised l held rises me
   outcome = inl (omega arith, refl);
 }
 
-dry_list : (c : Contents) (way : List ℕ) → has (list_of c.nodes (dry c way)) ≡ dry c way
-dry_list c way = fun_ext (has_list c.nodes (dry c way) (λ v l. outside v c.nodes (word_of way v) l))
+unlabeled_list : (c : Contents) (labels : List ℕ) → has (list_of c.nodes (unlabeled c labels)) ≡ unlabeled c labels
+unlabeled_list c labels = fun_ext
+    (has_list c.nodes (unlabeled c labels) (λ v l. outside v c.nodes (label_of labels v) l))
   where
     outside : (v n p : ℕ) → n ≤ v → nat_lt v n && (p == 0) ≡ false
     outside v n p l = grind (arith, nat_tests)
 
-pub served_dry : (old mid new : Contents) (way : List ℕ) (arc want : ℕ) (cuts after : CutSets) (right : ℕ) →
+pub served_unlabeled : (old mid new : Contents) (labels : List ℕ) (arc want : ℕ) (cuts after : CutSets) (right : ℕ) →
     IsCirculation old → IsCirculation mid → IsRaisedOver old mid arc → arc < arcs old →
     flow_of mid arc ≡ slice_index mid.lower arc → flow_of old arc ≤ flow_of mid arc → flow_of mid arc ≤ want →
-    flow_of mid arc ≢ want → SameButScratch mid new → IsGreatestCut (network mid) (flow_of mid) arc (dry mid way) →
-    after ≡ with_set cuts right (Some (list_of mid.nodes (dry mid way))) → IsServed old new arc want cuts after right
-served_dry old mid new way arc want cuts after right kept_old kept_mid raised l held rises limit short scratch greatest
+    flow_of mid arc ≢ want → SameButScratch mid new → IsGreatestCut (network mid) (flow_of mid) arc
+    (unlabeled mid labels) →
+    after ≡ with_set cuts right (Some (list_of mid.nodes (unlabeled mid labels))) →
+    IsServed old new arc want cuts after right
+served_unlabeled old mid new labels arc want cuts after right kept_old kept_mid raised l held rises limit short scratch
+    greatest
     done = record {
       held = raised_held old mid new arc want kept_old kept_mid raised l held rises limit scratch;
       outcome = inr (
         let e = ap (λ (f : ℕ → ℕ). f arc) flow in omega arith,
         (
-          list_of mid.nodes (dry mid way),
+          list_of mid.nodes (unlabeled mid labels),
           (
             done,
             (
-              list_size mid.nodes (dry mid way) ∙ ap (λ (x : Contents). x.nodes) raised.rest,
-              subst (λ (g : ℕ → ℕ). IsGreatestCut (network old) g arc (has (list_of mid.nodes (dry mid way))))
+              list_size mid.nodes (unlabeled mid labels) ∙ ap (λ (x : Contents). x.nodes) raised.rest,
+              subst (λ (g : ℕ → ℕ). IsGreatestCut (network old) g arc (has (list_of mid.nodes (unlabeled mid labels))))
                   (sym flow)
-                  (subst (λ (y : ℕ → Bool). IsGreatestCut (network old) (flow_of mid) arc y) (sym (dry_list mid way))
-                  (raised_cut old mid (flow_of mid) arc (dry mid way) raised greatest)),
+                  (subst (λ (y : ℕ → Bool). IsGreatestCut (network old) (flow_of mid) arc y)
+                  (sym (unlabeled_list mid labels))
+                  (raised_cut old mid (flow_of mid) arc (unlabeled mid labels) raised greatest)),
             ),
           ),
         ),

@@ -1,32 +1,32 @@
 -- What a turn of the sweep needs.
 use Rattle.std.proofs.Common.{◌≡◌, ℕ, ◌+◌, ◌<◌, ◌≤◌, sym, ◌∙◌, ap, subst, arith, List, length, get_or}
 use Rattle.std.specs.Prelude.{◌*◌, ◌^◌, slice_index, None}
-use Rattle.place_sums.specs.Sums.{total}
+use Rattle.finite_sums.specs.Sums.{total}
 use Rattle.water_model.specs.CutSets.{CutSets, set_of}
 use Rattle.water_model.specs.Valid.{IsValidBasin}
 use Rattle.water_text.specs.declared.month.Month.{Month}
 use Rattle.water_model.specs.declared.types.Basin.{Basin}
 use Rattle.circulation.specs.Contents.{Contents, network, arcs}
-use Rattle.augment.specs.Raised.{HasWayOut}
+use Rattle.augment.specs.Raised.{HasPathOut}
 use Rattle.senior_hold.specs.MonthNetwork.{right_arc}
 use Rattle.senior_hold.proofs.MonthArcs.{right_kind, AreKinds}
 use Rattle.senior_hold.proofs.Numbers.{right_arc_read}
 use Rattle.senior_hold.proofs.Plans.{right_arc_in, want_fits}
-use Rattle.senior_hold.proofs.WayOut.{way_out}
+use Rattle.senior_hold.proofs.PathOut.{path_out}
 use Rattle.senior_hold.proofs.Solves.{IsStanding}
 use Rattle.rights_roll.specs.SeniorityOrder.{IsSeniorityOrder}
-use Rattle.place_sums.specs.Sums.{when}
+use Rattle.finite_sums.specs.Sums.{when}
 use Rattle.senior_hold.specs.Arcs.{AreArcs}
 use Rattle.senior_hold.specs.Spilled.{spilled}
 use Rattle.senior_hold.specs.Layouts.{OutletsAlone}
 use Rattle.senior_hold.specs.declared.arcs.Arcs.{Arcs}
-use Rattle.rights_roll.specs.RollSeen.{RollSeen}
+use Rattle.rights_roll.specs.RollView.{RollView}
 use Rattle.rights_roll.specs.Rolls.{IsRollOf}
 use Rattle.rights_roll.proofs.Seniors.{by_seniority_order}
 use Rattle.senior_hold.specs.Solved.{AreWants}
 
 -- the order of a roll has each right at its place
-pub order_of_roll : (b : Basin) (roll : RollSeen) → IsValidBasin b → IsRollOf b.rights roll →
+pub order_of_roll : (b : Basin) (roll : RollView) → IsValidBasin b → IsRollOf b.rights roll →
     IsSeniorityOrder b.rights roll.order
 order_of_roll b roll valid is =
     subst (IsSeniorityOrder b.rights) (sym is.order) (by_seniority_order b.rights valid.roll.strict)
@@ -69,13 +69,13 @@ turn_want b month supply want order k r arc c cuts kinds t fit now =
     subst (λ a. slice_index want r ≤ slice_index c.upper a) (sym t.arc_is)
     (want_fits b month supply want (network c) r now.net fit t.in_range (kinds r t.in_range))
 
-pub turn_way_out : (b : Basin) (month : Month) (supply want order : List ℕ) (k r arc : ℕ) (c : Contents)
+pub turn_path_out : (b : Basin) (month : Month) (supply want order : List ℕ) (k r arc : ℕ) (c : Contents)
     (cuts : CutSets) → IsValidBasin b → IsTurn b order k r arc → total (length b.nodes)
     (λ v. slice_index supply v) < 4 * 10 ^ 13 → OutletsAlone b c →
-    IsStanding (spilled b) month supply want order k c cuts → HasWayOut (network c) arc
-turn_way_out b month supply want order k r arc c cuts valid t few outlets now =
-    subst (λ a. HasWayOut (network c) a) (sym t.arc_is)
-    (way_out b month supply want (network c) r valid now.net (λ n l h. outlets n l ∙ ap (λ o. when o (10 ^ 15)) h)
+    IsStanding (spilled b) month supply want order k c cuts → HasPathOut (network c) arc
+turn_path_out b month supply want order k r arc c cuts valid t bounded outlets now =
+    subst (λ a. HasPathOut (network c) a) (sym t.arc_is)
+    (path_out b month supply want (network c) r valid now.net (λ n l h. outlets n l ∙ ap (λ o. when o (10 ^ 15)) h)
     (omega arith) t.in_range (right_kind b valid r t.in_range))
 
 pub turn_free : (b : Basin) (month : Month) (supply want order : List ℕ) (o : IsSeniorityOrder b.rights order)
@@ -87,8 +87,8 @@ turn_free b month supply want order o k r arc c cuts t now =
 -- the cost of one turn more
 pub one_more : (a arcs k before now after : ℕ) → arcs ≤ a → now ≤ before + k * (30 * (2 * a + 1)) →
     after ≤ now + 30 * (2 * arcs + 1) → after ≤ before + (k + 1) * (30 * (2 * a + 1))
-one_more a arcs k before now after few so_far turn =
-    sum before k (30 * (2 * a + 1)) now after so_far (omega (arith, few, turn))
+one_more a arcs k before now after bounded so_far turn =
+    sum before k (30 * (2 * a + 1)) now after so_far (omega (arith, bounded, turn))
   where
     sum : (before k c now after : ℕ) → now ≤ before + k * c → after ≤ now + c → after ≤ before + (k + 1) * c
     sum before k c now after h i = grind arith

@@ -1,6 +1,6 @@
 -- What lists have for the arcs of a month.
 use Rattle.std.specs.Prelude.{◌≡◌, ℕ, ◌+◌, ◌<◌, true, List, length, slice_index, slice_get, Some}
-use Rattle.place_sums.specs.Sums.{count_where}
+use Rattle.finite_sums.specs.Sums.{count_where}
 use Rattle.water_model.specs.Basin.{tail_of, head_of, is_outlet, taking_node}
 use Rattle.water_model.specs.Plans.{carry_of}
 use Rattle.water_text.specs.declared.month.Month.{Month}
@@ -16,7 +16,7 @@ pub record AreArcs (b : Basin) (arcs : Arcs) : Type 0 where
   pub right : (r : ℕ) → r < length b.rights → slice_index arcs.rights.items r ≡ right_arc b r
   pub spill : arcs.spill ≡ spill_arc b 0
 
--- the ends of the arcs of so many links, rights and nodes, from the first on
+-- the ends of the arcs of a given number of links, rights and nodes, from the first on
 pub record AreEndsOf (b : Basin) (ends : List Ends) (links rights nodes : ℕ) : Type 0 where
   pub count : length ends ≡ links + (count_where rights (λ r. takes b r) + count_where nodes (λ n. is_outlet b n))
   pub link : (e : ℕ) → e < links → slice_get ends e ≡ Some (record { from = tail_of b e; to = head_of b e })
@@ -29,7 +29,7 @@ pub record AreEndsOf (b : Basin) (ends : List Ends) (links rights nodes : ℕ) :
 abbrev pub AreEnds : Basin → List Ends → Type 0
 AreEnds b ends = AreEndsOf b ends (length b.links) (length b.rights) (length b.nodes)
 
--- the amounts of a plan on the arcs of so many links, rights and nodes, from the first on
+-- the amounts of a plan on the arcs of a given number of links, rights and nodes, from the first on
 pub record AreAmountsOf (b : Basin) (p : Plan) (g : ℕ → ℕ) (links rights nodes : ℕ) : Type 0 where
   pub on_links : (e : ℕ) → e < links → g e ≡ slice_index p.flow e
   pub on_takes : (r : ℕ) → r < rights → takes b r ≡ true → g (take_arc b r) ≡ slice_index p.take r

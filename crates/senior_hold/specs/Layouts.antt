@@ -1,6 +1,6 @@
 -- What a solver keeps, and how it begins a month.
 use Rattle.std.specs.Prelude.{◌≡◌, ℕ, ◌<◌, ◌^◌, List, length, slice_index}
-use Rattle.place_sums.specs.Sums.{when}
+use Rattle.finite_sums.specs.Sums.{when}
 use Rattle.water_model.specs.Basin.{is_outlet}
 use Rattle.water_model.specs.RunOfRiver.{IsRunOfRiver}
 use Rattle.water_text.specs.declared.month.Month.{Month}

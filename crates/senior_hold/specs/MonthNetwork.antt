@@ -2,7 +2,7 @@
 use Rattle.std.specs.Prelude.{◌≡◌, ℕ, ◌+◌, ◌*◌, ◌<◌, ◌&&◌, Bool, true, List, map, length, slice_index, Option, Some}
 use Rattle.std.specs.Prelude.{None, is_some}
 use Rattle.std.specs.List.{range_with_len}
-use Rattle.place_sums.specs.Sums.{when, count_where, greatest_where}
+use Rattle.finite_sums.specs.Sums.{when, count_where, greatest_where}
 use Rattle.water_model.specs.Basin.{tail_of, head_of, is_outlet, taking_node, instream_link, is_on_link}
 use Rattle.water_model.specs.Plans.{carry_of}
 use Rattle.water_text.specs.declared.month.Month.{Month}
@@ -66,7 +66,7 @@ pub record IsMonthNetwork (b : Basin) (month : Month) (supply want : List ℕ) (
   pub supplies : (n : ℕ) → n < length b.nodes → w.supply n ≡ slice_index supply n
 
 -- the lowers hold what the rights that pass the test were delivered
-pub record Holds (b : Basin) (delivered : List ℕ) (served : ℕ → Bool) (w : Network) : Type 0 where
+pub record KeepsForSeniors (b : Basin) (delivered : List ℕ) (served : ℕ → Bool) (w : Network) : Type 0 where
   pub on_links : (e : ℕ) → e < length b.links →
       w.lower e ≡ greatest_where (length b.rights) (λ s. is_on_link b s e && served s) (λ s. slice_index delivered s)
   pub on_takes : (r : ℕ) → r < length b.rights → takes b r ≡ true →

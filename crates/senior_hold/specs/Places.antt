@@ -26,7 +26,7 @@ pub record HasParts (b : Basin) (circ : Circulation) (fixed moving tree : List â
   pub arcs : HasArcs b circ fixed moving
   pub size : length tree â‰¡ tree_words (length b.nodes)
 
--- the region holds the basin's arcs, and behind them lies the tree
+-- the region holds the basin's arcs, and after them lies the tree
 pub record HasPlaces (b : Basin) (r : Words) (p : Places) : Type 0 where
   pub contents : Contents
   pub held : HoldsArcs r p.circ contents

@@ -1,6 +1,6 @@
 -- What a month gives a solver, and what it finds.
 use Rattle.std.specs.Prelude.{◌≡◌, ◌⊎◌, ℕ, ◌*◌, ◌^◌, ◌<◌, ◌≤◌, Bool, List, length, slice_index, Some, None}
-use Rattle.place_sums.specs.Sums.{total}
+use Rattle.finite_sums.specs.Sums.{total}
 use Rattle.water_model.specs.Basin.{instream_link}
 use Rattle.water_model.specs.Plans.{IsGreatest, carry_of}
 use Rattle.water_model.specs.Cuts.{IsReach}
@@ -42,8 +42,8 @@ pub record IsGiven (b : Basin) (month : Month) (supply want : List ℕ) (p : Pla
   pub no_sets : (r : ℕ) → r < length b.rights → set_of cuts r ≡ None
 
 -- the right is met and has no set, or is short and its set is its reach
-abbrev pub IsSettled : Basin → Month → List ℕ → List ℕ → List ℕ → CutSets → ℕ → Type 0
-IsSettled b month supply want delivered cuts right =
+abbrev pub IsMetOrReached : Basin → Month → List ℕ → List ℕ → List ℕ → CutSets → ℕ → Type 0
+IsMetOrReached b month supply want delivered cuts right =
     ((slice_index want right ≤ slice_index delivered right) × (set_of cuts right ≡ None))
     ⊎ ((slice_index delivered right < slice_index want right)
     × ((cut : List Bool) × ((set_of cuts right ≡ Some cut) × IsReach b month supply delivered right cut)))
@@ -52,5 +52,5 @@ IsSettled b month supply want delivered cuts right =
 pub record IsSolved (b : Basin) (month : Month) (supply want : List ℕ) (p : Plan) (cuts : CutSets) : Type 0 where
   pub greatest : IsGreatest b month supply want p
   pub settled : (delivered : List ℕ) → AreDeliveries b want p delivered → (r : ℕ) → r < length b.rights →
-      IsSettled b month supply want delivered cuts r
+      IsMetOrReached b month supply want delivered cuts r
   pub river : length b.rights ≡ 0 → IsRunOfRiver b supply p

@@ -9,7 +9,7 @@ use Rattle.senior_hold.specs.declared.solver.Solver.TheInside.{Inside}
 abbrev pub basin_of : Inside → Basin
 basin_of i = i.basin.now
 
-pub record IsReady (i : Inside) : Type 0 where
+pub record IsValidSolver (i : Inside) : Type 0 where
   pub valid : IsValidBasin i.basin.now
   pub is_layout : IsLayout i.basin.now i.layout
   pub fits_room : FitsRoom i.basin.now i.room

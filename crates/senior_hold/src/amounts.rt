@@ -1,6 +1,6 @@
 //! Amounts by arc: the bounds of a month, and plans as flows and back.
 ghost use Rattle.std.specs.Prelude.{◌≡◌, ℕ, ◌+◌, ◌^◌, ◌<◌, ◌≤◌, length, slice_index};
-ghost use Rattle.place_sums.specs.Sums.{when};
+ghost use Rattle.finite_sums.specs.Sums.{when};
 ghost use Rattle.water_text.specs.Months.{IsMonth};
 ghost use Rattle.water_model.specs.Basin.{is_outlet};
 ghost use Rattle.water_model.specs.Plans.{carry_of};
@@ -13,7 +13,7 @@ ghost use Rattle.senior_hold.specs.Solved.{FitsPlan};
 ghost use Rattle.senior_hold.specs.Spilled.{spilled, spills_of};
 
 use crate::arcs::Arcs;
-use circulation::Lent;
+use circulation::CirculationMut;
 use water_model::calls::{carry_of, taking_node};
 use water_model::types::{Basin, Plan};
 use water_text::month::Month;
@@ -128,7 +128,7 @@ pub fn write_bounds(
 }
 
 /// Reads the flow of each link.
-pub fn read_links(circ: &Lent<'_>, into: &mut [u64])
+pub fn read_links(circ: &CirculationMut<'_>, into: &mut [u64])
     requires { length into.old ≤ arcs circ.now }
     ensures { into.new ≡ list_of (length into.old) (flow_of circ.now) }
 {
@@ -139,7 +139,7 @@ pub fn read_links(circ: &Lent<'_>, into: &mut [u64])
 }
 
 /// Reads what each right takes.
-pub fn read_takes(basin: &Basin, circ: &Lent<'_>, arcs: &Arcs, into: &mut [u64])
+pub fn read_takes(basin: &Basin, circ: &CirculationMut<'_>, arcs: &Arcs, into: &mut [u64])
     requires valid { IsValidBasin basin.now }
     requires inside { length basin.now.links + taker_count basin.now ≤ length circ.now.from }
     requires into { length into.old ≡ length basin.now.rights }
@@ -156,7 +156,7 @@ pub fn read_takes(basin: &Basin, circ: &Lent<'_>, arcs: &Arcs, into: &mut [u64])
 }
 
 /// Reads what each node spills.
-pub fn read_spills(basin: &Basin, circ: &Lent<'_>, arcs: &Arcs, into: &mut [u64])
+pub fn read_spills(basin: &Basin, circ: &CirculationMut<'_>, arcs: &Arcs, into: &mut [u64])
     requires spills { spill_arc basin.now (length basin.now.nodes) ≤ length circ.now.from }
     requires arcs { AreArcs basin.now arcs.now }
     requires into { length into.old ≡ length basin.now.nodes }
@@ -169,7 +169,7 @@ pub fn read_spills(basin: &Basin, circ: &Lent<'_>, arcs: &Arcs, into: &mut [u64]
 }
 
 /// Reads the plan of a flow, which may let water out at each node.
-pub fn read_plan(basin: &Basin, circ: &Lent<'_>, arcs: &Arcs, plan: &mut Plan)
+pub fn read_plan(basin: &Basin, circ: &CirculationMut<'_>, arcs: &Arcs, plan: &mut Plan)
     requires valid { IsValidBasin basin.now }
     requires ends { HasBasinEnds (spilled basin.now) (network circ.now) }
     requires arcs { AreArcs basin.now arcs.now }

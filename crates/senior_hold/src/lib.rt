@@ -10,10 +10,10 @@ mod amounts;
 mod arcs;
 pub mod laws;
 mod places;
-mod pulls;
 mod search_sweep;
 mod serving;
 mod solver;
+mod tree_raises;
 mod tree_sweep;
 
 pub use solver::Solver;

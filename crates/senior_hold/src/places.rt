@@ -31,14 +31,14 @@ pub struct Places {
 
 /// A way to solve a month.
 #[derive(Clone, Copy, PartialEq, Eq)]
-pub enum Way {
+pub enum Method {
     /// By the residual tree.
     Tree,
     /// By searches.
     Searches,
 }
 
-/// How many words the circulation and the tree of a basin take, with so many arcs.
+/// How many words the circulation and the tree of a basin take, with a given number of arcs.
 pub fn words_of(basin: &Basin, arcs: usize) -> usize
     requires valid { IsValidBasin basin.now }
     requires arcs { arcs ≡ arc_count (spilled basin.now) }
@@ -71,7 +71,7 @@ pub fn open_places(basin: &Basin, ends: &[Ends], region: &mut Region) -> Places
 
 /// Solves a month in words that are lent: those of the circulation that never change, those that do, and the tree's.
 fn sweep_lent<L: Ledger>(
-    way: Way,
+    method: Method,
     basin: &Basin,
     layout: &Layout,
     room: &mut Room,
@@ -96,20 +96,20 @@ fn sweep_lent<L: Ledger>(
     ensures plan { FitsPlan basin.now plan.new }
     ensures cuts { FitsCuts basin.now cuts.new }
     ensures solved { result ≡ Sweep.Solved → IsSolved basin.now month supply.now want.now plan.new cuts.new }
-    ensures pushes { way ≡ Way.Tree → searches.new ≤ searches.old + 30 * length basin.now.rights }
+    ensures pushes { method ≡ Method.Tree → searches.new ≤ searches.old + 30 * length basin.now.rights }
     ensures gave_up { result ≡ Sweep.GaveUp → searches.old + 29 * length basin.now.rights < searches.new }
-    ensures searched { way ≡ Way.Searches → result ≡ Sweep.Solved }
-    ensures search_pushes { way ≡ Way.Searches →
+    ensures searched { method ≡ Method.Searches → result ≡ Sweep.Solved }
+    ensures search_pushes { method ≡ Method.Searches →
         searches.new ≤ searches.old + length basin.now.rights * (30 * (2 * arc_count basin.now + 1)) }
 {
-    match way {
-        Way::Tree => {
+    match method {
+        Method::Tree => {
             solve_by_tree(
                 basin, layout, room, circ, fixed, moving, tree, month, supply, want, plan, cuts,
                 searches,
             )
         }
-        Way::Searches => {
+        Method::Searches => {
             solve_by_searches(
                 basin, layout, room, circ, fixed, moving, month, supply, want, plan, cuts, searches,
             );
@@ -120,7 +120,7 @@ fn sweep_lent<L: Ledger>(
 
 /// Solves a month in the words of a region.
 pub fn sweep<L: Ledger>(
-    way: Way,
+    method: Method,
     basin: &Basin,
     layout: &Layout,
     room: &mut Room,
@@ -144,10 +144,10 @@ pub fn sweep<L: Ledger>(
     ensures plan { FitsPlan basin.now plan.new }
     ensures cuts { FitsCuts basin.now cuts.new }
     ensures solved { result ≡ Sweep.Solved → IsSolved basin.now month supply.now want.now plan.new cuts.new }
-    ensures pushes { way ≡ Way.Tree → searches.new ≤ searches.old + 30 * length basin.now.rights }
+    ensures pushes { method ≡ Method.Tree → searches.new ≤ searches.old + 30 * length basin.now.rights }
     ensures gave_up { result ≡ Sweep.GaveUp → searches.old + 29 * length basin.now.rights < searches.new }
-    ensures searched { way ≡ Way.Searches → result ≡ Sweep.Solved }
-    ensures search_pushes { way ≡ Way.Searches →
+    ensures searched { method ≡ Method.Searches → result ≡ Sweep.Solved }
+    ensures search_pushes { method ≡ Method.Searches →
         searches.new ≤ searches.old + length basin.now.rights * (30 * (2 * arc_count basin.now + 1)) }
 {
     let circ = &places.circ;
@@ -159,7 +159,7 @@ pub fn sweep<L: Ledger>(
     let (held, tree) = words.split_at_mut(circ.place.len);
     let (fixed, moving) = held.split_at_mut(circ.fixed());
     sweep_lent(
-        way, basin, layout, room, circ, fixed, moving, tree, month, supply, want, plan, cuts,
+        method, basin, layout, room, circ, fixed, moving, tree, month, supply, want, plan, cuts,
         searches,
     )
 }

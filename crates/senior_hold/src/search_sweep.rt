@@ -14,7 +14,7 @@ ghost use Rattle.senior_hold.specs.Places.{HasArcs};
 use crate::amounts::{lay, read_plan, write_bounds, write_outlets};
 use crate::serving::serve;
 use crate::solver::{Layout, Room};
-use circulation::{Circulation, Lent};
+use circulation::{Circulation, CirculationMut};
 use river_net::Net;
 use std::sync::ledger::Ledger;
 use steps::Steps;
@@ -49,7 +49,7 @@ fn begin_river<'r>(
     supply: &[u64],
     want: &[u64],
     plan: &mut Plan,
-) -> Lent<'r>
+) -> CirculationMut<'r>
     requires valid { IsValidBasin basin.now }
     requires layout { IsLayout basin.now layout.now }
     requires room { FitsRoom basin.now room.old }

@@ -2,18 +2,18 @@
 ghost use Rattle.std.specs.Prelude.{◌≡◌, ◌+◌, ◌*◌, ◌^◌, ◌<◌, ◌≤◌, length, slice_index, replicate, false, Some, None};
 ghost use Rattle.water_model.specs.CutSets.{set_of, with_set};
 ghost use Rattle.circulation.specs.Contents.{network, arcs, IsCirculation};
-ghost use Rattle.augment.specs.Raised.{HasWayOut, open_arcs, not_reached};
+ghost use Rattle.augment.specs.Raised.{HasPathOut, open_arcs, not_reached};
 ghost use Rattle.senior_hold.specs.MonthNetwork.{list_of};
 ghost use Rattle.senior_hold.specs.Serving.{IsServed, SameEnds, KeepsShape};
 
 use augment::{Raised, raise, reached};
-use circulation::Lent;
+use circulation::CirculationMut;
 use std::sync::ledger::Ledger;
 use steps::Steps;
 use water_model::cut_list::CutList;
 
 /// Adds to a right's empty set the nodes that the last search did not reach.
-fn mark(circ: &Lent<'_>, right: u32, cuts: &mut CutList)
+fn mark(circ: &CirculationMut<'_>, right: u32, cuts: &mut CutList)
     requires right { right < length cuts.old.sets }
     requires nodes { cuts.old.nodes ≡ circ.now.nodes }
     requires empty { set_of cuts.old right ≡ Some (replicate cuts.old.nodes false) }
@@ -29,7 +29,7 @@ fn mark(circ: &Lent<'_>, right: u32, cuts: &mut CutList)
 /// Raises a right's arc to its want, or as far as it can be; gives a right that stays short the greatest tight cut of
 /// its arc; and holds what the arc has of the want.
 pub fn serve<L: Ledger>(
-    circ: &mut Lent<'_>,
+    circ: &mut CirculationMut<'_>,
     arc: u32,
     want: u64,
     right: u32,
@@ -39,7 +39,7 @@ pub fn serve<L: Ledger>(
     requires arc { arc < arcs circ.old }
     requires want { want ≤ slice_index circ.old.upper arc }
     requires limit { want ≤ 10 ^ 9 }
-    requires way_out { HasWayOut (network circ.old) arc }
+    requires path_out { HasPathOut (network circ.old) arc }
     requires right { right < length cuts.old.sets }
     requires nodes { cuts.old.nodes ≡ circ.old.nodes }
     requires free { set_of cuts.old right ≡ None }

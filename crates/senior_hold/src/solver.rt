@@ -14,7 +14,7 @@ ghost use Rattle.senior_hold.specs.Layouts.{IsLayout, FitsRoom};
 ghost use Rattle.senior_hold.specs.Spilled.{spilled};
 
 use crate::arcs::{Arcs, arcs_of, ends_of_arcs};
-use crate::places::{Places, Way, open_places, sweep, words_of};
+use crate::places::{Method, Places, open_places, sweep, words_of};
 use crate::tree_sweep::Sweep;
 use rights_roll::roll::Roll;
 use river_net::Net;
@@ -59,11 +59,11 @@ impl<'b> Model for Solver<'b> {
 
     ghost Value = { Basin };
 
-    ghost use Rattle.senior_hold.specs.Solver.{basin_of, IsReady};
+    ghost use Rattle.senior_hold.specs.Solver.{basin_of, IsValidSolver};
 
     ghost view = { basin_of };
 
-    ghost invariant = { IsReady };
+    ghost invariant = { IsValidSolver };
 }
 
 /// What stays from month to month in a basin.
@@ -84,7 +84,7 @@ fn layout_of(alloc: Global, basin: &Basin) -> Result<Layout, AllocError>
     Ok(Layout { net, roll, arcs })
 }
 
-/// Room for so many links, rights, nodes and arcs.
+/// Room for a given number of links, rights, nodes and arcs.
 fn room_of(alloc: Global, basin: &Basin, arcs: usize) -> Result<Room, AllocError>
     requires { arcs ≡ arc_count (spilled basin.now) }
     ensures { IfOk result (λ room. FitsRoom basin.now room) }
@@ -146,7 +146,7 @@ impl<'b> Solver<'b> {
         ensures gave_up { result ≡ Sweep.GaveUp → searches.old + 29 * length self.old.rights < searches.new }
     {
         sweep(
-            Way::Tree,
+            Method::Tree,
             self.basin,
             &self.layout,
             &mut self.room,
@@ -180,7 +180,7 @@ impl<'b> Solver<'b> {
         ensures pushes { searches.new ≤ searches.old + length self.old.rights * (30 * (2 * arc_count self.old + 1)) }
     {
         sweep(
-            Way::Searches,
+            Method::Searches,
             self.basin,
             &self.layout,
             &mut self.room,

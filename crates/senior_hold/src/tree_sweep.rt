@@ -16,9 +16,9 @@ ghost use Rattle.senior_hold.specs.Places.{HasArcs, HasParts};
 ghost use Rattle.senior_hold.specs.Spilled.{spilled, spills_of, HasSpills, IsSpilledStart, IsSettledPlan};
 
 use crate::amounts::{RIVER_CARRY, read_links, read_spills, read_takes, write_bounds};
-use crate::pulls::{Turn, serve_by_tree};
 use crate::solver::{Layout, Room};
-use circulation::{Circulation, Lent};
+use crate::tree_raises::{Turn, serve_by_tree};
+use circulation::{Circulation, CirculationMut};
 use residual_tree::ResidualTree;
 use std::sync::ledger::Ledger;
 use steps::Steps;
@@ -40,7 +40,7 @@ fn begin_spilled<'r>(
     month: Month,
     supply: &[u64],
     want: &[u64],
-) -> Lent<'r>
+) -> CirculationMut<'r>
     requires valid { IsValidBasin basin.now }
     requires layout { IsLayout basin.now layout.now }
     requires room { FitsRoom basin.now room.old }
@@ -65,7 +65,7 @@ fn begin_spilled<'r>(
 }
 
 /// An arc from the head of an arc to the outside, unless the head is the outside.
-fn exit_of(circ: &Lent<'_>, first: u32, arc: u32) -> u32
+fn exit_of(circ: &CirculationMut<'_>, first: u32, arc: u32) -> u32
     requires arc { arc < arcs circ.now }
     requires spills { HasSpills circ.now first }
     requires some { 0 < circ.now.nodes }
@@ -94,7 +94,13 @@ fn add_run(run: &[u64], flow: &mut [u64])
 }
 
 /// Writes the plan of a flow: what is spilled runs down the rivers, and leaves the basin at outlets.
-fn settle_plan(basin: &Basin, layout: &Layout, room: &mut Room, circ: &Lent<'_>, plan: &mut Plan)
+fn settle_plan(
+    basin: &Basin,
+    layout: &Layout,
+    room: &mut Room,
+    circ: &CirculationMut<'_>,
+    plan: &mut Plan,
+)
     requires valid { IsValidBasin basin.now }
     requires layout { IsLayout basin.now layout.now }
     requires room { FitsRoom basin.now room.old }

@@ -1,2 +1,2 @@
 pub mod ItemLaws
-pub mod PlaceLaws
+pub mod IndexLaws

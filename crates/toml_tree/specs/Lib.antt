@@ -2,4 +2,4 @@ pub mod Document
 pub mod Items
 pub mod Values
 pub mod Texts
-pub mod FirstPlaces
+pub mod FirstIndices

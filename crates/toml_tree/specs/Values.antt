@@ -15,17 +15,18 @@ ranged least most default (pos n) = if is_between least most (pos n) then n else
 ranged least most default (negsuc n) = default
 
 -- a whole number, by the least, the greatest and the default
-abbrev pub whole_of : ℕ → ℕ → ℕ → Option Data → ℕ
-whole_of least most default value = option_map_or (ranged least most default) (option_and_then as_integer value) default
+abbrev pub integer_of : ℕ → ℕ → ℕ → Option Data → ℕ
+integer_of least most default value = option_map_or (ranged least most default) (option_and_then as_integer value)
+    default
 
-abbrev pub whole_at : List ℕ → ℕ → ℕ → ℕ → Members → ℕ
-whole_at key least most default row = whole_of least most default (get_member key row)
+abbrev pub integer_at : List ℕ → ℕ → ℕ → ℕ → Members → ℕ
+integer_at key least most default row = integer_of least most default (get_member key row)
 
 -- the number for a month, from 0 for January: the value itself, or its item
 abbrev pub month_number : ℕ → Option Data → ℕ → ℕ
 month_number most value month =
-    option_map_or (λ items. whole_of 0 most 0 (get_item month items)) (option_and_then as_array value)
-    (whole_of 0 most 0 value)
+    option_map_or (λ items. integer_of 0 most 0 (get_item month items)) (option_and_then as_array value)
+    (integer_of 0 most 0 value)
 
 -- twelve numbers, from January to December
 unfoldable pub monthly_of : ℕ → Option Data → List ℕ

@@ -1,6 +1,6 @@
 //! The values of a TOML document by their keys, and the first places of the texts of a list.
 #![tactic(auto)]
 
-pub mod places;
+pub mod indices;
 pub mod text;
 pub mod values;

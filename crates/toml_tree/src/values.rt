@@ -3,7 +3,7 @@ ghost use Rattle.std.specs.Prelude.{◌≡◌, ◌≤◌, option_map};
 ghost use Rattle.toml.specs.Data.{get_item, get_member, as_array};
 ghost use Rattle.toml.specs.View.{view, table_view, items_view};
 ghost use Rattle.toml_tree.specs.Items.{items_len};
-ghost use Rattle.toml_tree.specs.Values.{is_between, ranged, whole_of, whole_at, month_number, monthly_of, text_at};
+ghost use Rattle.toml_tree.specs.Values.{is_between, ranged, integer_of, integer_at, month_number, monthly_of, text_at};
 ghost use Rattle.toml_tree.specs.Values.{text_or_empty};
 
 use toml::{Table, Value};
@@ -71,8 +71,8 @@ fn ranged(z: i64, least: u64, most: u64, default: u64) -> u64
 }
 
 /// The whole number that a value is, from `least` to `most`, or the default where it is none.
-pub fn whole_of(value: Option<&Value>, least: u64, most: u64, default: u64) -> u64
-    ensures value { result ≡ whole_of least most default (option_map (λ x. view x.now) value.entry) }
+pub fn integer_of(value: Option<&Value>, least: u64, most: u64, default: u64) -> u64
+    ensures value { result ≡ integer_of least most default (option_map (λ x. view x.now) value.entry) }
     ensures range { least ≤ default → default ≤ most → (least ≤ result) × (result ≤ most) }
 {
     match value {
@@ -85,11 +85,11 @@ pub fn whole_of(value: Option<&Value>, least: u64, most: u64, default: u64) -> u
 }
 
 /// The whole number at a key, from `least` to `most`, or the default where there is none.
-pub fn whole_at(row: &Table, key: &str, least: u64, most: u64, default: u64) -> u64
-    ensures value { result ≡ whole_at key.now least most default (table_view row.now) }
+pub fn integer_at(row: &Table, key: &str, least: u64, most: u64, default: u64) -> u64
+    ensures value { result ≡ integer_at key.now least most default (table_view row.now) }
     ensures range { least ≤ default → default ≤ most → (least ≤ result) × (result ≤ most) }
 {
-    whole_of(member(row, key), least, most, default)
+    integer_of(member(row, key), least, most, default)
 }
 
 fn month_number(value: Option<&Value>, month: u64, most: u64) -> u64
@@ -97,8 +97,8 @@ fn month_number(value: Option<&Value>, month: u64, most: u64) -> u64
 {
     match value {
         Some(found) => match items_of(found) {
-            Some(items) => whole_of(item_at(items, month), 0, most, 0),
-            None => whole_of(value, 0, most, 0),
+            Some(items) => integer_of(item_at(items, month), 0, most, 0),
+            None => integer_of(value, 0, most, 0),
         },
         None => 0,
     }

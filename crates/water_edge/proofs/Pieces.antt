@@ -16,8 +16,8 @@ wrote_more old mid new piece done count before more =
     (Appends-trans old mid new (take done piece) _ before rest)
 
 -- a write that took nothing
-pub wrote_none : (old mid new : Option (List ℕ)) (front rest : List ℕ) (count : ℕ) → count ≡ 0 →
-    Appends old mid front → Appends mid new (take count rest) → Appends old new front
-wrote_none old mid new front rest count none before more =
+pub wrote_none : (old mid new : Option (List ℕ)) (prefix rest : List ℕ) (count : ℕ) → count ≡ 0 →
+    Appends old mid prefix → Appends mid new (take count rest) → Appends old new prefix
+wrote_none old mid new prefix rest count none before more =
     let nothing : Appends mid new [] = subst (λ n. Appends mid new (take n rest)) none more in
-    subst (Appends old new) (append-nil front) (Appends-trans old mid new front [] before nothing)
+    subst (Appends old new) (append-nil prefix) (Appends-trans old mid new prefix [] before nothing)

@@ -11,34 +11,34 @@ use Rattle.std.proofs.lemmas.Grind.{flat_map-append}
 use Rattle.std.proofs.lemmas.List.{take-append-le}
 use Rattle.water_edge.specs.Edge.{Puts}
 
--- a front of a piece was put
-abbrev pub PutsFront : Option (List ℕ) → Option (List ℕ) → List ℕ → Type 0
-PutsFront old new piece = (count : ℕ) × (count ≤ length piece) × Appends old new (take count piece)
+-- a prefix of a piece was put
+abbrev pub PutsPrefix : Option (List ℕ) → Option (List ℕ) → List ℕ → Type 0
+PutsPrefix old new piece = (count : ℕ) × (count ≤ length piece) × Appends old new (take count piece)
 
 -- which is what a failed call may do
-pub PutsFront-fails : {E : Type 0} (old new : Option (List ℕ)) (r : Result (Unit {0}) E) (piece : List ℕ) → IsErr r →
-    PutsFront old new piece → Puts old new r piece
-PutsFront-fails old new (Ok u) piece failed h = cc
-PutsFront-fails old new (Err e) piece failed h = h
+pub PutsPrefix-fails : {E : Type 0} (old new : Option (List ℕ)) (r : Result (Unit {0}) E) (piece : List ℕ) → IsErr r →
+    PutsPrefix old new piece → Puts old new r piece
+PutsPrefix-fails old new (Ok u) piece failed h = cc
+PutsPrefix-fails old new (Err e) piece failed h = h
 
--- a piece that was put whole, and then a front of another
-pub PutsFront-then : (old mid new : Option (List ℕ)) (a b : List ℕ) → Appends old mid a → PutsFront mid new b →
-    PutsFront old new (a ++ b)
-PutsFront-then old mid new a b h k = (
+-- a piece that was put whole, and then a prefix of another
+pub PutsPrefix-then : (old mid new : Option (List ℕ)) (a b : List ℕ) → Appends old mid a → PutsPrefix mid new b →
+    PutsPrefix old new (a ++ b)
+PutsPrefix-then old mid new a b h k = (
   length a + k.0,
   omega (arith, length-append a b, k.1),
   rw (take-append-add a b k.0) (Appends-trans old mid new a (take k.0 b) h k.2),
 )
 
--- a front of a piece is a front of whatever goes on with it
-pub PutsFront-cut : (old new : Option (List ℕ)) (a b : List ℕ) → PutsFront old new a → PutsFront old new (a ++ b)
-PutsFront-cut old new a b k = (k.0, omega (arith, length-append a b, k.1), rw (take-append-le k.0 a b k.1) k.2)
+-- a prefix of a piece is a prefix of whatever goes on with it
+pub PutsPrefix-cut : (old new : Option (List ℕ)) (a b : List ℕ) → PutsPrefix old new a → PutsPrefix old new (a ++ b)
+PutsPrefix-cut old new a b k = (k.0, omega (arith, length-append a b, k.1), rw (take-append-le k.0 a b k.1) k.2)
 
 -- a piece that was put whole, and then another
 pub Puts-then : {E : Type 0} (old mid new : Option (List ℕ)) (r : Result (Unit {0}) E) (a b : List ℕ) →
     Appends old mid a → Puts mid new r b → Puts old new r (a ++ b)
 Puts-then old mid new (Ok u) a b h k = Appends-trans old mid new a b h k
-Puts-then old mid new (Err e) a b h k = PutsFront-then old mid new a b h k
+Puts-then old mid new (Err e) a b h k = PutsPrefix-then old mid new a b h k
 
 -- the piece of the first item, and then those of the others
 pub Puts-first : {Y E : Type 0} (h : Y → List ℕ) (y : Y) (ys : List Y) (old mid new : Option (List ℕ))
@@ -51,14 +51,14 @@ Puts-first h y ys old mid new r here further =
 -- Three pieces, of which the first fails, or the second, or all so far were put.
 
 pub Puts-cut : {E : Type 0} (old new : Option (List ℕ)) (r : Result (Unit {0}) E) (a b : List ℕ) → IsErr r →
-    PutsFront old new a → Puts old new r (a ++ b)
-Puts-cut old new r a b failed k = PutsFront-fails old new r (a ++ b) failed (PutsFront-cut old new a b k)
+    PutsPrefix old new a → Puts old new r (a ++ b)
+Puts-cut old new r a b failed k = PutsPrefix-fails old new r (a ++ b) failed (PutsPrefix-cut old new a b k)
 
 pub Puts-second : {E : Type 0} (old mid new : Option (List ℕ)) (r : Result (Unit {0}) E) (a b c : List ℕ) → IsErr r →
-    Appends old mid a → PutsFront mid new b → Puts old new r (a ++ (b ++ c))
+    Appends old mid a → PutsPrefix mid new b → Puts old new r (a ++ (b ++ c))
 Puts-second old mid new r a b c failed h k =
-    PutsFront-fails old new r (a ++ (b ++ c)) failed
-    (PutsFront-then old mid new a (b ++ c) h (PutsFront-cut mid new b c k))
+    PutsPrefix-fails old new r (a ++ (b ++ c)) failed
+    (PutsPrefix-then old mid new a (b ++ c) h (PutsPrefix-cut mid new b c k))
 
 pub Puts-third : {E : Type 0} (old mid next new : Option (List ℕ)) (r : Result (Unit {0}) E) (a b c : List ℕ) →
     Appends old mid a → Appends mid next b → Puts next new r c → Puts old new r (a ++ (b ++ c))
@@ -107,13 +107,13 @@ SoFar-next {h} {f} {xs} {k} {old} {mid} {new} x s at here later = record {
 -- an element that failed
 pub SoFar-fails : {X Y E : Type 0} {h : Y → List ℕ} {f : X → List Y} {xs : List X} {k : ℕ} {old mid : Option (List ℕ)}
     {before between : ℕ} (x : X) (new : Option (List ℕ)) (r : Result (Unit {0}) E) →
-    SoFar h f xs k old mid before between → slice_get xs k ≡ Some x → PutsFront mid new (flat_map h (f x)) → IsErr r →
+    SoFar h f xs k old mid before between → slice_get xs k ≡ Some x → PutsPrefix mid new (flat_map h (f x)) → IsErr r →
     Puts old new r (flat_map h (flat_map f xs))
 SoFar-fails {h} {f} {xs} {k} {old} {mid} x new r s at here failed =
-    PutsFront-fails old new r (flat_map h (flat_map f xs)) failed
-    (rw all (PutsFront-then old mid new (flat_map h (flat_map f (take k xs)))
+    PutsPrefix-fails old new r (flat_map h (flat_map f xs)) failed
+    (rw all (PutsPrefix-then old mid new (flat_map h (flat_map f (take k xs)))
     (flat_map h (f x) ++ flat_map h (flat_map f (drop (suc k) xs))) s.put
-    (PutsFront-cut mid new (flat_map h (f x)) (flat_map h (flat_map f (drop (suc k) xs))) here)))
+    (PutsPrefix-cut mid new (flat_map h (f x)) (flat_map h (flat_map f (drop (suc k) xs))) here)))
   where
     all : flat_map h (flat_map f xs) ≡ flat_map h
         (flat_map f (take k xs)) ++ (flat_map h (f x) ++ flat_map h (flat_map f (drop (suc k) xs)))

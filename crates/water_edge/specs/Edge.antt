@@ -22,7 +22,7 @@ pub record HasCause (before now : ℕ) (fault : Type 0) : Type 0 where
 -- the bytes that are told under each name stay, and each name that was served still is
 pub record SameShelf (told_old told_new : List ℕ → Option (List ℕ)) (serves_old serves_new : List ℕ →
     Type 0) : Type 0 where
-  pub told : (name : List ℕ) → told_new name ≡ told_old name
+  pub known : (name : List ℕ) → told_new name ≡ told_old name
   pub served : (name : List ℕ) → serves_old name → serves_new name
 
 -- a call asked for this file, where that is told, and for no other
@@ -30,7 +30,7 @@ pub record AsksFor (old new : List ℕ → Option ℕ) (name : List ℕ) : Type 
   pub once : IfSome (old name) (λ count. new name ≡ Some (next_count count))
   pub others : (other : List ℕ) → other ≢ name → new other ≡ old other
 
--- where the file is told: all its bytes, which are within the limit, or else TooLong only where they are beyond it
+-- where the file is known: all its bytes, which are within the limit, or else TooLong only where they are beyond it
 abbrev pub ReadsWhole : Option (List ℕ) → ℕ → Result (Vec ℕ Global) ShelfRefused → Type 0
 ReadsWhole None limit result = ⊤
 ReadsWhole (Some whole) limit (Ok bytes) = (bytes.items ≡ whole) × (length whole ≤ limit)
@@ -42,16 +42,16 @@ ReadsWhole (Some whole) limit (Err OutOfMemory) = ⊤
 -- where the buffer is empty or the file has no byte from there on
 pub record IsPart (whole : List ℕ) (from : ℕ) (old new : List ℕ) (count : ℕ) : Type 0 where
   pub there : 0 < count → from + count ≤ length whole
-  pub front : take count new ≡ take count (drop from whole)
-  pub behind : drop count new ≡ drop count old
+  pub prefix : take count new ≡ take count (drop from whole)
+  pub after : drop count new ≡ drop count old
   pub ended : count ≡ 0 → 0 < length old → length whole ≤ from
 
--- a part fits into the buffer, and where the file is told it is a part of that
+-- a part fits into the buffer, and where the file is known it is a part of that
 abbrev pub ReadsPart : Option (List ℕ) → ℕ → List ℕ → List ℕ → Result ℕ ShelfRefused → Type 0
-ReadsPart told from old new (Ok count) = (count ≤ length old) × IfSome told (λ whole. IsPart whole from old new count)
-ReadsPart told from old new (Err _) = ⊤
+ReadsPart known from old new (Ok count) = (count ≤ length old) × IfSome known (λ whole. IsPart whole from old new count)
+ReadsPart known from old new (Err _) = ⊤
 
--- the told bytes grow by the whole piece, or after a failure by a front of it
+-- the known bytes grow by the whole piece, or after a failure by a prefix of it
 abbrev pub Puts : {E : Type 0} → Option (List ℕ) → Option (List ℕ) → Result (Unit {0}) E → List ℕ → Type 0
 Puts old new (Ok _) piece = Appends old new piece
 Puts old new (Err _) piece = (count : ℕ) × (count ≤ length piece) × Appends old new (take count piece)

@@ -8,12 +8,12 @@ pub record WriterState : Type 0 where
   pub kept : List ℕ
   pub faults : ℕ
 
--- the bytes that the sink took: those kept back come behind those that the writer holds
+-- the bytes that the sink took: those kept back come after those that the writer holds
 abbrev pub taken_bytes : WriterState → Option (List ℕ)
 taken_bytes sink = append_known sink.bytes sink.kept
 
--- the writer took a front of what was kept, and the rest is kept
-pub record HandsOn (old new : WriterState) : Type 0 where
+-- the writer took a prefix of what was kept, and the rest is kept
+pub record Flushes (old new : WriterState) : Type 0 where
   pub count : ℕ
   pub within : count ≤ length old.kept
   pub written : Appends old.bytes new.bytes (take count old.kept)

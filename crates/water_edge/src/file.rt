@@ -139,7 +139,7 @@ impl<'a, R: Files> FileShelf<'a, R> {
 }
 
 impl<'a, R: Files> Shelf for FileShelf<'a, R> {
-    ghost told = { λ _ _. None };
+    ghost known = { λ _ _. None };
 
     ghost serves = { λ _ _. ⊤ };
 

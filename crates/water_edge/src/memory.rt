@@ -123,7 +123,7 @@ impl MemoryShelf {
         }
     }
 
-    /// The same shelf, of which a part has at most so many bytes, as a pipe gives them.
+    /// The same shelf, of which a part has at most a given number of bytes, as a pipe gives them.
     pub fn in_pieces(self, most: usize) -> MemoryShelf
         requires { 0 < most }
         ensures { result ≡ record self { most = most } }
@@ -137,7 +137,7 @@ impl MemoryShelf {
 }
 
 impl Shelf for MemoryShelf {
-    ghost told = { λ shelf name. file_of shelf.files name };
+    ghost known = { λ shelf name. file_of shelf.files name };
 
     ghost serves = { λ _ _. ⊤ };
 
@@ -270,7 +270,7 @@ impl MemorySink {
 impl Sink for MemorySink {
     ghost taken = { λ sink. Some sink.bytes };
 
-    ghost handed = { λ sink. Some sink.bytes };
+    ghost flushed = { λ sink. Some sink.bytes };
 
     ghost faults = { λ sink. sink.faults };
 

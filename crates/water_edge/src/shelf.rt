@@ -18,11 +18,11 @@ pub enum ShelfRefused {
 
 /// Files by name. A name is UTF-8 text, and a file is its bytes.
 ///
-/// A shelf that knows its files tells them, and each answer is then tied to the told bytes. One that doesn't, as a
+/// A shelf that knows its files tells them, and each answer is then tied to the known bytes. One that doesn't, as a
 /// shelf over the system's files, tells none, and its answers say nothing of bytes.
 pub trait Shelf {
     /// The bytes of the file under a name. None where the shelf doesn't tell them, and where it has no such file.
-    ghost told: { Self → List ℕ → Option (List ℕ) };
+    ghost known: { Self → List ℕ → Option (List ℕ) };
 
     /// The names that may be asked for, which need not have a file.
     ghost serves: { Self → List ℕ → Type 0 };
@@ -36,35 +36,35 @@ pub trait Shelf {
 
     /// All bytes of the file under a served name, if there are at most `limit` of them.
     ///
-    /// - `Ok` has the whole file. Where bytes are told, they are the told ones.
+    /// - `Ok` has the whole file. where the bytes are known, they are the known ones.
     /// - `TooLong`: the file has more than `limit` bytes.
     /// - `Failed` comes only where this call counted a fault. A name without a file is a fault.
     /// - `OutOfMemory` may come at any point.
     ///
-    /// Each answer leaves the told bytes as they were, and serves the names that were served.
+    /// Each answer leaves the known bytes as they were, and serves the names that were served.
     fn read_whole(&mut self, alloc: Global, name: &str, limit: u64) -> Result<Vec<u8>, ShelfRefused>
         requires { serves self.old name.now }
         ensures within { IfOk result (λ bytes. vec_len bytes ≤ limit) }
-        ensures bytes { ReadsWhole (told self.old name.now) limit result }
-        ensures same { SameShelf (told self.old) (told self.new) (serves self.old) (serves self.new) }
+        ensures bytes { ReadsWhole (known self.old name.now) limit result }
+        ensures same { SameShelf (known self.old) (known self.new) (serves self.old) (serves self.new) }
         ensures asked { AsksFor (asked self.old) (asked self.new) name.now }
         ensures cause { HasCause (faults self.old) (faults self.new) (IsErrOf result Failed) };
 
     /// A part of the file under a served name: bytes from place `from` on are written to the front of `into`, and the
     /// answer is how many. It takes no memory.
     ///
-    /// - `Ok(0)` comes only where `into` is empty or the file has no byte at or behind `from`. Where bytes are told,
-    ///   the part has the told ones, and what is behind it in `into` stays.
+    /// - `Ok(0)` comes only where `into` is empty or the file has no byte at or after `from`. where the bytes are
+    ///   known, the part has the known ones, and what is behind it in `into` stays.
     /// - `Failed` comes only where this call counted a fault. A name without a file is a fault. What `into` holds then
     ///   is not said.
     /// - `TooLong` and `OutOfMemory` never come.
     ///
-    /// Each answer leaves the told bytes as they were, and serves the names that were served.
+    /// Each answer leaves the known bytes as they were, and serves the names that were served.
     fn read_part(&mut self, name: &str, from: u64, into: &mut [u8]) -> Result<usize, ShelfRefused>
         requires { serves self.old name.now }
-        ensures part { ReadsPart (told self.old name.now) from into.old into.new result }
+        ensures part { ReadsPart (known self.old name.now) from into.old into.new result }
         ensures length { length into.new ≡ length into.old }
-        ensures same { SameShelf (told self.old) (told self.new) (serves self.old) (serves self.new) }
+        ensures same { SameShelf (known self.old) (known self.new) (serves self.old) (serves self.new) }
         ensures asked { AsksFor (asked self.old) (asked self.new) name.now }
         ensures only { IsErr result → IsErrOf result Failed }
         ensures cause { HasCause (faults self.old) (faults self.new) (IsErrOf result Failed) };

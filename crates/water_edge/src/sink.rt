@@ -16,16 +16,16 @@ pub trait Sink {
     /// The bytes that it took so far, or None where the sink doesn't tell them.
     ghost taken: { Self → Option (List ℕ) };
 
-    /// The bytes that it handed on to whoever reads them, where it tells them: a front of those taken. The rest it
+    /// The bytes that it handed on to whoever reads them, where it tells them: a prefix of those taken. The rest it
     /// keeps back until it is full or flushed.
-    ghost handed: { Self → Option (List ℕ) };
+    ghost flushed: { Self → Option (List ℕ) };
 
     /// How many calls have failed. The count never falls, and stands still at 2^64 - 1.
     ghost faults: { Self → ℕ };
 
     /// Appends a piece to what was taken. It may be kept back.
     ///
-    /// `Ok`: the whole piece was appended. `SinkFailed` comes only where this call counted a fault: a front of the
+    /// `Ok`: the whole piece was appended. `SinkFailed` comes only where this call counted a fault: a prefix of the
     /// piece was then appended, and maybe nothing. What was taken before stays in both cases.
     fn put(&mut self, bytes: &[u8]) -> Result<(), SinkFailed>
         ensures bytes { Puts (taken self.old) (taken self.new) result bytes.now }
@@ -33,10 +33,10 @@ pub trait Sink {
 
     /// Hands on all that was taken.
     ///
-    /// `SinkFailed` comes only where this call counted a fault: a front was handed on then, and the rest is kept. The
+    /// `SinkFailed` comes only where this call counted a fault: a prefix was flushed then, and the rest is kept. The
     /// bytes taken stay in both cases.
     fn flush(&mut self) -> Result<(), SinkFailed>
         ensures bytes { Keeps (taken self.old) (taken self.new) }
-        ensures all { OnOk result (handed self.new ≡ taken self.new) }
+        ensures all { OnOk result (flushed self.new ≡ taken self.new) }
         ensures cause { HasCause (faults self.old) (faults self.new) (IsErr result) };
 }

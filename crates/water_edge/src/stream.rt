@@ -3,7 +3,7 @@ ghost use Rattle.std.specs.Prelude.{◌≡◌, ◌+◌, ◌<◌, ◌≤◌, [], 
 ghost use Rattle.std.specs.Io.KnownBytes.{Appends, Keeps};
 ghost use Rattle.arrayvec.specs.ArrayVec.{array_vec_len};
 ghost use Rattle.water_edge.specs.Edge.{HasCause, Puts};
-ghost use Rattle.water_edge.specs.Stream.{taken_bytes, HandsOn};
+ghost use Rattle.water_edge.specs.Stream.{taken_bytes, Flushes};
 
 use crate::{Sink, SinkFailed};
 use arrayvec::ArrayVec;
@@ -13,10 +13,10 @@ use std::marker::Model;
 /// How many bytes a sink over a writer keeps back at most.
 const ROOM: usize = 65_536;
 
-/// Writes a piece, or a front of it where a write fails or takes nothing. Answers how many bytes were written.
-fn write_front<W: Write>(writer: &mut W, piece: &[u8]) -> usize
+/// Writes a piece, or a prefix of it where a write fails or takes nothing. Answers how many bytes were written.
+fn write_prefix<W: Write>(writer: &mut W, piece: &[u8]) -> usize
     ensures within { result ≤ length piece.now }
-    ensures front { Appends (W.contents writer.old) (W.contents writer.new) (take result piece.now) }
+    ensures prefix { Appends (W.contents writer.old) (W.contents writer.new) (take result piece.now) }
 {
     let mut written = 0;
     while written < piece.len() {
@@ -30,7 +30,7 @@ fn write_front<W: Write>(writer: &mut W, piece: &[u8]) -> usize
 }
 
 /// Takes the first `count` bytes away.
-fn drop_front(bytes: &mut ArrayVec<u8, ROOM>, count: usize)
+fn drop_prefix(bytes: &mut ArrayVec<u8, ROOM>, count: usize)
     requires { count ≤ array_vec_len bytes.old }
     ensures { bytes.new.items ≡ drop count bytes.old.items }
 {
@@ -72,18 +72,19 @@ impl<W: Write + Drop> StdSink<W> {
         }
     }
 
-    /// Writes what is kept, or a front of it where a write fails: the rest stays kept. Answers whether all was written.
+    /// Writes what is kept, or a prefix of it where a write fails: the rest stays kept. Answers whether all was
+    /// written.
     fn write_kept(&mut self) -> bool
-        ensures written { HandsOn self.old self.new }
+        ensures written { Flushes self.old self.new }
         ensures all { IsTrue result → self.new.kept ≡ [] }
         ensures faults { self.new.faults ≡ self.old.faults }
     {
-        let written = write_front(&mut self.writer, self.kept.as_slice());
-        drop_front(&mut self.kept, written);
+        let written = write_prefix(&mut self.writer, self.kept.as_slice());
+        drop_prefix(&mut self.kept, written);
         self.kept.is_empty()
     }
 
-    /// Puts a piece that has no room behind what is kept: that is written first, and so is a piece of the buffer's size
+    /// Puts a piece that has no room after what is kept: that is written first, and so is a piece of the buffer's size
     /// or more. Counts no fault.
     #[cold]
     #[inline(never)]
@@ -98,15 +99,15 @@ impl<W: Write + Drop> StdSink<W> {
             self.kept.try_extend_from_slice(piece).unwrap();
             return Ok(());
         }
-        if write_front(&mut self.writer, piece) < piece.len() {
+        if write_prefix(&mut self.writer, piece) < piece.len() {
             return Err(SinkFailed);
         }
         Ok(())
     }
 
     /// Writes what is kept and flushes the writer. Counts no fault.
-    fn hand_on(&mut self) -> Result<(), SinkFailed>
-        ensures hands { HandsOn self.old self.new }
+    fn flush_buffer(&mut self) -> Result<(), SinkFailed>
+        ensures hands { Flushes self.old self.new }
         ensures all { OnOk result (self.new.kept ≡ []) }
         ensures faults { self.new.faults ≡ self.old.faults }
     {
@@ -121,11 +122,11 @@ impl<W: Write + Drop> StdSink<W> {
 impl<W: Write + Drop> Sink for StdSink<W> {
     ghost taken = { taken_bytes };
 
-    ghost handed = { λ s. s.bytes };
+    ghost flushed = { λ s. s.bytes };
 
     ghost faults = { λ s. s.faults };
 
-    /// Keeps a piece that fits behind what is kept and is shorter than the buffer. Otherwise what is kept is written
+    /// Keeps a piece that fits after what is kept and is shorter than the buffer. Otherwise what is kept is written
     /// first, and a piece of the buffer's size or more is written at once.
     ///
     /// Fails where std's `write` does, or takes nothing of a rest. What it did write is no longer kept.
@@ -155,10 +156,10 @@ impl<W: Write + Drop> Sink for StdSink<W> {
         ensures cause { HasCause self.old.faults self.new.faults (IsErr result) }
 
         // Beyond what each sink promises.
-        ensures hands { HandsOn self.old self.new }
+        ensures hands { Flushes self.old self.new }
         ensures none_kept { OnOk result (self.new.kept ≡ []) }
     {
-        let answer = self.hand_on();
+        let answer = self.flush_buffer();
         if answer.is_err() {
             self.faults = self.faults.saturating_add(1);
         }

@@ -6,7 +6,7 @@ use std::io::{PipeReader, Write};
 use std::os::fd::AsRawFd;
 use std::{fs, io};
 
-/// Whether a read of a part into so many bytes of seven answers so, and leaves the seven so.
+/// Whether a read of a part into a given number of bytes of seven answers so, and leaves the seven so.
 fn is_part<S: Shelf>(
     shelf: &mut S,
     name: &str,
@@ -176,8 +176,8 @@ fn file_shelf_reads_a_pipe(rt: HostRuntime) -> io::Result<()> {
     Ok(())
 }
 
-/// How many bytes a sink over a vector has written after pieces of these lengths and so many calls of `flush`. Then the
-/// sink is dropped, and with it what it keeps.
+/// How many bytes a sink over a vector has written after pieces of these lengths and a given number of calls of
+/// `flush`. Then the sink is dropped, and with it what it keeps.
 fn written(alloc: Global, lengths: &[usize], flushes: u32) -> Result<usize, AllocError> {
     let line = vec![in alloc; b'x'; 70_000]?;
     let mut bytes = Vec::new(alloc);

@@ -56,7 +56,7 @@ impl<S: Shelf + Drop> WatchedShelf<S> {
 }
 
 impl<S: Shelf + Drop> Shelf for WatchedShelf<S> {
-    ghost told = { λ w. S.told w.shelf };
+    ghost known = { λ w. S.known w.shelf };
 
     ghost serves = { λ w. S.serves w.shelf };
 

@@ -6,7 +6,7 @@ use Rattle.std.proofs.lemmas.Bool.Decides.{nat_tests}
 use Rattle.std.proofs.lemmas.Option.{slice_get_within}
 use Rattle.std.specs.Prelude.{◌==◌, ◌&&◌, ◌||◌, not, slice_index, slice_get, Option, Some, None, unwrap_or, option_map}
 use Rattle.std.specs.Prelude.{IsTrue, ◌⊎◌}
-use Rattle.place_sums.proofs.Totals.{total_where_le, greatest_where_le, term_le_greatest}
+use Rattle.finite_sums.proofs.Totals.{total_where_le, greatest_where_le, term_le_greatest}
 use Rattle.water_model.specs.Lookups.{of_entry}
 use Rattle.water_model.specs.Rights.{is_lower, priority, priority_in, AreStrict}
 use Rattle.water_model.specs.Basin.{taking_node, taking_node_of_kind, instream_link, link_of_kind, is_at, is_on_link}
@@ -322,8 +322,8 @@ juniors_change_nothing first second at right month supply want other delivered g
 pub record_is_certified : (b : Basin) (series : Inflows) (before : List MonthRecord) (m : MonthRecord) →
     Follows b series before m → IsCertified b m.month m.supply m.want m.delivered m.plan
 record_is_certified b series before m follows = record {
-  plan = follows.behind.plan;
-  deliveries = record { each = follows.behind.delivered };
+  plan = follows.after.plan;
+  deliveries = record { each = follows.after.delivered };
   cuts = met_or_cut b series before m follows;
 }
 

@@ -8,7 +8,7 @@ use Rattle.std.proofs.lemmas.Bool.Decides.{nat_tests}
 use Rattle.std.proofs.lemmas.List.Sums.{sum_by-cons, sum_by_more}
 use Rattle.std.specs.Prelude.{if◌then◌else◌, ◌==◌, nat_lt, ◌&&◌, not, slice_index, slice_get, sum_by, Option, Some}
 use Rattle.std.specs.Prelude.{None, All, unwrap_or, option_map}
-use Rattle.place_sums.specs.Sums.{total, total_where}
+use Rattle.finite_sums.specs.Sums.{total, total_where}
 use Rattle.water_model.specs.Lookups.{has}
 use Rattle.water_model.specs.Basin.{head_of, tail_of, is_at, taking_node, taking_node_of_kind, node_of_reservoir}
 use Rattle.water_model.specs.Basin.{instream_link, link_of_kind}
@@ -16,9 +16,9 @@ use Rattle.water_model.specs.Plans.{IsPlan, carry_of}
 use Rattle.water_model.specs.Cuts.{enters, leaves, takes_within, node_within}
 use Rattle.water_model.specs.Hydrology.{inflow_at, stored_at, evaporation, in_year}
 use Rattle.water_model.specs.History.{IsPartialHistory, Follows, is_zone_of, is_zone_of_kind, opening_after}
-use Rattle.water_model.specs.Valid.{IsValidBasin, IsValidLink, IsValidReservoir, IsValidRight, HasValidPlace}
+use Rattle.water_model.specs.Valid.{IsValidBasin, IsValidLink, IsValidReservoir, IsValidRight, HasValidSite}
 use Rattle.water_model.specs.Valid.{is_diversion, is_diversion_kind}
-use Rattle.water_model.specs.Balance.{HistoriesAreBalanced, IsBalanced, whole_inflow, diverted}
+use Rattle.water_model.specs.Balance.{HistoriesAreBalanced, IsBalanced, total_inflow, diverted}
 use Rattle.water_text.specs.declared.month.Month.{Month}
 use Rattle.water_model.specs.declared.types.Basin.{Basin}
 use Rattle.water_model.specs.declared.types.Inflows.{Inflows}
@@ -28,8 +28,8 @@ use Rattle.water_model.specs.declared.types.Plan.{Plan}
 use Rattle.water_model.specs.declared.types.Reservoir.{Reservoir}
 use Rattle.water_model.specs.declared.types.RightKind.{RightKind}
 use Rattle.water_model.specs.declared.types.RightKind.TheVariants.{Diversion, Instream, Zone}
-use Rattle.place_sums.proofs.Totals.{total_same, total_zero, total_add, total_exchange, total_at, total_start}
-use Rattle.place_sums.proofs.Totals.{total_first}
+use Rattle.finite_sums.proofs.Totals.{total_same, total_zero, total_add, total_exchange, total_at, total_start}
+use Rattle.finite_sums.proofs.Totals.{total_first}
 use Rattle.water_model.proofs.Sets.{grouped, at_some_place}
 use Rattle.water_model.proofs.CutBalance.{cut_balance}
 use Rattle.water_model.proofs.Duality.{delivery_by_take}
@@ -93,7 +93,7 @@ pub record KindIs (b : Basin) (r : ℕ) : Type 0 where
   pub link : instream_link b r ≡ link_of_kind kind
   pub zone : (v : ℕ) → is_zone_of b r v ≡ is_zone_of_kind kind v
   pub diversion : is_diversion b r ≡ is_diversion_kind kind
-  pub place : HasValidPlace b kind
+  pub place : HasValidSite b kind
 
 pub kind_is : (b : Basin) → IsValidBasin b → (r : ℕ) → r < length b.rights → KindIs b r
 kind_is b valid r l =
@@ -147,7 +147,7 @@ plan_balance b month supply want p valid plan =
         k : KindIs b r
         k = kind_is b valid r l
 
-        of_kind : (kind : RightKind) → taking_node b r ≡ taking_node_of_kind b kind → HasValidPlace b kind →
+        of_kind : (kind : RightKind) → taking_node b r ≡ taking_node_of_kind b kind → HasValidSite b kind →
             (if takes_within b (all_nodes b) r then slice_index p.take r else 0) ≡ slice_index p.take r
         of_kind (Diversion node) e h = rw (e, has_all (length b.nodes) node h) refl
         of_kind (Instream link) e h = rw e (sym (plan.instream r l e))
@@ -176,17 +176,17 @@ take_goes b series before m valid follows r l = of_kind k.kind k.link k.diversio
 
     of_kind : (kind : RightKind) → instream_link b r ≡ link_of_kind kind → is_diversion b r ≡ is_diversion_kind kind →
         ((v : ℕ) → is_zone_of b r v ≡ is_zone_of_kind kind v) → taking_node b r ≡ taking_node_of_kind b kind →
-        HasValidPlace b kind →
+        HasValidSite b kind →
         slice_index m.plan.take r ≡ (if is_diversion b r then slice_index m.delivered r else 0)
         + total (length b.reservoirs) (λ v. if is_zone_of b r v then slice_index m.plan.take r else 0)
     of_kind (Diversion node) on d z at h =
         let none = no_zones z in
         let taken : slice_index m.delivered r ≡ slice_index m.plan.take r =
-        follows.behind.delivered r l ∙ delivery_by_take b m.want m.plan r on in
+        follows.after.delivered r l ∙ delivery_by_take b m.want m.plan r on in
         rw d (omega arith)
     of_kind (Instream link) on d z at h =
         let none = no_zones z in
-        let zero = follows.behind.plan.instream r l at in
+        let zero = follows.after.plan.instream r l at in
         rw d (omega arith)
     of_kind (Zone reservoir level) on d z at h =
         let all = total_same (length b.reservoirs) (λ v. if is_zone_of b r v then slice_index m.plan.take r else 0)
@@ -202,13 +202,13 @@ take_goes b series before m valid follows r l = of_kind k.kind k.link k.diversio
 -- the balance of a month
 pub month_balance : (b : Basin) (series : Inflows) (before : List MonthRecord) (m : MonthRecord) → IsValidBasin b →
     Follows b series before m →
-    sum m.opening + whole_inflow b series m.index + sum m.returned
+    sum m.opening + total_inflow b series m.index + sum m.returned
     ≡ sum m.closing + sum m.evaporated + diverted b m + sum m.plan.out
 month_balance b series before m valid follows =
-    let balance = plan_balance b m.month m.supply m.want m.plan valid follows.behind.plan in
+    let balance = plan_balance b m.month m.supply m.want m.plan valid follows.after.plan in
     let supply = total_same nodes (λ n. slice_index m.supply n)
     (λ n. inflow_at b series n m.index + slice_index m.returned n + stored_at b m.opening m.evaporated n)
-    follows.behind.supply in
+    follows.after.supply in
     let parts =
     total_add nodes (λ n. inflow_at b series n m.index + slice_index m.returned n)
     (λ n. stored_at b m.opening m.evaporated n) in
@@ -233,11 +233,11 @@ month_balance b series before m valid follows =
       split,
       swap,
       closing,
-      by_list m.opening reservoirs follows.behind.fits.opening,
-      by_list m.evaporated reservoirs follows.behind.fits.evaporated,
-      by_list m.closing reservoirs follows.behind.fits.closing,
-      by_list m.returned nodes follows.behind.fits.returned,
-      by_list m.plan.out nodes follows.behind.plan.out_len,
+      by_list m.opening reservoirs follows.after.fits.opening,
+      by_list m.evaporated reservoirs follows.after.fits.evaporated,
+      by_list m.closing reservoirs follows.after.fits.closing,
+      by_list m.returned nodes follows.after.fits.returned,
+      by_list m.plan.out nodes follows.after.plan.out_len,
     )
   where
     nodes : ℕ
@@ -290,7 +290,7 @@ month_balance b series before m valid follows =
 
         one : (v : ℕ) → v < reservoirs →
             slice_index m.opening v - slice_index m.evaporated v + slice_index m.evaporated v ≡ slice_index m.opening v
-        one v l = omega (arith, follows.behind.evaporated v l, at_most v (slice_get b.reservoirs v))
+        one v l = omega (arith, follows.after.evaporated v l, at_most v (slice_get b.reservoirs v))
 
 pub entry_at : {X : Type 0} (xs : List X) (k : ℕ) → k < length xs → (x : X) × (slice_get xs k ≡ Some x)
 entry_at [] k l = absurd (omega arith)
@@ -340,7 +340,7 @@ balanced_up_to b series records valid partial (suc i) l =
           month,
           opens,
           closes,
-          step (λ m. whole_inflow b series m.index) m found.1,
+          step (λ m. total_inflow b series m.index) m found.1,
           step (λ m. sum m.returned) m found.1,
           step (λ m. sum m.evaporated) m found.1,
           step (λ m. diverted b m) m found.1,

@@ -1,7 +1,7 @@
 -- What comes into a set of nodes goes out of it.
 use Rattle.std.proofs.Common.{◌≡◌, ℕ, ◌+◌, Bool, arith, List, length}
 use Rattle.std.specs.Prelude.{◌==◌, slice_index}
-use Rattle.place_sums.specs.Sums.{total_where}
+use Rattle.finite_sums.specs.Sums.{total_where}
 use Rattle.water_model.specs.Lookups.{has}
 use Rattle.water_model.specs.Basin.{head_of, tail_of, takes_at, taking_node}
 use Rattle.water_model.specs.Plans.{IsFeasible, inflow_to, outflow_from, taken_at}

@@ -10,8 +10,8 @@ use Rattle.std.proofs.lemmas.List.FromFn.{length-map-range_with_len, get_or-map-
 use Rattle.std.proofs.lemmas.Option.{slice_get-get_or}
 use Rattle.std.proofs.lemmas.Simd.{map-map}
 use Rattle.std.proofs.Math.Nat.{mul-le-mul_left, mul-add, mul_comm}
-use Rattle.place_sums.specs.Sums.{count_where}
-use Rattle.place_sums.proofs.Totals.{total_same, total_change, total_zero, count_at_most}
+use Rattle.finite_sums.specs.Sums.{count_where}
+use Rattle.finite_sums.proofs.Totals.{total_same, total_change, total_zero, count_at_most}
 use Rattle.bit_words.specs.Marks.{words_for, marks}
 use Rattle.bit_words.proofs.Lists.{one_changed, all_one}
 use Rattle.word_region.specs.Words.{Words, words_at, with_words, zeroed}
@@ -55,13 +55,21 @@ one_set rights nodes before now right set is stay =
 
 used_within : (rights each count all used : ℕ) → count ≤ rights → all ≡ rights * (1 + each) →
     used ≡ rights + each * count → used ≤ all
-used_within rights each count all used few size is =
-    omega (arith, size, is, mul-le-mul_left each few, mul-add rights 1 each, mul_comm rights each)
+used_within rights each count all used bounded size is =
+    omega (arith, size, is, mul-le-mul_left each bounded, mul-add rights 1 each, mul_comm rights each)
 
 one_more_within : (rights each count all used : ℕ) → count + 1 ≤ rights → all ≡ rights * (1 + each) →
     used ≡ rights + each * count → used + each ≤ all
-one_more_within rights each count all used few size is =
-    omega (arith, size, is, mul-le-mul_left each few, mul-add rights 1 each, mul_comm rights each, mul-add each count 1)
+one_more_within rights each count all used bounded size is =
+    omega (
+      arith,
+      size,
+      is,
+      mul-le-mul_left each bounded,
+      mul-add rights 1 each,
+      mul_comm rights each,
+      mul-add each count 1,
+    )
 
 pub used_fits : (rights nodes : ℕ) (r : Words) → KeepsSets rights nodes r → r.used ≤ length r.words
 used_fits rights nodes r k =
@@ -112,13 +120,13 @@ rights_stay rights nodes r now k same stay = record {
   used = k.used ∙ ap (λ (n : ℕ). rights + words_for nodes * n)
       (total_same rights (λ s. if has_set r.words s then 1 else 0) (λ s. if has_set now s then 1 else 0)
       (λ s b. ap counted (sym (stay s b))));
-  behind = λ s b some. let e = stay s b in omega (arith, e, k.behind s b (omega arith));
+  after = λ s b some. let e = stay s b in omega (arith, e, k.after s b (omega arith));
   within = λ s b some. let e = stay s b in omega (arith, e, k.within s b (omega arith));
   apart = λ s o b c differ some held.
       let e : get_or now s 0 ≡ get_or r.words s 0 = stay s b in
       let f : get_or now o 0 ≡ get_or r.words o 0 = stay o c in
       elim (k.apart s o b c differ (omega arith) (omega arith))
-      [ inl before ↦ inl (omega arith) | inr after ↦ inr (omega arith) ];
+      [ inl before ↦ inl (omega arith) | inr later ↦ inr (omega arith) ];
 }
 
 -- the words of a right's set
@@ -138,7 +146,7 @@ rewritten_right : (rights nodes : ℕ) (r : Words) (right : ℕ) (part : List �
     get_or (with_words r.words (get_or r.words right 0) part) s 0 ≡ get_or r.words s 0
 rewritten_right rights nodes r right part h s b =
     get_or-with_words_before r.words (get_or r.words right 0) part s
-    (omega (arith, h.keeps.behind right h.is_right h.held)) (omega (arith, part_fits rights nodes r right part h))
+    (omega (arith, h.keeps.after right h.is_right h.held)) (omega (arith, part_fits rights nodes r right part h))
 
 pub rewritten_keeps : (rights nodes : ℕ) (r : Words) (right : ℕ) (part : List ℕ) → Rewrites rights nodes r right part →
     KeepsSets rights nodes (record r { words = with_words r.words (get_or r.words right 0) part })
@@ -167,7 +175,7 @@ rewritten_sets rights nodes r right part h =
         (get_or r.words right 0 + length part)
     outside s b differ held = elim (h.keeps.apart s right b h.is_right differ held h.held) [
       | inl before ↦ inl (omega (arith, before, held))
-      | inr after ↦ inr (omega (arith, after, h.size, h.held))
+      | inr later ↦ inr (omega (arith, later, h.size, h.held))
     ]
 
 -- what a list that is written through a `&mut` leaves
@@ -228,10 +236,10 @@ begun_keeps rights nodes r right part now_used h more =
           length-set (with_words r.words r.used part) right r.used
           ∙ (begun_length rights nodes r right part h ∙ h.keeps.size);
       used = used;
-      behind = λ s b some. elim (cases_eq s right) [
+      after = λ s b some. elim (cases_eq s right) [
         | inl e ↦ (let n : get_or now s 0 ≡ r.used = here s e in omega (arith, h.keeps.used))
         | inr e ↦ (let n : get_or now s 0 ≡ get_or r.words s 0 = other s b e in
-            omega (arith, h.keeps.behind s b (omega arith)))
+            omega (arith, h.keeps.after s b (omega arith)))
       ];
       within = λ s b some. elim (cases_eq s right) [
         | inl e ↦ (let n : get_or now s 0 ≡ r.used = here s e in omega arith)
@@ -273,7 +281,7 @@ begun_keeps rights nodes r right part now_used h more =
         | inl f ↦ inl (omega (arith, here o f, other s b e, h.keeps.within s b (omega (arith, other s b e))))
         | inr f ↦ elim (h.keeps.apart s o b c differ (omega (arith, other s b e)) (omega (arith, other o c f))) [
           | inl before ↦ inl (omega (arith, before, other s b e, other o c f))
-          | inr after ↦ inr (omega (arith, after, other s b e, other o c f))
+          | inr later ↦ inr (omega (arith, later, other s b e, other o c f))
         ]
       ]
     ]
@@ -304,7 +312,7 @@ begun_sets rights nodes r right part h =
     before_rights : (s : ℕ) → s < rights → 0 < get_or r.words s 0 →
         words_at (begun r right part) (set_place nodes (get_or r.words s 0))
         ≡ words_at (with_words r.words r.used part) (set_place nodes (get_or r.words s 0))
-    before_rights s b held = before (set_place nodes (get_or r.words s 0)) (omega (arith, h.keeps.behind s b held))
+    before_rights s b held = before (set_place nodes (get_or r.words s 0)) (omega (arith, h.keeps.after s b held))
 
     here : words_at (begun r right part) (set_place nodes r.used) ≡ part
     here =
@@ -326,7 +334,7 @@ pub cleared_keeps : (rights nodes : ℕ) (words : List ℕ) (used : ℕ) → len
 cleared_keeps rights nodes words used size is = record {
   size = length-zeroed words 0 rights (omega (arith, size, mul-add rights 1 (words_for nodes))) ∙ size;
   used = is ∙ sym (ap (λ (n : ℕ). rights + words_for nodes * n) none ∙ omega arith);
-  behind = λ s b some. absurd (omega (arith, some, cleared_right rights words s b));
+  after = λ s b some. absurd (omega (arith, some, cleared_right rights words s b));
   within = λ s b some. absurd (omega (arith, some, cleared_right rights words s b));
   apart = λ s o b c differ some held. absurd (omega (arith, some, cleared_right rights words s b));
 }

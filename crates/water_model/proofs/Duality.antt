@@ -3,7 +3,7 @@ use Rattle.std.proofs.Common.{◌≡◌, ℕ, ◌+◌, ◌<◌, ◌≤◌, Bool,
 use Rattle.std.proofs.lemmas.Bool.Decides.{nat_tests}
 use Rattle.std.specs.Prelude.{◌==◌, slice_index, slice_get, ◌&&◌, ◌||◌, not, Option, Some, None, nat_lt, unwrap_or}
 use Rattle.std.specs.Prelude.{option_map}
-use Rattle.place_sums.specs.Sums.{total_where}
+use Rattle.finite_sums.specs.Sums.{total_where}
 use Rattle.water_model.specs.Lookups.{has}
 use Rattle.water_model.specs.Basin.{taking_node, taking_node_of_kind, instream_link, link_of_kind, is_at, is_on_link}
 use Rattle.water_model.specs.Basin.{is_senior, priority_of}
@@ -16,7 +16,7 @@ use Rattle.water_model.specs.declared.types.Right.{Right}
 use Rattle.water_model.specs.declared.types.RightKind.{RightKind}
 use Rattle.water_model.specs.declared.types.RightKind.TheVariants.{Diversion, Instream, Zone}
 use Rattle.water_model.specs.declared.types.Plan.{Plan}
-use Rattle.place_sums.proofs.Totals.{total_where_le, term_le_total_where, greatest_where_le}
+use Rattle.finite_sums.proofs.Totals.{total_where_le, term_le_total_where, greatest_where_le}
 use Rattle.water_model.proofs.Sets.{total_crossing}
 use Rattle.water_model.proofs.CutBalance.{cut_balance}
 

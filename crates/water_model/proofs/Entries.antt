@@ -10,7 +10,7 @@ use Rattle.std.proofs.lemmas.Map.Steps.{length-le_from_distinct_below}
 use Rattle.std.proofs.lemmas.Option.{slice_get-get_or}
 use Rattle.water_model.specs.Entries.{count_in, in_order}
 use Rattle.water_model.specs.Lookups.{of_entry}
-use Rattle.water_model.specs.Places.{numbers_from, by_seniority}
+use Rattle.water_model.specs.Indices.{numbers_from, by_seniority}
 use Rattle.water_model.specs.Valid.{IsValidBasin}
 use Rattle.water_model.specs.declared.space.Space.{Space}
 use Rattle.water_model.specs.declared.space.Space.TheVariants as space
@@ -48,8 +48,8 @@ nodes_within n (v ∷ vs) h q e = by_test (nat_eq q v.node) refl (nodes_within n
         let same : q ≡ v.node = grind (arith, nat_tests) in omega arith
     by_test false t further = further (rw t at e)
 
-pub few_reservoirs : (b : Basin) → IsValidBasin b → length b.reservoirs ≤ 2000
-few_reservoirs b valid =
+pub bounded_reservoirs : (b : Basin) → IsValidBasin b → length b.reservoirs ≤ 2000
+bounded_reservoirs b valid =
     let nodes : List ℕ = map (λ v. v.node) b.reservoirs in
     let within : All (λ v. v.node < length b.nodes) b.reservoirs = λ k d l. (valid.reservoirs k d l).node in
     omega (
@@ -58,15 +58,15 @@ few_reservoirs b valid =
       length-le_from_distinct_below nodes (length b.nodes)
           (IsDistinct-from_AllPairs Decides-eqb nodes (nodes_differ b valid))
           (nodes_within (length b.nodes) b.reservoirs within),
-      valid.few.nodes,
+      valid.bounded.nodes,
     )
 
 -- no space has many entries
-pub few_in : (s : Space) (b : Basin) → IsValidBasin b → count_in s b ≤ 4000
-few_in space.Nodes b valid = omega (arith, valid.few.nodes)
-few_in space.Links b valid = valid.few.links
-few_in space.Reservoirs b valid = omega (arith, few_reservoirs b valid)
-few_in space.Rights b valid = omega (arith, valid.few.rights)
+pub bounded_in : (s : Space) (b : Basin) → IsValidBasin b → count_in s b ≤ 4000
+bounded_in space.Nodes b valid = omega (arith, valid.bounded.nodes)
+bounded_in space.Links b valid = valid.bounded.links
+bounded_in space.Reservoirs b valid = omega (arith, bounded_reservoirs b valid)
+bounded_in space.Rights b valid = omega (arith, valid.bounded.rights)
 
 -- The order has each entry and nothing else.
 

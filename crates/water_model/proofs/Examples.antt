@@ -1,7 +1,7 @@
 -- Worked numbers.
 use Rattle.std.proofs.Common.{◌≡◌, ℕ, zero, suc, ◌+◌, ◌*◌, ◌<◌, ◌≤◌, true, false, refl, arith, [], ◌∷◌}
 use Rattle.std.specs.Prelude.{pos, slice_index, slice_get, None, IsTrue}
-use Rattle.place_sums.specs.Sums.{total, greatest_where}
+use Rattle.finite_sums.specs.Sums.{total, greatest_where}
 use Rattle.water_model.specs.Basin.{is_outlet, is_senior, taking_node}
 use Rattle.water_model.specs.Plans.{inflow_to, outflow_from, taken_at, delivery, carry_of}
 use Rattle.water_model.specs.Parts.{times, in_parts, IsPlanInParts}

@@ -14,7 +14,7 @@ use Rattle.std.proofs.lemmas.Option.{get_or_from_slice_get}
 use Rattle.std.proofs.Math.Nat.{mul-le-mul_right}
 use Rattle.water_model.specs.Hydrology.{place_in, inflow_at, inflow_of_kind, in_year, table_at, number_of}
 use Rattle.water_model.specs.Lookups.{of_entry}
-use Rattle.water_model.specs.Places.{numbers_from, places_of}
+use Rattle.water_model.specs.Indices.{numbers_from, indices_of}
 use Rattle.water_model.specs.Valid.{IsValidBasin, IsSeriesOf, is_gauged, is_gauged_kind, is_in_series}
 use Rattle.water_model.specs.declared.types.Basin.{Basin}
 use Rattle.water_model.specs.declared.types.Inflow.TheVariants.{Gauged}
@@ -48,12 +48,12 @@ rises from n = λ k l. (let within : k + 1 < n = omega (arith, length-numbers_fr
 pub gauges_rise : (b : Basin) (series : Inflows) → IsSeriesOf b series → IsStrictlyIncreasing series.gauged
 gauges_rise b series fits =
     subst IsStrictlyIncreasing (sym fits.gauged)
-    (IsStrictlyIncreasing-filter (λ n. is_gauged b n) (places_of b.nodes) (rises 0 (length b.nodes)))
+    (IsStrictlyIncreasing-filter (λ n. is_gauged b n) (indices_of b.nodes) (rises 0 (length b.nodes)))
 
 pub wanted_rise : (b : Basin) (series : Inflows) → IsSeriesOf b series → IsStrictlyIncreasing series.wanted
 wanted_rise b series fits =
     subst IsStrictlyIncreasing (sym fits.wanted)
-    (IsStrictlyIncreasing-filter (λ r. is_in_series b r) (places_of b.rights) (rises 0 (length b.rights)))
+    (IsStrictlyIncreasing-filter (λ r. is_in_series b r) (indices_of b.rights) (rises 0 (length b.rights)))
 
 pub searched_place : (xs : List ℕ) (x : ℕ) (r : Result ℕ ℕ) → IsStrictlyIncreasing xs →
     IsBinarySearchResult (λ y. nat_cmp y x) xs r →
@@ -78,7 +78,7 @@ searched_place xs x r up h = by_result r (searched xs x r h no_less)
         (λ l. found.1)
     by_result (Err i) missing = place_is xs x (length xs) (omega arith) (λ k l e. elim (cases_lt k i) [
       | inl before ↦ omega (arith, missing.1 k before)
-      | inr behind ↦ omega (arith, missing.2 k behind l)
+      | inr after ↦ omega (arith, missing.2 k after l)
     ]) (λ l. absurd (omega arith))
 
 has_place : (xs : List ℕ) (x : ℕ) → Has xs x → place_in xs x < length xs
@@ -100,7 +100,7 @@ pub gauge_within : (b : Basin) (series : Inflows) (node : ℕ) → IsSeriesOf b 
     is_gauged b node ≡ true →
     place_in series.gauged node < length series.gauged
 gauge_within b series node fits l gauged =
-    has_place series.gauged node (rw fits.gauged (has-filter (λ n. is_gauged b n) (places_of b.nodes) node
+    has_place series.gauged node (rw fits.gauged (has-filter (λ n. is_gauged b n) (indices_of b.nodes) node
     (numbers_from-has 0 (length b.nodes) node node l (omega arith)) gauged))
 
 -- a column of a row of a table stands within the table
@@ -122,9 +122,9 @@ gauged_here : (b : Basin) (node : ℕ) (n : Node) → slice_get b.nodes node ≡
 gauged_here b node n at e = ap (λ o. unwrap_or (option_map (λ m. is_gauged_kind m.inflow) o) false) at
     ∙ ap is_gauged_kind e
 
--- where a number of a month stands in a table of so many columns
+-- where a number of a month stands in a table of a given number of columns
 small_cell : (i m l p : ℕ) → i * l + p < m * l → m ≤ 1200 → l ≤ 2000 → i * l + p < 2 ^ 64
-small_cell i m l p h months few = let most : m * l ≤ 1200 * l = mul-le-mul_right l months in omega arith
+small_cell i m l p h months bounded = let most : m * l ≤ 1200 * l = mul-le-mul_right l months in omega arith
 
 -- where the amount of a gauged node in a month stands
 pub record HasCell (b : Basin) (series : Inflows) (node index : ℕ) : Type 0 where
@@ -136,20 +136,21 @@ pub has_cell : (b : Basin) (series : Inflows) (node index : ℕ) (n : Node) → 
     index < b.months → slice_get b.nodes node ≡ Some n → n.inflow ≡ Gauged → HasCell b series node index
 has_cell b series node index n valid fits l k at e = record {
   within = rw fits.amounts cell;
-  small = small_cell index b.months (length series.gauged) (place_in series.gauged node) cell valid.run.months.1 few;
+  small = small_cell index b.months (length series.gauged) (place_in series.gauged node) cell valid.run.months.1
+      bounded;
 }
   where
     cell : index * length series.gauged + place_in series.gauged node < b.months * length series.gauged
     cell = cell_within index b.months (length series.gauged) (place_in series.gauged node) k
         (gauge_within b series node fits l (gauged_here b node n at e))
 
-    few : length series.gauged ≤ 2000
-    few = rw fits.gauged
+    bounded : length series.gauged ≤ 2000
+    bounded = rw fits.gauged
         (omega (
           arith,
-          filter_short (λ m. is_gauged b m) (places_of b.nodes),
+          filter_short (λ m. is_gauged b m) (indices_of b.nodes),
           length-numbers_from 0 (length b.nodes),
-          valid.few.nodes,
+          valid.bounded.nodes,
         ))
 
 -- what stands there is the inflow
@@ -167,7 +168,7 @@ pub wanted_within : (b : Basin) (series : Inflows) (right : ℕ) → IsSeriesOf 
     is_in_series b right ≡ true →
     place_in series.wanted right < length series.wanted
 wanted_within b series right fits l e =
-    has_place series.wanted right (rw fits.wanted (has-filter (λ r. is_in_series b r) (places_of b.rights) right
+    has_place series.wanted right (rw fits.wanted (has-filter (λ r. is_in_series b r) (indices_of b.rights) right
     (numbers_from-has 0 (length b.rights) right right l (omega arith)) e))
 
 -- where the want of a right in a month stands
@@ -180,7 +181,8 @@ pub has_want : (b : Basin) (series : Inflows) (right index : ℕ) (r : Right) �
     index < b.months → slice_get b.rights right ≡ Some r → r.series ≡ true → HasWant b series right index
 has_want b series right index r valid fits l k at e = record {
   within = rw fits.wants cell;
-  small = small_cell index b.months (length series.wanted) (place_in series.wanted right) cell valid.run.months.1 few;
+  small = small_cell index b.months (length series.wanted) (place_in series.wanted right) cell valid.run.months.1
+      bounded;
 }
   where
     named : is_in_series b right ≡ true
@@ -190,13 +192,13 @@ has_want b series right index r valid fits l k at e = record {
     cell = cell_within index b.months (length series.wanted) (place_in series.wanted right) k
         (wanted_within b series right fits l named)
 
-    few : length series.wanted ≤ 2000
-    few = rw fits.wanted
+    bounded : length series.wanted ≤ 2000
+    bounded = rw fits.wanted
         (omega (
           arith,
-          filter_short (λ x. is_in_series b x) (places_of b.rights),
+          filter_short (λ x. is_in_series b x) (indices_of b.rights),
           length-numbers_from 0 (length b.rights),
-          valid.few.rights,
+          valid.bounded.rights,
         ))
 
 -- what stands there is the right's number

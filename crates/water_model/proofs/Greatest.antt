@@ -5,7 +5,7 @@ use Rattle.std.proofs.lemmas.Int.{ints}
 use Rattle.std.proofs.lemmas.Bool.{cases_lt, cases_eq}
 use Rattle.std.proofs.lemmas.Bool.Decides.{nat_tests}
 use Rattle.std.specs.Prelude.{◌==◌, slice_index, ◌&&◌, not, Option, Some, None, ◌⊎◌}
-use Rattle.place_sums.specs.Sums.{total_where}
+use Rattle.finite_sums.specs.Sums.{total_where}
 use Rattle.water_model.specs.Lookups.{has}
 use Rattle.water_model.specs.Basin.{is_senior, instream_link}
 use Rattle.water_model.specs.Plans.{IsPlan, IsFeasible, IsGreatest, IsLexGreatest, DeliversSame, DeliversMore, delivery}
@@ -20,7 +20,7 @@ use Rattle.water_model.specs.declared.types.Basin.{Basin}
 use Rattle.water_model.specs.declared.types.Inflows.{Inflows}
 use Rattle.water_model.specs.declared.types.MonthRecord.{MonthRecord}
 use Rattle.water_model.specs.declared.types.Plan.{Plan}
-use Rattle.place_sums.proofs.Totals.{total_where_none}
+use Rattle.finite_sums.proofs.Totals.{total_where_none}
 use Rattle.water_model.proofs.Sets.{has_below}
 use Rattle.water_model.proofs.Duality.{cut_slack, capacity_within, not_senior_to_itself}
 use Rattle.water_model.proofs.Seniority.{first_where, IsFirst, senior_trans, senior_total}
@@ -183,8 +183,8 @@ met_or_cut b series before m follows r l = elim (cases_lt (slice_index m.deliver
 pub record_is_greatest : (b : Basin) (series : Inflows) (before : List MonthRecord) (m : MonthRecord) →
     Follows b series before m → IsGreatest b m.month m.supply m.want m.plan
 record_is_greatest b series before m follows =
-    cuts_make_plan_greatest b m.month m.supply m.want m.delivered m.plan follows.behind.plan
-    (record { each = follows.behind.delivered }) (met_or_cut b series before m follows)
+    cuts_make_plan_greatest b m.month m.supply m.want m.delivered m.plan follows.after.plan
+    (record { each = follows.after.delivered }) (met_or_cut b series before m follows)
 
 pub cuts_make_greatest : CutsMakeGreatest
 cuts_make_greatest b series records history i m at =

@@ -6,13 +6,13 @@ use Rattle.std.proofs.lemmas.List.{take-append-le}
 use Rattle.std.proofs.Math.Seq.{take-length}
 use Rattle.std.proofs.lemmas.Option.{slice_get_within}
 use Rattle.water_text.specs.Months.{IsMonth}
-use Rattle.water_model.specs.History.{IsPartialHistory, IsHistory, Follows, IsMonthBehind, opening_after}
+use Rattle.water_model.specs.History.{IsPartialHistory, IsHistory, Follows, IsNextMonth, opening_after}
 use Rattle.water_model.specs.Hydrology.{run_month, inflow_at, stored_at, want_of}
 use Rattle.water_model.specs.Valid.{IsValidRun}
 use Rattle.water_model.specs.declared.types.Basin.{Basin}
 use Rattle.water_model.specs.declared.types.Inflows.{Inflows}
 use Rattle.water_model.specs.declared.types.MonthRecord.{MonthRecord}
-use Rattle.water_model.proofs.Lists.{get_behind}
+use Rattle.water_model.proofs.Lists.{get_after}
 
 -- an element of a list with one more at its end is one of the list, or the last
 pub at_end : {X : Type 0} (xs : List X) (y x : X) (i : ℕ) → slice_get (xs ++ y ∷ []) i ≡ Some x →
@@ -38,18 +38,18 @@ one_month_more b series records m partial left follows = record {
   each = λ i n h. by_place i n (at_end records m n i h);
 }
   where
-    front : (i : ℕ) → i ≤ length records → take i (records ++ m ∷ []) ≡ take i records
-    front i h = take-append-le i records (m ∷ []) h
+    prefix : (i : ℕ) → i ≤ length records → take i (records ++ m ∷ []) ≡ take i records
+    prefix i h = take-append-le i records (m ∷ []) h
 
     by_place : (i : ℕ) (n : MonthRecord) → (slice_get records i ≡ Some n) ⊎ ((i ≡ length records) × (m ≡ n)) →
         Follows b series (take i (records ++ m ∷ [])) n
     by_place i n (inl within) =
         let below : i < length records = slice_get_within records i n within in
-        subst (λ (before : List MonthRecord). Follows b series before n) (sym (front i (omega arith)))
+        subst (λ (before : List MonthRecord). Follows b series before n) (sym (prefix i (omega arith)))
         (partial.each i n within)
     by_place i n (inr last) =
         let whole : take i (records ++ m ∷ []) ≡ records =
-        ap (λ k. take k (records ++ m ∷ [])) last.0 ∙ front (length records) (omega arith) ∙ take-length records in
+        ap (λ k. take k (records ++ m ∷ [])) last.0 ∙ prefix (length records) (omega arith) ∙ take-length records in
         subst (λ (before : List MonthRecord). Follows b series before n) (sym whole)
         (subst (Follows b series records) last.1 follows)
 
@@ -59,25 +59,25 @@ pub last_follows : (b : Basin) (series : Inflows) (before : List MonthRecord) (m
 last_follows b series before m partial =
     subst (λ (rs : List MonthRecord). Follows b series rs m)
     (take-append-le (length before) before (m ∷ []) (omega arith) ∙ take-length before)
-    (partial.each (length before) m (get_behind before [] m))
+    (partial.each (length before) m (get_after before [] m))
 
 -- a record that follows others with one series does with another that gives the same in its month
 pub follows_alike : (b : Basin) (series other : Inflows) (before : List MonthRecord) (m : MonthRecord) →
     ((n : ℕ) → n < length b.nodes → inflow_at b series n m.index ≡ inflow_at b other n m.index) →
     ((r used : ℕ) → r < length b.rights → want_of b series r m.index used ≡ want_of b other r m.index used) →
     Follows b series before m → Follows b other before m
-follows_alike b series other before m inflows wants f = assumption (behind)
+follows_alike b series other before m inflows wants f = assumption (after)
   where
     supply : (n : ℕ) → n < length b.nodes → slice_index m.supply n
         ≡ inflow_at b other n m.index + slice_index m.returned n + stored_at b m.opening m.evaporated n
-    supply n l = f.behind.supply n l
+    supply n l = f.after.supply n l
         ∙ ap (λ x. x + slice_index m.returned n + stored_at b m.opening m.evaporated n) (inflows n l)
 
     want : (r : ℕ) → r < length b.rights → slice_index m.want r ≡ want_of b other r m.index (slice_index m.used r)
-    want r l = f.behind.want r l ∙ wants r (slice_index m.used r) l
+    want r l = f.after.want r l ∙ wants r (slice_index m.used r) l
 
-    behind : IsMonthBehind b other before m
-    behind = assumption (f.behind, supply, want)
+    after : IsNextMonth b other before m
+    after = assumption (f.after, supply, want)
 
 -- the closing of the last record is what the next month opens with
 pub opens_with_last : (b : Basin) (records : List MonthRecord) (m : MonthRecord) →
@@ -85,7 +85,7 @@ pub opens_with_last : (b : Basin) (records : List MonthRecord) (m : MonthRecord)
 opens_with_last b records m =
     let place : length (records ++ m ∷ []) - 1 ≡ length records = omega (arith, length-append records (m ∷ [])) in
     let at : slice_get (records ++ m ∷ []) (length (records ++ m ∷ []) - 1) ≡ Some m =
-    ap (slice_get (records ++ m ∷ [])) place ∙ get_behind records [] m in
+    ap (slice_get (records ++ m ∷ [])) place ∙ get_after records [] m in
     ap (λ o. unwrap_or (option_map (λ k. k.closing) o) (map (λ v. v.opening) b.reservoirs)) at
 
 -- a partial history of all months is a history

@@ -1,4 +1,4 @@
--- Entries and fronts of lists, and the front of a partial history.
+-- Entries and prefixes of lists, and the prefix of a partial history.
 use Rattle.std.proofs.Common.{◌≡◌, ℕ, zero, suc, ◌+◌, ◌<◌, ◌≤◌, refl, sym, ap, subst, ◌∙◌, arith, List, [], ◌∷◌, ◌++◌}
 use Rattle.std.proofs.Common.{length, take, drop, replicate, inl, inr, Some}
 use Rattle.std.specs.Prelude.{◌≢◌, slice_get, slice_index, All}
@@ -6,7 +6,7 @@ use Rattle.std.proofs.lemmas.Bool.{cases_order}
 use Rattle.std.proofs.lemmas.List.{length-take, take_at}
 use Rattle.std.proofs.lemmas.Option.{get_or_from_slice_get, slice_get_within}
 use Rattle.water_model.specs.History.{Follows, IsPartialHistory}
-use Rattle.water_model.specs.Places.{numbers_from}
+use Rattle.water_model.specs.Indices.{numbers_from}
 use Rattle.water_model.specs.declared.types.Basin.{Basin}
 use Rattle.water_model.specs.declared.types.Inflows.{Inflows}
 use Rattle.water_model.specs.declared.types.MonthRecord.{MonthRecord}
@@ -15,41 +15,41 @@ use Rattle.water_model.specs.declared.types.MonthRecord.{MonthRecord}
 pub all_at : {X : Type 0} (P : X → Type 0) (xs : List X) (k : ℕ) (x : X) → All P xs → slice_get xs k ≡ Some x → P x
 all_at P xs k x h e = subst P (get_or_from_slice_get xs k x x e) (h k x (slice_get_within xs k x e))
 
--- an entry, where more stands behind
+-- an entry, where more stands after
 pub get_before : {X : Type 0} (xs ys : List X) (k : ℕ) (x : X) → slice_get xs k ≡ Some x →
     slice_get (xs ++ ys) k ≡ Some x
 get_before [] ys k x h = cc
 get_before (y ∷ xs) ys zero x h = h
 get_before (y ∷ xs) ys (suc k) x h = get_before xs ys k x h
 
--- the entry behind a front
-pub get_behind : {X : Type 0} (front rest : List X) (x : X) → slice_get (front ++ x ∷ rest) (length front) ≡ Some x
-get_behind [] rest x = refl
-get_behind (y ∷ front) rest x = get_behind front rest x
+-- the entry after a prefix
+pub get_after : {X : Type 0} (prefix rest : List X) (x : X) → slice_get (prefix ++ x ∷ rest) (length prefix) ≡ Some x
+get_after [] rest x = refl
+get_after (y ∷ prefix) rest x = get_after prefix rest x
 
--- an entry of a front
-pub get_front : {X : Type 0} (xs : List X) (i j : ℕ) (x : X) → slice_get (take i xs) j ≡ Some x → (j < i) ×
+-- an entry of a prefix
+pub get_prefix : {X : Type 0} (xs : List X) (i j : ℕ) (x : X) → slice_get (take i xs) j ≡ Some x → (j < i) ×
     (slice_get xs j ≡ Some x)
-get_front [] zero j x h = cc
-get_front [] (suc i) j x h = cc
-get_front (y ∷ ys) zero j x h = cc
-get_front (y ∷ ys) (suc i) zero x h = (omega arith, h)
-get_front (y ∷ ys) (suc i) (suc j) x h = let r = get_front ys i j x h in (omega (arith, r.0), r.1)
+get_prefix [] zero j x h = cc
+get_prefix [] (suc i) j x h = cc
+get_prefix (y ∷ ys) zero j x h = cc
+get_prefix (y ∷ ys) (suc i) zero x h = (omega arith, h)
+get_prefix (y ∷ ys) (suc i) (suc j) x h = let r = get_prefix ys i j x h in (omega (arith, r.0), r.1)
 
--- the front of a front
-pub take_front : {X : Type 0} (xs : List X) (i j : ℕ) → j ≤ i → take j (take i xs) ≡ take j xs
-take_front [] zero zero l = refl
-take_front (y ∷ ys) zero zero l = refl
-take_front xs zero (suc j) l = absurd (omega arith)
-take_front [] (suc i) zero l = refl
-take_front [] (suc i) (suc j) l = refl
-take_front (y ∷ ys) (suc i) zero l = refl
-take_front (y ∷ ys) (suc i) (suc j) l = ap (λ zs. y ∷ zs) (take_front ys i j (omega arith))
+-- the prefix of a prefix
+pub take_prefix : {X : Type 0} (xs : List X) (i j : ℕ) → j ≤ i → take j (take i xs) ≡ take j xs
+take_prefix [] zero zero l = refl
+take_prefix (y ∷ ys) zero zero l = refl
+take_prefix xs zero (suc j) l = absurd (omega arith)
+take_prefix [] (suc i) zero l = refl
+take_prefix [] (suc i) (suc j) l = refl
+take_prefix (y ∷ ys) (suc i) zero l = refl
+take_prefix (y ∷ ys) (suc i) (suc j) l = ap (λ zs. y ∷ zs) (take_prefix ys i j (omega arith))
 
 -- a list that is written whole
-pub whole_rows : {X : Type 0} (old front : List X) → length front ≡ length old →
-    take (length old) (front ++ drop (length front) old) ≡ front
-whole_rows old front len = rw (sym len) (take_at front (drop (length front) old) (length front) refl)
+pub whole_rows : {X : Type 0} (old prefix : List X) → length prefix ≡ length old →
+    take (length old) (prefix ++ drop (length prefix) old) ≡ prefix
+whole_rows old prefix len = rw (sym len) (take_at prefix (drop (length prefix) old) (length prefix) refl)
 
 -- numbers that are all 0
 pub no_numbers : (n k : ℕ) → slice_index (replicate n 0) k ≡ 0
@@ -75,12 +75,12 @@ numbers_more from zero = ap (λ k. k ∷ []) (omega arith)
 numbers_more from (suc n) =
     ap (λ xs. from ∷ xs) (numbers_more (suc from) n ∙ ap (λ k. numbers_from (suc from) n ++ k ∷ []) (omega arith))
 
--- the front of a partial history is one
-pub front_partial : (b : Basin) (series : Inflows) (records : List MonthRecord) (i : ℕ) →
+-- the prefix of a partial history is one
+pub prefix_partial : (b : Basin) (series : Inflows) (records : List MonthRecord) (i : ℕ) →
     IsPartialHistory b series records → IsPartialHistory b series (take i records)
-front_partial b series records i h = record {
+prefix_partial b series records i h = record {
   within = omega (arith, length-take i records, h.within);
-  each = λ j m e. (let r = get_front records i j m e in
-      subst (λ (xs : List MonthRecord). Follows b series xs m) (sym (take_front records i j (omega (arith, r.0))))
+  each = λ j m e. (let r = get_prefix records i j m e in
+      subst (λ (xs : List MonthRecord). Follows b series xs m) (sym (take_prefix records i j (omega (arith, r.0))))
       (h.each j m r.1));
 }

@@ -6,7 +6,7 @@ use Rattle.std.specs.Prelude.{slice_get, Some, None, find, filter, ◌⊎◌, �
 use Rattle.water_model.specs.Rights.{is_senior_in, AreStrict}
 use Rattle.water_model.specs.declared.types.Right.{Right}
 use Rattle.water_model.proofs.Seniority.{senior_trans, senior_total}
-use Rattle.water_model.specs.Places.{numbers_from, places_of, put_right, sort_rights, by_seniority}
+use Rattle.water_model.specs.Indices.{numbers_from, indices_of, put_right, sort_rights, by_seniority}
 
 pub length-numbers_from : (from n : ℕ) → length (numbers_from from n) ≡ n
 unfolding numbers_from
@@ -116,12 +116,12 @@ has-sort_rights rights (y ∷ ys) x (inr rest) =
 pub seniors_have : (rights : List Right) (r : ℕ) → r < length rights → Has (by_seniority rights) r
 unfolding by_seniority
 seniors_have rights r h =
-    has-sort_rights rights (places_of rights) r (numbers_from-has 0 (length rights) r r h (omega arith))
+    has-sort_rights rights (indices_of rights) r (numbers_from-has 0 (length rights) r r h (omega arith))
 
 pub seniors_below : (rights : List Right) (r : ℕ) → Has (by_seniority rights) r → r < length rights
 unfolding by_seniority
 seniors_below rights r h =
-    let within = numbers_from-below 0 (length rights) r (sort_rights-has rights (places_of rights) r h) in
+    let within = numbers_from-below 0 (length rights) r (sort_rights-has rights (indices_of rights) r h) in
     omega (arith, within.1)
 
 -- The order has as many entries as there are rights.
@@ -142,9 +142,9 @@ length-sort_rights rights (x ∷ xs) =
 
 pub length-by_seniority : (rights : List Right) → length (by_seniority rights) ≡ length rights
 unfolding by_seniority
-length-by_seniority rights = length-sort_rights rights (places_of rights) ∙ length-numbers_from 0 (length rights)
+length-by_seniority rights = length-sort_rights rights (indices_of rights) ∙ length-numbers_from 0 (length rights)
 
--- Each right in the order is senior to those behind it.
+-- Each right in the order is senior to those after it.
 
 abbrev pub IsOrdered : List Right → List ℕ → Type 0
 IsOrdered rights [] = Unit {0}
@@ -159,15 +159,15 @@ put_right-ordered rights r (y ∷ ys) t h =
   where
     by_test : (s : Bool) → is_senior_in rights r y ≡ s → IsOrdered rights (put_right rights r ys) →
         IsOrdered rights (put_right rights r (y ∷ ys))
-    by_test true e further = rw e (in_front, h)
+    by_test true e further = rw e (in_prefix, h)
       where
-        in_front : (z : ℕ) → Has (y ∷ ys) z → is_senior_in rights r z ≡ true
-        in_front z (inl same) = ap (λ q. is_senior_in rights r q) same ∙ e
-        in_front z (inr rest) = senior_trans rights r y z e (h.0 z rest)
-    by_test false e further = rw e (in_front, further)
+        in_prefix : (z : ℕ) → Has (y ∷ ys) z → is_senior_in rights r z ≡ true
+        in_prefix z (inl same) = ap (λ q. is_senior_in rights r q) same ∙ e
+        in_prefix z (inr rest) = senior_trans rights r y z e (h.0 z rest)
+    by_test false e further = rw e (in_prefix, further)
       where
-        in_front : (z : ℕ) → Has (put_right rights r ys) z → is_senior_in rights y z ≡ true
-        in_front z k = elim (put_right-has rights r ys z k) [
+        in_prefix : (z : ℕ) → Has (put_right rights r ys) z → is_senior_in rights y z ≡ true
+        in_prefix z k = elim (put_right-has rights r ys z k) [
           | inl same ↦ ap (λ q. is_senior_in rights y q) same ∙ t y (inl refl) e
           | inr rest ↦ h.0 z rest
         ]

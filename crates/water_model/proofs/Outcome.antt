@@ -5,7 +5,7 @@ use Rattle.std.proofs.Common.{length-take}
 use Rattle.std.proofs.lemmas.Grind.{same_number_lists}
 use Rattle.std.proofs.lemmas.Option.{slice_get_within}
 use Rattle.std.specs.Prelude.{if◌then◌else◌, slice_index, slice_get, Some, None, unwrap_or}
-use Rattle.place_sums.specs.Sums.{total}
+use Rattle.finite_sums.specs.Sums.{total}
 use Rattle.water_model.specs.Lookups.{of_entry}
 use Rattle.water_model.specs.Basin.{taking_node, taking_node_of_kind, instream_link, link_of_kind}
 use Rattle.water_model.specs.Plans.{IsPlan, IsGreatest, DeliversSame, delivery}
@@ -22,7 +22,7 @@ use Rattle.water_model.specs.declared.types.Plan.{Plan}
 use Rattle.water_model.specs.declared.types.Right.{Right}
 use Rattle.water_model.specs.declared.types.RightKind.{RightKind}
 use Rattle.water_model.specs.declared.types.RightKind.TheVariants.{Diversion, Instream, Zone}
-use Rattle.place_sums.proofs.Totals.{total_same}
+use Rattle.finite_sums.proofs.Totals.{total_same}
 use Rattle.water_model.proofs.Balance.{plan_balance, sum_total, kind_is, KindIs, entry_at, opening_after_more}
 use Rattle.water_model.proofs.Duality.{delivery_by_take}
 use Rattle.water_model.proofs.Greatest.{greatest_same, record_is_greatest}
@@ -66,7 +66,7 @@ pub record BeginAlike (m n : MonthRecord) : Type 0 where
   pub returned : m.returned ≡ n.returned
   pub supply : m.supply ≡ n.supply
 
--- a month of a basin begins as one of the basin with other rights, behind as many months that leave the same storage,
+-- a month of a basin begins as one of the basin with other rights, after as many months that leave the same storage,
 -- where as much comes back and flows in
 pub begin_alike : (b : Basin) (rights : List Right) (series other : Inflows) (before others : List MonthRecord)
     (m n : MonthRecord) → length before ≡ length others → opening_after b before ≡ opening_after b others →
@@ -76,26 +76,26 @@ pub begin_alike : (b : Basin) (rights : List Right) (series other : Inflows) (be
     Follows b series before m → Follows (record b { rights = rights }) other others n → BeginAlike m n
 begin_alike b rights series other before others m n count storage returns inflows f g = record {
   index = index;
-  month = f.behind.month ∙ (ap (run_month b) index ∙ sym g.behind.month);
+  month = f.after.month ∙ (ap (run_month b) index ∙ sym g.after.month);
   opening = opening;
   evaporated = evaporated;
   returned = returned;
-  supply = same_lists m.supply n.supply (length b.nodes) f.behind.fits.supply g.behind.fits.supply
-      (λ k l. f.behind.supply k l ∙ (by_parts k ∙ sym (g.behind.supply k l)));
+  supply = same_lists m.supply n.supply (length b.nodes) f.after.fits.supply g.after.fits.supply
+      (λ k l. f.after.supply k l ∙ (by_parts k ∙ sym (g.after.supply k l)));
 }
   where
     c : Basin
     c = record b { rights = rights }
 
     index : m.index ≡ n.index
-    index = f.behind.index ∙ (count ∙ sym g.behind.index)
+    index = f.after.index ∙ (count ∙ sym g.after.index)
 
     opening : m.opening ≡ n.opening
     opening = f.opening ∙ (storage ∙ sym g.opening)
 
     evaporated : m.evaporated ≡ n.evaporated
-    evaporated = same_lists m.evaporated n.evaporated (length b.reservoirs) f.behind.fits.evaporated
-        g.behind.fits.evaporated (λ v l. f.behind.evaporated v l ∙ (by_opening v ∙ sym (g.behind.evaporated v l)))
+    evaporated = same_lists m.evaporated n.evaporated (length b.reservoirs) f.after.fits.evaporated
+        g.after.fits.evaporated (λ v l. f.after.evaporated v l ∙ (by_opening v ∙ sym (g.after.evaporated v l)))
       where
         by_opening : (v : ℕ) →
             of_entry b.reservoirs v
@@ -105,10 +105,10 @@ begin_alike b rights series other before others m n count storage returns inflow
         by_opening v = rw (opening, index) refl
 
     returned : m.returned ≡ n.returned
-    returned = same_lists m.returned n.returned (length b.nodes) f.behind.fits.returned g.behind.fits.returned
-        (λ k l. f.behind.returned k l
+    returned = same_lists m.returned n.returned (length b.nodes) f.after.fits.returned g.after.fits.returned
+        (λ k l. f.after.returned k l
         ∙ (returns k
-        ∙ (ap (λ i. returned_at c (map (λ k. k.delivered) others) k i) index ∙ sym (g.behind.returned k l))))
+        ∙ (ap (λ i. returned_at c (map (λ k. k.delivered) others) k i) index ∙ sym (g.after.returned k l))))
 
     by_parts : (k : ℕ) →
         inflow_at b series k m.index + slice_index m.returned k + stored_at b m.opening m.evaporated k
@@ -127,20 +127,20 @@ same_month b series before others m n valid same f g = record {
   supply = alike.supply;
   used = used;
   want = want;
-  delivered = same_lists m.delivered n.delivered (length b.rights) f.behind.fits.delivered g.behind.fits.delivered
-      (λ r l. f.behind.delivered r l ∙ (deliver r l ∙ sym (g_delivered r l)));
-  closing = same_lists m.closing n.closing (length b.reservoirs) f.behind.fits.closing g.behind.fits.closing
+  delivered = same_lists m.delivered n.delivered (length b.rights) f.after.fits.delivered g.after.fits.delivered
+      (λ r l. f.after.delivered r l ∙ (deliver r l ∙ sym (g_delivered r l)));
+  closing = same_lists m.closing n.closing (length b.reservoirs) f.after.fits.closing g.after.fits.closing
       (λ v l. f.closing v l
       ∙ (total_same (length b.rights) (λ r. if is_zone_of b r v then slice_index m.plan.take r else 0)
       (λ r. if is_zone_of b r v then slice_index n.plan.take r else 0)
       (λ r k. ap (λ x. if is_zone_of b r v then x else 0) (takes r k)) ∙ sym (g.closing v l)));
   outflow = omega (
     arith,
-    plan_balance b m.month m.supply m.want m.plan valid f.behind.plan,
+    plan_balance b m.month m.supply m.want m.plan valid f.after.plan,
     plan_balance b m.month m.supply m.want n.plan valid g_plan,
     total_same (length b.rights) (λ r. slice_index m.plan.take r) (λ r. slice_index n.plan.take r) takes,
-    by_list m.plan.out f.behind.plan.out_len,
-    by_list n.plan.out g.behind.plan.out_len,
+    by_list m.plan.out f.after.plan.out_len,
+    by_list n.plan.out g.after.plan.out_len,
   );
 }
   where
@@ -152,19 +152,19 @@ same_month b series before others m n valid same f g = record {
         (λ k. ap (λ ds. returned_at b ds k m.index) same.deliveries) (λ k. refl) f g
 
     used : m.used ≡ n.used
-    used = same_lists m.used n.used (length b.rights) f.behind.fits.used g.behind.fits.used
-        (λ r l. f.behind.used r l
-        ∙ (ap₂ (λ ds i. used_of b ds r i) same.deliveries alike.index ∙ sym (g.behind.used r l)))
+    used = same_lists m.used n.used (length b.rights) f.after.fits.used g.after.fits.used
+        (λ r l. f.after.used r l
+        ∙ (ap₂ (λ ds i. used_of b ds r i) same.deliveries alike.index ∙ sym (g.after.used r l)))
 
     want : m.want ≡ n.want
-    want = same_lists m.want n.want (length b.rights) f.behind.fits.want g.behind.fits.want
-        (λ r l. f.behind.want r l
-        ∙ (ap₂ (λ us i. want_of b series r i (slice_index us r)) used alike.index ∙ sym (g.behind.want r l)))
+    want = same_lists m.want n.want (length b.rights) f.after.fits.want g.after.fits.want
+        (λ r l. f.after.want r l
+        ∙ (ap₂ (λ us i. want_of b series r i (slice_index us r)) used alike.index ∙ sym (g.after.want r l)))
 
     g_plan : IsPlan b m.month m.supply m.want n.plan
     g_plan = subst (λ w. IsPlan b m.month m.supply w n.plan) (sym want)
         (subst (λ s. IsPlan b m.month s n.want n.plan) (sym alike.supply)
-        (subst (λ t. IsPlan b t n.supply n.want n.plan) (sym alike.month) g.behind.plan))
+        (subst (λ t. IsPlan b t n.supply n.want n.plan) (sym alike.month) g.after.plan))
 
     g_greatest : IsGreatest b m.month m.supply m.want n.plan
     g_greatest = subst (λ w. IsGreatest b m.month m.supply w n.plan) (sym want)
@@ -172,7 +172,7 @@ same_month b series before others m n valid same f g = record {
         (subst (λ t. IsGreatest b t n.supply n.want n.plan) (sym alike.month) (record_is_greatest b series others n g)))
 
     g_delivered : (r : ℕ) → r < length b.rights → slice_index n.delivered r ≡ delivery b m.want n.plan r
-    g_delivered r l = g.behind.delivered r l ∙ ap (λ w. delivery b w n.plan r) (sym want)
+    g_delivered r l = g.after.delivered r l ∙ ap (λ w. delivery b w n.plan r) (sym want)
 
     deliver : DeliversSame b m.want m.plan n.plan
     deliver =
@@ -180,7 +180,7 @@ same_month b series before others m n valid same f g = record {
         g_greatest
 
     takes : (r : ℕ) → r < length b.rights → slice_index m.plan.take r ≡ slice_index n.plan.take r
-    takes = same_takes b m.month m.supply m.want m.plan n.plan valid f.behind.plan g_plan deliver
+    takes = same_takes b m.month m.supply m.want m.plan n.plan valid f.after.plan g_plan deliver
 
 map_take_suc : {X Y : Type 0} (f : X → Y) (xs : List X) (i : ℕ) (x : X) → slice_get xs i ≡ Some x →
     map f (take (suc i) xs) ≡ map f (take i xs) ++ f x ∷ []

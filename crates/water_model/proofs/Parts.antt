@@ -7,8 +7,8 @@ use Rattle.std.proofs.Math.Path.{fun_ext}
 use Rattle.std.proofs.lemmas.Bool.{cases_lt}
 use Rattle.std.proofs.lemmas.List.{length-map}
 use Rattle.std.specs.Prelude.{if◌then◌else◌, ◌==◌, ◌&&◌, not, slice_index, Option, Some, None}
-use Rattle.place_sums.specs.Sums.{total, total_where, greatest_where}
-use Rattle.place_sums.proofs.Totals.{total_same}
+use Rattle.finite_sums.specs.Sums.{total, total_where, greatest_where}
+use Rattle.finite_sums.proofs.Totals.{total_same}
 use Rattle.water_model.specs.Lookups.{has}
 use Rattle.water_model.specs.Basin.{head_of, tail_of, takes_at, instream_link, is_on_link, is_senior}
 use Rattle.water_model.specs.Plans.{IsFeasible, delivery, delivery_by_link, carry_of, inflow_to, outflow_from, taken_at}
@@ -203,7 +203,7 @@ no_fraction_helps b series records history i m at k q plan r l serves =
 pub whole_units_are_greatest : WholeUnitsAreGreatest
 whole_units_are_greatest b series records history i m at k = (
   full_make_greatest b (λ e. k * carry_of b m.month e) (times k m.supply) (times k m.want) (times k m.delivered)
-      (in_parts k m.plan) (feasible_times b k (carry_of b m.month) m.supply m.want m.plan follows.behind.plan)
+      (in_parts k m.plan) (feasible_times b k (carry_of b m.month) m.supply m.want m.plan follows.after.plan)
       deliveries (in_record b series (take i records) m follows k),
   deliveries,
 )
@@ -212,7 +212,7 @@ whole_units_are_greatest b series records history i m at k = (
     follows = history.each i m at
 
     deliveries : AreDeliveries b (times k m.want) (in_parts k m.plan) (times k m.delivered)
-    deliveries = deliveries_times b k m.want m.plan m.delivered (record { each = follows.behind.delivered })
+    deliveries = deliveries_times b k m.want m.plan m.delivered (record { each = follows.after.delivered })
 
 one_fold : (xs : List ℕ) → times 1 xs ≡ xs
 one_fold [] = refl

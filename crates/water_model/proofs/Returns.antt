@@ -4,13 +4,13 @@ use Rattle.std.proofs.Common.{length}
 use Rattle.std.proofs.lemmas.Bool.Decides.{nat_tests}
 use Rattle.std.proofs.Math.Nat.{mul-div-le}
 use Rattle.std.specs.Prelude.{if◌then◌else◌, slice_get, Some, ◌==◌}
-use Rattle.place_sums.specs.Sums.{total}
+use Rattle.finite_sums.specs.Sums.{total}
 use Rattle.water_model.specs.Lookups.{of_entry}
 use Rattle.water_model.specs.Hydrology.{returned_by, delivered_before, delivered_in}
 use Rattle.water_model.specs.Valid.{IsValidReturn}
 use Rattle.water_model.specs.Balance.{ReturnsAreCovered, returned_before}
 use Rattle.water_model.specs.declared.types.ReturnRow.{ReturnRow}
-use Rattle.place_sums.proofs.Totals.{total_grows}
+use Rattle.finite_sums.proofs.Totals.{total_grows}
 use Rattle.water_model.proofs.Balance.{entry_holds}
 
 -- what a row brought by the end of n months of deliveries

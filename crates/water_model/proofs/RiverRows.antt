@@ -4,12 +4,12 @@ use Rattle.std.proofs.Common.{replicate}
 use Rattle.std.specs.Prelude.{◌==◌, ◌&&◌, codes, if◌then◌else◌}
 use Rattle.std.specs.List.{list_any, range_with_len}
 use Rattle.std.specs.Fmt.{digits}
-use Rattle.place_sums.specs.Sums.{total, total_where}
+use Rattle.finite_sums.specs.Sums.{total, total_where}
 use Rattle.water_text.specs.declared.month.Month.{Month}
 use Rattle.water_model.specs.Network.{tail_in, head_in, is_river_in, is_outlet_in}
 use Rattle.water_model.specs.Hydrology.{run_month, inflow_at}
 use Rattle.water_model.specs.Spelling.{fields_of, line_of}
-use Rattle.water_model.specs.Places.{numbers_from, members_from, by_seniority}
+use Rattle.water_model.specs.Indices.{numbers_from, members_from, by_seniority}
 use Rattle.water_model.specs.History.{calls}
 use Rattle.water_model.specs.Text.{text, month_lines, calling_right}
 use Rattle.water_model.specs.declared.types.Basin.{Basin}

@@ -4,11 +4,11 @@ use Rattle.std.proofs.Common.{length, ◌≤◌, inl, inr}
 use Rattle.std.specs.Prelude.{if◌then◌else◌, ◌==◌, nat_lt, Option, Some, None, ◌&&◌, not}
 use Rattle.std.proofs.lemmas.Bool.{and_from}
 use Rattle.std.proofs.lemmas.Bool.Decides.{nat_tests, eqb_tells}
-use Rattle.place_sums.specs.Sums.{total, total_where}
+use Rattle.finite_sums.specs.Sums.{total, total_where}
 use Rattle.water_model.specs.Lookups.{has}
 use Rattle.water_model.specs.Basin.{is_at}
 use Rattle.water_model.specs.Cuts.{node_within}
-use Rattle.place_sums.proofs.Totals.{total_same, total_exchange, total_at, total_zero, total_add, term_le_total_where}
+use Rattle.finite_sums.proofs.Totals.{total_same, total_exchange, total_at, total_zero, total_add, term_le_total_where}
 
 -- a place that is in the set is below its length
 pub has_below : (set : List Bool) (k : ℕ) → has set k ≡ true → k < length set
@@ -118,7 +118,7 @@ last_of n = omega arith
 
 into_more : (n m : ℕ) (p q : ℕ → Bool) (f g : ℕ → ℕ) (into : Into (suc n) m p q f g) →
     IsOneToOne (suc n) m p q f g into →
-    ((r : ℕ → Bool) (front : Into n m p r f g) → IsOneToOne n m p r f g front →
+    ((r : ℕ → Bool) (prefix : Into n m p r f g) → IsOneToOne n m p r f g prefix →
     total_where n p f ≤ total_where m r g) →
     total_where n p f + (if p n then f n else 0) ≤ total_where m q g
 into_more n m p q f g into one rest = by_last (p n) refl
@@ -169,4 +169,4 @@ pub total_where_into : (n m : ℕ) (p q : ℕ → Bool) (f g : ℕ → ℕ) (int
 unfolding total
 total_where_into zero m p q f g into one = omega arith
 total_where_into (suc n) m p q f g into one =
-    into_more n m p q f g into one (λ r front each. total_where_into n m p r f g front each)
+    into_more n m p q f g into one (λ r prefix each. total_where_into n m p r f g prefix each)

@@ -37,8 +37,8 @@ pub record_leaves_nothing : (b : Basin) (series : Inflows) (before : List MonthR
     Follows b series before m →
     (r : ℕ) → r < length b.rights → (cut : List Bool) → cut_of m r ≡ Some cut → LeavesNothing b m.plan r cut
 record_leaves_nothing b series before m follows r l cut is =
-    tight_leaves_nothing b m.month m.supply m.want m.delivered m.plan r cut l follows.behind.plan
-    (record { each = follows.behind.delivered })
+    tight_leaves_nothing b m.month m.supply m.want m.delivered m.plan r cut l follows.after.plan
+    (record { each = follows.after.delivered })
     (set_is_tight b series before m follows r l cut is)
 
 pub histories_leave_nothing : HistoriesLeaveNothing
@@ -69,7 +69,7 @@ called_in_record b series before m follows r caller l k is_called =
     taken : (cut : List Bool) → takes_within b cut r ≡ true → slice_index m.plan.take r ≡ 0 →
         slice_index m.delivered r ≡ 0
     taken cut within none =
-        follows.behind.delivered r l ∙ (delivery_by_take b m.want m.plan r (taking_on_no_link b cut r within) ∙ none)
+        follows.after.delivered r l ∙ (delivery_by_take b m.want m.plan r (taking_on_no_link b cut r within) ∙ none)
 
     by_set : (o : Option (List Bool)) → ((cut : List Bool) → o ≡ Some cut → LeavesNothing b m.plan caller cut) →
         option_map_or (λ cut. takes_within b cut r) o false ≡ true → slice_index m.delivered r ≡ 0

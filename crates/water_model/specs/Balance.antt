@@ -1,6 +1,6 @@
 -- The water balance of a run.
 use Rattle.std.specs.Prelude.{◌≡◌, ℕ, ◌+◌, ◌<◌, ◌≤◌, List, map, length, sum, sum_by, slice_index, ◌==◌, if◌then◌else◌}
-use Rattle.place_sums.specs.Sums.{total, total_where}
+use Rattle.finite_sums.specs.Sums.{total, total_where}
 use Rattle.water_model.specs.Lookups.{of_entry}
 use Rattle.water_model.specs.Hydrology.{inflow_at, returned_by, delivered_before}
 use Rattle.water_model.specs.History.{opening_after, IsPartialHistory}
@@ -10,8 +10,8 @@ use Rattle.water_model.specs.declared.types.Inflows.{Inflows}
 use Rattle.water_model.specs.declared.types.MonthRecord.{MonthRecord}
 
 -- the inflow to all nodes in month i
-abbrev pub whole_inflow : Basin → Inflows → ℕ → ℕ
-whole_inflow b series i = total (length b.nodes) (λ n. inflow_at b series n i)
+abbrev pub total_inflow : Basin → Inflows → ℕ → ℕ
+total_inflow b series i = total (length b.nodes) (λ n. inflow_at b series n i)
 
 -- what a record delivers to all diversions
 abbrev pub diverted : Basin → MonthRecord → ℕ
@@ -22,7 +22,7 @@ diverted b m = total_where (length b.rights) (λ r. is_diversion b r) (λ r. sli
 abbrev pub IsBalanced : Basin → Inflows → List MonthRecord → Type 0
 IsBalanced b series records =
     sum (map (λ v. v.opening) b.reservoirs)
-    + sum_by (λ m. whole_inflow b series m.index) records
+    + sum_by (λ m. total_inflow b series m.index) records
     + sum_by (λ m. sum m.returned) records
     ≡ sum (opening_after b records)
     + sum_by (λ m. sum m.evaporated) records

@@ -1,9 +1,9 @@
 -- How a list of cuts keeps its sets in a region. The first place has a word for each right: where its set begins, or 0
--- where it has none. The sets stand behind it, as marks of nodes, so none begins at word 0.
+-- where it has none. The sets stand after it, as marks of nodes, so none begins at word 0.
 use Rattle.std.specs.Prelude.{◌≡◌, ◌≢◌, ◌⊎◌, ℕ, zero, suc, ◌+◌, ◌*◌, ◌<◌, ◌≤◌, Bool, List, length, map, slice_index}
 use Rattle.std.specs.Prelude.{Option, Some, None, nat_lt}
 use Rattle.std.specs.List.{range_with_len}
-use Rattle.place_sums.specs.Sums.{count_where}
+use Rattle.finite_sums.specs.Sums.{count_where}
 use Rattle.bit_words.specs.Marks.{words_for, marks}
 use Rattle.word_region.specs.Words.{Words, words_at}
 use Rattle.word_region.specs.declared.Place.{Place}
@@ -29,15 +29,15 @@ set_in nodes words right = set_at nodes words (slice_index words right)
 abbrev pub cut_sets : ℕ → ℕ → List ℕ → CutSets
 cut_sets rights nodes words = record { nodes = nodes; sets = map (set_in nodes words) (range_with_len 0 rights) }
 
--- two sets of so many words don't meet
+-- two sets of a given number of words don't meet
 abbrev pub AreApart : ℕ → ℕ → ℕ → Type 0
 AreApart size one other = (one + size ≤ other) ⊎ (other + size ≤ one)
 
--- a set of each right has room, as much is used as there are sets, and they stand behind the first place and apart
+-- a set of each right has room, as much is used as there are sets, and they stand after the first place and apart
 pub record KeepsSets (rights nodes : ℕ) (r : Words) : Type 0 where
   pub size : length r.words ≡ rights * (1 + words_for nodes)
   pub used : r.used ≡ rights + words_for nodes * count_where rights (has_set r.words)
-  pub behind : (right : ℕ) → right < rights → 0 < slice_index r.words right → rights ≤ slice_index r.words right
+  pub after : (right : ℕ) → right < rights → 0 < slice_index r.words right → rights ≤ slice_index r.words right
   pub within : (right : ℕ) → right < rights → 0 < slice_index r.words right →
       slice_index r.words right + words_for nodes ≤ r.used
   pub apart : (right other : ℕ) → right < rights → other < rights → right ≢ other →

@@ -1,7 +1,7 @@
 -- Cuts of a right, their bounds, and reaches.
 use Rattle.std.specs.Prelude.{◌≡◌, ℕ, ℤ, pos, ◌-ℤ◌, ◌+◌, Bool, false, ◌&&◌, not, List, length, slice_index, Option}
 use Rattle.std.specs.Prelude.{Some, None, IsTrue, nat_lt}
-use Rattle.place_sums.specs.Sums.{total_where, greatest_where}
+use Rattle.finite_sums.specs.Sums.{total_where, greatest_where}
 use Rattle.water_model.specs.Lookups.{has}
 use Rattle.water_model.specs.Basin.{tail_of, head_of, is_on_link, taking_node, instream_link, is_senior}
 use Rattle.water_model.specs.Plans.{carry_of}

@@ -1,7 +1,7 @@
 -- The entries of a basin: how many there are, their names, and the order of their lines.
 use Rattle.std.specs.Prelude.{ℕ, List, length}
 use Rattle.water_model.specs.Basin.{node_name, link_name, reservoir_name, right_name}
-use Rattle.water_model.specs.Places.{numbers_from, seniors_first}
+use Rattle.water_model.specs.Indices.{numbers_from, seniors_first}
 use Rattle.water_model.specs.declared.space.Space.{Space}
 use Rattle.water_model.specs.declared.space.Space.TheVariants as space
 use Rattle.water_model.specs.declared.types.Basin.{Basin}

@@ -2,7 +2,7 @@
 use Rattle.std.specs.Prelude.{◌≡◌, ℕ, ◌+◌, ◌-◌, ◌<◌, ◌≤◌, Bool, false, List, map, length, slice_index, slice_get}
 use Rattle.std.specs.Prelude.{Option, Some, None, IsTrue, IfSome, IfNone, ◌&&◌, nat_lt, take}
 use Rattle.std.specs.Option.{option_map_or}
-use Rattle.place_sums.specs.Sums.{total_where}
+use Rattle.finite_sums.specs.Sums.{total_where}
 use Rattle.water_model.specs.Lookups.{of_entry}
 use Rattle.water_model.specs.Basin.{is_senior, is_at}
 use Rattle.water_model.specs.Plans.{IsPlan, delivery}
@@ -51,10 +51,10 @@ pub record FitsBasin (b : Basin) (m : MonthRecord) : Type 0 where
   pub cuts : length m.cuts.sets ≡ length b.rights
   pub cut_nodes : m.cuts.nodes ≡ length b.nodes
 
--- The record is of the month behind the records before, whatever it opens and closes with and whatever sets it has: its
+-- The record is of the month after the records before, whatever it opens and closes with and whatever sets it has: its
 -- lists fit the basin, evaporation, returns, supply, use and wants are those of its opening and the records before, and
 -- it has a plan and what the plan delivers.
-pub record IsMonthBehind (b : Basin) (series : Inflows) (before : List MonthRecord) (m : MonthRecord) : Type 0 where
+pub record IsNextMonth (b : Basin) (series : Inflows) (before : List MonthRecord) (m : MonthRecord) : Type 0 where
   pub fits : FitsBasin b m
   pub index : m.index ≡ length before
   pub month : m.month ≡ run_month b m.index
@@ -75,7 +75,7 @@ pub record IsMonthBehind (b : Basin) (series : Inflows) (before : List MonthReco
 -- a record of the month that follows the records before: it opens with what they leave, each short right has a tight
 -- cut and no other right a set, and it closes with what the zones took
 pub record Follows (b : Basin) (series : Inflows) (before : List MonthRecord) (m : MonthRecord) : Type 0 where
-  pub behind : IsMonthBehind b series before m
+  pub after : IsNextMonth b series before m
   pub opening : m.opening ≡ opening_after b before
   pub short : (r : ℕ) → r < length b.rights → IsShort m r →
       (cut : List Bool) × (cut_of m r ≡ Some cut) × IsTight b m.month m.supply m.delivered r cut

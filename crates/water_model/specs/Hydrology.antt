@@ -2,7 +2,7 @@
 use Rattle.std.specs.Prelude.{ℕ, ◌+◌, ◌-◌, ◌*◌, ◌/◌, min, List, [], ◌∷◌, length, slice_index, Option, Some, None, Bool}
 use Rattle.std.specs.Prelude.{◌==◌, nat_lt, if◌then◌else◌}
 use Rattle.std.specs.List.{position_or_len}
-use Rattle.place_sums.specs.Sums.{total, total_where}
+use Rattle.finite_sums.specs.Sums.{total, total_where}
 use Rattle.water_model.specs.Lookups.{of_entry}
 use Rattle.water_model.specs.Basin.{node_of_reservoir, instream_link, is_at}
 use Rattle.water_text.specs.Months.{month_after}

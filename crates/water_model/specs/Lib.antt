@@ -3,7 +3,7 @@ pub mod Rows
 pub mod Network
 pub mod Rights
 pub mod Basin
-pub mod Places
+pub mod Indices
 pub mod Valid
 pub mod CutSets
 pub mod Blank

@@ -1,7 +1,7 @@
 -- A month's plan as a flow in the basin's network, and what it delivers.
 use Rattle.std.specs.Prelude.{◌≡◌, ℕ, ◌+◌, ◌-◌, ◌*◌, ◌<◌, ◌≤◌, ◌^◌, min, false, List, length, slice_index, slice_get}
 use Rattle.std.specs.Prelude.{Option, Some, None, IsTrue, ◌==◌, unwrap_or, if◌then◌else◌, ◌⊎◌}
-use Rattle.place_sums.specs.Sums.{total_where}
+use Rattle.finite_sums.specs.Sums.{total_where}
 use Rattle.water_model.specs.Lookups.{of_entry}
 use Rattle.water_model.specs.Basin.{tail_of, head_of, is_outlet, takes_at, taking_node, instream_link, is_senior}
 use Rattle.water_text.specs.Months.{days_of}

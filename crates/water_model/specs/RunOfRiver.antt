@@ -1,6 +1,6 @@
 -- The run of the river: what flows where nobody takes and each node sends all its water down its first river.
 use Rattle.std.specs.Prelude.{◌≡◌, ℕ, ◌+◌, ◌<◌, ◌==◌, true, false, List, length, slice_index}
-use Rattle.place_sums.specs.Sums.{total_where}
+use Rattle.finite_sums.specs.Sums.{total_where}
 use Rattle.water_model.specs.Network.{tail_in, head_in, is_river_in, is_outlet_in}
 use Rattle.water_model.specs.declared.types.Basin.{Basin}
 use Rattle.water_model.specs.declared.types.Link.{Link}

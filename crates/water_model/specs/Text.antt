@@ -5,7 +5,7 @@ use Rattle.water_model.specs.Entries.{in_order}
 use Rattle.water_model.specs.History.{calls, cut_of}
 use Rattle.water_model.specs.declared.types.Basin.{Basin}
 use Rattle.water_model.specs.declared.types.MonthRecord.{MonthRecord}
-use Rattle.water_model.specs.Places.{members_from, seniors_first}
+use Rattle.water_model.specs.Indices.{members_from, seniors_first}
 use Rattle.water_model.specs.Quantities.{space_of, amounts_of, has_line}
 use Rattle.water_model.specs.Spelling.{whole_line}
 use Rattle.water_model.specs.declared.item.Item.{Item}

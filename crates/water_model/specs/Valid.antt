@@ -1,14 +1,14 @@
 -- Valid basins, and the inflows that fit one.
 use Rattle.std.specs.Prelude.{◌≡◌, ◌≢◌, ℕ, ◌+◌, ◌*◌, ◌^◌, ◌<◌, ◌≤◌, ◌==◌, List, [], ◌∷◌, length, All, IsTrue, replicate}
 use Rattle.std.specs.Prelude.{Option, Some, None, Bool, true, false, filter}
-use Rattle.place_sums.specs.Sums.{count_where}
+use Rattle.finite_sums.specs.Sums.{count_where}
 use Rattle.water_text.specs.Names.{is_name}
 use Rattle.water_text.specs.Months.{IsMonth}
 use Rattle.water_model.specs.Lookups.{of_entry}
 use Rattle.water_model.specs.Network.{HasNodes, IsSoundNetwork}
 use Rattle.water_model.specs.Rights.{IsSoundRoll}
 use Rattle.water_model.specs.Basin.{is_outlet, node_of_reservoir, node_name, link_name, right_name}
-use Rattle.water_model.specs.Places.{places_of}
+use Rattle.water_model.specs.Indices.{indices_of}
 use Rattle.water_model.specs.declared.types.AreaPoint.{AreaPoint}
 use Rattle.water_model.specs.declared.types.Basin.{Basin}
 use Rattle.water_model.specs.declared.types.Carry.{Carry}
@@ -56,7 +56,7 @@ pub record IsValidPoint (p : AreaPoint) : Type 0 where
   pub storage : p.storage ≤ 16000000000
   pub area : p.area ≤ 10 ^ 9
 
--- behind a point, each storage is above the one before, and no area below the one before
+-- after a point, each storage is above the one before, and no area below the one before
 abbrev pub RisesFrom : AreaPoint → List AreaPoint → Type 0
 RisesFrom before [] = Unit {0}
 RisesFrom before (p ∷ points) = (before.storage < p.storage) × (before.area ≤ p.area) × RisesFrom p points
@@ -71,14 +71,14 @@ pub record IsValidReservoir (b : Basin) (v : reservoir.Reservoir) : Type 0 where
   pub inner : is_outlet b v.node ≡ false
   pub opening : v.opening ≤ 16000000000
   pub points : All IsValidPoint v.area
-  pub few_points : length v.area ≤ 64
+  pub bounded_points : length v.area ≤ 64
   pub table : IsAreaTable v.area
   pub rate : IsMonthly 10000 v.rate
 
-abbrev pub HasValidPlace : Basin → RightKind → Type 0
-HasValidPlace b (kind.Diversion node) = node < length b.nodes
-HasValidPlace b (kind.Instream link) = link < length b.links
-HasValidPlace b (kind.Zone reservoir level) = (reservoir < length b.reservoirs) × (1 ≤ level) × (level ≤ 16)
+abbrev pub HasValidSite : Basin → RightKind → Type 0
+HasValidSite b (kind.Diversion node) = node < length b.nodes
+HasValidSite b (kind.Instream link) = link < length b.links
+HasValidSite b (kind.Zone reservoir level) = (reservoir < length b.reservoirs) × (1 ≤ level) × (level ≤ 16)
 
 abbrev pub is_diversion_kind : RightKind → Bool
 is_diversion_kind (kind.Diversion node) = true
@@ -96,7 +96,7 @@ IsValidVolume kind (Some volume) = (is_diversion_kind kind ≡ true) × (volume 
 pub record IsValidRight (b : Basin) (r : Right) : Type 0 where
   pub name : IsTrue (is_name r.name)
   pub order : r.order ≤ 1000000
-  pub place : HasValidPlace b r.kind
+  pub place : HasValidSite b r.kind
   pub want : IsMonthly (10 ^ 9) r.want
   pub volume : IsValidVolume r.kind r.volume
   pub series : r.series ≡ true → r.want ≡ replicate 12 0
@@ -136,7 +136,7 @@ pub record IsValidRun (b : Basin) : Type 0 where
   pub ends : 12 * b.first.year + b.first.month + b.months ≤ 36001
 
 -- how many entries a basin may have
-pub record HasFewEntries (b : Basin) : Type 0 where
+pub record HasBoundedEntries (b : Basin) : Type 0 where
   pub some_node : 1 ≤ length b.nodes
   pub nodes : length b.nodes ≤ 2000
   pub links : length b.links ≤ 4000
@@ -160,7 +160,7 @@ pub record HasValidFormat (b : Basin) : Type 0 where
 pub record IsValidBasin (b : Basin) : Type 0 where
   pub format : HasValidFormat b
   pub run : IsValidRun b
-  pub few : HasFewEntries b
+  pub bounded : HasBoundedEntries b
   pub nodes : All IsValidNode b.nodes
   pub links : All (λ l. IsValidLink b l) b.links
   pub reservoirs : All (λ v. IsValidReservoir b v) b.reservoirs
@@ -180,13 +180,13 @@ abbrev pub is_gauged : Basin → ℕ → Bool
 is_gauged b node = of_entry b.nodes node (λ n. is_gauged_kind n.inflow) false
 
 abbrev pub gauged_nodes : Basin → List ℕ
-gauged_nodes b = filter (λ n. is_gauged b n) (places_of b.nodes)
+gauged_nodes b = filter (λ n. is_gauged b n) (indices_of b.nodes)
 
 abbrev pub is_in_series : Basin → ℕ → Bool
 is_in_series b right = of_entry b.rights right (λ r. r.series) false
 
 abbrev pub rights_in_series : Basin → List ℕ
-rights_in_series b = filter (λ r. is_in_series b r) (places_of b.rights)
+rights_in_series b = filter (λ r. is_in_series b r) (indices_of b.rights)
 
 -- for each gauged node an amount, and for each right in the series a want, for each month of the run, each at most 10^9
 pub record IsSeriesOf (b : Basin) (series : Inflows) : Type 0 where

@@ -37,8 +37,8 @@ impl Model for CutList {
 }
 
 impl CutList {
-    /// Holds none for each of the rights, over so many nodes. AllocError comes where memory for a set of each right is
-    /// lacking.
+    /// Holds none for each of the rights, over a given number of nodes. AllocError comes where memory for a set of each
+    /// right is lacking.
     pub fn open(alloc: Global, rights: u32, nodes: u32) -> Result<CutList, AllocError>
         ensures { IfOk result (λ c. c ≡ record { nodes = nodes; sets = replicate rights None }) }
     {

@@ -50,12 +50,12 @@ pub enum Section {
     /// The amounts of one quantity.
     Amounts(Quantity),
     Deliveries,
-    /// For each right that has a set its `call` line, and the nodes of the set behind it.
+    /// For each right that has a set its `call` line, and the nodes of the set after it.
     Calls,
     Called,
 }
 
-/// The sections of a month, in the order of their lines. Before them stands the month's first line, behind them its
+/// The sections of a month, in the order of their lines. Before them stands the month's first line, after them its
 /// last.
 pub const SECTIONS: [Section; 10] = [
     Section::Amounts(Quantity::Opening),

@@ -5,7 +5,7 @@ ghost use Rattle.water_model.specs.Quantities.{AreReturnedTo, amount_word, has_l
 ghost use Rattle.water_model.specs.Valid.{IsValidBasin};
 
 use crate::space::Space;
-use crate::types::{Basin, MOST_NODES};
+use crate::types::{Basin, MAX_NODES};
 
 /// What one amount tells of an entry. A month's record has a list of amounts for each quantity, and a result text lines
 /// for them. All are in units of 1,000 cubic metres.
@@ -73,13 +73,13 @@ impl Quantity {
     }
 }
 
-/// For each node, whether some return row names it; behind the nodes nothing is marked. It goes over the rows once, and
+/// For each node, whether some return row names it; after the nodes nothing is marked. It goes over the rows once, and
 /// takes no memory.
-pub fn returned_to(basin: &Basin) -> [bool; MOST_NODES]
+pub fn returned_to(basin: &Basin) -> [bool; MAX_NODES]
     requires { IsValidBasin basin.now }
     ensures { AreReturnedTo basin.now result }
 {
-    let mut marks = [false; MOST_NODES];
+    let mut marks = [false; MAX_NODES];
     for row in basin.returns.as_slice() {
         marks[row.node as usize] = true;
     }

@@ -1,7 +1,7 @@
 //! The entries of a basin.
 ghost use Rattle.std.specs.Prelude.{◌≡◌, ◌<◌, Some, slice_get};
 ghost use Rattle.water_model.specs.Entries.{count_in, in_order, name_in};
-ghost use Rattle.water_model.specs.Places.{seniors_first};
+ghost use Rattle.water_model.specs.Indices.{seniors_first};
 ghost use Rattle.water_model.specs.Valid.{IsValidBasin};
 
 use crate::types::Basin;

@@ -10,7 +10,7 @@ use water_text::month::Month;
 use water_text::name::Name;
 
 /// The most nodes that a valid basin has.
-pub const MOST_NODES: usize = 2000;
+pub const MAX_NODES: usize = 2000;
 
 /// A place of the basin where water comes together. Water that reaches an outlet leaves the basin.
 #[derive(Drop)]

@@ -15,7 +15,7 @@ one_digit ds at d some within =
     let below : at - 1 < length ds = omega arith in
     drop-set ds (at - 1) d below ∙ ap (λ k. d ∷ drop k ds) back
 
--- what stands behind the rest is still the end of the spelling
+-- what stands after the rest is still the end of the spelling
 pub further_digit : (ds : List ℕ) (at rest value : ℕ) → length ds ≡ 20 → 0 < at → at ≤ 20 → 10 ≤ rest → rest < 2 ^ 64 →
     decimal rest ++ drop at ds ≡ decimal value →
     decimal (rest / 10) ++ drop (at - 1) (set ds (at - 1) (48 + rest % 10)) ≡ decimal value

@@ -25,13 +25,13 @@ no_feed xs h = by_test (nat_lt first (length xs)) refl h
     by_test false e k = λ i d l.
         let all : length xs ≤ first = past first (length xs) e in fails_before_first is_feed xs i d (omega arith)
 
--- where one is found in the front of a piece, the bytes before it are taken, and it
+-- where one is found in the prefix of a piece, the bytes before it are taken, and it
 pub takes_to_feed : (old new piece : List ℕ) (most at : ℕ) → position is_feed (take most piece) ≡ Some at →
     length old + most ≤ 129 → new ≡ old ++ take at (take most piece) → TakesToFeed old new piece (at + 1)
 takes_to_feed old new piece most at h room held = record {
   before = before;
   ended = sym (take-append-drop at piece)
-      ∙ (ap (λ xs. xs ++ drop at piece) (sym (take-take at most piece (omega (arith, in_front))))
+      ∙ (ap (λ xs. xs ++ drop at piece) (sym (take-take at most piece (omega (arith, in_prefix))))
       ∙ (ap (λ xs. before ++ xs) (drop_more piece at 0 within)
       ∙ ap (λ x. before ++ x ∷ drop (at + 1) piece) is));
   count = omega (arith, counted);
@@ -40,7 +40,7 @@ takes_to_feed old new piece most at h room held = record {
       ap is_feed (get_or-take at (take most piece) i d earlier)
       ∙ (position-Some is_feed (take most piece) at d h).2 i earlier;
   held = held;
-  short = omega (arith, ap length held, length-append old before, counted, in_front);
+  short = omega (arith, ap length held, length-append old before, counted, in_prefix);
 }
   where
     before : List ℕ
@@ -49,8 +49,8 @@ takes_to_feed old new piece most at h room held = record {
     first : (at < length (take most piece)) × (is_feed (get_or (take most piece) at 0) ≡ true)
     first = let found = position-Some is_feed (take most piece) at 0 h in (found.0, found.1)
 
-    in_front : at < most
-    in_front = omega (arith, first.0, length-take most piece)
+    in_prefix : at < most
+    in_prefix = omega (arith, first.0, length-take most piece)
 
     within : at < length piece
     within = omega (arith, first.0, length-take most piece)
@@ -62,13 +62,13 @@ takes_to_feed old new piece most at h room held = record {
     ten x e = grind (arith, nat_tests)
 
     is : get_or piece at 0 ≡ 10
-    is = sym (get_or-take most piece at 0 in_front) ∙ ten (get_or (take most piece) at 0) first.1
+    is = sym (get_or-take most piece at 0 in_prefix) ∙ ten (get_or (take most piece) at 0) first.1
 
--- where none is found there, all of the front is taken: the whole piece, or as much as there is room for
-pub takes_front : (old new piece : List ℕ) (len most : ℕ) → position is_feed (take most piece) ≡ None →
+-- where none is found there, all of the prefix is taken: the whole piece, or as much as there is room for
+pub takes_prefix : (old new piece : List ℕ) (len most : ℕ) → position is_feed (take most piece) ≡ None →
     length old ≡ len → len ≤ 128 → most ≡ min (length piece) (129 - len) → new ≡ old ++ take most piece →
     Takes (nat_eq (len + length (take most piece)) 129) old new piece (length (take most piece))
-takes_front old new piece len most h len_is room most_is held =
+takes_prefix old new piece len most h len_is room most_is held =
     by_room (nat_eq (len + length (take most piece)) 129) refl
   where
     counted : length (take most piece) ≡ most

@@ -53,20 +53,20 @@ shape_rest (p ∷ ps) [] (suc n) h = cc
 shape_rest (p ∷ ps) (t ∷ ts) (suc n) h = shape_rest ps ts n (both (fits_at p t) (has_shape ps ts) h).1
 
 -- digits in front
-digits_front : (n : ℕ) (ps ts : List ℕ) → has_shape (replicate n 100 ++ ps) ts ≡ true →
+digits_prefix : (n : ℕ) (ps ts : List ℕ) → has_shape (replicate n 100 ++ ps) ts ≡ true →
     all_ascii_digits (take n ts) ≡ true
 unfolding has_shape
-digits_front zero ps ts h = refl
-digits_front (suc n) ps [] h = cc
-digits_front (suc n) ps (t ∷ ts) h =
+digits_prefix zero ps ts h = refl
+digits_prefix (suc n) ps [] h = cc
+digits_prefix (suc n) ps (t ∷ ts) h =
     let parts = both (is_ascii_digit t) (has_shape (replicate n 100 ++ ps) ts) h in
-    rw (parts.0, digits_front n ps ts parts.1) refl
+    rw (parts.0, digits_prefix n ps ts parts.1) refl
 
 -- a text has digits where the pattern has `d`
 pub digits_at : (from n : ℕ) (ps qs ts : List ℕ) → has_shape ps ts ≡ true → drop from ps ≡ replicate n 100 ++ qs →
     all_ascii_digits (take n (drop from ts)) ≡ true
 digits_at from n ps qs ts h e =
-    digits_front n qs (drop from ts) (ap (λ xs. has_shape xs (drop from ts)) (sym e) ∙ shape_rest ps ts from h)
+    digits_prefix n qs (drop from ts) (ap (λ xs. has_shape xs (drop from ts)) (sym e) ∙ shape_rest ps ts from h)
 
 -- where a month has its digits
 pub record IsMonthText (text : List ℕ) : Type 0 where

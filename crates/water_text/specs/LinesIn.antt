@@ -44,7 +44,7 @@ pub record TakesToFull (old new piece : List ℕ) (taken : ℕ) : Type 0 where
   pub held : new ≡ old ++ take taken piece
   pub full : length new ≡ 129
 
--- so many bytes of a piece are taken, and the line is whole then or not
+-- a given number of bytes of a piece are taken, and the line is whole then or not
 abbrev pub Takes : Bool → List ℕ → List ℕ → List ℕ → ℕ → Type 0
 Takes false old new piece taken = TakesAll old new piece taken
 Takes true old new piece taken = TakesToFeed old new piece taken ⊎ TakesToFull old new piece taken

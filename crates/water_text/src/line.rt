@@ -104,7 +104,7 @@ impl Line {
         self.word(&digits[at..]);
     }
 
-    /// Appends bytes behind a space.
+    /// Appends bytes after a space.
     pub fn add_word(&mut self, bytes: &[u8])
         requires { length self.old + 1 + length bytes.now ≤ 128 }
         ensures text { self.new ≡ self.old ++ 32 ∷ bytes.now }
@@ -114,7 +114,7 @@ impl Line {
         self.word(bytes);
     }
 
-    /// Appends a number behind a space.
+    /// Appends a number after a space.
     pub fn add_number(&mut self, value: u64)
         requires { length self.old + 21 ≤ 128 }
         ensures text { self.new ≡ self.old ++ 32 ∷ decimal value }
@@ -124,7 +124,7 @@ impl Line {
         self.amount(value);
     }
 
-    /// Appends a name behind a space.
+    /// Appends a name after a space.
     pub fn add_name(&mut self, name: &Name)
         requires { length self.old + 33 ≤ 128 }
         ensures text { self.new ≡ self.old ++ 32 ∷ name.now }
@@ -133,7 +133,7 @@ impl Line {
         self.add_word(name.bytes());
     }
 
-    /// Appends a month behind a space.
+    /// Appends a month after a space.
     pub fn add_month(&mut self, month: Month)
         requires room { length self.old + 8 ≤ 128 }
         requires month { IsMonth month }

@@ -11,7 +11,7 @@ const ROOM: usize = 129;
 /// What a line in took of a piece.
 #[derive(Clone, Copy, Debug, PartialEq, Eq)]
 pub struct Fed {
-    /// So many bytes, the first of the piece.
+    /// A given number of bytes, the first of the piece.
     pub taken: usize,
     /// Whether the line is whole: a line feed ended it, or it has 129 bytes.
     pub whole: bool,
@@ -45,11 +45,11 @@ fn first_feed(piece: &[u8]) -> Option<usize>
 }
 
 /// Writes bytes into a list from a place on, where they fit.
-fn copy_to(bytes: &mut [u8], from: usize, front: &[u8])
-    requires { from + length front.now ≤ length bytes.old }
-    ensures { take (from + length front.now) bytes.new ≡ take from bytes.old ++ front.now }
+fn copy_to(bytes: &mut [u8], from: usize, prefix: &[u8])
+    requires { from + length prefix.now ≤ length bytes.old }
+    ensures { take (from + length prefix.now) bytes.new ≡ take from bytes.old ++ prefix.now }
 {
-    bytes[from..from + front.len()].copy_from_slice(front);
+    bytes[from..from + prefix.len()].copy_from_slice(prefix);
 }
 
 impl LineIn {
@@ -75,10 +75,10 @@ impl LineIn {
         ensures whole { self.new.whole ≡ result.whole }
         ensures takes { Takes result.whole self.old.bytes self.new.bytes piece.now result.taken }
     {
-        let front = &piece[..piece.len().min(ROOM - self.len)];
-        match first_feed(front) {
+        let prefix = &piece[..piece.len().min(ROOM - self.len)];
+        match first_feed(prefix) {
             Some(at) => {
-                copy_to(&mut self.bytes, self.len, &front[..at]);
+                copy_to(&mut self.bytes, self.len, &prefix[..at]);
                 self.len += at;
                 self.whole = true;
                 Fed {
@@ -87,11 +87,11 @@ impl LineIn {
                 }
             }
             None => {
-                copy_to(&mut self.bytes, self.len, front);
-                self.len += front.len();
+                copy_to(&mut self.bytes, self.len, prefix);
+                self.len += prefix.len();
                 self.whole = self.len == ROOM;
                 Fed {
-                    taken: front.len(),
+                    taken: prefix.len(),
                     whole: self.whole,
                 }
             }

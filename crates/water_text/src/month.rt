@@ -28,7 +28,7 @@ pub(crate) fn days_in(year: u16, month: u8) -> u8
     requires low { 1 ≤ month }
     requires high { month ≤ 12 }
     ensures value { result ≡ days_in year month }
-    ensures few { result ≤ 31 }
+    ensures bounded { result ≤ 31 }
 {
     date(year as i16, month as i8, 1).days_in_month() as u8
 }
@@ -86,7 +86,7 @@ impl Month {
     pub fn days(&self) -> u8
         requires { IsMonth self.now }
         ensures value { result ≡ days_of self.now }
-        ensures few { result ≤ 31 }
+        ensures bounded { result ≤ 31 }
     {
         days_in(self.year, self.month)
     }

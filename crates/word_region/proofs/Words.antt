@@ -11,7 +11,7 @@ use Rattle.std.proofs.lemmas.Slice.{between_is}
 use Rattle.word_region.specs.Words.{words_at, with_words, zeroed}
 use Rattle.word_region.specs.declared.Place.{Place}
 
--- a place ends before a word, or begins behind it
+-- a place ends before a word, or begins after it
 abbrev pub LiesOutside : Place → ℕ → ℕ → Type 0
 LiesOutside place from end = (place.from + place.len ≤ from) ⊎ (end ≤ place.from)
 
@@ -54,7 +54,7 @@ words_at-set_other words place i x out = elim out [
   | inl before ↦
       at_is (slice_set words i x) place ∙ ap (drop place.from) (take-set-le (place.from + place.len) words i x before)
       ∙ sym (at_is words place)
-  | inr behind ↦ ap (take (place.from + place.len - place.from)) (drop-set-lt place.from words i x (omega arith))
+  | inr after ↦ ap (take (place.from + place.len - place.from)) (drop-set-lt place.from words i x (omega arith))
 ]
 
 -- ---- some words
@@ -82,30 +82,30 @@ pub words_at-with_words_other : (words : List ℕ) (from : ℕ) (new : List ℕ)
     words_at (with_words words from new) place ≡ words_at words place
 words_at-with_words_other words from new place fits out = elim out [
   | inl before ↦
-      at_is (with_words words from new) place ∙ ap (drop place.from) (front before) ∙ sym (at_is words place)
-  | inr behind ↦
+      at_is (with_words words from new) place ∙ ap (drop place.from) (prefix before) ∙ sym (at_is words place)
+  | inr after ↦
       ap (take (place.from + place.len - place.from))
       (back place.from (place.from - (from + length new)) (omega arith))
 ]
   where
-    front_length : length (take from words) ≡ from
-    front_length = length-take-le from words (omega arith)
+    prefix_length : length (take from words) ≡ from
+    prefix_length = length-take-le from words (omega arith)
 
-    front : place.from + place.len ≤ from →
+    prefix : place.from + place.len ≤ from →
         take (place.from + place.len) (with_words words from new) ≡ take (place.from + place.len) words
-    front before =
+    prefix before =
         take-append-le (place.from + place.len) (take from words) (new ++ drop (from + length new) words)
-        (omega (arith, front_length))
+        (omega (arith, prefix_length))
         ∙ take-take (place.from + place.len) from words before
 
-    -- what is dropped is the front, the new words and some more
+    -- what is dropped is the prefix, the new words and some more
     back : (k more : ℕ) → k ≡ from + (length new + more) → drop k (with_words words from new) ≡ drop k words
     back k more sum =
         let sum_here : from + length new + more ≡ k = omega arith in
         ap (λ (n : ℕ). drop n (with_words words from new)) sum
         ∙ sym (drop-drop (length new + more) from (with_words words from new))
         ∙ ap (drop (length new + more))
-        (drop_at (take from words) (new ++ drop (from + length new) words) from front_length)
+        (drop_at (take from words) (new ++ drop (from + length new) words) from prefix_length)
         ∙ sym (drop-drop more (length new) (new ++ drop (from + length new) words))
         ∙ ap (drop more) (drop_at new (drop (from + length new) words) (length new) refl)
         ∙ drop-drop more (from + length new) words
@@ -123,19 +123,19 @@ words_at-with_words words new place fits same =
 pub with_words_again : (words : List ℕ) (from : ℕ) (old new : List ℕ) → from ≤ length words → length old ≡ length new →
     with_words (with_words words from old) from new ≡ with_words words from new
 with_words_again words from old new fits same =
-    ap (λ (front : List ℕ). front ++ (new ++ drop (from + length new) (with_words words from old))) front
+    ap (λ (prefix : List ℕ). prefix ++ (new ++ drop (from + length new) (with_words words from old))) prefix
     ∙ ap (λ (back : List ℕ). take from words ++ (new ++ back)) back
   where
-    front_length : length (take from words) ≡ from
-    front_length = length-take-le from words fits
+    prefix_length : length (take from words) ≡ from
+    prefix_length = length-take-le from words fits
 
-    front : take from (with_words words from old) ≡ take from words
-    front = take_at (take from words) (old ++ drop (from + length old) words) from front_length
+    prefix : take from (with_words words from old) ≡ take from words
+    prefix = take_at (take from words) (old ++ drop (from + length old) words) from prefix_length
 
     back : drop (from + length new) (with_words words from old) ≡ drop (from + length new) words
     back =
         sym (drop-drop (length new) from (with_words words from old))
-        ∙ ap (drop (length new)) (drop_at (take from words) (old ++ drop (from + length old) words) from front_length)
+        ∙ ap (drop (length new)) (drop_at (take from words) (old ++ drop (from + length old) words) from prefix_length)
         ∙ drop_at old (drop (from + length old) words) (length new) same
         ∙ ap (λ (n : ℕ). drop (from + n) words) same
 

@@ -19,6 +19,6 @@ words_at words place = slice_range words place.from (place.from + place.len)
 abbrev pub with_words : List ℕ → ℕ → List ℕ → List ℕ
 with_words words from new = take from words ++ (new ++ drop (from + length new) words)
 
--- the same with 0 in so many words
+-- the same with 0 in a given number of words
 abbrev pub zeroed : List ℕ → ℕ → ℕ → List ℕ
 zeroed words from len = with_words words from (replicate len 0)

@@ -49,7 +49,8 @@ impl Model for Region {
 }
 
 impl Region {
-    /// A region of so many words, all 0, of which none is handed out. AllocError comes where memory is lacking.
+    /// A region of a given number of words, all 0, of which none is handed out. AllocError comes where memory is
+    /// lacking.
     pub fn open(alloc: Global, words: usize) -> Result<Region, AllocError>
         ensures { IfOk result (λ r. r ≡ record { words = replicate words 0; used = 0 }) }
     {
@@ -160,7 +161,7 @@ impl Region {
     }
 }
 
-/// Writes 0 into so many words.
+/// Writes 0 into a given number of words.
 fn zero(words: &mut [u64], from: usize, len: usize)
     requires { from + len ≤ length words.old }
     ensures { words.new ≡ zeroed words.old from len }

@@ -3,7 +3,7 @@ use Rattle.std.proofs.Common.{◌≡◌, ℕ, Bool, List, ◌<◌, ◌+◌, ◌�
 use Rattle.std.specs.Prelude.{Option, Some, None, find, if◌then◌else◌}
 use Rattle.std.specs.Option.{option_or}
 use Rattle.std.proofs.lemmas.List.{take_all}
-use Rattle.water_model.specs.Places.{seniors_first}
+use Rattle.water_model.specs.Indices.{seniors_first}
 use Rattle.calls.specs.Callers.{is_short_at}
 use Rattle.calls.proofs.Claims.{all_free, none_yet, find_more}
 use Rattle.calls.proofs.Search.{order_in_range}
@@ -13,8 +13,8 @@ pub loop-right-init : goal.loop-right-init
 loop-right-init c = record {
   count = refl;
   words = refl;
-  free = all_free c.len-nodes.result (omega (arith, c.len-nodes.ensures, c.requires.basin.few.nodes));
-  each = none_yet c.len-nodes.result (omega (arith, c.len-nodes.ensures, c.requires.basin.few.nodes));
+  free = all_free c.len-nodes.result (omega (arith, c.len-nodes.ensures, c.requires.basin.bounded.nodes));
+  each = none_yet c.len-nodes.result (omega (arith, c.len-nodes.ensures, c.requires.basin.bounded.nodes));
 }
 
 in_range : (c : goal.After-row_known-1) →
@@ -41,7 +41,7 @@ loop-right-preserved c =
     let i = c.loop-right.right-index in
     let is : order ≡ seniors_first c.args.basin.now = c.by_seniority-right-items.ensures ∙ c.requires.roll.order in
     record {
-      count = c.call_from.ensures.places ∙ c.loop-right.invariant.count;
+      count = c.call_from.ensures.indices ∙ c.loop-right.invariant.count;
       words = c.call_from.ensures.words ∙ c.loop-right.invariant.words;
       free = c.call_from.ensures.free;
       each = λ n below.
@@ -59,7 +59,7 @@ returns c =
     let is : c.by_seniority-right-items.result.now ≡ seniors_first c.args.basin.now =
     c.by_seniority-right-items.ensures ∙ c.requires.roll.order in
     record {
-      enough = omega (arith, c.loop-right.invariant.count, c.requires.basin.few.nodes);
+      enough = omega (arith, c.loop-right.invariant.count, c.requires.basin.bounded.nodes);
       each = λ n below.
           c.loop-right.invariant.each n (omega (arith, below, c.len-nodes.ensures))
           ∙ ap (find (λ right. is_short_at c.args.month.now right n))

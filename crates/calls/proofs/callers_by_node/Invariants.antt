@@ -1,6 +1,6 @@
 use Rattle.std.proofs.Common.{◌≡◌, ℕ, ◌<◌, length, take}
 use Rattle.std.specs.Prelude.{find}
-use Rattle.water_model.specs.Places.{seniors_first}
+use Rattle.water_model.specs.Indices.{seniors_first}
 use Rattle.calls.specs.Callers.{AreFree, caller_at, is_short_at}
 use Rattle.calls.proofs.callers_by_node.Given as goal
 

@@ -1,7 +1,7 @@
 use Rattle.std.proofs.Common.{arith, ◌<◌, length}
 use Rattle.std.specs.Prelude.{slice_index}
 use Rattle.bit_words.specs.Marks.{marks}
-use Rattle.place_sums.proofs.Totals.{total_where_fits}
+use Rattle.finite_sums.proofs.Totals.{total_where_fits}
 use Rattle.water_model.specs.Lookups.{has}
 use Rattle.cut_cert.proofs.add_supplies.Goals as goal
 

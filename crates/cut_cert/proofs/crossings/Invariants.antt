@@ -1,6 +1,6 @@
 use Rattle.std.proofs.Common.{◌≡◌}
 use Rattle.std.specs.Prelude.{◌&&◌, not}
-use Rattle.place_sums.specs.Sums.{total_where}
+use Rattle.finite_sums.specs.Sums.{total_where}
 use Rattle.water_model.specs.Basin.{is_on_link}
 use Rattle.water_model.specs.Cuts.{enters, leaves, kept_on}
 use Rattle.water_model.specs.Plans.{carry_of}

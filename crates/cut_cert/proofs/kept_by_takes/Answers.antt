@@ -3,7 +3,7 @@ use Rattle.std.specs.Prelude.{◌&&◌, slice_index}
 use Rattle.water_model.specs.Basin.{is_senior}
 use Rattle.water_model.specs.Cuts.{takes_within}
 use Rattle.cut_cert.specs.Sets.{marked_nodes}
-use Rattle.place_sums.proofs.Totals.{total_where_most}
+use Rattle.finite_sums.proofs.Totals.{total_where_most}
 use Rattle.water_model.proofs.Wants.{entry_most}
 use Rattle.cut_cert.proofs.Bounds.{next_fits}
 use Rattle.cut_cert.proofs.kept_by_takes.Goals as goal
@@ -14,7 +14,7 @@ overflow_add-sum c =
     omega (
       arith,
       c.loop-taker.invariant,
-      c.requires.basin.few.rights,
+      c.requires.basin.bounded.rights,
       next_fits c.loop-taker.taker (length c.args.basin.now.rights) (10 ^ 9)
           (λ s. takes_within c.args.basin.now (marked_nodes c.args.basin.now c.args.words.now) s
           && is_senior c.args.basin.now s
@@ -29,7 +29,7 @@ returns-clause-small c =
     omega (
       arith,
       rw all at c.loop-taker.invariant,
-      c.requires.basin.few.rights,
+      c.requires.basin.bounded.rights,
       total_where_most (length c.args.basin.now.rights) (10 ^ 9)
           (λ s. takes_within c.args.basin.now (marked_nodes c.args.basin.now c.args.words.now) s
           && is_senior c.args.basin.now s

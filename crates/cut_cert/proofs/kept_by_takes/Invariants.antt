@@ -1,6 +1,6 @@
 use Rattle.std.proofs.Common.{◌≡◌}
 use Rattle.std.specs.Prelude.{◌&&◌, slice_index}
-use Rattle.place_sums.specs.Sums.{total_where}
+use Rattle.finite_sums.specs.Sums.{total_where}
 use Rattle.water_model.specs.Basin.{is_senior}
 use Rattle.water_model.specs.Cuts.{takes_within}
 use Rattle.cut_cert.specs.Sets.{marked_nodes}

@@ -15,7 +15,7 @@ loop-at-preserved c =
     let from = c.loop-at.invariant.from in
     let order : c.loop-at.from ≤ c.min-to.result = omega (arith, c.min-to.ensures, from) in
     let below : c.min-to.result ≤ length supply = omega (arith, c.min-to.ensures) in
-    let behind : (n : ℕ) → c.loop-at.from ≤ n → n < length supply → 64 * at ≤ n = λ n h k. omega (arith, from) in
+    let after : (n : ℕ) → c.loop-at.from ≤ n → n < length supply → 64 * at ≤ n = λ n h k. omega (arith, from) in
     let before : (n : ℕ) → n < c.min-to.result → n < 64 * at + 64 = λ n h. omega (arith, c.min-to.ensures, from) in
     record {
       from = omega (arith, c.min-to.ensures, from);
@@ -26,7 +26,7 @@ loop-at-preserved c =
             ∙ c.loop-at.invariant.sum
             ∙ sym (total_skips c.loop-at.from c.min-to.result (λ n. has (marks (length supply) words) n)
             (λ n. slice_index supply n) order (λ n h k. none_marked words (length supply) at n w.if-words-at-ne0.false
-            (behind n h (omega arith)) (before n k) (omega arith)))
+            (after n h (omega arith)) (before n k) (omega arith)))
       ];
     }
 

@@ -1,7 +1,7 @@
 use Rattle.std.proofs.Common.{◌≡◌, ◌*◌, length, min}
 use Rattle.std.specs.Prelude.{slice_index}
 use Rattle.bit_words.specs.Marks.{marks}
-use Rattle.place_sums.specs.Sums.{total_where}
+use Rattle.finite_sums.specs.Sums.{total_where}
 use Rattle.water_model.specs.Lookups.{has}
 use Rattle.cut_cert.proofs.supply_in.Given as goal
 

@@ -1,13 +1,13 @@
 use Rattle.std.proofs.Common.{◌∙◌, ◌<◌, length, get_or, ap, refl, arith}
-use Rattle.place_sums.proofs.Totals.{total_start}
+use Rattle.finite_sums.proofs.Totals.{total_start}
 use Rattle.water_model.specs.Lookups.{of_entry}
 use Rattle.lag_returns.specs.ReturnFlows.{brought_to}
-use Rattle.lag_returns.proofs.Places.{row_at, one_row_more, one_row_little}
+use Rattle.lag_returns.proofs.Indices.{row_at, one_row_more, one_row_little}
 use Rattle.lag_returns.proofs.arrive_each.Goals as goal
 
 pub loop-flow-init : goal.loop-flow-init
 loop-flow-init c = record {
-  places = refl;
+  indices = refl;
   added = λ n l. omega (arith, total_start (λ k. of_entry c.args.flows.now k (brought_to n) 0));
   small = λ n l. omega arith;
 }
@@ -20,7 +20,7 @@ arrive-requires-clause-node c =
 
 pub loop-flow-preserved : goal.loop-flow-preserved
 loop-flow-preserved c = record {
-  places = omega (arith, c.arrive.auto.into);
+  indices = omega (arith, c.arrive.auto.into);
   added = λ n l.
       ap (λ xs. get_or xs n 0) c.arrive.ensures.adds
       ∙ one_row_more c.args.flows.now c.loop-flow.flow-index c.flow-item.result c.loop-flow.into n

@@ -2,7 +2,7 @@ use Rattle.std.proofs.Common.{◌≡◌, ◌∙◌, ◌++◌, ◌+◌, ◌<◌, 
 use Rattle.std.proofs.lemmas.List.Edits.{map_over_more}
 use Rattle.lag_returns.specs.ReturnFlows.{after_month, with_delivery}
 use Rattle.lag_returns.proofs.Months.{unchanged}
-use Rattle.lag_returns.proofs.Places.{of_row}
+use Rattle.lag_returns.proofs.Indices.{of_row}
 use Rattle.lag_returns.proofs.take_each.Goals as goal
 
 pub bounds-delivered-right : goal.bounds-delivered-right

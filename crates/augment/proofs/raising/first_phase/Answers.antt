@@ -18,5 +18,5 @@ loop-least-preserved c =
       some = omega arith;
       positive = omega (arith, inv.positive);
       within = omega (arith, c.loop-least-test.true);
-      few = omega (arith, inv.few, inv.positive);
+      bounded = omega (arith, inv.bounded, inv.positive);
     }

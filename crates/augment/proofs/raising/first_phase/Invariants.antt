@@ -7,7 +7,7 @@ invariant-loop-least l = record {
   some : 0 < l.count;
   positive : 0 < l.least;
   within : l.least ≤ l.missing;
-  few : l.count ≤ l.least;
+  bounded : l.count ≤ l.least;
 }
 
 abbrev pub decreases-loop-least : goal.decreases-loop-least

@@ -1,14 +1,14 @@
 use Rattle.std.proofs.Common.{◌-◌, ◌*◌, arith, subst, sym, ap, ◌∙◌}
 use Rattle.circulation.specs.Network.{IsFlow}
 use Rattle.circulation.specs.Contents.{Contents, network, flow_of}
-use Rattle.augment.specs.Raised.{open_arcs, HasWayOut, IsGreatestCut, not_reached}
+use Rattle.augment.specs.Raised.{open_arcs, HasPathOut, IsGreatestCut, not_reached}
 use Rattle.augment.proofs.Raises.{flow_over}
 use Rattle.augment.proofs.Rises.{phase_next}
 use Rattle.augment.proofs.raising.phase.Goals as goal
 
-pub round-requires-clause-way_out : goal.round-requires-clause-way_out
-round-requires-clause-way_out g c =
-    subst (λ (x : Contents). HasWayOut (network x) c.args.arc) (sym c.loop-circ.invariant.rest) c.requires.way_out
+pub round-requires-clause-path_out : goal.round-requires-clause-path_out
+round-requires-clause-path_out g c =
+    subst (λ (x : Contents). HasPathOut (network x) c.args.arc) (sym c.loop-circ.invariant.rest) c.requires.path_out
 
 pub returns-then-not-round-clause-left : goal.returns-then-not-round-clause-left
 returns-then-not-round-clause-left g c = λ _ h flow.

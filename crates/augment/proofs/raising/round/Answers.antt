@@ -40,7 +40,7 @@ returns-then-not-reached-clause-cut g c = λ _ one.
           (c.reached.ensures.1 (subst (λ (v : ℕ). 0 < position_of c.search.new.circ v) (sym here) (omega arith))))
     ] in
     stopped_cut c.args.circ.now c.search.new.circ c.args.arc c.search.result c.requires.arc c.search.ensures.rest
-    c.requires.way_out c.ends-ends.ensures.kept
+    c.requires.path_out c.ends-ends.ensures.kept
     (subst (λ (n : ℕ). HasTree c.search.new.circ c.args.arc n c.search.result) one c.search.ensures.tree) none
     (subst (λ (n : ℕ). IsClosed (network c.args.circ.now) (flow_of c.args.circ.now) c.args.arc n
     (position_of c.search.new.circ)) one (c.search.ensures.closed none))

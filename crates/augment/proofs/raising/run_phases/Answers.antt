@@ -2,13 +2,13 @@ use Rattle.std.proofs.Common.{ℕ, inl, inr, ◌≡◌, ◌+◌, ◌-◌, ◌*�
 use Rattle.std.proofs.lemmas.Bool.{cases_lt}
 use Rattle.circulation.specs.Network.{IsFlow}
 use Rattle.circulation.specs.Contents.{Contents, network, flow_of}
-use Rattle.augment.specs.Raised.{open_arcs, HasWayOut, IsGreatestCut, not_reached}
+use Rattle.augment.specs.Raised.{open_arcs, HasPathOut, IsGreatestCut, not_reached}
 use Rattle.augment.proofs.Rises.{power_below, power_half, phases_cost, thirty, open_some, first_rise}
 use Rattle.augment.proofs.raising.run_phases.Goals as goal
 
-pub phase-requires-clause-way_out : goal.phase-requires-clause-way_out
-phase-requires-clause-way_out g c =
-    subst (λ (x : Contents). HasWayOut (network x) c.args.arc) (sym c.loop-left.invariant.rest) c.requires.way_out
+pub phase-requires-clause-path_out : goal.phase-requires-clause-path_out
+phase-requires-clause-path_out g c =
+    subst (λ (x : Contents). HasPathOut (network x) c.args.arc) (sym c.loop-left.invariant.rest) c.requires.path_out
 
 pub phase-requires-clause-rise : goal.phase-requires-clause-rise
 phase-requires-clause-rise g c = λ h flow most.

@@ -24,7 +24,7 @@ overflow_add-nodes-in-loop-done c =
       rest,
       first,
       c.nodes-nodes.ensures.number,
-      c.nodes-nodes.ensures.kept.shape.few_nodes,
+      c.nodes-nodes.ensures.kept.shape.bounded_nodes,
       c.loop-done-test.true,
     )
 

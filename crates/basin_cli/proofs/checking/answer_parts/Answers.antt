@@ -8,24 +8,26 @@ pub returns-then-count-eq0-clause-answer : goal.returns-then-count-eq0-clause-an
 returns-then-count-eq0-clause-answer g c =
     let i = c.loop-count.invariant in
     rw (i.basin, i.series) at
-    (finished_whole c.args.question (g.S.Shelf.told c.args.shelf.now c.args.name.now) c.loop-count.checker c.loop-count.from
+    (finished_whole c.args.question (g.S.Shelf.known c.args.shelf.now c.args.name.now) c.loop-count.checker
+    c.loop-count.from
     c.in-Ok.count
     c.loop-count.part c.read_part.new.into c.finish.result c.if-count-eq0.true (omega (arith, i.part)) i.fed
-    (subst (λ (told : Option (List ℕ)). IfSome told
+    (subst (λ (known : Option (List ℕ)). IfSome known
     (λ whole. IsPart whole c.loop-count.from c.loop-count.part c.read_part.new.into c.in-Ok.count))
-    (i.same.told c.args.name.now) c.in-Ok.ensures.part.1)
+    (i.same.known c.args.name.now) c.in-Ok.ensures.part.1)
     c.finish.ensures)
 
 pub returns-in-Err-feed-clause-answer : goal.returns-in-Err-feed-clause-answer
 returns-in-Err-feed-clause-answer g c =
     let i = c.loop-count.invariant in
     rw (i.basin, i.series) at
-    (refused_whole c.args.question (g.S.Shelf.told c.args.shelf.now c.args.name.now) c.loop-count.checker c.loop-count.from
+    (refused_whole c.args.question (g.S.Shelf.known c.args.shelf.now c.args.name.now) c.loop-count.checker
+    c.loop-count.from
     c.in-Ok.count
     c.loop-count.part c.read_part.new.into c.in-Err-feed.refuted i.fed
-    (subst (λ (told : Option (List ℕ)). IfSome told
+    (subst (λ (known : Option (List ℕ)). IfSome known
     (λ whole. IsPart whole c.loop-count.from c.loop-count.part c.read_part.new.into c.in-Ok.count))
-    (i.same.told c.args.name.now) c.in-Ok.ensures.part.1)
+    (i.same.known c.args.name.now) c.in-Ok.ensures.part.1)
     c.in-Err-feed.ensures.refused)
 
 pub loop-count-preserved : goal.loop-count-preserved
@@ -35,17 +37,17 @@ loop-count-preserved g c =
     let fed = c.in_default.ensures in
     record {
       same = record {
-        told = λ name. read.same.told name ∙ i.same.told name;
+        known = λ name. read.same.known name ∙ i.same.known name;
         served = λ name served. read.same.served name (i.same.served name served);
       };
       later = omega (arith, i.later, read.cause.later);
       part = read.length ∙ i.part;
-      fed = next_fed (g.S.Shelf.told c.args.shelf.now c.args.name.now) c.loop-count.checker c.feed.new.self
+      fed = next_fed (g.S.Shelf.known c.args.shelf.now c.args.name.now) c.loop-count.checker c.feed.new.self
           c.loop-count.from
           c.in-Ok.count c.loop-count.part c.read_part.new.into (omega (arith, c.if-count-eq0.false)) i.fed
-          (subst (λ (told : Option (List ℕ)). IfSome told
+          (subst (λ (known : Option (List ℕ)). IfSome known
           (λ whole. IsPart whole c.loop-count.from c.loop-count.part c.read_part.new.into c.in-Ok.count))
-          (i.same.told c.args.name.now) read.part.1)
+          (i.same.known c.args.name.now) read.part.1)
           fed.stands;
       good = fed.good;
       can = still_can c.args.question c.loop-count.checker c.feed.new.self fed.audit i.can;

@@ -8,11 +8,11 @@ use Rattle.basin_cli.proofs.checking.answer_parts.Given as goal
 
 abbrev pub invariant-loop-count : goal.invariant-loop-count
 invariant-loop-count g l = record {
-  same : SameShelf (g.S.Shelf.told l.fn.shelf) (g.S.Shelf.told l.shelf) (g.S.Shelf.serves l.fn.shelf)
+  same : SameShelf (g.S.Shelf.known l.fn.shelf) (g.S.Shelf.known l.shelf) (g.S.Shelf.serves l.fn.shelf)
       (g.S.Shelf.serves l.shelf);
   later : g.S.Shelf.faults l.fn.shelf ≤ g.S.Shelf.faults l.shelf;
   part : length l.part ≡ 65536;
-  fed : IfSome (g.S.Shelf.told l.fn.shelf l.name) (IsFed l.checker l.from);
+  fed : IfSome (g.S.Shelf.known l.fn.shelf l.name) (IsFed l.checker l.from);
   good : l.checker.refused ≡ None;
   can : CanAnswer l.question l.checker;
   left : l.from + bytes_left l.checker ≤ bytes_left l.fn.checker;

@@ -8,30 +8,30 @@ pub returns-in-Ok-answer_parts-clause-ends : goal.returns-in-Ok-answer_parts-cla
 returns-in-Ok-answer_parts-clause-ends g c =
     let opened = c.in-Ok.ensures in
     answer_ends c.args.question c.args.basin.now c.args.series.now
-    (g.S.Shelf.told c.args.shelf.now c.args.name.now)
-    c.in-Ok-answer_parts.answer c.tell_answer.result _ _
-    (rw (opened.basin, opened.series) at c.in-Ok-answer_parts.ensures.answer) c.tell_answer.ensures.ends
+    (g.S.Shelf.known c.args.shelf.now c.args.name.now)
+    c.in-Ok-answer_parts.answer c.print_answer.result _ _
+    (rw (opened.basin, opened.series) at c.in-Ok-answer_parts.ensures.answer) c.print_answer.ensures.ends
 
 pub returns-in-Ok-answer_parts-clause-leaves : goal.returns-in-Ok-answer_parts-clause-leaves
 returns-in-Ok-answer_parts-clause-leaves g c =
     let opened = c.in-Ok.ensures in
     answer_leaves c.args.question c.args.basin.now c.args.series.now
-    (g.S.Shelf.told c.args.shelf.now c.args.name.now)
-    c.in-Ok-answer_parts.answer c.tell_answer.result (g.K.Sink.taken c.args.out.now)
-    (g.K.Sink.taken c.tell_answer.new.out)
-    (rw (opened.basin, opened.series) at c.in-Ok-answer_parts.ensures.answer) c.tell_answer.ensures.leaves
+    (g.S.Shelf.known c.args.shelf.now c.args.name.now)
+    c.in-Ok-answer_parts.answer c.print_answer.result (g.K.Sink.taken c.args.out.now)
+    (g.K.Sink.taken c.print_answer.new.out)
+    (rw (opened.basin, opened.series) at c.in-Ok-answer_parts.ensures.answer) c.print_answer.ensures.leaves
 
 pub returns-in-Ok-answer_parts-clause-out_stays : goal.returns-in-Ok-answer_parts-clause-out_stays
 returns-in-Ok-answer_parts-clause-out_stays g c = λ silent.
-    absurd (silent (answer_writes c.in-Ok-answer_parts.answer c.tell_answer.result _ c.tell_answer.ensures.ends))
+    absurd (silent (answer_writes c.in-Ok-answer_parts.answer c.print_answer.result _ c.print_answer.ensures.ends))
 
 pub returns-in-Ok-answer_parts-clause-unread : goal.returns-in-Ok-answer_parts-clause-unread
 returns-in-Ok-answer_parts-clause-unread g c = λ lacking.
     absurd (subst (λ how. MayWrite (status_of how)) lacking
-    (answer_writes c.in-Ok-answer_parts.answer c.tell_answer.result _ c.tell_answer.ensures.ends))
+    (answer_writes c.in-Ok-answer_parts.answer c.print_answer.result _ c.print_answer.ensures.ends))
 
 pub returns-clause-leaves : goal.returns-clause-leaves
 returns-clause-leaves g c =
     unread_leaves c.args.question c.args.basin.now c.args.series.now
-    (g.S.Shelf.told c.args.shelf.now c.args.name.now) c.in-Err-answer_parts.ending (g.K.Sink.taken c.args.out.now)
+    (g.S.Shelf.known c.args.shelf.now c.args.name.now) c.in-Err-answer_parts.ending (g.K.Sink.taken c.args.out.now)
     (g.K.Sink.taken c.args.out.now) c.in-Err-answer_parts.ensures.fault.0

@@ -8,29 +8,29 @@ use Rattle.basin_cli.proofs.compare.do_compare.Goals as goal
 pub returns-in-Err : goal.returns-in-Err
 returns-in-Err g c = search (
   rules,
-  refused_writes (g.S.Shelf.told c.args.shelf.now) (named c.args.inputs) c.args.second.now c.in-Err.ending
+  refused_writes (g.S.Shelf.known c.args.shelf.now) (named c.args.inputs) c.args.second.now c.in-Err.ending
       (Rose (g.S.Shelf.faults c.args.shelf.now) (g.S.Shelf.faults c.read_pair.new.shelf))
       (g.K.Sink.taken c.args.out.now) (g.K.Sink.taken c.args.out.now) c.in-Err.ensures.stops,
 )
 
 pub returns : goal.returns
 returns g c =
-    let told = g.S.Shelf.told c.args.shelf.now in
+    let known = g.S.Shelf.known c.args.shelf.now in
     let files = named c.args.inputs in
     let second = c.args.second.now in
     let how = c.compare_basins.result in
     record {
       cause =
-          cause told files second c.in-Ok.pair c.in-Ok.ensures.paired how _ _ _ _ c.compare_basins.ensures.compares
+          cause known files second c.in-Ok.pair c.in-Ok.ensures.paired how _ _ _ _ c.compare_basins.ensures.compares
           c.compare_basins.ensures.memory;
-      can_be_told = search rules;
+      can_be_printed = search rules;
       writes =
-          writes told files second c.in-Ok.pair c.in-Ok.ensures.paired how _ _ _ c.compare_basins.ensures.compares;
+          writes known files second c.in-Ok.pair c.in-Ok.ensures.paired how _ _ _ c.compare_basins.ensures.compares;
       out_stays = c.compare_basins.ensures.out_stays;
-      handed = c.compare_basins.ensures.handed;
+      flushed = c.compare_basins.ensures.flushed;
       unread = tt;
       idle = λ refused. absurd (c.compare_basins.ensures.idle refused);
       pushes =
-          pushes told files second c.in-Ok.pair c.in-Ok.ensures.paired c.args.searches.now
+          pushes known files second c.in-Ok.pair c.in-Ok.ensures.paired c.args.searches.now
           c.compare_basins.new.searches c.compare_basins.ensures.pushes;
     }

@@ -3,7 +3,7 @@ use Rattle.result_text.specs.Range.{FitsText}
 use Rattle.injury.specs.Common.{HaveDeliveries}
 use Rattle.injury.specs.declared.pair.Pair.{Pair}
 use Rattle.injury.proofs.Growing.{common_deliver}
-use Rattle.basin_cli.proofs.Compared.{compared_more, done_more, few_injuries}
+use Rattle.basin_cli.proofs.Compared.{compared_more, done_more, bounded_injuries}
 use Rattle.basin_cli.proofs.Written.{last_fits}
 use Rattle.basin_cli.proofs.comparing.compare_month.Goals as goal
 
@@ -41,7 +41,7 @@ pub overflow_add-result : goal.overflow_add-result
 overflow_add-result g c =
     omega (
       arith,
-      few_injuries c.args.basin.now c.args.other.now c.args.first.now c.args.second.now c.month.result.now
+      bounded_injuries c.args.basin.now c.args.other.now c.args.first.now c.args.second.now c.month.result.now
           c.month-2.result.now
           c.args.draft.now.bytes c.args.injured c.in_ok-count.count c.requires.basin c.requires.compared c.requires.left
           (rw c.requires.pairing at c.in_ok-count.ensures.number),

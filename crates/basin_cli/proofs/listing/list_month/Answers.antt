@@ -1,6 +1,6 @@
 use Rattle.call_list.specs.Whole.{records_of}
-use Rattle.basin_cli.proofs.Handed.{puts_kept}
-use Rattle.basin_cli.proofs.Listed.{front_moved, last_found, month_moved, month_put, month_stopped}
+use Rattle.basin_cli.proofs.Flushed.{puts_kept}
+use Rattle.basin_cli.proofs.Listed.{prefix_moved, last_found, month_moved, month_put, month_stopped}
 use Rattle.basin_cli.proofs.Written.{stood_done, stopped}
 use Rattle.basin_cli.proofs.listing.list_month.Goals as goal
 
@@ -52,7 +52,7 @@ returns-in_err-put_found-clause-stops g c =
     c.step.new.searches c.step.ensures.basin c.step.ensures.series w.found
     (rw (c.basin.ensures.value, c.step.ensures.basin, c.month.ensures) at c.find.ensures.found)
     (c.step.ensures.month (records_of w.months) w.stands) w.text
-    (front_moved c.step.new.self.basin c.args.run.now.basin c.step.new.self.last c.find.new.self.found
+    (prefix_moved c.step.new.self.basin c.args.run.now.basin c.step.new.self.last c.find.new.self.found
     (g.K.Sink.taken c.args.out.now) (g.K.Sink.taken c.put_found.new.out) c.step.ensures.basin
     c.in_err-put_found.ensures.text)
     (stood_done c.args.run.now c.step.new.self (records_of w.months) c.step.new.self.last w.stands

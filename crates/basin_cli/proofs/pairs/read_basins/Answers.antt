@@ -11,9 +11,9 @@ returns-in_err-match_months-clause-stops g c =
     let p = err_from_is_err_and c.from_residual-in_err-match_months.result
     c.from_residual-in_err-match_months.ensures.1 in
     rw (p.1, p.2)
-    (other_run (named c.args.inputs) c.args.second.now (g.S.Shelf.told c.args.shelf.now) _ c.in_ok-basin.basin
+    (other_run (named c.args.inputs) c.args.second.now (g.S.Shelf.known c.args.shelf.now) _ c.in_ok-basin.basin
     c.in_ok-other.other
     c.in_ok-basin.ensures.text
     (subst (λ (o : Option (List ℕ)). IfSome o (IsBasinText c.in_ok-other.other))
-    (c.in_ok-basin.ensures.same.told c.args.second.now)
+    (c.in_ok-basin.ensures.same.known c.args.second.now)
     c.in_ok-other.ensures.text) c.in_err-match_months.field-0.0 c.in_err-match_months.ensures)

@@ -1,34 +1,35 @@
 use Rattle.basin_cli.proofs.Outcomes.{quiet, told_not, completes}
 use Rattle.basin_cli.proofs.top.basin_main.Goals as goal
-use Rattle.basin_cli.proofs.top.basin_main.Goals.{then-is_told, else-is_told}
+use Rattle.basin_cli.proofs.top.basin_main.Goals.{then-has_line_on_err, else-has_line_on_err}
 
 pub returns-clause-ends : goal.returns-clause-ends
 returns-clause-ends g c = record {
   how = c.decide-ending.result;
   status_is = c.status.ensures;
   cause = c.decide-ending.ensures.cause;
-  tells = elim c.if-is_told.branch [
-    | then-is_told w ↦ rw w.err-is w.tell.ensures.tells
-    | else-is_told w ↦
+  tells = elim c.if-has_line_on_err.branch [
+    | then-has_line_on_err w ↦ rw w.err-is w.print_ending.ensures.tells
+    | else-has_line_on_err w ↦
         rw w.err-is
         (quiet c.decide-ending.result (g.E.Sink.taken c.args.err.now) (g.E.Sink.faults c.args.err.now)
-        (λ told. told_not w.if-is_told.false (c.is_told.ensures.1 told)))
+        (λ known. told_not w.if-has_line_on_err.false (c.has_line_on_err.ensures.1 known)))
   ];
 }
 
 pub returns-clause-complete : goal.returns-clause-complete
 returns-clause-complete g c =
-    rw c.status.ensures (completes _ c.decide-ending.result (g.S.Shelf.told c.args.shelf.now) _ _
+    rw c.status.ensures (completes _ c.decide-ending.result (g.S.Shelf.known c.args.shelf.now) _ _
     c.decide-ending.ensures.cause)
 
 pub returns-clause-out_stays : goal.returns-clause-out_stays
 returns-clause-out_stays g c = rw c.status.ensures c.decide-ending.ensures.out_stays
 
-pub returns-clause-handed : goal.returns-clause-handed
-returns-clause-handed g c = rw c.status.ensures c.decide-ending.ensures.handed
+pub returns-clause-flushed : goal.returns-clause-flushed
+returns-clause-flushed g c = rw c.status.ensures c.decide-ending.ensures.flushed
 
-pub returns-clause-err_handed : goal.returns-clause-err_handed
-returns-clause-err_handed g c = λ told sound. elim c.if-is_told.branch [
-  | then-is_told w ↦ rw w.err-is (w.tell.ensures.handed (λ rose. sound (rw w.err-is rose)))
-  | else-is_told w ↦ absurd (told_not w.if-is_told.false (c.is_told.ensures.1 (rw (← c.status.ensures) told)))
+pub returns-clause-err_flushed : goal.returns-clause-err_flushed
+returns-clause-err_flushed g c = λ known sound. elim c.if-has_line_on_err.branch [
+  | then-has_line_on_err w ↦ rw w.err-is (w.print_ending.ensures.flushed (λ rose. sound (rw w.err-is rose)))
+  | else-has_line_on_err w ↦ absurd
+      (told_not w.if-has_line_on_err.false (c.has_line_on_err.ensures.1 (rw (← c.status.ensures) known)))
 ]

@@ -23,7 +23,7 @@ returns-in-Err g c = λ count. search (
 
 pub returns : goal.returns
 returns g c = λ count.
-    (let told = g.S.Shelf.told c.args.shelf.now in
+    (let known = g.S.Shelf.known c.args.shelf.now in
     let files = named c.args.inputs in
     let result = c.args.result_name.now in
     let b = c.in-Ok.files.basin in
@@ -36,19 +36,23 @@ returns g c = λ count.
     let new = g.K.Sink.taken c.check_file.new.out in
     record {
       cause =
-          checking_cause c.args.question told files result b series how read write c.in-Ok.ensures.valid c.in-Ok.ensures.fits
+          checking_cause c.args.question known files result b series how read write c.in-Ok.ensures.valid
+          c.in-Ok.ensures.fits
           c.in-Ok.ensures.loaded
-          (ends_later c.args.question b series (told result) how mid read write (rose_since _ _ _ c.in-Ok.ensures.later)
-          (subst (λ (o : Option (List ℕ)). EndsChecking c.args.question b series o how mid write) (c.in-Ok.ensures.same.told result)
+          (ends_later c.args.question b series (known result) how mid read write
+          (rose_since _ _ _ c.in-Ok.ensures.later)
+          (subst (λ (o : Option (List ℕ)). EndsChecking c.args.question b series o how mid write)
+          (c.in-Ok.ensures.same.known result)
           c.check_file.ensures.ends));
-      can_be_told = search rules;
+      can_be_printed = search rules;
       writes =
-          checking_writes c.args.question told files result b series how old new c.in-Ok.ensures.fits c.in-Ok.ensures.loaded
+          checking_writes c.args.question known files result b series how old new c.in-Ok.ensures.fits
+          c.in-Ok.ensures.loaded
           (subst (λ (o : Option (List ℕ)). IfSome o (λ text. MayWrite (status_of how) →
           LeavesAnswer c.args.question b series text (status_of how) old new))
-          (c.in-Ok.ensures.same.told result) c.check_file.ensures.leaves);
+          (c.in-Ok.ensures.same.known result) c.check_file.ensures.leaves);
       out_stays = c.check_file.ensures.out_stays;
-      handed = c.check_file.ensures.handed;
+      flushed = c.check_file.ensures.flushed;
       unread =
           unread
           (AsksNot files result (g.S.Shelf.asked c.args.shelf.now) (g.S.Shelf.asked c.check_file.new.shelf)) how

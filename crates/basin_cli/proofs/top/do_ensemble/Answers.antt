@@ -5,24 +5,24 @@ use Rattle.basin_cli.proofs.top.do_ensemble.Goals as goal
 
 pub returns : goal.returns
 returns g c =
-    let told = g.S.Shelf.told c.args.shelf.now in
+    let known = g.S.Shelf.known c.args.shelf.now in
     let files = named c.args.inputs in
     let b = c.in-Ok.files.basin in
     let series = c.in-Ok.files.series in
-    let how = c.gather_basin.result in
+    let how = c.ensemble_basin.result in
     record {
       cause =
-          gathering_cause told files b series how _ _ c.in-Ok.ensures.whole c.in-Ok.ensures.loaded
-          c.gather_basin.ensures.ends;
-      can_be_told = search rules;
+          gathering_cause known files b series how _ _ c.in-Ok.ensures.whole c.in-Ok.ensures.loaded
+          c.ensemble_basin.ensures.ends;
+      can_be_printed = search rules;
       writes =
-          gathering_writes told files b series how _ _ c.in-Ok.ensures.fits c.in-Ok.ensures.loaded
-          c.gather_basin.ensures.leaves;
-      out_stays = c.gather_basin.ensures.out_stays;
-      handed = c.gather_basin.ensures.handed;
+          gathering_writes known files b series how _ _ c.in-Ok.ensures.fits c.in-Ok.ensures.loaded
+          c.ensemble_basin.ensures.leaves;
+      out_stays = c.ensemble_basin.ensures.out_stays;
+      flushed = c.ensemble_basin.ensures.flushed;
       unread = tt;
-      idle = λ refused. absurd (c.gather_basin.ensures.idle refused);
+      idle = λ refused. absurd (c.ensemble_basin.ensures.idle refused);
       pushes =
-          gathering_pushes (told files.basin) b c.args.searches.now c.gather_basin.new.searches
-          c.in-Ok.ensures.loaded.from_basin c.gather_basin.ensures.pushes;
+          gathering_pushes (known files.basin) b c.args.searches.now c.ensemble_basin.new.searches
+          c.in-Ok.ensures.loaded.from_basin c.ensemble_basin.ensures.pushes;
     }

@@ -7,7 +7,7 @@ use Rattle.basin_cli.proofs.top.do_why.Goals as goal
 
 pub returns : goal.returns
 returns g c =
-    let told = g.S.Shelf.told c.args.shelf.now in
+    let known = g.S.Shelf.known c.args.shelf.now in
     let files = named c.args.inputs in
     let right = c.args.right.now in
     let b = c.in-Ok.files.basin in
@@ -15,18 +15,19 @@ returns g c =
     let how = c.explain_right.result in
     record {
       cause =
-          asking_cause told files c.args.month right b series how _ _ c.in-Ok.ensures.valid c.in-Ok.ensures.fits
+          asking_cause known files c.args.month right b series how _ _ c.in-Ok.ensures.valid c.in-Ok.ensures.fits
           c.in-Ok.ensures.loaded
           (rw c.as_bytes.ensures.value at c.explain_right.ensures.ends);
-      can_be_told = search rules;
+      can_be_printed = search rules;
       writes =
-          asking_writes c.args.account told files c.args.month right b series how _ _ c.in-Ok.ensures.fits c.in-Ok.ensures.loaded
+          asking_writes c.args.account known files c.args.month right b series how _ _ c.in-Ok.ensures.fits
+          c.in-Ok.ensures.loaded
           (rw c.as_bytes.ensures.value at c.explain_right.ensures.answers);
       out_stays = c.explain_right.ensures.out_stays;
-      handed = c.explain_right.ensures.handed;
+      flushed = c.explain_right.ensures.flushed;
       unread = tt;
       idle = λ stopped. c.explain_right.ensures.idle (stopped_writes (status_of how) stopped);
       pushes =
-          asking_solves told files c.args.month b series c.args.searches.now c.explain_right.new.searches
+          asking_solves known files c.args.month b series c.args.searches.now c.explain_right.new.searches
           c.in-Ok.ensures.loaded c.explain_right.ensures.pushes;
     }

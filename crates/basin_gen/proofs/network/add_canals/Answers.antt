@@ -2,15 +2,15 @@ use Rattle.std.proofs.Common.{◌≡◌, sym, ap, ◌∙◌, arith, ◌+◌, ◌
 use Rattle.basin_gen.specs.Draws.{next}
 use Rattle.basin_gen.specs.Entries.{canal_at}
 use Rattle.basin_gen.specs.Generator.{canals_of}
-use Rattle.basin_gen.proofs.DrawLaws.{later_none, later_two, none_behind, pushed_behind}
+use Rattle.basin_gen.proofs.DrawLaws.{later_none, later_two, none_after, pushed_after}
 use Rattle.basin_gen.proofs.network.add_canals.Goals as goal
 
 pub loop-j-init : goal.loop-j-init
-loop-j-init c = (none_behind _ _, sym (later_none _))
+loop-j-init c = (none_after _ _, sym (later_none _))
 
 pub loop-j-preserved : goal.loop-j-preserved
 loop-j-preserved c = (
-  pushed_behind _ c.loop-j.j c.args.links.now.items c.loop-j.links.items c.push.new.self.items c.canal.result
+  pushed_after _ c.loop-j.j c.args.links.now.items c.loop-j.links.items c.push.new.self.items c.canal.result
       c.loop-j.invariant.0
       (c.canal.ensures.value ∙ ap (λ x. canal_at c.args.size (4 * c.loop-j.j + 1) x) c.loop-j.invariant.1)
       c.in_ok-push.ensures.items,

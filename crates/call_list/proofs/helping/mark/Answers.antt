@@ -1,9 +1,9 @@
 use Rattle.std.proofs.Common.{arith, refl}
-use Rattle.call_list.proofs.Keeping.{front_none, front_whole}
+use Rattle.call_list.proofs.Keeping.{prefix_none, prefix_whole}
 use Rattle.call_list.proofs.helping.mark.Goals as goal
 
 pub loop-node-init : goal.loop-node-init
-loop-node-init c = front_none c.args.cuts.now c.args.right c.args.set.now c.requires.nodes c.requires.empty
+loop-node-init c = prefix_none c.args.cuts.now c.args.right c.args.set.now c.requires.nodes c.requires.empty
 
 pub add-requires-clause-right : goal.add-requires-clause-right
 add-requires-clause-right c = omega (arith, c.loop-node.invariant.holds.rights)
@@ -16,5 +16,5 @@ add-requires-clause-held c = rw c.loop-node.invariant.holds.is refl
 
 pub returns : goal.returns
 returns c =
-    front_whole c.args.cuts.now c.loop-node.cuts c.args.right c.args.set.now c.loop-node.node (omega arith)
+    prefix_whole c.args.cuts.now c.loop-node.cuts c.args.right c.args.set.now c.loop-node.node (omega arith)
     c.loop-node.invariant

@@ -3,8 +3,8 @@ use Rattle.std.specs.List.{flat_map}
 use Rattle.std.specs.Io.KnownBytes.{Appends}
 use Rattle.cut_cert.specs.Sets.{cut_at}
 use Rattle.result_text.proofs.Entries.{place_at, places_end}
-use Rattle.water_edge.proofs.Puts.{PutsFront, SoFar-none, SoFar-next, SoFar-fails, SoFar-whole}
-use Rattle.water_model.specs.Places.{places_of}
+use Rattle.water_edge.proofs.Puts.{PutsPrefix, SoFar-none, SoFar-next, SoFar-fails, SoFar-whole}
+use Rattle.water_model.specs.Indices.{indices_of}
 use Rattle.call_list.specs.Entries.{whole_line}
 use Rattle.call_list.specs.Helping.{node_lines}
 use Rattle.call_list.specs.declared.entry.Entry.{Entry}
@@ -13,7 +13,7 @@ use Rattle.call_list.proofs.helping.put_nodes.Goals as goal
 pub loop-node-init : goal.loop-node-init
 loop-node-init g c =
     SoFar-none (whole_line c.args.basin.now) (node_lines (cut_at c.args.core.now c.args.right))
-    (places_of c.args.basin.now.nodes) (g.K.Sink.taken c.args.sink.now) (g.K.Sink.faults c.args.sink.now)
+    (indices_of c.args.basin.now.nodes) (g.K.Sink.taken c.args.sink.now) (g.K.Sink.faults c.args.sink.now)
 
 pub returns-in_err-put_line-clause-text : goal.returns-in_err-put_line-clause-text
 returns-in_err-put_line-clause-text g c =
@@ -21,8 +21,8 @@ returns-in_err-put_line-clause-text g c =
     let mid = g.K.Sink.taken c.loop-node.sink in
     let new = g.K.Sink.taken c.put_line.new.sink in
     SoFar-fails c.loop-node.node new c.from_residual.result c.loop-node.invariant
-    (place_at (places_of b.nodes) (length b.nodes) c.loop-node.node refl (omega arith))
-    (subst (λ (lines : List Entry). PutsFront mid new (flat_map (whole_line b) lines)) c.node_line.ensures.lines
+    (place_at (indices_of b.nodes) (length b.nodes) c.loop-node.node refl (omega arith))
+    (subst (λ (lines : List Entry). PutsPrefix mid new (flat_map (whole_line b) lines)) c.node_line.ensures.lines
     c.in_err-put_line.ensures.text)
     c.from_residual.ensures.0
 
@@ -32,7 +32,7 @@ loop-node-preserved g c =
     let mid = g.K.Sink.taken c.loop-node.sink in
     let new = g.K.Sink.taken c.put_line.new.sink in
     SoFar-next c.loop-node.node c.loop-node.invariant
-    (place_at (places_of b.nodes) (length b.nodes) c.loop-node.node refl (omega arith))
+    (place_at (indices_of b.nodes) (length b.nodes) c.loop-node.node refl (omega arith))
     (subst (λ (lines : List Entry). Appends mid new (flat_map (whole_line b) lines)) c.node_line.ensures.lines
     c.in_ok-put_line.ensures.text)
     c.in_ok-put_line.ensures.cause.later
@@ -41,4 +41,4 @@ pub returns-clause-text : goal.returns-clause-text
 returns-clause-text g c =
     let b = c.args.basin.now in
     SoFar-whole c.loop-node.invariant
-    (places_end (places_of b.nodes) (length b.nodes) c.loop-node.node refl (omega arith))
+    (places_end (indices_of b.nodes) (length b.nodes) c.loop-node.node refl (omega arith))

@@ -5,7 +5,7 @@ use Rattle.std.specs.List.{flat_map}
 use Rattle.cut_cert.specs.Sets.{cut_at}
 use Rattle.water_edge.specs.Edge.{Puts}
 use Rattle.water_edge.proofs.Puts.{Puts-second, Puts-third}
-use Rattle.water_model.specs.Places.{places_of}
+use Rattle.water_model.specs.Indices.{indices_of}
 use Rattle.call_list.specs.Entries.{IsOfBasin, whole_line}
 use Rattle.call_list.specs.Helping.{link_lines, node_lines}
 use Rattle.call_list.specs.declared.entry.Entry.{Entry}
@@ -38,8 +38,8 @@ returns-in_err-put_nodes-clause-text g c =
     subst (λ (bytes : List ℕ). Puts old new c.from_residual-in_err-put_nodes.result bytes)
     (place_pieces b m r reach core)
     (Puts-second old mid new c.from_residual-in_err-put_nodes.result (whole_line b first)
-    (flat_map (whole_line b) (flat_map (node_lines core) (places_of b.nodes)))
-    (flat_map (whole_line b) (flat_map (link_lines b reach core) (places_of b.links)))
+    (flat_map (whole_line b) (flat_map (node_lines core) (indices_of b.nodes)))
+    (flat_map (whole_line b) (flat_map (link_lines b reach core) (indices_of b.links)))
     c.from_residual-in_err-put_nodes.ensures.0
     (subst (λ (e : Entry). Appends old mid (whole_line b e)) c.first_line.ensures c.in_ok-put_entry.ensures.text)
     c.in_err-put_nodes.ensures.text)
@@ -57,7 +57,7 @@ returns-clause-text g c =
     let new = g.K.Sink.taken c.put_links.new.sink in
     subst (λ (bytes : List ℕ). Puts old new c.put_links.result bytes) (place_pieces b m r reach core)
     (Puts-third old mid (g.K.Sink.taken c.put_nodes.new.sink) new c.put_links.result (whole_line b first)
-    (flat_map (whole_line b) (flat_map (node_lines core) (places_of b.nodes)))
-    (flat_map (whole_line b) (flat_map (link_lines b reach core) (places_of b.links)))
+    (flat_map (whole_line b) (flat_map (node_lines core) (indices_of b.nodes)))
+    (flat_map (whole_line b) (flat_map (link_lines b reach core) (indices_of b.links)))
     (subst (λ (e : Entry). Appends old mid (whole_line b e)) c.first_line.ensures c.in_ok-put_entry.ensures.text)
     c.in_ok-put_nodes.ensures.text c.put_links.ensures.text)

@@ -1,6 +1,6 @@
 use Rattle.std.proofs.Common.{ℕ, ◌≡◌, ◌+◌, slice_index}
 use Rattle.std.specs.Prelude.{◌==◌}
-use Rattle.place_sums.specs.Sums.{total_where}
+use Rattle.finite_sums.specs.Sums.{total_where}
 use Rattle.water_model.specs.Basin.{head_of}
 use Rattle.cert_check.proofs.balancing.add_inflows.Given as goal
 

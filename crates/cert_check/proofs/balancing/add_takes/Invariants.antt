@@ -1,5 +1,5 @@
 use Rattle.std.proofs.Common.{ℕ, ◌≡◌, ◌+◌, slice_index}
-use Rattle.place_sums.specs.Sums.{total_where}
+use Rattle.finite_sums.specs.Sums.{total_where}
 use Rattle.water_model.specs.Basin.{takes_at}
 use Rattle.cert_check.proofs.balancing.add_takes.Given as goal
 

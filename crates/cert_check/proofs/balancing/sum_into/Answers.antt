@@ -2,7 +2,7 @@ use Rattle.std.proofs.Common.{◌≡◌, ◌∙◌, ◌^◌, ap, arith, length}
 use Rattle.std.specs.Prelude.{◌==◌, slice_index}
 use Rattle.water_model.specs.Basin.{head_of}
 use Rattle.water_model.specs.Plans.{inflow_to}
-use Rattle.place_sums.proofs.Totals.{total_where_most}
+use Rattle.finite_sums.proofs.Totals.{total_where_most}
 use Rattle.cert_check.proofs.balancing.sum_into.Goals as goal
 
 pub add_inflows-requires-clause-small : goal.add_inflows-requires-clause-small
@@ -13,4 +13,4 @@ add_inflows-requires-clause-small c = λ n l.
     let copied : slice_index c.copy_from_slice.new.self n ≡ slice_index c.args.month.now.supply n =
     ap (λ xs. slice_index xs n) (c.copy_from_slice.ensures.after ∙ c.as_slice.ensures) in
     let flow = ap (λ xs. inflow_to c.args.basin.now xs n) c.as_slice-2.ensures in
-    omega (arith, sum, copied, c.requires.supply n l, c.requires.basin.few.links, flow)
+    omega (arith, sum, copied, c.requires.supply n l, c.requires.basin.bounded.links, flow)

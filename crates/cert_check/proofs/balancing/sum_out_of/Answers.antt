@@ -2,7 +2,7 @@ use Rattle.std.proofs.Common.{◌≡◌, ◌∙◌, ◌^◌, ap, arith, length}
 use Rattle.std.specs.Prelude.{◌==◌, slice_index}
 use Rattle.water_model.specs.Basin.{tail_of, takes_at}
 use Rattle.water_model.specs.Plans.{outflow_from, taken_at}
-use Rattle.place_sums.proofs.Totals.{total_where_most}
+use Rattle.finite_sums.proofs.Totals.{total_where_most}
 use Rattle.water_model.proofs.Lists.{no_numbers}
 use Rattle.cert_check.proofs.balancing.sum_out_of.Goals as goal
 
@@ -14,7 +14,7 @@ add_outflows-requires-clause-small c = λ n l.
     let none : slice_index c.fill.new.self n ≡ 0 =
     ap (λ xs. slice_index xs n) (c.fill.ensures.after (λ y h. h)) ∙ no_numbers (length c.args.out_of.now) n in
     let flow = ap (λ xs. outflow_from c.args.basin.now xs n) c.as_slice.ensures in
-    omega (arith, sum, none, flow, c.requires.basin.few.links)
+    omega (arith, sum, none, flow, c.requires.basin.bounded.links)
 
 pub add_takes-requires-clause-small : goal.add_takes-requires-clause-small
 add_takes-requires-clause-small c = λ n l.
@@ -36,6 +36,6 @@ add_takes-requires-clause-small c = λ n l.
       flow,
       take,
       c.add_outflows.ensures.each n,
-      c.requires.basin.few.links,
-      c.requires.basin.few.rights,
+      c.requires.basin.bounded.links,
+      c.requires.basin.bounded.rights,
     )

@@ -9,7 +9,7 @@ use Rattle.water_model.specs.Entries.{count_in}
 use Rattle.water_model.specs.OfBasin.{IsOfBasin}
 use Rattle.water_model.specs.Quantities.{space_of}
 use Rattle.water_model.specs.declared.types.MonthRecord.{MonthRecord}
-use Rattle.result_reader.specs.Telling.{Told, tell}
+use Rattle.result_reader.specs.ReadSoFar.{ReadSoFar, read_item}
 use Rattle.cert_check.specs.Checking.{first_row}
 use Rattle.cert_check.specs.Coming.{is_before_called}
 use Rattle.cert_check.specs.Keeping.{Keeps}
@@ -20,26 +20,26 @@ use Rattle.cert_check.proofs.entering.enter.Goals as goal
 
 pub enter_amount-requires : goal.enter_amount-requires
 enter_amount-requires c =
-    let entry : c.in-Amount.entry < count_in (space_of c.in-Amount.quantity) c.args.means.now.basin.now =
-    subst (λ i. IsOfBasin c.args.means.now.basin.now i) c.in-Amount.is c.requires.item in
+    let entry : c.in-Amount.entry < count_in (space_of c.in-Amount.quantity) c.args.context.now.basin.now =
+    subst (λ i. IsOfBasin c.args.context.now.basin.now i) c.in-Amount.is c.requires.item in
     omega (
       arith,
       entry,
-      amounts_sized c.args.means.now.basin.now c.args.account.now.month c.requires.awaits.keeps.month.fits
+      amounts_sized c.args.context.now.basin.now c.args.state.now.month c.requires.awaits.keeps.month.fits
           c.in-Amount.quantity,
     )
 
 pub returns-in-Amount : goal.returns-in-Amount
 returns-in-Amount c = λ t k m good.
-    along c.args.means.now.basin.now c.args.means.now.series.now t _ _ _ _ c.in-Amount.is c.enter_amount.ensures
-    (keeps_amount c.args.means.now.basin.now c.args.means.now.series.now c.args.account.now t c.in-Amount.quantity
+    along c.args.context.now.basin.now c.args.context.now.series.now t _ _ _ _ c.in-Amount.is c.enter_amount.ensures
+    (keeps_amount c.args.context.now.basin.now c.args.context.now.series.now c.args.state.now t c.in-Amount.quantity
     c.in-Amount.entry c.in-Amount.amount k)
 
 pub returns-in-Month : goal.returns-in-Month
 returns-in-Month c = λ t k m good.
-    along c.args.means.now.basin.now c.args.means.now.series.now t _ _ _ _ c.in-Month.is
+    along c.args.context.now.basin.now c.args.context.now.series.now t _ _ _ _ c.in-Month.is
     (c.enter_month.ensures.rest
-    ∙ ap (λ n. record c.args.account.now {
+    ∙ ap (λ n. record c.args.state.now {
       month = n;
       calling = None;
       has_supply = false;
@@ -49,80 +49,82 @@ returns-in-Month c = λ t k m good.
       passed = 0;
       answered = 0;
     }) c.enter_month.ensures.month)
-    (keeps_month c.args.means.now.basin.now c.args.means.now.series.now c.args.account.now t c.in-Month.month
-    (subst (λ i. IsOfBasin c.args.means.now.basin.now i) c.in-Month.is c.requires.item) k)
+    (keeps_month c.args.context.now.basin.now c.args.context.now.series.now c.args.state.now t c.in-Month.month
+    (subst (λ i. IsOfBasin c.args.context.now.basin.now i) c.in-Month.is c.requires.item) k)
 
 pub returns-in-Deliver : goal.returns-in-Deliver
 returns-in-Deliver c = λ t k m good.
-    along c.args.means.now.basin.now c.args.means.now.series.now t _ _ _ _ c.in-Deliver.is c.enter_delivery.ensures
-    (keeps_delivery c.args.means.now.basin.now c.args.means.now.series.now c.args.account.now t c.in-Deliver.right
+    along c.args.context.now.basin.now c.args.context.now.series.now t _ _ _ _ c.in-Deliver.is c.enter_delivery.ensures
+    (keeps_delivery c.args.context.now.basin.now c.args.context.now.series.now c.args.state.now t c.in-Deliver.right
     c.in-Deliver.amount c.in-Deliver.want (m.uncalled (ap is_before_called c.in-Deliver.is)) k)
 
 pub returns-in-Call : goal.returns-in-Call
 returns-in-Call c = λ t k m good.
-    along c.args.means.now.basin.now c.args.means.now.series.now t _ _ _ _ c.in-Call.is c.enter_call.ensures
-    (keeps_call c.args.means.now.basin.now c.args.means.now.series.now c.args.account.now t c.in-Call.right
-    (subst (λ i. IsOfBasin c.args.means.now.basin.now i) c.in-Call.is c.requires.item)
+    along c.args.context.now.basin.now c.args.context.now.series.now t _ _ _ _ c.in-Call.is c.enter_call.ensures
+    (keeps_call c.args.context.now.basin.now c.args.context.now.series.now c.args.state.now t c.in-Call.right
+    (subst (λ i. IsOfBasin c.args.context.now.basin.now i) c.in-Call.is c.requires.item)
     (m.uncalled (ap is_before_called c.in-Call.is)) k)
 
-by_set : (c : goal.After-enter_member) (t : Told) → t.called ≡ 0 → (right : ℕ) →
-    c.args.account.now.calling ≡ Some right → (o : Option (List Bool)) →
-    set_of c.args.account.now.month.cuts right ≡ o → IsSome o →
-    Keeps c.args.means.now.basin.now c.args.means.now.series.now c.args.account.now t →
-    Keeps c.args.means.now.basin.now c.args.means.now.series.now c.enter_member.new.account
-    (tell c.args.means.now.basin.now c.args.means.now.series.now t c.args.item.now)
+by_set : (c : goal.After-enter_member) (t : ReadSoFar) → t.called ≡ 0 → (right : ℕ) →
+    c.args.state.now.calling ≡ Some right → (o : Option (List Bool)) →
+    set_of c.args.state.now.month.cuts right ≡ o → IsSome o →
+    Keeps c.args.context.now.basin.now c.args.context.now.series.now c.args.state.now t →
+    Keeps c.args.context.now.basin.now c.args.context.now.series.now c.enter_member.new.state
+    (read_item c.args.context.now.basin.now c.args.context.now.series.now t c.args.item.now)
 by_set c t none right e None is held k = cc
 by_set c t none right e (Some set) is held k =
-    along c.args.means.now.basin.now c.args.means.now.series.now t _ _ _ _ c.in-Member.is
+    along c.args.context.now.basin.now c.args.context.now.series.now t _ _ _ _ c.in-Member.is
     (c.enter_member.ensures.some right set e is)
-    (keeps_member c.args.means.now.basin.now c.args.means.now.series.now c.args.account.now t c.in-Member.node right
+    (keeps_member c.args.context.now.basin.now c.args.context.now.series.now c.args.state.now t c.in-Member.node right
     set none e is k)
 
-by_call : (c : goal.After-enter_member) (t : Told) → t.called ≡ 0 → (o : Option ℕ) → c.args.account.now.calling ≡ o →
-    Keeps c.args.means.now.basin.now c.args.means.now.series.now c.args.account.now t →
-    Keeps c.args.means.now.basin.now c.args.means.now.series.now c.enter_member.new.account
-    (tell c.args.means.now.basin.now c.args.means.now.series.now t c.args.item.now)
+by_call : (c : goal.After-enter_member) (t : ReadSoFar) → t.called ≡ 0 → (o : Option ℕ) → c.args.state.now.calling ≡ o →
+    Keeps c.args.context.now.basin.now c.args.context.now.series.now c.args.state.now t →
+    Keeps c.args.context.now.basin.now c.args.context.now.series.now c.enter_member.new.state
+    (read_item c.args.context.now.basin.now c.args.context.now.series.now t c.args.item.now)
 by_call c t none None e k =
-    along c.args.means.now.basin.now c.args.means.now.series.now t _ _ _ _ c.in-Member.is
+    along c.args.context.now.basin.now c.args.context.now.series.now t _ _ _ _ c.in-Member.is
     (c.enter_member.ensures.none e)
-    (keeps_stray c.args.means.now.basin.now c.args.means.now.series.now c.args.account.now t c.in-Member.node none e k)
+    (keeps_stray c.args.context.now.basin.now c.args.context.now.series.now c.args.state.now t c.in-Member.node none e
+    k)
 by_call c t none (Some right) e k =
-    by_set c t none right e (set_of c.args.account.now.month.cuts right) refl (k.calling.held right e).1 k
+    by_set c t none right e (set_of c.args.state.now.month.cuts right) refl (k.calling.held right e).1 k
 
 pub returns-in-Member : goal.returns-in-Member
 returns-in-Member c =
-    λ t k m good. by_call c t (m.uncalled (ap is_before_called c.in-Member.is)) c.args.account.now.calling refl k
+    λ t k m good. by_call c t (m.uncalled (ap is_before_called c.in-Member.is)) c.args.state.now.calling refl k
 
 pub returns-in-Called : goal.returns-in-Called
 returns-in-Called c = λ t k m good.
-    along c.args.means.now.basin.now c.args.means.now.series.now t _ _ _ _ c.in-Called.is c.enter_called.ensures.2
-    (keeps_next c.args.means.now.basin.now c.args.means.now.series.now c.args.account.now t c.in-Called.right
+    along c.args.context.now.basin.now c.args.context.now.series.now t _ _ _ _ c.in-Called.is c.enter_called.ensures.2
+    (keeps_next c.args.context.now.basin.now c.args.context.now.series.now c.args.state.now t c.in-Called.right
     c.in-Called.by c.enter_called.ensures.0 k
-    (subst (λ i. first_row c.args.means.now.basin.now c.args.means.now.series.now t i ≡ None) c.in-Called.is good)
+    (subst (λ i. first_row c.args.context.now.basin.now c.args.context.now.series.now t i ≡ None) c.in-Called.is good)
     c.enter_called.ensures.1)
 
 -- what was used is little, as all that was delivered is
 pub enter_end-requires-clause-little : goal.enter_end-requires-clause-little
 enter_end-requires-clause-little c = λ r l.
-    let told = c.requires.awaits.told in
+    let so_far = c.requires.awaits.so_far in
     let partial = c.requires.awaits.comes.partial in
     omega (
       arith,
       c.requires.awaits.keeps.left.used.each r l,
-      used_most c.args.means.now.basin.now (map (λ n. n.delivered) told.months) r
-          (length (map (λ (n : MonthRecord). n.delivered) told.months)) (10 ^ 9)
-          (deliveries_small c.args.means.now.basin.now c.args.means.now.series.now told.months c.requires.means.valid
-          c.requires.means.series partial r),
-      length-map told.months (λ (n : MonthRecord). n.delivered),
+      used_most c.args.context.now.basin.now (map (λ n. n.delivered) so_far.months) r
+          (length (map (λ (n : MonthRecord). n.delivered) so_far.months)) (10 ^ 9)
+          (deliveries_small c.args.context.now.basin.now c.args.context.now.series.now so_far.months
+          c.requires.context.valid
+          c.requires.context.series partial r),
+      length-map so_far.months (λ (n : MonthRecord). n.delivered),
       partial.within,
-      c.requires.means.valid.run.months.1,
+      c.requires.context.valid.run.months.1,
     )
 
 pub returns-in-End : goal.returns-in-End
 returns-in-End c = λ t k m good.
-    along c.args.means.now.basin.now c.args.means.now.series.now t _ _ _ _ c.in-End.is c.enter_end.ensures.rest
-    (keeps_end c.args.means.now.basin.now c.args.means.now.series.now c.args.account.now t c.enter_end.new.account.lags
-    c.enter_end.new.account.comes c.enter_end.new.account.used
+    along c.args.context.now.basin.now c.args.context.now.series.now t _ _ _ _ c.in-End.is c.enter_end.ensures.rest
+    (keeps_end c.args.context.now.basin.now c.args.context.now.series.now c.args.state.now t c.enter_end.new.state.lags
+    c.enter_end.new.state.comes c.enter_end.new.state.used
     (c.enter_end.ensures.lags (map (λ n. n.delivered) t.months) k.left.lags)
     (c.enter_end.ensures.comes (map (λ n. n.delivered) t.months) k.left.lags)
     (c.enter_end.ensures.used (map (λ n. n.delivered) t.months) (length-map t.months (λ n. n.delivered)

@@ -4,11 +4,11 @@ use Rattle.cert_check.proofs.entering.enter_end.Goals as goal
 
 pub returns-clause-lags : goal.returns-clause-lags
 returns-clause-lags c = λ deliveries stands.
-    subst (λ (delivered : List ℕ). lag.StandsFor c.month_done.new.self c.args.basin.now.returns
+    subst (λ (delivered : List ℕ). lag.LagsStandFor c.month_done.new.self c.args.basin.now.returns
     (deliveries ++ delivered ∷ [])) c.as_slice.ensures
     (c.month_done.ensures.stands c.args.basin.now.returns deliveries stands)
 
 pub returns-clause-comes : goal.returns-clause-comes
 returns-clause-comes c = λ deliveries stands.
-    c.bring_back.ensures.each (deliveries ++ c.args.account.now.month.delivered ∷ [])
+    c.write_returns.ensures.each (deliveries ++ c.args.state.now.month.delivered ∷ [])
     (returns-clause-lags c deliveries stands)

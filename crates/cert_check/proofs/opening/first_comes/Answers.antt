@@ -2,4 +2,4 @@ use Rattle.std.proofs.Common.{[]}
 use Rattle.cert_check.proofs.opening.first_comes.Goals as goal
 
 pub returns : goal.returns
-returns c = c.bring_back.ensures.each [] c.requires.lags
+returns c = c.write_returns.ensures.each [] c.requires.lags

@@ -2,7 +2,7 @@ use Rattle.std.proofs.Common.{◌≡◌, ◌≤◌, ℕ}
 use Rattle.std.specs.Prelude.{nat_le, filter}
 use Rattle.std.specs.List.{list_all}
 use Rattle.water_model.specs.Basin.{is_outlet}
-use Rattle.water_model.specs.Places.{numbers_from}
+use Rattle.water_model.specs.Indices.{numbers_from}
 use Rattle.cert_check.proofs.opening.last_outlet.Given as goal
 
 abbrev pub invariant-loop-node : goal.invariant-loop-node

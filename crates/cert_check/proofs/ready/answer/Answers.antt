@@ -3,6 +3,6 @@ use Rattle.cert_check.proofs.ready.answer.Goals as goal
 
 pub returns-in-None-clause-keeps : goal.returns-in-None-clause-keeps
 returns-in-None-clause-keeps c = λ t k.
-    rw c.len-account.ensures (keeps_all c.args.means.now.basin.now c.args.means.now.series.now
-    c.know_callers.new.account t
+    rw c.len-state.ensures (keeps_all c.args.context.now.basin.now c.args.context.now.series.now
+    c.know_callers.new.state t
     (c.know_callers.ensures.keeps t k) c.in-None.ensures)

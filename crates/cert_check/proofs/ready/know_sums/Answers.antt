@@ -1,6 +1,6 @@
 use Rattle.std.proofs.Common.{ap, ◌∙◌, arith, length}
 use Rattle.std.specs.Prelude.{slice_index}
-use Rattle.place_sums.proofs.Totals.{term_le_total}
+use Rattle.finite_sums.proofs.Totals.{term_le_total}
 use Rattle.cert_check.proofs.Bounded.{supplies_small}
 use Rattle.cert_check.proofs.Kept.{keeps_room}
 use Rattle.cert_check.proofs.ready.know_sums.Goals as goal
@@ -8,20 +8,21 @@ use Rattle.cert_check.proofs.ready.know_sums.Goals as goal
 pub make_sums-requires-clause-supply : goal.make_sums-requires-clause-supply
 make_sums-requires-clause-supply c = λ n l.
     let month = c.requires.month in
-    let k = c.know_supply.ensures.keeps month.told month.keeps in
-    let all = supplies_small c.args.means.now.basin.now c.args.means.now.series.now month.told
-    c.know_supply.new.account.month.supply c.requires.means.valid c.requires.means.series month.partial month.under_way
+    let k = c.know_supply.ensures.keeps month.so_far month.keeps in
+    let all = supplies_small c.args.context.now.basin.now c.args.context.now.series.now month.so_far
+    c.know_supply.new.state.month.supply c.requires.context.valid c.requires.context.series month.partial
+    month.under_way
     (k.supply (ap (λ a. a.has_supply) c.know_supply.ensures.rest)) in
     omega (
       arith,
       all,
-      term_le_total (length c.args.means.now.basin.now.nodes)
-          (λ v. slice_index c.know_supply.new.account.month.supply v) n l,
+      term_le_total (length c.args.context.now.basin.now.nodes)
+          (λ v. slice_index c.know_supply.new.state.month.supply v) n l,
     )
 
 pub returns-clause-keeps : goal.returns-clause-keeps
 returns-clause-keeps c = λ t k.
     let known = c.know_supply.ensures.keeps t k in
-    keeps_room c.args.means.now.basin.now c.args.means.now.series.now c.know_supply.new.account t
+    keeps_room c.args.context.now.basin.now c.args.context.now.series.now c.know_supply.new.state t
     c.make_sums.new.into c.make_sums.new.out_of known (c.make_sums.ensures.into ∙ known.room.into)
     (c.make_sums.ensures.out_of ∙ known.room.out_of)

@@ -6,11 +6,12 @@ use Rattle.cert_check.proofs.ready.know_supply.Goals as goal
 pub make_supply-requires-clause-small : goal.make_supply-requires-clause-small
 make_supply-requires-clause-small c = λ n l.
     let month = c.requires.month in
-    let small = node_small c.args.means.now.basin.now c.args.means.now.series.now c.args.account.now.month month.told n
-    c.requires.means.valid c.requires.means.series month.partial month.under_way month.keeps.month.shows l in
+    let small = node_small c.args.context.now.basin.now c.args.context.now.series.now c.args.state.now.month
+    month.so_far n
+    c.requires.context.valid c.requires.context.series month.partial month.under_way month.keeps.month.shows l in
     omega (arith, small)
 
-pub returns-then-not-account-clause-keeps : goal.returns-then-not-account-clause-keeps
-returns-then-not-account-clause-keeps c = λ t k.
+pub returns-then-not-state-clause-keeps : goal.returns-then-not-state-clause-keeps
+returns-then-not-state-clause-keeps c = λ t k.
     rw c.make_supply.ensures
-    (keeps_supply c.args.means.now.basin.now c.args.means.now.series.now c.args.account.now t k)
+    (keeps_supply c.args.context.now.basin.now c.args.context.now.series.now c.args.state.now t k)

@@ -1,7 +1,7 @@
 use Rattle.std.proofs.Common.{length, sym, ap, ◌∙◌, arith}
 use Rattle.water_model.proofs.Order.{length-by_seniority}
 use Rattle.cert_check.proofs.Kept.{keeps_passed}
-use Rattle.cert_check.proofs.Missing.{lacks_told}
+use Rattle.cert_check.proofs.Missing.{lacks_read}
 use Rattle.cert_check.proofs.ready.pass.Goals as goal
 
 pub pass_over-requires-clause-from : goal.pass_over-requires-clause-from
@@ -9,14 +9,15 @@ pass_over-requires-clause-from c =
     omega (
       arith,
       c.requires.awaits.keeps.passed.within,
-      ap length (c.by_seniority-order.ensures ∙ c.requires.means.roll.order),
-      length-by_seniority c.args.means.now.basin.now.rights,
+      ap length (c.by_seniority-order.ensures ∙ c.requires.context.roll.order),
+      length-by_seniority c.args.context.now.basin.now.rights,
     )
 
 pub returns-in-Some-clause-keeps : goal.returns-in-Some-clause-keeps
 returns-in-Some-clause-keeps c = λ t k.
-    keeps_passed c.args.means.now.basin.now c.args.means.now.series.now c.args.account.now t c.in-Some.count k (record {
-      within = omega (arith, c.in-Some.ensures.within, length-by_seniority c.args.means.now.basin.now.rights);
-      each = sym (lacks_told c.args.means.now.basin.now c.args.means.now.series.now c.args.account.now t k _)
+    keeps_passed c.args.context.now.basin.now c.args.context.now.series.now c.args.state.now t c.in-Some.count k
+    (record {
+      within = omega (arith, c.in-Some.ensures.within, length-by_seniority c.args.context.now.basin.now.rights);
+      each = sym (lacks_read c.args.context.now.basin.now c.args.context.now.series.now c.args.state.now t k _)
           ∙ c.in-Some.ensures.settled;
     })

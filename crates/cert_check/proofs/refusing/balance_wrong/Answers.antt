@@ -5,8 +5,8 @@ use Rattle.cert_check.proofs.refusing.balance_wrong.Goals as goal
 pub returns : goal.returns
 returns c = λ t k.
     c.is_uneven.ensures t k
-    ∙ last_is c.args.means.now.basin.now c.args.means.now.last_outlet c.args.node _ c.requires.means.last
-    (omega (arith, c.if-node-means.false))
+    ∙ last_is c.args.context.now.basin.now c.args.context.now.last_outlet c.args.node _ c.requires.context.last
+    (omega (arith, c.if-node-context.false))
 
 pub is_uneven-requires-clause-sums : goal.is_uneven-requires-clause-sums
-is_uneven-requires-clause-sums c = c.requires.ready (omega (arith, c.if-node-means.false))
+is_uneven-requires-clause-sums c = c.requires.ready (omega (arith, c.if-node-context.false))

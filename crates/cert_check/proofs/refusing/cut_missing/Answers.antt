@@ -8,16 +8,16 @@ pass_over-requires-clause-from c =
     omega (
       arith,
       c.requires.awaits.keeps.passed.within,
-      ap length (c.by_seniority-order.ensures ∙ c.requires.means.roll.order),
-      length-by_seniority c.args.means.now.basin.now.rights,
+      ap length (c.by_seniority-order.ensures ∙ c.requires.context.roll.order),
+      length-by_seniority c.args.context.now.basin.now.rights,
     )
 
 pub returns-in-Some : goal.returns-in-Some
 returns-in-Some c = λ t k.
-    sym (none_missed c.args.means.now.basin.now c.args.means.now.series.now c.args.account.now t c.args.item.now
-    c.in-Some.field-0 c.requires.means.valid k c.in-Some.ensures)
+    sym (none_missed c.args.context.now.basin.now c.args.context.now.series.now c.args.state.now t c.args.item.now
+    c.in-Some.field-0 c.requires.context.valid k c.in-Some.ensures)
 
 pub returns-in-None : goal.returns-in-None
 returns-in-None c = λ t k.
-    sym (some_missed c.args.means.now.basin.now c.args.means.now.series.now c.args.account.now t c.args.item.now k
+    sym (some_missed c.args.context.now.basin.now c.args.context.now.series.now c.args.state.now t c.args.item.now k
     c.in-None.ensures)

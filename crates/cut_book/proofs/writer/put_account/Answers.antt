@@ -2,16 +2,16 @@ use Rattle.std.proofs.Common.{ℕ, List, [], ◌∷◌, refl, subst}
 use Rattle.std.specs.Prelude.{slice_index}
 use Rattle.water_edge.specs.Edge.{Puts}
 use Rattle.water_edge.proofs.Puts.{Puts-cut, Puts-then}
-use Rattle.cut_book.specs.Shortages.{ShortageSeen, shortage, bytes_of, terms_of}
-use Rattle.cut_book.specs.declared.entry.Entry.{Entry}
-use Rattle.cut_book.specs.declared.entry.Entry.TheVariants as line
+use Rattle.cut_book.specs.Shortages.{ShortageView, shortage, bytes_of, terms_of}
+use Rattle.cut_book.specs.declared.entry.BookLine.{BookLine}
+use Rattle.cut_book.specs.declared.entry.BookLine.TheVariants as line
 use Rattle.cut_book.proofs.Written.{account_pieces}
 use Rattle.cut_book.proofs.writer.put_account.Goals as goal
 
 pub returns-in_err-put_terms-clause-text : goal.returns-in_err-put_terms-clause-text
 returns-in_err-put_terms-clause-text g c =
-    let s : ShortageSeen = shortage c.args.basin.now c.args.roll.now c.args.month.now c.args.cuts.now c.args.right in
-    let sum : Entry = line.Sum (slice_index s.month.delivered s.right) in
+    let s : ShortageView = shortage c.args.basin.now c.args.roll.now c.args.month.now c.args.cuts.now c.args.right in
+    let sum : BookLine = line.Sum (slice_index s.month.delivered s.right) in
     let old = g.K.Sink.taken c.args.sink.now in
     let new = g.K.Sink.taken c.put_terms.new.sink in
     subst (λ (bytes : List ℕ). Puts old new c.from_residual.result bytes) (account_pieces s sum refl c.requires.tight)
@@ -20,7 +20,7 @@ returns-in_err-put_terms-clause-text g c =
 
 pub returns-clause-text : goal.returns-clause-text
 returns-clause-text g c =
-    let s : ShortageSeen = shortage c.args.basin.now c.args.roll.now c.args.month.now c.args.cuts.now c.args.right in
+    let s : ShortageView = shortage c.args.basin.now c.args.roll.now c.args.month.now c.args.cuts.now c.args.right in
     let old = g.K.Sink.taken c.args.sink.now in
     let new = g.K.Sink.taken c.put_entry.new.sink in
     subst (λ (bytes : List ℕ). Puts old new c.put_entry.result bytes)

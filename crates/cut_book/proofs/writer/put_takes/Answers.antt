@@ -2,7 +2,7 @@ use Rattle.std.proofs.Common.{arith, sym, ap, get_or, length}
 use Rattle.calls.proofs.Search.{order_in_range}
 use Rattle.result_text.proofs.Entries.{right_at}
 use Rattle.water_edge.proofs.Puts.{SoFar-none, SoFar-next, SoFar-fails, SoFar-whole}
-use Rattle.water_model.specs.Places.{seniors_first}
+use Rattle.water_model.specs.Indices.{seniors_first}
 use Rattle.cut_book.specs.Entries.{whole_line}
 use Rattle.cut_book.specs.Shortages.{lines_of}
 use Rattle.cut_book.specs.declared.part.Part.TheVariants as part

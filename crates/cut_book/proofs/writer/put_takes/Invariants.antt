@@ -1,5 +1,5 @@
 use Rattle.water_edge.proofs.Puts.{SoFar}
-use Rattle.water_model.specs.Places.{seniors_first}
+use Rattle.water_model.specs.Indices.{seniors_first}
 use Rattle.cut_book.specs.Entries.{whole_line}
 use Rattle.cut_book.specs.Shortages.{lines_of}
 use Rattle.cut_book.specs.declared.part.Part.TheVariants as part

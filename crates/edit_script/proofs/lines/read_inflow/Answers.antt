@@ -1,12 +1,12 @@
 use Rattle.std.proofs.Common.{◌∙◌, ap, sym, arith}
 use Rattle.water_model.specs.Hydrology.{place_in}
 use Rattle.water_model.proofs.Gauges.{gauge_within, gauges_rise}
-use Rattle.edit_script.proofs.Columns.{few_gauges}
+use Rattle.edit_script.proofs.Columns.{bounded_gauges}
 use Rattle.edit_script.proofs.lines.read_inflow.Goals as goal
 
-pub place_of-gauge-requires-clause-few : goal.place_of-gauge-requires-clause-few
-place_of-gauge-requires-clause-few c =
-    rw c.as_slice.ensures (omega (arith, few_gauges _ _ c.requires.basin c.requires.series))
+pub place_of-gauge-requires-clause-bounded : goal.place_of-gauge-requires-clause-bounded
+place_of-gauge-requires-clause-bounded c =
+    rw c.as_slice.ensures (omega (arith, bounded_gauges _ _ c.requires.basin c.requires.series))
 
 pub place_of-gauge-requires-clause-rising : goal.place_of-gauge-requires-clause-rising
 place_of-gauge-requires-clause-rising c =

@@ -1,12 +1,12 @@
 use Rattle.std.proofs.Common.{◌∙◌, ap, sym, arith}
 use Rattle.water_model.specs.Hydrology.{place_in}
 use Rattle.water_model.proofs.Gauges.{wanted_rise, wanted_within}
-use Rattle.edit_script.proofs.Columns.{few_wants}
+use Rattle.edit_script.proofs.Columns.{bounded_wants}
 use Rattle.edit_script.proofs.lines.read_want.Goals as goal
 
-pub place_of-place-requires-clause-few : goal.place_of-place-requires-clause-few
-place_of-place-requires-clause-few c =
-    rw c.as_slice.ensures (omega (arith, few_wants _ _ c.requires.basin c.requires.series))
+pub place_of-place-requires-clause-bounded : goal.place_of-place-requires-clause-bounded
+place_of-place-requires-clause-bounded c =
+    rw c.as_slice.ensures (omega (arith, bounded_wants _ _ c.requires.basin c.requires.series))
 
 pub place_of-place-requires-clause-rising : goal.place_of-place-requires-clause-rising
 place_of-place-requires-clause-rising c =

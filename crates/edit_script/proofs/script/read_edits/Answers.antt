@@ -12,7 +12,7 @@ pub returns-then-eq-clause-reads : goal.returns-then-eq-clause-reads
 returns-then-eq-clause-reads c =
     answered _ _ c.end_of.result
     (end_taken c.args.names.now.basin.now c.args.series.now _ c.loop-line.edits.items c.loop-line.number
-    c.loop-line.rest.now c.in-Some.line.now c.in-Some.behind.now
+    c.loop-line.rest.now c.in-Some.line.now c.in-Some.after.now
     c.loop-line.invariant.so_far c.in-Some.ensures.some (sym (ap (bytes_eq c.in-Some.line.now) c.as_slice.ensures)
     ∙ (sym c.eq.ensures ∙ c.if-eq.true)))
     c.end_of.ensures
@@ -23,7 +23,7 @@ returns-in_err-edit-clause-reads c =
     rw (p.1, p.2)
     (refusal_of _ _
     (line_refused c.args.names.now.basin.now c.args.series.now _ c.loop-line.edits.items c.loop-line.number
-    c.loop-line.rest.now c.in-Some.line.now c.in-Some.behind.now
+    c.loop-line.rest.now c.in-Some.line.now c.in-Some.after.now
     c.in_err-edit.field-0.0 c.loop-line.invariant.so_far c.in-Some.ensures.some
     (sym (ap (bytes_eq c.in-Some.line.now) c.as_slice.ensures) ∙ (sym c.eq.ensures ∙ c.if-eq.false))
     c.in_err-edit.ensures.reads))
@@ -35,7 +35,7 @@ loop-line-preserved c =
     record {
       so_far = rw items
           (line_taken c.args.names.now.basin.now c.args.series.now _ c.loop-line.edits.items c.loop-line.number
-          c.loop-line.rest.now c.in-Some.line.now c.in-Some.behind.now
+          c.loop-line.rest.now c.in-Some.line.now c.in-Some.after.now
           c.in_ok-edit.edit c.loop-line.invariant.so_far c.in-Some.ensures.some
           (sym (ap (bytes_eq c.in-Some.line.now) c.as_slice.ensures) ∙ (sym c.eq.ensures ∙ c.if-eq.false))
           c.in_ok-edit.ensures.reads);

@@ -4,10 +4,10 @@ use Rattle.std.proofs.Math.Nat.{mul-le-mul_right, add-mul}
 use Rattle.water_model.specs.declared.types.Basin.{Basin}
 use Rattle.water_model.specs.declared.types.Inflows.{Inflows}
 use Rattle.water_model.specs.declared.types.MonthRecord.{MonthRecord}
-use Rattle.month_fold.specs.Runs.{EngineSeen, StandsFor, run_with}
-use Rattle.month_fold.proofs.Resuming.{have_deliveries, stored_count, tell_use}
-use Rattle.edit_session.specs.Sessions.{IsKept, records_of}
-use Rattle.water_model.proofs.Lists.{take_front}
+use Rattle.month_fold.specs.Runs.{EngineView, RunStandsFor, run_with}
+use Rattle.month_fold.proofs.Resuming.{have_deliveries, stored_count, state_use}
+use Rattle.edit_session.specs.Sessions.{HasKeptMonths, records_of}
+use Rattle.water_model.proofs.Lists.{take_prefix}
 use Rattle.edit_session.proofs.solving.solve_months.Goals as goal
 use Rattle.senior_hold.specs.MonthNetwork.{month_pushes}
 
@@ -24,26 +24,26 @@ pushes_within start after i kept count p l many =
     let most : (i - kept) * p ≤ (count - kept) * p = mul-le-mul_right p (omega arith) in omega arith
 
 -- the months of a run may be kept
-kept_of_run : (engine : EngineSeen) (b : Basin) (series : Inflows) (records : List MonthRecord) (done : ℕ) →
-    engine.basin ≡ b → StandsFor (run_with engine series done) records →
-    IsKept (record { basin = b; series = series; kept = records })
+kept_of_run : (engine : EngineView) (b : Basin) (series : Inflows) (records : List MonthRecord) (done : ℕ) →
+    engine.basin ≡ b → RunStandsFor (run_with engine series done) records →
+    HasKeptMonths (record { basin = b; series = series; kept = records })
 kept_of_run engine b series records done e stands = record {
   partial = rw (← e) stands.partial;
   reaches = rw (← e) stands.reaches;
 }
 
-pub go_behind-requires-clause-deliveries : goal.go_behind-requires-clause-deliveries
-go_behind-requires-clause-deliveries g c =
+pub start_after-requires-clause-deliveries : goal.start_after-requires-clause-deliveries
+start_after-requires-clause-deliveries g c =
     rw c.as_slice.ensures.value (have_deliveries (λ m. m.value) c.args.engine.now.basin c.args.series.now
     c.args.kept.now.items c.requires.basin c.requires.series c.requires.kept.partial)
 
-pub go_behind-requires-clause-told : goal.go_behind-requires-clause-told
-go_behind-requires-clause-told g c =
-    rw c.as_slice.ensures.value (tell_use c.args.engine.now.basin c.args.series.now (records_of c.args.kept.now.items)
+pub start_after-requires-clause-stated : goal.start_after-requires-clause-stated
+start_after-requires-clause-stated g c =
+    rw c.as_slice.ensures.value (state_use c.args.engine.now.basin c.args.series.now (records_of c.args.kept.now.items)
     c.requires.basin c.requires.series c.requires.kept.partial)
 
-pub go_behind-requires-clause-stored : goal.go_behind-requires-clause-stored
-go_behind-requires-clause-stored g c =
+pub start_after-requires-clause-stored : goal.start_after-requires-clause-stored
+start_after-requires-clause-stored g c =
     rw c.as_slice.ensures.value (stored_count c.args.engine.now.basin c.args.series.now
     (records_of c.args.kept.now.items) c.requires.kept.partial)
 
@@ -52,12 +52,12 @@ loop-index-init g c =
     let count : length c.args.kept.now.items ≡ c.len-index.result =
     sym (ap length c.as_slice.ensures.value) ∙ c.as_slice.ensures.len ∙ sym c.len-index.ensures in
     let stands =
-    c.go_behind.ensures.stands c.args.series.now (rw c.go_behind.ensures.basin c.requires.series)
-    (rw (c.go_behind.ensures.basin, c.as_slice.ensures.value) c.requires.kept.partial)
-    (rw (c.go_behind.ensures.basin, c.as_slice.ensures.value) c.requires.kept.reaches) in
+    c.start_after.ensures.stands c.args.series.now (rw c.start_after.ensures.basin c.requires.series)
+    (rw (c.start_after.ensures.basin, c.as_slice.ensures.value) c.requires.kept.partial)
+    (rw (c.start_after.ensures.basin, c.as_slice.ensures.value) c.requires.kept.reaches) in
     record {
-      basin = c.go_behind.ensures.basin;
-      stands = subst (λ (n : ℕ). StandsFor (run_with c.go_behind.new.self c.args.series.now n)
+      basin = c.start_after.ensures.basin;
+      stands = subst (λ (n : ℕ). RunStandsFor (run_with c.start_after.new.self c.args.series.now n)
           (records_of c.args.kept.now.items)) count (rw c.as_slice.ensures.value at stands);
       count = sym c.len-index.ensures;
       stay = ap (λ n. take n c.args.kept.now.items) (sym c.as_slice.ensures.len ∙ ap length c.as_slice.ensures.value)
@@ -79,7 +79,7 @@ loop-index-preserved g c = record {
   stands = c.in_ok-add_month.ensures.stands;
   count = c.in_ok-add_month.ensures.count ∙ ap (λ n. n + 1) c.loop-index.invariant.count;
   stay =
-      sym (take_front c.add_month.new.kept.items c.loop-index.kept.len c.args.kept.now.len (omega arith))
+      sym (take_prefix c.add_month.new.kept.items c.loop-index.kept.len c.args.kept.now.len (omega arith))
       ∙ ap (take c.args.kept.now.len) c.in_ok-add_month.ensures.stay ∙ c.loop-index.invariant.stay;
   pushes =
       pushes_more c.args.searches.now c.loop-index.searches c.add_month.new.searches c.loop-index.index

@@ -1,5 +1,5 @@
 use Rattle.std.proofs.Common.{◌≡◌, ◌+◌, ◌-◌, ◌*◌, ◌≤◌, take, vec_len}
-use Rattle.month_fold.specs.Runs.{StandsFor, run_with}
+use Rattle.month_fold.specs.Runs.{RunStandsFor, run_with}
 use Rattle.edit_session.specs.Sessions.{records_of}
 use Rattle.edit_session.proofs.solving.solve_months.Given as goal
 use Rattle.senior_hold.specs.MonthNetwork.{month_pushes}
@@ -7,7 +7,7 @@ use Rattle.senior_hold.specs.MonthNetwork.{month_pushes}
 abbrev pub invariant-loop-index : goal.invariant-loop-index
 invariant-loop-index g l = record {
   basin : l.engine.basin ≡ l.fn.engine.basin;
-  stands : StandsFor (run_with l.engine l.series l.index) (records_of l.kept.items);
+  stands : RunStandsFor (run_with l.engine l.series l.index) (records_of l.kept.items);
   count : vec_len l.kept ≡ l.index;
   stay : take (vec_len l.initial.kept) l.kept.items ≡ l.initial.kept.items;
   pushes : l.searches ≤ l.initial.searches + (l.index - vec_len l.initial.kept) * month_pushes l.fn.engine.basin;

@@ -1,7 +1,7 @@
 use Rattle.std.proofs.Common.{ℕ, List, [], subst}
 use Rattle.std.specs.Prelude.{slice_index_or}
 use Rattle.std.specs.List.{flat_map}
-use Rattle.water_edge.proofs.Puts.{PutsFront}
+use Rattle.water_edge.proofs.Puts.{PutsPrefix}
 use Rattle.index_seq.specs.Entries.{whole_line}
 use Rattle.index_seq.specs.Text.{ensemble_lines}
 use Rattle.index_seq.proofs.Lines.{text_cut}
@@ -11,6 +11,6 @@ pub returns-clause-text : goal.returns-clause-text
 returns-clause-text g c =
     text_cut c.args.basin.now c.args.series.now c.in-Ok.all.amounts (g.K.Sink.taken c.args.sink.now)
     (g.K.Sink.taken c.put_ensemble.new.sink) c.in-Ok.ensures.lines
-    (subst (λ (xs : List (List ℕ)). PutsFront (g.K.Sink.taken c.args.sink.now) (g.K.Sink.taken c.put_ensemble.new.sink)
+    (subst (λ (xs : List (List ℕ)). PutsPrefix (g.K.Sink.taken c.args.sink.now) (g.K.Sink.taken c.put_ensemble.new.sink)
     (flat_map (whole_line c.args.basin.now) (ensemble_lines c.args.basin.now (λ r. slice_index_or xs r []))))
     c.as_slice.ensures c.in-Err-put_ensemble.ensures.text)

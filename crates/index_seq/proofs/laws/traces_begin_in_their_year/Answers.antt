@@ -1,4 +1,4 @@
-use Rattle.index_seq.proofs.Turning.{begun_is}
+use Rattle.index_seq.proofs.Rotation.{begun_is}
 use Rattle.index_seq.proofs.laws.traces_begin_in_their_year.Goals as goal
 
 pub returns : goal.returns

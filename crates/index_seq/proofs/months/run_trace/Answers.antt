@@ -3,13 +3,13 @@ use Rattle.water_model.specs.Valid.{IsSeriesOf}
 use Rattle.water_model.specs.declared.types.Basin.{Basin}
 use Rattle.water_model.specs.declared.types.Inflows.{Inflows}
 use Rattle.index_seq.proofs.Running.{trace_start, trace_over, year_over}
-use Rattle.index_seq.proofs.Turning.{begun_fits}
+use Rattle.index_seq.proofs.Rotation.{begun_fits}
 use Rattle.index_seq.proofs.months.run_trace.Goals as goal
 
 pub begin-run-requires : goal.begin-run-requires
 begin-run-requires g c =
-    subst (λ (b : Basin). IsSeriesOf b c.turn_series.new.begun) (sym c.requires.engine)
-    (subst (λ (s : Inflows). IsSeriesOf c.args.basin.now s) (sym c.turn_series.ensures.value)
+    subst (λ (b : Basin). IsSeriesOf b c.rotate_series.new.begun) (sym c.requires.engine)
+    (subst (λ (s : Inflows). IsSeriesOf c.args.basin.now s) (sym c.rotate_series.ensures.value)
     (begun_fits c.args.basin.now c.args.series.now c.args.trace c.requires.series c.requires.trace))
 
 pub run_years-requires-clause-first : goal.run_years-requires-clause-first
@@ -18,7 +18,7 @@ run_years-requires-clause-first g c = c.begin-run.ensures.stands.done
 pub run_years-requires-clause-under_way : goal.run_years-requires-clause-under_way
 run_years-requires-clause-under_way g c =
     trace_start c.args.basin.now c.args.series.now c.args.trace _ c.args.sums.now c.args.year.now c.requires.sums
-    (c.begin-run.ensures.basin ∙ c.requires.engine) (c.begin-run.ensures.series ∙ c.turn_series.ensures.value)
+    (c.begin-run.ensures.basin ∙ c.requires.engine) (c.begin-run.ensures.series ∙ c.rotate_series.ensures.value)
     c.begin-run.ensures.stands c.requires.year
 
 pub returns-clause-engine : goal.returns-clause-engine

@@ -3,7 +3,7 @@ use Rattle.std.proofs.lemmas.List.{length-replicate}
 use Rattle.index_seq.specs.Sums.{HaveSums, IsEmptyYear}
 use Rattle.index_seq.specs.Traces.{years_of}
 use Rattle.index_seq.proofs.Running.{within_steps, one_step, sums_start}
-use Rattle.index_seq.proofs.Turning.{turn_of_same}
+use Rattle.index_seq.proofs.Rotation.{turn_of_same}
 use Rattle.index_seq.proofs.months.run_traces.Goals as goal
 use Rattle.month_fold.specs.Runs.{run_pushes}
 use Rattle.water_model.proofs.Lists.{no_numbers, whole_rows}

@@ -1,13 +1,13 @@
 use Rattle.std.proofs.Common.{◌≡◌, ◌+◌, ◌*◌, ◌≤◌}
 use Rattle.index_seq.specs.Sums.{HaveSums, IsEmptyYear}
-use Rattle.index_seq.specs.Traces.{IsTurnOf}
+use Rattle.index_seq.specs.Traces.{IsRotationOf}
 use Rattle.index_seq.proofs.months.run_traces.Given as goal
 use Rattle.month_fold.specs.Runs.{run_pushes}
 
 abbrev pub invariant-loop-trace : goal.invariant-loop-trace
 invariant-loop-trace g l = record {
   engine : l.engine.basin ≡ l.basin;
-  begun : IsTurnOf l.series l.begun;
+  begun : IsRotationOf l.series l.begun;
   sums : HaveSums l.basin l.series l.trace l.sums;
   year : IsEmptyYear l.basin l.year;
   pushes : l.searches ≤ l.fn.searches + l.trace * run_pushes l.basin;

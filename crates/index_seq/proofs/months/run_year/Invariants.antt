@@ -1,11 +1,11 @@
 use Rattle.std.proofs.Common.{◌≡◌, ◌+◌, ◌*◌, ◌≤◌}
-use Rattle.index_seq.specs.Sums.{IsUnderWay}
+use Rattle.index_seq.specs.Sums.{IsWithinTrace}
 use Rattle.index_seq.proofs.months.run_year.Given as goal
 use Rattle.senior_hold.specs.MonthNetwork.{month_pushes}
 
 abbrev pub invariant-loop-months : goal.invariant-loop-months
 invariant-loop-months g l = record {
   done : l.run.done ≡ l.fn.run.done + l.months;
-  under_way : IsUnderWay l.basin l.series l.trace l.years l.months l.run l.sums l.year;
+  under_way : IsWithinTrace l.basin l.series l.trace l.years l.months l.run l.sums l.year;
   pushes : l.searches ≤ l.fn.searches + l.months * month_pushes l.basin;
 }

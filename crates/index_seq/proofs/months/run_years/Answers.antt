@@ -1,5 +1,5 @@
 use Rattle.std.proofs.Common.{◌≡◌, ◌+◌, ◌*◌, ◌≤◌, ℕ, arith, subst}
-use Rattle.index_seq.specs.Sums.{IsUnderWay}
+use Rattle.index_seq.specs.Sums.{IsWithinTrace}
 use Rattle.index_seq.specs.Traces.{years_of}
 use Rattle.index_seq.proofs.Running.{within_steps, pushes_of_run}
 use Rattle.index_seq.proofs.months.run_years.Goals as goal
@@ -20,6 +20,7 @@ returns-clause-pushes g c =
 
 pub returns-clause-under_way : goal.returns-clause-under_way
 returns-clause-under_way g c =
-    subst (λ (n : ℕ). IsUnderWay c.args.basin.now c.args.series.now c.args.trace n 0 c.loop-years.run c.loop-years.sums
+    subst (λ (n : ℕ). IsWithinTrace c.args.basin.now c.args.series.now c.args.trace n 0 c.loop-years.run
+    c.loop-years.sums
     c.loop-years.year)
     (let all : c.loop-years.years ≡ years_of c.args.basin.now = omega arith in all) c.loop-years.invariant.under_way

@@ -2,12 +2,12 @@ use Rattle.std.proofs.Common.{ℕ, List, [], ◌∷◌, ◌++◌, subst}
 use Rattle.std.specs.Prelude.{slice_index_or}
 use Rattle.std.specs.List.{flat_map}
 use Rattle.water_edge.specs.Edge.{Puts}
-use Rattle.water_edge.proofs.Puts.{Puts-then, PutsFront-cut, PutsFront-then, PutsFront-fails}
-use Rattle.water_model.specs.Places.{seniors_first}
+use Rattle.water_edge.proofs.Puts.{Puts-then, PutsPrefix-cut, PutsPrefix-then, PutsPrefix-fails}
+use Rattle.water_model.specs.Indices.{seniors_first}
 use Rattle.index_seq.specs.Entries.{whole_line}
 use Rattle.index_seq.specs.Text.{right_lines}
 use Rattle.index_seq.specs.Traces.{years_of}
-use Rattle.index_seq.specs.declared.entry.Entry.TheVariants as line
+use Rattle.index_seq.specs.declared.entry.EnsembleLine.TheVariants as line
 use Rattle.index_seq.proofs.Putting.{text_pieces}
 use Rattle.index_seq.proofs.writer.put_ensemble.Goals as goal
 
@@ -22,12 +22,12 @@ returns-in_err-put_rights-clause-text g c =
     subst (λ (bytes : List ℕ). Puts (g.K.Sink.taken c.args.sink.now) (g.K.Sink.taken c.put_rights.new.sink)
     c.from_residual-in_err-put_rights.result bytes)
     (text_pieces c.args.basin.now (λ r. slice_index_or c.args.amounts.now r []))
-    (PutsFront-fails (g.K.Sink.taken c.args.sink.now) (g.K.Sink.taken c.put_rights.new.sink)
+    (PutsPrefix-fails (g.K.Sink.taken c.args.sink.now) (g.K.Sink.taken c.put_rights.new.sink)
     c.from_residual-in_err-put_rights.result (first ++ (middle ++ last))
     c.from_residual-in_err-put_rights.ensures.0
-    (PutsFront-then (g.K.Sink.taken c.args.sink.now) (g.K.Sink.taken c.put_entry.new.sink)
+    (PutsPrefix-then (g.K.Sink.taken c.args.sink.now) (g.K.Sink.taken c.put_entry.new.sink)
     (g.K.Sink.taken c.put_rights.new.sink) first (middle ++ last) c.in_ok-put_entry.ensures.text
-    (PutsFront-cut (g.K.Sink.taken c.put_entry.new.sink) (g.K.Sink.taken c.put_rights.new.sink) middle last
+    (PutsPrefix-cut (g.K.Sink.taken c.put_entry.new.sink) (g.K.Sink.taken c.put_rights.new.sink) middle last
     c.in_err-put_rights.ensures.text)))
 
 pub returns-clause-text : goal.returns-clause-text

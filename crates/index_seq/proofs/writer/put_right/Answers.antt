@@ -1,6 +1,6 @@
 use Rattle.index_seq.specs.Entries.{whole_line}
 use Rattle.index_seq.specs.Text.{yearly_lines}
-use Rattle.index_seq.specs.declared.entry.Entry.TheVariants as line
+use Rattle.index_seq.specs.declared.entry.EnsembleLine.TheVariants as line
 use Rattle.water_edge.proofs.Puts.{Puts-first}
 use Rattle.index_seq.proofs.writer.put_right.Goals as goal
 

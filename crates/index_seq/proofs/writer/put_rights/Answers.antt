@@ -5,11 +5,11 @@ use Rattle.std.specs.List.Sorted.{IsNonDecreasingBy}
 use Rattle.std.specs.Io.KnownBytes.{Appends}
 use Rattle.calls.proofs.Search.{order_in_range}
 use Rattle.result_text.proofs.Entries.{right_at}
-use Rattle.water_edge.proofs.Puts.{SoFar-none, SoFar-next, SoFar-fails, SoFar-whole, PutsFront}
-use Rattle.water_model.specs.Places.{seniors_first}
+use Rattle.water_edge.proofs.Puts.{SoFar-none, SoFar-next, SoFar-fails, SoFar-whole, PutsPrefix}
+use Rattle.water_model.specs.Indices.{seniors_first}
 use Rattle.index_seq.specs.Entries.{whole_line}
 use Rattle.index_seq.specs.Text.{right_lines, yearly_lines}
-use Rattle.index_seq.specs.declared.entry.Entry.TheVariants as line
+use Rattle.index_seq.specs.declared.entry.EnsembleLine.TheVariants as line
 use Rattle.index_seq.proofs.writer.put_rights.Goals as goal
 
 pub loop-right-init : goal.loop-right-init
@@ -43,7 +43,7 @@ returns-in_err-put_right-clause-text g c =
     SoFar-fails right (g.K.Sink.taken c.put_right.new.sink) c.from_residual.result c.loop-right.invariant
     (right_at (seniors_first c.args.basin.now) c.by_seniority-order.result.now c.loop-right.right-index order
     c.loop-right-test.true)
-    (subst (λ (xs : List ℕ). PutsFront (g.K.Sink.taken c.loop-right.sink) (g.K.Sink.taken c.put_right.new.sink)
+    (subst (λ (xs : List ℕ). PutsPrefix (g.K.Sink.taken c.loop-right.sink) (g.K.Sink.taken c.put_right.new.sink)
     (flat_map (whole_line c.args.basin.now) (line.Right right ∷ yearly_lines xs)))
     c.amounts_of.ensures c.in_err-put_right.ensures.text)
     c.from_residual.ensures.0

@@ -1,7 +1,7 @@
 use Rattle.std.proofs.Common.{[]}
 use Rattle.std.specs.Prelude.{slice_index_or}
 use Rattle.water_edge.proofs.Puts.{SoFar}
-use Rattle.water_model.specs.Places.{seniors_first}
+use Rattle.water_model.specs.Indices.{seniors_first}
 use Rattle.index_seq.specs.Entries.{whole_line}
 use Rattle.index_seq.specs.Text.{right_lines}
 use Rattle.index_seq.proofs.writer.put_rights.Given as goal

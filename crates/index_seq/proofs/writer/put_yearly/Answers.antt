@@ -15,7 +15,7 @@ pub loop-rest-preserved : goal.loop-rest-preserved
 loop-rest-preserved g c =
     subst (λ (xs : List ℕ). IsPutSoFar c.args.basin.now c.args.amounts.now xs (g.K.Sink.taken c.args.sink.now)
     (g.K.Sink.taken c.put_entry.new.sink) (g.K.Sink.faults c.args.sink.now) (g.K.Sink.faults c.put_entry.new.sink))
-    (sym c.behind-rest.ensures)
+    (sym c.after-rest.ensures)
     (put_next c.args.basin.now c.args.amounts.now c.loop-rest.rest.now c.run_length-count.result
     (g.K.Sink.taken c.args.sink.now) (g.K.Sink.taken c.loop-rest.sink) (g.K.Sink.taken c.put_entry.new.sink)
     (g.K.Sink.faults c.args.sink.now) (g.K.Sink.faults c.loop-rest.sink)

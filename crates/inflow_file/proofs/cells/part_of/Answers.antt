@@ -11,7 +11,7 @@ overflow_mul-end c =
     let most =
     mul-le c.args.columns.now.basin.now.months c.args.count c.args.columns.now.basin.now.months
     (width c.args.columns.now.basin.now) (omega arith) (omega (arith, c.requires.columns)) in
-    omega (arith, most, small_table c.args.columns.now.basin.now c.requires.basin.run.months.1 c.requires.basin.few)
+    omega (arith, most, small_table c.args.columns.now.basin.now c.requires.basin.run.months.1 c.requires.basin.bounded)
 
 pub cell_in-requires-clause-count : goal.cell_in-requires-clause-count
 cell_in-requires-clause-count c =
@@ -31,7 +31,7 @@ cell_in-requires-clause-small c =
       arith,
       c.requires.cells,
       small_table c.args.columns.now.basin.now c.requires.basin.run.months.1
-          c.requires.basin.few,
+          c.requires.basin.bounded,
     )
 
 pub loop-place-preserved : goal.loop-place-preserved

@@ -6,25 +6,25 @@ pub overflow_mul-result : goal.overflow_mul-result
 overflow_mul-result c =
     let small =
     small_place c.args.columns.now.basin.now c.args.index c.args.number c.requires.basin.run.months.1
-    c.requires.basin.few c.requires.index c.requires.column in
+    c.requires.basin.bounded c.requires.index c.requires.column in
     rw c.count.ensures (omega (arith, small.0))
 
 pub overflow_add-result : goal.overflow_add-result
 overflow_add-result c =
     let small =
     small_place c.args.columns.now.basin.now c.args.index c.args.number c.requires.basin.run.months.1
-    c.requires.basin.few c.requires.index c.requires.column in
+    c.requires.basin.bounded c.requires.index c.requires.column in
     rw (c.count.ensures, c.place_of.ensures)
     (omega (
       arith,
       small.1,
       small_table c.args.columns.now.basin.now c.requires.basin.run.months.1
-          c.requires.basin.few,
+          c.requires.basin.bounded,
     ))
 
 pub returns-clause-within : goal.returns-clause-within
 returns-clause-within c =
     let small =
     small_place c.args.columns.now.basin.now c.args.index c.args.number c.requires.basin.run.months.1
-    c.requires.basin.few c.requires.index c.requires.column in
+    c.requires.basin.bounded c.requires.index c.requires.column in
     rw (c.count.ensures, c.place_of.ensures) small.1

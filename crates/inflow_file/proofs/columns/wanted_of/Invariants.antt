@@ -1,5 +1,5 @@
 use Rattle.std.proofs.Common.{◌≡◌, filter}
-use Rattle.water_model.specs.Places.{numbers_from}
+use Rattle.water_model.specs.Indices.{numbers_from}
 use Rattle.water_model.specs.Valid.{is_in_series}
 use Rattle.inflow_file.proofs.columns.wanted_of.Given as goal
 

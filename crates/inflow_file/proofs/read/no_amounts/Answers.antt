@@ -6,7 +6,11 @@ use Rattle.inflow_file.proofs.read.no_amounts.Goals as goal
 
 pub overflow_mul-due : goal.overflow_mul-due
 overflow_mul-due c =
-    rw c.count.ensures (omega (arith, small_table c.args.columns.now.basin.now c.requires.run.months.1 c.requires.few))
+    rw c.count.ensures (omega (
+      arith,
+      small_table c.args.columns.now.basin.now c.requires.run.months.1
+          c.requires.bounded,
+    ))
 
 pub returns : goal.returns
 returns c =

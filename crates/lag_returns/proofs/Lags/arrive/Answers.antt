@@ -1,7 +1,7 @@
 use Rattle.std.proofs.Common.{◌∙◌, ◌+◌, ap}
 use Rattle.std.specs.Prelude.{slice_index}
 use Rattle.lag_returns.specs.ReturnFlows.{brought}
-use Rattle.lag_returns.proofs.Places.{arrivals}
+use Rattle.lag_returns.proofs.Indices.{arrivals}
 use Rattle.lag_returns.proofs.Lags.arrive.Goals as goal
 
 pub returns-clause-adds : goal.returns-clause-adds

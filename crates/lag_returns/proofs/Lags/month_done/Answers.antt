@@ -1,7 +1,7 @@
 use Rattle.std.proofs.Common.{◌∙◌, ◌++◌, ◌∷◌, [], ap, sym, subst}
 use Rattle.std.specs.Prelude.{All}
 use Rattle.lag_returns.specs.ReturnFlows.{after_month}
-use Rattle.lag_returns.specs.Lags.{IsLagged, StandsFor, return_rows}
+use Rattle.lag_returns.specs.Lags.{IsLagged, LagsStandFor, return_rows}
 use Rattle.lag_returns.proofs.Months.{lagged_after, rows_after, stands_after, written}
 use Rattle.lag_returns.proofs.Lags.month_done.Goals as goal
 
@@ -21,8 +21,8 @@ returns-clause-rows c =
 
 pub returns-clause-stands : goal.returns-clause-stands
 returns-clause-stands c rows deliveries stands =
-    subst (λ lags. StandsFor lags rows (deliveries ++ c.args.delivered.now ∷ []))
+    subst (λ lags. LagsStandFor lags rows (deliveries ++ c.args.delivered.now ∷ []))
     (sym (written (after_month c.args.delivered.now) c.self.inside.flows c.take_each.new.flows c.deref_mut.result.now
     c.take_each.ensures c.deref_mut.ensures.value c.deref_mut.ensures.len))
     (stands_after deliveries c.args.delivered.now rows c.self.inside.flows.items c.self.invariant
-    (subst (λ lags. StandsFor lags rows deliveries) (sym c.self.view_is) stands))
+    (subst (λ lags. LagsStandFor lags rows deliveries) (sym c.self.view_is) stands))

@@ -2,8 +2,8 @@ use Rattle.std.proofs.Common.{◌≡◌, ◌∙◌, [], map, ap, sym, subst, ari
 use Rattle.std.specs.Prelude.{All}
 use Rattle.std.proofs.lemmas.List.{take_all}
 use Rattle.lag_returns.specs.ReturnFlows.{fresh}
-use Rattle.lag_returns.specs.Lags.{IsLagged, StandsFor}
-use Rattle.lag_returns.proofs.Places.{lagged_fresh, stands_fresh}
+use Rattle.lag_returns.specs.Lags.{IsLagged, LagsStandFor}
+use Rattle.lag_returns.proofs.Indices.{lagged_fresh, stands_fresh}
 use Rattle.lag_returns.proofs.Lags.open.Goals as goal
 
 pub invariant_of-result : goal.invariant_of-result
@@ -16,4 +16,4 @@ pub returns : goal.returns
 returns c =
     let all : c.loop-row.flows.items ≡ map fresh c.args.rows.now =
     c.loop-row.invariant ∙ ap (map fresh) (take_all c.loop-row.row-index c.args.rows.now (omega arith)) in
-    subst (λ lags. StandsFor lags c.args.rows.now []) (sym all) (stands_fresh c.args.rows.now)
+    subst (λ lags. LagsStandFor lags c.args.rows.now []) (sym all) (stands_fresh c.args.rows.now)

@@ -10,7 +10,7 @@ arrive-requires-clause-room c = λ k d l.
     let none : get_or c.fill.new.self k d ≡ 0 =
     ap (λ xs. get_or xs k d) (c.fill.ensures.after (λ y h. h))
     ∙ get_or-replicate (length c.args.returned.now) k 0 d (omega (arith, c.fill.ensures.len)) in
-    omega (arith, none, ap length c.requires.rows, (valid_rows c.args.basin.now c.requires.basin).few)
+    omega (arith, none, ap length c.requires.rows, (valid_rows c.args.basin.now c.requires.basin).bounded)
 
 pub returns-clause-each : goal.returns-clause-each
 returns-clause-each c = λ deliveries stands. record {

@@ -4,31 +4,32 @@ use Rattle.month_fold.proofs.Following.{node_small, settled_given, planned_small
 use Rattle.month_fold.proofs.Following.{run_begun}
 use Rattle.month_fold.proofs.next.next_month.Goals as goal
 
-pub bring_back-requires-clause-used : goal.bring_back-requires-clause-used
-bring_back-requires-clause-used g c = c.requires.month.fits.used ∙ sym c.requires.months.stands.used.count
+pub write_returns-requires-clause-used : goal.write_returns-requires-clause-used
+write_returns-requires-clause-used g c = c.requires.month.fits.used ∙ sym c.requires.months.stands.used.count
 
 pub settle-requires-clause-small : goal.settle-requires-clause-small
 settle-requires-clause-small g c = λ evaporated n l.
     let months = c.requires.months in
-    node_small c.args.basin.now c.args.series.now months.records c.bring_back.new.month c.args.index evaporated n
+    node_small c.args.basin.now c.args.series.now months.records c.write_returns.new.month c.args.index evaporated n
     months.stands.valid months.stands.fits
-    (run_begun _ months.records c.bring_back.new.month months.stands c.bring_back.ensures.rest
-    (c.bring_back.ensures.each _ months.stands.lags) c.bring_back.ensures.used)
+    (run_begun _ months.records c.write_returns.new.month months.stands c.write_returns.ensures.rest
+    (c.write_returns.ensures.each _ months.stands.lags) c.write_returns.ensures.used)
     months.stands.done l
 
 pub solve_month-requires-clause-given : goal.solve_month-requires-clause-given
 solve_month-requires-clause-given g c =
     let months = c.requires.months in
-    let uses : length c.bring_back.new.month.used ≡ length c.args.month.now.used =
-    ap length c.bring_back.ensures.used ∙ (months.stands.used.count ∙ sym c.requires.month.fits.used) in
+    let uses : length c.write_returns.new.month.used ≡ length c.args.month.now.used =
+    ap length c.write_returns.ensures.used ∙ (months.stands.used.count ∙ sym c.requires.month.fits.used) in
     rw (c.requires.solver, c.as_slice.ensures, c.as_slice-2.ensures)
     (settled_given c.args.basin.now c.args.series.now months.records c.args.index
-    c.bring_back.new.month c.settle.new.month c.clear.new.self months.stands.valid months.stands.fits
-    (run_begun _ months.records c.bring_back.new.month months.stands c.bring_back.ensures.rest
-    (c.bring_back.ensures.each _ months.stands.lags) c.bring_back.ensures.used)
+    c.write_returns.new.month c.settle.new.month c.clear.new.self months.stands.valid months.stands.fits
+    (run_begun _ months.records c.write_returns.new.month months.stands c.write_returns.ensures.rest
+    (c.write_returns.ensures.each _ months.stands.lags) c.write_returns.ensures.used)
     months.stands.done
-    (begun_fits c.args.basin.now c.args.month.now c.bring_back.new.month c.requires.month c.bring_back.ensures.rest
-    c.bring_back.ensures.length uses)
+    (begun_fits c.args.basin.now c.args.month.now c.write_returns.new.month c.requires.month
+    c.write_returns.ensures.rest
+    c.write_returns.ensures.length uses)
     c.settle.ensures c.clear.ensures)
 
 pub conclude-requires-clause-small : goal.conclude-requires-clause-small
@@ -36,25 +37,25 @@ conclude-requires-clause-small g c =
     let solved : IsSolved c.args.basin.now c.settle.new.month.month c.settle.new.month.supply c.settle.new.month.want
     c.solve_month.new.plan c.solve_month.new.cuts =
     rw (c.requires.solver, c.as_slice.ensures, c.as_slice-2.ensures) at c.solve_month.ensures.solved in
-    planned_small c.args.basin.now c.args.series.now c.args.index c.bring_back.new.month c.settle.new.month
+    planned_small c.args.basin.now c.args.series.now c.args.index c.write_returns.new.month c.settle.new.month
     c.solve_month.new.plan c.solve_month.new.cuts
     c.requires.months.stands.valid c.requires.months.stands.fits c.settle.ensures solved
 
 pub returns-clause-next : goal.returns-clause-next
 returns-clause-next g c = λ records stands.
-    let uses : length c.bring_back.new.month.used ≡ length c.args.month.now.used =
-    ap length c.bring_back.ensures.used ∙ (stands.used.count ∙ sym c.requires.month.fits.used) in
+    let uses : length c.write_returns.new.month.used ≡ length c.args.month.now.used =
+    ap length c.write_returns.ensures.used ∙ (stands.used.count ∙ sym c.requires.month.fits.used) in
     let solved : IsSolved c.args.basin.now c.settle.new.month.month c.settle.new.month.supply c.settle.new.month.want
     c.solve_month.new.plan c.solve_month.new.cuts =
     rw (c.requires.solver, c.as_slice.ensures, c.as_slice-2.ensures) at c.solve_month.ensures.solved in
     let cuts : FitsCuts c.args.basin.now c.solve_month.new.cuts = rw c.requires.solver at c.solve_month.ensures.cuts in
-    made_follows c.args.basin.now c.args.series.now records c.args.index c.bring_back.new.month c.settle.new.month
+    made_follows c.args.basin.now c.args.series.now records c.args.index c.write_returns.new.month c.settle.new.month
     (record c.settle.new.month { plan = c.solve_month.new.plan; cuts = c.solve_month.new.cuts }) c.conclude.new.month
     stands.valid stands.fits
-    (run_begun _ records c.bring_back.new.month stands c.bring_back.ensures.rest
-    (c.bring_back.ensures.each _ stands.lags) c.bring_back.ensures.used) stands.done (record {
-      fits = begun_fits c.args.basin.now c.args.month.now c.bring_back.new.month c.requires.month
-          c.bring_back.ensures.rest c.bring_back.ensures.length uses;
+    (run_begun _ records c.write_returns.new.month stands c.write_returns.ensures.rest
+    (c.write_returns.ensures.each _ stands.lags) c.write_returns.ensures.used) stands.done (record {
+      fits = begun_fits c.args.basin.now c.args.month.now c.write_returns.new.month c.requires.month
+          c.write_returns.ensures.rest c.write_returns.ensures.length uses;
       is_settled = c.settle.ensures;
       is_planned = refl;
       solved = solved;

@@ -1,8 +1,8 @@
 use Rattle.std.proofs.Common.{◌<◌, ◌^◌, ◌∙◌, sym, ap, arith, length}
 use Rattle.std.specs.Prelude.{slice_index}
-use Rattle.place_sums.proofs.Totals.{total_where_start}
+use Rattle.finite_sums.proofs.Totals.{total_where_start}
 use Rattle.water_model.specs.History.{is_zone_of}
-use Rattle.place_sums.proofs.Totals.{total_where_most}
+use Rattle.finite_sums.proofs.Totals.{total_where_most}
 use Rattle.month_terms.proofs.Adds.{zone_more, no_zone_more, zone_within}
 use Rattle.water_model.proofs.Lists.{no_numbers}
 use Rattle.month_terms.proofs.closing.close_zones.Goals as goal
@@ -34,7 +34,7 @@ add_at-requires-clause-small c =
       sum,
       c.loop-right.invariant c.in-Zone.reservoir,
       c.requires.small c.loop-right.right below,
-      c.requires.basin.few.rights,
+      c.requires.basin.bounded.rights,
     )
 
 pub loop-right-preserved : goal.loop-right-preserved

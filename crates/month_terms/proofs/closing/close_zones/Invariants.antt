@@ -1,5 +1,5 @@
 use Rattle.std.proofs.Common.{ℕ, ◌≡◌, slice_index}
-use Rattle.place_sums.specs.Sums.{total_where}
+use Rattle.finite_sums.specs.Sums.{total_where}
 use Rattle.water_model.specs.History.{is_zone_of}
 use Rattle.month_terms.proofs.closing.close_zones.Given as goal
 

@@ -12,5 +12,5 @@ invariant_of-result c =
       for_core = search rules;
       in_core = queue_none nodes c.in_ok-core.core.items c.in_ok-core_queue.core_queue.items
           (c.in_ok-core.ensures.items_if_clones_equal (λ y e. e) ∙ ap (λ (n : ℕ). replicate n false) c.len-3.ensures)
-          places (omega (arith, c.requires.few.nodes));
+          places (omega (arith, c.requires.bounded.nodes));
     }

@@ -7,7 +7,7 @@ pub spread_on-requires-clause-followed : goal.spread_on-requires-clause-followed
 spread_on-requires-clause-followed c =
     followed_from_closed c.args.basin.now c.args.month.now c.args.right ToRight c.args.seen.now c.visit-own.new.seen
     c.args.queue.now c.visit-own.new.queue c.args.size c.visit-own.result c.requires.queue
-    c.visit-own.ensures.extends.kept c.visit-own.ensures.extends.front c.requires.closed
+    c.visit-own.ensures.extends.kept c.visit-own.ensures.extends.prefix c.requires.closed
 
 pub returns : goal.returns
 returns c =

@@ -9,7 +9,7 @@ loop-place-init c =
     none_claimed c.args.basin.now c.args.month.now c.fill.new.self c.args.queue.now c.fill-2.new.self
     (c.fill.ensures.after (λ y h. h) ∙ ap (λ (n : ℕ). replicate n false) c.requires.seen)
     (c.fill-2.ensures.after (λ y h. search rules) ∙ ap (λ (n : ℕ). replicate {A = Option ℕ} n None) c.requires.next)
-    c.requires.queue c.requires.plan.valid.few.nodes
+    c.requires.queue c.requires.plan.valid.bounded.nodes
 
 pub returns : goal.returns
 returns c =

@@ -8,7 +8,7 @@ pub spread_on-requires-clause-followed : goal.spread_on-requires-clause-followed
 spread_on-requires-clause-followed c =
     followed_from_closed c.args.basin.now c.args.month.now c.args.right FromSources c.args.seen.now
     c.see_own-own.new.seen c.args.queue.now c.see_own-own.new.queue c.args.size c.see_own-own.result c.requires.queue
-    c.see_own-own.ensures.extends.kept c.see_own-own.ensures.extends.front c.requires.reached.closed.along
+    c.see_own-own.ensures.extends.kept c.see_own-own.ensures.extends.prefix c.requires.reached.closed.along
 
 pub returns-clause-extends : goal.returns-clause-extends
 returns-clause-extends c =

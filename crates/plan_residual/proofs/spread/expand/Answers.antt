@@ -8,7 +8,7 @@ pub offset_bounds-queue-done : goal.offset_bounds-queue-done
 offset_bounds-queue-done c = omega (
   arith,
   c.requires.within,
-  c.requires.queue.few,
+  c.requires.queue.bounded,
   queue_fits c.args.seen.now c.args.queue.now c.args.size c.requires.queue,
 )
 

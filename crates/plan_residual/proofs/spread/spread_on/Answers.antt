@@ -6,7 +6,13 @@ use Rattle.plan_residual.proofs.spread.spread_on.Goals as goal
 pub overflow_add-done : goal.overflow_add-done
 overflow_add-done c =
     let now = c.loop-done.invariant.grown.in_queue in
-    omega (arith, c.loop-done-test.true, now.few, queue_fits c.loop-done.seen c.loop-done.queue c.loop-done.more now)
+    omega (
+      arith,
+      c.loop-done-test.true,
+      now.bounded,
+      queue_fits c.loop-done.seen c.loop-done.queue c.loop-done.more
+          now,
+    )
 
 pub loop-done-init : goal.loop-done-init
 loop-done-init c = record {

@@ -23,7 +23,7 @@ returns-clause-reached c =
     apart_same c.args.basin.now c.args.month.now c.args.right c.args.seen.now c.forget.new.seen
     (c.forget.auto.seen ∙ c.spread_own-more.auto.seen)
     (same_queue c.args.seen.now c.forget.new.seen c.args.queue.now c.spread_own-more.new.queue c.args.size
-    c.requires.queue c.forget.ensures c.spread_own-more.ensures.extends.front)
+    c.requires.queue c.forget.ensures c.spread_own-more.ensures.extends.prefix)
     (same_queue c.forget.new.seen c.args.seen.now c.spread_own-more.new.queue c.args.queue.now c.args.size
-    c.forget.ensures c.requires.queue (λ j l. sym (c.spread_own-more.ensures.extends.front j l)))
+    c.forget.ensures c.requires.queue (λ j l. sym (c.spread_own-more.ensures.extends.prefix j l)))
     c.requires.reached

@@ -1,5 +1,5 @@
 use Rattle.std.proofs.Common.{◌≡◌, List, ℕ, length, get_or, ap, sym, ◌∙◌, arith}
-use Rattle.water_model.specs.Places.{seniors_first}
+use Rattle.water_model.specs.Indices.{seniors_first}
 use Rattle.rights_roll.proofs.Seniors.{by_seniority_order}
 use Rattle.plan_residual.proofs.Firsts.{order_below}
 use Rattle.plan_residual.proofs.Queues.{extends_then}

@@ -7,7 +7,7 @@ pub offset_bounds-queue-place : goal.offset_bounds-queue-place
 offset_bounds-queue-place c =
     omega (
       arith,
-      c.loop-place.invariant.queue.few,
+      c.loop-place.invariant.queue.bounded,
       c.loop-place-test.true,
       queue_fits c.loop-place.seen c.args.queue.now c.loop-place.place c.loop-place.invariant.queue,
     )

@@ -5,7 +5,7 @@ use Rattle.plan_residual.proofs.visits.visit.Goals as goal
 pub offset_bounds-queue-size : goal.offset_bounds-queue-size
 offset_bounds-queue-size c = omega (
   arith,
-  c.requires.queue.few,
+  c.requires.queue.bounded,
   room_for c.args.seen.now c.args.queue.now c.args.size c.args.node c.requires.queue c.requires.node
       c.if-seen-node.false,
 )
@@ -21,7 +21,7 @@ bounds-queue-size c = omega (
 pub overflow_add-result : goal.overflow_add-result
 overflow_add-result c = omega (
   arith,
-  c.requires.queue.few,
+  c.requires.queue.bounded,
   room_for c.args.seen.now c.args.queue.now c.args.size c.args.node c.requires.queue c.requires.node
       c.if-seen-node.false,
 )

@@ -8,7 +8,7 @@ pub loop-right-init : goal.loop-right-init
 loop-right-init c =
     record {
       value = count_none (λ right. is_some (calling_right c.args.basin.now c.args.month.now right));
-      few =
+      bounded =
           omega arith;
     }
 
@@ -17,7 +17,8 @@ loop-right-preserved c = record {
   value = count_more (λ right. is_some (calling_right c.args.basin.now c.args.month.now right)) c.loop-right.right
       c.loop-right.count c.called_once-count.result
       c.loop-right.invariant.value c.called_once-count.ensures;
-  few = at_most_more (is_some (calling_right c.args.basin.now c.args.month.now c.loop-right.right)) c.loop-right.right
+  bounded = at_most_more (is_some (calling_right c.args.basin.now c.args.month.now c.loop-right.right))
+      c.loop-right.right
       c.loop-right.count c.called_once-count.result
-      c.called_once-count.ensures c.loop-right.invariant.few;
+      c.called_once-count.ensures c.loop-right.invariant.bounded;
 }

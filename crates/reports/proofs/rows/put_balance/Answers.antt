@@ -1,23 +1,23 @@
 use Rattle.std.proofs.Common.{List, ℕ, subst}
 use Rattle.water_edge.specs.Edge.{Puts}
-use Rattle.reports.specs.Texts.{balance_front, balance_rest}
+use Rattle.reports.specs.Texts.{balance_prefix, balance_rest}
 use Rattle.water_edge.proofs.Puts.{Puts-then, Puts-cut}
 use Rattle.reports.proofs.Written.{balance_split}
 use Rattle.reports.proofs.rows.put_balance.Goals as goal
 
-pub returns-in_err-put_front-clause-text : goal.returns-in_err-put_front-clause-text
-returns-in_err-put_front-clause-text g c =
-    subst (λ (piece : List ℕ). Puts (g.K.Sink.taken c.args.sink.now) (g.K.Sink.taken c.put_front.new.sink)
+pub returns-in_err-put_prefix-clause-text : goal.returns-in_err-put_prefix-clause-text
+returns-in_err-put_prefix-clause-text g c =
+    subst (λ (piece : List ℕ). Puts (g.K.Sink.taken c.args.sink.now) (g.K.Sink.taken c.put_prefix.new.sink)
     c.from_residual.result piece) (balance_split c.args.waters.now)
-    (Puts-cut (g.K.Sink.taken c.args.sink.now) (g.K.Sink.taken c.put_front.new.sink) c.from_residual.result
-    (balance_front c.args.waters.now) (balance_rest c.args.waters.now)
-    c.from_residual.ensures.0 c.in_err-put_front.ensures.text)
+    (Puts-cut (g.K.Sink.taken c.args.sink.now) (g.K.Sink.taken c.put_prefix.new.sink) c.from_residual.result
+    (balance_prefix c.args.waters.now) (balance_rest c.args.waters.now)
+    c.from_residual.ensures.0 c.in_err-put_prefix.ensures.text)
 
 pub returns-clause-text : goal.returns-clause-text
 returns-clause-text g c =
     subst (λ (piece : List ℕ). Puts (g.K.Sink.taken c.args.sink.now) (g.K.Sink.taken c.put_rest.new.sink)
     c.put_rest.result piece) (balance_split c.args.waters.now)
-    (Puts-then (g.K.Sink.taken c.args.sink.now) (g.K.Sink.taken c.put_front.new.sink)
+    (Puts-then (g.K.Sink.taken c.args.sink.now) (g.K.Sink.taken c.put_prefix.new.sink)
     (g.K.Sink.taken c.put_rest.new.sink) c.put_rest.result
-    (balance_front c.args.waters.now) (balance_rest c.args.waters.now) c.in_ok-put_front.ensures.text
+    (balance_prefix c.args.waters.now) (balance_rest c.args.waters.now) c.in_ok-put_prefix.ensures.text
     c.put_rest.ensures.text)

@@ -1,8 +1,8 @@
 use Rattle.std.proofs.Common.{List, ℕ, ◌++◌}
 use Rattle.std.specs.List.{flat_map}
 use Rattle.std.proofs.KnownBytes.{Appends-trans}
-use Rattle.water_model.specs.Places.{seniors_first}
-use Rattle.water_edge.proofs.Puts.{PutsFront-then, Puts-then, Puts-cut}
+use Rattle.water_model.specs.Indices.{seniors_first}
+use Rattle.water_edge.proofs.Puts.{PutsPrefix-then, Puts-then, Puts-cut}
 use Rattle.reports.specs.Reports.{balance_row, done_row}
 use Rattle.reports.specs.Texts.{run_row, row_in}
 use Rattle.reports.proofs.texts.put_report.Goals as goal
@@ -13,7 +13,7 @@ returns-in_err-put_rights-clause-text g c =
     Puts-cut (g.K.Sink.taken c.args.sink.now) (g.K.Sink.taken c.put_rights.new.sink)
     c.from_residual-in_err-put_rights.result (run_row c.args.basin.now ++ rights)
     (balance_row c.args.tally.now.waters ++ done_row c.args.basin.now) c.from_residual-in_err-put_rights.ensures.0
-    (PutsFront-then (g.K.Sink.taken c.args.sink.now) (g.K.Sink.taken c.put_run.new.sink)
+    (PutsPrefix-then (g.K.Sink.taken c.args.sink.now) (g.K.Sink.taken c.put_run.new.sink)
     (g.K.Sink.taken c.put_rights.new.sink)
     (run_row c.args.basin.now) rights c.in_ok-put_run.ensures.text c.in_err-put_rights.ensures.text)
 

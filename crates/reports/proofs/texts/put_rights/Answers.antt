@@ -3,7 +3,7 @@ use Rattle.std.specs.Io.KnownBytes.{Appends}
 use Rattle.std.proofs.lemmas.Option.{slice_get-get_or}
 use Rattle.water_edge.specs.Edge.{Puts}
 use Rattle.calls.proofs.Search.{order_in_range}
-use Rattle.water_edge.proofs.Puts.{PutsFront-cut, SoFar-next, SoFar-fails, SoFar-whole}
+use Rattle.water_edge.proofs.Puts.{PutsPrefix-cut, SoFar-next, SoFar-fails, SoFar-whole}
 use Rattle.reports.specs.Texts.{row_in}
 use Rattle.reports.proofs.Written.{rows_of}
 use Rattle.reports.proofs.texts.put_rights.Goals as goal
@@ -22,7 +22,7 @@ returns-in_err-put_listed-clause-text g c =
     (c.by_seniority-order.ensures ∙ c.requires.roll.order))
     (SoFar-fails right (g.K.Sink.taken c.put_listed.new.sink) c.from_residual.result c.loop-right.invariant
     (slice_get-get_or c.by_seniority-order.result.now c.loop-right.right-index 0 c.loop-right-test.true)
-    (PutsFront-cut (g.K.Sink.taken c.loop-right.sink) (g.K.Sink.taken c.put_listed.new.sink)
+    (PutsPrefix-cut (g.K.Sink.taken c.loop-right.sink) (g.K.Sink.taken c.put_listed.new.sink)
     (row_in c.args.basin.now c.args.rights.now right) []
     c.in_err-put_listed.ensures.text)
     c.from_residual.ensures.0)

@@ -1,6 +1,6 @@
 use Rattle.std.proofs.Common.{◌++◌}
 use Rattle.std.proofs.KnownBytes.{Appends-trans}
-use Rattle.water_edge.proofs.Puts.{PutsFront-then, Puts-then, Puts-cut}
+use Rattle.water_edge.proofs.Puts.{PutsPrefix-then, Puts-then, Puts-cut}
 use Rattle.reports.specs.Reports.{balance_row, done_row}
 use Rattle.reports.specs.Texts.{made_rows, amount_rows, count_rows}
 use Rattle.reports.proofs.texts.put_summary.Goals as goal
@@ -9,7 +9,7 @@ pub returns-in_err-put_totals-clause-text : goal.returns-in_err-put_totals-claus
 returns-in_err-put_totals-clause-text g c =
     Puts-cut (g.K.Sink.taken c.args.sink.now) (g.K.Sink.taken c.put_totals.new.sink)
     c.from_residual-in_err-put_totals.result _ _ c.from_residual-in_err-put_totals.ensures.0
-    (PutsFront-then (g.K.Sink.taken c.args.sink.now) (g.K.Sink.taken c.put_made.new.sink)
+    (PutsPrefix-then (g.K.Sink.taken c.args.sink.now) (g.K.Sink.taken c.put_made.new.sink)
     (g.K.Sink.taken c.put_totals.new.sink)
     (made_rows c.args.number c.args.size c.args.basin.now)
     (amount_rows c.args.totals.now ++ count_rows c.args.totals.now c.args.called)

@@ -1,6 +1,6 @@
 use Rattle.std.proofs.Common.{◌+◌, length, sym, arith}
 use Rattle.std.specs.Prelude.{slice_index, if◌then◌else◌}
-use Rattle.place_sums.proofs.Totals.{total_start, total_more, total_grows}
+use Rattle.finite_sums.proofs.Totals.{total_start, total_more, total_grows}
 use Rattle.water_model.specs.Valid.{is_diversion}
 use Rattle.reports.proofs.waters.diverted.Goals as goal
 

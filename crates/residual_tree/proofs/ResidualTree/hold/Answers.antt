@@ -1,12 +1,12 @@
 use Rattle.std.proofs.Common.{◌≡◌, ℕ, ◌+◌, ◌*◌, List, ap, sym, ◌∙◌, arith}
 use Rattle.std.specs.Prelude.{max, slice_index, slice_set}
 use Rattle.std.proofs.lemmas.List.{set-get_or}
-use Rattle.residual_tree.proofs.Pushes.{hold_worn}
+use Rattle.residual_tree.proofs.Pushes.{hold_saturated}
 use Rattle.residual_tree.proofs.ResidualTree.hold.Goals as goal
 
-pub repair-requires-clause-worn : goal.repair-requires-clause-worn
-repair-requires-clause-worn c =
-    hold_worn c.args.circ.now c.scratch_set.new.self c.hold.new.self c.args.self.now c.args.arc c.args.amount _
+pub repair-requires-clause-saturated : goal.repair-requires-clause-saturated
+repair-requires-clause-saturated c =
+    hold_saturated c.args.circ.now c.scratch_set.new.self c.hold.new.self c.args.self.now c.args.arc c.args.amount _
     c.nodes-nodes.ensures.kept c.requires.tree c.requires.arc (ap (λ (a : ℕ). 2 * a + 1) c.from.ensures)
     c.scratch_set.ensures.written c.hold.ensures.held
 

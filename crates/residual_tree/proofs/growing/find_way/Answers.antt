@@ -1,5 +1,5 @@
 use Rattle.std.proofs.Common.{ℕ, ◌+◌, arith, ap}
-use Rattle.residual_tree.specs.Growth.{IsShut}
+use Rattle.residual_tree.specs.Repair.{IsShut}
 use Rattle.circulation.proofs.Scans.{scan_start, scan_inside, scan_at, scan_next, scan_end}
 use Rattle.residual_tree.proofs.Seeds.{found_way, found_none, shut_end}
 use Rattle.residual_tree.proofs.growing.find_way.Goals as goal
@@ -33,7 +33,7 @@ opposite-requires-clause-arc c =
 
 pub loop-place-preserved : goal.loop-place-preserved
 loop-place-preserved c = scan_next c.args.circ.now c.args.node c.loop-place.place c.step_at-step.result _
-    (IsShut c.args.circ.now c.args.way.now) c.loop-place.invariant c.step_at-step.ensures (λ t shut. shut)
+    (IsShut c.args.circ.now c.args.labels.now) c.loop-place.invariant c.step_at-step.ensures (λ t shut. shut)
     (c.is_way_back.ensures.no c.if-is_way_back.false)
 
 pub returns-then-is_way_back : goal.returns-then-is_way_back
@@ -44,11 +44,11 @@ returns-then-is_way_back c =
     (omega (arith, c.loop-place-test.true, c.row_last-place-end.ensures.place)) c.step_at-step.ensures
     c.end_at.ensures in
     let yes = c.is_way_back.ensures.yes c.if-is_way_back.true in
-    found_way c.args.circ.now c.args.way.now c.args.node c.step_at-step.result _ at.arc at.start yes.0 yes.1
+    found_way c.args.circ.now c.args.labels.now c.args.node c.step_at-step.result _ at.arc at.start yes.0 yes.1
     (ap (λ (n : ℕ). n + 1) c.opposite.ensures)
 
 pub returns : goal.returns
-returns c = found_none c.args.circ.now c.args.way.now c.args.node
-    (shut_end c.args.circ.now c.args.way.now c.args.node (scan_end c.args.circ.now c.args.node _ _ c.requires.kept
+returns c = found_none c.args.circ.now c.args.labels.now c.args.node
+    (shut_end c.args.circ.now c.args.labels.now c.args.node (scan_end c.args.circ.now c.args.node _ _ c.requires.kept
     c.requires.node
     c.loop-place.invariant (omega (arith, c.loop-place-test.false, c.row_last-place-end.ensures.place))))

@@ -1,4 +1,4 @@
-use Rattle.residual_tree.specs.Growth.{no_step}
+use Rattle.residual_tree.specs.Repair.{no_step}
 use Rattle.residual_tree.proofs.growing.grow.Given as goal
 
 abbrev pub ghost-spread : goal.ghost-spread

@@ -3,7 +3,7 @@ use Rattle.std.specs.List.{range_with_len}
 use Rattle.circulation.specs.Contents.{network}
 use Rattle.circulation.specs.Residual.{end_of}
 use Rattle.circulation.proofs.Scans.{IsAt, scan_start, scan_at, scan_next, scan_end}
-use Rattle.residual_tree.specs.Growth.{no_step}
+use Rattle.residual_tree.specs.Repair.{no_step}
 use Rattle.residual_tree.proofs.Grows.{IsTried, growing_room, inner_end}
 use Rattle.residual_tree.proofs.Outgoing.{outgoing_start, outgoing_next, outgoing_end}
 use Rattle.residual_tree.proofs.growing.spread_out.Goals as goal
@@ -13,8 +13,8 @@ pub loop-place-init : goal.loop-place-init
 loop-place-init c =
     let d = c.args.circ.now in
     record {
-      state = outgoing_start d c.args.way.now c.args.queue.now c.requires.kept c.requires.places c.requires.bare;
-      scan = scan_start d d.nodes c.row_first-place.result (IsTried d c.args.way.now)
+      state = outgoing_start d c.args.labels.now c.args.queue.now c.requires.kept c.requires.places c.requires.bare;
+      scan = scan_start d d.nodes c.row_first-place.result (IsTried d c.args.labels.now)
           (c.row_first-place.ensures.place ∙ ap (slice_index d.rows.first) c.nodes-outside.ensures.number);
     }
 
@@ -30,13 +30,14 @@ step_here c =
     (omega (arith, c.loop-place.auto.place, first)) (omega (arith, c.loop-place-test.true, last))
     c.step_at-step.ensures c.end_at.ensures
 
-pub reach_end-count-requires-clause-room : goal.reach_end-count-requires-clause-room
-reach_end-count-requires-clause-room c = λ dry.
+pub label_end-count-requires-clause-room : goal.label_end-count-requires-clause-room
+label_end-count-requires-clause-room c = λ unlabeled.
     let d = c.args.circ.now in
     let grows = c.loop-place.invariant.state.grows in
-    growing_room d (no_step d) c.loop-place.way (range_with_len 0 d.nodes) c.loop-place.queue 0 d.nodes 0
+    growing_room d (no_step d) c.loop-place.labels (range_with_len 0 d.nodes) c.loop-place.queue 0 d.nodes 0
     c.loop-place.count (end_of (network d) c.step_at-step.result)
-    (inner_end d c.loop-place.way c.step_at-step.result c.requires.kept (step_here c).arc grows.tree.root dry) grows dry
+    (inner_end d c.loop-place.labels c.step_at-step.result c.requires.kept (step_here c).arc grows.tree.root unlabeled)
+    grows unlabeled
 
 pub loop-place-preserved : goal.loop-place-preserved
 loop-place-preserved c =
@@ -47,14 +48,14 @@ loop-place-preserved c =
     let at = scan_at d d.nodes c.loop-place.place c.step_at-step.result c.end_at.result c.requires.kept (omega arith)
     (omega (arith, c.loop-place.auto.place, first)) (omega (arith, c.loop-place-test.true, last))
     c.step_at-step.ensures c.end_at.ensures in
-    let e = c.reach_end-count.ensures in
-    let next = outgoing_next d c.loop-place.way c.loop-place.queue c.reach_end-count.new.way
-    c.reach_end-count.new.queue c.loop-place.count c.reach_end-count.result c.step_at-step.result c.requires.kept
+    let e = c.label_end-count.ensures in
+    let next = outgoing_next d c.loop-place.labels c.loop-place.queue c.label_end-count.new.labels
+    c.label_end-count.new.queue c.loop-place.count c.label_end-count.result c.step_at-step.result c.requires.kept
     c.loop-place.invariant.state at.arc at.start e.fresh e.seen e.full in
     record {
       state = next.next;
-      scan = scan_next d d.nodes c.loop-place.place c.step_at-step.result (IsTried d c.loop-place.way)
-          (IsTried d c.reach_end-count.new.way) c.loop-place.invariant.scan c.step_at-step.ensures
+      scan = scan_next d d.nodes c.loop-place.place c.step_at-step.result (IsTried d c.loop-place.labels)
+          (IsTried d c.label_end-count.new.labels) c.loop-place.invariant.scan c.step_at-step.ensures
           (λ s tried room. next.more (end_of (network d) s) (tried room)) next.here;
     }
 
@@ -63,6 +64,6 @@ returns c =
     let d = c.args.circ.now in
     let last = c.row_last-place-end.ensures.place
     ∙ ap (λ (n : ℕ). slice_index d.rows.first (n + 1)) c.nodes-outside.ensures.number in
-    outgoing_end d c.loop-place.way c.loop-place.queue c.loop-place.count c.loop-place.invariant.state
-    (scan_end d d.nodes c.loop-place.place (IsTried d c.loop-place.way) c.requires.kept (omega arith)
+    outgoing_end d c.loop-place.labels c.loop-place.queue c.loop-place.count c.loop-place.invariant.state
+    (scan_end d d.nodes c.loop-place.place (IsTried d c.loop-place.labels) c.requires.kept (omega arith)
     c.loop-place.invariant.scan (omega (arith, c.loop-place-test.false, last)))

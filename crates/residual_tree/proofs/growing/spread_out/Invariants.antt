@@ -5,6 +5,6 @@ use Rattle.residual_tree.proofs.growing.spread_out.Given as goal
 
 abbrev pub invariant-loop-place : goal.invariant-loop-place
 invariant-loop-place l = record {
-  state : IsOutgoing l.circ l.way l.queue l.count;
-  scan : IsScan l.circ l.circ.nodes l.place (IsTried l.circ l.way);
+  state : IsOutgoing l.circ l.labels l.queue l.count;
+  scan : IsScan l.circ l.circ.nodes l.place (IsTried l.circ l.labels);
 }

@@ -1,12 +1,12 @@
 use Rattle.std.proofs.Common.{ℕ, ◌≡◌, ◌+◌, ◌-◌, ◌*◌, arith, ap, sym, subst}
 use Rattle.circulation.specs.Contents.{Contents, network, flow_of, step_of}
 use Rattle.circulation.specs.Residual.{IsClosedWalk}
-use Rattle.residual_tree.proofs.Rounds.{round_worn, round_is, round_written}
+use Rattle.residual_tree.proofs.Rounds.{round_saturated, round_is, round_written}
 use Rattle.residual_tree.proofs.raising.round.Goals as goal
 
 pub trace-walk-requires-clause-tree : goal.trace-walk-requires-clause-tree
 trace-walk-requires-clause-tree g c =
-    record { step = c.args.lent; enters = c.requires.lent_end; tree = c.requires.tree }
+    record { step = c.args.artificial; enters = c.requires.artificial_end; tree = c.requires.tree }
 
 pub push-requires-clause-walk : goal.push-requires-clause-walk
 push-requires-clause-walk g c =
@@ -21,37 +21,39 @@ push-requires-clause-walk g c =
     (step_of c.trace-walk.new.circ) c.trace-walk.result.first n c.trace-walk.result.amount) last own
 
 pub write_step-first-requires-clause-some : goal.write_step-first-requires-clause-some
-write_step-first-requires-clause-some g c = c.trace-walk.ensures.traced.front
+write_step-first-requires-clause-some g c = c.trace-walk.ensures.traced.prefix
 
 pub repair-requires-clause-arcs : goal.repair-requires-clause-arcs
 repair-requires-clause-arcs g c =
     let t = c.trace-walk.ensures.traced in
     let nodes = ap (λ (x : Contents). x.nodes) t.rest in
-    (round_worn c.args.circ.now c.trace-walk.new.circ c.push.new.self c.hold.new.self c.write_step-first.new.circ
+    (round_saturated c.args.circ.now c.trace-walk.new.circ c.push.new.self c.hold.new.self c.write_step-first.new.circ
     c.args.tree.now
     c.args.arc c.args.most c.trace-walk.result.first c.write_step-first.result _ _ c.trace-walk.result.amount
     c.flow-flow.result
     c.trace-walk.ensures.kept
-    record { step = c.args.lent; enters = c.requires.lent_end; tree = c.requires.tree } c.requires.lent_arc
+    record { step = c.args.artificial; enters = c.requires.artificial_end; tree = c.requires.tree }
+    c.requires.artificial_arc
     c.requires.held t (omega (arith, c.if-walk-eq0.false)) c.push.ensures.rest
     (omega (arith, nodes, c.nodes.ensures.number, t.some)) c.push.ensures.pushed c.hold.ensures.held
     c.write_step-first.ensures.first
     c.write_step-first.ensures.written (omega (arith, c.write_step-first.ensures.first))).arcs
 
-pub repair-requires-clause-worn : goal.repair-requires-clause-worn
-repair-requires-clause-worn g c =
+pub repair-requires-clause-saturated : goal.repair-requires-clause-saturated
+repair-requires-clause-saturated g c =
     let t = c.trace-walk.ensures.traced in
     let nodes = ap (λ (x : Contents). x.nodes) t.rest in
-    (round_worn c.args.circ.now c.trace-walk.new.circ c.push.new.self c.hold.new.self c.write_step-first.new.circ
+    (round_saturated c.args.circ.now c.trace-walk.new.circ c.push.new.self c.hold.new.self c.write_step-first.new.circ
     c.args.tree.now
     c.args.arc c.args.most c.trace-walk.result.first c.write_step-first.result _ _ c.trace-walk.result.amount
     c.flow-flow.result
     c.trace-walk.ensures.kept
-    record { step = c.args.lent; enters = c.requires.lent_end; tree = c.requires.tree } c.requires.lent_arc
+    record { step = c.args.artificial; enters = c.requires.artificial_end; tree = c.requires.tree }
+    c.requires.artificial_arc
     c.requires.held t (omega (arith, c.if-walk-eq0.false)) c.push.ensures.rest
     (omega (arith, nodes, c.nodes.ensures.number, t.some)) c.push.ensures.pushed c.hold.ensures.held
     c.write_step-first.ensures.first
-    c.write_step-first.ensures.written (omega (arith, c.write_step-first.ensures.first))).worn
+    c.write_step-first.ensures.written (omega (arith, c.write_step-first.ensures.first))).saturated
 
 pub returns-clause-pushed : goal.returns-clause-pushed
 returns-clause-pushed g c = λ _.

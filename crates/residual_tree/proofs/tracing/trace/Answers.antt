@@ -10,7 +10,7 @@ loop-node-init c =
     rw (c.nodes-nodes.ensures.number, c.ends-ends.ensures.from)
     (tracing_start c.args.circ.now c.args.tree.now c.args.arc c.args.most c.requires.kept c.requires.arc
     c.requires.positive
-    c.requires.reached)
+    c.requires.labeled)
 
 pub loop-node-preserved : goal.loop-node-preserved
 loop-node-preserved c =
@@ -38,7 +38,7 @@ returns-then-node-nodes-clause-traced c =
     c.loop-node.first x.result w.result c.loop-node.node c.loop-node.amount c.min-amount.result (2 * c.from-out.result)
     (2 * c.from.result) c.requires.kept c.requires.arc c.requires.positive c.loop-node.invariant c.requires.tree
     c.requires.most
-    c.requires.reached c.requires.exit ne (c.if-node-nodes.true ∙ c.nodes-nodes.ensures.number)
+    c.requires.labeled c.requires.exit ne (c.if-node-nodes.true ∙ c.nodes-nodes.ensures.number)
     (ap (λ (a : ℕ). 2 * a) c.from-out.ensures) (ap (λ (a : ℕ). 2 * a) c.from.ensures)
     (c.min-amount.ensures ∙ ap (min c.loop-node.amount) c.room.ensures) x.ensures.first w.ensures.first
     x.ensures.written

@@ -7,23 +7,23 @@ use Rattle.result_reader.specs.Form.{shapes_at}
 use Rattle.result_reader.proofs.Growing.{added-next, added-whole}
 use Rattle.result_reader.proofs.dues.add_section.Goals as goal
 
-pub loop-place-preserved : goal.loop-place-preserved
-loop-place-preserved c =
+pub loop-position-preserved : goal.loop-position-preserved
+loop-position-preserved c =
     added-next (shapes_at c.args.section c.args.basin.now) (in_order (section_space c.args.section) c.args.basin.now)
-    c.loop-place.place c.entry_at-entry.result _ _ _
-    (ap (λ space. slice_get (in_order space c.args.basin.now) c.loop-place.place) (sym c.space-space.ensures)
-    ∙ c.entry_at-entry.ensures.place)
-    c.loop-place.invariant c.in_ok-add_entry.ensures
+    c.loop-position.position c.entry_at-entry.result _ _ _
+    (ap (λ space. slice_get (in_order space c.args.basin.now) c.loop-position.position) (sym c.space-space.ensures)
+    ∙ c.entry_at-entry.ensures.position)
+    c.loop-position.invariant c.in_ok-add_entry.ensures
 
 pub returns : goal.returns
 returns c =
     added-whole (shapes_at c.args.section c.args.basin.now) (in_order (section_space c.args.section) c.args.basin.now)
-    c.loop-place.place _ _
+    c.loop-position.position _ _
     (omega (
       arith,
       length-in_order (section_space c.args.section) c.args.basin.now,
       c.count_in-count.ensures,
       ap (λ space. count_in space c.args.basin.now) c.space-space.ensures,
-      c.loop-place-test.false,
+      c.loop-position-test.false,
     ))
-    c.loop-place.invariant
+    c.loop-position.invariant

@@ -5,8 +5,8 @@ use Rattle.water_model.specs.Text.{section_space}
 use Rattle.result_reader.specs.Form.{shapes_at}
 use Rattle.result_reader.proofs.dues.add_section.Given as goal
 
-abbrev pub invariant-loop-place : goal.invariant-loop-place
-invariant-loop-place l =
+abbrev pub invariant-loop-position : goal.invariant-loop-position
+invariant-loop-position l =
     l.dues.items
     ≡ l.fn.dues.items ++ flat_map (shapes_at l.section l.basin)
-    (take l.place (in_order (section_space l.section) l.basin))
+    (take l.position (in_order (section_space l.section) l.basin))

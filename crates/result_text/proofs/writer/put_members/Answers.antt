@@ -1,13 +1,13 @@
 use Rattle.std.proofs.Common.{arith, sym, subst, List}
 use Rattle.std.specs.Io.KnownBytes.{Appends}
 use Rattle.std.specs.List.{flat_map}
-use Rattle.water_model.specs.Places.{numbers_from}
+use Rattle.water_model.specs.Indices.{numbers_from}
 use Rattle.water_model.specs.Spelling.{whole_line}
 use Rattle.water_model.specs.declared.item.Item.{Item}
 use Rattle.water_model.proofs.Order.{numbers_from-get}
 use Rattle.result_text.specs.Members.{member_at}
 use Rattle.result_text.proofs.Members.{line_of_next, SoFar-at, SoFar-rest}
-use Rattle.water_edge.proofs.Puts.{SoFar-none, SoFar-next, SoFar-fails, PutsFront}
+use Rattle.water_edge.proofs.Puts.{SoFar-none, SoFar-next, SoFar-fails, PutsPrefix}
 use Rattle.result_text.proofs.writer.put_members.Goals as goal
 
 pub loop-turn-init : goal.loop-turn-init
@@ -42,7 +42,7 @@ returns-in_err-put_item-in-Some-clause-text g c =
     (SoFar-at c.args.basin.now c.args.words.now c.args.nodes c.loop-turn.from c.in-Some.node
     c.loop-turn.invariant.put next)
     (numbers_from-get 0 c.args.nodes c.in-Some.node c.in-Some.node (omega (arith, next.below)) (omega arith))
-    (subst (λ (items : List Item). PutsFront (g.K.Sink.taken c.loop-turn.sink) (g.K.Sink.taken c.put_item.new.sink)
+    (subst (λ (items : List Item). PutsPrefix (g.K.Sink.taken c.loop-turn.sink) (g.K.Sink.taken c.put_item.new.sink)
     (flat_map (whole_line c.args.basin.now) items))
     (sym (line_of_next c.args.words.now c.loop-turn.from c.args.nodes c.in-Some.node next))
     c.in_err-put_item-in-Some.ensures.text)

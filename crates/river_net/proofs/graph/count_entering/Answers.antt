@@ -30,7 +30,7 @@ overflow_add-index_mut c =
     entering_small (record { nodes = c.args.nodes; links = c.args.links.now }) c.loop-link.link-index
     c.loop-link.counts.items c.link-item.result.to c.index_mut.result.now to c.index_mut.ensures.value
     c.loop-link.invariant in
-    omega (arith, c.requires.few_links)
+    omega (arith, c.requires.bounded_links)
 
 pub loop-link-preserved : goal.loop-link-preserved
 loop-link-preserved c =

@@ -1,6 +1,6 @@
 use Rattle.std.proofs.Common.{◌≡◌, ◌+◌, ◌<◌, sym, arith, refl, length}
 use Rattle.std.proofs.lemmas.Option.{get_or_from_slice_get}
-use Rattle.place_sums.proofs.Totals.{count_at_most}
+use Rattle.finite_sums.proofs.Totals.{count_at_most}
 use Rattle.senior_hold.specs.MonthNetwork.{takes, out_arc}
 use Rattle.senior_hold.specs.Spilled.{spilled}
 use Rattle.senior_hold.proofs.Numbers.{numbers_out}
@@ -11,12 +11,12 @@ pub overflow_add-into : goal.overflow_add-into
 overflow_add-into c = omega (
   arith,
   c.requires.arcs.spill,
-  c.requires.valid.few.links,
-  c.requires.valid.few.rights,
+  c.requires.valid.bounded.links,
+  c.requires.valid.bounded.rights,
   count_at_most (length c.args.basin.now.rights) (λ r. takes c.args.basin.now r),
   c.loop-node-test.true,
   c.len-node-end.ensures,
-  c.requires.valid.few.nodes,
+  c.requires.valid.bounded.nodes,
 )
 
 pub offset_bounds-into-arcs : goal.offset_bounds-into-arcs
@@ -24,12 +24,12 @@ offset_bounds-into-arcs c =
     omega (
       arith,
       c.requires.arcs.spill,
-      c.requires.valid.few.links,
-      c.requires.valid.few.rights,
+      c.requires.valid.bounded.links,
+      c.requires.valid.bounded.rights,
       count_at_most (length c.args.basin.now.rights) (λ r. takes c.args.basin.now r),
       c.loop-node-test.true,
       c.len-node-end.ensures,
-      c.requires.valid.few.nodes,
+      c.requires.valid.bounded.nodes,
     )
 
 pub bounds-into-arcs : goal.bounds-into-arcs

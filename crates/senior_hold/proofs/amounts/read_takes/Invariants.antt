@@ -1,5 +1,5 @@
 use Rattle.std.proofs.Common.{◌≡◌, ℕ, ◌<◌, slice_index}
-use Rattle.place_sums.specs.Sums.{when}
+use Rattle.finite_sums.specs.Sums.{when}
 use Rattle.circulation.specs.Contents.{flow_of}
 use Rattle.senior_hold.specs.MonthNetwork.{takes, take_arc}
 use Rattle.senior_hold.proofs.amounts.read_takes.Given as goal

@@ -1,5 +1,5 @@
 use Rattle.std.proofs.Common.{◌≡◌, ℕ, ◌<◌, ◌^◌, slice_index}
-use Rattle.place_sums.specs.Sums.{when}
+use Rattle.finite_sums.specs.Sums.{when}
 use Rattle.water_model.specs.Basin.{is_outlet}
 use Rattle.senior_hold.proofs.amounts.write_outlets.Given as goal
 

@@ -1,6 +1,6 @@
 use Rattle.std.proofs.Common.{◌∙◌, ap, sym, arith}
 use Rattle.std.specs.Prelude.{is_some}
-use Rattle.place_sums.proofs.Totals.{total_where_start, count_at_most}
+use Rattle.finite_sums.proofs.Totals.{total_where_start, count_at_most}
 use Rattle.senior_hold.specs.MonthNetwork.{takes}
 use Rattle.senior_hold.proofs.Numbers.{counted_more, counted_same}
 use Rattle.senior_hold.proofs.arcs.count_takers.Goals as goal
@@ -16,7 +16,7 @@ overflow_add-count c = omega (
   count_at_most c.loop-right.right (λ r. takes c.args.basin.now r),
   c.loop-right-test.true,
   c.len-right-end.ensures,
-  c.requires.few.rights,
+  c.requires.bounded.rights,
 )
 
 pub loop-right-preserved : goal.loop-right-preserved

@@ -1,5 +1,5 @@
 use Rattle.std.proofs.Common.{◌≡◌}
-use Rattle.place_sums.specs.Sums.{count_where}
+use Rattle.finite_sums.specs.Sums.{count_where}
 use Rattle.senior_hold.specs.MonthNetwork.{takes}
 use Rattle.senior_hold.proofs.arcs.count_takers.Given as goal
 

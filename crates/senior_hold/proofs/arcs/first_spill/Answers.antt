@@ -1,5 +1,5 @@
 use Rattle.std.proofs.Common.{arith, length}
-use Rattle.place_sums.proofs.Totals.{count_at_most}
+use Rattle.finite_sums.proofs.Totals.{count_at_most}
 use Rattle.senior_hold.specs.MonthNetwork.{takes}
 use Rattle.senior_hold.proofs.arcs.first_spill.Goals as goal
 
@@ -10,6 +10,6 @@ overflow_add-result c =
       c.len.ensures,
       c.count_takers.ensures,
       count_at_most (length c.args.basin.now.rights) (λ r. takes c.args.basin.now r),
-      c.requires.few.links,
-      c.requires.few.rights,
+      c.requires.bounded.links,
+      c.requires.bounded.rights,
     )

@@ -1,5 +1,5 @@
 use Rattle.std.proofs.Common.{◌∙◌, ◌+◌, ℕ, length, arith, ap, sym}
-use Rattle.place_sums.proofs.Totals.{count_at_most, total_where_start}
+use Rattle.finite_sums.proofs.Totals.{count_at_most, total_where_start}
 use Rattle.senior_hold.specs.MonthNetwork.{takes, right_arc}
 use Rattle.senior_hold.proofs.Lists.{pushed_each, pushed_count}
 use Rattle.senior_hold.proofs.RightKinds.{instream_arc, taker_arc, take_arc_skip, take_arc_step}
@@ -19,8 +19,8 @@ overflow_add-next c =
       arith,
       c.loop-right.invariant.next,
       count_at_most c.loop-right.right (λ r. takes c.args.basin.now r),
-      c.requires.few.links,
-      c.requires.few.rights,
+      c.requires.bounded.links,
+      c.requires.bounded.rights,
       c.loop-right-test.true,
       c.len-right-end.ensures,
     )

@@ -5,22 +5,24 @@ use Rattle.water_model.specs.Cuts.{IsTight, IsReach}
 use Rattle.water_model.specs.CutSets.{CutSets, set_of}
 use Rattle.water_model.specs.declared.types.Basin.{Basin}
 use Rattle.senior_hold.specs.Laws.{SolvedMonthsFollow}
-use Rattle.senior_hold.specs.Solved.{IsSettled}
+use Rattle.senior_hold.specs.Solved.{IsMetOrReached}
 use Rattle.senior_hold.proofs.laws.solved_months_follow.Goals as goal
 
 short : (b : Basin) (month : Month) (supply want delivered : List ℕ) (cuts : CutSets) (r : ℕ) →
-    slice_index delivered r < slice_index want r → IsSettled b month supply want delivered cuts r →
+    slice_index delivered r < slice_index want r → IsMetOrReached b month supply want delivered cuts r →
     (cut : List Bool) × (set_of cuts r ≡ Some cut) × IsTight b month supply delivered r cut
 short b month supply want delivered cuts r less (inl met) = absurd (let enough = met.0 in omega arith)
 short b month supply want delivered cuts r less (inr settled) = (settled.1.0, settled.1.1.0, settled.1.1.1.is_tight)
 
 met : (b : Basin) (month : Month) (supply want delivered : List ℕ) (cuts : CutSets) (r : ℕ) →
-    slice_index want r ≤ slice_index delivered r → IsSettled b month supply want delivered cuts r → set_of cuts r ≡ None
+    slice_index want r ≤ slice_index delivered r → IsMetOrReached b month supply want delivered cuts r →
+    set_of cuts r ≡ None
 met b month supply want delivered cuts r enough (inl settled) = settled.1
 met b month supply want delivered cuts r enough (inr settled) = absurd (let less = settled.0 in omega arith)
 
 reach : (b : Basin) (month : Month) (supply want delivered : List ℕ) (cuts : CutSets) (r : ℕ) (cut : List Bool) →
-    set_of cuts r ≡ Some cut → IsSettled b month supply want delivered cuts r → IsReach b month supply delivered r cut
+    set_of cuts r ≡ Some cut → IsMetOrReached b month supply want delivered cuts r →
+    IsReach b month supply delivered r cut
 reach b month supply want delivered cuts r cut held (inl settled) =
     absurd (let both = sym settled.1 ∙ held in cc (both))
 reach b month supply want delivered cuts r cut held (inr settled) =

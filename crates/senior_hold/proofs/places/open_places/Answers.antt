@@ -4,11 +4,11 @@ use Rattle.word_region.specs.declared.Place.{Place}
 use Rattle.circulation.specs.declared.Circulation.{Circulation}
 use Rattle.residual_tree.specs.TreeWords.{tree_words}
 use Rattle.senior_hold.specs.Places.{HasPlaces}
-use Rattle.senior_hold.proofs.Placing.{few_arcs, ends_fit, places_opened}
+use Rattle.senior_hold.proofs.Placing.{bounded_arcs, ends_fit, places_opened}
 use Rattle.senior_hold.proofs.places.open_places.Goals as goal
 
-pub open-requires-clause-few : goal.open-requires-clause-few
-open-requires-clause-few c = omega (arith, few_arcs c.args.basin.now c.requires.valid, c.requires.ends.count)
+pub open-requires-clause-bounded : goal.open-requires-clause-bounded
+open-requires-clause-bounded c = omega (arith, bounded_arcs c.args.basin.now c.requires.valid, c.requires.ends.count)
 
 pub open-requires-clause-ends : goal.open-requires-clause-ends
 open-requires-clause-ends c =

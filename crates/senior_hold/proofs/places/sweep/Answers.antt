@@ -11,7 +11,7 @@ sweep_lent-requires-clause-parts g c = parts_lent c.args.basin.now c.args.region
       words = c.words_mut-words.result.now;
       is = c.words_mut-words.ensures.words;
       count = c.words_mut-words.ensures.count;
-      front = c.split_at_mut-held.ensures.front;
+      prefix = c.split_at_mut-held.ensures.front;
       back = c.split_at_mut-held.ensures.back_len;
       first = c.split_at_mut-fixed.ensures.front
           ∙ ap (λ (n : ℕ). take n c.split_at_mut-held.result.0.now) c.fixed.ensures;
@@ -29,7 +29,7 @@ returns-clause-places g c =
       words = c.words_mut-words.result.now;
       is = c.words_mut-words.ensures.words;
       count = c.words_mut-words.ensures.count;
-      front = c.split_at_mut-held.ensures.front;
+      prefix = c.split_at_mut-held.ensures.front;
       back = c.split_at_mut-held.ensures.back_len;
       first = c.split_at_mut-fixed.ensures.front
           ∙ ap (λ (n : ℕ). take n c.split_at_mut-held.result.0.now) c.fixed.ensures;
@@ -38,11 +38,11 @@ returns-clause-places g c =
     } in
     let moved = c.sweep_lent.auto.moving in
     let long = c.split_at_mut-held.ensures.front_len in
-    let front = c.split_at_mut-fixed.ensures.front_len in
+    let prefix = c.split_at_mut-fixed.ensures.front_len in
     let back = c.split_at_mut-fixed.ensures.back_len in
     places_again c.args.basin.now c.args.region.now c.args.places.now c.split_at_mut-fixed.result.0.now
     c.split_at_mut-fixed.result.1.now c.sweep_lent.new.moving c.sweep_lent.new.tree c.requires.places parts.arcs
-    (front ∙ c.fixed.ensures) (omega (arith, moved, long, front, back))
+    (prefix ∙ c.fixed.ensures) (omega (arith, moved, long, prefix, back))
     (omega (
       arith,
       c.sweep_lent.auto.tree,

@@ -11,8 +11,8 @@ use Rattle.senior_hold.proofs.SearchedPlans.{plan_up, outlets_most, outlets_smal
 use Rattle.water_model.proofs.Lists.{whole_rows}
 use Rattle.senior_hold.proofs.search_sweep.begin_river.Goals as goal
 
-pub lend_month-requires-clause-few : goal.lend_month-requires-clause-few
-lend_month-requires-clause-few c =
+pub lend_month-requires-clause-bounded : goal.lend_month-requires-clause-bounded
+lend_month-requires-clause-bounded c =
     let size2 : length c.lay.new.into ≡ length c.args.room.now.start.items = c.lay.auto.into
     ∙ ap length c.deref_mut-2.ensures.value in
     let is2 : c.deref-2.result.now ≡ c.lay.new.into = c.deref-2.ensures.value

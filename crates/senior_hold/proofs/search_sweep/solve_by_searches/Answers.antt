@@ -3,13 +3,13 @@ use Rattle.senior_hold.proofs.MonthArcs.{right_kind}
 use Rattle.senior_hold.proofs.Solves.{IsStanding, standing_next}
 use Rattle.senior_hold.proofs.SpilledArcs.{spilled_kinds}
 use Rattle.senior_hold.proofs.Spilled.{spilled_turn, spilled_wants}
-use Rattle.senior_hold.proofs.SearchedPlans.{standing_start, open_few, searched_solved}
+use Rattle.senior_hold.proofs.SearchedPlans.{standing_start, open_bounded, searched_solved}
 use Rattle.circulation.specs.Contents.{Contents, network}
 use Rattle.augment.specs.Raised.{open_arcs}
 use Rattle.senior_hold.specs.MonthNetwork.{arc_count, spill_arc}
 use Rattle.senior_hold.specs.Spilled.{spilled}
 use Rattle.senior_hold.proofs.Turns.{turn_in_range, one_more, within_all, order_of_roll, turn, turn_arc, turn_want}
-use Rattle.senior_hold.proofs.Turns.{turn_way_out, turn_free}
+use Rattle.senior_hold.proofs.Turns.{turn_path_out, turn_free}
 use Rattle.senior_hold.proofs.search_sweep.solve_by_searches.Goals as goal
 
 pub loop-turn-init : goal.loop-turn-init
@@ -45,14 +45,15 @@ serve-requires-clause-want g c =
     (spilled_kinds c.args.basin.now (right_kind c.args.basin.now c.requires.valid)) t
     (spilled_wants c.args.basin.now c.args.month c.args.want.now c.requires.given.wants) c.loop-turn.invariant.standing
 
-pub serve-requires-clause-way_out : goal.serve-requires-clause-way_out
-serve-requires-clause-way_out g c =
+pub serve-requires-clause-path_out : goal.serve-requires-clause-path_out
+serve-requires-clause-path_out g c =
     let o = order_of_roll c.args.basin.now c.args.layout.now.roll c.requires.valid c.requires.layout.is_roll in
     let own = turn c.args.basin.now c.args.layout.now.roll.order c.by_seniority-order.result.now c.args.layout.now.arcs
     o c.loop-turn.turn c.index.result.now c.requires.layout.are_arcs c.by_seniority-order.ensures
     c.loop-turn-test.true c.index.ensures in
     let t = spilled_turn c.args.basin.now c.args.layout.now.roll.order c.loop-turn.turn _ c.index.result.now own in
-    turn_way_out c.args.basin.now c.args.month c.args.supply.now c.args.want.now _ c.loop-turn.turn _ c.index.result.now
+    turn_path_out c.args.basin.now c.args.month c.args.supply.now c.args.want.now _ c.loop-turn.turn _
+    c.index.result.now
     c.loop-turn.circ c.loop-turn.cuts c.requires.valid own c.requires.given.supplies.small
     c.loop-turn.invariant.outlets c.loop-turn.invariant.standing
 
@@ -84,7 +85,7 @@ loop-turn-preserved g c =
           ∙ c.loop-turn.invariant.outlets n l;
       first = λ e. absurd (omega arith);
       cost = one_more (arc_count c.args.basin.now) (open_arcs (network c.loop-turn.circ)) c.loop-turn.turn _ _ _
-          (open_few c.args.basin.now c.loop-turn.circ c.loop-turn.invariant.standing.net.ends
+          (open_bounded c.args.basin.now c.loop-turn.circ c.loop-turn.invariant.standing.net.ends
           c.loop-turn.invariant.outlets)
           c.loop-turn.invariant.cost c.serve.ensures.cost;
     }

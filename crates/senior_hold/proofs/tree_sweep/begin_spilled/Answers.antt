@@ -2,12 +2,12 @@ use Rattle.std.proofs.Common.{◌≡◌, ◌∙◌, ◌^◌, ◌<◌, ℕ, List,
 use Rattle.std.proofs.lemmas.List.{with_items_is, get_or-replicate}
 use Rattle.senior_hold.specs.Spilled.{spilled}
 use Rattle.senior_hold.proofs.Begins.{bounds_over}
-use Rattle.senior_hold.proofs.SpilledStarts.{held_arcs, supplies_few, spilled_begins, spilled_begun}
+use Rattle.senior_hold.proofs.SpilledStarts.{held_arcs, supplies_bounded, spilled_begins, spilled_begun}
 use Rattle.water_model.proofs.Lists.{whole_rows}
 use Rattle.senior_hold.proofs.tree_sweep.begin_spilled.Goals as goal
 
-pub lend_month-requires-clause-few : goal.lend_month-requires-clause-few
-lend_month-requires-clause-few c = supplies_few c.args.basin.now c.args.supply.now _
+pub lend_month-requires-clause-bounded : goal.lend_month-requires-clause-bounded
+lend_month-requires-clause-bounded c = supplies_bounded c.args.basin.now c.args.supply.now _
     (held_arcs c.args.basin.now c.args.held.now c.args.fixed.now c.args.moving.now c.requires.arcs) c.requires.supply
 
 pub lend_month-requires-clause-start : goal.lend_month-requires-clause-start

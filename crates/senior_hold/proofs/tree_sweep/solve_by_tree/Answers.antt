@@ -1,7 +1,7 @@
 use Rattle.std.proofs.Common.{◌≡◌, ◌∙◌, true, false, length, slice_index, arith, refl, sym, ap, subst, inl, inr}
 use denote.Enum.Bare.{sameb}
-use Rattle.senior_hold.specs.declared.pulls.Turn.{Turn}
-use Rattle.senior_hold.specs.contracts.pulls.Turn.{the_type}
+use Rattle.senior_hold.specs.declared.tree_raises.Turn.{Turn}
+use Rattle.senior_hold.specs.contracts.tree_raises.Turn.{the_type}
 use Rattle.circulation.specs.Contents.{Contents, network, flow_of}
 use Rattle.senior_hold.specs.MonthNetwork.{spill_arc}
 use Rattle.senior_hold.specs.Spilled.{spilled}
@@ -10,7 +10,7 @@ use Rattle.senior_hold.proofs.MonthArcs.{right_kind}
 use Rattle.senior_hold.proofs.Solves.{IsStanding, standing_next}
 use Rattle.senior_hold.proofs.SpilledArcs.{spilled_kinds}
 use Rattle.senior_hold.proofs.Spilled.{spilled_turn, spilled_wants, spilled_standing, has_spills}
-use Rattle.senior_hold.proofs.SettledPlans.{spills_few, tree_solved}
+use Rattle.senior_hold.proofs.SettledPlans.{spills_bounded, tree_solved}
 use Rattle.senior_hold.proofs.Turns.{turn_in_range, order_of_roll, turn, turn_arc, turn_want, turn_free}
 use Rattle.senior_hold.proofs.tree_sweep.solve_by_tree.Goals as goal
 
@@ -25,12 +25,12 @@ gave_up Turn.Served h = cc
 pub overflow_cast-left : goal.overflow_cast-left
 overflow_cast-left g c =
     let o = order_of_roll c.args.basin.now c.args.layout.now.roll c.requires.valid c.requires.layout.is_roll in
-    omega (arith, ap length c.by_seniority-order.ensures, o.count, c.requires.valid.few.rights)
+    omega (arith, ap length c.by_seniority-order.ensures, o.count, c.requires.valid.bounded.rights)
 
 pub overflow_mul-left : goal.overflow_mul-left
 overflow_mul-left g c =
     let o = order_of_roll c.args.basin.now c.args.layout.now.roll c.requires.valid c.requires.layout.is_roll in
-    omega (arith, ap length c.by_seniority-order.ensures, o.count, c.requires.valid.few.rights)
+    omega (arith, ap length c.by_seniority-order.ensures, o.count, c.requires.valid.bounded.rights)
 
 pub loop-turn-init : goal.loop-turn-init
 loop-turn-init g c =
@@ -167,10 +167,10 @@ returns-then-eq-clause-gave_up g c = λ _.
 pub settle_plan-requires-clause-small : goal.settle_plan-requires-clause-small
 settle_plan-requires-clause-small g c =
     let o = order_of_roll c.args.basin.now c.args.layout.now.roll c.requires.valid c.requires.layout.is_roll in
-    spills_few c.args.basin.now c.args.month c.args.supply.now c.args.want.now (network c.loop-turn.circ)
+    spills_bounded c.args.basin.now c.args.month c.args.supply.now c.args.want.now (network c.loop-turn.circ)
     (flow_of c.loop-turn.circ) c.requires.valid
     c.loop-turn.invariant.standing.net (c.loop-turn.invariant.standing.swept o).flow
-    (let few = c.requires.given.supplies.small in omega arith)
+    (let bounded = c.requires.given.supplies.small in omega arith)
 
 pub returns-clause-solved : goal.returns-clause-solved
 returns-clause-solved g c =
@@ -185,7 +185,7 @@ returns-clause-solved g c =
     ) in
     λ _. tree_solved c.args.basin.now c.args.month c.args.supply.now c.args.want.now c.args.layout.now.roll.order
     c.loop-turn.circ c.begin_spilled-circ.result c.loop-turn.cuts c.settle_plan.new.plan
-    c.requires.valid o (let few = c.requires.given.supplies.small in omega arith)
+    c.requires.valid o (let bounded = c.requires.given.supplies.small in omega arith)
     (subst (λ n. IsStanding (spilled c.args.basin.now) c.args.month c.args.supply.now c.args.want.now
     c.args.layout.now.roll.order n c.loop-turn.circ c.loop-turn.cuts) all c.loop-turn.invariant.standing)
     c.settle_plan.ensures.settled c.begin_spilled-circ.ensures.start (λ h. c.loop-turn.invariant.first (all ∙ h))

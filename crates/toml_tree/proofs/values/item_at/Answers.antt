@@ -1,4 +1,4 @@
-use Rattle.toml_tree.proofs.PlaceLaws.{item_got}
+use Rattle.toml_tree.proofs.IndexLaws.{item_got}
 use Rattle.toml_tree.proofs.values.item_at.Goals as goal
 
 pub returns : goal.returns

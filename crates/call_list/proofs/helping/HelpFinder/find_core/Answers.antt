@@ -23,9 +23,14 @@ keep-requires-clause-nodes c =
       c.requires.finder.nodes,
     )
 
-pub keep-requires-clause-few : goal.keep-requires-clause-few
-keep-requires-clause-few c =
-    omega (arith, ap length c.core.ensures, c.find_core.ensures.core.upstream.one_each, c.requires.plan.valid.few.nodes)
+pub keep-requires-clause-bounded : goal.keep-requires-clause-bounded
+keep-requires-clause-bounded c =
+    omega (
+      arith,
+      ap length c.core.ensures,
+      c.find_core.ensures.core.upstream.one_each,
+      c.requires.plan.valid.bounded.nodes,
+    )
 
 pub returns-clause-finder : goal.returns-clause-finder
 returns-clause-finder c = record {

@@ -1,5 +1,5 @@
 use Rattle.std.proofs.Common.{sym, ap, ◌∙◌, [], ◌∷◌, ◌++◌}
-use Rattle.cert_check.specs.CheckerInside.{seen_of}
+use Rattle.cert_check.specs.CheckerInside.{view_of}
 use Rattle.cert_check.proofs.Standings.{still_refused, refusal_is, refusal_stands, good_is, good_stands}
 use Rattle.cert_check.proofs.checker.Checker.line.Goals as goal
 
@@ -19,11 +19,11 @@ pub invariant_of-self : goal.invariant_of-self
 invariant_of-self c =
     let lines = c.self.invariant.lines in
     record {
-      means = c.self.invariant.means;
+      context = c.self.invariant.context;
       lines = record {
         lines = lines.lines ++ c.args.text.now ∷ [];
-        stands = good_stands (record (seen_of c.self.inside) { book = c.take_line.new.book })
+        stands = good_stands (record (view_of c.self.inside) { progress = c.take_line.new.progress })
             (lines.lines ++ c.args.text.now ∷ []) c.in-None.is
-            (c.in-Ok.ensures.takes lines.lines (good_is (seen_of c.self.inside) lines.lines c.in-None.is lines.stands));
+            (c.in-Ok.ensures.takes lines.lines (good_is (view_of c.self.inside) lines.lines c.in-None.is lines.stands));
       };
     }

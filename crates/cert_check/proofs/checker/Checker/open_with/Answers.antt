@@ -5,11 +5,11 @@ use Rattle.cert_check.proofs.checker.Checker.open_with.Goals as goal
 pub returns-clause-none : goal.returns-clause-none
 returns-clause-none c =
     first_book c.args.basin.now c.args.series.now _ c.in_ok-reader.ensures.basin c.in_ok-reader.ensures.none
-    (c.in_ok-account.ensures c.args.series.now) refl refl refl c.requires.audit
+    (c.in_ok-state.ensures c.args.series.now) refl refl refl c.requires.audit
 
 pub invariant_of-result : goal.invariant_of-result
 invariant_of-result c = record {
-  means = record {
+  context = record {
     valid = c.requires.basin;
     series = c.requires.series;
     roll = c.in_ok-roll.ensures;
@@ -20,6 +20,6 @@ invariant_of-result c = record {
     lines = [];
     stands =
         first_book c.args.basin.now c.args.series.now _ c.in_ok-reader.ensures.basin c.in_ok-reader.ensures.none
-        (c.in_ok-account.ensures c.args.series.now) refl refl refl c.requires.audit;
+        (c.in_ok-state.ensures c.args.series.now) refl refl refl c.requires.audit;
   };
 }

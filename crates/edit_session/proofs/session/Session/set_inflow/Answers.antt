@@ -1,13 +1,13 @@
 use Rattle.std.proofs.Common.{ℕ, ◌∙◌, ap, refl, List}
 use Rattle.edit_script.specs.declared.edit.Edit.TheVariants.{Inflow}
-use Rattle.edit_script.proofs.Columns.{few_gauges}
+use Rattle.edit_script.proofs.Columns.{bounded_gauges}
 use Rattle.edit_session.specs.Sessions.{records_of}
 use Rattle.edit_session.proofs.Changes.{at_most, stays_ready}
 use Rattle.edit_session.proofs.session.Session.set_inflow.Goals as goal
 
-pub change-requires-clause-few : goal.change-requires-clause-few
-change-requires-clause-few c =
-    few_gauges c.self.inside.engine.basin c.self.inside.series c.self.invariant.valid c.self.invariant.series
+pub change-requires-clause-bounded : goal.change-requires-clause-bounded
+change-requires-clause-bounded c =
+    bounded_gauges c.self.inside.engine.basin c.self.inside.series c.self.invariant.valid c.self.invariant.series
 
 pub invariant_of-self : goal.invariant_of-self
 invariant_of-self c =

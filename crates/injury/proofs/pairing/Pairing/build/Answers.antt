@@ -3,7 +3,7 @@ use Rattle.std.specs.Prelude.{option_to_list}
 use Rattle.calls.proofs.Search.{order_in_range}
 use Rattle.water_model.proofs.Order.{length-by_seniority}
 use Rattle.injury.specs.Common.{common_rights}
-use Rattle.injury.proofs.Pairs.{pairs_more, pairs_all, pairs_few}
+use Rattle.injury.proofs.Pairs.{pairs_more, pairs_all, pairs_bounded}
 use Rattle.injury.proofs.pairing.Pairing.build.Goals as goal
 
 pub pair_of-requires-clause-right : goal.pair_of-requires-clause-right
@@ -29,11 +29,11 @@ returns c =
 pub invariant_of-result : goal.invariant_of-result
 invariant_of-result c =
     let order = c.by_seniority-order.result.now in
-    let few = c.requires.first.few.rights in
+    let bounded = c.requires.first.bounded.rights in
     omega (
       arith,
       ap length c.loop-right.invariant,
-      pairs_few c.args.first.now c.in_ok-names.names.basin.now (take c.loop-right.right-index order),
+      pairs_bounded c.args.first.now c.in_ok-names.names.basin.now (take c.loop-right.right-index order),
       length-take c.loop-right.right-index order,
       ap length (c.by_seniority-order.ensures ∙ c.in_ok-roll.ensures.order),
       length-by_seniority c.args.first.now.rights,

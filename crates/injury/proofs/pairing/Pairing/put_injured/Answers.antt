@@ -15,7 +15,7 @@ pub overflow_add-count : goal.overflow_add-count
 overflow_add-count g c =
     omega (
       arith,
-      c.common-pairs.ensures.few,
+      c.common-pairs.ensures.bounded,
       fits c.args.basin.now c.args.first.now c.args.second.now c.common-pairs.result.now c.loop-pair.pair-index _
           (slice_get-get_or c.common-pairs.result.now c.loop-pair.pair-index _ c.loop-pair-test.true)
           (g.K.Sink.taken c.args.sink.now) (g.K.Sink.taken c.loop-pair.sink) (g.K.Sink.faults c.args.sink.now)

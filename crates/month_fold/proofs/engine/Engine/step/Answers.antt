@@ -4,7 +4,7 @@ use Rattle.lag_returns.specs.Lags as lag
 use Rattle.month_terms.specs.Terms.{HasUsed}
 use Rattle.water_model.specs.declared.types.MonthRecord.{MonthRecord}
 use Rattle.month_fold.specs.RunInside.{engine_of}
-use Rattle.month_fold.specs.Runs.{EngineSeen, StandsFor, run_with}
+use Rattle.month_fold.specs.Runs.{EngineView, RunStandsFor, run_with}
 use Rattle.month_fold.specs.Uses.{HasDeliveries}
 use Rattle.month_fold.proofs.Resuming.{used_little}
 use Rattle.month_fold.proofs.Standing.{stands_next}
@@ -14,16 +14,16 @@ pub next_month-requires-clause-months : goal.next_month-requires-clause-months
 next_month-requires-clause-months g c =
     let engine = engine_of c.self.inside in
     let stands =
-    subst (λ (e : EngineSeen). StandsFor (run_with e c.args.series.now c.args.done) c.requires.months.records)
+    subst (λ (e : EngineView). RunStandsFor (run_with e c.args.series.now c.args.done) c.requires.months.records)
     (sym c.self.view_is) c.requires.months.stands in
     record {
       records = c.requires.months.records;
       stands =
-          subst (λ (used : List ℕ). StandsFor
+          subst (λ (used : List ℕ). RunStandsFor
           (run_with (record engine { last = c.deref_mut-2.result.now; used = used }) c.args.series.now c.args.done)
           c.requires.months.records)
           (sym c.as_slice.ensures)
-          (subst (λ (m : MonthRecord). StandsFor
+          (subst (λ (m : MonthRecord). RunStandsFor
           (run_with (record engine { last = m }) c.args.series.now c.args.done) c.requires.months.records)
           (sym c.deref_mut-2.ensures.value) stands);
     }
@@ -31,7 +31,7 @@ next_month-requires-clause-months g c =
 pub invariant_of-self : goal.invariant_of-self
 invariant_of-self g c =
     let stands =
-    subst (λ (e : EngineSeen). StandsFor (run_with e c.args.series.now c.args.done) c.requires.months.records)
+    subst (λ (e : EngineView). RunStandsFor (run_with e c.args.series.now c.args.done) c.requires.months.records)
     (sym c.self.view_is) c.requires.months.stands in
     record {
       valid = c.self.invariant.valid;
@@ -48,19 +48,20 @@ pub returns-clause-month : goal.returns-clause-month
 returns-clause-month g c = λ records was.
     let engine = engine_of c.self.inside in
     let stands =
-    subst (λ (e : EngineSeen). StandsFor (run_with e c.args.series.now c.args.done) records) (sym c.self.view_is) was in
+    subst (λ (e : EngineView). RunStandsFor (run_with e c.args.series.now c.args.done) records) (sym c.self.view_is) was
+    in
     let opened =
-    subst (λ (used : List ℕ). StandsFor
+    subst (λ (used : List ℕ). RunStandsFor
     (run_with (record engine { last = c.deref_mut-2.result.now; used = used }) c.args.series.now c.args.done) records)
     (sym c.as_slice.ensures)
-    (subst (λ (m : MonthRecord). StandsFor (run_with (record engine { last = m }) c.args.series.now c.args.done)
+    (subst (λ (m : MonthRecord). RunStandsFor (run_with (record engine { last = m }) c.args.series.now c.args.done)
     records)
     (sym c.deref_mut-2.ensures.value) stands) in
     stands_next (run_with engine c.args.series.now c.args.done) records c.next_month.new.month
     c.month_done.new.self c.use_volumes.new.used stands
-    (subst (λ (e : EngineSeen). c.args.done < e.basin.months) (sym c.self.view_is) c.requires.left)
+    (subst (λ (e : EngineView). c.args.done < e.basin.months) (sym c.self.view_is) c.requires.left)
     (c.next_month.ensures.next records opened)
-    (subst (λ (delivered : List ℕ). lag.StandsFor c.month_done.new.self c.self.inside.basin.now.returns
+    (subst (λ (delivered : List ℕ). lag.LagsStandFor c.month_done.new.self c.self.inside.basin.now.returns
     (map (λ k. k.delivered) records ++ delivered ∷ []))
     (c.as_slice-2.ensures ∙ ap (λ (m : MonthRecord). m.delivered) c.deref-2.ensures)
     (c.month_done.ensures.stands c.self.inside.basin.now.returns (map (λ k. k.delivered) records) stands.lags))
@@ -71,7 +72,7 @@ returns-clause-month g c = λ records was.
 
 pub use_volumes-requires-clause-index : goal.use_volumes-requires-clause-index
 use_volumes-requires-clause-index g c =
-    subst (λ (e : EngineSeen). c.args.done < e.basin.months) (sym c.self.view_is) c.requires.left
+    subst (λ (e : EngineView). c.args.done < e.basin.months) (sym c.self.view_is) c.requires.left
 
 pub use_volumes-requires-clause-deliveries : goal.use_volumes-requires-clause-deliveries
 use_volumes-requires-clause-deliveries g c =
@@ -82,5 +83,5 @@ pub use_volumes-requires-clause-little : goal.use_volumes-requires-clause-little
 use_volumes-requires-clause-little g c =
     let engine = engine_of c.self.inside in
     used_little (run_with engine c.args.series.now c.args.done) c.requires.months.records
-    (subst (λ (e : EngineSeen). StandsFor (run_with e c.args.series.now c.args.done) c.requires.months.records)
+    (subst (λ (e : EngineView). RunStandsFor (run_with e c.args.series.now c.args.done) c.requires.months.records)
     (sym c.self.view_is) c.requires.months.stands)

@@ -8,7 +8,7 @@ use Rattle.reports.proofs.called.Trial.add.Goals as goal
 pub called_in-requires-clause-month : goal.called_in-requires-clause-month
 called_in-requires-clause-month c =
     let next = c.requires.next in
-    (last_follows c.args.basin.now c.args.series.now next.records c.args.month.now next.partial).behind.fits
+    (last_follows c.args.basin.now c.args.series.now next.records c.args.month.now next.partial).after.fits
 
 pub overflow_add-self : goal.overflow_add-self
 overflow_add-self c =

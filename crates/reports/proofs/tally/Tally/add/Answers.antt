@@ -9,14 +9,14 @@ pub add_rights-requires-clause-want : goal.add_rights-requires-clause-want
 add_rights-requires-clause-want c =
     let next = c.requires.next in
     let follows = last_follows c.args.basin.now c.args.series.now next.records c.args.month.now next.partial in
-    follows.behind.fits.want
+    follows.after.fits.want
     ∙ sym (entries_count (figures_of next.records) c.args.basin.now.rights c.args.self.now.rights next.is.rights)
 
 pub add_rights-requires-clause-delivered : goal.add_rights-requires-clause-delivered
 add_rights-requires-clause-delivered c =
     let next = c.requires.next in
     let follows = last_follows c.args.basin.now c.args.series.now next.records c.args.month.now next.partial in
-    follows.behind.fits.delivered
+    follows.after.fits.delivered
     ∙ sym (entries_count (figures_of next.records) c.args.basin.now.rights c.args.self.now.rights next.is.rights)
 
 pub add_rights-requires-clause-room : goal.add_rights-requires-clause-room
@@ -32,12 +32,12 @@ pub with_month-self-requires-clause-index : goal.with_month-self-requires-clause
 with_month-self-requires-clause-index c =
     let next = c.requires.next in
     let follows = last_follows c.args.basin.now c.args.series.now next.records c.args.month.now next.partial in
-    omega (arith, follows.behind.index, next.partial.within, length-append next.records (c.args.month.now ∷ []))
+    omega (arith, follows.after.index, next.partial.within, length-append next.records (c.args.month.now ∷ []))
 
 pub with_month-self-requires-clause-fits : goal.with_month-self-requires-clause-fits
 with_month-self-requires-clause-fits c =
     let next = c.requires.next in
-    (last_follows c.args.basin.now c.args.series.now next.records c.args.month.now next.partial).behind.fits
+    (last_follows c.args.basin.now c.args.series.now next.records c.args.month.now next.partial).after.fits
 
 pub with_month-self-requires-clause-room : goal.with_month-self-requires-clause-room
 with_month-self-requires-clause-room c =

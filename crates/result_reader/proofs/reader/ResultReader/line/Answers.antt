@@ -64,7 +64,7 @@ returns-in-Some-clause-accepted c = λ items stands.
     c.in_ok-item.item c.self.view_is (sym c.item_of.ensures ∙ c.in_ok-item.was)
     (next_along c.self.inside.names.basin.now _ c.self.inside.dues.items c.self.inside.progress c.in_ok-item.item
     (Some c.in-Some.progress) c.deref-3.ensures.value c.in-Some.ensures) items stands in
-    taken.behind
+    taken.after
 
 pub returns-in-Some-clause-left : goal.returns-in-Some-clause-left
 returns-in-Some-clause-left c =

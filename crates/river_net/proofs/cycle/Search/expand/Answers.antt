@@ -1,13 +1,13 @@
 use Rattle.std.proofs.Common.{ℕ, ◌≡◌, ◌++◌, ◌∷◌, [], slice_index, subst, sym, ◌∙◌, List, Bool, true}
 use Rattle.std.specs.Prelude.{Option, Some, slice_set, if◌then◌else◌}
 use Rattle.water_model.specs.Lookups.{has}
-use Rattle.river_net.specs.GraphSeen.{GraphSeen}
+use Rattle.river_net.specs.GraphView.{GraphView}
 use Rattle.river_net.specs.Search.{IsExpanding}
 use Rattle.river_net.proofs.Searches.{expand_found, expand_next}
 use Rattle.river_net.proofs.cycle.Search.expand.Goals as goal
 
 -- the state at a link
-at_link : (g : GraphSeen) (start : ℕ) (seen : List Bool) (queue : List ℕ) (done node link : ℕ) (next : Option ℕ) →
+at_link : (g : GraphView) (start : ℕ) (seen : List Bool) (queue : List ℕ) (done node link : ℕ) (next : Option ℕ) →
     next ≡ Some link →
     IsExpanding g start seen queue done node next → IsExpanding g start seen queue done node (Some link)
 at_link g start seen queue done node link next is now = subst (IsExpanding g start seen queue done node) is now

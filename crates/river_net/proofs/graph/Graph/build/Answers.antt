@@ -41,6 +41,6 @@ invariant_of-result c =
         ends =
             ends_in c.args.nodes.now c.args.links.now c.requires.ends;
       };
-      few_nodes = let few = c.requires.few_nodes in omega arith;
-      few_links = c.requires.few_links;
+      bounded_nodes = let bounded = c.requires.bounded_nodes in omega arith;
+      bounded_links = c.requires.bounded_links;
     }

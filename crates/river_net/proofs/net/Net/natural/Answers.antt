@@ -2,10 +2,10 @@ use Rattle.std.proofs.Common.{◌≡◌, ℕ, ◌<◌, ◌≤◌, ◌^◌, get_o
 use Rattle.std.proofs.Common.{subst, ◌∙◌, IfSome, IfNone}
 use Rattle.std.proofs.lemmas.List.{get_or-replicate, get_or_default}
 use Rattle.std.specs.Prelude.{slice_index_or}
-use Rattle.place_sums.specs.Sums.{total}
+use Rattle.finite_sums.specs.Sums.{total}
 use Rattle.water_model.specs.declared.types.Link.{Link}
 use Rattle.water_model.specs.declared.types.Node.{Node}
-use Rattle.river_net.specs.NetSeen.{NetSeen}
+use Rattle.river_net.specs.NetView.{NetView}
 use Rattle.river_net.specs.Net.{IsNet, total_of}
 use Rattle.river_net.specs.Running.{IsRunning, IsSent, CanSend}
 use Rattle.river_net.proofs.Runs.{running_start, send_fits, send_done, runs_naturally}
@@ -20,12 +20,12 @@ river_read rivers seen n node o same at l read =
     ∙ (ap (λ k. get_or seen k o) at ∙ get_or_default seen node o None l))
 
 -- a place of the order is below the number of nodes
-place_in : (nodes : List Node) (links : List Link) (net : NetSeen) (items : List ℕ) (i : ℕ) → IsNet nodes links net →
+place_in : (nodes : List Node) (links : List Link) (net : NetView) (items : List ℕ) (i : ℕ) → IsNet nodes links net →
     items ≡ net.order → i < length items → i < length nodes
 place_in nodes links net items i is same l = omega (arith, ap length same, is.run.count)
 
 -- the node at a place has a place among the first rivers
-node_in : (nodes : List Node) (links : List Link) (net : NetSeen) (i : ℕ) → IsNet nodes links net → i < length nodes →
+node_in : (nodes : List Node) (links : List Link) (net : NetView) (i : ℕ) → IsNet nodes links net → i < length nodes →
     slice_index net.order i < length net.rivers
 node_in nodes links net i is l = let b = is.run.below i l in omega (arith, is.river_count)
 
@@ -47,17 +47,17 @@ send-requires-clause-river c =
     let some = c.requires.net in
     let net : IsNet some.nodes some.links c.args.self.now = some.is_net in
     let i = c.loop-node.node-index in
-    let order = c.deref-node-items.ensures.value ∙ ap (λ (s : NetSeen). s.order) c.self.view_is in
-    let heads = c.deref-heads.ensures.value ∙ ap (λ (s : NetSeen). s.heads) c.self.view_is in
+    let order = c.deref-node-items.ensures.value ∙ ap (λ (s : NetView). s.order) c.self.view_is in
+    let heads = c.deref-heads.ensures.value ∙ ap (λ (s : NetView). s.heads) c.self.view_is in
     let below =
     place_in some.nodes some.links c.args.self.now c.deref-node-items.result.now i net order
     c.loop-node-test.true in
     let node = ap (λ (xs : List ℕ). slice_index xs i) order in
     let river =
     river_read c.self.inside.rivers.items c.args.self.now.rivers _ (slice_index c.args.self.now.order i)
-    c.index-river.result.now (ap (λ (s : NetSeen). s.rivers) c.self.view_is)
+    c.index-river.result.now (ap (λ (s : NetView). s.rivers) c.self.view_is)
     node (node_in some.nodes some.links c.args.self.now i net below) c.index-river.ensures in
-    let few =
+    let bounded =
     supplies_of (length c.args.self.now.order) (length some.nodes) c.args.supply.now c.requires.supply
     net.run.count in
     subst (λ (o : Option ℕ). CanSend o (slice_index c.deref-node-items.result.now i) c.deref-heads.result.now
@@ -66,7 +66,7 @@ send-requires-clause-river c =
     c.deref-heads.result.now c.loop-node.flow c.loop-node.out) (sym node)
     (send_fits some.nodes some.links c.args.self.now net (λ v. slice_index c.args.supply.now v) i
     c.deref-heads.result.now c.loop-node.flow c.loop-node.out _
-    (subst (λ (n : ℕ). n < 10 ^ 15) few c.requires.small) below heads
+    (subst (λ (n : ℕ). n < 10 ^ 15) bounded c.requires.small) below heads
     (c.loop-node.auto.flow ∙ (c.fill.ensures.len ∙ (c.requires.flow ∙ net.head_count)))
     (c.loop-node.auto.out ∙ (c.copy_from_slice.ensures.len ∙ (c.requires.out ∙ net.run.count)))
     (c.loop-node.invariant some.nodes some.links net some.sound)))
@@ -74,13 +74,13 @@ send-requires-clause-river c =
 pub loop-node-preserved : goal.loop-node-preserved
 loop-node-preserved c = λ nodes links net sound.
     let i = c.loop-node.node-index in
-    let order = c.deref-node-items.ensures.value ∙ ap (λ (s : NetSeen). s.order) c.self.view_is in
-    let heads = c.deref-heads.ensures.value ∙ ap (λ (s : NetSeen). s.heads) c.self.view_is in
+    let order = c.deref-node-items.ensures.value ∙ ap (λ (s : NetView). s.order) c.self.view_is in
+    let heads = c.deref-heads.ensures.value ∙ ap (λ (s : NetView). s.heads) c.self.view_is in
     let below = place_in nodes links c.args.self.now c.deref-node-items.result.now i net order c.loop-node-test.true in
     let node = ap (λ (xs : List ℕ). slice_index xs i) order in
     let river =
     river_read c.self.inside.rivers.items c.args.self.now.rivers _ (slice_index c.args.self.now.order i)
-    c.index-river.result.now (ap (λ (s : NetSeen). s.rivers) c.self.view_is)
+    c.index-river.result.now (ap (λ (s : NetView). s.rivers) c.self.view_is)
     node (node_in nodes links c.args.self.now i net below) c.index-river.ensures in
     let N : Option ℕ → Type 0 =
     λ o. IfNone o ((c.send.new.flow ≡ c.loop-node.flow) × (c.send.new.out ≡ c.loop-node.out)) in
@@ -97,13 +97,13 @@ loop-node-preserved c = λ nodes links net sound.
     (c.loop-node.invariant nodes links net sound)
 
 -- all nodes of the order sent their water on
-all_done : (nodes : List Node) (links : List Link) (net : NetSeen) (items : List ℕ) (i : ℕ) → IsNet nodes links net →
+all_done : (nodes : List Node) (links : List Link) (net : NetView) (items : List ℕ) (i : ℕ) → IsNet nodes links net →
     items ≡ net.order → length items ≤ i → i ≤ length items → i ≡ length nodes
 all_done nodes links net items i is same a b = omega (arith, ap length same, is.run.count)
 
 pub returns-clause-run : goal.returns-clause-run
 returns-clause-run c = λ nodes links net sound.
-    let order = c.deref-node-items.ensures.value ∙ ap (λ (s : NetSeen). s.order) c.self.view_is in
+    let order = c.deref-node-items.ensures.value ∙ ap (λ (s : NetView). s.order) c.self.view_is in
     let all =
     all_done nodes links c.args.self.now c.deref-node-items.result.now c.loop-node.node-index net order
     c.loop-node-test.false c.loop-node.auto.node-index-end in
@@ -119,7 +119,7 @@ pub returns-clause-small : goal.returns-clause-small
 returns-clause-small c = λ k d below.
     let some = c.requires.net in
     let net : IsNet some.nodes some.links c.args.self.now = some.is_net in
-    let few =
+    let bounded =
     supplies_of (length c.args.self.now.order) (length some.nodes) c.args.supply.now c.requires.supply
     net.run.count in
     let count : length c.loop-node.flow ≡ length some.links =

@@ -2,7 +2,7 @@ use Rattle.std.proofs.Common.{ℕ, ◌≡◌, ◌<◌, ◌-◌, ◌++◌, ◌∷
 use Rattle.std.proofs.lemmas.List.{get_or_default}
 use Rattle.std.specs.Prelude.{Option, Some, ◌==◌, slice_set, if◌then◌else◌}
 use Rattle.river_net.specs.Firsts.{IsFirstFrom, leaves}
-use Rattle.river_net.specs.GraphSeen.{GraphSeen}
+use Rattle.river_net.specs.GraphView.{GraphView}
 use Rattle.river_net.specs.Sorting.{IsReleasing}
 use Rattle.river_net.proofs.Releases.{release_start, release_next, next_waits}
 use Rattle.river_net.proofs.sorting.Sorting.release.Goals as goal
@@ -17,7 +17,7 @@ loop-next-init c =
     node c.first-next.ensures.value) c.requires.sorting
 
 -- the state at a link
-at_link : (g : GraphSeen) (order waits : List ℕ) (done node link : ℕ) (next : Option ℕ) → next ≡ Some link →
+at_link : (g : GraphView) (order waits : List ℕ) (done node link : ℕ) (next : Option ℕ) → next ≡ Some link →
     IsReleasing g order waits done node next →
     IsReleasing g order waits done node (Some link)
 at_link g order waits done node link next is now = subst (IsReleasing g order waits done node) is now

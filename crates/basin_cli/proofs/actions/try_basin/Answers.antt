@@ -1,8 +1,0 @@
-use Rattle.basin_cli.proofs.Handed.{trial_front}
-use Rattle.basin_cli.proofs.actions.try_basin.Goals as goal
-
-pub returns-in-Ok-trial_report-clause-writes : goal.returns-in-Ok-trial_report-clause-writes
-returns-in-Ok-trial_report-clause-writes g c = λ _.
-    trial_front c.args.number c.args.size c.in-Ok.made.0 c.in-Ok.made.1
-    (g.K.Sink.taken c.args.out.now) (g.K.Sink.taken c.trial_report.new.sink) (g.K.Sink.taken c.flush.new.self)
-    c.in-Ok.ensures.basin c.in-Ok.ensures.series c.in-Ok-trial_report.ensures.text c.in-Err-flush.ensures.bytes

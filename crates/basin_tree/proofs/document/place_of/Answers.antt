@@ -1,5 +1,0 @@
-use Rattle.std.proofs.Common.{◌∙◌}
-use Rattle.basin_tree.proofs.document.place_of.Goals as goal
-
-pub returns : goal.returns
-returns c = rw (← c.as_bytes.ensures.value) (c.copied.ensures ∙ c.get.ensures.value)

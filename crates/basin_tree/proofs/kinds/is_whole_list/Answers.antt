@@ -1,6 +1,0 @@
-use Rattle.std.proofs.Common.{sym, ◌∙◌}
-use Rattle.basin_tree.proofs.Chains.{all_or}
-use Rattle.basin_tree.proofs.kinds.is_whole_list.Goals as goal
-
-pub returns-in-Some : goal.returns-in-Some
-returns-in-Some c = c.are_whole.ensures ∙ sym (all_or _ _ _ _ c.in-Some.ensures)

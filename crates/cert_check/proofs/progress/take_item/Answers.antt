@@ -1,0 +1,43 @@
+use Rattle.std.proofs.Common.{sym, ap, subst, ◌∙◌}
+use Rattle.result_reader.specs.ReadSoFar.{read_so_far}
+use Rattle.cert_check.specs.Keeping.{Keeps}
+use Rattle.cert_check.specs.declared.state.CheckState.{CheckState}
+use Rattle.cert_check.specs.declared.progress.CheckProgress.{CheckProgress}
+use Rattle.cert_check.proofs.Verdicts.{read_more}
+use Rattle.cert_check.proofs.progress.take_item.Goals as goal
+
+pub returns-in-None-clause-takes : goal.returns-in-None-clause-takes
+returns-in-None-clause-takes c = λ items so_far.
+    let t = read_so_far c.args.context.now.basin.now c.args.context.now.series.now items in
+    let kept = subst (λ (a : CheckState). Keeps c.args.context.now.basin.now c.args.context.now.series.now a t)
+    (sym c.deref_mut.ensures.value) so_far.state in
+    let still = c.make_ready.ensures.keeps t kept in
+    let ready = subst (λ (a : CheckState). Keeps c.args.context.now.basin.now c.args.context.now.series.now a t)
+    (sym c.deref.ensures) still in
+    let none = sym (c.in-None.ensures t ready so_far.comes) in
+    let audited = c.take_audit.ensures.keeps t still in
+    let known = subst (λ (a : CheckState). Keeps c.args.context.now.basin.now c.args.context.now.series.now a t)
+    (sym c.deref_mut-in-None.ensures.value) audited in
+    let entered = c.enter.ensures t known so_far.comes none in (
+      none,
+      rw (
+        c.count.ensures.state,
+        read_more c.args.context.now.basin.now c.args.context.now.series.now items c.args.item.now,
+      ) entered,
+      c.count.ensures.counts items (record {
+        read = ap (λ (k : CheckProgress). k.read) c.take_audit.ensures.rest ∙ so_far.counts.read;
+        last_other = ap (λ (k : CheckProgress). k.last_other) c.take_audit.ensures.rest ∙ so_far.counts.last_other;
+        ended = ap (λ (k : CheckProgress). k.ended) c.take_audit.ensures.rest ∙ so_far.counts.ended;
+      }),
+      rw c.count.ensures.audit (c.take_audit.ensures.audit items (record {
+        state = still;
+        counts = record {
+          read = so_far.counts.read;
+          last_other = so_far.counts.last_other;
+          ended = so_far.counts.ended;
+        };
+        comes = so_far.comes;
+        ends = so_far.ends;
+        audit = so_far.audit;
+      })),
+    )

@@ -1,0 +1,318 @@
+//! A circulation in words that are borrowed.
+ghost use Rattle.std.specs.Prelude.{IsTrue, ◌↔◌, ◌≡◌, true, false, not, ℕ, ◌+◌, ◌*◌, ◌^◌, ◌<◌, ◌≤◌};
+ghost use Rattle.std.specs.Prelude.{length, slice_index, slice_set};
+ghost use Rattle.circulation.specs.Contents.{arcs, flow_of, step_of, held_contents, month_contents, network};
+ghost use Rattle.circulation.specs.Contents.{IsCirculation, IsStart};
+ghost use Rattle.circulation.specs.Network.{inflow, outflow};
+ghost use Rattle.circulation.specs.Residual.{is_backward, IsClosedWalk, IsPushed};
+ghost use Rattle.finite_sums.specs.Sums.{when};
+
+use crate::{END, Ends};
+use std::marker::Model;
+use std::sync::ledger::Ledger;
+use steps::Steps;
+
+/// The greatest upper bound that an arc may have, in units of 1,000 cubic metres.
+const MAX_UPPER: u64 = 1_000_000_000_000_000;
+
+/// Basin nodes with supplies, arcs with bounds, a flow that keeps them and is in balance at each basin
+/// node, and `4 * nodes + 8` scratch words for a search. They lie in words that are borrowed.
+#[derive(Drop)]
+pub struct CirculationMut<'r> {
+    pub(crate) nodes: u32,
+    pub(crate) ends: &'r [u64],
+    pub(crate) step: &'r [u64],
+    pub(crate) end: &'r [u64],
+    pub(crate) first: &'r [u64],
+    pub(crate) flow: &'r mut [u64],
+    pub(crate) upper: &'r mut [u64],
+    pub(crate) lower: &'r mut [u64],
+    pub(crate) supply: &'r mut [u64],
+    pub(crate) scratch: &'r mut [u64],
+}
+
+impl<'r> Model for CirculationMut<'r> {
+    ghost use Rattle.circulation.specs.Contents.{Contents};
+
+    ghost Value = { Contents };
+
+    ghost use Rattle.circulation.specs.BorrowedWords.{contents, IsValidCirculation};
+
+    ghost view = { contents };
+
+    ghost invariant = { IsValidCirculation };
+}
+
+impl CirculationMut<'_> {
+    /// How many basin nodes there are, which is also the number of the outside node.
+    pub fn nodes(&self) -> u32
+        ensures number { result ≡ self.now.nodes }
+        ensures kept { IsCirculation self.now }
+    {
+        self.nodes
+    }
+
+    /// How many arcs there are.
+    pub fn arcs(&self) -> u32
+        ensures { result ≡ arcs self.now }
+    {
+        self.ends.len() as u32
+    }
+
+    /// The ends of an arc.
+    pub fn ends(&self, arc: u32) -> Ends
+        requires { arc < arcs self.now }
+        ensures from { result.from ≡ slice_index self.now.from arc }
+        ensures to { result.to ≡ slice_index self.now.to arc }
+        ensures kept { IsCirculation self.now }
+    {
+        let word = self.ends[arc as usize];
+        Ends {
+            from: (word / END) as u32,
+            to: (word % END) as u32,
+        }
+    }
+
+    /// The flow on an arc, in units of 1,000 cubic metres.
+    pub fn flow(&self, arc: u32) -> u64
+        requires { arc < arcs self.now }
+        ensures amount { result ≡ flow_of self.now arc }
+        ensures kept { IsCirculation self.now }
+    {
+        self.flow[arc as usize]
+    }
+
+    /// The least flow that an arc may have, in units of 1,000 cubic metres.
+    pub fn lower(&self, arc: u32) -> u64
+        requires { arc < arcs self.now }
+        ensures { result ≡ slice_index self.now.lower arc }
+    {
+        self.lower[arc as usize]
+    }
+
+    /// The room of a step, in units of 1,000 cubic metres: how much the flow on an arc may rise
+    /// (forward), or fall (backward).
+    pub fn room(&self, arc: u32, forward: bool) -> u64
+        requires { arc < arcs self.now }
+        ensures rise { forward ≡ true → flow_of self.now arc + result ≡ slice_index self.now.upper arc }
+        ensures fall { forward ≡ false → slice_index self.now.lower arc + result ≡ flow_of self.now arc }
+    {
+        let place = arc as usize;
+        if forward {
+            self.upper[place] - self.flow[place]
+        } else {
+            self.flow[place] - self.lower[place]
+        }
+    }
+
+    /// Holds an amount on an arc, in units of 1,000 cubic metres: the lower bound becomes the greater
+    /// of itself and the amount.
+    pub fn hold(&mut self, arc: u32, amount: u64)
+        requires arc { arc < arcs self.old }
+        requires kept { amount ≤ flow_of self.old arc }
+        ensures kept { IsCirculation self.new }
+        ensures held { self.new ≡ held_contents self.old arc amount }
+    {
+        let place = arc as usize;
+        self.lower[place] = self.lower[place].max(amount);
+    }
+
+    /// Starts a month: no arc is held, and supplies by node, upper bounds by arc and the flow by arc are
+    /// those given, in units of 1,000 cubic metres. `is_start` tests the condition.
+    pub fn begin_month(&mut self, supply: &[u64], upper: &[u64], start: &[u64])
+        requires { IsStart self.old supply.now upper.now start.now }
+        ensures kept { IsCirculation self.new }
+        ensures month { self.new ≡ month_contents self.old supply.now upper.now start.now }
+    {
+        self.supply.copy_from_slice(supply);
+        self.lower.fill(0);
+        self.upper.copy_from_slice(upper);
+        self.flow.copy_from_slice(start);
+    }
+
+    /// The condition of `begin_month` as a test: the lengths fit, no upper bound passes 10^15, and the flow
+    /// keeps them and balances the supplies. Goes over the nodes and over the arcs of each.
+    pub fn is_start(&self, supply: &[u64], upper: &[u64], start: &[u64]) -> bool
+        ensures { IsTrue result ↔ IsStart self.now supply.now upper.now start.now }
+    {
+        let arcs = self.arcs() as usize;
+        supply.len() == self.nodes() as usize
+            && upper.len() == arcs
+            && start.len() == arcs
+            && are_small(upper)
+            && are_within(start, upper)
+            && self.are_balanced(supply, start)
+    }
+
+    /// Whether each basin node is in balance, with these supplies by node and amounts by arc.
+    fn are_balanced(&self, supply: &[u64], amounts: &[u64]) -> bool
+        requires supplies { length supply.now ≡ self.now.nodes }
+        requires amounts { length amounts.now ≡ arcs self.now }
+        ensures { let flow = slice_index amounts.now in
+            IsTrue result ↔ ((v : ℕ) → v < self.now.nodes →
+            slice_index supply.now v + inflow (network self.now) flow v ≡ outflow (network self.now) flow v) }
+    {
+        for node in 0..self.nodes() {
+            let gained = u128::from(supply[node as usize]) + self.inflow(amounts, node);
+            if gained != self.outflow(amounts, node) {
+                return false;
+            }
+        }
+        true
+    }
+
+    /// What the arcs that enter a node bring, with these amounts by arc.
+    fn inflow(&self, amounts: &[u64], node: u32) -> u128
+        requires node { node ≤ self.now.nodes }
+        requires amounts { length amounts.now ≡ arcs self.now }
+        ensures sum { result ≡ inflow (network self.now) (slice_index amounts.now) node }
+        ensures small { result < 2 ^ 96 }
+    {
+        let mut sum = 0u128;
+        for place in self.row_first(node)..self.row_last(node) {
+            let step = self.step_at(place);
+            if step % 2 == 1 {
+                sum += u128::from(amounts[(step / 2) as usize]);
+            }
+        }
+        sum
+    }
+
+    /// What the arcs that leave a node carry, with these amounts by arc.
+    fn outflow(&self, amounts: &[u64], node: u32) -> u128
+        requires node { node ≤ self.now.nodes }
+        requires amounts { length amounts.now ≡ arcs self.now }
+        ensures { result ≡ outflow (network self.now) (slice_index amounts.now) node }
+    {
+        let mut sum = 0u128;
+        for place in self.row_first(node)..self.row_last(node) {
+            let step = self.step_at(place);
+            if step % 2 == 0 {
+                sum += u128::from(amounts[(step / 2) as usize]);
+            }
+        }
+        sum
+    }
+
+    /// Changes the flow by an amount, in units of 1,000 cubic metres, on each step of a closed walk and nowhere
+    /// else, and counts one search. The steps are `count` scratch words from word `first` on.
+    pub fn push<L: Ledger>(
+        &mut self,
+        first: usize,
+        count: usize,
+        amount: u64,
+        searches: &mut Steps<L>,
+    )
+        requires fits { first + count ≤ 4 * self.old.nodes + 8 }
+        requires walk { IsClosedWalk (network self.old) (flow_of self.old) (step_of self.old)
+            first (first + count) amount }
+        ensures rest { self.new ≡ record self.old { flow = self.new.flow } }
+        ensures pushed { IsPushed (flow_of self.old) (flow_of self.new) (step_of self.old)
+            first (first + count) amount }
+        ensures kept { IsCirculation self.new }
+        ensures ticked { searches.new ≡ searches.old + 1 }
+    {
+        // The number of nodes bounds the sum.
+        let _nodes = self.nodes;
+        for at in first..first + count {
+            let step = self.scratch[at];
+            let arc = (step / 2) as usize;
+            self.flow[arc] = stepped(self.flow[arc], step, amount);
+        }
+        searches.tick();
+    }
+
+    /// The place at which the row of a node begins: the steps that leave the node, forward over the arcs that leave it,
+    /// by arc, and then backward over those that enter it.
+    pub fn row_first(&self, node: u32) -> usize
+        requires { node ≤ self.now.nodes }
+        ensures place { result ≡ slice_index self.now.rows.first node }
+        ensures kept { IsCirculation self.now }
+    {
+        self.first[node as usize] as usize
+    }
+
+    /// The place before which the row of a node ends.
+    pub fn row_last(&self, node: u32) -> usize
+        requires { node ≤ self.now.nodes }
+        ensures place { result ≡ slice_index self.now.rows.first (node + 1) }
+        ensures kept { IsCirculation self.now }
+    {
+        self.first[node as usize + 1] as usize
+    }
+
+    /// The step at a place of a row: 2 * a goes over the arc a forward, and 2 * a + 1 backward.
+    pub fn step_at(&self, place: usize) -> u64
+        requires { place < length self.now.rows.step }
+        ensures { result ≡ slice_index self.now.rows.step place }
+    {
+        let step = self.step;
+        step[place]
+    }
+
+    /// The node that the step at a place of a row enters.
+    pub fn end_at(&self, place: usize) -> u32
+        requires { place < length self.now.rows.step }
+        ensures { result ≡ slice_index self.now.rows.end place }
+    {
+        let end = self.end;
+        end[place] as u32
+    }
+
+    /// A scratch word.
+    pub fn scratch_get(&self, at: usize) -> u64
+        requires { at < 4 * self.now.nodes + 8 }
+        ensures { result ≡ step_of self.now at }
+    {
+        let scratch: &[u64] = &*self.scratch;
+        scratch[at]
+    }
+
+    /// Writes a scratch word.
+    pub fn scratch_set(&mut self, at: usize, value: u64)
+        requires { at < 4 * self.old.nodes + 8 }
+        ensures kept { IsCirculation self.new }
+        ensures written { self.new ≡ record self.old { scratch = slice_set self.old.scratch at value } }
+    {
+        let scratch: &mut [u64] = &mut *self.scratch;
+        scratch[at] = value;
+    }
+}
+
+/// The flow of an arc after a step over it.
+fn stepped(flow: u64, step: u64, amount: u64) -> u64
+    requires back { is_backward step ≡ true → amount ≤ flow }
+    requires forward { is_backward step ≡ false → flow + amount < 2 ^ 64 }
+    ensures { result + when (is_backward step) amount ≡ flow + when (not (is_backward step)) amount }
+{
+    if step % 2 == 1 {
+        flow - amount
+    } else {
+        flow + amount
+    }
+}
+
+/// Whether no upper bound passes the greatest one that an arc may have.
+fn are_small(upper: &[u64]) -> bool
+    ensures { IsTrue result ↔ ((a : ℕ) → a < length upper.now → slice_index upper.now a ≤ 10 ^ 15) }
+{
+    for most in upper {
+        if *most > MAX_UPPER {
+            return false;
+        }
+    }
+    true
+}
+
+/// Whether no amount passes the upper bound of its arc.
+fn are_within(amounts: &[u64], upper: &[u64]) -> bool
+    requires { length amounts.now ≡ length upper.now }
+    ensures { IsTrue result ↔ ((a : ℕ) → a < length upper.now → slice_index amounts.now a ≤ slice_index upper.now a) }
+{
+    for (amount, most) in amounts.iter().zip(upper) {
+        if amount > most {
+            return false;
+        }
+    }
+    true
+}

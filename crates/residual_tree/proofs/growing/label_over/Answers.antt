@@ -1,0 +1,37 @@
+use Rattle.std.proofs.Common.{ℕ, ◌+◌, ◌*◌, ap, subst}
+use Rattle.residual_tree.specs.Repair.{HasArtificialStep}
+use Rattle.residual_tree.proofs.Grows.{lending}
+use Rattle.residual_tree.proofs.growing.label_over.Goals as goal
+
+pub spread-requires : goal.spread-requires
+spread-requires c =
+    let l = lending c.args.circ.now c.args.labels.now c.args.queue.now c.attach-size.new.labels c.attach-size.new.queue
+    c.args.exit
+    c.ends-node.result.from (2 * c.from.result + 1) c.attach-size.result c.requires.kept c.requires.tree
+    c.requires.places
+    c.requires.exit c.requires.out c.requires.unlabeled c.ends-node.ensures.from
+    (ap (λ (a : ℕ). 2 * a + 1) c.from.ensures)
+    c.attach-size.ensures.labels c.attach-size.ensures.queue c.attach-size.ensures.count in
+    (l.grows, c.requires.kept)
+
+pub returns-clause-tree : goal.returns-clause-tree
+returns-clause-tree c =
+    let l = lending c.args.circ.now c.args.labels.now c.args.queue.now c.attach-size.new.labels c.attach-size.new.queue
+    c.args.exit
+    c.ends-node.result.from (2 * c.from.result + 1) c.attach-size.result c.requires.kept c.requires.tree
+    c.requires.places
+    c.requires.exit c.requires.out c.requires.unlabeled c.ends-node.ensures.from
+    (ap (λ (a : ℕ). 2 * a + 1) c.from.ensures)
+    c.attach-size.ensures.labels c.attach-size.ensures.queue c.attach-size.ensures.count in
+    subst (λ (n : ℕ). HasArtificialStep c.args.circ.now c.spread.new.labels n) l.artificial c.spread.ensures.tree
+
+pub returns-clause-head : goal.returns-clause-head
+returns-clause-head c =
+    let l = lending c.args.circ.now c.args.labels.now c.args.queue.now c.attach-size.new.labels c.attach-size.new.queue
+    c.args.exit
+    c.ends-node.result.from (2 * c.from.result + 1) c.attach-size.result c.requires.kept c.requires.tree
+    c.requires.places
+    c.requires.exit c.requires.out c.requires.unlabeled c.ends-node.ensures.from
+    (ap (λ (a : ℕ). 2 * a + 1) c.from.ensures)
+    c.attach-size.ensures.labels c.attach-size.ensures.queue c.attach-size.ensures.count in
+    c.spread.ensures.more _ l.labeled

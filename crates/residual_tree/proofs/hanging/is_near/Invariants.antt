@@ -1,9 +1,0 @@
-use Rattle.std.proofs.Common.{◌≤◌}
-use Rattle.residual_tree.specs.Hanging.{IsClear}
-use Rattle.residual_tree.proofs.hanging.is_near.Given as goal
-
-abbrev pub invariant-loop-steps : goal.invariant-loop-steps
-invariant-loop-steps l = record {
-  within : l.at ≤ l.circ.nodes;
-  clear : IsClear l.circ l.way l.other l.at → IsClear l.circ l.way l.other l.node;
-}

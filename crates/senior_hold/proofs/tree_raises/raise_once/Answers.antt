@@ -1,0 +1,77 @@
+use Rattle.std.proofs.lemmas.Bool.Decides.{nat_tests}
+use Rattle.std.specs.Prelude.{IsTrue, ◌↔◌}
+use Rattle.std.proofs.lemmas.Bool.{cases_eq}
+use Rattle.std.proofs.Common.{ℕ, Bool, ◌<◌, ◌≤◌, ◌≡◌, ◌≢◌, ◌*◌, ◌+◌, ◌∙◌, true, false, refl, sym, subst, arith, inl}
+use Rattle.std.proofs.Common.{inr}
+use denote.Enum.Bare.{sameb}
+use Rattle.residual_tree.specs.Tree.{label_of, IsLabeled}
+use Rattle.residual_tree.specs.declared.raising.TreeRaised.{TreeRaised}
+use Rattle.residual_tree.specs.contracts.TreeRaised.{the_type}
+use Rattle.residual_tree.proofs.Grows.{artificial_some}
+use Rattle.residual_tree.proofs.Reaches.{same_labeled}
+use Rattle.senior_hold.proofs.tree_raises.raise_once.Goals as goal
+use Rattle.senior_hold.proofs.tree_raises.raise_once.Goals.{else-is_unlabeled-via-then-is_unlabeled+else-is_unlabeled-2}
+use Rattle.senior_hold.proofs.tree_raises.raise_once.Goals.{else-is_unlabeled-via-else-is_unlabeled}
+use Rattle.senior_hold.proofs.tree_raises.raise_once.Goals.{else-eq-via-then-eq+else-is_unlabeled-3}
+use Rattle.senior_hold.proofs.tree_raises.raise_once.Goals.{else-eq-via-else-eq}
+
+not_unlabeled : (r : TreeRaised) → sameb the_type r TreeRaised.Stopped ≡ false → r ≢ TreeRaised.Stopped
+not_unlabeled TreeRaised.Stopped h = cc
+not_unlabeled TreeRaised.Met h = λ e. cc (e)
+not_unlabeled TreeRaised.Unfinished h = λ e. cc (e)
+
+is_unlabeled : (r : TreeRaised) → sameb the_type r TreeRaised.Stopped ≡ true → r ≡ TreeRaised.Stopped
+is_unlabeled TreeRaised.Stopped h = refl
+is_unlabeled TreeRaised.Met h = cc
+is_unlabeled TreeRaised.Unfinished h = cc
+
+arid : (t : Bool) (p : ℕ) → (IsTrue t ↔ (p ≡ 0)) → t ≡ true → p ≡ 0
+arid t p both h = grind (arith, nat_tests)
+
+wet : (t : Bool) (p : ℕ) → (IsTrue t ↔ (p ≡ 0)) → t ≡ false → 0 < p
+wet t p both h = grind (arith, nat_tests)
+
+pub returns-else-eq-clause-artificial : goal.returns-else-eq-clause-artificial
+returns-else-eq-clause-artificial g c =
+    λ is. artificial_some c.raise_by_tree-pulled.new.circ c.raise_by_tree-pulled.new.tree (2 * c.args.exit + 1)
+    c.raise_by_tree-pulled.ensures.tree
+
+pub returns-else-eq-clause-cut : goal.returns-else-eq-clause-cut
+returns-else-eq-clause-cut g c = λ is. c.raise_by_tree-pulled.ensures.cut is (elim c.else-eq.branch [
+  | else-eq-via-then-eq+else-is_unlabeled-3 w ↦
+      subst (λ (v : ℕ). IsLabeled c.raise_by_tree-pulled.new.tree v) c.ends-ends.ensures.to
+      (wet w.is_unlabeled-then-eq.result (label_of c.raise_by_tree-pulled.new.tree c.ends-ends.result.to)
+      w.is_unlabeled-then-eq.ensures w.if-is_unlabeled-3.false)
+  | else-eq-via-else-eq w ↦ absurd (not_unlabeled c.raise_by_tree-pulled.result (sym c.eq.ensures ∙ w.if-eq.false) is)
+])
+
+-- without a push both ends are as they were, so that one of them is reached
+pub returns-then-is_unlabeled-3-clause-unfinished : goal.returns-then-is_unlabeled-3-clause-unfinished
+returns-then-is_unlabeled-3-clause-unfinished g c = λ _.
+    let r = c.raise_by_tree-pulled in
+    let ends = c.ends-ends in
+    let kept = ends.ensures.kept in
+    elim (cases_eq r.new.searches c.args.searches.now) [
+      | inr pushed ↦ inl (omega (arith, pushed, r.ensures.count, r.ensures.cost))
+      | inl none ↦ inl (
+          let stay = λ (v : ℕ) (b : v ≤ c.args.circ.now.nodes) (m : IsLabeled c.args.tree.now v).
+          same_labeled c.args.circ.now r.new.circ c.args.tree.now r.new.tree v kept
+          (r.ensures.still none c.requires.held) c.requires.tree r.ensures.tree b m in
+          let tail = r.ensures.unlabeled (is_unlabeled r.result (sym c.eq.ensures ∙ c.if-eq.true)) in
+          let head = arid c.is_unlabeled-then-eq.result (label_of r.new.tree ends.result.to)
+          c.is_unlabeled-then-eq.ensures
+          c.if-is_unlabeled-3.true in
+          elim c.else-is_unlabeled.branch [
+            | else-is_unlabeled-via-then-is_unlabeled+else-is_unlabeled-2 w ↦
+                let was = wet w.is_unlabeled-then-is_unlabeled.result (label_of c.args.tree.now ends.result.to)
+                w.is_unlabeled-then-is_unlabeled.ensures w.if-is_unlabeled-2.false in
+                let inside = kept.ends.to_in c.args.arc c.requires.arc in
+                omega (arith, stay ends.result.to (omega (arith, ends.ensures.to, inside)) was, head)
+            | else-is_unlabeled-via-else-is_unlabeled w ↦
+                let was = wet c.is_unlabeled.result (label_of c.args.tree.now ends.result.from) c.is_unlabeled.ensures
+                w.if-is_unlabeled.false in
+                let inside = kept.ends.from_in c.args.arc c.requires.arc in
+                let now = stay ends.result.from (omega (arith, ends.ensures.from, inside)) was in
+                omega (arith, subst (λ (v : ℕ). IsLabeled r.new.tree v) ends.ensures.from now, tail)
+          ])
+    ]
