@@ -75,7 +75,7 @@ due_within b valid k d l =
     let column : ℕ = k % width b in
     let at : get_or (due b) k d ≡ (run_month b row, get_or (column_numbers b) column 0) =
     any_default (due b) k d (run_month b row, 0) l
-    ∙ (ap (λ j. get_or (due b) j (run_month b row, 0)) (sym s.place)
+    ∙ (ap (λ j. get_or (due b) j (run_month b row, 0)) (sym s.cell)
     ∙ due_at b row column (run_month b row) s.row s.gauge) in
     subst (λ (e : Month × ℕ). IsDue b e) (sym at)
     (record { calendar = IsMonth-run_month b row valid.run s.row; inside = column_below b column s.gauge })

@@ -1,6 +1,6 @@
 //! Scripts of changes to a series: the months that they show.
 ghost use Rattle.std.specs.Prelude.{◌≡◌, ◌+◌, ◌*◌, ◌≤◌, All, IfErr, IfOk, Ok, length};
-ghost use Rattle.edit_script.specs.Edits.{IsPlaced, cost};
+ghost use Rattle.edit_script.specs.Edits.{IsValidEdit, cost};
 ghost use Rattle.edit_script.specs.Scripts.{script_of};
 ghost use Rattle.senior_hold.specs.MonthNetwork.{month_pushes};
 ghost use Rattle.water_edge.specs.Edge.{Rose};
@@ -31,7 +31,7 @@ fn accept_script(
     requires series { IsSeriesOf basin.now series.now }
     requires small { length text.now ≤ 67108864 }
     ensures reads { IfOk result (λ edits. script_of basin.now series.now text.now ≡ Ok edits.items) }
-    ensures placed { IfOk result (λ edits. All (IsPlaced basin.now series.now) edits.items) }
+    ensures placed { IfOk result (λ edits. All (IsValidEdit basin.now series.now) edits.items) }
     ensures ends { IfErr result (λ e. ScriptEnds basin.now series.now text.now e) }
 {
     match read_script(alloc, basin, series, text) {
@@ -52,7 +52,7 @@ fn answer_edits<K: Sink, L: Ledger>(
 ) -> Ending
     requires basin { IsValidBasin basin.now }
     requires series { IsSeriesOf basin.now series.now }
-    requires placed { All (IsPlaced basin.now series.now) edits.now }
+    requires placed { All (IsValidEdit basin.now series.now) edits.now }
     ensures ends { HasTrialCause result (Rose (K.faults out.old) (K.faults out.new)) }
     ensures leaves { LeavesShows (status_of result) basin.now series.now edits.now (K.taken out.old) (K.taken out.new) }
     ensures idle { IsRefusal (status_of result) → ⊥ }

@@ -67,7 +67,7 @@ module _ (b : Basin) (valid : IsValidBasin b) where
       IsClean (basin_table b) (record { table = which.Diversion; number = k + 1; row = right_row b r })
   diversion_clean k r at =
       let its = sound_at b valid which.Diversion k r at in
-      by r.kind refl its.0.0.index its.0.0.volume its.0.0 its.0.1 its.1
+      by r.kind refl its.0.0.site its.0.0.volume its.0.0 its.0.1 its.1
     where
       whole : slice_get b.rights k ≡ Some r
       whole =
@@ -153,7 +153,7 @@ module _ (b : Basin) (valid : IsValidBasin b) where
   instream_clean : (k : ℕ) (r : Right) → slice_get (i b valid) k ≡ Some r →
       IsClean (basin_table b) (record { table = which.Instream; number = k + 1; row = right_row b r })
   instream_clean k r at =
-      let its = sound_at b valid which.Instream k r at in by r.kind refl its.0.0.index its.0.0 its.0.1 its.1
+      let its = sound_at b valid which.Instream k r at in by r.kind refl its.0.0.site its.0.0 its.0.1 its.1
     where
       whole : slice_get b.rights (length (d b valid) + k) ≡ Some r
       whole =
@@ -204,7 +204,7 @@ module _ (b : Basin) (valid : IsValidBasin b) where
   zone_clean : (k : ℕ) (r : Right) → slice_get (z b valid) k ≡ Some r →
       IsClean (basin_table b) (record { table = which.Zone; number = k + 1; row = right_row b r })
   zone_clean k r at =
-      let its = sound_at b valid which.Zone k r at in by r.kind refl its.0.0.index its.0.0 its.0.1 its.1
+      let its = sound_at b valid which.Zone k r at in by r.kind refl its.0.0.site its.0.0 its.0.1 its.1
     where
       index_of : ℕ
       index_of = length (d b valid ++ i b valid) + k

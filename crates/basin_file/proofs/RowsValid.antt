@@ -241,7 +241,7 @@ module _ (tree : Members) (none : HasNoFault tree) where
   diversion_valid k members fine = record {
     name = (name_of_row Diversion k members refl fine).1;
     order = order_most members;
-    index = number Diversion k members 1 (codes "node") Nodes _ refl fine node_texts;
+    site = number Diversion k members 1 (codes "node") Nodes _ refl fine node_texts;
     want = monthly_in (10 ^ 9) (get_member (codes "want") members);
     volume = volume_valid (kind.Diversion (number_at tree Nodes (codes "node") members)) refl
         (get_member (codes "volume") members);
@@ -253,7 +253,7 @@ module _ (tree : Members) (none : HasNoFault tree) where
   instream_valid k members fine = record {
     name = (name_of_row Instream k members refl fine).1;
     order = order_most members;
-    index = number Instream k members 1 (codes "link") Links _ refl fine link_texts;
+    site = number Instream k members 1 (codes "link") Links _ refl fine link_texts;
     want = monthly_in (10 ^ 9) (get_member (codes "want") members);
     volume = tt;
     series = series_wants (get_member (codes "want") members);
@@ -264,7 +264,7 @@ module _ (tree : Members) (none : HasNoFault tree) where
   zone_valid k members fine = record {
     name = (name_of_row Zone k members refl fine).1;
     order = order_most members;
-    index =
+    site =
         (let level = whole_in 1 16 1 (get_member (codes "level") members) (omega arith) (omega arith) in
         (number Zone k members 1 (codes "reservoir") Reservoirs _ refl fine reservoir_texts, level.0, level.1));
     want = monthly_in (10 ^ 9) (get_member (codes "want") members);

@@ -294,7 +294,7 @@ module _ (b : Basin) (valid : IsValidBasin b) where
 
   diversion_back : (r : Right) → IsValidRight b r → is_date r.date ≡ true → is_in_table which.Diversion r.kind ≡ true →
       diversion_of (basin_table b) (right_row b r) ≡ r
-  diversion_back r h date is = by r.kind refl h.index h.volume is
+  diversion_back r h date is = by r.kind refl h.site h.volume is
     where
       last : Members
       last = member (codes "want") (want_data r) no_members
@@ -314,7 +314,7 @@ module _ (b : Basin) (valid : IsValidBasin b) where
 
   instream_back : (r : Right) → IsValidRight b r → is_date r.date ≡ true → is_in_table which.Instream r.kind ≡ true →
       instream_of (basin_table b) (right_row b r) ≡ r
-  instream_back r h date is = by r.kind refl h.index h.volume is
+  instream_back r h date is = by r.kind refl h.site h.volume is
     where
       by : (its : RightKind) → r.kind ≡ its → HasValidSite b its → IsValidVolume its r.volume →
           is_in_table which.Instream its ≡ true →
@@ -331,7 +331,7 @@ module _ (b : Basin) (valid : IsValidBasin b) where
 
   zone_back : (r : Right) → IsValidRight b r → is_date r.date ≡ true → is_in_table which.Zone r.kind ≡ true →
       zone_of (basin_table b) (right_row b r) ≡ r
-  zone_back r h date is = by r.kind refl h.index h.volume is
+  zone_back r h date is = by r.kind refl h.site h.volume is
     where
       by : (its : RightKind) → r.kind ≡ its → HasValidSite b its → IsValidVolume its r.volume →
           is_in_table which.Zone its ≡ true →

@@ -39,28 +39,28 @@ at_bit words others at q n after before is =
     ∙ ap (λ (k : ℕ). k == 1) is
 
 -- no place of the words so far, and none of this word below a bit
-pub unmarked_to : (words others : List ℕ) (from places at low last : ℕ) →
-    ((q : ℕ) → from ≤ q → q < places → q < at * 64 → in_both words others q ≡ false) → low ≡ from - at * 64 →
+pub unmarked_to : (words others : List ℕ) (from indices at low last : ℕ) →
+    ((q : ℕ) → from ≤ q → q < indices → q < at * 64 → in_both words others q ≡ false) → low ≡ from - at * 64 →
     last ≤ (at + 1) * 64 →
     ((i : ℕ) → low ≤ i → i < last - at * 64 → bit_at (word_in_both words others at) i ≡ 0) →
-    (q : ℕ) → from ≤ q → q < places → q < last → in_both words others q ≡ false
-unmarked_to words others from places at low last earlier start end zeros q after below before =
+    (q : ℕ) → from ≤ q → q < indices → q < last → in_both words others q ≡ false
+unmarked_to words others from indices at low last earlier start end zeros q after below before =
     elim (cases_lt q (at * 64)) [
       | inl h ↦ earlier q after below h
       | inr h ↦ at_bit words others at q 0 h (omega arith) (zeros (q - at * 64) (omega (arith, start)) (omega arith))
     ]
 
-pub next_found : (words others : List ℕ) (from places at low bit : ℕ) →
-    ((q : ℕ) → from ≤ q → q < places → q < at * 64 → in_both words others q ≡ false) → low ≡ from - at * 64 →
-    IsLowestFrom (word_in_both words others at) low bit → at * 64 + bit < places →
-    IsNextInBoth words others from places (at * 64 + bit)
-next_found words others from places at low bit earlier start lowest inside = record {
+pub next_found : (words others : List ℕ) (from indices at low bit : ℕ) →
+    ((q : ℕ) → from ≤ q → q < indices → q < at * 64 → in_both words others q ≡ false) → low ≡ from - at * 64 →
+    IsLowestFrom (word_in_both words others at) low bit → at * 64 + bit < indices →
+    IsNextInBoth words others from indices (at * 64 + bit)
+next_found words others from indices at low bit earlier start lowest inside = record {
   after = omega (arith, start, lowest.after);
   below = inside;
   marked = at_bit words others at (at * 64 + bit) 1 (omega arith) (omega (arith, lowest.below))
       (ap (bit_at (word_in_both words others at)) shift ∙ lowest.one);
   least = λ q after before.
-      unmarked_to words others from places at low (at * 64 + bit) earlier start (omega (arith, lowest.below))
+      unmarked_to words others from indices at low (at * 64 + bit) earlier start (omega (arith, lowest.below))
       (λ i above below. lowest.least i above (omega arith)) q after (omega arith) before;
 }
   where

@@ -7,8 +7,8 @@ use Rattle.std.proofs.lemmas.List.{get_or-replicate, get_or-set_other, length-re
 use Rattle.std.proofs.lemmas.List.FromFn.{length-map-range_with_len, get_or-map-range_with_len}
 use Rattle.std.proofs.lemmas.Grind.{get_or-set_at}
 
-at_place : {X : Type 0} (n : ℕ) (f : ℕ → X) (q : ℕ) (d : X) → q < n → get_or (map f (range_with_len 0 n)) q d ≡ f q
-at_place n f q d below = get_or-map-range_with_len f 0 n q q d below (zero-add q)
+at_index : {X : Type 0} (n : ℕ) (f : ℕ → X) (q : ℕ) (d : X) → q < n → get_or (map f (range_with_len 0 n)) q d ≡ f q
+at_index n f q d below = get_or-map-range_with_len f 0 n q q d below (zero-add q)
 
 -- how many there are
 count : {X : Type 0} (n : ℕ) (f : ℕ → X) → length (map f (range_with_len 0 n)) ≡ n
@@ -22,9 +22,9 @@ one_changed n f g p same =
     same_lists (map g (range_with_len 0 n)) (slice_set before p (g p))
     (count n g ∙ sym (length-set before p (g p) ∙ count n f)) (λ q d b.
     let below : q < n = omega (arith, count n g) in
-    at_place n g q d below ∙ elim (cases_eq q p) [
+    at_index n g q d below ∙ elim (cases_eq q p) [
       | inl e ↦ ap g e ∙ sym (get_or-set_at before p q (g p) d e (omega (arith, count n f)))
-      | inr e ↦ same q below e ∙ sym (get_or-set_other before p q (g p) d e ∙ at_place n f q d below)
+      | inr e ↦ same q below e ∙ sym (get_or-set_other before p q (g p) d e ∙ at_index n f q d below)
     ])
 
 -- one value at each place
@@ -33,4 +33,4 @@ pub all_one : {X : Type 0} (n : ℕ) (f : ℕ → X) (x : X) → ((q : ℕ) → 
 all_one n f x each =
     same_lists (map f (range_with_len 0 n)) (replicate n x) (count n f ∙ sym (length-replicate n x)) (λ q d b.
     let below : q < n = omega (arith, count n f) in
-    at_place n f q d below ∙ each q below ∙ sym (get_or-replicate n q x d below))
+    at_index n f q d below ∙ each q below ∙ sym (get_or-replicate n q x d below))

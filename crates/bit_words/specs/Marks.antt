@@ -20,9 +20,9 @@ abbrev pub in_both : List ℕ → List ℕ → ℕ → Bool
 in_both words others p = is_marked words p && is_marked others p
 
 -- the least place that both mark, from a place on, below a bound
-pub record IsNextInBoth (words others : List ℕ) (from places p : ℕ) : Type 0 where
+pub record IsNextInBoth (words others : List ℕ) (from indices p : ℕ) : Type 0 where
   pub after : from ≤ p
-  pub below : p < places
+  pub below : p < indices
   pub marked : in_both words others p ≡ true
   pub least : (q : ℕ) → from ≤ q → q < p → in_both words others q ≡ false
 

@@ -8,53 +8,53 @@ ghost use Rattle.std.specs.Int.{bit_at};
 ghost use Rattle.bit_words.specs.Marks.{words_for, is_marked, in_both, IsNextInBoth, IsLowestFrom};
 
 /// How many words hold the marks of a given number of places.
-pub fn words_for(places: u32) -> usize
-    ensures { result ≡ words_for places }
+pub fn words_for(indices: u32) -> usize
+    ensures { result ≡ words_for indices }
 {
-    (places as usize + 63) / 64
+    (indices as usize + 63) / 64
 }
 
 /// Whether a place is marked.
-pub fn is_marked(words: &[u64], place: u32) -> bool
-    requires { place / 64 < length words.now }
-    ensures { result ≡ is_marked words.now place }
+pub fn is_marked(words: &[u64], index: u32) -> bool
+    requires { index / 64 < length words.now }
+    ensures { result ≡ is_marked words.now index }
 {
-    (words[place as usize / 64] >> (place % 64)) & 1 == 1
+    (words[index as usize / 64] >> (index % 64)) & 1 == 1
 }
 
 /// Marks a place. The marks of the other places stay.
-pub fn mark(words: &mut [u64], place: u32)
-    requires { place / 64 < length words.old }
+pub fn mark(words: &mut [u64], index: u32)
+    requires { index / 64 < length words.old }
     ensures count { length words.new ≡ length words.old }
-    ensures on { is_marked words.new place ≡ true }
-    ensures off { (q : ℕ) → q ≢ place → is_marked words.new q ≡ is_marked words.old q }
+    ensures on { is_marked words.new index ≡ true }
+    ensures off { (q : ℕ) → q ≢ index → is_marked words.new q ≡ is_marked words.old q }
 {
-    words[place as usize / 64] |= 1 << (place % 64);
+    words[index as usize / 64] |= 1 << (index % 64);
 }
 
 /// Takes the mark of a place away. The marks of the other places stay.
-pub fn unmark(words: &mut [u64], place: u32)
-    requires { place / 64 < length words.old }
+pub fn unmark(words: &mut [u64], index: u32)
+    requires { index / 64 < length words.old }
     ensures count { length words.new ≡ length words.old }
-    ensures on { is_marked words.new place ≡ false }
-    ensures off { (q : ℕ) → q ≢ place → is_marked words.new q ≡ is_marked words.old q }
+    ensures on { is_marked words.new index ≡ false }
+    ensures off { (q : ℕ) → q ≢ index → is_marked words.new q ≡ is_marked words.old q }
 {
-    words[place as usize / 64] &= !(1 << (place % 64));
+    words[index as usize / 64] &= !(1 << (index % 64));
 }
 
-/// The least place from `from` on and below `places` that both lists mark, or none where there is none. Two words
+/// The least place from `from` on and below `indices` that both lists mark, or none where there is none. Two words
 /// without a common mark cost one look.
-pub fn next_marked_in_both(words: &[u64], others: &[u64], from: u32, places: u32) -> Option<u32>
-    requires words { places ≤ 64 * length words.now }
-    requires others { places ≤ 64 * length others.now }
-    ensures some { IfSome result (λ p. IsNextInBoth words.now others.now from places p) }
-    ensures none { IfNone result ((q : ℕ) → from ≤ q → q < places → in_both words.now others.now q ≡ false) }
+pub fn next_marked_in_both(words: &[u64], others: &[u64], from: u32, indices: u32) -> Option<u32>
+    requires words { indices ≤ 64 * length words.now }
+    requires others { indices ≤ 64 * length others.now }
+    ensures some { IfSome result (λ p. IsNextInBoth words.now others.now from indices p) }
+    ensures none { IfNone result ((q : ℕ) → from ≤ q → q < indices → in_both words.now others.now q ≡ false) }
 {
-    for at in from as usize / 64..words_for(places) {
+    for at in from as usize / 64..words_for(indices) {
         let first = at as u32 * 64;
         if let Some(bit) = lowest_bit(words[at] & others[at], from.saturating_sub(first)) {
-            let place = first + bit;
-            return if place < places { Some(place) } else { None };
+            let index = first + bit;
+            return if index < indices { Some(index) } else { None };
         }
     }
     None

@@ -24,7 +24,7 @@ use Rattle.next_unit.proofs.Exact.{rights_have_cores}
 use Rattle.next_unit.proofs.InHistories.{month_of, has_plan, histories_show_where_supply_helps}
 use Rattle.call_list.specs.Entries.{whole_line}
 use Rattle.call_list.specs.Found.{Found, IsFoundIn, curtailed_for, if_senior, next_at}
-use Rattle.call_list.specs.Lists.{head_bytes, line_with, lines_at, lines_in, month_bytes, places_in, tail_bytes}
+use Rattle.call_list.specs.Lists.{head_bytes, line_with, lines_at, lines_in, month_bytes, indices_in, tail_bytes}
 use Rattle.call_list.specs.declared.entry.Entry.TheVariants as line
 use Rattle.call_list.specs.declared.part.Part.{Part}
 use Rattle.call_list.specs.declared.part.Part.TheVariants as part
@@ -37,9 +37,9 @@ pub record IsMonthIn (b : Basin) (series : Inflows) (m : MonthRecord) : Type 0 w
   pub valid : IsValidBasin b
   pub fits : IsSeriesOf b series
   pub records : List MonthRecord
-  pub place : ℕ
+  pub position : ℕ
   pub partial : IsPartialHistory b series records
-  pub at : slice_get records place ≡ Some m
+  pub at : slice_get records position ≡ Some m
 
 same_back : (m n : MonthRecord) → HaveSameOutcome m n → HaveSameOutcome n m
 same_back m n same = record {
@@ -83,7 +83,7 @@ uses_there b series m n one other same node r uses = record {
   short = short;
   core = core.0;
   is_core = core.1;
-  here = (histories_show_where_supply_helps b series other.records other.place n r core.0 node other.valid other.fits
+  here = (histories_show_where_supply_helps b series other.records other.position n r core.0 node other.valid other.fits
       other.partial other.at uses.in_range short core.1).0 helps;
 }
   where
@@ -92,12 +92,12 @@ uses_there b series m n one other same node r uses = record {
 
     core : (set : List Bool) × IsCore b n r set
     core = rights_have_cores b n r
-        (has_plan b series other.records other.place n other.valid
-        (month_of b series other.records other.place n other.partial other.at)) uses.in_range
+        (has_plan b series other.records other.position n other.valid
+        (month_of b series other.records other.position n other.partial other.at)) uses.in_range
 
     helps : HelpsRight b n (one_more n.supply node) r
     helps = supply_helps b m n node r same
-        ((histories_show_where_supply_helps b series one.records one.place m r uses.core node one.valid one.fits
+        ((histories_show_where_supply_helps b series one.records one.position m r uses.core node one.valid one.fits
         one.partial one.at uses.in_range uses.short uses.is_core).1 uses.here)
 
 -- and what is found is the same
@@ -142,8 +142,8 @@ last_taken (y ∷ xs) (suc i) x h = last_taken xs i x h
 pub found_is_determined : FoundIsDetermined
 found_is_determined b series records others i m n f g valid fits partial partial' at at' is are =
     same_found b series m n
-    (record { valid = valid; fits = fits; records = records; place = i; partial = partial; at = at })
-    (record { valid = valid; fits = fits; records = others; place = i; partial = partial'; at = at' })
+    (record { valid = valid; fits = fits; records = records; position = i; partial = partial; at = at })
+    (record { valid = valid; fits = fits; records = others; position = i; partial = partial'; at = at' })
     (one_outcome b series (take (suc i) records) (take (suc i) others) valid
     (prefix_partial b series records (suc i) partial) (prefix_partial b series others (suc i) partial')
     (omega (
@@ -162,8 +162,8 @@ same_caller b m n next right same =
     ap (λ (want : List ℕ). if nat_lt 0 (slice_index want right) then if_senior b right
     (next_at next (taking_node b right)) else None) same.want
 
-same_line : (p : Part) (b : Basin) (m n : MonthRecord) (found : Found) (place : ℕ) → HaveSameOutcome m n →
-    lines_at p b m found place ≡ lines_at p b n found place
+same_line : (p : Part) (b : Basin) (m n : MonthRecord) (found : Found) (position : ℕ) → HaveSameOutcome m n →
+    lines_at p b m found position ≡ lines_at p b n found position
 same_line part.Shorts b m n found right same =
     ap₂ (λ (delivered want : List ℕ). if nat_lt (slice_index delivered right) (slice_index want right)
     then line.Short right (slice_index delivered right) (slice_index want right) ∷ [] else []) same.delivered same.want
@@ -177,8 +177,8 @@ same_parts : (ps : List Part) (b : Basin) (m n : MonthRecord) (found : Found) �
 same_parts [] b m n found same = refl
 same_parts (p ∷ ps) b m n found same =
     ap₂ (λ xs ys. xs ++ ys)
-    (flat_same (lines_at p b m found) (lines_at p b n found) (places_in p b)
-    (λ place h. same_line p b m n found place same)) (same_parts ps b m n found same)
+    (flat_same (lines_at p b m found) (lines_at p b n found) (indices_in p b)
+    (λ position h. same_line p b m n found position same)) (same_parts ps b m n found same)
 
 same_lines : (b : Basin) (m n : MonthRecord) (f g : Found) → HaveSameOutcome m n → f ≡ g →
     month_bytes b m f ≡ month_bytes b n g
@@ -228,7 +228,7 @@ list_is_determined b series months others valid fits partial partial' len are ar
           valid = valid;
           fits = fits;
           records = records_of months;
-          place = i;
+          position = i;
           partial = partial;
           at = here;
         })
@@ -236,7 +236,7 @@ list_is_determined b series months others valid fits partial partial' len are ar
           valid = valid;
           fits = fits;
           records = records_of others;
-          place = i;
+          position = i;
           partial = partial';
           at = there;
         }) same x.found y.found (are.each i x at) (are'.each i y at'))

@@ -53,12 +53,12 @@ helping_text b m r core given reaches l short is_core = record {
     least = core_least b m r core given reaches l short is_core
 
 -- the pieces of its lines: the first, the nodes and the links
-pub place_pieces : (b : Basin) (m : MonthRecord) (r : ℕ) (reach core : List Bool) →
+pub index_pieces : (b : Basin) (m : MonthRecord) (r : ℕ) (reach core : List Bool) →
     whole_line b (line.Where m.month r (slice_index m.delivered r) (slice_index m.want r))
     ++ (flat_map (whole_line b) (flat_map (node_lines core) (indices_of b.nodes))
     ++ flat_map (whole_line b) (flat_map (link_lines b reach core) (indices_of b.links)))
     ≡ flat_map (whole_line b) (helping_lines b m r reach core)
-place_pieces b m r reach core =
+index_pieces b m r reach core =
     ap (λ bytes. whole_line b (line.Where m.month r (slice_index m.delivered r) (slice_index m.want r)) ++ bytes)
     (sym (flat_map-append (whole_line b) (flat_map (node_lines core) (indices_of b.nodes))
     (flat_map (link_lines b reach core) (indices_of b.links))))

@@ -38,9 +38,9 @@ nothing_found b = record { each = λ i e at. none i e at }
 
 pub found_more : (b : Basin) (months : List MonthFound) (e : MonthFound) → AreFoundIn b months →
     IsFoundIn b e.month e.found → AreFoundIn b (months ++ e ∷ [])
-found_more b months e are is = record { each = λ i k at. by_place i k (at_end months e k i at) }
+found_more b months e are is = record { each = λ i k at. by_index i k (at_end months e k i at) }
   where
-    by_place : (i : ℕ) (k : MonthFound) → (slice_get months i ≡ Some k) ⊎ ((i ≡ length months) × (e ≡ k)) →
+    by_index : (i : ℕ) (k : MonthFound) → (slice_get months i ≡ Some k) ⊎ ((i ≡ length months) × (e ≡ k)) →
         IsFoundIn b k.month k.found
-    by_place i k (inl within) = are.each i k within
-    by_place i k (inr last) = subst (λ (x : MonthFound). IsFoundIn b x.month x.found) last.1 is
+    by_index i k (inl within) = are.each i k within
+    by_index i k (inr last) = subst (λ (x : MonthFound). IsFoundIn b x.month x.found) last.1 is

@@ -13,11 +13,11 @@ use Rattle.call_list.specs.declared.part.Part.{Part}
 use Rattle.call_list.specs.declared.part.Part.TheVariants as part
 
 -- what a part goes over: nodes and links in the order of the basin, rights seniors first
-abbrev pub places_in : Part → Basin → List ℕ
-places_in part.Shorts b = seniors_first b
-places_in part.Nexts b = indices_of b.nodes
-places_in part.Links b = indices_of b.links
-places_in part.Curtailed b = seniors_first b
+abbrev pub indices_in : Part → Basin → List ℕ
+indices_in part.Shorts b = seniors_first b
+indices_in part.Nexts b = indices_of b.nodes
+indices_in part.Links b = indices_of b.links
+indices_in part.Curtailed b = seniors_first b
 
 abbrev pub count_in : Part → Basin → ℕ
 count_in part.Shorts b = length b.rights
@@ -27,8 +27,8 @@ count_in part.Curtailed b = length b.rights
 
 -- the line of a place with the right that it names, if there is one
 abbrev pub line_with : (ℕ → ℕ → Entry) → ℕ → Option ℕ → List Entry
-line_with make place None = []
-line_with make place (Some right) = make place right ∷ []
+line_with make position None = []
+line_with make position (Some right) = make position right ∷ []
 
 -- the line of a place of a part, if it has one
 abbrev pub lines_at : Part → Basin → MonthRecord → Found → ℕ → List Entry
@@ -40,7 +40,7 @@ lines_at part.Links b m found link = line_with line.Link link (slice_index_or fo
 lines_at part.Curtailed b m found right = line_with line.Curtailed right (curtailed_for b m found.next right)
 
 abbrev pub lines_in : Part → Basin → MonthRecord → Found → List Entry
-lines_in of_part b m found = flat_map (lines_at of_part b m found) (places_in of_part b)
+lines_in of_part b m found = flat_map (lines_at of_part b m found) (indices_in of_part b)
 
 -- a month: its parts between its first line and its end
 abbrev pub month_lines : Basin → MonthRecord → Found → List Entry

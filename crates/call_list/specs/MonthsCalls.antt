@@ -33,7 +33,7 @@ pub record AreMonthCalls (c : CallsSeen) : Type 0 where
   pub found : FitsFound c.basin c.found
 
 abbrev pub lines_of : CallsSeen → Part → ℕ → List Entry
-lines_of c of_part place = lines_at of_part c.basin c.month c.found place
+lines_of c of_part position = lines_at of_part c.basin c.month c.found position
 
 abbrev pub part_of : CallsSeen → Part → List Entry
 part_of c of_part = lines_in of_part c.basin c.month c.found

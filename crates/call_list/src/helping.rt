@@ -207,7 +207,7 @@ fn first_line(month: &MonthRecord, right: u32) -> Entry
 }
 
 /// Puts what a right got and wanted, the nodes of its core, and the links that lead from outside its reach into that.
-fn put_places<K: Sink>(
+fn put_indices<K: Sink>(
     sink: &mut K,
     basin: &Basin,
     month: &MonthRecord,
@@ -258,6 +258,6 @@ pub fn put_helping<K: Sink>(
 {
     finder.find_core(basin, roll, month, right);
     let core = finder.cuts();
-    put_places(sink, basin, month, core, right)?;
+    put_indices(sink, basin, month, core, right)?;
     put_account(sink, basin, roll, month, core, right)
 }

@@ -131,16 +131,16 @@ impl<'b> MonthCalls<'b> {
     }
 
     /// The line of a place of a part, if it has one.
-    pub(crate) fn line_at(&self, part: Part, place: u32) -> Option<Entry>
-        requires { place < count_in part self.now.basin }
-        ensures lines { option_to_list result ≡ lines_of self.now part place }
+    pub(crate) fn line_at(&self, part: Part, position: u32) -> Option<Entry>
+        requires { position < count_in part self.now.basin }
+        ensures lines { option_to_list result ≡ lines_of self.now part position }
         ensures named { IfSome result (IsOfBasin self.now.basin) }
     {
         match part {
-            Part::Shorts => self.short_at(place),
-            Part::Nexts => self.next_at(place),
-            Part::Links => self.link_at(place),
-            Part::Curtailed => self.curtailed_at(place),
+            Part::Shorts => self.short_at(position),
+            Part::Nexts => self.next_at(position),
+            Part::Links => self.link_at(position),
+            Part::Curtailed => self.curtailed_at(position),
         }
     }
 }

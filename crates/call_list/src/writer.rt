@@ -4,7 +4,7 @@ ghost use Rattle.water_edge.specs.Edge.{HasCause, Puts};
 ghost use Rattle.water_model.specs.Indices.{numbers_from, seniors_first};
 ghost use Rattle.water_model.specs.Valid.{IsValidBasin};
 ghost use Rattle.call_list.specs.Entries.{IsOfBasin, whole_line};
-ghost use Rattle.call_list.specs.Lists.{count_in, head_bytes, month_bytes, places_in, tail_bytes};
+ghost use Rattle.call_list.specs.Lists.{count_in, head_bytes, month_bytes, indices_in, tail_bytes};
 ghost use Rattle.call_list.specs.MonthsCalls.{bytes_of, lines_of, part_of, parts_of};
 
 use crate::entry::Entry;
@@ -36,35 +36,35 @@ fn put_line<K: Sink>(
     sink: &mut K,
     calls: &MonthCalls,
     part: Part,
-    place: u32,
+    position: u32,
 ) -> Result<(), SinkFailed>
-    requires { place < count_in part calls.now.basin }
+    requires { position < count_in part calls.now.basin }
     ensures text { Puts (K.taken sink.old) (K.taken sink.new) result
-        (bytes_of calls.now (lines_of calls.now part place)) }
+        (bytes_of calls.now (lines_of calls.now part position)) }
     ensures cause { HasCause (K.faults sink.old) (K.faults sink.new) (IsErr result) }
 {
-    match calls.line_at(part, place) {
+    match calls.line_at(part, position) {
         Some(entry) => put_entry(sink, calls.basin, entry),
         None => Ok(()),
     }
 }
 
 /// Puts the lines of a part whose places are nodes or links, in the order of the basin.
-fn put_places<K: Sink>(sink: &mut K, calls: &MonthCalls, part: Part) -> Result<(), SinkFailed>
-    requires { places_in part calls.now.basin ≡ numbers_from 0 (count_in part calls.now.basin) }
+fn put_indices<K: Sink>(sink: &mut K, calls: &MonthCalls, part: Part) -> Result<(), SinkFailed>
+    requires { indices_in part calls.now.basin ≡ numbers_from 0 (count_in part calls.now.basin) }
     ensures text { Puts (K.taken sink.old) (K.taken sink.new) result (bytes_of calls.now (part_of calls.now part)) }
     ensures cause { HasCause (K.faults sink.old) (K.faults sink.new) (IsErr result) }
 {
     let count = calls.count_in(part);
-    for place in 0..count {
-        put_line(sink, calls, part, place)?;
+    for position in 0..count {
+        put_line(sink, calls, part, position)?;
     }
     Ok(())
 }
 
 /// Puts the lines of a part whose places are rights, seniors first.
 fn put_rights<K: Sink>(sink: &mut K, calls: &MonthCalls, part: Part) -> Result<(), SinkFailed>
-    requires order { places_in part calls.now.basin ≡ seniors_first calls.now.basin }
+    requires order { indices_in part calls.now.basin ≡ seniors_first calls.now.basin }
     requires count { count_in part calls.now.basin ≡ length calls.now.basin.rights }
     ensures text { Puts (K.taken sink.old) (K.taken sink.new) result (bytes_of calls.now (part_of calls.now part)) }
     ensures cause { HasCause (K.faults sink.old) (K.faults sink.new) (IsErr result) }
@@ -83,7 +83,7 @@ fn put_part<K: Sink>(sink: &mut K, calls: &MonthCalls, part: Part) -> Result<(),
 {
     match part {
         Part::Shorts | Part::Curtailed => put_rights(sink, calls, part),
-        Part::Nexts | Part::Links => put_places(sink, calls, part),
+        Part::Nexts | Part::Links => put_indices(sink, calls, part),
     }
 }
 

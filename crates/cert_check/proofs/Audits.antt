@@ -46,11 +46,11 @@ ended-append xs ys = sum_by-append (λ x. cond (is_end x) 1 0) xs ys
 call_line_on : (items more : List Item) (month right number : ℕ) → IsCallLine items month right number →
     IsCallLine (items ++ more) month right number
 call_line_on items more month right number c =
-    let within = slice_get_within items c.place (line.Call right) c.at in
+    let within = slice_get_within items c.position (line.Call right) c.at in
     record {
-      place = c.place;
-      at = get_before items more c.place (line.Call right) c.at;
-      after = ap ended_months (take-append-le c.place items more (omega (arith, within))) ∙ c.after;
+      position = c.position;
+      at = get_before items more c.position (line.Call right) c.at;
+      after = ap ended_months (take-append-le c.position items more (omega (arith, within))) ∙ c.after;
       counted = c.counted;
     }
 
@@ -156,7 +156,7 @@ call_more b series t items x a l h = record {
   where
     own : IsCallLine (items ++ line.Call x ∷ []) (length t.months) x (length items + 1)
     own = record {
-      place = length items;
+      position = length items;
       at = get_after items [] (line.Call x);
       after = ap ended_months (take-append_seam items (line.Call x ∷ [])) ∙ h.months;
       counted = refl;

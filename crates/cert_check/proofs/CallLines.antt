@@ -113,9 +113,9 @@ one_first r (x ∷ xs) ys (u ∷ us) vs e h k =
     (one_first r xs ys us vs tail (and_parts (no_call r x) (list_all (no_call r) xs) h).1
     (and_parts (no_call r u) (list_all (no_call r) us) k).1)
 
-same_place : (r : ℕ) (M xs ys us vs : List Item) (b : Basin) → M ≡ xs ++ line.Call r ∷ ys → M ≡ us ++ line.Call r ∷ vs →
+same_index : (r : ℕ) (M xs ys us vs : List Item) (b : Basin) → M ≡ xs ++ line.Call r ∷ ys → M ≡ us ++ line.Call r ∷ vs →
     InMonth b r xs → InMonth b r us → length xs ≡ length us
-same_place r M xs ys us vs b e f x u =
+same_index r M xs ys us vs b e f x u =
     let both : x.are.0 ∷ (x.before ++ line.Call r ∷ ys) ≡ u.are.0 ∷ (u.before ++ line.Call r ∷ vs) =
     ap (λ ws. ws ++ line.Call r ∷ ys) (sym x.are.1) ∙ (sym e ∙ (f ∙ ap (λ ws. ws ++ line.Call r ∷ vs) u.are.1)) in
     let tail : x.before ++ line.Call r ∷ ys ≡ u.before ++ line.Call r ∷ vs = cc in
@@ -126,15 +126,15 @@ same_place r M xs ys us vs b e f x u =
 abbrev rest_lines : Basin → List MonthRecord → List Item
 rest_lines b records = flat_map (items_of_month b) records ++ items_of_tail b
 
-one_place : (b : Basin) → IsValidBasin b → (records : List MonthRecord) (r : ℕ) (xs ys us vs : List Item) →
+one_index : (b : Basin) → IsValidBasin b → (records : List MonthRecord) (r : ℕ) (xs ys us vs : List Item) →
     rest_lines b records ≡ xs ++ line.Call r ∷ ys → rest_lines b records ≡ us ++ line.Call r ∷ vs →
     ended_months xs ≡ ended_months us → length xs ≡ length us
-one_place b valid [] r [] ys us vs e f same = cc
-one_place b valid [] r (x ∷ []) ys us vs e f same = cc
-one_place b valid [] r (x ∷ y ∷ xs) ys us vs e f same = cc
-one_place b valid (m ∷ records) r xs ys us vs e f same =
+one_index b valid [] r [] ys us vs e f same = cc
+one_index b valid [] r (x ∷ []) ys us vs e f same = cc
+one_index b valid [] r (x ∷ y ∷ xs) ys us vs e f same = cc
+one_index b valid (m ∷ records) r xs ys us vs e f same =
     by_sides (stands_in M others xs (line.Call r) ys (sym split ∙ e)) (stands_in M others us (line.Call r) vs (sym split ∙ f))
-    (λ ws zs k l h. one_place b valid records r ws ys zs vs k l h)
+    (λ ws zs k l h. one_index b valid records r ws ys zs vs k l h)
   where
     M : List Item
     M = items_of_month b m
@@ -158,7 +158,7 @@ one_place b valid (m ∷ records) r xs ys us vs e f same =
 
     by_sides : Side xs ys → Side us vs → Further → length xs ≡ length us
     by_sides (inl (more, here)) (inl (rest, there)) further =
-        same_place r M xs more us rest b here there (in_month b valid m r xs more here)
+        same_index r M xs more us rest b here there (in_month b valid m r xs more here)
         (in_month b valid m r us rest there)
     by_sides (inl (more, here)) (inr (rest, is, there)) further =
         absurd (omega (arith, same, (in_month b valid m r xs more here).none, later us rest is))
@@ -168,14 +168,14 @@ one_place b valid (m ∷ records) r xs ys us vs e f same =
         let after = further more rest here there (omega (arith, same, later xs more is, later us rest also)) in
         omega (arith, ap length is, ap length also, length-append M more, length-append M rest, after)
 
-one_place_in_text : (b : Basin) → IsValidBasin b → (records : List MonthRecord) (r : ℕ) (xs ys us vs : List Item) →
+one_index_in_text : (b : Basin) → IsValidBasin b → (records : List MonthRecord) (r : ℕ) (xs ys us vs : List Item) →
     items_of b records ≡ xs ++ line.Call r ∷ ys → items_of b records ≡ us ++ line.Call r ∷ vs →
     ended_months xs ≡ ended_months us → length xs ≡ length us
-one_place_in_text b valid records r [] ys us vs e f same = cc
-one_place_in_text b valid records r (x ∷ []) ys us vs e f same = cc
-one_place_in_text b valid records r (x ∷ y ∷ xs) ys [] vs e f same = cc
-one_place_in_text b valid records r (x ∷ y ∷ xs) ys (u ∷ []) vs e f same = cc
-one_place_in_text b valid records r (x ∷ y ∷ xs) ys (u ∷ v ∷ us) vs e f same =
+one_index_in_text b valid records r [] ys us vs e f same = cc
+one_index_in_text b valid records r (x ∷ []) ys us vs e f same = cc
+one_index_in_text b valid records r (x ∷ y ∷ xs) ys [] vs e f same = cc
+one_index_in_text b valid records r (x ∷ y ∷ xs) ys (u ∷ []) vs e f same = cc
+one_index_in_text b valid records r (x ∷ y ∷ xs) ys (u ∷ v ∷ us) vs e f same =
     let x_is : line.Title ≡ x = cc in
     let y_is : line.Run b.first b.months ≡ y = cc in
     let u_is : line.Title ≡ u = cc in
@@ -183,14 +183,14 @@ one_place_in_text b valid records r (x ∷ y ∷ xs) ys (u ∷ v ∷ us) vs e f 
     let first : rest_lines b records ≡ xs ++ line.Call r ∷ ys = cc in
     let second : rest_lines b records ≡ us ++ line.Call r ∷ vs = cc in
     let equal = rw (← x_is, ← y_is, ← u_is, ← v_is) at same in
-    omega (arith, one_place b valid records r xs ys us vs first second (omega (arith, equal)))
+    omega (arith, one_index b valid records r xs ys us vs first second (omega (arith, equal)))
 
-split_at : (items : List Item) (place : ℕ) (item : Item) → slice_get items place ≡ Some item →
-    (rest : List Item) × (items ≡ take place items ++ item ∷ rest)
-split_at [] place item h = cc
+split_at : (items : List Item) (position : ℕ) (item : Item) → slice_get items position ≡ Some item →
+    (rest : List Item) × (items ≡ take position items ++ item ∷ rest)
+split_at [] position item h = cc
 split_at (x ∷ items) zero item h = let is : x ≡ item = cc in (items, ap (λ i. i ∷ items) is)
-split_at (x ∷ items) (suc place) item h =
-    let further = split_at items place item h in
+split_at (x ∷ items) (suc position) item h =
+    let further = split_at items position item h in
     (further.0, ap (λ is. x ∷ is) further.1)
 
 -- two numbers of one line are the same
@@ -198,15 +198,15 @@ pub one_call_line : (b : Basin) → IsValidBasin b → (records : List MonthReco
     IsCallLine (items_of b records) month right one → IsCallLine (items_of b records) month right other → one ≡ other
 one_call_line b valid records month right one other c d =
     let items = items_of b records in
-    let first = split_at items c.place (line.Call right) c.at in
-    let second = split_at items d.place (line.Call right) d.at in
-    let same = one_place_in_text b valid records right (take c.place items) first.0 (take d.place items) second.0
+    let first = split_at items c.position (line.Call right) c.at in
+    let second = split_at items d.position (line.Call right) d.at in
+    let same = one_index_in_text b valid records right (take c.position items) first.0 (take d.position items) second.0
     first.1 second.1 (c.after ∙ sym d.after) in
     omega (
       arith,
       same,
       c.counted,
       d.counted,
-      length-take-le c.place items (omega (arith, slice_get_within items c.place (line.Call right) c.at)),
-      length-take-le d.place items (omega (arith, slice_get_within items d.place (line.Call right) d.at)),
+      length-take-le c.position items (omega (arith, slice_get_within items c.position (line.Call right) c.at)),
+      length-take-le d.position items (omega (arith, slice_get_within items d.position (line.Call right) d.at)),
     )

@@ -175,7 +175,7 @@ calling_more b series m r rs set t l once e tight c = record {
   settled =
       λ s is. (let same : Some r ≡ Some s = is in let eq : r ≡ s = cc in
       subst (λ (x : ℕ). has_tight b (with_supply b series (put_cut t r set).now) x ≡ true) eq here);
-  sets = λ s k none. by_place s k none;
+  sets = λ s k none. by_index s k none;
   free = λ s h.
       set_of_other t.now.cuts r s (Some set) (λ is. once (subst (λ (x : ℕ). Has rs x) is h)) ∙ c.free s (inr h);
 }
@@ -187,8 +187,8 @@ calling_more b series m r rs set t l once e tight c = record {
     here = read_tight b series m (put_cut t r set).now r set (sees_more b series m t r set c.sees)
         (set_of_with t.now.cuts r (Some set) within) ∙ tight
 
-    by_place : (s : ℕ) → s < length b.rights → (Has rs s → ⊥) → cut_of (put_cut t r set).now s ≡ cut_of m s
-    by_place s k none = elim (cases_eq s r) [
+    by_index : (s : ℕ) → s < length b.rights → (Has rs s → ⊥) → cut_of (put_cut t r set).now s ≡ cut_of m s
+    by_index s k none = elim (cases_eq s r) [
       | inl is ↦ rw is (set_of_with t.now.cuts r (Some set) within ∙ sym e)
       | inr other ↦ set_of_other t.now.cuts r s (Some set) other ∙ c.sets s k (λ h. apart other h)
     ]
@@ -314,12 +314,12 @@ calls_read b series m sized (x ∷ xs) below t s g h r set k e =
 
     by_set : (o : Option (List Bool)) → cut_of m x ≡ o → AreGood b series t (call_items x o ++ others) →
         IsSettled b series (fold (read_item b series) t (call_items x o ++ others)) → Further → Answer
-    by_set None free a c further = by_place k
+    by_set None free a c further = by_index k
       where
-        by_place : Has (x ∷ xs) r → Answer
-        by_place (inl is) = let never : None ≡ Some set = sym free ∙ (ap (cut_of m) (sym is) ∙ e) in cc
-        by_place (inr l) = further t s a c l
-    by_set (Some own) held a c further = by_place k
+        by_index : Has (x ∷ xs) r → Answer
+        by_index (inl is) = let never : None ≡ Some set = sym free ∙ (ap (cut_of m) (sym is) ∙ e) in cc
+        by_index (inr l) = further t s a c l
+    by_set (Some own) held a c further = by_index k
       where
         so_far : fold (read_item b series) t (call_items x (Some own)) ≡ after_call t x own
         so_far = tell_call b series x own t (omega (arith, below x (inl refl), s.sets)) (sized x own held)
@@ -333,8 +333,8 @@ calls_read b series m sized (x ∷ xs) below t s g h r set k e =
         sees : Sees b series m (put_cut t x own).now
         sees = sees_more b series m t x own s
 
-        by_place : Has (x ∷ xs) r → Answer
-        by_place (inl is) =
+        by_index : Has (x ∷ xs) r → Answer
+        by_index (inl is) =
             let same : Some own ≡ Some set = sym held ∙ (ap (cut_of m) (sym is) ∙ e) in
             let eq : own ≡ set = cc in
             let settled_now = settled_before b series (λ r. cut_of m r) xs (after_call t x own) rest ended x refl in
@@ -343,4 +343,4 @@ calls_read b series m sized (x ∷ xs) below t s g h r set k e =
             sym (read_tight b series m (put_cut t x own).now x own sees
             (set_of_with t.now.cuts x (Some own) (omega (arith, below x (inl refl), s.sets)))) ∙ settled_now in
             (ap (is_short m) is ∙ (sym (read_short b series m t.now x s) ∙ short), rw (is, ← eq) tight)
-        by_place (inr l) = further (after_call t x own) sees rest ended l
+        by_index (inr l) = further (after_call t x own) sees rest ended l

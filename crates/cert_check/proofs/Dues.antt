@@ -41,26 +41,26 @@ due_here b series a t due k next =
     ap (λ xs. slice_get xs t.called) all
     ∙ (ap (slice_get
     (callers_of b t.now (take a.answered (seniors_first b)) ++ (due.right, due.caller) ∷ callers_of b t.now
-    (drop (due.place + 1) (seniors_first b)))) k.answered.called
+    (drop (due.position + 1) (seniors_first b)))) k.answered.called
     ∙ at_length (callers_of b t.now (take a.answered (seniors_first b))) (due.right, due.caller)
-    (callers_of b t.now (drop (due.place + 1) (seniors_first b))))
+    (callers_of b t.now (drop (due.position + 1) (seniors_first b))))
   where
-    up_to : callers_of b t.now (take (due.place + 1) (seniors_first b)) ≡ callers_of b t.now
+    up_to : callers_of b t.now (take (due.position + 1) (seniors_first b)) ≡ callers_of b t.now
         (take a.answered (seniors_first b)) ++ (due.right, due.caller) ∷ []
     up_to =
-        sym (callers_read b series a t k (take (due.place + 1) (seniors_first b)))
+        sym (callers_read b series a t k (take (due.position + 1) (seniors_first b)))
         ∙ (next.up_to
         ∙ ap (λ xs. xs ++ (due.right, due.caller) ∷ [])
         (callers_read b series a t k (take a.answered (seniors_first b))))
 
     all : callers_due b t.now ≡ callers_of b t.now
         (take a.answered (seniors_first b)) ++ (due.right, due.caller) ∷ callers_of b t.now
-        (drop (due.place + 1) (seniors_first b))
+        (drop (due.position + 1) (seniors_first b))
     all =
-        callers_split b t.now (seniors_first b) (due.place + 1)
-        ∙ (ap (λ xs. xs ++ callers_of b t.now (drop (due.place + 1) (seniors_first b))) up_to
+        callers_split b t.now (seniors_first b) (due.position + 1)
+        ∙ (ap (λ xs. xs ++ callers_of b t.now (drop (due.position + 1) (seniors_first b))) up_to
         ∙ append_assoc (callers_of b t.now (take a.answered (seniors_first b))) ((due.right, due.caller) ∷ [])
-        (callers_of b t.now (drop (due.place + 1) (seniors_first b))))
+        (callers_of b t.now (drop (due.position + 1) (seniors_first b))))
 
 count_is : (b : Basin) (series : Inflows) (a : CheckState) (t : ReadSoFar) → Keeps b series a t →
     callers_due b a.month ≡ callers_of b a.month (take a.answered (seniors_first b)) →

@@ -231,7 +231,7 @@ keeps_next b series a t x caller None k good all =
     clash : {X : Type 0} → true ≡ false → X
     clash e = cc
 keeps_next b series a t x caller (Some due) k good next =
-    keeps_called b series a t x caller (due.place + 1) (record {
+    keeps_called b series a t x caller (due.position + 1) (record {
       within = omega (arith, next.within, length-by_seniority b.rights);
       called = omega (
         arith,
@@ -241,10 +241,10 @@ keeps_next b series a t x caller (Some due) k good next =
       );
     }) k
   where
-    more : callers_of b t.now (take (due.place + 1) (seniors_first b)) ≡ callers_of b t.now
+    more : callers_of b t.now (take (due.position + 1) (seniors_first b)) ≡ callers_of b t.now
         (take a.answered (seniors_first b)) ++ (due.right, due.caller) ∷ []
     more =
-        sym (callers_read b series a t k (take (due.place + 1) (seniors_first b)))
+        sym (callers_read b series a t k (take (due.position + 1) (seniors_first b)))
         ∙ (next.up_to
         ∙ ap (λ xs. xs ++ (due.right, due.caller) ∷ [])
         (callers_read b series a t k (take a.answered (seniors_first b))))

@@ -54,9 +54,9 @@ abbrev pub with_amount : Quantity → ℕ → ℕ → MonthRecord → MonthRecor
 with_amount q entry amount m = with_amounts q m (slice_set (amounts_of q m) entry amount)
 
 -- a list keeps its length, and stays the one that was read
-pub put_both : {A : Type 0} {xs now : List A} {n : ℕ} (place : ℕ) (x : A) → length xs ≡ n → xs ≡ now →
-    (length (slice_set xs place x) ≡ n) × (slice_set xs place x ≡ slice_set now place x)
-put_both {xs = xs} place x l e = (length-set xs place x ∙ l, ap (λ ys. slice_set ys place x) e)
+pub put_both : {A : Type 0} {xs now : List A} {n : ℕ} (position : ℕ) (x : A) → length xs ≡ n → xs ≡ now →
+    (length (slice_set xs position x) ≡ n) × (slice_set xs position x ≡ slice_set now position x)
+put_both {xs = xs} position x l e = (length-set xs position x ∙ l, ap (λ ys. slice_set ys position x) e)
 
 pub record_with : (b : Basin) (q : Quantity) (entry amount : ℕ) (m now : MonthRecord) → IsRecordOf b m now →
     IsRecordOf b (with_amount q entry amount m) (with_amount q entry amount now)

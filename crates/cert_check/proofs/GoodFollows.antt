@@ -76,7 +76,7 @@ TakesOrStays taking link = ((is_some taking ≡ true) × (link ≡ None)) ⊎ ((
 takes_or_stays : (b : Basin) (r : ℕ) → IsValidBasin b → r < length b.rights →
     TakesOrStays (taking_node b r) (instream_link b r)
 unfolding TakesOrStays
-takes_or_stays b r valid l = (let k = kind_is b valid r l in rw (k.node, k.link) (by_kind k.kind k.place))
+takes_or_stays b r valid l = (let k = kind_is b valid r l in rw (k.node, k.link) (by_kind k.kind k.site))
   where
     by_kind : (k : RightKind) → HasValidSite b k →
         ((is_some (taking_node_of_kind b k) ≡ true) × (link_of_kind k ≡ None)) ⊎

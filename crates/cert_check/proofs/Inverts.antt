@@ -90,19 +90,19 @@ abbrev pub AreApart : List ℕ → Type 0
 AreApart [] = Unit {0}
 AreApart (x ∷ xs) = (Has xs x → ⊥) × AreApart xs
 
-abbrev with_place : {Y : Type 0} → (ℕ → Y) → ℕ → Y → ℕ → Y
-with_place f x y k = if k == x then y else f k
+abbrev with_index : {Y : Type 0} → (ℕ → Y) → ℕ → Y → ℕ → Y
+with_index f x y k = if k == x then y else f k
 
-here : {Y : Type 0} (f : ℕ → Y) (x : ℕ) (y : Y) → with_place f x y x ≡ y
+here : {Y : Type 0} (f : ℕ → Y) (x : ℕ) (y : Y) → with_index f x y x ≡ y
 here f x y = rw (itself x) refl
   where
     itself : (x : ℕ) → x == x ≡ true
     itself x = grind (arith, nat_tests)
 
-elsewhere : {Y : Type 0} (f : ℕ → Y) (x : ℕ) (y : Y) (k : ℕ) → (k ≡ x → ⊥) → with_place f x y k ≡ f k
+elsewhere : {Y : Type 0} (f : ℕ → Y) (x : ℕ) (y : Y) (k : ℕ) → (k ≡ x → ⊥) → with_index f x y k ≡ f k
 elsewhere f x y k h = by_test (k == x) refl
   where
-    by_test : (t : Bool) → k == x ≡ t → with_place f x y k ≡ f k
+    by_test : (t : Bool) → k == x ≡ t → with_index f x y k ≡ f k
     by_test true e = absurd (h (eqb-true k x e))
     by_test false e = rw e refl
 
@@ -122,7 +122,7 @@ each_line b line_at o alone [] apart ds items h =
 each_line b line_at o alone (x ∷ xs) apart ds items h =
     let first = one_line b (line_at x) (map line_at xs ++ ds) items (o x) h in
     let later = each_line b line_at o alone xs apart.1 ds first.others first.rest in
-    let fields : ℕ → Fields = with_place later.fields x first.fields in
+    let fields : ℕ → Fields = with_index later.fields x first.fields in
     record {
       fields = fields;
       others = later.others;
@@ -181,7 +181,7 @@ each_call b (x ∷ xs) apart ds items (inr (i, members, others, f, followed, are
     let later = each_call b xs apart.1 ds others h in
     let is : i ≡ line.Call x = fitting b (shape.Call x) i f in
     let group : IsFollowedBy b (line.Call x) members = subst (λ (y : Item). IsFollowedBy b y members) is followed in
-    let cut : ℕ → Option (List Bool) = with_place later.cut x (Some group.0) in
+    let cut : ℕ → Option (List Bool) = with_index later.cut x (Some group.0) in
     record {
       cut = cut;
       sized = λ r set e. sized later group.0 group.1 r set e;
@@ -193,30 +193,30 @@ each_call b (x ∷ xs) apart ds items (inr (i, members, others, f, followed, are
     }
   where
     sized : (l : CallLines b xs ds others) (own : List Bool) → length own ≡ length b.nodes → (r : ℕ) (set : List Bool) →
-        with_place l.cut x (Some own) r ≡ Some set →
+        with_index l.cut x (Some own) r ≡ Some set →
         (length set ≡ length b.nodes) × Has (x ∷ xs) r
     sized l own size r set e = elim (cases_eq r x) [
       | inl same ↦
           (let both : Some own ≡ Some set =
-          sym (here l.cut x (Some own)) ∙ (ap (λ k. with_place l.cut x (Some own) k) (sym same) ∙ e) in
+          sym (here l.cut x (Some own)) ∙ (ap (λ k. with_index l.cut x (Some own) k) (sym same) ∙ e) in
           let eq : own ≡ set = cc in (sym (ap length eq) ∙ size, inl same))
       | inr other ↦ (let s = l.sized r set (sym (elsewhere l.cut x (Some own) r other) ∙ e) in (s.0, inr s.1))
     ]
 
     whole : (l : CallLines b xs ds others) (own : List Bool) →
         line.Call x ∷ (map (λ n. line.Member n) (members_from 0 own) ++ others)
-        ≡ (call_items x (with_place l.cut x (Some own) x) ++ flat_map
-        (λ r. call_items r (with_place l.cut x (Some own) r)) xs) ++ l.others
+        ≡ (call_items x (with_index l.cut x (Some own) x) ++ flat_map
+        (λ r. call_items r (with_index l.cut x (Some own) r)) xs) ++ l.others
     whole l own =
         ap (λ os. line.Call x ∷ (map (λ n. line.Member n) (members_from 0 own) ++ os)) l.are
         ∙ (ap (λ os. line.Call x ∷ (map (λ n. line.Member n) (members_from 0 own) ++ (os ++ l.others)))
-        (flat_same (λ r. call_items r (l.cut r)) (λ r. call_items r (with_place l.cut x (Some own) r)) xs
+        (flat_same (λ r. call_items r (l.cut r)) (λ r. call_items r (with_index l.cut x (Some own) r)) xs
         (λ k m. ap (call_items k)
         (sym (elsewhere l.cut x (Some own) k (λ e. apart.0 (subst (λ (y : ℕ). Has xs y) e m))))))
         ∙ (ap (λ ys. line.Call x ∷ ys)
         (sym (append_assoc (map (λ n. line.Member n) (members_from 0 own))
-        (flat_map (λ r. call_items r (with_place l.cut x (Some own) r)) xs) l.others))
-        ∙ ap (λ o. (call_items x o ++ flat_map (λ r. call_items r (with_place l.cut x (Some own) r)) xs) ++ l.others)
+        (flat_map (λ r. call_items r (with_index l.cut x (Some own) r)) xs) l.others))
+        ∙ ap (λ o. (call_items x o ++ flat_map (λ r. call_items r (with_index l.cut x (Some own) r)) xs) ++ l.others)
         (sym (here l.cut x (Some own)))))
 
 -- the callers of a month

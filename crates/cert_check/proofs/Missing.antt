@@ -27,11 +27,11 @@ clash : {X : Type 0} → true ≡ false → X
 clash e = cc
 
 -- an element stands in front of a place or after it
-by_place : (xs : List ℕ) (k y : ℕ) → Has xs y → Has (take k xs) y ⊎ Has (drop k xs) y
-by_place xs zero y h = inr h
-by_place [] (suc k) y h = absurd h
-by_place (x ∷ xs) (suc k) y (inl e) = inl (inl e)
-by_place (x ∷ xs) (suc k) y (inr h) = elim (by_place xs k y h) [ inl prefix ↦ inl (inr prefix) | inr after ↦ inr after ]
+by_index : (xs : List ℕ) (k y : ℕ) → Has xs y → Has (take k xs) y ⊎ Has (drop k xs) y
+by_index xs zero y h = inr h
+by_index [] (suc k) y h = absurd h
+by_index (x ∷ xs) (suc k) y (inl e) = inl (inl e)
+by_index (x ∷ xs) (suc k) y (inr h) = elim (by_index xs k y h) [ inl prefix ↦ inl (inr prefix) | inr after ↦ inr after ]
 
 -- nothing in a list passes a test that nothing in it passes
 none_in : (p : ℕ → Bool) (xs : List ℕ) (y : ℕ) → list_any p xs ≡ false → Has xs y → p y ≡ false
@@ -40,13 +40,13 @@ none_in p (x ∷ xs) y h (inl e) = ap p e ∙ (or_parts (p x) (list_any p xs) h)
 none_in p (x ∷ xs) y h (inr m) = none_in p xs y (or_parts (p x) (list_any p xs) h).1 m
 
 -- after a place each right is the one there, or junior to it
-after_place : (b : Basin) (xs : List ℕ) (k y : ℕ) → IsOrdered b.rights xs → Has (drop k xs) y →
+after_index : (b : Basin) (xs : List ℕ) (k y : ℕ) → IsOrdered b.rights xs → Has (drop k xs) y →
     (k < length xs) × ((y ≡ slice_index xs k) ⊎ (is_senior b (slice_index xs k) y ≡ true))
-after_place b [] zero y o m = absurd m
-after_place b [] (suc k) y o m = absurd m
-after_place b (x ∷ xs) zero y o (inl e) = (omega arith, inl e)
-after_place b (x ∷ xs) zero y o (inr m) = (omega arith, inr (o.0 y m))
-after_place b (x ∷ xs) (suc k) y o m = (let f = after_place b xs k y o.1 m in (omega (arith, f.0), f.1))
+after_index b [] zero y o m = absurd m
+after_index b [] (suc k) y o m = absurd m
+after_index b (x ∷ xs) zero y o (inl e) = (omega arith, inl e)
+after_index b (x ∷ xs) zero y o (inr m) = (omega arith, inr (o.0 y m))
+after_index b (x ∷ xs) (suc k) y o m = (let f = after_index b xs k y o.1 m in (omega (arith, f.0), f.1))
 
 -- a line passes over no right after one that it doesn't pass over
 not_passed : (b : Basin) (item : Item) (x y : ℕ) → passes b item x ≡ false → (y ≡ x) ⊎ (is_senior b x y ≡ true) →
@@ -78,7 +78,7 @@ pub none_missed : (b : Basin) (series : Inflows) (a : CheckState) (t : ReadSoFar
 none_missed b series a t item count valid k p =
     missing_fails b t item
     (λ r l short free passed. missed r short free passed
-    (by_place (seniors_first b) count r (seniors_have b.rights r l)))
+    (by_index (seniors_first b) count r (seniors_have b.rights r l)))
   where
     lacks : (r : ℕ) → is_short t.now r ≡ true → cut_of t.now r ≡ None → lacks_call t.now r ≡ true
     lacks r short free = rw (short, free) refl
@@ -90,8 +90,8 @@ none_missed b series a t item count valid k p =
         ∙ none_in (lacks_call t.now) (take count (seniors_first b)) r
         (sym (lacks_read b series a t k (take count (seniors_first b))) ∙ p.settled) prefix)
     missed r short free passed (inr after) =
-        let place = after_place b (seniors_first b) count r (seniors_ordered b.rights valid.roll.strict) after in
-        clash (sym passed ∙ not_passed b item (slice_index (seniors_first b) count) r (p.next place.0) place.1)
+        let position = after_index b (seniors_first b) count r (seniors_ordered b.rights valid.roll.strict) after in
+        clash (sym passed ∙ not_passed b item (slice_index (seniors_first b) count) r (p.next position.0) position.1)
 
 pub some_missed : (b : Basin) (series : Inflows) (a : CheckState) (t : ReadSoFar) (item : Item) → Keeps b series a t →
     IsMissed b a.month item → cut_missing b t item ≡ true
@@ -101,7 +101,7 @@ some_missed b series a t item k m = elim (cases_Bool (cut_missing b t item)) [
 ]
   where
     r : ℕ
-    r = slice_index (seniors_first b) m.place
+    r = slice_index (seniors_first b) m.position
 
     so_far : lacks_call t.now r ≡ true
     so_far = sym (one (lacks_call a.month) (lacks_call t.now) (lacks_read b series a t k (r ∷ []))) ∙ m.lacks
@@ -119,6 +119,6 @@ some_missed b series a t item k m = elim (cases_Bool (cut_missing b t item)) [
     never none =
         let two = and_parts (is_short t.now r) (is_none (cut_of t.now r)) so_far in
         let set =
-        none_missing b t item none r (seniors_below b.rights r (has-get_or (seniors_first b) m.place m.within)) two.0
+        none_missing b t item none r (seniors_below b.rights r (has-get_or (seniors_first b) m.position m.within)) two.0
         m.passed in
         clash (sym two.1 ∙ ap is_none set.1)

@@ -76,16 +76,16 @@ fails_none : (b : Basin) (m : MonthRecord) (xs : List ℕ) → list_any (λ n. n
     Has xs n → balances b m n ≡ true
 fails_none b m [] h n k = absurd k
 fails_none b m (x ∷ xs) h n k =
-    by_place k (parts (balances b m x) (list_any (λ n. not (balances b m n)) xs) h) (λ q l. fails_none b m xs q n l)
+    by_index k (parts (balances b m x) (list_any (λ n. not (balances b m n)) xs) h) (λ q l. fails_none b m xs q n l)
   where
     parts : (p q : Bool) → not p || q ≡ false → (p ≡ true) × (q ≡ false)
     parts true q e = (refl, e)
     parts false q e = clash e
 
-    by_place : Has (x ∷ xs) n → (balances b m x ≡ true) × (list_any (λ n. not (balances b m n)) xs ≡ false) →
+    by_index : Has (x ∷ xs) n → (balances b m x ≡ true) × (list_any (λ n. not (balances b m n)) xs ≡ false) →
         (list_any (λ n. not (balances b m n)) xs ≡ false → Has xs n → balances b m n ≡ true) → balances b m n ≡ true
-    by_place (inl is) p further = ap (λ k. balances b m k) is ∙ p.0
-    by_place (inr l) p further = further p.1 l
+    by_index (inl is) p further = ap (λ k. balances b m k) is ∙ p.0
+    by_index (inr l) p further = further p.1 l
 
 out_good : (b : Basin) (series : Inflows) (t : ReadSoFar) (n amount : ℕ) → t.calling ≡ None →
     list_all (λ other. nat_le other n) (outlets b) && list_any

@@ -352,13 +352,13 @@ months_prefix b valid series fits (suc n) i before t items item rest at all stan
         Fills b (from_month b (suc i) n) (zs ++ item ∷ rest) → AreGood b series u zs →
         MayCome b series (fold (read_item b series) u zs) item
 
-    by_place : (xs : List Item) → AreGood b series t (line.Month (run_month b i) ∷ xs) → Further →
+    by_index : (xs : List Item) → AreGood b series t (line.Month (run_month b i) ∷ xs) → Further →
         ((zs : List Item) × (sheet_lines b o.sheet o.dues ≡ xs ++ item ∷ zs)) ⊎
         ((zs : List Item) × (xs ≡ sheet_lines b o.sheet o.dues ++ zs) × (o.others ≡ zs ++ item ∷ rest)) →
         MayCome b series (fold (read_item b series) (read_item b series t (line.Month (run_month b i))) xs) item
-    by_place xs good further (inl (zs, here)) =
+    by_index xs good further (inl (zs, here)) =
         within_month b valid series fits before i t o.sheet o.dues xs item zs at (omega (arith, all)) stands here good.1
-    by_place xs good further (inr (zs, is, others)) =
+    by_index xs good further (inr (zs, is, others)) =
         let m : MonthRecord = record_of b series i o.sheet in
         let lines : List Item = line.Month (run_month b i) ∷ sheet_lines b o.sheet o.dues in
         let both : AreGood b series t (lines ++ zs) =
@@ -390,7 +390,7 @@ months_prefix b valid series fits (suc n) i before t items item rest at all stan
         let good_month : AreGood b series t (line.Month (run_month b i) ∷ xs) =
         subst (λ (y : Item). AreGood b series t (y ∷ xs)) begins good in
         subst (λ (y : Item). MayCome b series (fold (read_item b series) (read_item b series t y) xs) item) (sym begins)
-        (by_place xs good_month further (stands_in (sheet_lines b o.sheet o.dues) o.others xs item rest tail))
+        (by_index xs good_month further (stands_in (sheet_lines b o.sheet o.dues) o.others xs item rest tail))
 
 -- what was read when a line may come after the good lines of a text
 pub may_come : (b : Basin) → IsValidBasin b → (series : Inflows) → IsSeriesOf b series →

@@ -43,10 +43,13 @@ use Rattle.result_reader.proofs.AllRead.{set_all-same}
 
 -- No place comes twice in the lists that sections go over.
 
-pub places_apart : (from n : ℕ) → AreApart (numbers_from from n)
+pub indices_apart : (from n : ℕ) → AreApart (numbers_from from n)
 unfolding numbers_from
-places_apart from zero = tt
-places_apart from (suc n) = (λ h. omega (arith, (numbers_from-below (suc from) n from h).0), places_apart (suc from) n)
+indices_apart from zero = tt
+indices_apart from (suc n) = (
+  λ h. omega (arith, (numbers_from-below (suc from) n from h).0),
+  indices_apart (suc from) n,
+)
 
 pub filter_apart : (p : ℕ → Bool) (xs : List ℕ) → AreApart xs → AreApart (filter p xs)
 filter_apart p [] h = tt
@@ -64,9 +67,9 @@ pub seniors_apart : (b : Basin) → IsValidBasin b → AreApart (seniors_first b
 seniors_apart b valid = ordered_apart b (seniors_first b) (seniors_ordered b.rights valid.roll.strict)
 
 pub in_order_apart : (b : Basin) → IsValidBasin b → (s : Space) → AreApart (in_order s b)
-in_order_apart b valid space.Nodes = places_apart 0 (length b.nodes)
-in_order_apart b valid space.Links = places_apart 0 (length b.links)
-in_order_apart b valid space.Reservoirs = places_apart 0 (length b.reservoirs)
+in_order_apart b valid space.Nodes = indices_apart 0 (length b.nodes)
+in_order_apart b valid space.Links = indices_apart 0 (length b.links)
+in_order_apart b valid space.Reservoirs = indices_apart 0 (length b.reservoirs)
 in_order_apart b valid space.Rights = seniors_apart b valid
 
 -- what a month's lines give

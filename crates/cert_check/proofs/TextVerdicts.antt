@@ -78,9 +78,9 @@ prefix_lines prefix more some = by_test (is_line (after_last (prefix ++ more)))
   where
     cut : take (length (prefix ++ more) - 1) (prefix ++ more) ≡ prefix ++ take (length more - 1) more
     cut =
-        let place : length (prefix ++ more) - 1 ≡ length prefix + (length more - 1) =
+        let position : length (prefix ++ more) - 1 ≡ length prefix + (length more - 1) =
         omega (arith, length-append prefix more) in
-        ap (λ n. take n (prefix ++ more)) place ∙ take-append-add prefix more (length more - 1)
+        ap (λ n. take n (prefix ++ more)) position ∙ take-append-add prefix more (length more - 1)
 
     by_test : (t : Bool) → (after : List (List ℕ)) ×
         ((if t then prefix ++ more else take (length (prefix ++ more) - 1) (prefix ++ more)) ≡ prefix ++ after)

@@ -78,12 +78,12 @@ set_above (x ∷ xs) (suc i) v least h l (suc k) = set_above xs i v (λ j. least
 
 -- Bounds on what the rows allow.
 
-evaporated_most : (b : Basin) (v storage place : ℕ) →
-    of_entry b.reservoirs v (λ r. evaporation r.area storage (slice_index r.rate place)) 0 ≤ storage
-evaporated_most b v storage place = by_entry (slice_get b.reservoirs v)
+evaporated_most : (b : Basin) (v storage position : ℕ) →
+    of_entry b.reservoirs v (λ r. evaporation r.area storage (slice_index r.rate position)) 0 ≤ storage
+evaporated_most b v storage position = by_entry (slice_get b.reservoirs v)
   where
     by_entry : (o : Option Reservoir) →
-        unwrap_or (option_map (λ r. evaporation r.area storage (slice_index r.rate place)) o) 0 ≤ storage
+        unwrap_or (option_map (λ r. evaporation r.area storage (slice_index r.rate position)) o) 0 ≤ storage
     by_entry None = omega arith
     by_entry (Some r) = omega arith
 

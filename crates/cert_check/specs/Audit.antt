@@ -30,10 +30,10 @@ ended_months items = count_by is_end items
 
 -- The line of this number, counted from 1, is the `call` of a right in a month: a given number of months end before it.
 pub record IsCallLine (items : List Item) (month right number : ℕ) : Type 0 where
-  pub place : ℕ
-  pub at : slice_get items place ≡ Some (line.Call right)
-  pub after : ended_months (take place items) ≡ month
-  pub counted : number ≡ place + 1
+  pub position : ℕ
+  pub at : slice_get items position ≡ Some (line.Call right)
+  pub after : ended_months (take position items) ≡ month
+  pub counted : number ≡ position + 1
 
 -- In some month a set isn't a reach, and in none before it. The line of this number is the `call` of the most senior
 -- right of that month whose set isn't its reach.

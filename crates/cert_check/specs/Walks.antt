@@ -18,10 +18,10 @@ pub record ArePassed (b : Basin) (m : MonthRecord) (item : Item) (count : ℕ) :
 
 -- a line passes over this right, which lacks its `call`
 pub record IsMissed (b : Basin) (m : MonthRecord) (item : Item) : Type 0 where
-  pub place : ℕ
-  pub within : place < length (seniors_first b)
-  pub lacks : lacks_call m (slice_index (seniors_first b) place) ≡ true
-  pub passed : passes b item (slice_index (seniors_first b) place) ≡ true
+  pub position : ℕ
+  pub within : position < length (seniors_first b)
+  pub lacks : lacks_call m (slice_index (seniors_first b) position) ≡ true
+  pub passed : passes b item (slice_index (seniors_first b) position) ≡ true
 
 abbrev pub IsPassed : Basin → MonthRecord → Item → Option ℕ → Type 0
 IsPassed b m item (Some count) = ArePassed b m item count
@@ -29,8 +29,8 @@ IsPassed b m item None = IsMissed b m item
 
 -- from a place on this right is the first that answers to a caller
 pub record IsNextDue (b : Basin) (m : MonthRecord) (from : ℕ) (due : Due) : Type 0 where
-  pub within : due.place < length (seniors_first b)
-  pub up_to : callers_of b m (take (due.place + 1) (seniors_first b)) ≡ callers_of b m
+  pub within : due.position < length (seniors_first b)
+  pub up_to : callers_of b m (take (due.position + 1) (seniors_first b)) ≡ callers_of b m
       (take from (seniors_first b)) ++ (due.right, due.caller) ∷ []
 
 -- the first right from a place on that answers to a caller, or none
@@ -41,4 +41,4 @@ IsDueFrom b m from None = callers_due b m ≡ callers_of b m (take from (seniors
 -- a given number of rights are after it
 abbrev pub after : ℕ → Option Due → ℕ
 after from None = from
-after from (Some due) = due.place + 1
+after from (Some due) = due.position + 1

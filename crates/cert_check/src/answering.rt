@@ -13,7 +13,7 @@ use water_model::types::{Basin, MonthRecord};
 /// A right that answers to a caller, and its place in the order of seniority.
 #[derive(Clone, Copy)]
 pub struct Due {
-    pub place: usize,
+    pub position: usize,
     pub right: u32,
     pub caller: u32,
 }
@@ -35,11 +35,11 @@ pub fn next_due(
     ensures { IsDueFrom basin.now month.now from result }
 {
     let order = roll.by_seniority();
-    for place in from..order.len() {
-        let right = order[place];
+    for position in from..order.len() {
+        let right = order[position];
         if let Some(caller) = calling_right(basin, callers, month, right) {
             return Some(Due {
-                place,
+                position,
                 right,
                 caller,
             });

@@ -112,16 +112,16 @@ fn evaporation_of(
     basin: &Basin,
     tables: &[AreaTable],
     reservoir: u32,
-    place: usize,
+    position: usize,
     storage: u64,
 ) -> u64
     requires tables { tables.now ≡ map (λ v. v.area) basin.now.reservoirs }
     requires reservoir { reservoir < length basin.now.reservoirs }
-    requires place { place < 12 }
+    requires position { position < 12 }
     ensures { result ≡ of_entry basin.now.reservoirs reservoir
-        (λ r. evaporation r.area storage (slice_index r.rate place)) 0 }
+        (λ r. evaporation r.area storage (slice_index r.rate position)) 0 }
 {
-    let rate = basin.reservoirs[reservoir as usize].rate[place];
+    let rate = basin.reservoirs[reservoir as usize].rate[position];
     tables[reservoir as usize].evaporation(storage, rate)
 }
 
@@ -142,9 +142,9 @@ pub fn evaporation_wrong(
     ensures { (series : Inflows) (t : ReadSoFar) → Shows month.now t.now →
         result ≡ checking.quantity_wrong basin.now series t Quantity.Evaporated reservoir amount }
 {
-    let place = month.month.month as usize - 1;
+    let position = month.month.month as usize - 1;
     let storage = month.opening[reservoir as usize];
-    !(amount == evaporation_of(basin, tables, reservoir, place, storage))
+    !(amount == evaporation_of(basin, tables, reservoir, position, storage))
 }
 
 /// Whether an amount that is delivered is wrong by the want: a take above it, or of an instream right another amount

@@ -223,7 +223,7 @@ pub fn enter_called(basin: &Basin, roll: &Roll, state: &mut CheckState)
 {
     state.calling = None;
     match next_due(basin, roll, &state.callers, &state.month, state.answered) {
-        Some(due) => state.answered = due.place + 1,
+        Some(due) => state.answered = due.position + 1,
         None => {}
     }
 }

@@ -13,11 +13,11 @@ use water_model::quantity::Quantity;
 use water_model::types::{Basin, MonthRecord, RightKind};
 
 /// Writes an amount at a place of a list.
-fn put(list: &mut [u64], place: u32, amount: u64)
-    requires { place < length list.old }
-    ensures { list.new ≡ slice_set list.old place amount }
+fn put(list: &mut [u64], position: u32, amount: u64)
+    requires { position < length list.old }
+    ensures { list.new ≡ slice_set list.old position amount }
 {
-    list[place as usize] = amount;
+    list[position as usize] = amount;
 }
 
 /// Tells an amount of an entry.

@@ -26,10 +26,11 @@ edited series [] = series
 edited series (e ∷ edits) = edited (edited_by series e) edits
 
 -- a line speaks of a month of the run and of a place in the series, and of an amount of at most 10^9
-abbrev pub IsPlaced : Basin → Inflows → Edit → Type 0
-IsPlaced b series (Inflow index gauge amount) = (index < b.months) × (gauge < length series.gauged) × (amount ≤ 10 ^ 9)
-IsPlaced b series (Want index place amount) = (index < b.months) × (place < length series.wanted) × (amount ≤ 10 ^ 9)
-IsPlaced b series (Show index) = index < b.months
+abbrev pub IsValidEdit : Basin → Inflows → Edit → Type 0
+IsValidEdit b series (Inflow index gauge amount) = (index < b.months) × (gauge < length series.gauged) ×
+    (amount ≤ 10 ^ 9)
+IsValidEdit b series (Want index place amount) = (index < b.months) × (place < length series.wanted) × (amount ≤ 10 ^ 9)
+IsValidEdit b series (Show index) = index < b.months
 
 -- how many of a given number of months that are kept stay kept: those before the month of a change
 abbrev pub kept_by : ℕ → Edit → ℕ

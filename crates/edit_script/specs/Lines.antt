@@ -6,7 +6,7 @@ use Rattle.std.specs.Str.{bytes_eq}
 use Rattle.water_text.specs.Amounts.{read_plain}
 use Rattle.water_text.specs.Months.{read_month}
 use Rattle.water_text.specs.Names.{is_name}
-use Rattle.water_model.specs.Hydrology.{place_in}
+use Rattle.water_model.specs.Hydrology.{index_in}
 use Rattle.water_model.specs.Valid.{is_gauged, is_in_series}
 use Rattle.water_model.specs.declared.types.Basin.{Basin}
 use Rattle.water_model.specs.declared.types.Inflows.{Inflows}
@@ -55,7 +55,7 @@ unfoldable pub inflow_of : Basin → Inflows → List ℕ → List ℕ → List 
 inflow_of b series month name amount =
     given (numbers_of b month name amount) (λ numbers.
     need fault.NoSuchName (node_named b name) (λ node.
-    if is_gauged b node then Ok (edit.Inflow numbers.0 (place_in series.gauged node) numbers.1)
+    if is_gauged b node then Ok (edit.Inflow numbers.0 (index_in series.gauged node) numbers.1)
     else Err fault.NotSeries))
 
 -- what a line `want MONTH RIGHT AMOUNT` asks for
@@ -63,7 +63,7 @@ unfoldable pub want_of : Basin → Inflows → List ℕ → List ℕ → List �
 want_of b series month name amount =
     given (numbers_of b month name amount) (λ numbers.
     need fault.NoSuchName (right_named b name) (λ right.
-    if is_in_series b right then Ok (edit.Want numbers.0 (place_in series.wanted right) numbers.1)
+    if is_in_series b right then Ok (edit.Want numbers.0 (index_in series.wanted right) numbers.1)
     else Err fault.NotSeries))
 
 -- what a line of these fields asks for, or its first fault

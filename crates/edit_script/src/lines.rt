@@ -2,7 +2,7 @@
 ghost use Rattle.std.specs.Prelude.{◌≡◌, ◌<◌, ◌≤◌, ◌^◌, ◌∷◌, IfOk};
 ghost use Rattle.water_model.specs.Valid.{IsValidBasin, IsSeriesOf};
 ghost use Rattle.water_model.specs.declared.types.Inflows.{Inflows};
-ghost use Rattle.edit_script.specs.Edits.{IsPlaced};
+ghost use Rattle.edit_script.specs.Edits.{IsValidEdit};
 ghost use Rattle.edit_script.specs.Lines.{edit_in, edit_of, fields_of, inflow_of, numbers_of, show_of, want_of};
 
 use crate::edit::Edit;
@@ -19,7 +19,7 @@ use water_text::name::is_name;
 fn read_show(basin: &Basin, month: &[u8]) -> Result<Edit, ScriptFault>
     requires { IsValidBasin basin.now }
     ensures reads { result ≡ show_of basin.now month.now }
-    ensures placed { IfOk result (λ e. (series : Inflows) → IsPlaced basin.now series e) }
+    ensures placed { IfOk result (λ e. (series : Inflows) → IsValidEdit basin.now series e) }
 {
     let Some(month) = Month::read(month) else {
         return Err(ScriptFault::BadLine);
@@ -70,7 +70,7 @@ fn read_inflow(
     requires basin { IsValidBasin names.now.basin.now }
     requires series { IsSeriesOf names.now.basin.now series.now }
     ensures reads { result ≡ inflow_of names.now.basin.now series.now month.now name.now amount.now }
-    ensures placed { IfOk result (IsPlaced names.now.basin.now series.now) }
+    ensures placed { IfOk result (IsValidEdit names.now.basin.now series.now) }
 {
     let (index, amount) = read_numbers(names.basin, month, name, amount)?;
     let Some(node) = names.node_named(name) else {
@@ -99,7 +99,7 @@ fn read_want(
     requires basin { IsValidBasin names.now.basin.now }
     requires series { IsSeriesOf names.now.basin.now series.now }
     ensures reads { result ≡ want_of names.now.basin.now series.now month.now name.now amount.now }
-    ensures placed { IfOk result (IsPlaced names.now.basin.now series.now) }
+    ensures placed { IfOk result (IsValidEdit names.now.basin.now series.now) }
 {
     let (index, amount) = read_numbers(names.basin, month, name, amount)?;
     let Some(right) = names.right_named(name) else {
@@ -127,7 +127,7 @@ fn read_change(
     requires basin { IsValidBasin names.now.basin.now }
     requires series { IsSeriesOf names.now.basin.now series.now }
     ensures reads { result ≡ edit_in names.now.basin.now series.now (word.now ∷ month.now ∷ fields_of after.now) }
-    ensures placed { IfOk result (IsPlaced names.now.basin.now series.now) }
+    ensures placed { IfOk result (IsValidEdit names.now.basin.now series.now) }
 {
     let (name, after) = cut(after);
     let Some(after) = after else {
@@ -152,7 +152,7 @@ pub fn read_edit(names: &Names, series: &Inflows, line: &[u8]) -> Result<Edit, S
     requires basin { IsValidBasin names.now.basin.now }
     requires series { IsSeriesOf names.now.basin.now series.now }
     ensures reads { result ≡ edit_of names.now.basin.now series.now line.now }
-    ensures placed { IfOk result (IsPlaced names.now.basin.now series.now) }
+    ensures placed { IfOk result (IsValidEdit names.now.basin.now series.now) }
 {
     let (word, after) = cut(line);
     let Some(after) = after else {

@@ -2,7 +2,7 @@
 ghost use Rattle.std.specs.Prelude.{◌≡◌, ◌<◌, length, IfOk, IfSome, true};
 ghost use Rattle.std.specs.List.Sorted.{IsStrictlyIncreasing};
 ghost use Rattle.water_text.specs.Months.{IsMonth};
-ghost use Rattle.water_model.specs.Hydrology.{place_in};
+ghost use Rattle.water_model.specs.Hydrology.{index_in};
 ghost use Rattle.water_model.specs.Valid.{IsValidBasin, is_gauged, is_in_series};
 ghost use Rattle.water_model.specs.declared.space.Space.TheVariants.{Nodes, Rights};
 ghost use Rattle.basin_names.specs.Named.{node_named, right_named};
@@ -56,7 +56,7 @@ pub fn is_in_series(basin: &Basin, right: u32) -> bool
 pub fn place_of(list: &[u32], number: u32) -> u32
     requires bounded { length list.now < 4000 }
     requires rising { IsStrictlyIncreasing list.now }
-    ensures { result ≡ place_in list.now number }
+    ensures { result ≡ index_in list.now number }
 {
     match list.binary_search(&number) {
         Ok(place) => place as u32,

@@ -1,7 +1,7 @@
 //! A whole script.
 ghost use Rattle.std.specs.Prelude.{◌≡◌, ◌≤◌, All, length, Ok, Err, MatchResult, IfOk};
 ghost use Rattle.water_model.specs.Valid.{IsValidBasin, IsSeriesOf};
-ghost use Rattle.edit_script.specs.Edits.{IsPlaced};
+ghost use Rattle.edit_script.specs.Edits.{IsValidEdit};
 ghost use Rattle.edit_script.specs.Lines.{edit_of};
 ghost use Rattle.edit_script.specs.Scripts.{IsRefusalOf, edits_from, ended, lines_of, numbered, script_of};
 
@@ -23,7 +23,7 @@ fn read_numbered(
     requires basin { IsValidBasin names.now.basin.now }
     requires series { IsSeriesOf names.now.basin.now series.now }
     ensures reads { result ≡ numbered number (edit_of names.now.basin.now series.now line.now) }
-    ensures placed { IfOk result (IsPlaced names.now.basin.now series.now) }
+    ensures placed { IfOk result (IsValidEdit names.now.basin.now series.now) }
 {
     match read_edit(names, series, line) {
         Ok(edit) => Ok(edit),
@@ -62,7 +62,7 @@ fn read_edits(
     ensures reads { MatchResult result
         (λ edits. edits_from names.now.basin.now series.now 2 (lines_of text.now) ≡ Ok edits.items)
         (IsRefusalOf (edits_from names.now.basin.now series.now 2 (lines_of text.now))) }
-    ensures placed { IfOk result (λ edits. All (IsPlaced names.now.basin.now series.now) edits.items) }
+    ensures placed { IfOk result (λ edits. All (IsValidEdit names.now.basin.now series.now) edits.items) }
 {
     let mut edits = Vec::new(alloc);
     let mut rest = text;
@@ -96,7 +96,7 @@ pub fn read_script(
     requires small { length text.now ≤ 67108864 }
     ensures reads { MatchResult result (λ edits. script_of basin.now series.now text.now ≡ Ok edits.items)
         (IsRefusalOf (script_of basin.now series.now text.now)) }
-    ensures placed { IfOk result (λ edits. All (IsPlaced basin.now series.now) edits.items) }
+    ensures placed { IfOk result (λ edits. All (IsValidEdit basin.now series.now) edits.items) }
 {
     let Some((first, after)) = first_line(text) else {
         return Err(ScriptRefused::Refused {

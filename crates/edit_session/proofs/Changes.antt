@@ -15,7 +15,7 @@ use Rattle.water_model.specs.declared.types.Inflow as inflow
 use Rattle.water_model.specs.declared.types.Inflows.{Inflows}
 use Rattle.water_model.specs.declared.types.MonthRecord.{MonthRecord}
 use Rattle.water_model.proofs.Gauges.{gauge_within, wanted_within}
-use Rattle.edit_script.specs.Edits.{edited_by, kept_by, IsPlaced, with_inflow, with_want}
+use Rattle.edit_script.specs.Edits.{edited_by, kept_by, IsValidEdit, with_inflow, with_want}
 use Rattle.edit_session.specs.Laws.{AgreeBefore, EditedSeriesFit, KeptMonthsStay}
 use Rattle.edit_session.specs.SessionInside.{IsValidSession}
 use Rattle.edit_session.specs.Sessions.{records_of}
@@ -108,7 +108,7 @@ pub at_most : (records : List MonthRecord) (month : ℕ) → take month records 
 at_most records month = sym (ap (λ n. take n records) (omega arith) ∙ take_min month records)
 
 -- a session after a change
-pub stays_ready : (old new : Inside) (e : Edit) → IsValidSession old → IsPlaced old.engine.basin old.series e →
+pub stays_ready : (old new : Inside) (e : Edit) → IsValidSession old → IsValidEdit old.engine.basin old.series e →
     new.engine ≡ old.engine → new.series ≡ edited_by old.series e →
     records_of new.kept.items ≡ take (kept_by (length (records_of old.kept.items)) e) (records_of old.kept.items) →
     IsValidSession new

@@ -5,7 +5,7 @@ use Rattle.water_model.specs.Valid.{IsSeriesOf}
 use Rattle.water_model.specs.declared.types.Basin.{Basin}
 use Rattle.water_model.specs.declared.types.Inflows.{Inflows}
 use Rattle.water_model.specs.declared.types.MonthRecord.{MonthRecord}
-use Rattle.edit_script.specs.Edits.{edited_by, kept_by, IsPlaced}
+use Rattle.edit_script.specs.Edits.{edited_by, kept_by, IsValidEdit}
 use Rattle.edit_session.specs.Sessions.{HasKeptMonths}
 use Rattle.edit_script.specs.declared.edit.Edit.{Edit}
 
@@ -17,13 +17,14 @@ pub record AgreeBefore (b : Basin) (series other : Inflows) (month : ℕ) : Type
 
 -- A series stays one of its basin through each change.
 abbrev pub EditedSeriesFit : Type 0
-EditedSeriesFit = (b : Basin) (series : Inflows) (e : Edit) → IsSeriesOf b series → IsPlaced b series e →
+EditedSeriesFit = (b : Basin) (series : Inflows) (e : Edit) → IsSeriesOf b series → IsValidEdit b series e →
     IsSeriesOf b (edited_by series e)
 
 -- Kept months stay. Of months of a basin and a series those before a change are months of the changed series: a month
 -- reads nothing of a series but its own numbers.
 abbrev pub KeptMonthsStay : Type 0
 KeptMonthsStay =
-    (b : Basin) (series : Inflows) (records : List MonthRecord) (e : Edit) → IsSeriesOf b series → IsPlaced b series e →
+    (b : Basin) (series : Inflows) (records : List MonthRecord) (e : Edit) → IsSeriesOf b series →
+    IsValidEdit b series e →
     HasKeptMonths (record { basin = b; series = series; kept = records }) →
     HasKeptMonths (record { basin = b; series = edited_by series e; kept = take (kept_by (length records) e) records })

@@ -17,7 +17,7 @@ use Rattle.water_model.specs.declared.types.MonthRecord.{MonthRecord}
 use Rattle.result_text.specs.Range.{FitsText}
 use Rattle.water_edge.proofs.Puts.{PutsPrefix-then}
 use Rattle.result_text.proofs.Whole.{FitsText-follows}
-use Rattle.edit_script.specs.Edits.{IsPlaced, cost_from, edited, edited_by, kept_by, solved_by}
+use Rattle.edit_script.specs.Edits.{IsValidEdit, cost_from, edited, edited_by, kept_by, solved_by}
 use Rattle.edit_script.specs.declared.edit.Edit.{Edit}
 use Rattle.edit_script.specs.declared.edit.Edit.TheVariants.{Inflow, Want, Show}
 use Rattle.edit_session.specs.Sessions.{HasKeptMonths, SessionView}
@@ -49,7 +49,7 @@ bytes_after : (b : Basin) (xs ys : List MonthRecord) →
 bytes_after b xs ys = flat_map-append (λ m. flat_map (whole_line b) (items_of_month b m)) xs ys
 
 -- a change moves no place
-placed_by : (b : Basin) (series : Inflows) (d e : Edit) → IsPlaced b series e → IsPlaced b (edited_by series d) e
+placed_by : (b : Basin) (series : Inflows) (d e : Edit) → IsValidEdit b series e → IsValidEdit b (edited_by series d) e
 placed_by b series (Inflow index gauge amount) (Inflow i g a) h = h
 placed_by b series (Inflow index gauge amount) (Want i p a) h = h
 placed_by b series (Inflow index gauge amount) (Show i) h = h
@@ -58,8 +58,8 @@ placed_by b series (Want index place amount) (Want i p a) h = h
 placed_by b series (Want index place amount) (Show i) h = h
 placed_by b series (Show index) e h = h
 
-placed_after : (b : Basin) (series : Inflows) (ds : List Edit) (e : Edit) → IsPlaced b series e →
-    IsPlaced b (edited series ds) e
+placed_after : (b : Basin) (series : Inflows) (ds : List Edit) (e : Edit) → IsValidEdit b series e →
+    IsValidEdit b (edited series ds) e
 placed_after b series [] e h = h
 placed_after b series (d ∷ ds) e h = placed_after b (edited_by series d) ds e (placed_by b series d e h)
 
@@ -90,10 +90,10 @@ played_none b series edits old = record {
 
 pub next_placed : (b : Basin) (series now : Inflows) (edits : List Edit) (old new : Option (List ℕ)) (i : ℕ)
     (e : Edit) → IsPlayed b series now edits old new i →
-    All (IsPlaced b series) edits → i < length edits → e ≡ get_or edits i e → IsPlaced b now e
+    All (IsValidEdit b series) edits → i < length edits → e ≡ get_or edits i e → IsValidEdit b now e
 next_placed b series now edits old new i e played placed l is =
-    subst (λ s. IsPlaced b s e) (sym played.edited)
-    (placed_after b series (take i edits) e (subst (IsPlaced b series) (sym is) (placed i e l)))
+    subst (λ s. IsValidEdit b s e) (sym played.edited)
+    (placed_after b series (take i edits) e (subst (IsValidEdit b series) (sym is) (placed i e l)))
 
 one_more : (edits : List Edit) (i : ℕ) (e : Edit) → i < length edits → e ≡ get_or edits i e →
     take (i + 1) edits ≡ take i edits ++ e ∷ []

@@ -1,7 +1,7 @@
 //! One line of a script answered.
 ghost use Rattle.std.specs.Prelude.{◌≡◌, ◌+◌, ◌*◌, ◌<◌, ◌≤◌, [], ◌∷◌, length, max, Err, OnOk};
 ghost use Rattle.water_edge.specs.Edge.{HasCause};
-ghost use Rattle.edit_script.specs.Edits.{IsPlaced, edited_by, kept_by, solved_by};
+ghost use Rattle.edit_script.specs.Edits.{IsValidEdit, edited_by, kept_by, solved_by};
 ghost use Rattle.edit_script.specs.declared.edit.Edit.TheVariants as edit;
 ghost use Rattle.edit_shows.specs.Shown.{Answers};
 ghost use Rattle.edit_shows.specs.declared.stop.EditStop.TheVariants.{SinkFailed};
@@ -49,7 +49,7 @@ pub fn answer<K: Sink, L: Ledger>(
     out: &mut K,
     searches: &mut Steps<L>,
 ) -> Result<(), EditStop>
-    requires { IsPlaced session.old.basin session.old.series edit }
+    requires { IsValidEdit session.old.basin session.old.series edit }
     ensures basin { session.new.basin ≡ session.old.basin }
     ensures series { session.new.series ≡ edited_by session.old.series edit }
     ensures kept { OnOk result

@@ -2,7 +2,7 @@
 ghost use Rattle.std.specs.Prelude.{◌≡◌, ◌+◌, ◌*◌, ◌<◌, ◌≤◌, All, length, Err, [], IsErr};
 ghost use Rattle.water_edge.specs.Edge.{HasCause, Puts};
 ghost use Rattle.water_model.specs.Valid.{IsValidBasin, IsSeriesOf};
-ghost use Rattle.edit_script.specs.Edits.{IsPlaced, cost, cost_from};
+ghost use Rattle.edit_script.specs.Edits.{IsValidEdit, cost, cost_from};
 ghost use Rattle.edit_shows.specs.Shown.{Answers, AnswersWhole, done_bytes, is_show, shows_in};
 ghost use Rattle.edit_shows.specs.declared.stop.EditStop.TheVariants as stop;
 ghost use Rattle.senior_hold.specs.MonthNetwork.{month_pushes};
@@ -26,7 +26,7 @@ fn answer_each<K: Sink, L: Ledger>(
     out: &mut K,
     searches: &mut Steps<L>,
 ) -> Result<(), EditStop>
-    requires { All (IsPlaced session.old.basin session.old.series) edits.now }
+    requires { All (IsValidEdit session.old.basin session.old.series) edits.now }
     ensures answers { Answers session.old.basin session.old.series edits.now result (K.taken out.old)
         (K.taken out.new) }
     ensures cause { HasCause (K.faults out.old) (K.faults out.new) (result ≡ Err stop.SinkFailed) }
@@ -83,7 +83,7 @@ fn put_answers<K: Sink, L: Ledger>(
     out: &mut K,
     searches: &mut Steps<L>,
 ) -> Result<(), EditStop>
-    requires { All (IsPlaced session.old.basin session.old.series) edits.now }
+    requires { All (IsValidEdit session.old.basin session.old.series) edits.now }
     ensures answers { AnswersWhole session.old.basin session.old.series edits.now result (K.taken out.old)
         (K.taken out.new) }
     ensures cause { HasCause (K.faults out.old) (K.faults out.new) (result ≡ Err stop.SinkFailed) }
@@ -113,7 +113,7 @@ pub fn put_shows<K: Sink, L: Ledger>(
 ) -> Result<(), EditStop>
     requires basin { IsValidBasin basin.now }
     requires series { IsSeriesOf basin.now series.now }
-    requires placed { All (IsPlaced basin.now series.now) edits.now }
+    requires placed { All (IsValidEdit basin.now series.now) edits.now }
     ensures answers { AnswersWhole basin.now series.now edits.now result (K.taken out.old) (K.taken out.new) }
     ensures cause { HasCause (K.faults out.old) (K.faults out.new) (result ≡ Err stop.SinkFailed) }
     ensures pushes { searches.new ≤ searches.old + cost edits.now * month_pushes basin.now }

@@ -8,7 +8,7 @@ use Rattle.std.proofs.lemmas.Bool.Decides.{nat_tests}
 use Rattle.std.proofs.lemmas.List.{get_or_append_left, get_or_push, length-append}
 use Rattle.std.proofs.lemmas.List.Elements.{filter-append}
 use Rattle.water_model.proofs.Lists.{numbers_more}
-use Rattle.water_model.specs.Hydrology.{place_in}
+use Rattle.water_model.specs.Hydrology.{index_in}
 use Rattle.water_model.specs.Indices.{numbers_from}
 use Rattle.water_model.specs.Valid.{is_gauged, gauged_nodes, is_in_series, rights_in_series}
 use Rattle.water_model.specs.declared.types.Basin.{Basin}
@@ -41,57 +41,57 @@ other_test : (a c : ℕ) → a < c → a == c ≡ false
 other_test a c h = grind (arith, nat_tests)
 
 -- the place of a number among those that pass a test: as many stand before it as pass below it
-place_from : (p : ℕ → Bool) (from count k x : ℕ) → k < count → x ≡ from + k → p x ≡ true →
-    place_in (filter p (numbers_from from count)) x ≡ length (filter p (numbers_from from k))
+index_from : (p : ℕ → Bool) (from count k x : ℕ) → k < count → x ≡ from + k → p x ≡ true →
+    index_in (filter p (numbers_from from count)) x ≡ length (filter p (numbers_from from k))
 unfolding numbers_from
-place_from p from zero k x l e h = absurd (omega arith)
-place_from p from (suc count) zero x l e h =
+index_from p from zero k x l e h = absurd (omega arith)
+index_from p from (suc count) zero x l e h =
     let same : from ≡ x = omega arith in
     let passes : p from ≡ true = ap p same ∙ h in
     let here : from == x ≡ true = eq-eqb from x same in
     rw (passes, here) refl
-place_from p from (suc count) (suc k) x l e h =
-    by_test (p from) (other_test from x (omega arith)) (place_from p (suc from) count k x (omega arith) (omega arith) h)
+index_from p from (suc count) (suc k) x l e h =
+    by_test (p from) (other_test from x (omega arith)) (index_from p (suc from) count k x (omega arith) (omega arith) h)
   where
     by_test : (t : Bool) → from == x ≡ false →
-        place_in (filter p (numbers_from (suc from) count)) x ≡ length (filter p (numbers_from (suc from) k)) →
-        place_in (if t then from ∷ filter p (numbers_from (suc from) count) else filter p
+        index_in (filter p (numbers_from (suc from) count)) x ≡ length (filter p (numbers_from (suc from) k)) →
+        index_in (if t then from ∷ filter p (numbers_from (suc from) count) else filter p
         (numbers_from (suc from) count)) x
         ≡ length (if t then from ∷ filter p (numbers_from (suc from) k) else filter p (numbers_from (suc from) k))
     by_test true f h = rw f (omega arith)
     by_test false f h = h
 
 -- a number that passes stands at its place
-pub place_holds : (p : ℕ → Bool) (from count k x : ℕ) → k < count → x ≡ from + k → p x ≡ true →
-    (place_in (filter p (numbers_from from count)) x < length (filter p (numbers_from from count)))
-    × (get_or (filter p (numbers_from from count)) (place_in (filter p (numbers_from from count)) x) 0 ≡ x)
+pub index_holds : (p : ℕ → Bool) (from count k x : ℕ) → k < count → x ≡ from + k → p x ≡ true →
+    (index_in (filter p (numbers_from from count)) x < length (filter p (numbers_from from count)))
+    × (get_or (filter p (numbers_from from count)) (index_in (filter p (numbers_from from count)) x) 0 ≡ x)
 unfolding numbers_from
-place_holds p from zero k x l e h = absurd (omega arith)
-place_holds p from (suc count) zero x l e h =
+index_holds p from zero k x l e h = absurd (omega arith)
+index_holds p from (suc count) zero x l e h =
     let same : from ≡ x = omega arith in
     let passes : p from ≡ true = ap p same ∙ h in
     let here : from == x ≡ true = eq-eqb from x same in
     rw (passes, here) (omega arith, same)
-place_holds p from (suc count) (suc k) x l e h =
+index_holds p from (suc count) (suc k) x l e h =
     by_test (p from) (other_test from x (omega arith))
-    (place_holds p (suc from) count k x (omega arith) (omega arith) h)
+    (index_holds p (suc from) count k x (omega arith) (omega arith) h)
   where
     by_test : (t : Bool) → from == x ≡ false →
-        (place_in (filter p (numbers_from (suc from) count)) x < length (filter p (numbers_from (suc from) count)))
-        × (get_or (filter p (numbers_from (suc from) count)) (place_in (filter p (numbers_from (suc from) count)) x)
+        (index_in (filter p (numbers_from (suc from) count)) x < length (filter p (numbers_from (suc from) count)))
+        × (get_or (filter p (numbers_from (suc from) count)) (index_in (filter p (numbers_from (suc from) count)) x)
         0 ≡ x) →
-        (place_in
+        (index_in
         (if t then from ∷ filter p (numbers_from (suc from) count) else filter p (numbers_from (suc from) count)) x
         < length (if t then from ∷ filter p (numbers_from (suc from) count) else filter p
         (numbers_from (suc from) count)))
         × (get_or
         (if t then from ∷ filter p (numbers_from (suc from) count) else filter p (numbers_from (suc from) count))
-        (place_in
+        (index_in
         (if t then from ∷ filter p (numbers_from (suc from) count) else filter p (numbers_from (suc from) count)) x)
         0 ≡ x)
     by_test true f h =
-        let next : 1 + place_in (filter p (numbers_from (suc from) count)) x ≡ suc
-        (place_in (filter p (numbers_from (suc from) count)) x) = omega arith in
+        let next : 1 + index_in (filter p (numbers_from (suc from) count)) x ≡ suc
+        (index_in (filter p (numbers_from (suc from) count)) x) = omega arith in
         rw (f, next) (omega (arith, h.0), h.1)
     by_test false f h = h
 
@@ -114,22 +114,22 @@ passing_from p from (suc count) g l = by_test (p from) g l (passing_from p (suc 
     by_test false g l further = let h = further g l in omega (arith, h)
 
 -- the place of the number that stands at a place
-pub place_of_passing : (p : ℕ → Bool) (from count g : ℕ) → g < length (filter p (numbers_from from count)) →
-    place_in (filter p (numbers_from from count)) (get_or (filter p (numbers_from from count)) g 0) ≡ g
+pub index_of_passing : (p : ℕ → Bool) (from count g : ℕ) → g < length (filter p (numbers_from from count)) →
+    index_in (filter p (numbers_from from count)) (get_or (filter p (numbers_from from count)) g 0) ≡ g
 unfolding numbers_from
-place_of_passing p from zero g l = absurd (omega arith)
-place_of_passing p from (suc count) g l =
-    by_test (p from) g l (place_of_passing p (suc from) count) (passing_from p (suc from) count)
+index_of_passing p from zero g l = absurd (omega arith)
+index_of_passing p from (suc count) g l =
+    by_test (p from) g l (index_of_passing p (suc from) count) (passing_from p (suc from) count)
   where
     by_test : (t : Bool) (g : ℕ) →
         g < length
         (if t then from ∷ filter p (numbers_from (suc from) count) else filter p (numbers_from (suc from) count)) →
         ((k : ℕ) → k < length (filter p (numbers_from (suc from) count)) →
-        place_in (filter p (numbers_from (suc from) count))
+        index_in (filter p (numbers_from (suc from) count))
         (get_or (filter p (numbers_from (suc from) count)) k 0) ≡ k) →
         ((k : ℕ) → k < length (filter p (numbers_from (suc from) count)) →
         suc from ≤ get_or (filter p (numbers_from (suc from) count)) k 0) →
-        place_in (if t then from ∷ filter p (numbers_from (suc from) count) else filter p
+        index_in (if t then from ∷ filter p (numbers_from (suc from) count) else filter p
         (numbers_from (suc from) count))
         (get_or (if t then from ∷ filter p (numbers_from (suc from) count) else filter p
         (numbers_from (suc from) count)) g 0) ≡ g
@@ -140,24 +140,24 @@ place_of_passing p from (suc count) g l =
         (omega arith)
     by_test false g l further least = further g l
 
-pub place_passed : (p : ℕ → Bool) (count x : ℕ) → x < count → p x ≡ true →
-    place_in (filter p (numbers_from 0 count)) x ≡ passed_below p x
-place_passed p count x l h = place_from p 0 count x x l (omega arith) h
+pub index_passed : (p : ℕ → Bool) (count x : ℕ) → x < count → p x ≡ true →
+    index_in (filter p (numbers_from 0 count)) x ≡ passed_below p x
+index_passed p count x l h = index_from p 0 count x x l (omega arith) h
 
 pub none_below : (p : ℕ → Bool) → filter p (numbers_from 0 0) ≡ []
 unfolding numbers_from
 none_below p = refl
 
 -- the places of one more number
-pub place_added : (p : ℕ → Bool) (places : List ℕ) (passing : List ℕ) (n k : ℕ) → length places ≡ n →
+pub index_added : (p : ℕ → Bool) (indices : List ℕ) (passing : List ℕ) (n k : ℕ) → length indices ≡ n →
     passing ≡ filter p (numbers_from 0 n) →
-    ((m : ℕ) → m < n → slice_index places m ≡ passed_below p m) → k < n + 1 →
-    slice_index (places ++ length passing ∷ []) k ≡ passed_below p k
-place_added p places passing n k count is each l =
+    ((m : ℕ) → m < n → slice_index indices m ≡ passed_below p m) → k < n + 1 →
+    slice_index (indices ++ length passing ∷ []) k ≡ passed_below p k
+index_added p indices passing n k count is each l =
     elim (cases_lt k n) [
-      | inl below ↦ get_or_append_left places (length passing ∷ []) 0 k (omega arith) ∙ each k below
+      | inl below ↦ get_or_append_left indices (length passing ∷ []) 0 k (omega arith) ∙ each k below
       | inr past ↦ let same : k ≡ n = omega arith in
-          rw same (get_or_push places (length passing) 0 n count ∙ ap length is)
+          rw same (get_or_push indices (length passing) 0 n count ∙ ap length is)
     ]
 
 -- Gauges come first among the columns, and wants after them.
@@ -169,8 +169,8 @@ gauge_column b node l = let below : nat_lt node (length b.nodes) ≡ true = lt-l
 pub want_column : (b : Basin) (right : ℕ) → is_column b (right_number b right) ≡ is_in_series b right
 want_column b right =
     let after : nat_lt (length b.nodes + right) (length b.nodes) ≡ false = not_below (length b.nodes) right in
-    let place : length b.nodes + right - length b.nodes ≡ right = omega arith in
-    rw (after, place) refl
+    let cell : length b.nodes + right - length b.nodes ≡ right = omega arith in
+    rw (after, cell) refl
   where
     not_below : (n k : ℕ) → nat_lt (n + k) n ≡ false
     not_below n k = grind (arith, nat_tests)
@@ -250,17 +250,17 @@ pub count_of_columns : (b : Basin) → length (column_numbers b) ≡ length (gau
 count_of_columns b = below_right b (length b.rights)
 
 -- a gauge has its place among the gauges, and a right its place among the wants, after all gauges
-pub place_of_gauge : (b : Basin) (node : ℕ) → node < length b.nodes → is_gauged b node ≡ true →
-    place_in (column_numbers b) node ≡ place_in (gauged_nodes b) node
-place_of_gauge b node l h =
-    place_passed (λ n. is_column b n) (count_of_both b) node (omega arith) (gauge_column b node l ∙ h)
+pub index_of_gauge : (b : Basin) (node : ℕ) → node < length b.nodes → is_gauged b node ≡ true →
+    index_in (column_numbers b) node ≡ index_in (gauged_nodes b) node
+index_of_gauge b node l h =
+    index_passed (λ n. is_column b n) (count_of_both b) node (omega arith) (gauge_column b node l ∙ h)
     ∙ (ap length (same_passed (λ n. is_column b n) (λ n. is_gauged b n) 0 node (λ k m. gauge_column b k (omega arith)))
-    ∙ sym (place_passed (λ n. is_gauged b n) (length b.nodes) node l h))
+    ∙ sym (index_passed (λ n. is_gauged b n) (length b.nodes) node l h))
 
-pub place_of_want : (b : Basin) (right : ℕ) → right < length b.rights → is_in_series b right ≡ true →
-    place_in (column_numbers b) (right_number b right) ≡ length (gauged_nodes b) + place_in (rights_in_series b) right
-place_of_want b right l h =
-    place_passed (λ n. is_column b n) (count_of_both b) (right_number b right) (omega arith) (want_column b right ∙ h)
+pub index_of_want : (b : Basin) (right : ℕ) → right < length b.rights → is_in_series b right ≡ true →
+    index_in (column_numbers b) (right_number b right) ≡ length (gauged_nodes b) + index_in (rights_in_series b) right
+index_of_want b right l h =
+    index_passed (λ n. is_column b n) (count_of_both b) (right_number b right) (omega arith) (want_column b right ∙ h)
     ∙ (below_right b right
     ∙ ap (λ k. length (gauged_nodes b) + k)
-    (sym (place_passed (λ r. is_in_series b r) (length b.rights) right l h)))
+    (sym (index_passed (λ r. is_in_series b r) (length b.rights) right l h)))

@@ -11,7 +11,7 @@ use Rattle.std.proofs.lemmas.List.{get_or-append-add, get_or-map, get_or-set_sam
 use Rattle.std.proofs.lemmas.Nat.{div-add-mod', div_below, mod_below, mul-le}
 use Rattle.water_text.specs.Months.{IsMonth}
 use Rattle.water_text.specs.declared.month.Month.{Month}
-use Rattle.water_model.specs.Hydrology.{run_month, place_in}
+use Rattle.water_model.specs.Hydrology.{run_month, index_in}
 use Rattle.water_model.specs.Valid.{HasBoundedEntries}
 use Rattle.water_model.specs.declared.types.Basin.{Basin}
 use Rattle.water_model.proofs.Gauges.{cell_within}
@@ -20,7 +20,7 @@ use Rattle.inflow_file.specs.Entries.{IsEntry}
 use Rattle.inflow_file.specs.Given.{given}
 use Rattle.inflow_file.specs.SeriesFaults.{amount_for, due, is_same_month, months_of, repeats, is_in_run}
 use Rattle.inflow_file.specs.declared.entry.SeriesRecord.{SeriesRecord}
-use Rattle.inflow_file.proofs.ColumnLaws.{passed_most, place_holds, place_of_passing}
+use Rattle.inflow_file.proofs.ColumnLaws.{passed_most, index_holds, index_of_passing}
 use Rattle.inflow_file.proofs.RunLaws.{same_itself, length-months, month_there, month_in_run}
 use Rattle.inflow_file.proofs.RunLaws.{same_index, same_month_is, same_month_itself}
 
@@ -92,20 +92,20 @@ small_table b months bounded = small b.months (width b) months (bounded_columns 
 
 -- the place of a column
 pub column_there : (b : Basin) (n : ℕ) → IsColumn b n →
-    (place_in (column_numbers b) n < width b) × (get_or (column_numbers b) (place_in (column_numbers b) n) 0 ≡ n)
-column_there b n h = place_holds (λ k. is_column b k) 0 (count_of_both b) n n h.within (omega arith) h.due
+    (index_in (column_numbers b) n < width b) × (get_or (column_numbers b) (index_in (column_numbers b) n) 0 ≡ n)
+column_there b n h = index_holds (λ k. is_column b k) 0 (count_of_both b) n n h.within (omega arith) h.due
 
-pub small_place : (b : Basin) (i n : ℕ) → b.months ≤ 1200 → HasBoundedEntries b → i < b.months → IsColumn b n →
-    (i * width b ≤ 4800000) × (i * width b + place_in (column_numbers b) n < b.months * width b)
-small_place b i n months bounded l h =
-    let within = cell_within i b.months (width b) (place_in (column_numbers b) n) l (column_there b n h).0 in
+pub small_index : (b : Basin) (i n : ℕ) → b.months ≤ 1200 → HasBoundedEntries b → i < b.months → IsColumn b n →
+    (i * width b ≤ 4800000) × (i * width b + index_in (column_numbers b) n < b.months * width b)
+small_index b i n months bounded l h =
+    let within = cell_within i b.months (width b) (index_in (column_numbers b) n) l (column_there b n h).0 in
     (omega (arith, within, small_table b months bounded), within)
 
 -- the row and the column of a place
 pub record IsSplit (b : Basin) (k : ℕ) : Type 0 where
   pub row : k / width b < b.months
   pub gauge : k % width b < width b
-  pub place : k / width b * width b + k % width b ≡ k
+  pub cell : k / width b * width b + k % width b ≡ k
 
 pub split : (b : Basin) (k : ℕ) → k < b.months * width b → IsSplit b k
 split b k l =
@@ -113,7 +113,7 @@ split b k l =
     record {
       row = div_below k (width b) b.months some l;
       gauge = mod_below k (width b) some;
-      place =
+      cell =
           div-add-mod' k (width b);
     }
   where
@@ -160,21 +160,21 @@ one_entry_more (x ∷ entries) e month node = by_test (is_for month node x) (one
 
 -- each column has its own place
 pub own_gauge : (b : Basin) (g node : ℕ) → g < width b → get_or (column_numbers b) g 0 ≡ node →
-    place_in (column_numbers b) node ≡ g
+    index_in (column_numbers b) node ≡ g
 own_gauge b g node l e =
-    ap (place_in (column_numbers b)) (sym e) ∙ place_of_passing (λ n. is_column b n) 0 (count_of_both b) g l
+    ap (index_in (column_numbers b)) (sym e) ∙ index_of_passing (λ n. is_column b n) 0 (count_of_both b) g l
 
-abbrev pub place_for : Basin → ℕ → ℕ → ℕ
-place_for b i node = i * width b + place_in (column_numbers b) node
+abbrev pub index_for : Basin → ℕ → ℕ → ℕ
+index_for b i node = i * width b + index_in (column_numbers b) node
 
 -- an entry that is for a place of the table has this place
-same_place : (b : Basin) (e : SeriesRecord) (i k g : ℕ) → IsMonth b.first → k < b.months → g < width b →
+same_cell : (b : Basin) (e : SeriesRecord) (i k g : ℕ) → IsMonth b.first → k < b.months → g < width b →
     e.month ≡ run_month b i →
-    is_for (run_month b k) (get_or (column_numbers b) g 0) e ≡ true → k * width b + g ≡ place_for b i e.column
-same_place b e i k g first l m month h =
+    is_for (run_month b k) (get_or (column_numbers b) g 0) e ≡ true → k * width b + g ≡ index_for b i e.column
+same_cell b e i k g first l m month h =
     let tests = and_parts (is_same_month (run_month b k) e.month) (e.column == get_or (column_numbers b) g 0) h in
     let index : k ≡ i = same_index b k i first (same_month_is (run_month b k) e.month tests.0 ∙ month) in
-    let gauge : place_in (column_numbers b) e.column ≡ g =
+    let gauge : index_in (column_numbers b) e.column ≡ g =
     own_gauge b g e.column m (sym (eqb-true e.column (get_or (column_numbers b) g 0) tests.1)) in
     rw (index, gauge) refl
 
@@ -182,26 +182,26 @@ same_place b e i k g first l m month h =
 added_here : (b : Basin) (earlier : List SeriesRecord) (e : SeriesRecord) (i : ℕ) → IsEntry b e → i < b.months →
     e.month ≡ run_month b i →
     amount_for earlier (run_month b i) e.column ≡ None →
-    get_or (given b (earlier ++ e ∷ [])) (place_for b i e.column) None ≡ Some e.amount
+    get_or (given b (earlier ++ e ∷ [])) (index_for b i e.column) None ≡ Some e.amount
 added_here b earlier e i entry l month absent =
     let there = column_there b e.column entry.column in
     let for_it : is_for (run_month b i) e.column e ≡ true =
     rw (month, same_month_itself (run_month b i), same_itself e.column) refl in
-    given_at b (earlier ++ e ∷ []) i (place_in (column_numbers b) e.column) l there.0
+    given_at b (earlier ++ e ∷ []) i (index_in (column_numbers b) e.column) l there.0
     ∙ (ap (amount_for (earlier ++ e ∷ []) (run_month b i)) there.1
     ∙ (one_entry_more earlier e (run_month b i) e.column ∙ rw (absent, for_it) refl))
 
 kept_elsewhere : (b : Basin) (earlier : List SeriesRecord) (e : SeriesRecord) (i k n g : ℕ) → IsMonth b.first →
     e.month ≡ run_month b i →
-    n < b.months → g < width b → n * width b + g ≡ k → k ≢ place_for b i e.column →
+    n < b.months → g < width b → n * width b + g ≡ k → k ≢ index_for b i e.column →
     get_or (given b (earlier ++ e ∷ [])) k None ≡ get_or (given b earlier) k None
-kept_elsewhere b earlier e i k n g first month row gauge place other =
+kept_elsewhere b earlier e i k n g first month row gauge cell other =
     let apart : is_for (run_month b n) (get_or (column_numbers b) g 0) e ≡ false =
     elim (cases_Bool (is_for (run_month b n) (get_or (column_numbers b) g 0) e)) [
-      | inl here ↦ absurd (other (sym place ∙ same_place b e i n g first row gauge month here))
+      | inl here ↦ absurd (other (sym cell ∙ same_cell b e i n g first row gauge month here))
       | inr off ↦ off
     ] in
-    rw (← place) (given_at b (earlier ++ e ∷ []) n g row gauge
+    rw (← cell) (given_at b (earlier ++ e ∷ []) n g row gauge
     ∙ (one_entry_more earlier e (run_month b n) (get_or (column_numbers b) g 0)
     ∙ (rw apart (or_none (amount_for earlier (run_month b n) (get_or (column_numbers b) g 0)))
     ∙ sym (given_at b earlier n g row gauge))))
@@ -210,30 +210,30 @@ pub enters : (b : Basin) (earlier : List SeriesRecord) (e : SeriesRecord) (i : �
     i < b.months →
     e.month ≡ run_month b i →
     amount_for earlier (run_month b i) e.column ≡ None →
-    given b (earlier ++ e ∷ []) ≡ set (given b earlier) (place_for b i e.column) (Some e.amount)
+    given b (earlier ++ e ∷ []) ≡ set (given b earlier) (index_for b i e.column) (Some e.amount)
 enters b earlier e i first entry l month absent =
-    ext_get_or None (given b (earlier ++ e ∷ [])) (set (given b earlier) (place_for b i e.column) (Some e.amount))
+    ext_get_or None (given b (earlier ++ e ∷ [])) (set (given b earlier) (index_for b i e.column) (Some e.amount))
     (length-given b (earlier ++ e ∷ [])
-    ∙ sym (length-set (given b earlier) (place_for b i e.column) (Some e.amount) ∙ length-given b earlier))
+    ∙ sym (length-set (given b earlier) (index_for b i e.column) (Some e.amount) ∙ length-given b earlier))
     (λ k below. at k (split b k (omega (arith, length-given b (earlier ++ e ∷ []))))
-    (cases_eq k (place_for b i e.column)))
+    (cases_eq k (index_for b i e.column)))
   where
-    within : place_for b i e.column < length (given b earlier)
+    within : index_for b i e.column < length (given b earlier)
     within = rw (length-given b earlier)
-        (cell_within i b.months (width b) (place_in (column_numbers b) e.column) l
+        (cell_within i b.months (width b) (index_in (column_numbers b) e.column) l
         (column_there b e.column entry.column).0)
 
-    at : (k : ℕ) → IsSplit b k → (k ≡ place_for b i e.column) ⊎ (k ≡ place_for b i e.column → ⊥) →
+    at : (k : ℕ) → IsSplit b k → (k ≡ index_for b i e.column) ⊎ (k ≡ index_for b i e.column → ⊥) →
         get_or (given b (earlier ++ e ∷ [])) k None ≡ get_or
-        (set (given b earlier) (place_for b i e.column) (Some e.amount)) k None
+        (set (given b earlier) (index_for b i e.column) (Some e.amount)) k None
     at k s (inl here) =
         ap (λ j. get_or (given b (earlier ++ e ∷ [])) j None) here
         ∙ (added_here b earlier e i entry l month absent
-        ∙ (sym (get_or-set_same (given b earlier) (place_for b i e.column) (Some e.amount) None within)
-        ∙ ap (λ j. get_or (set (given b earlier) (place_for b i e.column) (Some e.amount)) j None) (sym here)))
+        ∙ (sym (get_or-set_same (given b earlier) (index_for b i e.column) (Some e.amount) None within)
+        ∙ ap (λ j. get_or (set (given b earlier) (index_for b i e.column) (Some e.amount)) j None) (sym here)))
     at k s (inr other) =
-        kept_elsewhere b earlier e i k (k / width b) (k % width b) first month s.row s.gauge s.place other
-        ∙ sym (get_or-set_other (given b earlier) (place_for b i e.column) k (Some e.amount) None other)
+        kept_elsewhere b earlier e i k (k / width b) (k % width b) first month s.row s.gauge s.cell other
+        ∙ sym (get_or-set_other (given b earlier) (index_for b i e.column) k (Some e.amount) None other)
 
 -- an entry for a month outside the run adds nothing
 pub passes_by : (b : Basin) (earlier : List SeriesRecord) (e : SeriesRecord) → is_in_run b e.month ≡ false →
@@ -256,7 +256,7 @@ passes_by b earlier e outside =
 
     at : (k : ℕ) → IsSplit b k → get_or (given b (earlier ++ e ∷ [])) k None ≡ get_or (given b earlier) k None
     at k s =
-        rw (← s.place) (given_at b (earlier ++ e ∷ []) (k / width b) (k % width b) s.row s.gauge
+        rw (← s.cell) (given_at b (earlier ++ e ∷ []) (k / width b) (k % width b) s.row s.gauge
         ∙ (one_entry_more earlier e (run_month b (k / width b)) (get_or (column_numbers b) (k % width b) 0)
         ∙ (rw (never (k / width b) (get_or (column_numbers b) (k % width b) 0) s.row)
         (or_none (amount_for earlier (run_month b (k / width b)) (get_or (column_numbers b) (k % width b) 0)))
@@ -272,17 +272,17 @@ outside_is b earlier e amounts outside is = (rw outside refl, is ∙ sym (passes
 pub stands_there : (b : Basin) (earlier : List SeriesRecord) (e : SeriesRecord) (i : ℕ) (amounts : List (Option ℕ)) →
     IsEntry b e →
     i < b.months → e.month ≡ run_month b i → amounts ≡ given b earlier →
-    get_or amounts (place_for b i e.column) None ≡ amount_for earlier e.month e.column
+    get_or amounts (index_for b i e.column) None ≡ amount_for earlier e.month e.column
 stands_there b earlier e i amounts entry l month is =
     let there = column_there b e.column entry.column in
-    ap (λ xs. get_or xs (place_for b i e.column) None) is
-    ∙ (given_at b earlier i (place_in (column_numbers b) e.column) l there.0
+    ap (λ xs. get_or xs (index_for b i e.column) None) is
+    ∙ (given_at b earlier i (index_in (column_numbers b) e.column) l there.0
     ∙ (ap (amount_for earlier (run_month b i)) there.1 ∙ ap (λ m. amount_for earlier m e.column) (sym month)))
 
 pub repeated_is : (b : Basin) (earlier : List SeriesRecord) (e : SeriesRecord) (i : ℕ) (amounts : List (Option ℕ)) →
     IsEntry b e →
     i < b.months → e.month ≡ run_month b i → amounts ≡ given b earlier →
-    is_some (get_or amounts (place_for b i e.column) None) ≡ repeats b earlier e
+    is_some (get_or amounts (index_for b i e.column) None) ≡ repeats b earlier e
 repeated_is b earlier e i amounts entry l month is =
     let inside : is_in_run b e.month ≡ true = ap (is_in_run b) month ∙ month_in_run b i l in
     rw (inside, stands_there b earlier e i amounts entry l month is) refl
@@ -290,14 +290,14 @@ repeated_is b earlier e i amounts entry l month is =
 pub entered_is : (b : Basin) (earlier : List SeriesRecord) (e : SeriesRecord) (i : ℕ) (amounts : List (Option ℕ)) →
     IsMonth b.first →
     IsEntry b e → i < b.months → e.month ≡ run_month b i →
-    amounts ≡ given b earlier → is_some (get_or amounts (place_for b i e.column) None) ≡ false →
-    (repeats b earlier e ≡ false) × (set amounts (place_for b i e.column) (Some e.amount) ≡ given b (earlier ++ e ∷ []))
+    amounts ≡ given b earlier → is_some (get_or amounts (index_for b i e.column) None) ≡ false →
+    (repeats b earlier e ≡ false) × (set amounts (index_for b i e.column) (Some e.amount) ≡ given b (earlier ++ e ∷ []))
 entered_is b earlier e i amounts first entry l month is free =
     let absent : amount_for earlier (run_month b i) e.column ≡ None =
     ap (λ m. amount_for earlier m e.column) (sym month)
     ∙ (sym (stands_there b earlier e i amounts entry l month is) ∙ none_there _ free) in (
       sym (repeated_is b earlier e i amounts entry l month is) ∙ free,
-      ap (λ xs. set xs (place_for b i e.column) (Some e.amount)) is
+      ap (λ xs. set xs (index_for b i e.column) (Some e.amount)) is
           ∙ sym (enters b earlier e i first entry l month absent),
     )
   where

@@ -13,7 +13,7 @@ use Rattle.std.proofs.lemmas.Option.{same_Some}
 use Rattle.water_text.specs.Amounts.{read_amount}
 use Rattle.water_text.specs.Months.{read_month}
 use Rattle.water_text.specs.declared.month.Month.{Month}
-use Rattle.water_model.specs.Hydrology.{run_month, place_in, inflow_at, inflow_of_kind, table_at}
+use Rattle.water_model.specs.Hydrology.{run_month, index_in, inflow_at, inflow_of_kind, table_at}
 use Rattle.water_model.specs.Valid.{IsSeriesOf, gauged_nodes, is_gauged, is_gauged_kind, is_in_series, rights_in_series}
 use Rattle.water_model.specs.declared.types.Basin.{Basin}
 use Rattle.water_model.specs.declared.types.Inflow.{Inflow}
@@ -34,8 +34,8 @@ use Rattle.inflow_file.specs.declared.refused.SeriesFault.{SeriesFault}
 use Rattle.inflow_file.specs.declared.refused.SeriesFault.TheVariants as fault
 use Rattle.inflow_file.specs.declared.refused.SeriesRefused.{SeriesRefused}
 use Rattle.inflow_file.specs.declared.refused.SeriesRefused.TheVariants as refused
-use Rattle.inflow_file.proofs.ColumnLaws.{count_of_columns, is_gauge, is_want, place_holds, place_of_gauge}
-use Rattle.inflow_file.proofs.ColumnLaws.{place_of_want}
+use Rattle.inflow_file.proofs.ColumnLaws.{count_of_columns, is_gauge, is_want, index_holds, index_of_gauge}
+use Rattle.inflow_file.proofs.ColumnLaws.{index_of_want}
 use Rattle.inflow_file.proofs.DueLaws.{IsSplit, column_there, due_at, given_at, length-due, length-given, split, width}
 
 -- the first element that passes a test, by its place
@@ -91,7 +91,7 @@ first_missing b entries amounts k is l before here =
 
     pair : IsSplit b k →
         get_or (due b) k (b.first, 0) ≡ (run_month b (k / width b), get_or (column_numbers b) (k % width b) 0)
-    pair s = ap (λ j. get_or (due b) j (b.first, 0)) (sym s.place)
+    pair s = ap (λ j. get_or (due b) j (b.first, 0)) (sym s.cell)
         ∙ due_at b (k / width b) (k % width b) b.first s.row s.gauge
 
 abbrev AreSmall : List SeriesRecord → Type 0
@@ -250,17 +250,17 @@ small_part b rows amounts from count part is all fits h =
 part_says : (b : Basin) (rows : List (List (List ℕ))) (amounts : List (Option ℕ)) (from count : ℕ) (part : List ℕ)
     (i g n : ℕ) → amounts ≡ given_by b rows → AreThere amounts →
     from + count ≤ width b → IsPart amounts (width b) from b.months count part → i < b.months → g < count →
-    IsColumn b n → place_in (column_numbers b) n ≡ from + g →
+    IsColumn b n → index_in (column_numbers b) n ≡ from + g →
     amount_for (entries_of b rows) (run_month b i) n ≡ Some (get_or part (i * count + g) 0)
-part_says b rows amounts from count part i g n is all fits h l k column place =
+part_says b rows amounts from count part i g n is all fits h l k column cell =
     let there = column_there b n column in
     let within : i * count + g < b.months * count = cell_within i b.months count g l k in
-    let at : (i * count + g) / count * width b + from + (i * count + g) % count ≡ i * width b + place_in
+    let at : (i * count + g) / count * width b + from + (i * count + g) % count ≡ i * width b + index_in
     (column_numbers b) n =
-    rw (div-mul-add i count g k, mod-mul-add i count g k, place) (omega arith) in
+    rw (div-mul-add i count g k, mod-mul-add i count g k, cell) (omega arith) in
     ap (amount_for (entries_of b rows) (run_month b i)) (sym there.1)
-    ∙ (sym (given_at b (entries_of b rows) i (place_in (column_numbers b) n) l there.0)
-    ∙ (ap (λ xs. get_or xs (i * width b + place_in (column_numbers b) n) None) (sym is)
+    ∙ (sym (given_at b (entries_of b rows) i (index_in (column_numbers b) n) l there.0)
+    ∙ (ap (λ xs. get_or xs (i * width b + index_in (column_numbers b) n) None) (sym is)
     ∙ (ap (λ j. get_or amounts j None) (sym at)
     ∙ part_at amounts (width b) from b.months count part (i * count + g) all
     (ap length is ∙ length-given b (entries_of b rows)) fits h within)))
@@ -292,15 +292,15 @@ complete_series b rows amounts series is parts = (
   },
   record {
     each = λ node i l g m.
-        part_says b rows amounts 0 (length (gauged_nodes b)) series.amount i (place_in (gauged_nodes b) node) node is
+        part_says b rows amounts 0 (length (gauged_nodes b)) series.amount i (index_in (gauged_nodes b) node) node is
         parts.there gauges_fit parts.amount m (gauge_there node l g) (is_gauge b node l g)
-        (omega (arith, place_of_gauge b node l g))
+        (omega (arith, index_of_gauge b node l g))
         ∙ ap (λ n. Some n)
         (sym (inflow_gauged b series node i g ∙ ap (λ xs. table_at xs series.amount i node) parts.gauged));
     wants = λ right i l w m.
         part_says b rows amounts (length (gauged_nodes b)) (length (rights_in_series b)) series.want i
-        (place_in (rights_in_series b) right) (right_number b right) is parts.there wants_fit parts.want m
-        (want_within right l w) (is_want b right l w) (place_of_want b right l w)
+        (index_in (rights_in_series b) right) (right_number b right) is parts.there wants_fit parts.want m
+        (want_within right l w) (is_want b right l w) (index_of_want b right l w)
         ∙ ap (λ n. Some n) (sym (ap (λ xs. table_at xs series.want i right) parts.wanted));
   },
 )
@@ -312,12 +312,12 @@ complete_series b rows amounts series is parts = (
     wants_fit = omega (arith, count_of_columns b)
 
     gauge_there : (node : ℕ) → node < length b.nodes → is_gauged b node ≡ true →
-        place_in (gauged_nodes b) node < length (gauged_nodes b)
-    gauge_there node l g = (place_holds (λ n. is_gauged b n) 0 (length b.nodes) node node l (omega arith) g).0
+        index_in (gauged_nodes b) node < length (gauged_nodes b)
+    gauge_there node l g = (index_holds (λ n. is_gauged b n) 0 (length b.nodes) node node l (omega arith) g).0
 
     want_within : (right : ℕ) → right < length b.rights → is_in_series b right ≡ true →
-        place_in (rights_in_series b) right < length (rights_in_series b)
-    want_within right l w = (place_holds (λ r. is_in_series b r) 0 (length b.rights) right right l (omega arith) w).0
+        index_in (rights_in_series b) right < length (rights_in_series b)
+    want_within right l w = (index_holds (λ r. is_in_series b r) 0 (length b.rights) right right l (omega arith) w).0
 
 pub missing_told : (b : Basin) (rows : List (List (List ℕ))) (amounts : List (Option ℕ)) (k : ℕ) (e : SeriesRefused) →
     amounts ≡ given_by b rows → k < length amounts →

@@ -1,7 +1,7 @@
 -- The columns of a series: for what it has an amount in each month.
 use Rattle.std.specs.Prelude.{◌≡◌, ℕ, ◌+◌, ◌-◌, ◌<◌, List, length, slice_index, filter, nat_lt, Bool, true}
 use Rattle.std.specs.Prelude.{if◌then◌else◌}
-use Rattle.water_model.specs.Hydrology.{place_in}
+use Rattle.water_model.specs.Hydrology.{index_in}
 use Rattle.water_model.specs.Indices.{numbers_from}
 use Rattle.water_model.specs.Valid.{is_gauged, is_in_series}
 use Rattle.water_model.specs.declared.types.Basin.{Basin}
@@ -26,7 +26,7 @@ pub record IsColumn (b : Basin) (n : ℕ) : Type 0 where
   pub due : is_column b n ≡ true
 
 -- the columns, and for each number that is one its place among them
-pub record ArePlaces (b : Basin) (numbers places : List ℕ) : Type 0 where
+pub record AreIndices (b : Basin) (numbers indices : List ℕ) : Type 0 where
   pub columns_are : numbers ≡ column_numbers b
-  pub count : length places ≡ count_of_both b
-  pub each : (n : ℕ) → n < count_of_both b → is_column b n ≡ true → slice_index places n ≡ place_in numbers n
+  pub count : length indices ≡ count_of_both b
+  pub each : (n : ℕ) → n < count_of_both b → is_column b n ≡ true → slice_index indices n ≡ index_in numbers n

@@ -3,7 +3,7 @@ ghost use Rattle.std.specs.Prelude.{◌≡◌, ◌++◌, ◌∷◌, [], ◌<◌,
 ghost use Rattle.std.specs.Prelude.{slice_index, slice_index_or, is_some, unwrap_or, Some, None, MatchOption};
 ghost use Rattle.std.specs.Prelude.{MatchResult, IfOk, true, false};
 ghost use Rattle.water_text.specs.Months.{IsMonth};
-ghost use Rattle.water_model.specs.Hydrology.{run_month, place_in};
+ghost use Rattle.water_model.specs.Hydrology.{run_month, index_in};
 ghost use Rattle.water_model.specs.Valid.{IsValidBasin};
 ghost use Rattle.inflow_file.specs.Entries.{IsEntry};
 ghost use Rattle.inflow_file.specs.Given.{given, given_by, Completes};
@@ -40,15 +40,15 @@ fn index_in_run(basin: &Basin, month: Month) -> Option<u32>
 }
 
 /// The place of a column's amount in the month with this index.
-fn place_of(columns: &Columns, index: u32, number: u32) -> usize
+fn index_of(columns: &Columns, index: u32, number: u32) -> usize
     requires basin { IsValidBasin columns.now.basin.now }
     requires index { index < columns.now.basin.now.months }
     requires column { IsColumn columns.now.basin.now number }
-    ensures place { result ≡ index * length (column_numbers columns.now.basin.now) + place_in
+    ensures cell { result ≡ index * length (column_numbers columns.now.basin.now) + index_in
         (column_numbers columns.now.basin.now) number }
     ensures within { result < columns.now.basin.now.months * length (column_numbers columns.now.basin.now) }
 {
-    index as usize * columns.count() + columns.place_of(number) as usize
+    index as usize * columns.count() + columns.index_of(number) as usize
 }
 
 /// Enters the amount of an entry, or refuses the entry where an earlier one has its month and column. An entry for a
@@ -69,11 +69,11 @@ pub(crate) fn enter(
     let Some(index) = index_in_run(columns.basin, entry.month) else {
         return Ok(());
     };
-    let place = place_of(columns, index, entry.column);
-    if amounts[place].is_some() {
+    let cell = index_of(columns, index, entry.column);
+    if amounts[cell].is_some() {
         return Err(SeriesFault::Repeated);
     }
-    amounts[place] = Some(entry.amount);
+    amounts[cell] = Some(entry.amount);
     Ok(())
 }
 
@@ -83,9 +83,9 @@ fn first_gap(amounts: &[Option<u64>]) -> usize
     ensures before { (k : ℕ) → k < result → is_some (slice_index_or amounts.now k None) ≡ true }
     ensures here { result < length amounts.now → is_some (slice_index_or amounts.now result None) ≡ false }
 {
-    for (place, amount) in amounts.iter().enumerate() {
+    for (cell, amount) in amounts.iter().enumerate() {
         if amount.is_none() {
-            return place;
+            return cell;
         }
     }
     amounts.len()
@@ -111,31 +111,31 @@ fn missing_of(basin: &Basin, month: Month, number: u32) -> SeriesRefused
 }
 
 /// The refusal where the amount at a place isn't there.
-fn missing_at(columns: &Columns, place: usize) -> SeriesRefused
+fn missing_at(columns: &Columns, cell: usize) -> SeriesRefused
     requires basin { IsValidBasin columns.now.basin.now }
-    requires place { place < columns.now.basin.now.months * length (column_numbers columns.now.basin.now) }
+    requires cell { cell < columns.now.basin.now.months * length (column_numbers columns.now.basin.now) }
     ensures { result ≡ missing_of columns.now.basin.now
-        (run_month columns.now.basin.now (place / length (column_numbers columns.now.basin.now)))
-        (slice_index (column_numbers columns.now.basin.now) (place % length (column_numbers columns.now.basin.now))) }
+        (run_month columns.now.basin.now (cell / length (column_numbers columns.now.basin.now)))
+        (slice_index (column_numbers columns.now.basin.now) (cell % length (column_numbers columns.now.basin.now))) }
 {
     let count = columns.count();
     missing_of(
         columns.basin,
-        month_at(columns.basin, (place / count) as u32),
-        columns.numbers[place % count],
+        month_at(columns.basin, (cell / count) as u32),
+        columns.numbers[cell % count],
     )
 }
 
-/// Number `place` of the amounts of a given number of columns from one on. `cells` has all columns, `width` in each
+/// Number `cell` of the amounts of a given number of columns from one on. `cells` has all columns, `width` in each
 /// month.
-fn cell_in(cells: &[Option<u64>], width: usize, from: usize, count: usize, place: usize) -> u64
+fn cell_in(cells: &[Option<u64>], width: usize, from: usize, count: usize, cell: usize) -> u64
     requires count { 0 < count }
-    requires within { place / count * width + from + place % count < length cells.now }
+    requires within { cell / count * width + from + cell % count < length cells.now }
     requires small { length cells.now ≤ 4800000 }
-    ensures { result ≡ cell_in cells.now width from count place }
+    ensures { result ≡ cell_in cells.now width from count cell }
 {
-    let row = place / count;
-    cells[row * width + from + place % count].unwrap_or(0)
+    let row = cell / count;
+    cells[row * width + from + cell % count].unwrap_or(0)
 }
 
 /// The amounts of a given number of columns from one on, month by month, out of those of all columns.
@@ -156,8 +156,8 @@ fn part_of(
     let width = columns.count();
     let end = columns.basin.months as usize * count;
     let mut part = Vec::with_capacity(alloc, end)?;
-    for place in 0..end {
-        part.push(cell_in(cells, width, from, count, place))?;
+    for cell in 0..end {
+        part.push(cell_in(cells, width, from, count, cell))?;
     }
     Ok(part)
 }

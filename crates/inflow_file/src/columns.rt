@@ -3,10 +3,10 @@ ghost use Rattle.std.specs.Prelude.{◌≡◌, ℕ, ◌+◌, ◌<◌, ◌≤◌,
 ghost use Rattle.std.specs.Prelude.{if◌then◌else◌, IfOk, IfSome, OnOk};
 ghost use Rattle.basin_names.specs.Named.{node_named, right_named};
 ghost use Rattle.csv.specs.Records.{fields_of};
-ghost use Rattle.water_model.specs.Hydrology.{place_in};
+ghost use Rattle.water_model.specs.Hydrology.{index_in};
 ghost use Rattle.water_model.specs.Valid.{IsValidBasin, is_gauged, is_in_series, gauged_nodes, rights_in_series};
 ghost use Rattle.water_model.specs.declared.space.Space.TheVariants.{Nodes, Rights};
-ghost use Rattle.inflow_file.specs.Columns.{IsColumn, ArePlaces, column_numbers, count_of_both, is_column};
+ghost use Rattle.inflow_file.specs.Columns.{IsColumn, AreIndices, column_numbers, count_of_both, is_column};
 ghost use Rattle.inflow_file.specs.CsvRecords.{with_kind};
 ghost use Rattle.inflow_file.specs.Entries.{IsEntry, column_of, gauge_of, read_record, wanted_of};
 
@@ -23,7 +23,7 @@ use water_text::month::Month;
 
 /// The columns, and for each number how many of them stand before it.
 #[derive(Drop)]
-struct Places {
+struct Indices {
     numbers: Vec<u32>,
     of_number: Vec<u32>,
 }
@@ -36,14 +36,14 @@ pub(crate) struct Columns<'a> {
     nodes: SpaceNames<'a>,
     rights: SpaceNames<'a>,
     pub numbers: Vec<u32>,
-    places: Vec<u32>,
+    indices: Vec<u32>,
     ghost bounded: { count_of_both basin.now ≤ 4000 },
     ghost node_names: { (nodes.basin.now ≡ basin.now) × (nodes.space ≡ Nodes) },
     ghost right_names: { (rights.basin.now ≡ basin.now) × (rights.space ≡ Rights) },
     ghost columns_are: { numbers.items ≡ column_numbers basin.now },
-    ghost count: { length places.items ≡ count_of_both basin.now },
+    ghost count: { length indices.items ≡ count_of_both basin.now },
     ghost placed: { (n : ℕ) → n < count_of_both basin.now → is_column basin.now n ≡ true →
-        slice_index places.items n ≡ place_in numbers.items n },
+        slice_index indices.items n ≡ index_in numbers.items n },
 }
 
 /// Whether a node is gauged.
@@ -99,9 +99,9 @@ fn count_of_both(basin: &Basin) -> u32
 }
 
 /// The columns of a basin.
-fn indices_of(alloc: Global, basin: &Basin) -> Result<Places, AllocError>
+fn indices_of(alloc: Global, basin: &Basin) -> Result<Indices, AllocError>
     requires { IsValidBasin basin.now }
-    ensures { IfOk result (λ places. ArePlaces basin.now places.numbers.items places.of_number.items) }
+    ensures { IfOk result (λ indices. AreIndices basin.now indices.numbers.items indices.of_number.items) }
 {
     let mut numbers = Vec::new(alloc);
     let mut of_number = Vec::new(alloc);
@@ -109,7 +109,7 @@ fn indices_of(alloc: Global, basin: &Basin) -> Result<Places, AllocError>
         of_number.push(numbers.len() as u32)?;
         add_column(&mut numbers, basin, number)?;
     }
-    Ok(Places { numbers, of_number })
+    Ok(Indices { numbers, of_number })
 }
 
 fn add_gauge(gauged: &mut Vec<u32>, basin: &Basin, node: u32) -> Result<(), AllocError>
@@ -166,13 +166,13 @@ impl<'a> Columns<'a> {
     {
         let nodes = SpaceNames::of(alloc, Space::Nodes, basin)?;
         let rights = SpaceNames::of(alloc, Space::Rights, basin)?;
-        let Places { numbers, of_number } = indices_of(alloc, basin)?;
+        let Indices { numbers, of_number } = indices_of(alloc, basin)?;
         Ok(Columns {
             basin,
             nodes,
             rights,
             numbers,
-            places: of_number,
+            indices: of_number,
         })
     }
 
@@ -184,11 +184,11 @@ impl<'a> Columns<'a> {
     }
 
     /// The place of a column among the columns.
-    pub fn place_of(&self, number: u32) -> u32
+    pub fn index_of(&self, number: u32) -> u32
         requires { IsColumn self.now.basin.now number }
-        ensures { result ≡ place_in (column_numbers self.now.basin.now) number }
+        ensures { result ≡ index_in (column_numbers self.now.basin.now) number }
     {
-        self.places[number as usize]
+        self.indices[number as usize]
     }
 
     /// The node that has the name, or `None` where none has it.

@@ -21,20 +21,20 @@ same_numbers : (k j x : ℕ) → when (suc k == suc j) x ≡ when (k == j) x
 same_numbers k j x = grind (arith, nat_tests)
 
 -- a number added at a place of a list
-pub added : (xs : List ℕ) (place x k : ℕ) → place < length xs →
-    slice_index (slice_set xs place (slice_index xs place + x)) k ≡ slice_index xs k + when (place == k) x
-added [] place x k l = absurd (omega arith)
+pub added : (xs : List ℕ) (position x k : ℕ) → position < length xs →
+    slice_index (slice_set xs position (slice_index xs position + x)) k ≡ slice_index xs k + when (position == k) x
+added [] position x k l = absurd (omega arith)
 added (y ∷ xs) zero x zero l = refl
 added (y ∷ xs) zero x (suc k) l = other (slice_index xs k) k x
   where
     other : (z k x : ℕ) → z ≡ z + when (0 == suc k) x
     other z k x = grind (arith, nat_tests)
-added (y ∷ xs) (suc place) x zero l = other y place x
+added (y ∷ xs) (suc position) x zero l = other y position x
   where
     other : (z k x : ℕ) → z ≡ z + when (suc k == 0) x
     other z k x = grind (arith, nat_tests)
-added (y ∷ xs) (suc place) x (suc k) l =
-    added xs place x k (omega arith) ∙ ap (λ d. slice_index xs k + d) (sym (same_numbers place k x))
+added (y ∷ xs) (suc position) x (suc k) l =
+    added xs position x k (omega arith) ∙ ap (λ d. slice_index xs k + d) (sym (same_numbers position k x))
 
 -- a sum over one place more, where the place's key is known
 pub one_more : (n k : ℕ) (key : ℕ → Option ℕ) (f : ℕ → ℕ) (at sum base : ℕ) → key n ≡ Some at →
@@ -81,18 +81,18 @@ pub zone_told : (b : Basin) (r v : ℕ) (right : Right) → slice_get b.rights r
     is_zone_of b r v ≡ is_zone_of_kind right.kind v
 zone_told b r v right e = ap (λ o. unwrap_or (option_map (λ x. is_zone_of_kind x.kind v) o) false) e
 
-pub place_valid : (b : Basin) (r : ℕ) (right : Right) → IsValidBasin b → slice_get b.rights r ≡ Some right →
+pub index_valid : (b : Basin) (r : ℕ) (right : Right) → IsValidBasin b → slice_get b.rights r ≡ Some right →
     HasValidSite b right.kind
-place_valid b r right valid e =
+index_valid b r right valid e =
     let found = entry_holds (λ x. IsValidRight b x) b.rights r valid.rights (slice_get_within b.rights r right e) in
     let some : Some found.0 ≡ Some right = sym found.1 ∙ e in
     let same : found.0 ≡ right = cc in
-    subst (λ (x : Right). HasValidSite b x.kind) same found.2.place
+    subst (λ (x : Right). HasValidSite b x.kind) same found.2.site
 
 pub zone_within : (b : Basin) (r at level : ℕ) (right : Right) → IsValidBasin b → slice_get b.rights r ≡ Some right →
     right.kind ≡ Zone at level →
     at < length b.reservoirs
-zone_within b r at level right valid e kind = (subst (HasValidSite b) kind (place_valid b r right valid e)).0
+zone_within b r at level right valid e kind = (subst (HasValidSite b) kind (index_valid b r right valid e)).0
 
 -- a zone's take is added at its reservoir
 pub zone_more : (b : Basin) (take closing : List ℕ) (r v at level sum : ℕ) (right : Right) →

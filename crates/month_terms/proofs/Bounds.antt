@@ -219,14 +219,14 @@ first_stored b opening evaporated valid small =
     (λ n l. apart_most (length b.reservoirs) (16 * 10 ^ 9) (λ v. is_at (node_of_reservoir b v) n)
     (λ v. slice_index opening v - slice_index evaporated v)
     (λ i j l k one other. valid.names.reservoirs i j l k
-    (same_place (node_of_reservoir b i) (node_of_reservoir b j) n one other))
+    (same_index (node_of_reservoir b i) (node_of_reservoir b j) n one other))
     (λ v l. omega (arith, small v l))) in
     omega (arith, most, valid.bounded.nodes)
   where
-    same_place : (o q : Option ℕ) (n : ℕ) → is_at o n ≡ true → is_at q n ≡ true → o ≡ q
-    same_place None q n h k = cc
-    same_place (Some i) None n h k = cc
-    same_place (Some i) (Some j) n h k = ap Some (is_same i n h ∙ sym (is_same j n k))
+    same_index : (o q : Option ℕ) (n : ℕ) → is_at o n ≡ true → is_at q n ≡ true → o ≡ q
+    same_index None q n h k = cc
+    same_index (Some i) None n h k = cc
+    same_index (Some i) (Some j) n h k = ap Some (is_same i n h ∙ sym (is_same j n k))
       where
         is_same : (x y : ℕ) → x == y ≡ true → x ≡ y
         is_same x y h = grind (arith, nat_tests)
@@ -247,31 +247,31 @@ later_stored b opening evaporated take valid closed small =
     let by_zone =
     total_same (length b.reservoirs) (λ v. slice_index opening v)
     (λ v. total (length b.rights)
-    (λ r. if is_at (zone_place (slice_get b.rights r)) v then slice_index take r else 0))
+    (λ r. if is_at (zone_index (slice_get b.rights r)) v then slice_index take r else 0))
     (λ v l. closed v l
     ∙ total_same (length b.rights) _ _ (λ r k. same_zone v (slice_get b.rights r) (slice_index take r))) in
     let at_zones =
-    spread (length b.reservoirs) (length b.rights) (λ r. zone_place (slice_get b.rights r))
+    spread (length b.reservoirs) (length b.rights) (λ r. zone_index (slice_get b.rights r))
     (λ r. slice_index take r) in
     let most = total_most (length b.rights) (10 ^ 9) (λ r. slice_index take r) small in
     omega (arith, at_nodes, less, by_zone, at_zones, most, valid.bounded.rights)
   where
-    place_of_kind : RightKind → Option ℕ
-    place_of_kind (Diversion node) = None
-    place_of_kind (Instream link) = None
-    place_of_kind (Zone at level) = Some at
+    index_of_kind : RightKind → Option ℕ
+    index_of_kind (Diversion node) = None
+    index_of_kind (Instream link) = None
+    index_of_kind (Zone at level) = Some at
 
-    zone_place : Option Right → Option ℕ
-    zone_place None = None
-    zone_place (Some right) = place_of_kind right.kind
+    zone_index : Option Right → Option ℕ
+    zone_index None = None
+    zone_index (Some right) = index_of_kind right.kind
 
-    same_kind : (v : ℕ) (kind : RightKind) → is_zone_of_kind kind v ≡ is_at (place_of_kind kind) v
+    same_kind : (v : ℕ) (kind : RightKind) → is_zone_of_kind kind v ≡ is_at (index_of_kind kind) v
     same_kind v (Diversion node) = refl
     same_kind v (Instream link) = refl
     same_kind v (Zone at level) = refl
 
     same_zone : (v : ℕ) (o : Option Right) (x : ℕ) →
         (if unwrap_or (option_map (λ r. is_zone_of_kind r.kind v) o) false then x else 0)
-        ≡ (if is_at (zone_place o) v then x else 0)
+        ≡ (if is_at (zone_index o) v then x else 0)
     same_zone v None x = refl
     same_zone v (Some right) x = ap (λ t. if t then x else 0) (same_kind v right.kind)

@@ -5,11 +5,11 @@ ghost use Rattle.std.specs.Prelude.{◌==◌};
 
 /// Adds an amount at a place.
 #[tactic(auto, using(crate::proofs::Adds::added))]
-pub fn add_at(list: &mut [u64], place: usize, amount: u64)
-    requires place { place < length list.old }
-    requires small { slice_index list.old place + amount < 2 ^ 64 }
+pub fn add_at(list: &mut [u64], position: usize, amount: u64)
+    requires position { position < length list.old }
+    requires small { slice_index list.old position + amount < 2 ^ 64 }
     ensures length { length list.new ≡ length list.old }
-    ensures each { (k : ℕ) → slice_index list.new k ≡ slice_index list.old k + when (place == k) amount }
+    ensures each { (k : ℕ) → slice_index list.new k ≡ slice_index list.old k + when (position == k) amount }
 {
-    list[place] += amount;
+    list[position] += amount;
 }

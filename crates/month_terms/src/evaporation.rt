@@ -31,17 +31,17 @@ fn evaporation_of(
     basin: &Basin,
     tables: &[AreaTable],
     reservoir: usize,
-    place: usize,
+    in_year: usize,
     storage: u64,
 ) -> u64
     requires basin { IsValidBasin basin.now }
     requires tables { tables.now ≡ map (λ v. v.area) basin.now.reservoirs }
     requires reservoir { reservoir < length basin.now.reservoirs }
-    requires place { place < 12 }
+    requires in_year { in_year < 12 }
     ensures { result ≡ of_entry basin.now.reservoirs reservoir
-        (λ r. evaporation r.area storage (slice_index r.rate place)) 0 }
+        (λ r. evaporation r.area storage (slice_index r.rate in_year)) 0 }
 {
-    let rate = basin.reservoirs[reservoir].rate[place];
+    let rate = basin.reservoirs[reservoir].rate[in_year];
     tables[reservoir].evaporation(storage, rate)
 }
 
@@ -63,8 +63,14 @@ pub fn evaporate(
         ≡ of_entry basin.now.reservoirs v
         (λ r. evaporation r.area (slice_index opening.now v) (slice_index r.rate (month.month - 1))) 0 }
 {
-    let place = month.month as usize - 1;
+    let in_year = month.month as usize - 1;
     for reservoir in 0..basin.reservoirs.len() {
-        evaporated[reservoir] = evaporation_of(basin, tables, reservoir, place, opening[reservoir]);
+        evaporated[reservoir] = evaporation_of(
+            basin,
+            tables,
+            reservoir,
+            in_year,
+            opening[reservoir],
+        );
     }
 }

@@ -33,11 +33,11 @@ pub fn delivery(basin: &Basin, want: &[u64], plan: &Plan, right: u32) -> u64
     requires take { length plan.now.take ≡ length basin.now.rights }
     ensures { result ≡ delivery basin.now want.now plan.now right }
 {
-    let place = right as usize;
-    match basin.rights[place].kind {
-        RightKind::Instream { link } => want[place].min(plan.flow[link as usize]),
-        RightKind::Diversion { .. } => plan.take[place],
-        RightKind::Zone { .. } => plan.take[place],
+    let position = right as usize;
+    match basin.rights[position].kind {
+        RightKind::Instream { link } => want[position].min(plan.flow[link as usize]),
+        RightKind::Diversion { .. } => plan.take[position],
+        RightKind::Zone { .. } => plan.take[position],
     }
 }
 

@@ -78,8 +78,8 @@ serves b m r carry own from to rank q given now same = record {
   each = λ s l senior. of_link s l senior (instream_link b s) refl;
 }
   where
-    place : (s e : ℕ) → s < length b.rights → instream_link b s ≡ Some e → e < length b.links
-    place s e l is = let k = kind_is b given.valid s l in of_kind k.kind k.place (sym k.link ∙ is)
+    position : (s e : ℕ) → s < length b.rights → instream_link b s ≡ Some e → e < length b.links
+    position s e l is = let k = kind_is b given.valid s l in of_kind k.kind k.site (sym k.link ∙ is)
       where
         of_kind : (k : RightKind) → HasValidSite b k → link_of_kind k ≡ Some e → e < length b.links
         of_kind (Diversion node) h i = cc
@@ -97,7 +97,7 @@ serves b m r carry own from to rank q given now same = record {
           same s l senior,
         )
     of_link s l senior (Some e) is =
-        let kept = now.kept e (place s e l is) in
+        let kept = now.kept e (position s e l is) in
         let on : is_on_link b s e && is_senior b s r ≡ true =
         and_from (is_on_link b s e) (is_senior b s r) (ap (λ o. is_at o e) is ∙ eq-eqb e e refl) senior in
         let most = term_le_greatest (length b.rights) (λ s. is_on_link b s e && is_senior b s r)

@@ -33,93 +33,93 @@ helped_is_short b m link r l helps =
     )
 
 -- one place more, whose right would not be helped
-pub not_helped : (b : Basin) (m : MonthRecord) (place link : ℕ) →
-    (CarryHelpsRight b m link (right_at b place) → ⊥) → HelpsNoneTo b m place link →
-    HelpsNoneTo b m (place + 1) link
-not_helped b m place link here now = record {
-  before = λ i l. elim (cases_lt i place) [
+pub not_helped : (b : Basin) (m : MonthRecord) (position link : ℕ) →
+    (CarryHelpsRight b m link (right_at b position) → ⊥) → HelpsNoneTo b m position link →
+    HelpsNoneTo b m (position + 1) link
+not_helped b m position link here now = record {
+  before = λ i l. elim (cases_lt i position) [
     | inl below ↦ now.before i below
     | inr above ↦
-        (let same : i ≡ place = omega arith in
+        (let same : i ≡ position = omega arith in
         subst (λ (k : ℕ). CarryHelpsRight b m link (right_at b k) → ⊥) (sym same) here)
   ];
   instream = now.instream;
 }
 
 -- where no right was noted, none before would be helped
-pub none_before : {b : Basin} {m : MonthRecord} {place link : ℕ} (before : Option ℕ) → is_some before ≡ false →
-    IsHelpedTo b m place link before → HelpsNoneTo b m place link
+pub none_before : {b : Basin} {m : MonthRecord} {position link : ℕ} (before : Option ℕ) → is_some before ≡ false →
+    IsHelpedTo b m position link before → HelpsNoneTo b m position link
 none_before None h now = now
 none_before (Some r) h now = cc
 
 -- a right that was noted stays so
-pub one_before : (b : Basin) (m : MonthRecord) (place link : ℕ) (before : Option ℕ) → is_some before ≡ true →
-    IsHelpedTo b m place link before → IsHelpedTo b m (place + 1) link before
-one_before b m place link None h now = cc
-one_before b m place link (Some r) h now = now
+pub one_before : (b : Basin) (m : MonthRecord) (position link : ℕ) (before : Option ℕ) → is_some before ≡ true →
+    IsHelpedTo b m position link before → IsHelpedTo b m (position + 1) link before
+one_before b m position link None h now = cc
+one_before b m position link (Some r) h now = now
 
 -- a right was noted, or the one at the place would not be helped
-pub still_helped : (b : Basin) (m : MonthRecord) (place link : ℕ) (before : Option ℕ) →
-    (HelpsNoneTo b m place link → CarryHelpsRight b m link (right_at b place) → ⊥) →
-    IsHelpedTo b m place link before → IsHelpedTo b m (place + 1) link before
-still_helped b m place link None here now = not_helped b m place link (here now) now
-still_helped b m place link (Some r) here now = now
+pub still_helped : (b : Basin) (m : MonthRecord) (position link : ℕ) (before : Option ℕ) →
+    (HelpsNoneTo b m position link → CarryHelpsRight b m link (right_at b position) → ⊥) →
+    IsHelpedTo b m position link before → IsHelpedTo b m (position + 1) link before
+still_helped b m position link None here now = not_helped b m position link (here now) now
+still_helped b m position link (Some r) here now = now
 
 -- the right at the place is the first that would be helped
-pub now_helped : (b : Basin) (m : MonthRecord) (place link right : ℕ) →
-    IsSeniorityOrder b.rights (seniors_first b) → place < length b.rights → right_at b place ≡ right →
-    CarryHelpsRight b m link right → HelpsNoneTo b m place link → IsFirstHelped b m link right
-now_helped b m place link right o within at helps now = record {
+pub now_helped : (b : Basin) (m : MonthRecord) (position link right : ℕ) →
+    IsSeniorityOrder b.rights (seniors_first b) → position < length b.rights → right_at b position ≡ right →
+    CarryHelpsRight b m link right → HelpsNoneTo b m position link → IsFirstHelped b m link right
+now_helped b m position link right o within at helps now = record {
   in_range = in_range;
   helps = helps;
   first = λ s l senior other.
       let above : o.place s < o.place right =
       ltb-true (o.place s) (o.place right) (sym (o.senior s right l in_range) ∙ senior) in
-      let here : o.place right ≡ place = ap o.place (sym at) ∙ o.placed place within in
+      let here : o.place right ≡ position = ap o.place (sym at) ∙ o.placed position within in
       now.before (o.place s) (omega arith) (subst (λ (q : ℕ). CarryHelpsRight b m link q) (sym (o.each s l)) other);
 }
   where
     in_range : right < length b.rights
-    in_range = subst (λ (q : ℕ). q < length b.rights) at (o.below place within)
+    in_range = subst (λ (q : ℕ). q < length b.rights) at (o.below position within)
 
 -- what is so of one place more is so without it
-earlier : (b : Basin) (m : MonthRecord) (place link : ℕ) (answer : Option ℕ) →
-    IsHelpedTo b m (place + 1) link answer → IsHelpedTo b m place link answer
-earlier b m place link None now = record { before = λ i l. now.before i (omega arith); instream = now.instream }
-earlier b m place link (Some r) now = now
+earlier : (b : Basin) (m : MonthRecord) (position link : ℕ) (answer : Option ℕ) →
+    IsHelpedTo b m (position + 1) link answer → IsHelpedTo b m position link answer
+earlier b m position link None now = record { before = λ i l. now.before i (omega arith); instream = now.instream }
+earlier b m position link (Some r) now = now
 
 -- what is decided is so at each place
-decided_to : (b : Basin) (m : MonthRecord) (place link : ℕ) (answer : Option ℕ) →
-    ((i : ℕ) → i < place → right_at b i < length b.rights) → IsHelped b m link answer →
-    IsHelpedTo b m place link answer
-decided_to b m place link None below none = record {
+decided_to : (b : Basin) (m : MonthRecord) (position link : ℕ) (answer : Option ℕ) →
+    ((i : ℕ) → i < position → right_at b i < length b.rights) → IsHelped b m link answer →
+    IsHelpedTo b m position link answer
+decided_to b m position link None below none = record {
   before = λ i l. none (right_at b i) (below i l);
   instream = λ s l on. none s l;
 }
-decided_to b m place link (Some r) below now = now
+decided_to b m position link (Some r) below now = now
 
 -- all undecided links were gone over for a right
-pub all_told : (b : Basin) (m : MonthRecord) (place : ℕ) (helped : List (Option ℕ)) (undecided : List ℕ)
-    (count done : ℕ) → IsSeniorityOrder b.rights (seniors_first b) → place < length b.rights → count ≤ done →
-    AreUndecided b m helped undecided count → AreBeingHelped b m place helped undecided done →
-    AreHelpedTo b m (place + 1) helped
-all_told b m place helped undecided count done o l all lists now = record {
+pub all_told : (b : Basin) (m : MonthRecord) (position : ℕ) (helped : List (Option ℕ)) (undecided : List ℕ)
+    (count done : ℕ) → IsSeniorityOrder b.rights (seniors_first b) → position < length b.rights → count ≤ done →
+    AreUndecided b m helped undecided count → AreBeingHelped b m position helped undecided done →
+    AreHelpedTo b m (position + 1) helped
+all_told b m position helped undecided count done o l all lists now = record {
   count = now.each.count;
   each = λ e k. elim (lists.each e k) [
-    | inl decided ↦ decided_to b m (place + 1) e (slice_index_or helped e None)
+    | inl decided ↦ decided_to b m (position + 1) e (slice_index_or helped e None)
         (λ i below. o.below i (omega arith)) decided
-    | inr at ↦ subst (λ (f : ℕ). IsHelpedTo b m (place + 1) f (slice_index_or helped f None)) at.2
+    | inr at ↦ subst (λ (f : ℕ). IsHelpedTo b m (position + 1) f (slice_index_or helped f None)) at.2
         (now.told at.0 (let below = at.1 in omega arith))
   ];
 }
 
 -- before the first of them
-pub none_told : (b : Basin) (m : MonthRecord) (place : ℕ) (helped : List (Option ℕ)) (undecided : List ℕ) →
-    AreHelpedTo b m place helped → AreBeingHelped b m place helped undecided 0
-none_told b m place helped undecided now = record { each = now; told = λ j l. absurd (omega arith) }
+pub none_told : (b : Basin) (m : MonthRecord) (position : ℕ) (helped : List (Option ℕ)) (undecided : List ℕ) →
+    AreHelpedTo b m position helped → AreBeingHelped b m position helped undecided 0
+none_told b m position helped undecided now = record { each = now; told = λ j l. absurd (omega arith) }
 
 -- one of them more
-module _ (b : Basin) (m : MonthRecord) (place : ℕ) (helped : List (Option ℕ)) (undecided : List ℕ) (count j : ℕ)
+module _ (b : Basin) (m : MonthRecord) (position : ℕ) (helped : List (Option ℕ)) (undecided : List ℕ) (count j : ℕ)
     (answer : Option ℕ) (listed : j < count) (lists : AreUndecided b m helped undecided count)
     (counted : length helped ≡ length b.links) where
   abbrev link : ℕ
@@ -146,22 +146,23 @@ module _ (b : Basin) (m : MonthRecord) (place : ℕ) (helped : List (Option ℕ)
     ];
   }
 
-  pub one_told : AreBeingHelped b m place helped undecided j → IsHelpedTo b m (place + 1) link answer →
-      AreBeingHelped b m place (slice_set helped link answer) undecided (j + 1)
+  pub one_told : AreBeingHelped b m position helped undecided j → IsHelpedTo b m (position + 1) link answer →
+      AreBeingHelped b m position (slice_set helped link answer) undecided (j + 1)
   one_told now here = record {
     each = record {
       count = length-set helped link answer ∙ now.each.count;
       each = λ e k. elim (cases_eq e link) [
-        | inl same ↦ subst (λ (o : Option ℕ). IsHelpedTo b m place e o) (sym (at e same))
-            (earlier b m place e answer (subst (λ f. IsHelpedTo b m (place + 1) f answer) (sym same) here))
-        | inr other ↦ subst (λ (o : Option ℕ). IsHelpedTo b m place e o) (sym (elsewhere e other)) (now.each.each e k)
+        | inl same ↦ subst (λ (o : Option ℕ). IsHelpedTo b m position e o) (sym (at e same))
+            (earlier b m position e answer (subst (λ f. IsHelpedTo b m (position + 1) f answer) (sym same) here))
+        | inr other ↦ subst (λ (o : Option ℕ). IsHelpedTo b m position e o) (sym (elsewhere e other))
+            (now.each.each e k)
       ];
     };
     told = λ i k. elim (cases_eq (slice_index undecided i) link) [
-      | inl same ↦ subst (λ (o : Option ℕ). IsHelpedTo b m (place + 1) (slice_index undecided i) o)
+      | inl same ↦ subst (λ (o : Option ℕ). IsHelpedTo b m (position + 1) (slice_index undecided i) o)
           (sym (at (slice_index undecided i) same))
-          (subst (λ f. IsHelpedTo b m (place + 1) f answer) (sym same) here)
-      | inr other ↦ subst (λ (o : Option ℕ). IsHelpedTo b m (place + 1) (slice_index undecided i) o)
+          (subst (λ f. IsHelpedTo b m (position + 1) f answer) (sym same) here)
+      | inr other ↦ subst (λ (o : Option ℕ). IsHelpedTo b m (position + 1) (slice_index undecided i) o)
           (sym (elsewhere (slice_index undecided i) other)) (now.told i (before i k other))
     ];
   }
@@ -173,50 +174,52 @@ module _ (b : Basin) (m : MonthRecord) (place : ℕ) (helped : List (Option ℕ)
       ]
 
 -- a right that none of them would help is helped by no link
-pub no_more : (b : Basin) (m : MonthRecord) (place : ℕ) (helped : List (Option ℕ)) (undecided : List ℕ) (count : ℕ) →
-    IsSeniorityOrder b.rights (seniors_first b) → place < length b.rights →
-    HelpNot b m undecided count (right_at b place) → AreUndecided b m helped undecided count → AreHelpedTo b m place helped → AreHelpedTo b m (place + 1) helped
-no_more b m place helped undecided count o l none lists now = record {
+pub no_more : (b : Basin) (m : MonthRecord) (position : ℕ) (helped : List (Option ℕ)) (undecided : List ℕ) (count : ℕ) →
+    IsSeniorityOrder b.rights (seniors_first b) → position < length b.rights →
+    HelpNot b m undecided count (right_at b position) → AreUndecided b m helped undecided count →
+    AreHelpedTo b m position helped → AreHelpedTo b m (position + 1) helped
+no_more b m position helped undecided count o l none lists now = record {
   count = now.count;
   each = λ e k. elim (lists.each e k) [
-    | inl decided ↦ decided_to b m (place + 1) e (slice_index_or helped e None)
+    | inl decided ↦ decided_to b m (position + 1) e (slice_index_or helped e None)
         (λ i below. o.below i (omega arith)) decided
-    | inr at ↦ still_helped b m place e (slice_index_or helped e None)
+    | inr at ↦ still_helped b m position e (slice_index_or helped e None)
         (λ so_far helps. none at.0 at.1
-        (subst (λ (f : ℕ). CarryHelpsRight b m f (right_at b place)) (sym at.2) helps)) (now.each e k)
+        (subst (λ (f : ℕ). CarryHelpsRight b m f (right_at b position)) (sym at.2) helps)) (now.each e k)
   ];
 }
 
 -- a right that isn't short is helped by no link
-pub nobody_more : (b : Basin) (m : MonthRecord) (place : ℕ) (helped : List (Option ℕ)) →
-    (IsShort m (right_at b place) → ⊥) → right_at b place < length b.rights → AreHelpedTo b m place helped →
-    AreHelpedTo b m (place + 1) helped
-nobody_more b m place helped met l now = record {
+pub nobody_more : (b : Basin) (m : MonthRecord) (position : ℕ) (helped : List (Option ℕ)) →
+    (IsShort m (right_at b position) → ⊥) → right_at b position < length b.rights → AreHelpedTo b m position helped →
+    AreHelpedTo b m (position + 1) helped
+nobody_more b m position helped met l now = record {
   count = now.count;
-  each = λ e k. still_helped b m place e (slice_index_or helped e None)
-      (λ none helps. met (helped_is_short b m e (right_at b place) l helps)) (now.each e k);
+  each = λ e k. still_helped b m position e (slice_index_or helped e None)
+      (λ none helps. met (helped_is_short b m e (right_at b position) l helps)) (now.each e k);
 }
 
 -- a diversion or zone is helped by no link of which no right was told at first
-pub none_instream : (b : Basin) (m : MonthRecord) (place : ℕ) (helped : List (Option ℕ)) →
-    instream_link b (right_at b place) ≡ None → right_at b place < length b.rights → AreHelpedTo b m place helped →
-    AreHelpedTo b m (place + 1) helped
-none_instream b m place helped none l now = record {
+pub none_instream : (b : Basin) (m : MonthRecord) (position : ℕ) (helped : List (Option ℕ)) →
+    instream_link b (right_at b position) ≡ None → right_at b position < length b.rights →
+    AreHelpedTo b m position helped →
+    AreHelpedTo b m (position + 1) helped
+none_instream b m position helped none l now = record {
   count = now.count;
-  each = λ e k. still_helped b m place e (slice_index_or helped e None)
-      (λ so_far. so_far.instream (right_at b place) l none) (now.each e k);
+  each = λ e k. still_helped b m position e (slice_index_or helped e None)
+      (λ so_far. so_far.instream (right_at b position) l none) (now.each e k);
 }
 
 -- all rights were gone over
-pub all_helped : (b : Basin) (m : MonthRecord) (places : ℕ) (helped : List (Option ℕ)) →
-    IsSeniorityOrder b.rights (seniors_first b) → length b.rights ≤ places → AreHelpedTo b m places helped →
+pub all_helped : (b : Basin) (m : MonthRecord) (indices : ℕ) (helped : List (Option ℕ)) →
+    IsSeniorityOrder b.rights (seniors_first b) → length b.rights ≤ indices → AreHelpedTo b m indices helped →
     AreHelped b m helped
-all_helped b m places helped o all now = record {
+all_helped b m indices helped o all now = record {
   count = now.count;
   each = λ e l. of_answer e (slice_index_or helped e None) (now.each e l);
 }
   where
-    of_answer : (e : ℕ) (answer : Option ℕ) → IsHelpedTo b m places e answer → IsHelped b m e answer
+    of_answer : (e : ℕ) (answer : Option ℕ) → IsHelpedTo b m indices e answer → IsHelped b m e answer
     of_answer e None none = λ s l helps.
         none.before (o.place s) (let k = o.in_range s l in omega arith)
         (subst (λ (r : ℕ). CarryHelpsRight b m e r) (sym (o.each s l)) helps)
@@ -231,18 +234,18 @@ short_has_reach b m r reaches l short =
     (sym (ap (λ o. unwrap_or o []) set.1)) set.2
 
 -- the right at a place of the order
-pub record IsPlaced (b : Basin) (order : List ℕ) (place : ℕ) : Type 0 where
-  pub within : place < length order
-  pub is : get_or order place 0 ≡ right_at b place
-  pub below : get_or order place 0 < length b.rights
+pub record IsPlaced (b : Basin) (order : List ℕ) (position : ℕ) : Type 0 where
+  pub within : position < length order
+  pub is : get_or order position 0 ≡ right_at b position
+  pub below : get_or order position 0 < length b.rights
 
-pub is_placed : (b : Basin) (order : List ℕ) (place : ℕ) → IsValidBasin b → order ≡ seniors_first b →
-    place < length b.rights → IsPlaced b order place
-is_placed b order place valid is l =
+pub is_placed : (b : Basin) (order : List ℕ) (position : ℕ) → IsValidBasin b → order ≡ seniors_first b →
+    position < length b.rights → IsPlaced b order position
+is_placed b order position valid is l =
     let o = by_seniority_order b.rights valid.roll.strict in
-    let within : place < length order = omega (arith, ap length is, o.count, l) in
+    let within : position < length order = omega (arith, ap length is, o.count, l) in
     record {
       within = within;
-      is = ap (λ (xs : List ℕ). get_or xs place 0) is;
-      below = order_below b order place valid is within;
+      is = ap (λ (xs : List ℕ). get_or xs position 0) is;
+      below = order_below b order position valid is within;
     }

@@ -27,18 +27,18 @@ pub record AreHelped (b : Basin) (m : MonthRecord) (helped : List (Option ℕ)) 
   pub each : (e : ℕ) → e < length b.links → IsHelped b m e (slice_index_or helped e None)
 
 -- a link whose carry would help no diversion or zone, and no right at the first places of the order
-pub record HelpsNoneTo (b : Basin) (m : MonthRecord) (places link : ℕ) : Type 0 where
-  pub before : (i : ℕ) → i < places → CarryHelpsRight b m link (right_at b i) → ⊥
+pub record HelpsNoneTo (b : Basin) (m : MonthRecord) (indices link : ℕ) : Type 0 where
+  pub before : (i : ℕ) → i < indices → CarryHelpsRight b m link (right_at b i) → ⊥
   pub instream : (s : ℕ) → s < length b.rights → instream_link b s ≡ None → CarryHelpsRight b m link s → ⊥
 
 -- the most senior right that it would help, or none so far
 abbrev pub IsHelpedTo : Basin → MonthRecord → ℕ → ℕ → Option ℕ → Type 0
-IsHelpedTo b m places link None = HelpsNoneTo b m places link
-IsHelpedTo b m places link (Some right) = IsFirstHelped b m link right
+IsHelpedTo b m indices link None = HelpsNoneTo b m indices link
+IsHelpedTo b m indices link (Some right) = IsFirstHelped b m link right
 
-pub record AreHelpedTo (b : Basin) (m : MonthRecord) (places : ℕ) (helped : List (Option ℕ)) : Type 0 where
+pub record AreHelpedTo (b : Basin) (m : MonthRecord) (indices : ℕ) (helped : List (Option ℕ)) : Type 0 where
   pub count : length helped ≡ length b.links
-  pub each : (e : ℕ) → e < length b.links → IsHelpedTo b m places e (slice_index_or helped e None)
+  pub each : (e : ℕ) → e < length b.links → IsHelpedTo b m indices e (slice_index_or helped e None)
 
 -- the first places of a list have links
 abbrev pub AreLinks : Basin → List ℕ → ℕ → Type 0
@@ -77,11 +77,11 @@ pub record AreToldOf (b : Basin) (m : MonthRecord) (helped : List (Option ℕ)) 
         IsHelped b m e (slice_index_or helped e None) ⊎ IsListed undecided count e
 
 -- the first of the undecided links are told of one right more than the others
-pub record AreBeingHelped (b : Basin) (m : MonthRecord) (place : ℕ) (helped : List (Option ℕ)) (undecided : List ℕ)
+pub record AreBeingHelped (b : Basin) (m : MonthRecord) (position : ℕ) (helped : List (Option ℕ)) (undecided : List ℕ)
     (done : ℕ) : Type 0 where
-  pub each : AreHelpedTo b m place helped
+  pub each : AreHelpedTo b m position helped
   pub told : (j : ℕ) → j < done →
-      IsHelpedTo b m (place + 1) (slice_index undecided j) (slice_index_or helped (slice_index undecided j) None)
+      IsHelpedTo b m (position + 1) (slice_index undecided j) (slice_index_or helped (slice_index undecided j) None)
 
 -- for each short right there is room for one unit more down the rivers
 pub record HasRoomForAll (b : Basin) (m : MonthRecord) : Type 0 where

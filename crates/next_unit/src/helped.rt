@@ -152,27 +152,27 @@ fn helped_with(
     basin: &Basin,
     roll: &Roll,
     month: &MonthRecord,
-    place: usize,
+    position: usize,
     core: &[bool],
     link: u32,
     before: Option<u32>,
 ) -> Option<u32>
     requires plan { HasPlan basin.now month.now }
     requires roll { IsRollOf basin.now.rights roll.now }
-    requires place { place < length basin.now.rights }
-    requires short { IsShort month.now (right_at basin.now place) }
-    requires room { HasRoomDown basin.now month.now (right_at basin.now place) }
-    requires core { IsCore basin.now month.now (right_at basin.now place) core.now }
-    requires cut { HasCut basin.now month.now.cuts (right_at basin.now place) }
-    requires reach { HasReach basin.now month.now (right_at basin.now place) }
+    requires position { position < length basin.now.rights }
+    requires short { IsShort month.now (right_at basin.now position) }
+    requires room { HasRoomDown basin.now month.now (right_at basin.now position) }
+    requires core { IsCore basin.now month.now (right_at basin.now position) core.now }
+    requires cut { HasCut basin.now month.now.cuts (right_at basin.now position) }
+    requires reach { HasReach basin.now month.now (right_at basin.now position) }
     requires link { link < length basin.now.links }
-    requires before { IsHelpedTo basin.now month.now place link before }
-    ensures { IsHelpedTo basin.now month.now (place + 1) link result }
+    requires before { IsHelpedTo basin.now month.now position link before }
+    ensures { IsHelpedTo basin.now month.now (position + 1) link result }
 {
     if before.is_some() {
         return before;
     }
-    let right = roll.by_seniority()[place];
+    let right = roll.by_seniority()[position];
     if carry_helps(basin, month, right, core, link) {
         Some(right)
     } else {
@@ -204,7 +204,7 @@ fn note_links(
     basin: &Basin,
     roll: &Roll,
     month: &MonthRecord,
-    place: usize,
+    position: usize,
     core: &[bool],
     undecided: &[u32],
     count: usize,
@@ -212,21 +212,21 @@ fn note_links(
 )
     requires plan { HasPlan basin.now month.now }
     requires roll { IsRollOf basin.now.rights roll.now }
-    requires place { place < length basin.now.rights }
-    requires short { IsShort month.now (right_at basin.now place) }
-    requires room { HasRoomDown basin.now month.now (right_at basin.now place) }
-    requires core { IsCore basin.now month.now (right_at basin.now place) core.now }
-    requires cut { HasCut basin.now month.now.cuts (right_at basin.now place) }
-    requires reach { HasReach basin.now month.now (right_at basin.now place) }
+    requires position { position < length basin.now.rights }
+    requires short { IsShort month.now (right_at basin.now position) }
+    requires room { HasRoomDown basin.now month.now (right_at basin.now position) }
+    requires core { IsCore basin.now month.now (right_at basin.now position) core.now }
+    requires cut { HasCut basin.now month.now.cuts (right_at basin.now position) }
+    requires reach { HasReach basin.now month.now (right_at basin.now position) }
     requires undecided { AreUndecided basin.now month.now helped.old undecided.now count }
-    requires helped { AreHelpedTo basin.now month.now place helped.old }
+    requires helped { AreHelpedTo basin.now month.now position helped.old }
     ensures undecided { AreUndecided basin.now month.now helped.new undecided.now count }
-    ensures helped { AreHelpedTo basin.now month.now (place + 1) helped.new }
+    ensures helped { AreHelpedTo basin.now month.now (position + 1) helped.new }
 {
     for j in 0..count {
         let link = undecided[j];
         let before = helped[link as usize];
-        helped[link as usize] = helped_with(basin, roll, month, place, core, link, before);
+        helped[link as usize] = helped_with(basin, roll, month, position, core, link, before);
     }
 }
 
@@ -237,7 +237,7 @@ fn note_right(
     basin: &Basin,
     roll: &Roll,
     month: &MonthRecord,
-    place: usize,
+    position: usize,
     undecided: &[u32],
     count: usize,
     helped: &mut [Option<u32>],
@@ -247,30 +247,30 @@ fn note_right(
     requires roll { IsRollOf basin.now.rights roll.now }
     requires reaches { HasReaches basin.now month.now }
     requires room { HasRoomForAll basin.now month.now }
-    requires place { place < length basin.now.rights }
+    requires position { position < length basin.now.rights }
     requires undecided { AreUndecided basin.now month.now helped.old undecided.now count }
-    requires helped { AreHelpedTo basin.now month.now place helped.old }
+    requires helped { AreHelpedTo basin.now month.now position helped.old }
     ensures search { IsSearchOf basin.now search.new }
     ensures undecided { AreUndecided basin.now month.now helped.new undecided.now count }
-    ensures helped { AreHelpedTo basin.now month.now (place + 1) helped.new }
+    ensures helped { AreHelpedTo basin.now month.now (position + 1) helped.new }
 {
-    let right = roll.by_seniority()[place];
+    let right = roll.by_seniority()[position];
     if could_be_helped(basin, month, right, undecided, count) {
         search.find_core(basin, roll, month, right);
         let core = search.core();
-        note_links(basin, roll, month, place, core, undecided, count, helped);
+        note_links(basin, roll, month, position, core, undecided, count, helped);
     }
 }
 
 /// The right at a place of the order.
-fn right_at(basin: &Basin, roll: &Roll, place: usize) -> u32
+fn right_at(basin: &Basin, roll: &Roll, position: usize) -> u32
     requires basin { IsValidBasin basin.now }
     requires roll { IsRollOf basin.now.rights roll.now }
-    requires place { place < length basin.now.rights }
-    ensures value { result ≡ right_at basin.now place }
+    requires position { position < length basin.now.rights }
+    ensures value { result ≡ right_at basin.now position }
     ensures within { result < length basin.now.rights }
 {
-    roll.by_seniority()[place]
+    roll.by_seniority()[position]
 }
 
 /// The link of an instream right.
@@ -288,12 +288,12 @@ fn instream_link(basin: &Basin, right: u32) -> Option<u32>
 
 /// Notes the right at a place of the order, if it is an instream right that is short. No other could be helped by an
 /// undecided link.
-fn note_place(
+fn note_index(
     search: &mut ResidualSearch,
     basin: &Basin,
     roll: &Roll,
     month: &MonthRecord,
-    place: usize,
+    position: usize,
     undecided: &[u32],
     count: usize,
     helped: &mut [Option<u32>],
@@ -303,16 +303,18 @@ fn note_place(
     requires roll { IsRollOf basin.now.rights roll.now }
     requires reaches { HasReaches basin.now month.now }
     requires room { HasRoomForAll basin.now month.now }
-    requires place { place < length basin.now.rights }
+    requires position { position < length basin.now.rights }
     requires undecided { AreUndecided basin.now month.now helped.old undecided.now count }
-    requires helped { AreHelpedTo basin.now month.now place helped.old }
+    requires helped { AreHelpedTo basin.now month.now position helped.old }
     ensures search { IsSearchOf basin.now search.new }
     ensures undecided { AreUndecided basin.now month.now helped.new undecided.now count }
-    ensures helped { AreHelpedTo basin.now month.now (place + 1) helped.new }
+    ensures helped { AreHelpedTo basin.now month.now (position + 1) helped.new }
 {
-    let right = right_at(basin, roll, place);
+    let right = right_at(basin, roll, position);
     match instream_link(basin, right) {
-        Some(_) => note_right(search, basin, roll, month, place, undecided, count, helped),
+        Some(_) => note_right(
+            search, basin, roll, month, position, undecided, count, helped,
+        ),
         None => {}
     }
 }
@@ -344,7 +346,9 @@ pub fn find_helped(
     ensures helped { AreHelped basin.now month.now helped.new }
 {
     let count = begin(basin, month, next, helped, undecided);
-    for place in 0..basin.rights.len() {
-        note_place(search, basin, roll, month, place, undecided, count, helped);
+    for position in 0..basin.rights.len() {
+        note_index(
+            search, basin, roll, month, position, undecided, count, helped,
+        );
     }
 }

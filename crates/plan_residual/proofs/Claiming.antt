@@ -94,26 +94,26 @@ claim_made b m r node seen one seen' queue q1 queue' size s1 size' at closed vis
     itself core is = let same : Some is.node ≡ Some node = sym is.at ∙ at in cc
 
 -- one place more is marked
-pub marked_more : (queue : List ℕ) (from place right : ℕ) (next next' : List (Option ℕ)) → from ≤ place →
-    slice_index queue place < length next → AreMarked queue from place right next next' →
-    AreMarked queue from (place + 1) right next (slice_set next' (slice_index queue place) (Some right))
-marked_more queue from place right next next' above below now = record {
-  count = length-set next' (slice_index queue place) (Some right) ∙ now.count;
-  marked = λ j a l. elim (cases_eq (slice_index queue j) (slice_index queue place)) [
-    | inl same ↦ ap (λ (v : ℕ). slice_index_or (slice_set next' (slice_index queue place) (Some right)) v None) same
-        ∙ get_or-set_same next' (slice_index queue place) (Some right) None (let c = now.count in omega arith)
-    | inr other ↦ get_or-set_other next' (slice_index queue place) (slice_index queue j) (Some right) None other
+pub marked_more : (queue : List ℕ) (from position right : ℕ) (next next' : List (Option ℕ)) → from ≤ position →
+    slice_index queue position < length next → AreMarked queue from position right next next' →
+    AreMarked queue from (position + 1) right next (slice_set next' (slice_index queue position) (Some right))
+marked_more queue from position right next next' above below now = record {
+  count = length-set next' (slice_index queue position) (Some right) ∙ now.count;
+  marked = λ j a l. elim (cases_eq (slice_index queue j) (slice_index queue position)) [
+    | inl same ↦ ap (λ (v : ℕ). slice_index_or (slice_set next' (slice_index queue position) (Some right)) v None) same
+        ∙ get_or-set_same next' (slice_index queue position) (Some right) None (let c = now.count in omega arith)
+    | inr other ↦ get_or-set_other next' (slice_index queue position) (slice_index queue j) (Some right) None other
         ∙ now.marked j a (earlier j l other)
   ];
-  kept = λ v apart. get_or-set_other next' (slice_index queue place) v (Some right) None
-      (λ same. apart place above (omega arith) (sym same))
+  kept = λ v apart. get_or-set_other next' (slice_index queue position) v (Some right) None
+      (λ same. apart position above (omega arith) (sym same))
       ∙ now.kept v (λ j a l. apart j a (omega arith));
 }
   where
-    earlier : (j : ℕ) → j < place + 1 → slice_index queue j ≢ slice_index queue place → j < place
-    earlier j l other = elim (cases_lt j place) [
+    earlier : (j : ℕ) → j < position + 1 → slice_index queue j ≢ slice_index queue position → j < position
+    earlier j l other = elim (cases_lt j position) [
       | inl less ↦ less
-      | inr last ↦ absurd (other (ap (slice_index queue) (let at : j ≡ place = omega arith in at)))
+      | inr last ↦ absurd (other (ap (slice_index queue) (let at : j ≡ position = omega arith in at)))
     ]
 
 -- at the start nothing was claimed
@@ -144,10 +144,11 @@ none_claimed b m seen queue next is none room bounded = record {
     nothing (suc k) (suc n) = nothing k n
 
 -- a right that is not short claims nothing
-pub passed_over : (b : Basin) (m : MonthRecord) (place : ℕ) (seen : List Bool) (queue : List ℕ) (size : ℕ)
-    (next : List (Option ℕ)) → slice_index m.want (right_at b place) ≤ slice_index m.delivered (right_at b place) →
-    AreClaimed b m place seen queue size next → AreClaimed b m (place + 1) seen queue size next
-passed_over b m place seen queue size next met now = record {
+pub passed_over : (b : Basin) (m : MonthRecord) (position : ℕ) (seen : List Bool) (queue : List ℕ) (size : ℕ)
+    (next : List (Option ℕ)) → slice_index m.want (right_at b position) ≤ slice_index m.delivered
+    (right_at b position) →
+    AreClaimed b m position seen queue size next → AreClaimed b m (position + 1) seen queue size next
+passed_over b m position seen queue size next met now = record {
   in_queue = now.in_queue;
   count = now.count;
   one_each = now.one_each;
@@ -155,7 +156,7 @@ passed_over b m place seen queue size next met now = record {
   claimed = now.claimed;
   free = λ n l out. (
     (now.free n l out).0,
-    λ i a could. elim (cases_eq i place) [
+    λ i a could. elim (cases_eq i position) [
       | inl same ↦ (let short = subst (λ (k : ℕ). IsShort m (right_at b k)) same could.short in absurd (omega arith))
       | inr other ↦ (now.free n l out).1 i (omega arith) could
     ],
@@ -163,17 +164,18 @@ passed_over b m place seen queue size next met now = record {
 }
 
 -- a short one claims the nodes of its core that no senior claimed
-pub claimed_more : (b : Basin) (m : MonthRecord) (place : ℕ) (seen seen' : List Bool) (queue queue' : List ℕ)
+pub claimed_more : (b : Basin) (m : MonthRecord) (position : ℕ) (seen seen' : List Bool) (queue queue' : List ℕ)
     (size size' : ℕ) (next next' : List (Option ℕ)) → HasPlan b m → IsSeniorityOrder b.rights (seniors_first b) →
-    place < length b.rights → IsShortRight b m (right_at b place) → AreClaimed b m place seen queue size next →
-    IsClaim b m (right_at b place) seen seen' queue queue' size size' →
-    AreMarked queue' size size' (right_at b place) next next' → AreClaimed b m (place + 1) seen' queue' size' next'
-claimed_more b m place seen seen' queue queue' size size' next next' given o below short now claim mark = record {
+    position < length b.rights → IsShortRight b m (right_at b position) → AreClaimed b m position seen queue size next →
+    IsClaim b m (right_at b position) seen seen' queue queue' size size' →
+    AreMarked queue' size size' (right_at b position) next next' → AreClaimed b m (position + 1) seen' queue' size'
+    next'
+claimed_more b m position seen seen' queue queue' size size' next next' given o below short now claim mark = record {
   in_queue = claim.in_queue;
   count = claim.count ∙ now.count;
   one_each = mark.count ∙ now.one_each;
   closed = λ i a l short_i. along_for_junior b m r (right_at b i) ToRight seen' given short
-      (senior_at b place i o l (omega arith)) claim.closed;
+      (senior_at b position i o l (omega arith)) claim.closed;
   claimed = λ n h. elim (cases_Bool (has seen n)) [
     | inl old ↦ (let was = now.claimed n old in (was.0, kept n old ∙ was.1, was.2))
     | inr fresh ↦ (r, added n h fresh, owned n h fresh)
@@ -181,7 +183,7 @@ claimed_more b m place seen seen' queue queue' size size' next next' given o bel
   free = λ n l out. (
     mark.kept n (λ j a k same. both_ways (has seen' n) out (ap (has seen') (sym same) ∙ claim.in_queue.queued j k))
         ∙ (now.free n l (apart n out)).0,
-    λ i a could. elim (cases_eq i place) [
+    λ i a could. elim (cases_eq i position) [
       | inl same ↦ (let takes = subst (λ (k : ℕ). CouldUseAt b m n (right_at b k)) same could in
           both_ways (has seen' n) out (claim.holds takes.core takes.is_core n takes.here))
       | inr other ↦ (now.free n l (apart n out)).1 i (omega arith) could
@@ -190,7 +192,7 @@ claimed_more b m place seen seen' queue queue' size size' next next' given o bel
 }
   where
     r : ℕ
-    r = right_at b place
+    r = right_at b position
 
     apart : (n : ℕ) → has seen' n ≡ false → has seen n ≡ false
     apart n out = elim (cases_Bool (has seen n)) [
@@ -230,7 +232,7 @@ claimed_more b m place seen seen' queue queue' size size' next next' given o bel
             ];
           };
           first = λ s senior could.
-              let at = o.placed place below in
+              let at = o.placed position below in
               let before = ltb-true (o.place s) (o.place r)
               (sym (o.senior s r could.in_range short.in_range) ∙ senior) in
               (now.free n (let k = has_below seen' n h in let c = claim.count in let d = now.count in omega arith)
@@ -239,10 +241,10 @@ claimed_more b m place seen seen' queue queue' size size' next next' given o bel
         }
 
 -- all rights had their turn
-pub all_served : (b : Basin) (m : MonthRecord) (place : ℕ) (seen : List Bool) (queue : List ℕ) (size : ℕ)
-    (next : List (Option ℕ)) → IsSeniorityOrder b.rights (seniors_first b) → length b.rights ≤ place →
-    AreClaimed b m place seen queue size next → AreNext b m next
-all_served b m place seen queue size next o all now = record {
+pub all_served : (b : Basin) (m : MonthRecord) (position : ℕ) (seen : List Bool) (queue : List ℕ) (size : ℕ)
+    (next : List (Option ℕ)) → IsSeniorityOrder b.rights (seniors_first b) → length b.rights ≤ position →
+    AreClaimed b m position seen queue size next → AreNext b m next
+all_served b m position seen queue size next o all now = record {
   one_each = now.one_each;
   each = λ n l. elim (cases_Bool (has seen n)) [
     | inl held ↦ (let was = now.claimed n held in subst (IsNextOrFree b m n) (sym was.1) was.2)

@@ -35,14 +35,14 @@ not_in_set set n h =
 taking_below : (b : Basin) → IsValidBasin b → (s n : ℕ) → s < length b.rights → taking_node b s ≡ Some n →
     n < length b.nodes
 taking_below b valid s n l is =
-    let k = kind_is b valid s l in of_kind k.kind k.place (sym k.node ∙ is)
+    let k = kind_is b valid s l in of_kind k.kind k.site (sym k.node ∙ is)
   where
     of_kind : (k : RightKind) → HasValidSite b k → taking_node_of_kind b k ≡ Some n → n < length b.nodes
-    of_kind (Diversion node) place e = let same : node ≡ n = cc in omega (arith, place)
-    of_kind (Instream link) place e = cc
-    of_kind (Zone reservoir level) place e =
+    of_kind (Diversion node) position e = let same : node ≡ n = cc in omega (arith, position)
+    of_kind (Instream link) position e = cc
+    of_kind (Zone reservoir level) position e =
         let at = entry_holds (λ v. IsValidReservoir b v) b.reservoirs reservoir
-        valid.reservoirs place.0 in
+        valid.reservoirs position.0 in
         let is_at : node_of_reservoir b reservoir ≡ Some at.0.node =
         ap (λ o. unwrap_or (option_map (λ x. Some x.node) o) None) at.1 in
         let same : at.0.node ≡ n = cc in

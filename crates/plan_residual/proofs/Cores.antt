@@ -18,15 +18,15 @@ node_is : (b : Basin) (m : MonthRecord) (r : ℕ) → HasPlan b m → r < length
 node_is b m r given l =
     let k = kind_is b given.valid r l in
     let of : (node : ℕ) × (node < length b.nodes) × (node_by_link b (taking_node_of_kind b k.kind) (link_of_kind k.kind)
-    ≡ Some node) = of_kind k.kind k.place in
+    ≡ Some node) = of_kind k.kind k.site in
     (of.0, of.1, ap₂ (λ t o. node_by_link b t o) k.node k.link ∙ of.2)
   where
     of_kind : (k : RightKind) → HasValidSite b k → (node : ℕ) × (node < length b.nodes)
         × (node_by_link b (taking_node_of_kind b k) (link_of_kind k) ≡ Some node)
-    of_kind (Diversion node) place = (node, place, refl)
-    of_kind (Instream link) place = (tail_of b link, (ends b given.valid link place).0, refl)
-    of_kind (Zone reservoir level) place =
-        let at = entry_holds (λ v. IsValidReservoir b v) b.reservoirs reservoir given.valid.reservoirs place.0 in
+    of_kind (Diversion node) position = (node, position, refl)
+    of_kind (Instream link) position = (tail_of b link, (ends b given.valid link position).0, refl)
+    of_kind (Zone reservoir level) position =
+        let at = entry_holds (λ v. IsValidReservoir b v) b.reservoirs reservoir given.valid.reservoirs position.0 in
         (at.0.node, at.2.node, ap (λ o. unwrap_or (option_map (λ x. Some x.node) o) None) at.1)
 
 pub core_of : (b : Basin) (m : MonthRecord) (r : ℕ) → HasPlan b m → r < length b.rights →

@@ -37,9 +37,9 @@ set_tight b m r sets l short =
     (sym (ap (λ o. unwrap_or o []) s.1)) s.2
 
 -- the right at a place of the order
-pub order_below : (b : Basin) (order : List ℕ) (place : ℕ) → IsValidBasin b → order ≡ seniors_first b →
-    place < length order → get_or order place 0 < length b.rights
-order_below b order place valid is below =
+pub order_below : (b : Basin) (order : List ℕ) (position : ℕ) → IsValidBasin b → order ≡ seniors_first b →
+    position < length order → get_or order position 0 < length b.rights
+order_below b order position valid is below =
     let o = by_seniority_order b.rights valid.roll.strict in
-    let at = o.below place (let n = o.count in let same = ap length is in omega arith) in
-    subst (λ (xs : List ℕ). get_or xs place 0 < length b.rights) (sym is) at
+    let at = o.below position (let n = o.count in let same = ap length is in omega arith) in
+    subst (λ (xs : List ℕ). get_or xs position 0 < length b.rights) (sym is) at

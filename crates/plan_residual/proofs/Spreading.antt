@@ -55,9 +55,9 @@ pub followed_stays : (b : Basin) (m : MonthRecord) (r : ℕ) (d : Direction) (s 
 followed_stays b m r d s seen seen' grows h = λ room. grows (end_of b s) (h room)
 
 -- the node at a place of the queue
-pub place_below : (b : Basin) (seen : List Bool) (queue : List ℕ) (size j : ℕ) → IsQueue seen queue size →
+pub index_below : (b : Basin) (seen : List Bool) (queue : List ℕ) (size j : ℕ) → IsQueue seen queue size →
     length seen ≡ length b.nodes → j < size → slice_index queue j < length b.nodes
-place_below b seen queue size j now count l =
+index_below b seen queue size j now count l =
     omega (arith, has_below seen (slice_index queue j) (now.queued j l), count)
 
 abbrev pub is_before : Option ℕ → ℕ → Bool

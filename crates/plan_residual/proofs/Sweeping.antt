@@ -133,78 +133,79 @@ hindered b m r q e below above falls not_q = elim (cases_Bool (is_on_link b q e)
           senior = inr tests.1;
         }
 
-pub senior_at : (b : Basin) (place before : ℕ) → IsSeniorityOrder b.rights (seniors_first b) →
-    before < length b.rights → place < before → is_senior b (right_at b place) (right_at b before) ≡ true
-senior_at b place before o within less =
-    let one = o.placed place (omega arith) in
+pub senior_at : (b : Basin) (position before : ℕ) → IsSeniorityOrder b.rights (seniors_first b) →
+    before < length b.rights → position < before → is_senior b (right_at b position) (right_at b before) ≡ true
+senior_at b position before o within less =
+    let one = o.placed position (omega arith) in
     let other = o.placed before within in
-    o.senior (right_at b place) (right_at b before) (o.below place (omega arith)) (o.below before within)
-    ∙ lt-ltb (o.place (right_at b place)) (o.place (right_at b before)) (omega arith)
+    o.senior (right_at b position) (right_at b before) (o.below position (omega arith)) (o.below before within)
+    ∙ lt-ltb (o.place (right_at b position)) (o.place (right_at b before)) (omega arith)
 
 -- what was seen for the one is in every closed set of the more senior
-pub reaching_before : (b : Basin) (m : MonthRecord) (place before : ℕ) (seen : List Bool) (queue : List ℕ) (size : ℕ) →
-    IsSeniorityOrder b.rights (seniors_first b) → IsBetween b m place before seen queue size →
-    IsReaching b m (right_at b place) seen queue size
-reaching_before b m place before seen queue size o now = record {
+pub reaching_before : (b : Basin) (m : MonthRecord) (position before : ℕ) (seen : List Bool) (queue : List ℕ)
+    (size : ℕ) →
+    IsSeniorityOrder b.rights (seniors_first b) → IsBetween b m position before seen queue size →
+    IsReaching b m (right_at b position) seen queue size
+reaching_before b m position before seen queue size o now = record {
   in_queue = now.in_queue;
   count = now.reached.one_each;
   least = λ other closed n h. now.reached.least other
-      (closed_for_junior b m (right_at b place) (right_at b before) other now.given now.short
-      (senior_at b place before o now.within now.less) closed) n h;
+      (closed_for_junior b m (right_at b position) (right_at b before) other now.given now.short
+      (senior_at b position before o now.within now.less) closed) n h;
 }
 
 -- a right between two places of the order was passed with the others
-passed_at : (b : Basin) (m : MonthRecord) (place before : ℕ) (seen seen' : List Bool)
+passed_at : (b : Basin) (m : MonthRecord) (position before : ℕ) (seen seen' : List Bool)
     (o : IsSeniorityOrder b.rights (seniors_first b)) →
-    ArePassed b m (right_at b place) seen seen' (place + 1) (before + 1) → (s : ℕ) → s < length b.rights →
-    place < o.place s → o.place s ≤ before → IsPassed b m (right_at b place) seen seen' s
-passed_at b m place before seen seen' o passed s l above below =
-    subst (λ t. IsPassed b m (right_at b place) seen seen' t) (o.each s l)
+    ArePassed b m (right_at b position) seen seen' (position + 1) (before + 1) → (s : ℕ) → s < length b.rights →
+    position < o.place s → o.place s ≤ before → IsPassed b m (right_at b position) seen seen' s
+passed_at b m position before seen seen' o passed s l above below =
+    subst (λ t. IsPassed b m (right_at b position) seen seen' t) (o.each s l)
     (passed (o.place s) (omega arith) (omega arith))
 
 -- once the rights between two places of the order were passed, all juniors of the one were seen
-pub juniors_passed : (b : Basin) (m : MonthRecord) (place before : ℕ) (seen seen' : List Bool) (queue : List ℕ)
-    (size : ℕ) → IsSeniorityOrder b.rights (seniors_first b) → IsBetween b m place before seen queue size →
+pub juniors_passed : (b : Basin) (m : MonthRecord) (position before : ℕ) (seen seen' : List Bool) (queue : List ℕ)
+    (size : ℕ) → IsSeniorityOrder b.rights (seniors_first b) → IsBetween b m position before seen queue size →
     ((v : ℕ) → has seen v ≡ true → has seen' v ≡ true) →
-    ArePassed b m (right_at b place) seen seen' (place + 1) (before + 1) →
-    HasJuniors b m (right_at b place) (length b.rights) seen'
-juniors_passed b m place before seen seen' queue size o now kept passed =
+    ArePassed b m (right_at b position) seen seen' (position + 1) (before + 1) →
+    HasJuniors b m (right_at b position) (length b.rights) seen'
+juniors_passed b m position before seen seen' queue size o now kept passed =
     λ s l senior takes. elim (cases_Bool (is_senior b (right_at b before) s)) [
       | inl older ↦ within_grows b seen seen' s kept (now.reached.closed.juniors s l older takes)
-      | inr new ↦ (let one = o.placed place (let a = now.less in let c = now.within in omega arith) in
+      | inr new ↦ (let one = o.placed position (let a = now.less in let c = now.within in omega arith) in
           let other = o.placed before now.within in
-          let above = ltb-true (o.place (right_at b place)) (o.place s)
-          (sym (o.senior (right_at b place) s now.short.in_range l) ∙ senior) in
+          let above = ltb-true (o.place (right_at b position)) (o.place s)
+          (sym (o.senior (right_at b position) s now.short.in_range l) ∙ senior) in
           let below = ltb-false (o.place (right_at b before)) (o.place s)
           (sym (o.senior (right_at b before) s now.short_before.in_range l) ∙ new) in
-          (passed_at b m place before seen seen' o passed s l (omega arith) (omega arith)).taken senior takes)
+          (passed_at b m position before seen seen' o passed s l (omega arith) (omega arith)).taken senior takes)
     ]
 
 -- and the steps from the nodes that were seen before were followed
-pub advanced : (b : Basin) (m : MonthRecord) (place before : ℕ) (seen seen' : List Bool) (queue queue' : List ℕ)
-    (size size' : ℕ) → IsSeniorityOrder b.rights (seniors_first b) → IsBetween b m place before seen queue size →
+pub advanced : (b : Basin) (m : MonthRecord) (position before : ℕ) (seen seen' : List Bool) (queue queue' : List ℕ)
+    (size size' : ℕ) → IsSeniorityOrder b.rights (seniors_first b) → IsBetween b m position before seen queue size →
     Extends seen seen' queue queue' size size' →
-    ArePassed b m (right_at b place) seen seen' (place + 1) (before + 1) →
-    AreFollowed b m (right_at b place) FromSources seen' queue' size
-advanced b m place before seen seen' queue queue' size size' o now more passed =
+    ArePassed b m (right_at b position) seen seen' (position + 1) (before + 1) →
+    AreFollowed b m (right_at b position) FromSources seen' queue' size
+advanced b m position before seen seen' queue queue' size size' o now more passed =
     λ j s l below at. step s below (ap (has seen) (at ∙ more.prefix j l) ∙ now.in_queue.queued j l)
   where
     r : ℕ
-    r = right_at b place
+    r = right_at b position
 
     q : ℕ
     q = right_at b before
 
-    place_of_r : o.place r ≡ place
-    place_of_r = o.placed place (let a = now.less in let c = now.within in omega arith)
+    index_of_r : o.place r ≡ position
+    index_of_r = o.placed position (let a = now.less in let c = now.within in omega arith)
 
-    place_of_q : o.place q ≡ before
-    place_of_q = o.placed before now.within
+    index_of_q : o.place q ≡ before
+    index_of_q = o.placed before now.within
 
     older : is_senior b q r ≡ false
     older = o.senior q r now.short_before.in_range now.short.in_range ∙ false_from_ne_true _ (λ h.
         let a = ltb-true (o.place q) (o.place r) h in let c = now.less in
-        let pr = place_of_r in let pq = place_of_q in absurd (omega arith))
+        let pr = index_of_r in let pq = index_of_q in absurd (omega arith))
 
     -- a step that had no room before is one back over a link of a right that was passed
     opened : (s : ℕ) → s < step_count b → has seen (start_of b s) ≡ true → has_room b m q s ≡ false →
@@ -219,7 +220,7 @@ advanced b m place before seen seen' queue queue' size size' o now more passed =
           let falls : can_fall b m r (link_of s) ≡ true = sym one.room ∙ room in
           let h = hindered b m r q (link_of s) now.short_before.in_range older falls (sym other.room ∙ closed) in
           let two = over_backward b m r (link_of s) in
-          let was = passed_at b m place before seen seen' o passed h.right h.in_range
+          let was = passed_at b m position before seen seen' o passed h.right h.in_range
           (above h.right h.in_range h.junior (apart h.right (link_of s) falls h.link))
           (under h.right h.in_range h.senior) in
           ap (has seen') (one.enters ∙ sym two.enters)
@@ -235,20 +236,21 @@ advanced b m place before seen seen' queue queue' size size' o now more passed =
             falls).0)
             (ap (λ k. is_on_link b k e) (sym same) ∙ on)
 
-        above : (t : ℕ) → t < length b.rights → is_senior b t r ≡ false → t ≢ r → place < o.place t
+        above : (t : ℕ) → t < length b.rights → is_senior b t r ≡ false → t ≢ r → position < o.place t
         above t l junior other =
             let least = ltb-false (o.place t) (o.place r) (sym (o.senior t r l now.short.in_range) ∙ junior) in
-            let pr = place_of_r in
-            elim (cases_eq (o.place t) place) [
+            let pr = index_of_r in
+            elim (cases_eq (o.place t) position) [
               | inl same ↦ absurd (other (sym (o.each t l) ∙ ap (right_at b) same))
               | inr strict ↦ omega arith
             ]
 
         under : (t : ℕ) → t < length b.rights → (t ≡ q) ⊎ (is_senior b t q ≡ true) → o.place t ≤ before
         under t l how = elim how [
-          | inl same ↦ (let pq = place_of_q in let e : o.place t ≡ o.place q = ap o.place same in omega arith)
-          | inr senior ↦ (let pq = place_of_q in
-              let less = ltb-true (o.place t) (o.place q) (sym (o.senior t q l now.short_before.in_range) ∙ senior) in
+          | inl same ↦ (let pq = index_of_q in let e : o.place t ≡ o.place q = ap o.place same in omega arith)
+          | inr senior ↦ (let pq = index_of_q in
+              let less = ltb-true (o.place t) (o.place q)
+              (sym (o.senior t q l now.short_before.in_range) ∙ senior) in
               omega arith)
         ]
 
@@ -259,11 +261,11 @@ advanced b m place before seen seen' queue queue' size size' o now more passed =
     ]
 
 -- one right more is passed
-pub passed_more : (b : Basin) (m : MonthRecord) (r : ℕ) (seen one two : List Bool) (from place s : ℕ) →
+pub passed_more : (b : Basin) (m : MonthRecord) (r : ℕ) (seen one two : List Bool) (from position s : ℕ) →
     ((v : ℕ) → has seen v ≡ true → has one v ≡ true) → ((v : ℕ) → has one v ≡ true → has two v ≡ true) →
-    ArePassed b m r seen one from place → get_or (seniors_first b) place 0 ≡ s → IsPassed b m r one two s →
-    ArePassed b m r seen two from (place + 1)
-passed_more b m r seen one two from place s before after now at this = λ i a c. elim (cases_eq i place) [
+    ArePassed b m r seen one from position → get_or (seniors_first b) position 0 ≡ s → IsPassed b m r one two s →
+    ArePassed b m r seen two from (position + 1)
+passed_more b m r seen one two from position s before after now at this = λ i a c. elim (cases_eq i position) [
   | inl same ↦ subst (λ t. IsPassed b m r seen two t) (sym (ap (λ k. get_or (seniors_first b) k 0) same ∙ at)) record {
     taken = this.taken;
     followed = λ e l is h. this.followed e l is (before (head_of b e) h);

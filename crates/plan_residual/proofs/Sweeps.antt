@@ -12,20 +12,20 @@ use Rattle.plan_residual.specs.Reaches.{HasReach, IsFirstOther}
 use Rattle.plan_residual.specs.Sweep.{IsAt, IsFirstFrom, right_at}
 
 -- what is known from a place on is known from a later one on
-pub at_lower : (b : Basin) (m : MonthRecord) (seen : List Bool) (queue : List ℕ) (place : ℕ) (before : Option ℕ)
+pub at_lower : (b : Basin) (m : MonthRecord) (seen : List Bool) (queue : List ℕ) (position : ℕ) (before : Option ℕ)
     (size : ℕ) →
-    IsAt b m seen queue (place + 1) before size → IsAt b m seen queue place before size
-at_lower b m seen queue place None size now = now
-at_lower b m seen queue place (Some before) size now = (let l = now.0 in omega arith, now.1, now.2, now.3, now.4)
+    IsAt b m seen queue (position + 1) before size → IsAt b m seen queue position before size
+at_lower b m seen queue position None size now = now
+at_lower b m seen queue position (Some before) size now = (let l = now.0 in omega arith, now.1, now.2, now.3, now.4)
 
 -- one right more was judged
-pub judged_more : (b : Basin) (m : MonthRecord) (place right : ℕ) (other : Bool) (answer : Option ℕ) →
-    place < length b.rights → right_at b place ≡ right →
-    OnTrue other (IsShort m (right_at b place) × (HasReach b m (right_at b place) → ⊥)) →
-    OnFalse other (IsShort m (right_at b place) → HasReach b m (right_at b place)) →
-    IsFirstFrom b m (place + 1) answer → IsFirstFrom b m place (if other then Some right else answer)
-judged_more b m place right true answer l at told fine now = (
-  place,
+pub judged_more : (b : Basin) (m : MonthRecord) (position right : ℕ) (other : Bool) (answer : Option ℕ) →
+    position < length b.rights → right_at b position ≡ right →
+    OnTrue other (IsShort m (right_at b position) × (HasReach b m (right_at b position) → ⊥)) →
+    OnFalse other (IsShort m (right_at b position) → HasReach b m (right_at b position)) →
+    IsFirstFrom b m (position + 1) answer → IsFirstFrom b m position (if other then Some right else answer)
+judged_more b m position right true answer l at told fine now = (
+  position,
   omega arith,
   l,
   at,
@@ -33,18 +33,18 @@ judged_more b m place right true answer l at told fine now = (
   subst (λ (r : ℕ). HasReach b m r → ⊥) at told.1,
   λ i a c. absurd (omega arith),
 )
-judged_more b m place right false None l at told fine now = λ i a c. elim (cases_eq i place) [
+judged_more b m position right false None l at told fine now = λ i a c. elim (cases_eq i position) [
   | inl same ↦ subst (λ k. IsShort m (right_at b k) → HasReach b m (right_at b k)) (sym same) fine
   | inr other ↦ now i (omega arith) c
 ]
-judged_more b m place right false (Some r) l at told fine now = (
+judged_more b m position right false (Some r) l at told fine now = (
   now.0,
   (let a = now.1 in omega arith),
   now.2,
   now.3,
   now.4,
   now.5,
-  λ i a c. elim (cases_eq i place) [
+  λ i a c. elim (cases_eq i position) [
     | inl same ↦ subst (λ k. IsShort m (right_at b k) → HasReach b m (right_at b k)) (sym same) fine
     | inr other ↦ now.6 i (omega arith) c
   ],
@@ -60,7 +60,8 @@ judged_all b m (Some r) o now = (
   now.4,
   now.5,
   λ s l senior short.
-      let before : o.place s < o.place r = ltb-true (o.place s) (o.place r) (sym (o.senior s r l in_range) ∙ senior) in
+      let before : o.place s < o.place r = ltb-true (o.place s) (o.place r)
+      (sym (o.senior s r l in_range) ∙ senior) in
       let at : o.place r ≡ now.0 = ap o.place (sym now.3) ∙ o.placed now.0 now.2 in
       subst (λ q. IsShort m q → HasReach b m q) (o.each s l) (now.6 (o.place s) (omega arith) (omega arith)) short,
 )

@@ -31,13 +31,13 @@ pub record AreMarked (queue : List ℕ) (from to right : ℕ) (next next' : List
 
 -- The nodes in the queue are those at which a short right before a place of the order could use one more unit, each
 -- marked as the most senior one's. As seen from the short rights after, no step with room leads to them.
-pub record AreClaimed (b : Basin) (m : MonthRecord) (place : ℕ) (seen : List Bool) (queue : List ℕ) (size : ℕ)
+pub record AreClaimed (b : Basin) (m : MonthRecord) (position : ℕ) (seen : List Bool) (queue : List ℕ) (size : ℕ)
     (next : List (Option ℕ)) : Type 0 where
   pub in_queue : IsQueue seen queue size
   pub count : length seen ≡ length b.nodes
   pub one_each : length next ≡ length b.nodes
-  pub closed : (i : ℕ) → place ≤ i → i < length b.rights → IsShort m (right_at b i) →
+  pub closed : (i : ℕ) → position ≤ i → i < length b.rights → IsShort m (right_at b i) →
       IsClosedAlong b m (right_at b i) ToRight seen
   pub claimed : (n : ℕ) → has seen n ≡ true → (r : ℕ) × (slice_index_or next n None ≡ Some r) × IsNextAt b m n r
   pub free : (n : ℕ) → n < length b.nodes → has seen n ≡ false → (slice_index_or next n None ≡ None)
-      × ((i : ℕ) → i < place → CouldUseAt b m n (right_at b i) → ⊥)
+      × ((i : ℕ) → i < position → CouldUseAt b m n (right_at b i) → ⊥)

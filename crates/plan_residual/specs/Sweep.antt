@@ -34,16 +34,17 @@ ArePassed b m right seen seen' from to = (i : ℕ) → from ≤ i → i < to →
 
 -- the right at a place of the order
 abbrev pub right_at : Basin → ℕ → ℕ
-right_at b place = slice_index_or (seniors_first b) place 0
+right_at b position = slice_index_or (seniors_first b) position 0
 
 -- two short rights at places of the order, and what is reached as seen from the junior one
-pub record IsBetween (b : Basin) (m : MonthRecord) (place before : ℕ) (seen : List Bool) (queue : List ℕ) (size : ℕ) :
+pub record IsBetween (b : Basin) (m : MonthRecord) (position before : ℕ) (seen : List Bool) (queue : List ℕ)
+    (size : ℕ) :
     Type 0
   where
     pub given : HasPlan b m
     pub within : before < length b.rights
-    pub less : place < before
-    pub short : IsShortRight b m (right_at b place)
+    pub less : position < before
+    pub short : IsShortRight b m (right_at b position)
     pub short_before : IsShortRight b m (right_at b before)
     pub in_queue : IsQueue seen queue size
     pub reached : AreReachedApart b m (right_at b before) seen

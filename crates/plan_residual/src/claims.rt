@@ -52,8 +52,8 @@ fn mark(queue: &[u32], from: usize, to: usize, right: u32, next: &mut [Option<u3
     requires nodes { (j : ℕ) → j < to → slice_index queue.now j < length next.old }
     ensures { AreMarked queue.now from to right next.old next.new }
 {
-    for place in from..to {
-        next[queue[place] as usize] = Some(right);
+    for position in from..to {
+        next[queue[position] as usize] = Some(right);
     }
 }
 
@@ -62,7 +62,7 @@ fn serve(
     basin: &Basin,
     roll: &Roll,
     month: &MonthRecord,
-    place: usize,
+    position: usize,
     rows: &StepRows,
     seen: &mut [bool],
     queue: &mut [u32],
@@ -72,11 +72,11 @@ fn serve(
     requires plan { HasPlan basin.now month.now }
     requires roll { IsRollOf basin.now.rights roll.now }
     requires rows { AreRowsFrom basin.now rows.now.first.items rows.now.next.items 0 }
-    requires place { place < length basin.now.rights }
-    requires claimed { AreClaimed basin.now month.now place seen.old queue.old size next.old }
-    ensures { AreClaimed basin.now month.now (place + 1) seen.new queue.new result next.new }
+    requires position { position < length basin.now.rights }
+    requires claimed { AreClaimed basin.now month.now position seen.old queue.old size next.old }
+    ensures { AreClaimed basin.now month.now (position + 1) seen.new queue.new result next.new }
 {
-    let right = right_at(basin, roll, place);
+    let right = right_at(basin, roll, position);
     if month.delivered[right as usize] >= month.want[right as usize] {
         return size;
     }
@@ -106,7 +106,7 @@ pub fn find_next(
     seen.fill(false);
     next.fill(None);
     let mut size = 0;
-    for place in 0..basin.rights.len() {
-        size = serve(basin, roll, month, place, rows, seen, queue, size, next);
+    for position in 0..basin.rights.len() {
+        size = serve(basin, roll, month, position, rows, seen, queue, size, next);
     }
 }

@@ -139,21 +139,30 @@ fn pass_all(
 {
     let order = roll.by_seniority();
     let mut more = size;
-    for place in from..to {
-        more = pass(basin, roll, month, right, order[place], seen, queue, more);
+    for position in from..to {
+        more = pass(
+            basin,
+            roll,
+            month,
+            right,
+            order[position],
+            seen,
+            queue,
+            more,
+        );
     }
     more
 }
 
 /// The right at a place of the order.
-pub fn right_at(basin: &Basin, roll: &Roll, place: usize) -> u32
+pub fn right_at(basin: &Basin, roll: &Roll, position: usize) -> u32
     requires basin { IsValidBasin basin.now }
     requires roll { IsRollOf basin.now.rights roll.now }
-    requires place { place < length basin.now.rights }
-    ensures value { result ≡ right_at basin.now place }
+    requires position { position < length basin.now.rights }
+    ensures value { result ≡ right_at basin.now position }
     ensures within { result < length basin.now.rights }
 {
-    roll.by_seniority()[place]
+    roll.by_seniority()[position]
 }
 
 /// Goes on from the nodes that are reached as seen from a short right to those as seen from a more senior one. Their
@@ -163,7 +172,7 @@ fn advance(
     basin: &Basin,
     roll: &Roll,
     month: &MonthRecord,
-    place: usize,
+    position: usize,
     before: usize,
     rows: &StepRows,
     seen: &mut [bool],
@@ -172,17 +181,17 @@ fn advance(
 ) -> usize
     requires roll { IsRollOf basin.now.rights roll.now }
     requires rows { AreRowsFrom basin.now rows.now.first.items rows.now.next.items 0 }
-    requires between { IsBetween basin.now month.now place before seen.old queue.old size }
+    requires between { IsBetween basin.now month.now position before seen.old queue.old size }
     ensures queue { IsQueue seen.new queue.new result }
-    ensures reached { AreReachedApart basin.now month.now (right_at basin.now place) seen.new }
+    ensures reached { AreReachedApart basin.now month.now (right_at basin.now position) seen.new }
 {
-    let right = right_at(basin, roll, place);
+    let right = right_at(basin, roll, position);
     let more = pass_all(
         basin,
         roll,
         month,
         right,
-        place + 1,
+        position + 1,
         before + 1,
         seen,
         queue,
@@ -198,7 +207,7 @@ fn advance(
 /// those only from the end of its own link.
 #[derive(Clone, Copy)]
 pub struct Level {
-    place: Option<usize>,
+    position: Option<usize>,
     size: usize,
 }
 
@@ -208,7 +217,7 @@ fn rise(
     basin: &Basin,
     roll: &Roll,
     month: &MonthRecord,
-    place: usize,
+    position: usize,
     level: Level,
     rows: &StepRows,
     seen: &mut [bool],
@@ -219,18 +228,18 @@ fn rise(
     requires rows { AreRowsFrom basin.now rows.now.first.items rows.now.next.items 0 }
     requires seen { length seen.old ≡ length basin.now.nodes }
     requires queue { length queue.old ≡ length basin.now.nodes }
-    requires place { place < length basin.now.rights }
-    requires right { IsShortRight basin.now month.now (right_at basin.now place) }
-    requires level { IsAt basin.now month.now seen.old queue.old (place + 1) level.place level.size }
+    requires position { position < length basin.now.rights }
+    requires right { IsShortRight basin.now month.now (right_at basin.now position) }
+    requires level { IsAt basin.now month.now seen.old queue.old (position + 1) level.position level.size }
     ensures queue { IsQueue seen.new queue.new result }
-    ensures reached { AreReachedApart basin.now month.now (right_at basin.now place) seen.new }
+    ensures reached { AreReachedApart basin.now month.now (right_at basin.now position) seen.new }
 {
-    match level.place {
+    match level.position {
         Some(before) => advance(
-            basin, roll, month, place, before, rows, seen, queue, level.size,
+            basin, roll, month, position, before, rows, seen, queue, level.size,
         ),
         None => {
-            let right = right_at(basin, roll, place);
+            let right = right_at(basin, roll, position);
             spread_apart(basin, roll, month, right, rows, seen, queue)
         }
     }
@@ -270,7 +279,7 @@ fn judge(
     basin: &Basin,
     roll: &Roll,
     month: &MonthRecord,
-    place: usize,
+    position: usize,
     level: &mut Level,
     rows: &StepRows,
     seen: &mut [bool],
@@ -282,20 +291,20 @@ fn judge(
     requires rows { AreRowsFrom basin.now rows.now.first.items rows.now.next.items 0 }
     requires seen { length seen.old ≡ length basin.now.nodes }
     requires queue { length queue.old ≡ length basin.now.nodes }
-    requires place { place < length basin.now.rights }
-    requires level { IsAt basin.now month.now seen.old queue.old (place + 1) level.old.place level.old.size }
-    ensures yes { OnTrue result (IsShort month.now (right_at basin.now place)
-        × (HasReach basin.now month.now (right_at basin.now place) → ⊥)) }
-    ensures no { OnFalse result (IsShort month.now (right_at basin.now place) →
-        HasReach basin.now month.now (right_at basin.now place)) }
-    ensures level { IsAt basin.now month.now seen.new queue.new place level.new.place level.new.size }
+    requires position { position < length basin.now.rights }
+    requires level { IsAt basin.now month.now seen.old queue.old (position + 1) level.old.position level.old.size }
+    ensures yes { OnTrue result (IsShort month.now (right_at basin.now position)
+        × (HasReach basin.now month.now (right_at basin.now position) → ⊥)) }
+    ensures no { OnFalse result (IsShort month.now (right_at basin.now position) →
+        HasReach basin.now month.now (right_at basin.now position)) }
+    ensures level { IsAt basin.now month.now seen.new queue.new position level.new.position level.new.size }
 {
-    let right = right_at(basin, roll, place);
+    let right = right_at(basin, roll, position);
     if month.delivered[right as usize] >= month.want[right as usize] {
         return false;
     }
-    let size = rise(basin, roll, month, place, *level, rows, seen, queue);
-    level.place = Some(place);
+    let size = rise(basin, roll, month, position, *level, rows, seen, queue);
+    level.position = Some(position);
     level.size = size;
     !has_reach(basin, roll, month, right, rows, seen, queue, size)
 }
@@ -325,13 +334,13 @@ pub fn sweep(
     ensures { IsFirstOther basin.now month.now result }
 {
     let mut level = Level {
-        place: None,
+        position: None,
         size: 0,
     };
     let mut answer = None;
-    for place in (0..basin.rights.len()).rev() {
-        let other = judge(basin, roll, month, place, &mut level, rows, seen, queue);
-        answer = pick(other, right_at(basin, roll, place), answer);
+    for position in (0..basin.rights.len()).rev() {
+        let other = judge(basin, roll, month, position, &mut level, rows, seen, queue);
+        answer = pick(other, right_at(basin, roll, position), answer);
     }
     answer
 }

@@ -22,7 +22,7 @@ pub fn forget(seen: &mut [bool], queue: &[u32], size: usize, more: usize)
     requires size { size ≤ more }
     ensures { IsQueue seen.new queue.now size }
 {
-    for place in (size..more).rev() {
-        seen[queue[place] as usize] = false;
+    for position in (size..more).rev() {
+        seen[queue[position] as usize] = false;
     }
 }

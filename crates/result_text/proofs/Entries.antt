@@ -6,12 +6,12 @@ use Rattle.water_model.specs.Indices.{numbers_from}
 use Rattle.water_model.proofs.Order.{length-numbers_from, numbers_from-get}
 
 -- a place is its own entry
-pub place_at : (entries : List ℕ) (count k : ℕ) → entries ≡ numbers_from 0 count → k < count →
+pub index_at : (entries : List ℕ) (count k : ℕ) → entries ≡ numbers_from 0 count → k < count →
     slice_get entries k ≡ Some k
-place_at entries count k is l = ap (λ xs. slice_get xs k) is ∙ numbers_from-get 0 count k k l (omega arith)
+index_at entries count k is l = ap (λ xs. slice_get xs k) is ∙ numbers_from-get 0 count k k l (omega arith)
 
-pub places_end : (entries : List ℕ) (count k : ℕ) → entries ≡ numbers_from 0 count → count ≤ k → length entries ≤ k
-places_end entries count k is l = omega (arith, ap length is, length-numbers_from 0 count)
+pub indices_end : (entries : List ℕ) (count k : ℕ) → entries ≡ numbers_from 0 count → count ≤ k → length entries ≤ k
+indices_end entries count k is l = omega (arith, ap length is, length-numbers_from 0 count)
 
 -- a right in the order is an entry
 pub right_at : (entries order : List ℕ) (k : ℕ) → entries ≡ order → k < length order →

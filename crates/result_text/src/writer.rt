@@ -169,8 +169,8 @@ fn put_section<K: Sink>(
 {
     let space = section.space();
     let count = count_in(space, basin);
-    for place in 0..count {
-        let entry = entry_at(space, basin, roll.by_seniority(), place);
+    for index in 0..count {
+        let entry = entry_at(space, basin, roll.by_seniority(), index);
         put_entry(sink, basin, month, returned, callers, section, entry)?;
     }
     Ok(())

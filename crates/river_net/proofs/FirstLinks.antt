@@ -15,7 +15,7 @@ first_skip test e bound None fails h = λ k a b. elim (cases_eq k e) [
   | inl same ↦ ap test same ∙ fails
   | inr other ↦ h k (omega arith) b
 ]
-first_skip test e bound (Some place) fails h = (
+first_skip test e bound (Some position) fails h = (
   (let a = h.0 in omega arith),
   h.1,
   h.2,

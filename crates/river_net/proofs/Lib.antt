@@ -1,6 +1,6 @@
 pub mod Entries
 pub mod FirstLinks
-pub mod Places
+pub mod Indices
 pub mod Entering
 pub mod Sorts
 pub mod Releases

@@ -20,7 +20,7 @@ use Rattle.river_net.specs.declared.refused.NetRefused.{NetRefused}
 use Rattle.river_net.specs.declared.refused.NetRefused.TheVariants.{SelfLink, LinkFromOutlet, NoRiver, DirectedCycle}
 use Rattle.river_net.proofs.Entries.{ends_in}
 use Rattle.water_model.proofs.Finds.{find_none, none_found}
-use Rattle.river_net.proofs.Walks.{any_place, place_any, walk_one, walk_within}
+use Rattle.river_net.proofs.Walks.{any_index, index_any, walk_one, walk_within}
 
 -- no entry passes where no place is found
 none_at : {X : Type 0} (p : X → Bool) (xs : List X) → position p xs ≡ None → (k : ℕ) (x : X) → slice_get xs k ≡ Some x →
@@ -66,7 +66,7 @@ has_river links node = list_any (λ l. l.from == node && is_river_kind l.carry) 
 -- a river that leaves a node, from the test over entries
 pub river_found : (links : List Link) (node : ℕ) → has_river links node ≡ true → HasRiverOut links node
 river_found links node h =
-    let at = any_place (λ l. l.from == node && is_river_kind l.carry) links h in
+    let at = any_index (λ l. l.from == node && is_river_kind l.carry) links h in
     let parts = and_parts (at.1.from == node) (is_river_kind at.1.carry) at.3 in record {
       link = at.0;
       in_range = slice_get_within links at.0 at.1 at.2;
@@ -78,7 +78,7 @@ river_found links node h =
 pub found_river : (links : List Link) (node : ℕ) → HasRiverOut links node → has_river links node ≡ true
 found_river links node out =
     let at = entry_at links out.link out.in_range in
-    place_any (λ l. l.from == node && is_river_kind l.carry) links out.link at.0 at.1
+    index_any (λ l. l.from == node && is_river_kind l.carry) links out.link at.0 at.1
     (and_from (at.0.from == node) (is_river_kind at.0.carry)
     (eq-eqb at.0.from node (sym (tail_is links out.link at.0 at.1) ∙ out.tail))
     (sym (river_is links out.link at.0 at.1) ∙ out.river))

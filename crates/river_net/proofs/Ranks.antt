@@ -12,7 +12,7 @@ use Rattle.water_model.specs.declared.types.Link.{Link}
 use Rattle.water_model.specs.declared.types.Node.{Node}
 use Rattle.river_net.specs.Firsts.{IsWithin}
 use Rattle.river_net.proofs.Chains.{Chain, chain_start, chain_more, chain_turns}
-use Rattle.river_net.proofs.Walks.{any_place, place_any, link_at}
+use Rattle.river_net.proofs.Walks.{any_index, index_any, link_at}
 
 -- whether a given number of links, one after the other, end at a node
 has_chain : List Link → ℕ → ℕ → Bool
@@ -25,7 +25,7 @@ chain_of : (links : List Link) (nodes : ℕ) → IsWithin nodes links → (k v :
 unfolding has_chain
 chain_of links nodes within zero v l h = chain_start links nodes v l
 chain_of links nodes within (suc k) v l h =
-    let at = any_place (λ l. l.to == v && has_chain links k l.from) links h in
+    let at = any_index (λ l. l.to == v && has_chain links k l.from) links h in
     let parts = and_parts (at.1.to == v) (has_chain links k at.1.from) at.3 in
     let below = slice_get_within links at.0 at.1 at.2 in
     let head : head_in links at.0 ≡ v =
@@ -41,7 +41,7 @@ longer : (links : List Link) (k e : ℕ) → e < length links → has_chain link
 unfolding has_chain
 longer links k e l h =
     let at = link_at links e l in
-    place_any (λ l. l.to == head_in links e && has_chain links k l.from) links e at.0 at.1
+    index_any (λ l. l.to == head_in links e && has_chain links k l.from) links e at.0 at.1
     (and_from (at.0.to == head_in links e) (has_chain links k at.0.from) (eq-eqb at.0.to (head_in links e) (sym at.3))
     (ap (has_chain links k) (sym at.2) ∙ h))
 

@@ -18,10 +18,10 @@ use Rattle.river_net.specs.Running.{IsRunning, IsSent, CanSend}
 use Rattle.river_net.proofs.Entries.{ends_in}
 
 -- at the start no water runs
-pub running_start : (nodes : List Node) (links : List Link) (supply place : ℕ → ℕ) (flow out : ℕ → ℕ) →
+pub running_start : (nodes : List Node) (links : List Link) (supply position : ℕ → ℕ) (flow out : ℕ → ℕ) →
     ((e : ℕ) → e < length links → flow e ≡ 0) →
-    ((v : ℕ) → v < length nodes → out v ≡ supply v) → IsRunning nodes links supply place 0 flow out
-running_start nodes links supply place flow out dry here = record {
+    ((v : ℕ) → v < length nodes → out v ≡ supply v) → IsRunning nodes links supply position 0 flow out
+running_start nodes links supply position flow out dry here = record {
   balance = λ v l. omega (
     arith,
     total_zero (length links) (λ e. if head_in links e == v then flow e else 0)
@@ -41,25 +41,25 @@ running_start nodes links supply place flow out dry here = record {
     none false x h = refl
 
 -- another node that is up to a place in the order is before it
-at_place : (nodes : List Node) (links : List Link) (order : List ℕ) (run : IsRunningOrder nodes links order) (i u : ℕ) →
+at_index : (nodes : List Node) (links : List Link) (order : List ℕ) (run : IsRunningOrder nodes links order) (i u : ℕ) →
     i < length nodes → u < length nodes → u ≢ slice_index order i →
-    run.place u < i + 1 → run.place u < i
-at_place nodes links order run i u l k ne below = elim (cases_lt (run.place u) i) [
+    run.position u < i + 1 → run.position u < i
+at_index nodes links order run i u l k ne below = elim (cases_lt (run.position u) i) [
   | inl before ↦ before
   | inr after ↦
-      absurd (ne (let same : run.place u ≡ i = omega arith in sym (run.each u k) ∙ ap (slice_index order) same))
+      absurd (ne (let same : run.position u ≡ i = omega arith in sym (run.each u k) ∙ ap (slice_index order) same))
 ]
 
 -- an outlet keeps its water
 pub running_outlet : (nodes : List Node) (links : List Link) (supply : ℕ →
     ℕ) (order : List ℕ) (run : IsRunningOrder nodes links order) (i : ℕ) (flow out : ℕ → ℕ) →
     i < length nodes → is_outlet_in nodes (slice_index order i) ≡ true →
-    IsRunning nodes links supply run.place i flow out → IsRunning nodes links supply run.place (i + 1) flow out
+    IsRunning nodes links supply run.position i flow out → IsRunning nodes links supply run.position (i + 1) flow out
 running_outlet nodes links supply order run i flow out l outlet now = record {
   balance = now.balance;
   all = now.all;
   empty = λ v k below h. now.empty v k
-      (at_place nodes links order run i v l k (λ e. let o : is_outlet_in nodes v ≡ true =
+      (at_index nodes links order run i v l k (λ e. let o : is_outlet_in nodes v ≡ true =
       ap (is_outlet_in nodes) e ∙ outlet in cc) below) h;
   quiet = λ e k. elim (now.quiet e k) [ inl none ↦ inl none | inr some ↦ inr (some.0, let s = some.1 in omega arith) ];
   small = now.small;
@@ -71,7 +71,7 @@ pub running_next : (nodes : List Node) (links : List Link) (supply : ℕ →
     All (λ l. HasNodes nodes l) links → i < length nodes → IsFirstRiver links e →
     tail_in links e ≡ slice_index order i →
     IsSent e (slice_index order i) (head_in links e) flow flow' out out' →
-    IsRunning nodes links supply run.place i flow out → IsRunning nodes links supply run.place (i + 1) flow' out'
+    IsRunning nodes links supply run.position i flow out → IsRunning nodes links supply run.position (i + 1) flow' out'
 running_next nodes links supply order run i e flow flow' out out' ends l first at sent now = record {
   balance = λ u k. omega (arith, now.balance u k, ins u, outs u, moved u);
   all = omega (
@@ -88,16 +88,16 @@ running_next nodes links supply order run i e flow flow' out out' ends l first a
   );
   empty = λ u k below inner. elim (cases_eq u v) [
     | inl here ↦ ap out' here ∙ sent.left
-    | inr other ↦ (let before : run.place u < i = at_place nodes links order run i u l k other below in
-        sent.others u other (λ at. let p = ap run.place at in absurd (omega (arith, forward)))
+    | inr other ↦ (let before : run.position u < i = at_index nodes links order run i u l k other below in
+        sent.others u other (λ at. let p = ap run.position at in absurd (omega (arith, forward)))
         ∙ now.empty u k before inner)
   ];
   quiet = λ f k. elim (cases_eq f e) [
     | inl here ↦
         inr (
           subst (IsFirstRiver links) (sym here) first,
-          let p = ap (λ x. run.place (tail_in links x)) here in
-              omega (arith, v_place, tail_place),
+          let p = ap (λ x. run.position (tail_in links x)) here in
+              omega (arith, v_index, tail_index),
         )
     | inr other ↦ elim (now.quiet f k) [
       | inl none ↦ inl (sent.off f other ∙ none)
@@ -122,14 +122,14 @@ running_next nodes links supply order run i e flow flow' out out' ends l first a
     head_below : head_in links e < length nodes
     head_below = (ends_in nodes links ends e e_in).1
 
-    v_place : run.place v ≡ i
-    v_place = run.placed i l
+    v_index : run.position v ≡ i
+    v_index = run.placed i l
 
-    tail_place : run.place (tail_in links e) ≡ run.place v
-    tail_place = ap run.place at
+    tail_index : run.position (tail_in links e) ≡ run.position v
+    tail_index = ap run.position at
 
-    forward : i < run.place (head_in links e)
-    forward = let up = run.forward.runs e e_in in omega (arith, v_place, tail_place)
+    forward : i < run.position (head_in links e)
+    forward = let up = run.forward.runs e e_in in omega (arith, v_index, tail_index)
 
     inside : (k n x : ℕ) → k < n → (if nat_lt k n then x else 0) ≡ x
     inside k n x l = grind (arith, nat_tests)
@@ -138,7 +138,7 @@ running_next nodes links supply order run i e flow flow' out out' ends l first a
     dry = elim (now.quiet e e_in) [
       | inl none ↦ none
       | inr some ↦
-          (let s = some.1 in absurd (omega (arith, v_place, tail_place)))
+          (let s = some.1 in absurd (omega (arith, v_index, tail_index)))
     ]
 
     one : (t : Bool) (x y p q : ℕ) → x ≡ 0 → p + (if t then x else 0) ≡ q + (if t then y else 0) →
@@ -172,25 +172,25 @@ running_next nodes links supply order run i e flow flow' out out' ends l first a
         (λ f k ne. ap (λ x. if tail_in links f == u then x else 0) (sent.off f ne)))))
 
     apart : v ≢ head_in links e
-    apart h = let p = ap run.place h in absurd (omega (arith, forward, v_place))
+    apart h = let p = ap run.position h in absurd (omega (arith, forward, v_index))
 
     -- the water that left v stands at the head
     moved : (u : ℕ) → out' u + (if v == u then out v else 0) ≡ out u + (if head_in links e == u then out v else 0)
     moved u =
-        by_place v (head_in links e) u (out v) (out u) (out' u) (out' v) (out' (head_in links e))
+        by_index v (head_in links e) u (out v) (out u) (out' u) (out' v) (out' (head_in links e))
         (out (head_in links e)) apart sent.left sent.reached (sent.others u)
         (λ h. ap out' h) (λ h. ap out' h) (λ h. ap out h) (λ h. ap out h)
       where
-        by_place : (v h u x o o' ov oh ph : ℕ) → v ≢ h → ov ≡ 0 → oh ≡ ph + x → (u ≢ v → u ≢ h → o' ≡ o) →
+        by_index : (v h u x o o' ov oh ph : ℕ) → v ≢ h → ov ≡ 0 → oh ≡ ph + x → (u ≢ v → u ≢ h → o' ≡ o) →
             (u ≡ v → o' ≡ ov) → (u ≡ h → o' ≡ oh) → (u ≡ v → o ≡ x) → (u ≡ h → o ≡ ph) →
             o' + (if v == u then x else 0) ≡ o + (if h == u then x else 0)
-        by_place v h u x o o' ov oh ph ne left reached others a c d f = grind (arith, nat_tests)
+        by_index v h u x o o' ov oh ph ne left reached others a c d f = grind (arith, nat_tests)
 
 -- where all nodes sent their water on, what runs down a first river is what came to its node
 pub run_sends : (nodes : List Node) (links : List Link) (supply : ℕ →
     ℕ) (order : List ℕ) (run : IsRunningOrder nodes links order) (flow out : ℕ → ℕ) →
     All (λ l. HasNodes nodes l) links → IsSoundNetwork nodes links →
-    IsRunning nodes links supply run.place (length nodes) flow out → (e : ℕ) → IsFirstRiver links e →
+    IsRunning nodes links supply run.position (length nodes) flow out → (e : ℕ) → IsFirstRiver links e →
     flow e ≡ supply (tail_in links e) + total_where (length links) (λ f. head_in links f == tail_in links e) flow
 run_sends nodes links supply order run flow out ends sound now e first =
     omega (
@@ -232,7 +232,7 @@ pub runs_naturally : (nodes : List Node) (links : List Link) (supply order : Lis
     (run : IsRunningOrder nodes links order) (flow out : List ℕ) →
     All (λ l. HasNodes nodes l) links → IsSoundNetwork nodes links → length flow ≡ length links →
     length out ≡ length nodes →
-    IsRunning nodes links (λ v. slice_index supply v) run.place (length nodes) (λ e. slice_index flow e)
+    IsRunning nodes links (λ v. slice_index supply v) run.position (length nodes) (λ e. slice_index flow e)
     (λ v. slice_index out v) →
     RunsNaturally nodes links supply flow out
 runs_naturally nodes links supply order run flow out ends sound flow_len out_len now = record {
@@ -262,7 +262,7 @@ pub send_fits : (nodes : List Node) (links : List Link) (net : NetView) (is : Is
     ℕ) (i : ℕ) (heads flow out : List ℕ) (f : ℕ → ℕ) →
     total (length nodes) supply < 10 ^ 15 → i < length nodes → heads ≡ net.heads → length flow ≡ length links →
     length out ≡ length nodes →
-    IsRunning nodes links supply is.run.place i f (λ v. slice_index out v) →
+    IsRunning nodes links supply is.run.position i f (λ v. slice_index out v) →
     CanSend (slice_index_or net.rivers (slice_index net.order i) None) (slice_index net.order i) heads flow out
 send_fits nodes links net is supply i heads flow out f bounded l same lf lo now =
     of_river (slice_index_or net.rivers v None) (is.river v v_in)
@@ -288,7 +288,7 @@ send_fits nodes links net is supply i heads flow out f bounded l same lf lo now 
             (
               omega arith,
               (
-                (λ back. let p = ap is.run.place (sym head ∙ back) in let q = ap is.run.place h.2 in
+                (λ back. let p = ap is.run.position (sym head ∙ back) in let q = ap is.run.position h.2 in
                     absurd (omega arith)),
                 (let x = ap (λ u. slice_index out u) head in
                     omega (
@@ -313,8 +313,8 @@ pub send_done : (nodes : List Node) (links : List Link) (net : NetView) (is : Is
     IfSome (slice_index_or net.rivers (slice_index net.order i) None)
     (λ e. IsSent e (slice_index net.order i) (slice_index heads e) (λ x. slice_index flow x)
     (λ x. slice_index flow' x) (λ x. slice_index out x) (λ x. slice_index out' x)) →
-    IsRunning nodes links supply is.run.place i (λ e. slice_index flow e) (λ v. slice_index out v) →
-    IsRunning nodes links supply is.run.place (i + 1) (λ e. slice_index flow' e) (λ v. slice_index out' v)
+    IsRunning nodes links supply is.run.position i (λ e. slice_index flow e) (λ v. slice_index out v) →
+    IsRunning nodes links supply is.run.position (i + 1) (λ e. slice_index flow' e) (λ v. slice_index out' v)
 send_done nodes links net is supply i heads flow flow' out out' l same none some now =
     of_river (slice_index_or net.rivers v None) (is.river v (is.run.below i l)) none some
   where
@@ -324,11 +324,11 @@ send_done nodes links net is supply i heads flow flow' out out' l same none some
     of_river : (o : Option ℕ) → IsRiverOf nodes links v o → IfNone o ((flow' ≡ flow) × (out' ≡ out)) →
         IfSome o (λ e. IsSent e v (slice_index heads e) (λ x. slice_index flow x) (λ x. slice_index flow' x)
         (λ x. slice_index out x) (λ x. slice_index out' x)) →
-        IsRunning nodes links supply is.run.place (i + 1) (λ e. slice_index flow' e) (λ v. slice_index out' v)
+        IsRunning nodes links supply is.run.position (i + 1) (λ e. slice_index flow' e) (λ v. slice_index out' v)
     of_river None h none some =
-        subst (λ (xs : List ℕ). IsRunning nodes links supply is.run.place (i + 1) (λ e. slice_index xs e)
+        subst (λ (xs : List ℕ). IsRunning nodes links supply is.run.position (i + 1) (λ e. slice_index xs e)
         (λ v. slice_index out' v)) (sym none.0)
-        (subst (λ (xs : List ℕ). IsRunning nodes links supply is.run.place (i + 1) (λ e. slice_index flow e)
+        (subst (λ (xs : List ℕ). IsRunning nodes links supply is.run.position (i + 1) (λ e. slice_index flow e)
         (λ v. slice_index xs v)) (sym none.1)
         (running_outlet nodes links supply net.order is.run i (λ e. slice_index flow e) (λ u. slice_index out u) l h
         now))

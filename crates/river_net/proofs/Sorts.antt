@@ -13,28 +13,29 @@ use Rattle.river_net.specs.Firsts.{IsWithin}
 use Rattle.river_net.specs.GraphView.{GraphView}
 use Rattle.river_net.specs.Sorting.{AreEntering, IsPlacing, IsSorting, HasSources}
 use Rattle.finite_sums.proofs.Counts.{none_passes}
-use Rattle.river_net.proofs.Places.{with_place, at_place, off_place, placing_start, placing_next, room}
+use Rattle.river_net.proofs.Indices.{with_index, at_index, off_index, placing_start, placing_next, room}
 
 -- the count of the links to a node that are not handled
 abbrev pub waiting_at : GraphView → (ℕ → Bool) → ℕ → ℕ
 waiting_at g handled v = count_where (length g.links) (λ e. head_in g.links e == v && not (handled e))
 
 -- a node that waits for none gets its place
-sorting_place : (g : GraphView) (order waits : List ℕ) (place : ℕ → ℕ) (handled : ℕ → Bool) (bound v : ℕ) →
-    IsWithin g.nodes g.links → IsPlacing g order place → length waits ≡ g.nodes →
+sorting_index : (g : GraphView) (order waits : List ℕ) (position : ℕ → ℕ) (handled : ℕ → Bool) (bound v : ℕ) →
+    IsWithin g.nodes g.links → IsPlacing g order position → length waits ≡ g.nodes →
     ((u : ℕ) → u < g.nodes → slice_index waits u ≡ waiting_at g handled u) →
-    ((u : ℕ) → u < g.nodes → u < bound → u ≢ v → slice_index waits u ≡ 0 → place u < length order) →
-    ((u : ℕ) → u < g.nodes → place u < length order → (u < bound) × (slice_index waits u ≡ 0)) →
-    ((e : ℕ) → e < length g.links → handled e ≡ true → place (tail_in g.links e) < length order) →
-    v < g.nodes → v < bound → place v ≡ g.nodes → slice_index waits v ≡ 0 →
-    IsSorting g (order ++ v ∷ []) waits (with_place place v (length order)) handled bound
-sorting_place g order waits place handled bound v within placing count waiting free idle tails inside below unplaced
+    ((u : ℕ) → u < g.nodes → u < bound → u ≢ v → slice_index waits u ≡ 0 → position u < length order) →
+    ((u : ℕ) → u < g.nodes → position u < length order → (u < bound) × (slice_index waits u ≡ 0)) →
+    ((e : ℕ) → e < length g.links → handled e ≡ true → position (tail_in g.links e) < length order) →
+    v < g.nodes → v < bound → position v ≡ g.nodes → slice_index waits v ≡ 0 →
+    IsSorting g (order ++ v ∷ []) waits (with_index position v (length order)) handled bound
+sorting_index g order waits position handled bound v within placing count waiting free idle tails inside below unplaced
     none = record {
-      placing = placing_next g order place v within placing inside unplaced (λ e l at. tails e l (all_handled e l at));
+      placing = placing_next g order position v within placing inside unplaced
+          (λ e l at. tails e l (all_handled e l at));
       count = count;
       waiting = waiting;
       free = λ u l b zero. elim (cases_eq u v) [
-        | inl same ↦ (let at = ap place' same in omega (arith, more, here))
+        | inl same ↦ (let at = ap position' same in omega (arith, more, here))
         | inr other ↦ (let f = free u l b other zero in let q = there u other in omega (arith, more))
       ];
       idle = λ u l placed. elim (cases_eq u v) [
@@ -42,26 +43,27 @@ sorting_place g order waits place handled bound v within placing count waiting f
         | inr other ↦ idle u l (old u l (there u other) placed)
       ];
       tails = λ e l h. let t = tails e l h in
-          let q = there (tail_in g.links e) (λ same. let p = ap place same in absurd (omega (arith, full))) in
+          let q = there (tail_in g.links e) (λ same. let p = ap position same in absurd (omega (arith, full))) in
           omega (arith, more);
     }
   where
-    place' : ℕ → ℕ
-    place' = with_place place v (length order)
+    position' : ℕ → ℕ
+    position' = with_index position v (length order)
 
     full : length order < g.nodes
-    full = room g order place v placing inside unplaced
+    full = room g order position v placing inside unplaced
 
     more : length (order ++ v ∷ []) ≡ length order + 1
     more = grind (arith, common_steps)
 
-    here : place' v ≡ length order
-    here = at_place place v (length order)
+    here : position' v ≡ length order
+    here = at_index position v (length order)
 
-    there : (u : ℕ) → u ≢ v → place' u ≡ place u
-    there u ne = off_place place v (length order) u ne
+    there : (u : ℕ) → u ≢ v → position' u ≡ position u
+    there u ne = off_index position v (length order) u ne
 
-    old : (u : ℕ) → u < g.nodes → place' u ≡ place u → place' u < length (order ++ v ∷ []) → place u < length order
+    old : (u : ℕ) → u < g.nodes → position' u ≡ position u → position' u < length (order ++ v ∷ []) →
+        position u < length order
     old u l q placed = elim (placing.each u l) [
       | inl other ↦ absurd (omega (arith, more, full))
       | inr p ↦ p.0
@@ -79,7 +81,7 @@ sorting_place g order waits place handled bound v within placing count waiting f
 pub sources_start : (g : GraphView) (order waits : List ℕ) → order ≡ [] → AreEntering g (length g.links) waits →
     HasSources g order waits 0
 sources_start g order waits none entering = subst (λ xs. HasSources g xs waits 0) (sym none) record {
-  place = λ v. g.nodes;
+  position = λ v. g.nodes;
   sorting = record {
     placing = placing_start g;
     count = entering.count;
@@ -102,9 +104,9 @@ pub source_next : (g : GraphView) (order order' waits : List ℕ) (v : ℕ) → 
     order' ≡ order ++ v ∷ [] → HasSources g order waits v → HasSources g order' waits (v + 1)
 source_next g order order' waits v within inside none more now =
     subst (λ xs. HasSources g xs waits (v + 1)) (sym more) record {
-      place = with_place now.place v (length order);
+      position = with_index now.position v (length order);
       sorting =
-          sorting_place g order waits now.place (λ e. false) (v + 1) v within now.sorting.placing now.sorting.count
+          sorting_index g order waits now.position (λ e. false) (v + 1) v within now.sorting.placing now.sorting.count
           now.sorting.waiting
           (λ u l b other zero. now.sorting.free u l (omega arith) zero)
           (λ u l placed. let i = now.sorting.idle u l placed in let b = i.0 in (omega arith, i.1))
@@ -119,7 +121,7 @@ source_next g order order' waits v within inside none more now =
 pub source_skip : (g : GraphView) (order waits : List ℕ) (v : ℕ) → slice_index waits v ≢ 0 →
     HasSources g order waits v → HasSources g order waits (v + 1)
 source_skip g order waits v some now = record {
-  place = now.place;
+  position = now.position;
   sorting = record {
     placing = now.sorting.placing;
     count = now.sorting.count;
@@ -159,11 +161,11 @@ less_waiting g handled e v below unhandled_yet =
     one t h x unhandled_yet = grind (arith, nat_tests)
 
 -- the head of a link that is not handled waits
-pub waits_for : (g : GraphView) (order waits : List ℕ) (place : ℕ → ℕ) (handled : ℕ → Bool) (e : ℕ) →
+pub waits_for : (g : GraphView) (order waits : List ℕ) (position : ℕ → ℕ) (handled : ℕ → Bool) (e : ℕ) →
     IsWithin g.nodes g.links →
-    IsSorting g order waits place handled g.nodes → e < length g.links → handled e ≡ false →
+    IsSorting g order waits position handled g.nodes → e < length g.links → handled e ≡ false →
     0 < slice_index waits (head_in g.links e)
-waits_for g order waits place handled e within now below unhandled_yet =
+waits_for g order waits position handled e within now below unhandled_yet =
     let inside = (within.ends e below).1 in
     let less = less_waiting g handled e (head_in g.links e) below unhandled_yet in
     let one = own (head_in g.links e) 1 in
@@ -173,31 +175,33 @@ waits_for g order waits place handled e within now below unhandled_yet =
     own u x = grind (arith, nat_tests)
 
 -- what handling a link leaves: old places stay, and at most its head gets a new one
-pub record IsSettled (g : GraphView) (order waits : List ℕ) (place : ℕ → ℕ) (handled : ℕ →
+pub record IsSettled (g : GraphView) (order waits : List ℕ) (position : ℕ → ℕ) (handled : ℕ →
     Bool) (e : ℕ) (order' waits' : List ℕ) : Type 0 where
-  pub place' : ℕ → ℕ
-  pub sorting : IsSorting g order' waits' place' (and_link handled e) g.nodes
-  pub keeps : (u : ℕ) → place u < length order → place' u ≡ place u
-  pub grows : (u : ℕ) → u < g.nodes → (place' u ≡ place u) ⊎ ((place u ≡ g.nodes) × (place' u ≡ length order))
+  pub position' : ℕ → ℕ
+  pub sorting : IsSorting g order' waits' position' (and_link handled e) g.nodes
+  pub keeps : (u : ℕ) → position u < length order → position' u ≡ position u
+  pub grows : (u : ℕ) → u < g.nodes → (position' u ≡ position u) ⊎
+      ((position u ≡ g.nodes) × (position' u ≡ length order))
   pub same : (k : ℕ) → k < length order → slice_index order' k ≡ slice_index order k
   pub more : length order ≤ length order'
 
 -- handling a link
-pub settled : (g : GraphView) (order waits : List ℕ) (place : ℕ → ℕ) (handled : ℕ →
+pub settled : (g : GraphView) (order waits : List ℕ) (position : ℕ → ℕ) (handled : ℕ →
     Bool) (e : ℕ) (order' waits' : List ℕ) →
-    IsWithin g.nodes g.links → IsSorting g order waits place handled g.nodes → e < length g.links → handled e ≡ false →
-    place (tail_in g.links e) < length order →
+    IsWithin g.nodes g.links → IsSorting g order waits position handled g.nodes → e < length g.links →
+    handled e ≡ false →
+    position (tail_in g.links e) < length order →
     waits' ≡ slice_set waits (head_in g.links e) (slice_index waits (head_in g.links e) - 1) →
     order' ≡ (if slice_index waits (head_in g.links e) == 1 then order ++ head_in g.links e ∷ [] else order) →
-    IsSettled g order waits place handled e order' waits'
-settled g order waits place handled e order' waits' within now below unhandled_yet after waits_are order_is =
+    IsSettled g order waits position handled e order' waits'
+settled g order waits position handled e order' waits' within now below unhandled_yet after waits_are order_is =
     elim (cases_eq (slice_index waits h) 1) [
       | inl last ↦
-          subst (λ xs. IsSettled g order waits place handled e xs waits')
+          subst (λ xs. IsSettled g order waits position handled e xs waits')
           (sym (order_is ∙ ap (λ t. if t then order ++ h ∷ [] else order) (eq-eqb (slice_index waits h) 1 last)))
           (placed last)
       | inr further ↦
-          subst (λ xs. IsSettled g order waits place handled e xs waits')
+          subst (λ xs. IsSettled g order waits position handled e xs waits')
           (sym (order_is ∙ ap (λ t. if t then order ++ h ∷ [] else order) (ne_eqb (slice_index waits h) 1 further)))
           (kept further)
     ]
@@ -209,7 +213,7 @@ settled g order waits place handled e order' waits' within now below unhandled_y
     inside = (within.ends e below).1
 
     some : 0 < slice_index waits h
-    some = waits_for g order waits place handled e within now below unhandled_yet
+    some = waits_for g order waits position handled e within now below unhandled_yet
 
     at : slice_index waits' h ≡ slice_index waits h - 1
     at = ap (λ (xs : List ℕ). slice_index xs h) waits_are ∙ get_or-set_same waits h (slice_index waits h - 1) 0 (let c =
@@ -241,28 +245,28 @@ settled g order waits place handled e order' waits' within now below unhandled_y
           let w = now.waiting u l in omega arith)
     ]
 
-    unplaced : place h ≡ g.nodes
+    unplaced : position h ≡ g.nodes
     unplaced = elim (now.placing.each h inside) [
       | inl none ↦ none
       | inr p ↦ (let i = (now.idle h inside p.0).1 in absurd (omega (arith, some)))
     ]
 
-    tails : (f : ℕ) → f < length g.links → and_link handled e f ≡ true → place (tail_in g.links f) < length order
+    tails : (f : ℕ) → f < length g.links → and_link handled e f ≡ true → position (tail_in g.links f) < length order
     tails f l t = elim (or_cases (handled f) (f == e) t) [
       | inl before ↦ now.tails f l before
-      | inr here ↦ (let p = ap (λ x. place (tail_in g.links x)) (eqb-true f e here) in omega (arith, after))
+      | inr here ↦ (let p = ap (λ x. position (tail_in g.links x)) (eqb-true f e here) in omega (arith, after))
     ]
 
-    idle : (u : ℕ) → u < g.nodes → place u < length order → (u < g.nodes) × (slice_index waits' u ≡ 0)
+    idle : (u : ℕ) → u < g.nodes → position u < length order → (u < g.nodes) × (slice_index waits' u ≡ 0)
     idle u l p = (
       l,
       off u (λ same. let i = (now.idle u l p).1 in let q = ap (slice_index waits) same in
           absurd (omega (arith, some))) ∙ (now.idle u l p).1,
     )
 
-    kept : (slice_index waits h ≡ 1 → ⊥) → IsSettled g order waits place handled e order waits'
+    kept : (slice_index waits h ≡ 1 → ⊥) → IsSettled g order waits position handled e order waits'
     kept further = record {
-      place' = place;
+      position' = position;
       sorting = record {
         placing = now.placing;
         count = count;
@@ -280,22 +284,22 @@ settled g order waits place handled e order' waits' within now below unhandled_y
       more = omega arith;
     }
 
-    placed : slice_index waits h ≡ 1 → IsSettled g order waits place handled e (order ++ h ∷ []) waits'
+    placed : slice_index waits h ≡ 1 → IsSettled g order waits position handled e (order ++ h ∷ []) waits'
     placed last = record {
-      place' = with_place place h (length order);
-      sorting = sorting_place g order waits' place (and_link handled e) g.nodes h within now.placing count waiting
+      position' = with_index position h (length order);
+      sorting = sorting_index g order waits' position (and_link handled e) g.nodes h within now.placing count waiting
           (λ u l b other zero. now.free u l b (sym (off u other) ∙ zero)) idle tails inside inside unplaced
           (omega (arith, at));
-      keeps = λ u l. off_place place h (length order) u (λ same. let p = ap place same in let r =
-          room g order place h now.placing inside unplaced in absurd (omega (arith, unplaced)));
+      keeps = λ u l. off_index position h (length order) u (λ same. let p = ap position same in let r =
+          room g order position h now.placing inside unplaced in absurd (omega (arith, unplaced)));
       grows = λ u l. elim (cases_eq u h) [
         | inl same ↦
             inr (
-              ap place same ∙ unplaced,
-              ap (with_place place h (length order)) same
-                  ∙ at_place place h (length order),
+              ap position same ∙ unplaced,
+              ap (with_index position h (length order)) same
+                  ∙ at_index position h (length order),
             )
-        | inr other ↦ inl (off_place place h (length order) u other)
+        | inr other ↦ inl (off_index position h (length order) u other)
       ];
       same = λ k l. grind (arith, common_steps);
       more = (let m : length (order ++ h ∷ []) ≡ length order + 1 = grind (arith, common_steps) in omega arith);

@@ -10,20 +10,20 @@ use Rattle.water_model.specs.Network.{walks, tail_in, head_in}
 use Rattle.water_model.specs.declared.types.Link.{Link}
 
 -- an entry that passes
-pub any_place : {X : Type 0} (p : X → Bool) (xs : List X) → list_any p xs ≡ true → (k : ℕ) × (x : X) ×
+pub any_index : {X : Type 0} (p : X → Bool) (xs : List X) → list_any p xs ≡ true → (k : ℕ) × (x : X) ×
     (slice_get xs k ≡ Some x) × (p x ≡ true)
-any_place p [] h = absurd (false≢true h)
-any_place p (x ∷ xs) h = elim (or_cases (p x) (list_any p xs) h) [
+any_index p [] h = absurd (false≢true h)
+any_index p (x ∷ xs) h = elim (or_cases (p x) (list_any p xs) h) [
   | inl here ↦ (0, x, refl, here)
-  | inr later ↦ (let q = any_place p xs later in (suc q.0, q.1, q.2, q.3))
+  | inr later ↦ (let q = any_index p xs later in (suc q.0, q.1, q.2, q.3))
 ]
 
 -- and back
-pub place_any : {X : Type 0} (p : X → Bool) (xs : List X) (k : ℕ) (x : X) → slice_get xs k ≡ Some x → p x ≡ true →
+pub index_any : {X : Type 0} (p : X → Bool) (xs : List X) (k : ℕ) (x : X) → slice_get xs k ≡ Some x → p x ≡ true →
     list_any p xs ≡ true
-place_any p [] k x at h = cc
-place_any p (y ∷ xs) zero x at h = or_left (p y) (list_any p xs) (let same : y ≡ x = cc in ap p same ∙ h)
-place_any p (y ∷ xs) (suc k) x at h = or_right (p y) (list_any p xs) (place_any p xs k x at h)
+index_any p [] k x at h = cc
+index_any p (y ∷ xs) zero x at h = or_left (p y) (list_any p xs) (let same : y ≡ x = cc in ap p same ∙ h)
+index_any p (y ∷ xs) (suc k) x at h = or_right (p y) (list_any p xs) (index_any p xs k x at h)
 
 -- the link at a place
 pub link_at : (links : List Link) (e : ℕ) → e < length links → (l : Link) × (slice_get links e ≡ Some l) ×
@@ -43,7 +43,7 @@ pub record BeginsWalk (links : List Link) (k from to : ℕ) : Type 0 where
 pub walk_begins : (links : List Link) (k from to : ℕ) → walks links (suc k) from to ≡ true → BeginsWalk links k from to
 unfolding walks
 walk_begins links k from to h =
-    let at = any_place (λ l. l.from == from && (l.to == to || walks links k l.to to)) links h in
+    let at = any_index (λ l. l.from == from && (l.to == to || walks links k l.to to)) links h in
     let parts = and_parts (at.1.from == from) (at.1.to == to || walks links k at.1.to to) at.3 in
     let tail : tail_in links at.0 ≡ at.1.from = ap (λ o. unwrap_or (option_map (λ (l : Link). l.from) o) 0) at.2 in
     let head : head_in links at.0 ≡ at.1.to = ap (λ o. unwrap_or (option_map (λ (l : Link). l.to) o) 0) at.2 in record {
@@ -61,7 +61,7 @@ pub walk_by : (links : List Link) (k from to : ℕ) → BeginsWalk links k from 
 unfolding walks
 walk_by links k from to begin =
     let at = link_at links begin.link begin.in_range in
-    place_any (λ l. l.from == from && (l.to == to || walks links k l.to to)) links begin.link at.0 at.1
+    index_any (λ l. l.from == from && (l.to == to || walks links k l.to to)) links begin.link at.0 at.1
     (and_from (at.0.from == from) (at.0.to == to || walks links k at.0.to to)
     (eq-eqb at.0.from from (sym at.2 ∙ begin.tail)) (elim begin.rest [
       | inl there ↦ or_left (at.0.to == to) (walks links k at.0.to to) (eq-eqb at.0.to to (sym at.3 ∙ there))

@@ -7,8 +7,9 @@ use Rattle.water_model.specs.declared.types.Link.{Link}
 -- the first of the places from, from + 1, .., below a bound, that passes a test, or none
 abbrev pub IsFirstFrom : (ℕ → Bool) → ℕ → ℕ → Option ℕ → Type 0
 IsFirstFrom test from bound None = (k : ℕ) → from ≤ k → k < bound → test k ≡ false
-IsFirstFrom test from bound (Some place) =
-    (from ≤ place) × (place < bound) × (test place ≡ true) × ((k : ℕ) → from ≤ k → k < place → test k ≡ false)
+IsFirstFrom test from bound (Some position) =
+    (from ≤ position) × (position < bound) × (test position ≡ true) ×
+    ((k : ℕ) → from ≤ k → k < position → test k ≡ false)
 
 -- whether a link leaves a node, and whether it does so as a river
 abbrev pub leaves : List Link → ℕ → ℕ → Bool

@@ -11,12 +11,12 @@ use Rattle.river_net.specs.NetView.{NetView}
 -- the order has every node once, each at its place, and each link leads from a node to one with a greater place
 pub record IsRunningOrder (nodes : List Node) (links : List Link) (order : List ℕ) : Type 0 where
   pub count : length order ≡ length nodes
-  pub place : ℕ → ℕ
+  pub position : ℕ → ℕ
   pub below : (i : ℕ) → i < length nodes → slice_index order i < length nodes
-  pub placed : (i : ℕ) → i < length nodes → place (slice_index order i) ≡ i
-  pub in_range : (v : ℕ) → v < length nodes → place v < length nodes
-  pub each : (v : ℕ) → v < length nodes → slice_index order (place v) ≡ v
-  pub forward : IsForward links place
+  pub placed : (i : ℕ) → i < length nodes → position (slice_index order i) ≡ i
+  pub in_range : (v : ℕ) → v < length nodes → position v < length nodes
+  pub each : (v : ℕ) → v < length nodes → slice_index order (position v) ≡ v
+  pub forward : IsForward links position
 
 -- the first river that leaves a node, or none at an outlet
 abbrev pub IsRiverOf : List Node → List Link → ℕ → Option ℕ → Type 0

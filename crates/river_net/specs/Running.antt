@@ -22,13 +22,13 @@ pub record IsSent (link node head : ℕ) (flow flow' out out' : ℕ → ℕ) : T
   pub others : (v : ℕ) → v ≢ node → v ≢ head → out' v ≡ out v
 
 -- the nodes with the first places have sent their water on
-pub record IsRunning (nodes : List Node) (links : List Link) (supply place : ℕ → ℕ) (done : ℕ) (flow out : ℕ →
+pub record IsRunning (nodes : List Node) (links : List Link) (supply position : ℕ → ℕ) (done : ℕ) (flow out : ℕ →
     ℕ) : Type 0 where
   pub balance : (v : ℕ) → v < length nodes →
       supply v + total_where (length links) (λ e. head_in links e == v) flow
       ≡ total_where (length links) (λ e. tail_in links e == v) flow + out v
   pub all : total (length nodes) out ≡ total (length nodes) supply
-  pub empty : (v : ℕ) → v < length nodes → place v < done → is_outlet_in nodes v ≡ false → out v ≡ 0
+  pub empty : (v : ℕ) → v < length nodes → position v < done → is_outlet_in nodes v ≡ false → out v ≡ 0
   pub quiet : (e : ℕ) → e < length links →
-      (flow e ≡ 0) ⊎ (IsFirstRiver links e × (place (tail_in links e) < done))
+      (flow e ≡ 0) ⊎ (IsFirstRiver links e × (position (tail_in links e) < done))
   pub small : (e : ℕ) → e < length links → flow e ≤ total (length nodes) supply

@@ -12,38 +12,38 @@ pub record AreEntering (g : GraphView) (bound : ℕ) (counts : List ℕ) : Type 
 
 -- the nodes of the order have their places in it, after all nodes from which links lead to them; any other node has the
 -- place `nodes`
-pub record IsPlacing (g : GraphView) (order : List ℕ) (place : ℕ → ℕ) : Type 0 where
+pub record IsPlacing (g : GraphView) (order : List ℕ) (position : ℕ → ℕ) : Type 0 where
   pub each : (v : ℕ) → v < g.nodes →
-      (place v ≡ g.nodes) ⊎ ((place v < length order) × (slice_index order (place v) ≡ v))
-  pub placed : (k : ℕ) → k < length order → (slice_index order k < g.nodes) × (place (slice_index order k) ≡ k)
-  pub forward : (e : ℕ) → e < length g.links → place (head_in g.links e) < length order →
-      place (tail_in g.links e) < place (head_in g.links e)
-  pub number : count_where g.nodes (λ v. nat_lt (place v) g.nodes) ≡ length order
+      (position v ≡ g.nodes) ⊎ ((position v < length order) × (slice_index order (position v) ≡ v))
+  pub placed : (k : ℕ) → k < length order → (slice_index order k < g.nodes) × (position (slice_index order k) ≡ k)
+  pub forward : (e : ℕ) → e < length g.links → position (head_in g.links e) < length order →
+      position (tail_in g.links e) < position (head_in g.links e)
+  pub number : count_where g.nodes (λ v. nat_lt (position v) g.nodes) ≡ length order
 
 -- each node waits for the links that lead to it and are not handled; of the nodes below a bound those that wait for
 -- none have places
-pub record IsSorting (g : GraphView) (order waits : List ℕ) (place : ℕ → ℕ) (handled : ℕ → Bool) (bound : ℕ) : Type 0
+pub record IsSorting (g : GraphView) (order waits : List ℕ) (position : ℕ → ℕ) (handled : ℕ → Bool) (bound : ℕ) : Type 0
   where
-    pub placing : IsPlacing g order place
+    pub placing : IsPlacing g order position
     pub count : length waits ≡ g.nodes
     pub waiting : (v : ℕ) → v < g.nodes →
         slice_index waits v ≡ count_where (length g.links) (λ e. head_in g.links e == v && not (handled e))
-    pub free : (v : ℕ) → v < g.nodes → v < bound → slice_index waits v ≡ 0 → place v < length order
-    pub idle : (v : ℕ) → v < g.nodes → place v < length order → (v < bound) × (slice_index waits v ≡ 0)
-    pub tails : (e : ℕ) → e < length g.links → handled e ≡ true → place (tail_in g.links e) < length order
+    pub free : (v : ℕ) → v < g.nodes → v < bound → slice_index waits v ≡ 0 → position v < length order
+    pub idle : (v : ℕ) → v < g.nodes → position v < length order → (v < bound) × (slice_index waits v ≡ 0)
+    pub tails : (e : ℕ) → e < length g.links → handled e ≡ true → position (tail_in g.links e) < length order
 
 -- no link is handled, and the nodes below a bound that no link leads to have places
 pub record HasSources (g : GraphView) (order waits : List ℕ) (bound : ℕ) : Type 0 where
-  pub place : ℕ → ℕ
-  pub sorting : IsSorting g order waits place (λ e. false) bound
+  pub position : ℕ → ℕ
+  pub sorting : IsSorting g order waits position (λ e. false) bound
 
 -- the links are handled that leave the first nodes of the order
 pub record IsReleased (g : GraphView) (order waits : List ℕ) (done : ℕ) : Type 0 where
-  pub place : ℕ → ℕ
+  pub position : ℕ → ℕ
   pub handled : ℕ → Bool
-  pub sorting : IsSorting g order waits place handled g.nodes
+  pub sorting : IsSorting g order waits position handled g.nodes
   pub within : done ≤ length order
-  pub which : (e : ℕ) → e < length g.links → handled e ≡ nat_lt (place (tail_in g.links e)) done
+  pub which : (e : ℕ) → e < length g.links → handled e ≡ nat_lt (position (tail_in g.links e)) done
 
 abbrev pub is_before : Option ℕ → ℕ → Bool
 is_before None link = true
@@ -51,11 +51,12 @@ is_before (Some next) link = nat_lt link next
 
 -- so are those before the next that leave the node after them
 pub record IsReleasing (g : GraphView) (order waits : List ℕ) (done node : ℕ) (next : Option ℕ) : Type 0 where
-  pub place : ℕ → ℕ
+  pub position : ℕ → ℕ
   pub handled : ℕ → Bool
-  pub sorting : IsSorting g order waits place handled g.nodes
+  pub sorting : IsSorting g order waits position handled g.nodes
   pub within : done < length order
   pub at : slice_index order done ≡ node
   pub leaves : IfSome next (λ e. (e < length g.links) × (tail_in g.links e ≡ node))
   pub which : (e : ℕ) → e < length g.links →
-      handled e ≡ (nat_lt (place (tail_in g.links e)) done || (place (tail_in g.links e) == done && is_before next e))
+      handled e ≡ (nat_lt (position (tail_in g.links e)) done ||
+      (position (tail_in g.links e) == done && is_before next e))

@@ -55,10 +55,10 @@ impl<'a> Graph<'a> {
     {
         let mut first = vec![in alloc; None; nodes.len()]?;
         let mut next = vec![in alloc; None; links.len()]?;
-        for place in (0..links.len()).rev() {
-            let from = links[place].from as usize;
-            next[place] = first[from];
-            first[from] = Some(place as u32);
+        for position in (0..links.len()).rev() {
+            let from = links[position].from as usize;
+            next[position] = first[from];
+            first[from] = Some(position as u32);
         }
         Ok(Graph { links, first, next })
     }

@@ -25,10 +25,10 @@ pub fn first_rivers(
         AreFirsts test (length nodes.now) 0 (length links.now) rivers.items) }
 {
     let mut rivers = vec![in alloc; None; nodes.len()]?;
-    for place in (0..links.len()).rev() {
-        let link = &links[place];
+    for position in (0..links.len()).rev() {
+        let link = &links[position];
         if is_river(link) {
-            rivers[link.from as usize] = Some(place as u32);
+            rivers[link.from as usize] = Some(position as u32);
         }
     }
     Ok(rivers)

@@ -66,7 +66,7 @@ pub data IsKind (b : Basin) (r : ℕ) : Type 0 where
   at_node : (v : ℕ) → v < length b.nodes → instream_link b r ≡ None → taking_node b r ≡ Some v → IsKind b r
 
 pub right_kind : (b : Basin) → IsValidBasin b → (r : ℕ) → r < length b.rights → IsKind b r
-right_kind b valid r l = of_kind k.kind k.link k.node k.place
+right_kind b valid r l = of_kind k.kind k.link k.node k.site
   where
     k : KindIs b r
     k = kind_is b valid r l

@@ -64,8 +64,8 @@ pub same_senior : (b c : Basin) (s t u v : ℕ) → IsSame b c s u → IsSame b 
 same_senior b c s t u v one two = ap₂ is_lower (same_priority b c s u one) (same_priority b c t v two)
 
 -- in a basin with strict priorities a right of another stands at one place
-same_place : (b c : Basin) (s t u v : ℕ) → AreStrict b.rights → IsSame b c s u → IsSame b c t v → u ≡ v → s ≡ t
-same_place b c s t u v strict one two e = elim (cases_order s t) [
+same_index : (b c : Basin) (s t u v : ℕ) → AreStrict b.rights → IsSame b c s u → IsSame b c t v → u ≡ v → s ≡ t
+same_index b c s t u v strict one two e = elim (cases_order s t) [
   | inl same ↦ same
   | inr o ↦ elim o [
     | inl below ↦ absurd (strict s t below two.here equal)
@@ -173,7 +173,7 @@ kept_there b c r t delivered given cut strict same served =
     one : (i k : ℕ) (a : i < length b.rights) (d : k < length b.rights)
         (h : takes_within b cut i && is_senior b i r ≡ true) (w : takes_within b cut k && is_senior b k r ≡ true) →
         (served i a (senior i h)).0 ≡ (served k d (senior k w)).0 → i ≡ k
-    one i k a d h w e = same_place b c i k (served i a (senior i h)).0 (served k d (senior k w)).0 strict
+    one i k a d h w e = same_index b c i k (served i a (senior i h)).0 (served k d (senior k w)).0 strict
         (served i a (senior i h)).1 (served k d (senior k w)).1 e
 
 -- In the second basin a right gets no more than in the first, where it is met or has a tight cut, if each of its

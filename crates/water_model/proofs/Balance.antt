@@ -30,7 +30,7 @@ use Rattle.water_model.specs.declared.types.RightKind.{RightKind}
 use Rattle.water_model.specs.declared.types.RightKind.TheVariants.{Diversion, Instream, Zone}
 use Rattle.finite_sums.proofs.Totals.{total_same, total_zero, total_add, total_exchange, total_at, total_start}
 use Rattle.finite_sums.proofs.Totals.{total_first}
-use Rattle.water_model.proofs.Sets.{grouped, at_some_place}
+use Rattle.water_model.proofs.Sets.{grouped, at_some_index}
 use Rattle.water_model.proofs.CutBalance.{cut_balance}
 use Rattle.water_model.proofs.Duality.{delivery_by_take}
 
@@ -93,7 +93,7 @@ pub record KindIs (b : Basin) (r : ℕ) : Type 0 where
   pub link : instream_link b r ≡ link_of_kind kind
   pub zone : (v : ℕ) → is_zone_of b r v ≡ is_zone_of_kind kind v
   pub diversion : is_diversion b r ≡ is_diversion_kind kind
-  pub place : HasValidSite b kind
+  pub site : HasValidSite b kind
 
 pub kind_is : (b : Basin) → IsValidBasin b → (r : ℕ) → r < length b.rights → KindIs b r
 kind_is b valid r l =
@@ -104,7 +104,7 @@ kind_is b valid r l =
       link = ap (λ o. unwrap_or (option_map (λ x. link_of_kind x.kind) o) None) entry.1;
       zone = λ v. ap (λ o. unwrap_or (option_map (λ x. is_zone_of_kind x.kind v) o) false) entry.1;
       diversion = ap (λ o. unwrap_or (option_map (λ x. is_diversion_kind x.kind) o) false) entry.1;
-      place = entry.2.place;
+      site = entry.2.site;
     }
 
 -- all that is supplied is taken or flows out
@@ -142,7 +142,7 @@ plan_balance b month supply want p valid plan =
 
     take_within : (r : ℕ) → r < length b.rights →
         (if takes_within b (all_nodes b) r then slice_index p.take r else 0) ≡ slice_index p.take r
-    take_within r l = of_kind k.kind k.node k.place
+    take_within r l = of_kind k.kind k.node k.site
       where
         k : KindIs b r
         k = kind_is b valid r l
@@ -160,7 +160,7 @@ take_goes : (b : Basin) (series : Inflows) (before : List MonthRecord) (m : Mont
     slice_index m.plan.take r
     ≡ (if is_diversion b r then slice_index m.delivered r else 0)
     + total (length b.reservoirs) (λ v. if is_zone_of b r v then slice_index m.plan.take r else 0)
-take_goes b series before m valid follows r l = of_kind k.kind k.link k.diversion k.zone k.node k.place
+take_goes b series before m valid follows r l = of_kind k.kind k.link k.diversion k.zone k.node k.site
   where
     k : KindIs b r
     k = kind_is b valid r l
@@ -267,7 +267,7 @@ month_balance b series before m valid follows =
         ∙ (grouped nodes reservoirs (λ n. has (all_nodes b) n) (λ v n. is_at (node_of_reservoir b v) n)
         (λ v. node_within (node_of_reservoir b v) (all_nodes b))
         (λ v. slice_index m.opening v - slice_index m.evaporated v)
-        (λ v x. at_some_place nodes (all_nodes b) (length-replicate nodes true) (node_of_reservoir b v) x)
+        (λ v x. at_some_index nodes (all_nodes b) (length-replicate nodes true) (node_of_reservoir b v) x)
         ∙ total_where_all reservoirs (λ v. node_within (node_of_reservoir b v) (all_nodes b))
         (λ v. slice_index m.opening v - slice_index m.evaporated v) (at_reservoir b valid))
 

@@ -8,7 +8,7 @@ use Rattle.water_model.specs.Plans.{IsFeasible, inflow_to, outflow_from, taken_a
 use Rattle.water_model.specs.Cuts.{enters, leaves, takes_within}
 use Rattle.water_model.specs.declared.types.Basin.{Basin}
 use Rattle.water_model.specs.declared.types.Plan.{Plan}
-use Rattle.water_model.proofs.Sets.{grouped, at_place, at_some_place, total_where_add, total_where_same, total_crossing}
+use Rattle.water_model.proofs.Sets.{grouped, at_index, at_some_index, total_where_add, total_where_same, total_crossing}
 use Rattle.water_model.proofs.Sets.{total_swap}
 
 pub cut_balance : (b : Basin) (carry : ℕ → ℕ) (supply want : List ℕ) (p : Plan) (cut : List Bool) →
@@ -33,10 +33,10 @@ cut_balance b carry supply want p cut plan len =
     let outs =
     total_where_add nodes y (λ n. outflow_from b p.flow n + taken_at b p.take n) (λ n. slice_index p.out n) in
     let outs2 = total_where_add nodes y (λ n. outflow_from b p.flow n) (λ n. taken_at b p.take n) in
-    let heads = grouped nodes links y (λ e n. head_of b e == n) h f (λ e x. at_place nodes cut len (head_of b e) x) in
-    let tails = grouped nodes links y (λ e n. tail_of b e == n) t f (λ e x. at_place nodes cut len (tail_of b e) x) in
+    let heads = grouped nodes links y (λ e n. head_of b e == n) h f (λ e x. at_index nodes cut len (head_of b e) x) in
+    let tails = grouped nodes links y (λ e n. tail_of b e == n) t f (λ e x. at_index nodes cut len (tail_of b e) x) in
     let takes = grouped nodes (length b.rights) y (λ r n. takes_at b r n) (λ r. takes_within b cut r)
-    (λ r. slice_index p.take r) (λ r x. at_some_place nodes cut len (taking_node b r) x) in
+    (λ r. slice_index p.take r) (λ r x. at_some_index nodes cut len (taking_node b r) x) in
     let cross_in = total_crossing links h t f in
     let cross_out = total_crossing links t h f in
     let swap = total_swap links h t f in

@@ -111,9 +111,9 @@ right_at space.Rights b order k h is l =
     ap (λ xs. slice_get xs k) (sym is) ∙ slice_get-get_or order k 0 within in
     (within, at, seniors_below b.rights (get_or order k 0) (has_at (by_seniority b.rights) k (get_or order k 0) at))
 
-pub place_at : (s : Space) (b : Basin) (k : ℕ) → (s ≡ space.Rights → ⊥) → k < count_in s b →
+pub index_at : (s : Space) (b : Basin) (k : ℕ) → (s ≡ space.Rights → ⊥) → k < count_in s b →
     slice_get (in_order s b) k ≡ Some k
-place_at space.Nodes b k h l = numbers_from-get 0 (length b.nodes) k k l (omega arith)
-place_at space.Links b k h l = numbers_from-get 0 (length b.links) k k l (omega arith)
-place_at space.Reservoirs b k h l = numbers_from-get 0 (length b.reservoirs) k k l (omega arith)
-place_at space.Rights b k h l = absurd (h refl)
+index_at space.Nodes b k h l = numbers_from-get 0 (length b.nodes) k k l (omega arith)
+index_at space.Links b k h l = numbers_from-get 0 (length b.links) k k l (omega arith)
+index_at space.Reservoirs b k h l = numbers_from-get 0 (length b.reservoirs) k k l (omega arith)
+index_at space.Rights b k h l = absurd (h refl)

@@ -12,7 +12,7 @@ use Rattle.std.proofs.lemmas.List.Sorted.{searched}
 use Rattle.std.proofs.lemmas.List.Sums.{position_or_len_is}
 use Rattle.std.proofs.lemmas.Option.{get_or_from_slice_get}
 use Rattle.std.proofs.Math.Nat.{mul-le-mul_right}
-use Rattle.water_model.specs.Hydrology.{place_in, inflow_at, inflow_of_kind, in_year, table_at, number_of}
+use Rattle.water_model.specs.Hydrology.{index_in, inflow_at, inflow_of_kind, in_year, table_at, number_of}
 use Rattle.water_model.specs.Lookups.{of_entry}
 use Rattle.water_model.specs.Indices.{numbers_from, indices_of}
 use Rattle.water_model.specs.Valid.{IsValidBasin, IsSeriesOf, is_gauged, is_gauged_kind, is_in_series}
@@ -24,9 +24,9 @@ use Rattle.water_model.specs.declared.types.Right.{Right}
 use Rattle.water_model.proofs.Order.{Has, numbers_from-get, numbers_from-has, length-numbers_from, has-filter}
 
 -- the place of a number that stands at i and nowhere before, or that stands nowhere where i is the length
-pub place_is : (xs : List ℕ) (x i : ℕ) → i ≤ length xs → ((k : ℕ) → k < i → get_or xs k 0 ≡ x → ⊥) →
-    (i < length xs → get_or xs i 0 ≡ x) → i ≡ place_in xs x
-place_is xs x i within before here =
+pub index_is : (xs : List ℕ) (x i : ℕ) → i ≤ length xs → ((k : ℕ) → k < i → get_or xs k 0 ≡ x → ⊥) →
+    (i < length xs → get_or xs i 0 ≡ x) → i ≡ index_in xs x
+index_is xs x i within before here =
     sym (position_or_len_is (λ y. y == x) xs i 0 within (λ k l. differs (get_or xs k 0) x (before k l))
     (λ l. same (get_or xs i 0) x (here l)))
   where
@@ -55,10 +55,10 @@ wanted_rise b series fits =
     subst IsStrictlyIncreasing (sym fits.wanted)
     (IsStrictlyIncreasing-filter (λ r. is_in_series b r) (indices_of b.rights) (rises 0 (length b.rights)))
 
-pub searched_place : (xs : List ℕ) (x : ℕ) (r : Result ℕ ℕ) → IsStrictlyIncreasing xs →
+pub searched_index : (xs : List ℕ) (x : ℕ) (r : Result ℕ ℕ) → IsStrictlyIncreasing xs →
     IsBinarySearchResult (λ y. nat_cmp y x) xs r →
-    MatchResult r (λ i. i ≡ place_in xs x) (λ i. length xs ≡ place_in xs x)
-searched_place xs x r up h = by_result r (searched xs x r h no_less)
+    MatchResult r (λ i. i ≡ index_in xs x) (λ i. length xs ≡ index_in xs x)
+searched_index xs x r up h = by_result r (searched xs x r h no_less)
   where
     below : (i j : ℕ) → i < j → j < length xs → get_or xs i 0 < get_or xs j 0
     below i j l k = AllPairs-from_increasing xs up i j 0 l k
@@ -72,23 +72,23 @@ searched_place xs x r up h = by_result r (searched xs x r h no_less)
     by_result : (r : Result ℕ ℕ) → MatchResult r (λ i. (i < length xs) × (get_or xs i 0 ≡ x))
         (λ i. (i ≤ length xs) × ((k : ℕ) → k < i → get_or xs k 0 < x) ×
         ((k : ℕ) → i ≤ k → k < length xs → x < get_or xs k 0)) →
-        MatchResult r (λ i. i ≡ place_in xs x) (λ i. length xs ≡ place_in xs x)
+        MatchResult r (λ i. i ≡ index_in xs x) (λ i. length xs ≡ index_in xs x)
     by_result (Ok i) found =
-        place_is xs x i (omega (arith, found.0)) (λ k l e. (let less = below k i l found.0 in omega (arith, found.1)))
+        index_is xs x i (omega (arith, found.0)) (λ k l e. (let less = below k i l found.0 in omega (arith, found.1)))
         (λ l. found.1)
-    by_result (Err i) missing = place_is xs x (length xs) (omega arith) (λ k l e. elim (cases_lt k i) [
+    by_result (Err i) missing = index_is xs x (length xs) (omega arith) (λ k l e. elim (cases_lt k i) [
       | inl before ↦ omega (arith, missing.1 k before)
       | inr after ↦ omega (arith, missing.2 k after l)
     ]) (λ l. absurd (omega arith))
 
-has_place : (xs : List ℕ) (x : ℕ) → Has xs x → place_in xs x < length xs
-has_place [] x h = absurd h
-has_place (y ∷ ys) x h = by_test (y == x) refl (has_place ys x)
+has_index : (xs : List ℕ) (x : ℕ) → Has xs x → index_in xs x < length xs
+has_index [] x h = absurd h
+has_index (y ∷ ys) x h = by_test (y == x) refl (has_index ys x)
   where
     is_same : (a c : ℕ) → c ≡ a → a == c ≡ true
     is_same a c h = grind (arith, nat_tests)
 
-    by_test : (t : Bool) → y == x ≡ t → (Has ys x → place_in ys x < length ys) → place_in (y ∷ ys) x < length (y ∷ ys)
+    by_test : (t : Bool) → y == x ≡ t → (Has ys x → index_in ys x < length ys) → index_in (y ∷ ys) x < length (y ∷ ys)
     by_test true e further = rw e (omega arith)
     by_test false e further = elim h [
       | inl is ↦ let clash : false ≡ true = sym e ∙ is_same y x is in cc
@@ -98,9 +98,9 @@ has_place (y ∷ ys) x h = by_test (y == x) refl (has_place ys x)
 -- a gauged node stands in the series
 pub gauge_within : (b : Basin) (series : Inflows) (node : ℕ) → IsSeriesOf b series → node < length b.nodes →
     is_gauged b node ≡ true →
-    place_in series.gauged node < length series.gauged
+    index_in series.gauged node < length series.gauged
 gauge_within b series node fits l gauged =
-    has_place series.gauged node (rw fits.gauged (has-filter (λ n. is_gauged b n) (indices_of b.nodes) node
+    has_index series.gauged node (rw fits.gauged (has-filter (λ n. is_gauged b n) (indices_of b.nodes) node
     (numbers_from-has 0 (length b.nodes) node node l (omega arith)) gauged))
 
 -- a column of a row of a table stands within the table
@@ -128,20 +128,20 @@ small_cell i m l p h months bounded = let most : m * l ≤ 1200 * l = mul-le-mul
 
 -- where the amount of a gauged node in a month stands
 pub record HasCell (b : Basin) (series : Inflows) (node index : ℕ) : Type 0 where
-  pub within : index * length series.gauged + place_in series.gauged node < length series.amount
-  pub small : index * length series.gauged + place_in series.gauged node < 2 ^ 64
+  pub within : index * length series.gauged + index_in series.gauged node < length series.amount
+  pub small : index * length series.gauged + index_in series.gauged node < 2 ^ 64
 
 pub has_cell : (b : Basin) (series : Inflows) (node index : ℕ) (n : Node) → IsValidBasin b → IsSeriesOf b series →
     node < length b.nodes →
     index < b.months → slice_get b.nodes node ≡ Some n → n.inflow ≡ Gauged → HasCell b series node index
 has_cell b series node index n valid fits l k at e = record {
   within = rw fits.amounts cell;
-  small = small_cell index b.months (length series.gauged) (place_in series.gauged node) cell valid.run.months.1
+  small = small_cell index b.months (length series.gauged) (index_in series.gauged node) cell valid.run.months.1
       bounded;
 }
   where
-    cell : index * length series.gauged + place_in series.gauged node < b.months * length series.gauged
-    cell = cell_within index b.months (length series.gauged) (place_in series.gauged node) k
+    cell : index * length series.gauged + index_in series.gauged node < b.months * length series.gauged
+    cell = cell_within index b.months (length series.gauged) (index_in series.gauged node) k
         (gauge_within b series node fits l (gauged_here b node n at e))
 
     bounded : length series.gauged ≤ 2000
@@ -156,40 +156,40 @@ has_cell b series node index n valid fits l k at e = record {
 -- what stands there is the inflow
 pub cell_is_inflow : (b : Basin) (series : Inflows) (node index : ℕ) (n : Node) (x : ℕ) →
     slice_get b.nodes node ≡ Some n → n.inflow ≡ Gauged →
-    slice_get series.amount (index * length series.gauged + place_in series.gauged node) ≡ Some x →
+    slice_get series.amount (index * length series.gauged + index_in series.gauged node) ≡ Some x →
     x ≡ inflow_at b series node index
 cell_is_inflow b series node index n x at e cell =
-    sym (get_or_from_slice_get series.amount (index * length series.gauged + place_in series.gauged node) x 0 cell)
+    sym (get_or_from_slice_get series.amount (index * length series.gauged + index_in series.gauged node) x 0 cell)
     ∙ sym (ap (λ o. unwrap_or (option_map (λ m. inflow_of_kind b series node index m.inflow) o) 0) at
     ∙ ap (inflow_of_kind b series node index) e)
 
 -- a right in the series has its wants there
 pub wanted_within : (b : Basin) (series : Inflows) (right : ℕ) → IsSeriesOf b series → right < length b.rights →
     is_in_series b right ≡ true →
-    place_in series.wanted right < length series.wanted
+    index_in series.wanted right < length series.wanted
 wanted_within b series right fits l e =
-    has_place series.wanted right (rw fits.wanted (has-filter (λ r. is_in_series b r) (indices_of b.rights) right
+    has_index series.wanted right (rw fits.wanted (has-filter (λ r. is_in_series b r) (indices_of b.rights) right
     (numbers_from-has 0 (length b.rights) right right l (omega arith)) e))
 
 -- where the want of a right in a month stands
 pub record HasWant (b : Basin) (series : Inflows) (right index : ℕ) : Type 0 where
-  pub within : index * length series.wanted + place_in series.wanted right < length series.want
-  pub small : index * length series.wanted + place_in series.wanted right < 2 ^ 64
+  pub within : index * length series.wanted + index_in series.wanted right < length series.want
+  pub small : index * length series.wanted + index_in series.wanted right < 2 ^ 64
 
 pub has_want : (b : Basin) (series : Inflows) (right index : ℕ) (r : Right) → IsValidBasin b → IsSeriesOf b series →
     right < length b.rights →
     index < b.months → slice_get b.rights right ≡ Some r → r.series ≡ true → HasWant b series right index
 has_want b series right index r valid fits l k at e = record {
   within = rw fits.wants cell;
-  small = small_cell index b.months (length series.wanted) (place_in series.wanted right) cell valid.run.months.1
+  small = small_cell index b.months (length series.wanted) (index_in series.wanted right) cell valid.run.months.1
       bounded;
 }
   where
     named : is_in_series b right ≡ true
     named = ap (λ o. unwrap_or (option_map (λ (x : Right). x.series) o) false) at ∙ e
 
-    cell : index * length series.wanted + place_in series.wanted right < b.months * length series.wanted
-    cell = cell_within index b.months (length series.wanted) (place_in series.wanted right) k
+    cell : index * length series.wanted + index_in series.wanted right < b.months * length series.wanted
+    cell = cell_within index b.months (length series.wanted) (index_in series.wanted right) k
         (wanted_within b series right fits l named)
 
     bounded : length series.wanted ≤ 2000
@@ -204,9 +204,9 @@ has_want b series right index r valid fits l k at e = record {
 -- what stands there is the right's number
 pub want_is_number : (b : Basin) (series : Inflows) (right index : ℕ) (r : Right) (x : ℕ) →
     slice_get b.rights right ≡ Some r → r.series ≡ true →
-    slice_get series.want (index * length series.wanted + place_in series.wanted right) ≡ Some x →
+    slice_get series.want (index * length series.wanted + index_in series.wanted right) ≡ Some x →
     x ≡ of_entry b.rights right (λ y. number_of b series right index y) 0
 want_is_number b series right index r x at e cell =
-    sym (get_or_from_slice_get series.want (index * length series.wanted + place_in series.wanted right) x 0 cell)
+    sym (get_or_from_slice_get series.want (index * length series.wanted + index_in series.wanted right) x 0 cell)
     ∙ sym (ap (λ o. unwrap_or (option_map (λ y. number_of b series right index y) o) 0) at
     ∙ ap (λ t. if t then table_at series.wanted series.want index right else slice_index r.want (in_year b index)) e)

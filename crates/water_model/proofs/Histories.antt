@@ -35,19 +35,19 @@ pub one_month_more : (b : Basin) (series : Inflows) (records : List MonthRecord)
     length records < b.months → Follows b series records m → IsPartialHistory b series (records ++ m ∷ [])
 one_month_more b series records m partial left follows = record {
   within = omega (arith, length-append records (m ∷ []));
-  each = λ i n h. by_place i n (at_end records m n i h);
+  each = λ i n h. by_index i n (at_end records m n i h);
 }
   where
     prefix : (i : ℕ) → i ≤ length records → take i (records ++ m ∷ []) ≡ take i records
     prefix i h = take-append-le i records (m ∷ []) h
 
-    by_place : (i : ℕ) (n : MonthRecord) → (slice_get records i ≡ Some n) ⊎ ((i ≡ length records) × (m ≡ n)) →
+    by_index : (i : ℕ) (n : MonthRecord) → (slice_get records i ≡ Some n) ⊎ ((i ≡ length records) × (m ≡ n)) →
         Follows b series (take i (records ++ m ∷ [])) n
-    by_place i n (inl within) =
+    by_index i n (inl within) =
         let below : i < length records = slice_get_within records i n within in
         subst (λ (before : List MonthRecord). Follows b series before n) (sym (prefix i (omega arith)))
         (partial.each i n within)
-    by_place i n (inr last) =
+    by_index i n (inr last) =
         let whole : take i (records ++ m ∷ []) ≡ records =
         ap (λ k. take k (records ++ m ∷ [])) last.0 ∙ prefix (length records) (omega arith) ∙ take-length records in
         subst (λ (before : List MonthRecord). Follows b series before n) (sym whole)
@@ -83,9 +83,9 @@ follows_alike b series other before m inflows wants f = assumption (after)
 pub opens_with_last : (b : Basin) (records : List MonthRecord) (m : MonthRecord) →
     opening_after b (records ++ m ∷ []) ≡ m.closing
 opens_with_last b records m =
-    let place : length (records ++ m ∷ []) - 1 ≡ length records = omega (arith, length-append records (m ∷ [])) in
+    let position : length (records ++ m ∷ []) - 1 ≡ length records = omega (arith, length-append records (m ∷ [])) in
     let at : slice_get (records ++ m ∷ []) (length (records ++ m ∷ []) - 1) ≡ Some m =
-    ap (slice_get (records ++ m ∷ [])) place ∙ get_after records [] m in
+    ap (slice_get (records ++ m ∷ [])) position ∙ get_after records [] m in
     ap (λ o. unwrap_or (option_map (λ k. k.closing) o) (map (λ v. v.opening) b.reservoirs)) at
 
 -- a partial history of all months is a history

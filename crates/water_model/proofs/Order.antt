@@ -77,11 +77,11 @@ put_right-has rights r (y ∷ ys) x h = by_test (is_senior_in rights r y) refl (
     by_test : (t : Bool) → is_senior_in rights r y ≡ t → (Has (put_right rights r ys) x → (x ≡ r) ⊎ Has ys x) →
         (x ≡ r) ⊎ Has (y ∷ ys) x
     by_test true e further = let here : Has (r ∷ y ∷ ys) x = rw e at h in here
-    by_test false e further = by_place (rw e at h)
+    by_test false e further = by_index (rw e at h)
       where
-        by_place : Has (y ∷ put_right rights r ys) x → (x ≡ r) ⊎ Has (y ∷ ys) x
-        by_place (inl same) = inr (inl same)
-        by_place (inr rest) = elim (further rest) [ inl is ↦ inl is | inr in_rest ↦ inr (inr in_rest) ]
+        by_index : Has (y ∷ put_right rights r ys) x → (x ≡ r) ⊎ Has (y ∷ ys) x
+        by_index (inl same) = inr (inl same)
+        by_index (inr rest) = elim (further rest) [ inl is ↦ inl is | inr in_rest ↦ inr (inr in_rest) ]
 
 has-put_right : (rights : List Right) (r : ℕ) (xs : List ℕ) (x : ℕ) → (x ≡ r) ⊎ Has xs x → Has (put_right rights r xs) x
 has-put_right rights r [] x h = h
@@ -90,12 +90,12 @@ has-put_right rights r (y ∷ ys) x h = by_test (is_senior_in rights r y) refl (
     by_test : (t : Bool) → is_senior_in rights r y ≡ t → ((x ≡ r) ⊎ Has ys x → Has (put_right rights r ys) x) →
         Has (put_right rights r (y ∷ ys)) x
     by_test true e further = rw e h
-    by_test false e further = rw e (by_place h)
+    by_test false e further = rw e (by_index h)
       where
-        by_place : (x ≡ r) ⊎ Has (y ∷ ys) x → Has (y ∷ put_right rights r ys) x
-        by_place (inl is) = inr (further (inl is))
-        by_place (inr (inl same)) = inl same
-        by_place (inr (inr rest)) = inr (further (inr rest))
+        by_index : (x ≡ r) ⊎ Has (y ∷ ys) x → Has (y ∷ put_right rights r ys) x
+        by_index (inl is) = inr (further (inl is))
+        by_index (inr (inl same)) = inl same
+        by_index (inr (inr rest)) = inr (further (inr rest))
 
 sort_rights-has : (rights : List Right) (xs : List ℕ) (x : ℕ) → Has (sort_rights rights xs) x → Has xs x
 sort_rights-has rights [] x h = h
@@ -216,16 +216,16 @@ find-first rights p (x ∷ xs) c o w h k q = by_test (p x) refl (find-first righ
     by_test : (t : Bool) → p x ≡ t →
         (find p xs ≡ Some c → Has xs o → p o ≡ true → (o ≡ c) ⊎ (is_senior_in rights c o ≡ true)) → (o ≡ c) ⊎
         (is_senior_in rights c o ≡ true)
-    by_test true e further = let here : Some x ≡ Some c = rw e at h in let same : x ≡ c = cc in by_place k same
+    by_test true e further = let here : Some x ≡ Some c = rw e at h in let same : x ≡ c = cc in by_index k same
       where
-        by_place : Has (x ∷ xs) o → x ≡ c → (o ≡ c) ⊎ (is_senior_in rights c o ≡ true)
-        by_place (inl is) same = inl (is ∙ same)
-        by_place (inr rest) same = inr (ap (λ z. is_senior_in rights z o) (sym same) ∙ w.0 o rest)
-    by_test false e further = by_place k
+        by_index : Has (x ∷ xs) o → x ≡ c → (o ≡ c) ⊎ (is_senior_in rights c o ≡ true)
+        by_index (inl is) same = inl (is ∙ same)
+        by_index (inr rest) same = inr (ap (λ z. is_senior_in rights z o) (sym same) ∙ w.0 o rest)
+    by_test false e further = by_index k
       where
-        by_place : Has (x ∷ xs) o → (o ≡ c) ⊎ (is_senior_in rights c o ≡ true)
-        by_place (inl is) = let no : false ≡ true = sym e ∙ (ap p (sym is) ∙ q) in cc
-        by_place (inr rest) = further (rw e at h) rest q
+        by_index : Has (x ∷ xs) o → (o ≡ c) ⊎ (is_senior_in rights c o ≡ true)
+        by_index (inl is) = let no : false ≡ true = sym e ∙ (ap p (sym is) ∙ q) in cc
+        by_index (inr rest) = further (rw e at h) rest q
 
 pub find-none : (p : ℕ → Bool) (xs : List ℕ) (o : ℕ) → find p xs ≡ None → Has xs o → p o ≡ false
 find-none p [] o h k = absurd k
@@ -233,8 +233,8 @@ find-none p (x ∷ xs) o h k = by_test (p x) refl (find-none p xs o)
   where
     by_test : (t : Bool) → p x ≡ t → (find p xs ≡ None → Has xs o → p o ≡ false) → p o ≡ false
     by_test true e further = let none : Some x ≡ None = rw e at h in cc
-    by_test false e further = by_place k
+    by_test false e further = by_index k
       where
-        by_place : Has (x ∷ xs) o → p o ≡ false
-        by_place (inl is) = ap p is ∙ e
-        by_place (inr rest) = further (rw e at h) rest
+        by_index : Has (x ∷ xs) o → p o ≡ false
+        by_index (inl is) = ap p is ∙ e
+        by_index (inr rest) = further (rw e at h) rest

@@ -35,9 +35,9 @@ grouped n m y p within f one =
     (λ e l. one e (f e))
 
 -- one place: what stands at node k
-pub at_place : (n : ℕ) (set : List Bool) → length set ≡ n → (k x : ℕ) →
+pub at_index : (n : ℕ) (set : List Bool) → length set ≡ n → (k x : ℕ) →
     total n (λ v. if has set v then (if k == v then x else 0) else 0) ≡ (if has set k then x else 0)
-at_place n set len k x =
+at_index n set len k x =
     total_same n (λ v. if has set v then (if k == v then x else 0) else 0)
     (λ v. if k == v then (if has set k then x else 0) else 0)
     (λ v l. swap_tests (has set) k v x)
@@ -53,14 +53,14 @@ at_place n set len k x =
     drop_test k n b x h = grind (arith, nat_tests)
 
 -- the same where there may be no place
-pub at_some_place : (n : ℕ) (set : List Bool) → length set ≡ n → (o : Option ℕ) (x : ℕ) →
+pub at_some_index : (n : ℕ) (set : List Bool) → length set ≡ n → (o : Option ℕ) (x : ℕ) →
     total n (λ v. if has set v then (if is_at o v then x else 0) else 0) ≡ (if node_within o set then x else 0)
-at_some_place n set len None x = total_zero n (λ v. if has set v then 0 else 0) (λ v l. same (has set v) 0)
+at_some_index n set len None x = total_zero n (λ v. if has set v then 0 else 0) (λ v l. same (has set v) 0)
   where
     same : (b : Bool) (z : ℕ) → (if b then z else z) ≡ z
     same true z = refl
     same false z = refl
-at_some_place n set len (Some k) x = at_place n set len k x
+at_some_index n set len (Some k) x = at_index n set len k x
 
 -- a sum over a set splits like its terms
 pub total_where_add : (n : ℕ) (y : ℕ → Bool) (f g : ℕ → ℕ) →

@@ -8,7 +8,7 @@ use Rattle.water_text.specs.declared.month.Month.{Month}
 use Rattle.water_model.specs.Lookups.{of_entry}
 use Rattle.water_model.specs.Basin.{instream_link}
 use Rattle.water_model.specs.Plans.{carry_of}
-use Rattle.water_model.specs.Hydrology.{run_month, in_year, place_in, target_of, want_of, want_by_volume, volume_of}
+use Rattle.water_model.specs.Hydrology.{run_month, in_year, index_in, target_of, want_of, want_by_volume, volume_of}
 use Rattle.water_model.specs.Hydrology.{cap_by_link, number_of}
 use Rattle.water_model.specs.Valid.{IsValidBasin, IsValidRight, IsSeriesOf}
 use Rattle.water_model.specs.declared.types.Basin.{Basin}
@@ -38,7 +38,7 @@ number_most b series r i valid fits l =
     let entry = entry_holds (λ x. IsValidRight b x) b.rights r valid.rights l in
     rw (ap (λ o. unwrap_or (option_map (λ x. number_of b series r i x) o) 0) entry.1)
     (by entry.0.series
-    (entry_most series.want (10 ^ 9) (i * length series.wanted + place_in series.wanted r) fits.small_wants)
+    (entry_most series.want (10 ^ 9) (i * length series.wanted + index_in series.wanted r) fits.small_wants)
     (entry_most entry.0.want (10 ^ 9) (in_year b i) entry.2.want.each))
   where
     by : (t : Bool) {x y : ℕ} → x ≤ 10 ^ 9 → y ≤ 10 ^ 9 → (if t then x else y) ≤ 10 ^ 9

@@ -42,8 +42,8 @@ abbrev pub instream_link : Basin → ℕ → Option ℕ
 instream_link b right = of_entry b.rights right (λ r. link_of_kind r.kind) None
 
 abbrev pub is_at : Option ℕ → ℕ → Bool
-is_at None place = false
-is_at (Some at) place = at == place
+is_at None position = false
+is_at (Some at) position = at == position
 
 -- whether the right is a diversion or zone that takes at the node
 abbrev pub takes_at : Basin → ℕ → ℕ → Bool

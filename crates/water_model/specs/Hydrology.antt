@@ -24,12 +24,12 @@ abbrev pub in_year : Basin → ℕ → ℕ
 in_year b i = (run_month b i).month - 1
 
 -- the place of a number in a list of numbers
-abbrev pub place_in : List ℕ → ℕ → ℕ
-place_in xs n = position_or_len (λ x. x == n) xs
+abbrev pub index_in : List ℕ → ℕ → ℕ
+index_in xs n = position_or_len (λ x. x == n) xs
 
 -- number `column` of row i of a table with one column for each of the keys
 abbrev pub table_at : List ℕ → List ℕ → ℕ → ℕ → ℕ
-table_at keys cells i key = slice_index cells (i * length keys + place_in keys key)
+table_at keys cells i key = slice_index cells (i * length keys + index_in keys key)
 
 -- the inflow of a node: the series' amount of a gauged node, and else the amount of the calendar month
 abbrev pub inflow_of_kind : Basin → Inflows → ℕ → ℕ → Inflow → ℕ

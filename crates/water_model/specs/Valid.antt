@@ -96,7 +96,7 @@ IsValidVolume kind (Some volume) = (is_diversion_kind kind ≡ true) × (volume 
 pub record IsValidRight (b : Basin) (r : Right) : Type 0 where
   pub name : IsTrue (is_name r.name)
   pub order : r.order ≤ 1000000
-  pub place : HasValidSite b r.kind
+  pub site : HasValidSite b r.kind
   pub want : IsMonthly (10 ^ 9) r.want
   pub volume : IsValidVolume r.kind r.volume
   pub series : r.series ≡ true → r.want ≡ replicate 12 0

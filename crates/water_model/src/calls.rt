@@ -4,7 +4,7 @@ ghost use Rattle.std.specs.List.Sorted.{IsStrictlyIncreasing};
 ghost use Rattle.water_text.specs.Months.{IsMonth};
 ghost use Rattle.water_model.specs.Basin.{taking_node};
 ghost use Rattle.water_model.specs.Plans.{carry_of, carry_of_kind};
-ghost use Rattle.water_model.specs.Hydrology.{begins_year, inflow_at, in_year, number_of, place_in, run_month};
+ghost use Rattle.water_model.specs.Hydrology.{begins_year, inflow_at, in_year, number_of, index_in, run_month};
 ghost use Rattle.water_model.specs.Hydrology.{target_of, want_of};
 ghost use Rattle.water_model.specs.Lookups.{of_entry};
 ghost use Rattle.water_model.specs.Valid.{IsValidBasin, IsValidCarry, IsSeriesOf};
@@ -69,9 +69,9 @@ pub fn month_at(basin: &Basin, index: u32) -> Month
 }
 
 /// The place in a list of twelve of the month with this index.
-fn place_in_year(basin: &Basin, index: u32) -> usize
+fn index_in_year(basin: &Basin, index: u32) -> usize
     requires basin { IsValidBasin basin.now }
-    ensures place { result ≡ in_year basin.now index }
+    ensures position { result ≡ in_year basin.now index }
     ensures twelve { result < 12 }
 {
     ((u64::from(basin.first.month) - 1 + u64::from(index)) % 12) as usize
@@ -82,16 +82,16 @@ pub fn begins_year(basin: &Basin, index: u32) -> bool
     requires basin { IsValidBasin basin.now }
     ensures { result ≡ begins_year basin.now index }
 {
-    place_in_year(basin, index) + 1 == usize::from(basin.year_start)
+    index_in_year(basin, index) + 1 == usize::from(basin.year_start)
 }
 
 /// The place of a number in a list in rising order, or the list's length where it isn't there.
-fn place_of(numbers: &[u32], number: u32) -> usize
+fn index_of(numbers: &[u32], number: u32) -> usize
     requires { IsStrictlyIncreasing numbers.now }
-    ensures { result ≡ place_in numbers.now number }
+    ensures { result ≡ index_in numbers.now number }
 {
     match numbers.binary_search(&number) {
-        Ok(place) => place,
+        Ok(position) => position,
         Err(_) => numbers.len(),
     }
 }
@@ -106,9 +106,9 @@ pub fn inflow_of(basin: &Basin, inflows: &Inflows, node: u32, index: u32) -> u64
     ensures { result ≡ inflow_at basin.now inflows.now node index }
 {
     match &basin.nodes[node as usize].inflow {
-        Inflow::Monthly(amounts) => amounts[place_in_year(basin, index)],
+        Inflow::Monthly(amounts) => amounts[index_in_year(basin, index)],
         Inflow::Gauged => {
-            let gauge = place_of(inflows.gauged.as_slice(), node);
+            let gauge = index_of(inflows.gauged.as_slice(), node);
             inflows.amount[index as usize * inflows.gauged.len() + gauge]
         }
     }
@@ -125,10 +125,10 @@ fn number_of(basin: &Basin, inflows: &Inflows, right: u32, index: u32) -> u64
 {
     let entry = &basin.rights[right as usize];
     if entry.series {
-        let place = place_of(inflows.wanted.as_slice(), right);
-        inflows.want[index as usize * inflows.wanted.len() + place]
+        let position = index_of(inflows.wanted.as_slice(), right);
+        inflows.want[index as usize * inflows.wanted.len() + position]
     } else {
-        entry.want[place_in_year(basin, index)]
+        entry.want[index_in_year(basin, index)]
     }
 }
 

@@ -47,14 +47,14 @@ pub fn name_in(space: Space, basin: &Basin, entry: u32) -> &Name
 
 /// The entry at a place of the order in which lines come: rights seniors first, as in `order`, and all others as in the
 /// basin.
-pub fn entry_at(space: Space, basin: &Basin, order: &[u32], place: u32) -> u32
+pub fn entry_at(space: Space, basin: &Basin, order: &[u32], position: u32) -> u32
     requires order { order.now ≡ seniors_first basin.now }
-    requires place { place < count_in space basin.now }
-    ensures place { slice_get (in_order space basin.now) place ≡ Some result }
+    requires position { position < count_in space basin.now }
+    ensures position { slice_get (in_order space basin.now) position ≡ Some result }
     ensures within { result < count_in space basin.now }
 {
     match space {
-        Space::Rights => order[place as usize],
-        _ => place,
+        Space::Rights => order[position as usize],
+        _ => position,
     }
 }

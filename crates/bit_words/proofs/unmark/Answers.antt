@@ -6,10 +6,10 @@ use Rattle.bit_words.proofs.unmark.Goals as goal
 
 pub returns-clause-on : goal.returns-clause-on
 returns-clause-on c =
-    this_marked c.args.words.now c.args.place _ c.requires
-    ∙ ap (λ (b : ℕ). b == 1) (bit_at_clear_same w64 _ (c.args.place % 64) (omega arith))
+    this_marked c.args.words.now c.args.index _ c.requires
+    ∙ ap (λ (b : ℕ). b == 1) (bit_at_clear_same w64 _ (c.args.index % 64) (omega arith))
 
 pub returns-clause-off : goal.returns-clause-off
 returns-clause-off c =
-    others_stay c.args.words.now c.args.place _ c.requires
-    (λ i b apart. bit_at_clear_other w64 _ (c.args.place % 64) (omega arith) i b apart)
+    others_stay c.args.words.now c.args.index _ c.requires
+    (λ i b apart. bit_at_clear_other w64 _ (c.args.index % 64) (omega arith) i b apart)

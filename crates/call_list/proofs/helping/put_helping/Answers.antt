@@ -10,13 +10,13 @@ use Rattle.call_list.specs.Helping.{helping_bytes, helping_lines}
 use Rattle.call_list.proofs.HelpTexts.{core_least, has_reach_set, helping_text}
 use Rattle.call_list.proofs.helping.put_helping.Goals as goal
 
-pub put_places-requires-clause-reach : goal.put_places-requires-clause-reach
-put_places-requires-clause-reach g c =
+pub put_indices-requires-clause-reach : goal.put_indices-requires-clause-reach
+put_indices-requires-clause-reach g c =
     has_reach_set c.args.basin.now c.args.month.now c.args.right c.requires.plan.fits c.requires.reaches
     c.requires.right c.requires.short
 
-pub put_places-requires-clause-core : goal.put_places-requires-clause-core
-put_places-requires-clause-core g c =
+pub put_indices-requires-clause-core : goal.put_indices-requires-clause-core
+put_indices-requires-clause-core g c =
     subst (λ (x : CutSets). HasCut c.args.basin.now x c.args.right) (sym c.cuts-core.ensures)
     c.find_core.ensures.core.cut
 
@@ -33,8 +33,8 @@ put_account-requires-clause-tight g c =
     (core_least c.args.basin.now c.args.month.now c.args.right (cut_at c.cuts-core.result.now c.args.right)
     c.requires.plan c.requires.reaches c.requires.right c.requires.short held.is_core).is_tight
 
-pub returns-in_err-put_places-clause-text : goal.returns-in_err-put_places-clause-text
-returns-in_err-put_places-clause-text g c =
+pub returns-in_err-put_indices-clause-text : goal.returns-in_err-put_indices-clause-text
+returns-in_err-put_indices-clause-text g c =
     let b = c.args.basin.now in
     let m = c.args.month.now in
     let r = c.args.right in
@@ -44,9 +44,9 @@ returns-in_err-put_places-clause-text g c =
     subst (λ (x : CutSets). HoldsCore b m r x) (sym c.cuts-core.ensures) c.find_core.ensures.core in (
       helping_bytes b m r reach core,
       helping_text b m r core c.requires.plan c.requires.reaches c.requires.right c.requires.short held.is_core,
-      Puts-cut (g.K.Sink.taken c.args.sink.now) (g.K.Sink.taken c.put_places.new.sink) c.from_residual.result
+      Puts-cut (g.K.Sink.taken c.args.sink.now) (g.K.Sink.taken c.put_indices.new.sink) c.from_residual.result
           (flat_map (whole_line b) (helping_lines b m r reach core)) (account_bytes b m r core) c.from_residual.ensures.0
-          c.in_err-put_places.ensures.text,
+          c.in_err-put_indices.ensures.text,
     )
 
 pub returns-clause-text : goal.returns-clause-text
@@ -60,8 +60,8 @@ returns-clause-text g c =
     subst (λ (x : CutSets). HoldsCore b m r x) (sym c.cuts-core.ensures) c.find_core.ensures.core in (
       helping_bytes b m r reach core,
       helping_text b m r core c.requires.plan c.requires.reaches c.requires.right c.requires.short held.is_core,
-      Puts-then (g.K.Sink.taken c.args.sink.now) (g.K.Sink.taken c.put_places.new.sink)
+      Puts-then (g.K.Sink.taken c.args.sink.now) (g.K.Sink.taken c.put_indices.new.sink)
           (g.K.Sink.taken c.put_account.new.sink) c.put_account.result
           (flat_map (whole_line b) (helping_lines b m r reach core)) (account_bytes b m r core)
-          c.in_ok-put_places.ensures.text c.put_account.ensures.text,
+          c.in_ok-put_indices.ensures.text c.put_account.ensures.text,
     )

@@ -2,7 +2,7 @@ use Rattle.std.proofs.Common.{List, arith, length, refl, subst}
 use Rattle.std.specs.List.{flat_map}
 use Rattle.std.specs.Io.KnownBytes.{Appends}
 use Rattle.cut_cert.specs.Sets.{cut_at}
-use Rattle.result_text.proofs.Entries.{place_at, places_end}
+use Rattle.result_text.proofs.Entries.{index_at, indices_end}
 use Rattle.water_edge.proofs.Puts.{PutsPrefix, SoFar-none, SoFar-next, SoFar-fails, SoFar-whole}
 use Rattle.water_model.specs.Indices.{indices_of}
 use Rattle.call_list.specs.Entries.{whole_line}
@@ -21,7 +21,7 @@ returns-in_err-put_line-clause-text g c =
     let mid = g.K.Sink.taken c.loop-link.sink in
     let new = g.K.Sink.taken c.put_line.new.sink in
     SoFar-fails c.loop-link.link new c.from_residual.result c.loop-link.invariant
-    (place_at (indices_of b.links) (length b.links) c.loop-link.link refl (omega arith))
+    (index_at (indices_of b.links) (length b.links) c.loop-link.link refl (omega arith))
     (subst (λ (lines : List Entry). PutsPrefix mid new (flat_map (whole_line b) lines)) c.link_line.ensures.lines
     c.in_err-put_line.ensures.text)
     c.from_residual.ensures.0
@@ -32,7 +32,7 @@ loop-link-preserved g c =
     let mid = g.K.Sink.taken c.loop-link.sink in
     let new = g.K.Sink.taken c.put_line.new.sink in
     SoFar-next c.loop-link.link c.loop-link.invariant
-    (place_at (indices_of b.links) (length b.links) c.loop-link.link refl (omega arith))
+    (index_at (indices_of b.links) (length b.links) c.loop-link.link refl (omega arith))
     (subst (λ (lines : List Entry). Appends mid new (flat_map (whole_line b) lines)) c.link_line.ensures.lines
     c.in_ok-put_line.ensures.text)
     c.in_ok-put_line.ensures.cause.later
@@ -41,4 +41,4 @@ pub returns-clause-text : goal.returns-clause-text
 returns-clause-text g c =
     let b = c.args.basin.now in
     SoFar-whole c.loop-link.invariant
-    (places_end (indices_of b.links) (length b.links) c.loop-link.link refl (omega arith))
+    (indices_end (indices_of b.links) (length b.links) c.loop-link.link refl (omega arith))

@@ -8,8 +8,8 @@ use Rattle.cert_check.proofs.balancing.add_inflows.Goals as goal
 pub loop-link-init : goal.loop-link-init
 loop-link-init c = λ n. nothing_yet (λ e. head_of c.args.basin.now e == n) (λ e. slice_index c.args.flow.now e) _
 
-pub add_at-requires-clause-place : goal.add_at-requires-clause-place
-add_at-requires-clause-place c =
+pub add_at-requires-clause-position : goal.add_at-requires-clause-position
+add_at-requires-clause-position c =
     let end : head_of c.args.basin.now c.loop-link.link ≡ c.index.result.now.to =
     ap (λ o. unwrap_or (option_map (λ l. l.to) o) 0) c.index.ensures in
     let below : c.loop-link.link < length c.args.basin.now.links =

@@ -1,5 +1,5 @@
 use Rattle.std.proofs.Common.{arith}
-use Rattle.result_text.proofs.Entries.{place_at, places_end}
+use Rattle.result_text.proofs.Entries.{index_at, indices_end}
 use Rattle.water_edge.proofs.Puts.{SoFar-none, SoFar-next, SoFar-fails, SoFar-whole}
 use Rattle.cut_book.specs.Book.{count_in, indices_in}
 use Rattle.cut_book.specs.Entries.{whole_line}
@@ -16,7 +16,7 @@ pub returns-in_err-put_line-clause-text : goal.returns-in_err-put_line-clause-te
 returns-in_err-put_line-clause-text g c =
     let b = c.args.shortage.now.basin in
     SoFar-fails c.loop-index.index (g.K.Sink.taken c.put_line.new.sink) c.from_residual.result c.loop-index.invariant
-    (place_at (indices_in c.args.part b) (count_in c.args.part b) c.loop-index.index c.requires
+    (index_at (indices_in c.args.part b) (count_in c.args.part b) c.loop-index.index c.requires
     (omega (arith, c.count_in-count.ensures)))
     c.in_err-put_line.ensures.text c.from_residual.ensures.0
 
@@ -24,7 +24,7 @@ pub loop-index-preserved : goal.loop-index-preserved
 loop-index-preserved g c =
     let b = c.args.shortage.now.basin in
     SoFar-next c.loop-index.index c.loop-index.invariant
-    (place_at (indices_in c.args.part b) (count_in c.args.part b) c.loop-index.index c.requires
+    (index_at (indices_in c.args.part b) (count_in c.args.part b) c.loop-index.index c.requires
     (omega (arith, c.count_in-count.ensures)))
     c.in_ok-put_line.ensures.text c.in_ok-put_line.ensures.cause.later
 
@@ -32,5 +32,5 @@ pub returns-clause-text : goal.returns-clause-text
 returns-clause-text g c =
     let b = c.args.shortage.now.basin in
     SoFar-whole c.loop-index.invariant
-    (places_end (indices_in c.args.part b) (count_in c.args.part b) c.loop-index.index c.requires
+    (indices_end (indices_in c.args.part b) (count_in c.args.part b) c.loop-index.index c.requires
     (omega (arith, c.count_in-count.ensures)))

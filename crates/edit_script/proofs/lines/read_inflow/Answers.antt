@@ -1,5 +1,5 @@
 use Rattle.std.proofs.Common.{◌∙◌, ap, sym, arith}
-use Rattle.water_model.specs.Hydrology.{place_in}
+use Rattle.water_model.specs.Hydrology.{index_in}
 use Rattle.water_model.proofs.Gauges.{gauge_within, gauges_rise}
 use Rattle.edit_script.proofs.Columns.{bounded_gauges}
 use Rattle.edit_script.proofs.lines.read_inflow.Goals as goal
@@ -17,5 +17,5 @@ returns-clause-placed c =
     let gauge =
     gauge_within c.args.names.now.basin.now c.args.series.now c.in-Some.node c.requires.series
     c.in-Some.ensures.within (sym c.if-not-is_gauged.ensures) in
-    let at = c.place_of-gauge.ensures ∙ ap (λ keys. place_in keys c.in-Some.node) c.as_slice.ensures in
+    let at = c.place_of-gauge.ensures ∙ ap (λ keys. index_in keys c.in-Some.node) c.as_slice.ensures in
     (c.in_ok-index.ensures.within, omega (arith, gauge, at), c.in_ok-index.ensures.small)

@@ -3,7 +3,7 @@ use Rattle.std.proofs.Common.{List, subst, ◌≡◌, ◌∙◌, sym, ap, arith,
 use Rattle.std.proofs.lemmas.List.Elements.{All-push}
 use Rattle.std.proofs.lemmas.Result.{err_from_is_err_and}
 use Rattle.std.specs.Str.{bytes_eq}
-use Rattle.edit_script.specs.Edits.{IsPlaced}
+use Rattle.edit_script.specs.Edits.{IsValidEdit}
 use Rattle.edit_script.specs.declared.edit.Edit.{Edit}
 use Rattle.edit_script.proofs.Reading.{answered, early_end, end_taken, line_refused, line_taken, refusal_of}
 use Rattle.edit_script.proofs.script.read_edits.Goals as goal
@@ -39,8 +39,8 @@ loop-line-preserved c =
           c.in_ok-edit.edit c.loop-line.invariant.so_far c.in-Some.ensures.some
           (sym (ap (bytes_eq c.in-Some.line.now) c.as_slice.ensures) ∙ (sym c.eq.ensures ∙ c.if-eq.false))
           c.in_ok-edit.ensures.reads);
-      placed = subst (λ (es : List Edit). All (IsPlaced c.args.names.now.basin.now c.args.series.now) es) (sym items)
-          (All-push (IsPlaced c.args.names.now.basin.now c.args.series.now) c.loop-line.edits.items c.in_ok-edit.edit
+      placed = subst (λ (es : List Edit). All (IsValidEdit c.args.names.now.basin.now c.args.series.now) es) (sym items)
+          (All-push (IsValidEdit c.args.names.now.basin.now c.args.series.now) c.loop-line.edits.items c.in_ok-edit.edit
           c.loop-line.invariant.placed c.in_ok-edit.ensures.placed);
       small = omega (arith, c.in-Some.ensures.less, c.loop-line.invariant.small);
     }

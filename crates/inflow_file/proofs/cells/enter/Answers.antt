@@ -1,6 +1,6 @@
 use Rattle.std.proofs.Common.{◌≡◌, ◌∙◌, refl, sym, ap, get_or, None, is_some, false}
 use Rattle.std.specs.Prelude.{slice_set, Some}
-use Rattle.inflow_file.proofs.DueLaws.{outside_is, repeated_is, entered_is, place_for}
+use Rattle.inflow_file.proofs.DueLaws.{outside_is, repeated_is, entered_is, index_for}
 use Rattle.inflow_file.proofs.cells.enter.Goals as goal
 
 pub returns-in_default : goal.returns-in_default
@@ -13,17 +13,17 @@ returns-then-is_some c = λ earlier is. (
   refl,
   sym (repeated_is c.args.columns.now.basin.now earlier c.args.entry.now c.in-Some.index c.args.amounts.now
       c.requires.entry c.in-Some.ensures.0 c.in-Some.ensures.1 is)
-      ∙ (ap (λ k. is_some (get_or c.args.amounts.now k None)) (sym c.place_of-place.ensures.place)
+      ∙ (ap (λ k. is_some (get_or c.args.amounts.now k None)) (sym c.index_of-cell.ensures.cell)
       ∙ sym c.if-is_some.ensures),
 )
 
 pub returns : goal.returns
 returns c = λ earlier is.
     let free : is_some
-    (get_or c.args.amounts.now (place_for c.args.columns.now.basin.now c.in-Some.index c.args.entry.now.column)
+    (get_or c.args.amounts.now (index_for c.args.columns.now.basin.now c.in-Some.index c.args.entry.now.column)
     None) ≡ false =
-    ap (λ k. is_some (get_or c.args.amounts.now k None)) (sym c.place_of-place.ensures.place)
+    ap (λ k. is_some (get_or c.args.amounts.now k None)) (sym c.index_of-cell.ensures.cell)
     ∙ sym c.if-is_some.ensures in
     let h = entered_is c.args.columns.now.basin.now earlier c.args.entry.now c.in-Some.index c.args.amounts.now
     c.requires.basin.run.first c.requires.entry c.in-Some.ensures.0 c.in-Some.ensures.1 is free in
-    (h.0, ap (λ k. slice_set c.args.amounts.now k (Some c.args.entry.now.amount)) c.place_of-place.ensures.place ∙ h.1)
+    (h.0, ap (λ k. slice_set c.args.amounts.now k (Some c.args.entry.now.amount)) c.index_of-cell.ensures.cell ∙ h.1)

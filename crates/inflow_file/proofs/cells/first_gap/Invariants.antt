@@ -1,5 +1,5 @@
 use Rattle.std.proofs.Common.{◌≡◌, ℕ, ◌<◌, None, true, is_some, slice_index_or}
 use Rattle.inflow_file.proofs.cells.first_gap.Given as goal
 
-abbrev pub invariant-loop-place : goal.invariant-loop-place
-invariant-loop-place l = (k : ℕ) → k < l.place → is_some (slice_index_or l.amounts k None) ≡ true
+abbrev pub invariant-loop-cell : goal.invariant-loop-cell
+invariant-loop-cell l = (k : ℕ) → k < l.cell → is_some (slice_index_or l.amounts k None) ≡ true

@@ -15,14 +15,14 @@ overflow_mul-end c =
 
 pub cell_in-requires-clause-count : goal.cell_in-requires-clause-count
 cell_in-requires-clause-count c =
-    some_column c.loop-place.place c.args.columns.now.basin.now.months c.args.count
-    (omega (arith, c.loop-place-test.true))
+    some_column c.loop-cell.cell c.args.columns.now.basin.now.months c.args.count
+    (omega (arith, c.loop-cell-test.true))
 
 pub cell_in-requires-clause-within : goal.cell_in-requires-clause-within
 cell_in-requires-clause-within c =
     let below =
-    cell_below c.loop-place.place (width c.args.columns.now.basin.now) c.args.from
-    c.args.columns.now.basin.now.months c.args.count c.requires.columns (omega (arith, c.loop-place-test.true)) in
+    cell_below c.loop-cell.cell (width c.args.columns.now.basin.now) c.args.from
+    c.args.columns.now.basin.now.months c.args.count c.requires.columns (omega (arith, c.loop-cell-test.true)) in
     rw c.count-width.ensures (omega (arith, below, c.requires.cells))
 
 pub cell_in-requires-clause-small : goal.cell_in-requires-clause-small
@@ -34,15 +34,15 @@ cell_in-requires-clause-small c =
           c.requires.basin.bounded,
     )
 
-pub loop-place-preserved : goal.loop-place-preserved
-loop-place-preserved c =
-    let pushed : c.push.new.self.items ≡ c.loop-place.part.items ++ c.cell_in.result ∷ [] =
+pub loop-cell-preserved : goal.loop-cell-preserved
+loop-cell-preserved c =
+    let pushed : c.push.new.self.items ≡ c.loop-cell.part.items ++ c.cell_in.result ∷ [] =
     c.in_ok-push.ensures.items in
     record {
       count = ap length pushed
-          ∙ (length_push c.loop-place.part.items c.cell_in.result ∙ ap (λ n. n + 1) c.loop-place.invariant.count);
+          ∙ (length_push c.loop-cell.part.items c.cell_in.result ∙ ap (λ n. n + 1) c.loop-cell.invariant.count);
       each = λ k l. rw pushed
-          (part_more (cell_in c.args.cells.now c.count-width.result c.args.from c.args.count) c.loop-place.part.items
-          c.loop-place.place k c.cell_in.result
-          c.loop-place.invariant.count c.loop-place.invariant.each c.cell_in.ensures l);
+          (part_more (cell_in c.args.cells.now c.count-width.result c.args.from c.args.count) c.loop-cell.part.items
+          c.loop-cell.cell k c.cell_in.result
+          c.loop-cell.invariant.count c.loop-cell.invariant.each c.cell_in.ensures l);
     }

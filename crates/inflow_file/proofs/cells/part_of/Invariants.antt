@@ -2,8 +2,8 @@ use Rattle.std.proofs.Common.{◌≡◌, ℕ, ◌<◌, length, slice_index}
 use Rattle.inflow_file.specs.Cells.{cell_in}
 use Rattle.inflow_file.proofs.cells.part_of.Given as goal
 
-abbrev pub invariant-loop-place : goal.invariant-loop-place
-invariant-loop-place l = record {
-  count : length l.part.items ≡ l.place;
-  each : (k : ℕ) → k < l.place → slice_index l.part.items k ≡ cell_in l.cells l.width l.from l.count k;
+abbrev pub invariant-loop-cell : goal.invariant-loop-cell
+invariant-loop-cell l = record {
+  count : length l.part.items ≡ l.cell;
+  each : (k : ℕ) → k < l.cell → slice_index l.part.items k ≡ cell_in l.cells l.width l.from l.count k;
 }

@@ -1,7 +1,7 @@
 use Rattle.std.proofs.Common.{◌≡◌, ◌∙◌, ◌≤◌, ◌<◌, ◌+◌, ◌++◌, ◌∷◌, [], sym, arith, ap, rules, length}
 use Rattle.std.proofs.lemmas.List.{length_push}
 use Rattle.inflow_file.specs.Columns.{is_column, count_of_both}
-use Rattle.inflow_file.proofs.ColumnLaws.{none_below, passed_most, passed_below, filter_next, place_added, place_passed}
+use Rattle.inflow_file.proofs.ColumnLaws.{none_below, passed_most, passed_below, filter_next, index_added, index_passed}
 use Rattle.inflow_file.proofs.columns.indices_of.Goals as goal
 
 pub loop-number-init : goal.loop-number-init
@@ -38,7 +38,7 @@ loop-number-preserved c =
           ∙ (length_push c.loop-number.of_number.items (length c.loop-number.numbers.items)
           ∙ ap (λ n. n + 1) c.loop-number.invariant.count);
       each = λ n l. rw pushed
-          (place_added (λ m. is_column c.args.basin.now m) c.loop-number.of_number.items c.loop-number.numbers.items
+          (index_added (λ m. is_column c.args.basin.now m) c.loop-number.of_number.items c.loop-number.numbers.items
           c.loop-number.number n c.loop-number.invariant.count c.loop-number.invariant.numbers
           c.loop-number.invariant.each l);
     }
@@ -52,5 +52,5 @@ returns c =
       each = λ n l due. rw c.loop-number.invariant.numbers (
           let below : n < c.loop-number.number = omega arith in
           c.loop-number.invariant.each n below
-          ∙ sym (place_passed (λ n. is_column c.args.basin.now n) c.loop-number.number n below due));
+          ∙ sym (index_passed (λ n. is_column c.args.basin.now n) c.loop-number.number n below due));
     }

@@ -13,8 +13,8 @@ loop-right-init c = λ v.
     ap (λ xs. slice_index xs v) (c.fill.ensures.after (λ y h. h)) ∙ (no_numbers _ v
     ∙ sym (total_where_start (λ r. is_zone_of c.args.basin.now r v) (λ r. slice_index c.args.take.now r)))
 
-pub add_at-requires-clause-place : goal.add_at-requires-clause-place
-add_at-requires-clause-place c =
+pub add_at-requires-clause-position : goal.add_at-requires-clause-position
+add_at-requires-clause-position c =
     let within =
     zone_within c.args.basin.now c.loop-right.right c.in-Zone.reservoir c.in-Zone.level c.index.result.now
     c.requires.basin c.index.ensures c.in-Zone.is in

@@ -8,8 +8,8 @@ pub loop-reservoir-init : goal.loop-reservoir-init
 loop-reservoir-init c = λ n. nothing_yet (λ v. is_at (node_of_reservoir c.args.basin.now v) n)
     (λ v. slice_index c.args.opening.now v - slice_index c.args.evaporated.now v) _
 
-pub add_at-requires-clause-place : goal.add_at-requires-clause-place
-add_at-requires-clause-place c =
+pub add_at-requires-clause-position : goal.add_at-requires-clause-position
+add_at-requires-clause-position c =
     omega (
       arith,
       node_within c.args.basin.now c.loop-reservoir.reservoir _ c.requires.basin c.index.ensures,

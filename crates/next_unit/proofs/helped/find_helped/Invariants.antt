@@ -3,9 +3,9 @@ use Rattle.plan_residual.specs.Rows.{IsSearchOf}
 use Rattle.next_unit.specs.Helped.{AreHelpedTo, AreUndecided}
 use Rattle.next_unit.proofs.helped.find_helped.Given as goal
 
-abbrev pub invariant-loop-place : goal.invariant-loop-place
-invariant-loop-place l = record {
+abbrev pub invariant-loop-position : goal.invariant-loop-position
+invariant-loop-position l = record {
   search : IsSearchOf l.basin l.search;
   undecided : AreUndecided l.basin l.month l.helped l.undecided l.count;
-  helped : AreHelpedTo l.basin l.month l.place l.helped;
+  helped : AreHelpedTo l.basin l.month l.position l.helped;
 }

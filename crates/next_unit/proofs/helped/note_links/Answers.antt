@@ -6,22 +6,22 @@ use Rattle.next_unit.proofs.helped.note_links.Goals as goal
 pub loop-j-init : goal.loop-j-init
 loop-j-init c = record {
   undecided = c.requires.undecided;
-  helped = none_told c.args.basin.now c.args.month.now c.args.place c.args.helped.now c.args.undecided.now
+  helped = none_told c.args.basin.now c.args.month.now c.args.position c.args.helped.now c.args.undecided.now
       c.requires.helped;
 }
 
 pub loop-j-preserved : goal.loop-j-preserved
 loop-j-preserved c = record {
-  undecided = still_undecided c.args.basin.now c.args.month.now c.args.place c.loop-j.helped c.args.undecided.now
+  undecided = still_undecided c.args.basin.now c.args.month.now c.args.position c.loop-j.helped c.args.undecided.now
       c.args.count c.loop-j.j c.helped_with.result (omega arith) c.loop-j.invariant.undecided
       c.loop-j.invariant.helped.each.count;
-  helped = one_told c.args.basin.now c.args.month.now c.args.place c.loop-j.helped c.args.undecided.now c.args.count
+  helped = one_told c.args.basin.now c.args.month.now c.args.position c.loop-j.helped c.args.undecided.now c.args.count
       c.loop-j.j c.helped_with.result (omega arith) c.loop-j.invariant.undecided
       c.loop-j.invariant.helped.each.count c.loop-j.invariant.helped c.helped_with.ensures;
 }
 
 pub returns-clause-helped : goal.returns-clause-helped
 returns-clause-helped c =
-    all_told c.args.basin.now c.args.month.now c.args.place c.loop-j.helped c.args.undecided.now c.args.count
-    c.loop-j.j (by_seniority_order c.args.basin.now.rights c.requires.plan.valid.roll.strict) c.requires.place
+    all_told c.args.basin.now c.args.month.now c.args.position c.loop-j.helped c.args.undecided.now c.args.count
+    c.loop-j.j (by_seniority_order c.args.basin.now.rights c.requires.plan.valid.roll.strict) c.requires.position
     (omega arith) c.loop-j.invariant.undecided c.loop-j.invariant.helped

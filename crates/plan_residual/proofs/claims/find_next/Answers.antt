@@ -4,8 +4,8 @@ use Rattle.rights_roll.proofs.Seniors.{by_seniority_order}
 use Rattle.plan_residual.proofs.Claiming.{none_claimed, all_served}
 use Rattle.plan_residual.proofs.claims.find_next.Goals as goal
 
-pub loop-place-init : goal.loop-place-init
-loop-place-init c =
+pub loop-position-init : goal.loop-position-init
+loop-position-init c =
     none_claimed c.args.basin.now c.args.month.now c.fill.new.self c.args.queue.now c.fill-2.new.self
     (c.fill.ensures.after (λ y h. h) ∙ ap (λ (n : ℕ). replicate n false) c.requires.seen)
     (c.fill-2.ensures.after (λ y h. search rules) ∙ ap (λ (n : ℕ). replicate {A = Option ℕ} n None) c.requires.next)
@@ -13,6 +13,7 @@ loop-place-init c =
 
 pub returns : goal.returns
 returns c =
-    all_served c.args.basin.now c.args.month.now c.loop-place.place c.loop-place.seen c.loop-place.queue
-    c.loop-place.size c.loop-place.next (by_seniority_order c.args.basin.now.rights c.requires.plan.valid.roll.strict)
-    (omega arith) c.loop-place.invariant
+    all_served c.args.basin.now c.args.month.now c.loop-position.position c.loop-position.seen c.loop-position.queue
+    c.loop-position.size c.loop-position.next
+    (by_seniority_order c.args.basin.now.rights c.requires.plan.valid.roll.strict)
+    (omega arith) c.loop-position.invariant

@@ -23,7 +23,7 @@ pub returns : goal.returns
 returns c =
     let b = c.args.basin.now in
     let m = c.args.month.now in
-    let is : c.right_at-right.result ≡ right_at b c.args.place = c.right_at-right.ensures.value in
+    let is : c.right_at-right.result ≡ right_at b c.args.position = c.right_at-right.ensures.value in
     let short : slice_index m.delivered c.right_at-right.result < slice_index m.want c.right_at-right.result =
     omega (
       arith,
@@ -31,9 +31,9 @@ returns c =
       get_or_from_slice_get m.want c.right_at-right.result c.index-2.result.now 0 c.index-2.ensures,
       c.if-index.false,
     ) in
-    claimed_more b m c.args.place c.args.seen.now c.claim-more.new.seen c.args.queue.now c.claim-more.new.queue
+    claimed_more b m c.args.position c.args.seen.now c.claim-more.new.seen c.args.queue.now c.claim-more.new.queue
     c.args.size c.claim-more.result c.args.next.now c.mark.new.next c.requires.plan
-    (by_seniority_order b.rights c.requires.plan.valid.roll.strict) c.requires.place
+    (by_seniority_order b.rights c.requires.plan.valid.roll.strict) c.requires.position
     (subst (λ (r : ℕ). IsShortRight b m r) is record { in_range = c.right_at-right.ensures.within; short = short })
     c.requires.claimed
     (subst (λ (r : ℕ). IsClaim b m r c.args.seen.now c.claim-more.new.seen c.args.queue.now c.claim-more.new.queue

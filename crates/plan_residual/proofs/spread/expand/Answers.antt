@@ -1,7 +1,7 @@
 use Rattle.std.proofs.Common.{ℕ, ◌<◌, arith, slice_index, slice_index_or, length}
 use Rattle.std.specs.Prelude.{Some, None}
 use Rattle.plan_residual.proofs.Queues.{queue_fits}
-use Rattle.plan_residual.proofs.Spreading.{IsSpreading, place_below, spreading_start, spreading_next}
+use Rattle.plan_residual.proofs.Spreading.{IsSpreading, index_below, spreading_start, spreading_next}
 use Rattle.plan_residual.proofs.spread.expand.Goals as goal
 
 pub offset_bounds-queue-done : goal.offset_bounds-queue-done
@@ -24,7 +24,7 @@ pub loop-at-init : goal.loop-at-init
 loop-at-init c =
     let v : ℕ = slice_index c.args.queue.now c.args.done in
     let below : v < length c.args.basin.now.nodes =
-    place_below c.args.basin.now c.args.seen.now c.args.queue.now c.args.size c.args.done c.requires.queue
+    index_below c.args.basin.now c.args.seen.now c.args.queue.now c.args.size c.args.done c.requires.queue
     c.requires.seen c.requires.within in
     spreading_start c.args.basin.now c.args.month.now c.args.right c.args.direction c.args.seen.now c.args.queue.now
     c.args.size c.args.done (slice_index_or c.args.first.now v None) c.requires.queue c.requires.followed

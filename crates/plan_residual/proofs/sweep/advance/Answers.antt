@@ -14,7 +14,8 @@ pass_all-more-requires-clause-reaching c =
     let o = by_seniority_order b.rights c.requires.between.given.valid.roll.strict in
     subst (λ (r : ℕ). IsReaching b m r c.args.seen.now c.args.queue.now c.args.size)
     (sym c.right_at-right.ensures.value)
-    (reaching_before b m c.args.place c.args.before c.args.seen.now c.args.queue.now c.args.size o c.requires.between)
+    (reaching_before b m c.args.position c.args.before c.args.seen.now c.args.queue.now c.args.size o
+    c.requires.between)
 
 pub spread_on-requires-clause-followed : goal.spread_on-requires-clause-followed
 spread_on-requires-clause-followed c =
@@ -23,9 +24,9 @@ spread_on-requires-clause-followed c =
     let o = by_seniority_order b.rights c.requires.between.given.valid.roll.strict in
     subst (λ (r : ℕ). AreFollowed b m r FromSources c.pass_all-more.new.seen c.pass_all-more.new.queue c.args.size)
     (sym c.right_at-right.ensures.value)
-    (advanced b m c.args.place c.args.before c.args.seen.now c.pass_all-more.new.seen c.args.queue.now
+    (advanced b m c.args.position c.args.before c.args.seen.now c.pass_all-more.new.seen c.args.queue.now
     c.pass_all-more.new.queue c.args.size c.pass_all-more.result o c.requires.between c.pass_all-more.ensures.extends
-    (subst (λ (r : ℕ). ArePassed b m r c.args.seen.now c.pass_all-more.new.seen (c.args.place + 1)
+    (subst (λ (r : ℕ). ArePassed b m r c.args.seen.now c.pass_all-more.new.seen (c.args.position + 1)
     (c.args.before + 1)) c.right_at-right.ensures.value c.pass_all-more.ensures.passed))
 
 pub returns-clause-reached : goal.returns-clause-reached
@@ -33,16 +34,16 @@ returns-clause-reached c =
     let b = c.args.basin.now in
     let m = c.args.month.now in
     let o = by_seniority_order b.rights c.requires.between.given.valid.roll.strict in
-    let is : c.right_at-right.result ≡ right_at b c.args.place = c.right_at-right.ensures.value in
-    reached_apart b m (right_at b c.args.place) c.pass_all-more.new.seen c.spread_on.new.seen
+    let is : c.right_at-right.result ≡ right_at b c.args.position = c.right_at-right.ensures.value in
+    reached_apart b m (right_at b c.args.position) c.pass_all-more.new.seen c.spread_on.new.seen
     c.pass_all-more.new.queue c.spread_on.new.queue c.pass_all-more.result c.spread_on.result
     (subst (λ (r : ℕ). IsReaching b m r c.pass_all-more.new.seen c.pass_all-more.new.queue c.pass_all-more.result) is
     c.pass_all-more.ensures.reaching)
     (outlets_grow m (length b.nodes) c.args.seen.now c.pass_all-more.new.seen c.pass_all-more.ensures.extends.kept
     c.requires.between.reached.closed.outlets)
-    (juniors_passed b m c.args.place c.args.before c.args.seen.now c.pass_all-more.new.seen c.args.queue.now
+    (juniors_passed b m c.args.position c.args.before c.args.seen.now c.pass_all-more.new.seen c.args.queue.now
     c.args.size o c.requires.between c.pass_all-more.ensures.extends.kept
-    (subst (λ (r : ℕ). ArePassed b m r c.args.seen.now c.pass_all-more.new.seen (c.args.place + 1)
+    (subst (λ (r : ℕ). ArePassed b m r c.args.seen.now c.pass_all-more.new.seen (c.args.position + 1)
     (c.args.before + 1)) is c.pass_all-more.ensures.passed))
     (subst (λ (r : ℕ). HasGrown b m r FromSources c.pass_all-more.new.seen c.spread_on.new.seen
     c.pass_all-more.new.queue c.spread_on.new.queue c.pass_all-more.result c.spread_on.result) is

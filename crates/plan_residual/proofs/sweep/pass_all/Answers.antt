@@ -6,39 +6,39 @@ use Rattle.plan_residual.proofs.Queues.{extends_then}
 use Rattle.plan_residual.proofs.Sweeping.{passed_more}
 use Rattle.plan_residual.proofs.sweep.pass_all.Goals as goal
 
-pub bounds-order-place : goal.bounds-order-place
-bounds-order-place c =
+pub bounds-order-position : goal.bounds-order-position
+bounds-order-position c =
     let o = by_seniority_order c.args.basin.now.rights c.requires.plan.valid.roll.strict in
     omega (
       arith,
       ap length (c.by_seniority-order.ensures ∙ c.requires.roll.order),
       o.count,
       c.requires.to,
-      c.loop-place-test.true,
+      c.loop-position-test.true,
     )
 
 pub pass-more-requires-clause-junior : goal.pass-more-requires-clause-junior
 pass-more-requires-clause-junior c =
     let o = by_seniority_order c.args.basin.now.rights c.requires.plan.valid.roll.strict in
-    order_below c.args.basin.now c.by_seniority-order.result.now c.loop-place.place c.requires.plan.valid
+    order_below c.args.basin.now c.by_seniority-order.result.now c.loop-position.position c.requires.plan.valid
     (c.by_seniority-order.ensures ∙ c.requires.roll.order)
     (omega (
       arith,
       ap length (c.by_seniority-order.ensures ∙ c.requires.roll.order),
       o.count,
       c.requires.to,
-      c.loop-place-test.true,
+      c.loop-position-test.true,
     ))
 
-pub loop-place-preserved : goal.loop-place-preserved
-loop-place-preserved c =
+pub loop-position-preserved : goal.loop-position-preserved
+loop-position-preserved c =
     let b = c.args.basin.now in
     let is : c.by_seniority-order.result.now ≡ seniors_first b = c.by_seniority-order.ensures ∙ c.requires.roll.order in
     record {
       reaching = c.pass-more.ensures.reaching;
-      extends = extends_then c.loop-place.invariant.extends c.pass-more.ensures.extends;
-      passed = passed_more b c.args.month.now c.args.right c.args.seen.now c.loop-place.seen c.pass-more.new.seen
-          c.args.from c.loop-place.place (get_or c.by_seniority-order.result.now c.loop-place.place 0)
-          c.loop-place.invariant.extends.kept c.pass-more.ensures.extends.kept c.loop-place.invariant.passed
-          (ap (λ (xs : List ℕ). get_or xs c.loop-place.place 0) (sym is)) c.pass-more.ensures.passed;
+      extends = extends_then c.loop-position.invariant.extends c.pass-more.ensures.extends;
+      passed = passed_more b c.args.month.now c.args.right c.args.seen.now c.loop-position.seen c.pass-more.new.seen
+          c.args.from c.loop-position.position (get_or c.by_seniority-order.result.now c.loop-position.position 0)
+          c.loop-position.invariant.extends.kept c.pass-more.ensures.extends.kept c.loop-position.invariant.passed
+          (ap (λ (xs : List ℕ). get_or xs c.loop-position.position 0) (sym is)) c.pass-more.ensures.passed;
     }

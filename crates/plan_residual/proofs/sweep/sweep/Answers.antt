@@ -5,24 +5,24 @@ use Rattle.plan_residual.specs.Sweep.{IsFirstFrom}
 use Rattle.plan_residual.proofs.Sweeps.{judged_more, judged_all}
 use Rattle.plan_residual.proofs.sweep.sweep.Goals as goal
 
-pub loop-place-preserved : goal.loop-place-preserved
-loop-place-preserved c =
+pub loop-position-preserved : goal.loop-position-preserved
+loop-position-preserved c =
     let b = c.args.basin.now in
     let m = c.args.month.now in
-    let place : ℕ = c.loop-place.place - 1 in
-    let next : c.loop-place.place ≡ place + 1 = omega arith in
+    let position : ℕ = c.loop-position.position - 1 in
+    let next : c.loop-position.position ≡ position + 1 = omega arith in
     record {
       level = c.judge-other.ensures.level;
-      answer = subst (λ (o : Option ℕ). IsFirstFrom b m place o) (sym c.pick-answer.ensures)
-          (judged_more b m place c.right_at.result c.judge-other.result c.loop-place.answer (omega arith)
+      answer = subst (λ (o : Option ℕ). IsFirstFrom b m position o) (sym c.pick-answer.ensures)
+          (judged_more b m position c.right_at.result c.judge-other.result c.loop-position.answer (omega arith)
           (sym c.right_at.ensures.value) c.judge-other.ensures.yes c.judge-other.ensures.no
-          (subst (λ (n : ℕ). IsFirstFrom b m n c.loop-place.answer) next c.loop-place.invariant.answer));
+          (subst (λ (n : ℕ). IsFirstFrom b m n c.loop-position.answer) next c.loop-position.invariant.answer));
     }
 
 pub returns : goal.returns
 returns c =
     let b = c.args.basin.now in
     let m = c.args.month.now in
-    let none : c.loop-place.place ≡ 0 = omega arith in
-    judged_all b m c.loop-place.answer (by_seniority_order b.rights c.requires.plan.valid.roll.strict)
-    (subst (λ (n : ℕ). IsFirstFrom b m n c.loop-place.answer) none c.loop-place.invariant.answer)
+    let none : c.loop-position.position ≡ 0 = omega arith in
+    judged_all b m c.loop-position.answer (by_seniority_order b.rights c.requires.plan.valid.roll.strict)
+    (subst (λ (n : ℕ). IsFirstFrom b m n c.loop-position.answer) none c.loop-position.invariant.answer)

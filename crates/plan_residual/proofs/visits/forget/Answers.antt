@@ -3,30 +3,30 @@ use Rattle.plan_residual.specs.Search.{IsQueue}
 use Rattle.plan_residual.proofs.Queues.{forget_last, queue_fits}
 use Rattle.plan_residual.proofs.visits.forget.Goals as goal
 
-pub offset_bounds-queue-place : goal.offset_bounds-queue-place
-offset_bounds-queue-place c =
+pub offset_bounds-queue-position : goal.offset_bounds-queue-position
+offset_bounds-queue-position c =
     omega (
       arith,
-      c.loop-place.invariant.queue.bounded,
-      c.loop-place-test.true,
-      queue_fits c.loop-place.seen c.args.queue.now c.loop-place.place c.loop-place.invariant.queue,
+      c.loop-position.invariant.queue.bounded,
+      c.loop-position-test.true,
+      queue_fits c.loop-position.seen c.args.queue.now c.loop-position.position c.loop-position.invariant.queue,
     )
 
-pub bounds-queue-place : goal.bounds-queue-place
-bounds-queue-place c =
+pub bounds-queue-position : goal.bounds-queue-position
+bounds-queue-position c =
     omega (
       arith,
-      c.loop-place.invariant.queue.sized,
-      c.loop-place-test.true,
-      queue_fits c.loop-place.seen c.args.queue.now c.loop-place.place c.loop-place.invariant.queue,
+      c.loop-position.invariant.queue.sized,
+      c.loop-position-test.true,
+      queue_fits c.loop-position.seen c.args.queue.now c.loop-position.position c.loop-position.invariant.queue,
     )
 
-pub loop-place-preserved : goal.loop-place-preserved
-loop-place-preserved c =
-    let place : ℕ = c.loop-place.place - 1 in
-    let next : c.loop-place.place ≡ place + 1 = omega arith in
+pub loop-position-preserved : goal.loop-position-preserved
+loop-position-preserved c =
+    let position : ℕ = c.loop-position.position - 1 in
+    let next : c.loop-position.position ≡ position + 1 = omega arith in
     record {
-      queue = forget_last c.loop-place.seen c.args.queue.now place
-          (subst (λ (n : ℕ). IsQueue c.loop-place.seen c.args.queue.now n) next c.loop-place.invariant.queue);
+      queue = forget_last c.loop-position.seen c.args.queue.now position
+          (subst (λ (n : ℕ). IsQueue c.loop-position.seen c.args.queue.now n) next c.loop-position.invariant.queue);
       above = omega arith;
     }

@@ -4,8 +4,8 @@ use Rattle.water_model.specs.Text.{calling_right, lines_at, section_space}
 use Rattle.water_edge.proofs.Puts.{SoFar}
 use Rattle.result_text.proofs.writer.put_section.Given as goal
 
-abbrev pub invariant-loop-place : goal.invariant-loop-place
-invariant-loop-place g l =
+abbrev pub invariant-loop-index : goal.invariant-loop-index
+invariant-loop-index g l =
     SoFar (whole_line l.basin) (lines_at l.section l.basin l.month (calling_right l.basin l.month))
-    (in_order (section_space l.section) l.basin) l.place
+    (in_order (section_space l.section) l.basin) l.index
     (g.K.Sink.taken l.fn.sink) (g.K.Sink.taken l.sink) (g.K.Sink.faults l.fn.sink) (g.K.Sink.faults l.sink)

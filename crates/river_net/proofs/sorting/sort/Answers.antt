@@ -5,6 +5,6 @@ use Rattle.river_net.proofs.sorting.sort.Goals as goal
 pub loop-done-smaller : goal.loop-done-smaller
 loop-done-smaller c =
     let fits =
-    order_fits c.args.graph.now c.loop-done.sorting.order.items c.loop-done.invariant.place
+    order_fits c.args.graph.now c.loop-done.sorting.order.items c.loop-done.invariant.position
     c.loop-done.invariant.sorting.placing in
     omega (arith, c.loop-done-test.true, c.len.ensures)

@@ -14,20 +14,20 @@ overflow_add-index c =
     let cell : HasCell c.args.basin.now c.args.inflows.now c.args.node c.args.index =
     has_cell c.args.basin.now c.args.inflows.now c.args.node c.args.index c.index.result.now c.requires.basin
     c.requires.series c.requires.node c.requires.index c.index.ensures c.in-Gauged.is in
-    rw (c.len.ensures, c.place_of-gauge.ensures, c.as_slice.ensures) (omega (arith, cell.small))
+    rw (c.len.ensures, c.index_of-gauge.ensures, c.as_slice.ensures) (omega (arith, cell.small))
 
 pub index-requires-in-Gauged : goal.index-requires-in-Gauged
 index-requires-in-Gauged c =
     let cell : HasCell c.args.basin.now c.args.inflows.now c.args.node c.args.index =
     has_cell c.args.basin.now c.args.inflows.now c.args.node c.args.index c.index.result.now c.requires.basin
     c.requires.series c.requires.node c.requires.index c.index.ensures c.in-Gauged.is in
-    rw (c.len.ensures, c.place_of-gauge.ensures, c.as_slice.ensures) cell.within
+    rw (c.len.ensures, c.index_of-gauge.ensures, c.as_slice.ensures) cell.within
 
 pub returns-in-Gauged : goal.returns-in-Gauged
 returns-in-Gauged c =
     cell_is_inflow c.args.basin.now c.args.inflows.now c.args.node c.args.index c.index.result.now
     c.index-in-Gauged.result.now c.index.ensures c.in-Gauged.is
-    (rw (c.len.ensures, c.place_of-gauge.ensures, c.as_slice.ensures) at c.index-in-Gauged.ensures)
+    (rw (c.len.ensures, c.index_of-gauge.ensures, c.as_slice.ensures) at c.index-in-Gauged.ensures)
 
-pub place_of-gauge-requires : goal.place_of-gauge-requires
-place_of-gauge-requires c = rw c.as_slice.ensures (gauges_rise c.args.basin.now c.args.inflows.now c.requires.series)
+pub index_of-gauge-requires : goal.index_of-gauge-requires
+index_of-gauge-requires c = rw c.as_slice.ensures (gauges_rise c.args.basin.now c.args.inflows.now c.requires.series)

@@ -14,20 +14,20 @@ overflow_add-index c =
     let cell : HasWant c.args.basin.now c.args.inflows.now c.args.right c.args.index =
     has_want c.args.basin.now c.args.inflows.now c.args.right c.args.index c.index-entry.result.now c.requires.basin
     c.requires.series c.requires.right c.requires.index c.index-entry.ensures c.if-entry.true in
-    rw (c.len.ensures, c.place_of-place.ensures, c.as_slice.ensures) (omega (arith, cell.small))
+    rw (c.len.ensures, c.index_of-position.ensures, c.as_slice.ensures) (omega (arith, cell.small))
 
-pub place_of-place-requires : goal.place_of-place-requires
-place_of-place-requires c = rw c.as_slice.ensures (wanted_rise c.args.basin.now c.args.inflows.now c.requires.series)
+pub index_of-position-requires : goal.index_of-position-requires
+index_of-position-requires c = rw c.as_slice.ensures (wanted_rise c.args.basin.now c.args.inflows.now c.requires.series)
 
 pub index-requires : goal.index-requires
 index-requires c =
     let cell : HasWant c.args.basin.now c.args.inflows.now c.args.right c.args.index =
     has_want c.args.basin.now c.args.inflows.now c.args.right c.args.index c.index-entry.result.now c.requires.basin
     c.requires.series c.requires.right c.requires.index c.index-entry.ensures c.if-entry.true in
-    rw (c.len.ensures, c.place_of-place.ensures, c.as_slice.ensures) cell.within
+    rw (c.len.ensures, c.index_of-position.ensures, c.as_slice.ensures) cell.within
 
 pub returns-then-entry : goal.returns-then-entry
 returns-then-entry c =
     want_is_number c.args.basin.now c.args.inflows.now c.args.right c.args.index c.index-entry.result.now
     c.index.result.now c.index-entry.ensures c.if-entry.true
-    (rw (c.len.ensures, c.place_of-place.ensures, c.as_slice.ensures) at c.index.ensures)
+    (rw (c.len.ensures, c.index_of-position.ensures, c.as_slice.ensures) at c.index.ensures)

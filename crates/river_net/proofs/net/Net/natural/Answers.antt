@@ -20,9 +20,9 @@ river_read rivers seen n node o same at l read =
     ∙ (ap (λ k. get_or seen k o) at ∙ get_or_default seen node o None l))
 
 -- a place of the order is below the number of nodes
-place_in : (nodes : List Node) (links : List Link) (net : NetView) (items : List ℕ) (i : ℕ) → IsNet nodes links net →
+index_in : (nodes : List Node) (links : List Link) (net : NetView) (items : List ℕ) (i : ℕ) → IsNet nodes links net →
     items ≡ net.order → i < length items → i < length nodes
-place_in nodes links net items i is same l = omega (arith, ap length same, is.run.count)
+index_in nodes links net items i is same l = omega (arith, ap length same, is.run.count)
 
 -- the node at a place has a place among the first rivers
 node_in : (nodes : List Node) (links : List Link) (net : NetView) (i : ℕ) → IsNet nodes links net → i < length nodes →
@@ -32,7 +32,7 @@ node_in nodes links net i is l = let b = is.run.below i l in omega (arith, is.ri
 pub loop-node-init : goal.loop-node-init
 loop-node-init c = λ nodes links net sound. let dry = c.fill.ensures.after (λ y h. h) in let here =
     c.copy_from_slice.ensures.after in
-    running_start nodes links (λ v. slice_index c.args.supply.now v) net.run.place _ _
+    running_start nodes links (λ v. slice_index c.args.supply.now v) net.run.position _ _
     (λ e l. ap (λ (xs : List ℕ). slice_index xs e) dry
     ∙ get_or-replicate {A = ℕ} (length c.args.flow.now) e 0 0 (omega (arith, c.requires.flow, net.head_count)))
     (λ v l. ap (λ (xs : List ℕ). slice_index xs v) here)
@@ -50,7 +50,7 @@ send-requires-clause-river c =
     let order = c.deref-node-items.ensures.value ∙ ap (λ (s : NetView). s.order) c.self.view_is in
     let heads = c.deref-heads.ensures.value ∙ ap (λ (s : NetView). s.heads) c.self.view_is in
     let below =
-    place_in some.nodes some.links c.args.self.now c.deref-node-items.result.now i net order
+    index_in some.nodes some.links c.args.self.now c.deref-node-items.result.now i net order
     c.loop-node-test.true in
     let node = ap (λ (xs : List ℕ). slice_index xs i) order in
     let river =
@@ -76,7 +76,7 @@ loop-node-preserved c = λ nodes links net sound.
     let i = c.loop-node.node-index in
     let order = c.deref-node-items.ensures.value ∙ ap (λ (s : NetView). s.order) c.self.view_is in
     let heads = c.deref-heads.ensures.value ∙ ap (λ (s : NetView). s.heads) c.self.view_is in
-    let below = place_in nodes links c.args.self.now c.deref-node-items.result.now i net order c.loop-node-test.true in
+    let below = index_in nodes links c.args.self.now c.deref-node-items.result.now i net order c.loop-node-test.true in
     let node = ap (λ (xs : List ℕ). slice_index xs i) order in
     let river =
     river_read c.self.inside.rivers.items c.args.self.now.rivers _ (slice_index c.args.self.now.order i)
@@ -111,7 +111,7 @@ returns-clause-run c = λ nodes links net sound.
     sound
     (c.loop-node.auto.flow ∙ (c.fill.ensures.len ∙ (c.requires.flow ∙ net.head_count)))
     (c.loop-node.auto.out ∙ (c.copy_from_slice.ensures.len ∙ (c.requires.out ∙ net.run.count)))
-    (subst (λ n. IsRunning nodes links (λ v. slice_index c.args.supply.now v) net.run.place n
+    (subst (λ n. IsRunning nodes links (λ v. slice_index c.args.supply.now v) net.run.position n
     (λ e. slice_index c.loop-node.flow e) (λ v. slice_index c.loop-node.out v)) all
     (c.loop-node.invariant nodes links net sound))
 

@@ -10,8 +10,8 @@ use Rattle.call_list.specs.Entries.{IsOfBasin, whole_line}
 use Rattle.call_list.specs.Helping.{link_lines, node_lines}
 use Rattle.call_list.specs.declared.entry.Entry.{Entry}
 use Rattle.call_list.specs.declared.entry.Entry.TheVariants as line
-use Rattle.call_list.proofs.HelpTexts.{place_pieces}
-use Rattle.call_list.proofs.helping.put_places.Goals as goal
+use Rattle.call_list.proofs.HelpTexts.{index_pieces}
+use Rattle.call_list.proofs.helping.put_indices.Goals as goal
 
 pub first_line-requires-clause-delivered : goal.first_line-requires-clause-delivered
 first_line-requires-clause-delivered g c = omega (arith, c.requires.month.fits.delivered, c.requires.core.in_range)
@@ -36,7 +36,7 @@ returns-in_err-put_nodes-clause-text g c =
     let mid = g.K.Sink.taken c.put_entry.new.sink in
     let new = g.K.Sink.taken c.put_nodes.new.sink in
     subst (λ (bytes : List ℕ). Puts old new c.from_residual-in_err-put_nodes.result bytes)
-    (place_pieces b m r reach core)
+    (index_pieces b m r reach core)
     (Puts-second old mid new c.from_residual-in_err-put_nodes.result (whole_line b first)
     (flat_map (whole_line b) (flat_map (node_lines core) (indices_of b.nodes)))
     (flat_map (whole_line b) (flat_map (link_lines b reach core) (indices_of b.links)))
@@ -55,7 +55,7 @@ returns-clause-text g c =
     let old = g.K.Sink.taken c.args.sink.now in
     let mid = g.K.Sink.taken c.put_entry.new.sink in
     let new = g.K.Sink.taken c.put_links.new.sink in
-    subst (λ (bytes : List ℕ). Puts old new c.put_links.result bytes) (place_pieces b m r reach core)
+    subst (λ (bytes : List ℕ). Puts old new c.put_links.result bytes) (index_pieces b m r reach core)
     (Puts-third old mid (g.K.Sink.taken c.put_nodes.new.sink) new c.put_links.result (whole_line b first)
     (flat_map (whole_line b) (flat_map (node_lines core) (indices_of b.nodes)))
     (flat_map (whole_line b) (flat_map (link_lines b reach core) (indices_of b.links)))

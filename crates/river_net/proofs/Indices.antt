@@ -12,16 +12,16 @@ use Rattle.river_net.specs.Sorting.{IsPlacing}
 use Rattle.finite_sums.proofs.Counts.{fewer, at_inside}
 
 -- the places with one more
-abbrev pub with_place : (ℕ → ℕ) → ℕ → ℕ → ℕ → ℕ
-with_place place v k u = if u == v then k else place u
+abbrev pub with_index : (ℕ → ℕ) → ℕ → ℕ → ℕ → ℕ
+with_index position v k u = if u == v then k else position u
 
 -- the new place
-pub at_place : (place : ℕ → ℕ) (v k : ℕ) → with_place place v k v ≡ k
-at_place place v k = grind (arith, nat_tests)
+pub at_index : (position : ℕ → ℕ) (v k : ℕ) → with_index position v k v ≡ k
+at_index position v k = grind (arith, nat_tests)
 
 -- the other places
-pub off_place : (place : ℕ → ℕ) (v k u : ℕ) → u ≢ v → with_place place v k u ≡ place u
-off_place place v k u ne = grind (arith, nat_tests)
+pub off_index : (position : ℕ → ℕ) (v k u : ℕ) → u ≢ v → with_index position v k u ≡ position u
+off_index position v k u ne = grind (arith, nat_tests)
 
 -- at the start no node has a place
 pub placing_start : (g : GraphView) → IsPlacing g [] (λ v. g.nodes)
@@ -36,39 +36,39 @@ placing_start g = record {
     no n x = grind (arith, nat_tests)
 
 -- an order of fewer nodes than there are, where a node has no place
-pub room : (g : GraphView) (order : List ℕ) (place : ℕ → ℕ) (v : ℕ) → IsPlacing g order place → v < g.nodes →
-    place v ≡ g.nodes →
+pub room : (g : GraphView) (order : List ℕ) (position : ℕ → ℕ) (v : ℕ) → IsPlacing g order position → v < g.nodes →
+    position v ≡ g.nodes →
     length order < g.nodes
-room g order place v now l unplaced =
-    let f = fewer g.nodes (λ u. nat_lt (place u) g.nodes) v l (le-ltb (place v) g.nodes (omega arith)) in
+room g order position v now l unplaced =
+    let f = fewer g.nodes (λ u. nat_lt (position u) g.nodes) v l (le-ltb (position v) g.nodes (omega arith)) in
     omega (arith, now.number)
 
 -- a node gets the next place, after all tails of links to it
-pub placing_next : (g : GraphView) (order : List ℕ) (place : ℕ → ℕ) (v : ℕ) → IsWithin g.nodes g.links →
-    IsPlacing g order place →
-    v < g.nodes → place v ≡ g.nodes →
-    ((e : ℕ) → e < length g.links → head_in g.links e ≡ v → place (tail_in g.links e) < length order) →
-    IsPlacing g (order ++ v ∷ []) (with_place place v (length order))
-placing_next g order place v within now inside unplaced tails = record {
+pub placing_next : (g : GraphView) (order : List ℕ) (position : ℕ → ℕ) (v : ℕ) → IsWithin g.nodes g.links →
+    IsPlacing g order position →
+    v < g.nodes → position v ≡ g.nodes →
+    ((e : ℕ) → e < length g.links → head_in g.links e ≡ v → position (tail_in g.links e) < length order) →
+    IsPlacing g (order ++ v ∷ []) (with_index position v (length order))
+placing_next g order position v within now inside unplaced tails = record {
   each = λ u l. elim (cases_eq u v) [
-    | inl same ↦ (let at : place' u ≡ length order = ap place' same ∙ here in
+    | inl same ↦ (let at : position' u ≡ length order = ap position' same ∙ here in
         inr (omega (arith, count), ap (slice_index order') at ∙ last ∙ sym same))
     | inr other ↦ elim (now.each u l) [
       | inl none ↦ inl (there u other ∙ none)
       | inr placed ↦ (let p = placed.0 in let q = there u other in
-          inr (omega (arith, count), ap (slice_index order') q ∙ earlier (place u) p ∙ placed.1))
+          inr (omega (arith, count), ap (slice_index order') q ∙ earlier (position u) p ∙ placed.1))
     ]
   ];
   placed = λ k below. elim (cases_lt k (length order)) [
     | inl before ↦ (let p = now.placed k before in (
       (let e = earlier k before in let q = p.0 in omega arith),
-      ap place' (earlier k before)
-          ∙ (there (slice_index order k) (λ e. let f = ap place e in let q = p.1 in absurd (omega (arith, full)))
+      ap position' (earlier k before)
+          ∙ (there (slice_index order k) (λ e. let f = ap position e in let q = p.1 in absurd (omega (arith, full)))
           ∙ p.1),
     ))
     | inr at ↦ (let e : k ≡ length order = omega (arith, count) in (
       (let f = ap (slice_index order') e in omega (arith, last)),
-      ap place' (ap (slice_index order') e ∙ last) ∙ here ∙ sym e,
+      ap position' (ap (slice_index order') e ∙ last) ∙ here ∙ sym e,
     ))
   ];
   forward = λ e l below. runs e l below (cases_eq (head_in g.links e) v);
@@ -76,9 +76,9 @@ placing_next g order place v within now inside unplaced tails = record {
     arith,
     count,
     now.number,
-    total_same g.nodes (λ u. if nat_lt (place' u) g.nodes then 1 else 0)
-        (λ u. (if nat_lt (place u) g.nodes then 1 else 0) + (if v == u then 1 else 0)) (λ u l. counted u),
-    total_add g.nodes (λ u. if nat_lt (place u) g.nodes then 1 else 0) (λ u. if v == u then 1 else 0),
+    total_same g.nodes (λ u. if nat_lt (position' u) g.nodes then 1 else 0)
+        (λ u. (if nat_lt (position u) g.nodes then 1 else 0) + (if v == u then 1 else 0)) (λ u l. counted u),
+    total_add g.nodes (λ u. if nat_lt (position u) g.nodes then 1 else 0) (λ u. if v == u then 1 else 0),
     total_at g.nodes v 1,
     at_inside v g.nodes 1 inside,
   );
@@ -87,20 +87,20 @@ placing_next g order place v within now inside unplaced tails = record {
     order' : List ℕ
     order' = order ++ v ∷ []
 
-    place' : ℕ → ℕ
-    place' = with_place place v (length order)
+    position' : ℕ → ℕ
+    position' = with_index position v (length order)
 
     full : length order < g.nodes
-    full = room g order place v now inside unplaced
+    full = room g order position v now inside unplaced
 
     count : length order' ≡ length order + 1
     count = grind (arith, common_steps)
 
-    here : place' v ≡ length order
-    here = at_place place v (length order)
+    here : position' v ≡ length order
+    here = at_index position v (length order)
 
-    there : (u : ℕ) → u ≢ v → place' u ≡ place u
-    there u ne = off_place place v (length order) u ne
+    there : (u : ℕ) → u ≢ v → position' u ≡ position u
+    there u ne = off_index position v (length order) u ne
 
     last : slice_index order' (length order) ≡ v
     last = grind (arith, common_steps)
@@ -109,20 +109,20 @@ placing_next g order place v within now inside unplaced tails = record {
     earlier k l = grind (arith, common_steps)
 
     -- a node with a place is another node
-    tail_stays : (u : ℕ) → place u < length order → place' u ≡ place u
-    tail_stays u l = there u (λ same. let p = ap place same in absurd (omega (arith, full)))
+    tail_stays : (u : ℕ) → position u < length order → position' u ≡ position u
+    tail_stays u l = there u (λ same. let p = ap position same in absurd (omega (arith, full)))
 
-    runs : (e : ℕ) → e < length g.links → place' (head_in g.links e) < length order' → (head_in g.links e ≡ v) ⊎
+    runs : (e : ℕ) → e < length g.links → position' (head_in g.links e) < length order' → (head_in g.links e ≡ v) ⊎
         (head_in g.links e ≢ v) →
-        place' (tail_in g.links e) < place' (head_in g.links e)
+        position' (tail_in g.links e) < position' (head_in g.links e)
     runs e l below (inl at) =
-        let h = ap place' at in
+        let h = ap position' at in
         let t = tails e l at in
         let s = tail_stays (tail_in g.links e) t in
         omega (arith, here)
     runs e l below (inr other) =
         let h = there (head_in g.links e) other in
-        let old : place (head_in g.links e) < length order = elim (now.each (head_in g.links e) (within.ends e l).1) [
+        let old : position (head_in g.links e) < length order = elim (now.each (head_in g.links e) (within.ends e l).1) [
           | inl none ↦ absurd (omega (arith, full, count))
           | inr placed ↦ placed.0
         ] in
@@ -131,11 +131,11 @@ placing_next g order place v within now inside unplaced tails = record {
         omega arith
 
     counted : (u : ℕ) →
-        (if nat_lt (place' u) g.nodes then 1 else 0) ≡ (if nat_lt (place u) g.nodes then 1 else 0) +
+        (if nat_lt (position' u) g.nodes then 1 else 0) ≡ (if nat_lt (position u) g.nodes then 1 else 0) +
         (if v == u then 1 else 0)
-    counted u = by_place u v (length order) g.nodes (place u) (place' u) full
-        (λ e. ap place' e ∙ here) (λ e. ap place e ∙ unplaced) (there u)
+    counted u = by_index u v (length order) g.nodes (position u) (position' u) full
+        (λ e. ap position' e ∙ here) (λ e. ap position e ∙ unplaced) (there u)
       where
-        by_place : (u v i n p q : ℕ) → i < n → (u ≡ v → q ≡ i) → (u ≡ v → p ≡ n) → (u ≢ v → q ≡ p) →
+        by_index : (u v i n p q : ℕ) → i < n → (u ≡ v → q ≡ i) → (u ≡ v → p ≡ n) → (u ≢ v → q ≡ p) →
             (if nat_lt q n then 1 else 0) ≡ (if nat_lt p n then 1 else 0) + (if v == u then 1 else 0)
-        by_place u v i n p q l a c d = grind (arith, nat_tests)
+        by_index u v i n p q l a c d = grind (arith, nat_tests)

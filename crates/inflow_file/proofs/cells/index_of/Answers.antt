@@ -1,20 +1,20 @@
 use Rattle.std.proofs.Common.{arith}
-use Rattle.inflow_file.proofs.DueLaws.{small_place, small_table}
-use Rattle.inflow_file.proofs.cells.place_of.Goals as goal
+use Rattle.inflow_file.proofs.DueLaws.{small_index, small_table}
+use Rattle.inflow_file.proofs.cells.index_of.Goals as goal
 
 pub overflow_mul-result : goal.overflow_mul-result
 overflow_mul-result c =
     let small =
-    small_place c.args.columns.now.basin.now c.args.index c.args.number c.requires.basin.run.months.1
+    small_index c.args.columns.now.basin.now c.args.index c.args.number c.requires.basin.run.months.1
     c.requires.basin.bounded c.requires.index c.requires.column in
     rw c.count.ensures (omega (arith, small.0))
 
 pub overflow_add-result : goal.overflow_add-result
 overflow_add-result c =
     let small =
-    small_place c.args.columns.now.basin.now c.args.index c.args.number c.requires.basin.run.months.1
+    small_index c.args.columns.now.basin.now c.args.index c.args.number c.requires.basin.run.months.1
     c.requires.basin.bounded c.requires.index c.requires.column in
-    rw (c.count.ensures, c.place_of.ensures)
+    rw (c.count.ensures, c.index_of.ensures)
     (omega (
       arith,
       small.1,
@@ -25,6 +25,6 @@ overflow_add-result c =
 pub returns-clause-within : goal.returns-clause-within
 returns-clause-within c =
     let small =
-    small_place c.args.columns.now.basin.now c.args.index c.args.number c.requires.basin.run.months.1
+    small_index c.args.columns.now.basin.now c.args.index c.args.number c.requires.basin.run.months.1
     c.requires.basin.bounded c.requires.index c.requires.column in
-    rw (c.count.ensures, c.place_of.ensures) small.1
+    rw (c.count.ensures, c.index_of.ensures) small.1
