@@ -13,7 +13,7 @@ use Rattle.augment.specs.Search.{IsTree, IsClosed}
 use Rattle.augment.proofs.Cuts.{crossing}
 use Rattle.augment.proofs.Trees.{in_set, set_from, not_in_set}
 
--- a number for each place that passes
+-- a number for each index that passes
 total-counted : (n d : ℕ) (p : ℕ → Bool) → total n (λ k. when (p k) d) ≡ total n (λ k. when (p k) 1) * d
 unfolding total
 total-counted zero d p = omega arith
@@ -23,19 +23,19 @@ total-counted (suc n) d p = omega (arith, total-counted n d p, one (p n))
     one true = omega arith
     one false = omega arith
 
--- two sets of arcs that are apart
+-- two sets of arcs that have no arc in common
 disjoint_sum : (n : ℕ) (d : ℕ → ℕ) (p q : ℕ → Bool) → ((a : ℕ) → a < n → when (p a) (d a) + when (q a) (d a) ≤ d a) →
     total n (λ a. when (p a) (d a)) + total n (λ a. when (q a) (d a)) ≤ total n d
 disjoint_sum n d p q h =
     let both = total_le n (λ a. when (p a) (d a) + when (q a) (d a)) d h in
     omega (arith, both, total_add n (λ a. when (p a) (d a)) (λ a. when (q a) (d a)))
 
--- terms that are apart by at most d where the test holds
+-- terms of which one is at most d more than the other, where the test holds
 when-slack : (b : Bool) (x y d : ℕ) → (b ≡ true → x ≤ y + d) → when b x ≤ when b y + when b d
 when-slack true x y d h = h refl
 when-slack false x y d h = omega arith
 
--- sums of terms that are apart by at most d each
+-- sums of terms of which one is at most d more than the other
 total-slack : (n : ℕ) (d : ℕ → ℕ) (p : ℕ → Bool) (f g : ℕ → ℕ) → ((a : ℕ) → a < n → p a ≡ true → f a ≤ g a + d a) →
     total n (λ a. when (p a) (f a)) ≤ total n (λ a. when (p a) (g a)) + total n (λ a. when (p a) (d a))
 total-slack n d p f g h =
@@ -276,7 +276,7 @@ phase_pushes least arcs pushes rise some each limit = elim (cases_lt (2 * arcs) 
 next_product : (n d : ℕ) → (n + 1) * d ≡ n * d + d
 next_product n d = omega arith
 
--- one push more in a phase
+-- one more push in a phase
 pub phase_next : (least arcs start before after from now next want : ℕ) → 0 < least → start ≤ before →
     after ≡ before + 1 → (before - start) * least + from ≤ now → now ≤ from + arcs * (2 * least - 1) → now < want →
     now + min least (want - now) ≤ next →

@@ -84,12 +84,12 @@ expanded_from w g r least position v tried = record {
 abbrev IsDone : Contents → Contents → ℕ → ℕ → ℕ → Type 0
 IsDone c d r least s = arc_of s < arcs c → IsTried (network c) (flow_of c) r least (position_of d) s
 
--- of the row of the node v, the steps before a place were tried
+-- of the row of the node v, the steps before an index were tried
 pub record IsTrying (c d : Contents) (r least size count v place : ℕ) : Type 0 where
   pub visited : IsVisitedBy c d r least size count
   pub scan : IsScan c v place (IsDone c d r least)
 
--- at the first place
+-- at the first index
 pub trying_start : (c : Contents) (r least size v place : ℕ) → HasTree c r least size →
     place ≡ slice_index c.rows.first v → IsTrying c c r least size size v place
 trying_start c r least size v place t is = record {
@@ -97,7 +97,7 @@ trying_start c r least size v place t is = record {
   scan = scan_start c v place (IsDone c c r least) is;
 }
 
--- what is known of the step at a place
+-- what is known of the step at an index
 pub record IsStep (d : Contents) (s u : ℕ) : Type 0 where
   pub arc : arc_of s < arcs d
   pub end : end_of (network d) s ≡ u
@@ -120,13 +120,13 @@ trying_at c d r least size count v place s u k within m t from below is end =
     } in
     subst (λ (x : Contents). IsStep x s u) (sym rest) own
 
--- there are steps at the places of a row
+-- there are steps at the indices of a row
 pub trying_inside : (c d : Contents) (r least size count v place : ℕ) → IsCirculation c → v ≤ c.nodes →
     IsTrying c d r least size count v place → place < slice_index c.rows.first (v + 1) → place < length d.rows.step
 trying_inside c d r least size count v place k within t below =
     omega (arith, scan_inside c v place k within below, ap (λ (x : Contents). length x.rows.step) t.visited.rest)
 
--- on to the next place
+-- on to the next index
 pub trying_next : (c d e : Contents) (r least size count most v place s : ℕ) → IsCirculation c → v ≤ c.nodes →
     IsTrying c d r least size count v place → s ≡ slice_index d.rows.step place → IsVisitedBy d e r least count most →
     IsTried (network d) (flow_of d) r least (position_of e) s → IsTrying c e r least size most v (place + 1)

@@ -91,7 +91,7 @@ branch-kept w g r least old new k s v ends same b =
       room = b.room;
     }
 
--- a node more
+-- one more node
 pub tree_next : (w : Network) (g : ℕ → ℕ) (r least : ℕ) (old position node node' step step' : ℕ → ℕ) (size s v : ℕ) →
     HasEnds w → IsTree w g r least old node step size → v ≤ w.nodes → old v ≡ 0 → position v ≡ size + 1 →
     ((u : ℕ) → u ≤ w.nodes → u ≢ v → position u ≡ old u) → node' size ≡ v → ((k : ℕ) → k < size → node' k ≡ node k) →

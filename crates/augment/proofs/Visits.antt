@@ -9,11 +9,11 @@ use Rattle.augment.specs.Search.{node_at, step_at, HasTree, IsVisitedBy}
 use Rattle.augment.specs.Raised.{position_of}
 use Rattle.augment.proofs.Trees.{tree_next, grows_next, grows_none, start_within}
 
--- a list after writes at three places
+-- a list after writes at three indices
 abbrev pub three : List ℕ → ℕ → ℕ → ℕ → ℕ → ℕ → ℕ → List ℕ
 three xs i j k x y z = slice_set (slice_set (slice_set xs i x) j y) k z
 
--- what stands at the first place
+-- what stands at the first index
 pub at_first : (xs : List ℕ) (i j k x y z : ℕ) → i < j → j < k → k < length xs →
     slice_index (three xs i j k x y z) i ≡ x
 at_first xs i j k x y z a b c =
@@ -21,21 +21,21 @@ at_first xs i j k x y z a b c =
     ∙ get_or-set_other (slice_set xs i x) j i y 0 (λ e. absurd (omega arith))
     ∙ get_or-set_same xs i x 0 (omega arith)
 
--- what stands at the second place
+-- what stands at the second index
 pub at_second : (xs : List ℕ) (i j k x y z : ℕ) → i < j → j < k → k < length xs →
     slice_index (three xs i j k x y z) j ≡ y
 at_second xs i j k x y z a b c =
     get_or-set_other (slice_set (slice_set xs i x) j y) k j z 0 (λ e. absurd (omega arith))
     ∙ get_or-set_same (slice_set xs i x) j y 0 (omega (arith, length-set xs i x))
 
--- what stands at the third place
+-- what stands at the third index
 pub at_third : (xs : List ℕ) (i j k x y z : ℕ) → i < j → j < k → k < length xs →
     slice_index (three xs i j k x y z) k ≡ z
 at_third xs i j k x y z a b c =
     get_or-set_same (slice_set (slice_set xs i x) j y) k z 0
     (omega (arith, length-set xs i x, length-set (slice_set xs i x) j y))
 
--- what stands at another place
+-- what stands at another index
 pub elsewhere : (xs : List ℕ) (i j k x y z m : ℕ) → m ≢ i → m ≢ j → m ≢ k →
     slice_index (three xs i j k x y z) m ≡ slice_index xs m
 elsewhere xs i j k x y z m a b c =

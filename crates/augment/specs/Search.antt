@@ -1,4 +1,4 @@
--- A search through the residual graph, by the words in which it keeps what it reached.
+-- A search over the residual network, by the words in which it keeps what it reached.
 use Rattle.std.specs.Prelude.{ℕ, ◌≡◌, ◌≢◌, ◌+◌, ◌-◌, ◌*◌, ◌<◌, ◌≤◌, nat_lt, slice_index, slice_set}
 use Rattle.finite_sums.specs.Sums.{total, when}
 use Rattle.circulation.specs.Network.{Network}
@@ -6,7 +6,7 @@ use Rattle.circulation.specs.Contents.{Contents, network, flow_of}
 use Rattle.circulation.specs.Residual.{arc_of, start_of, end_of, room_of}
 use Rattle.augment.specs.Raised.{position_of}
 
--- the node that was reached as number k
+-- the node with the index k among those reached
 abbrev pub node_at : Contents → ℕ → ℕ
 node_at c k = slice_index c.scratch (c.nodes + 1 + k)
 

@@ -1,4 +1,4 @@
-//! Raises the flow on one arc of a circulation as far as the bounds allow, and tells the cut that stops it.
+//! Raises the flow on one arc of a circulation as far as the bounds allow, and gives the cut that stops it.
 //!
 //! The method is capacity scaling by augmenting walks: Ahuja, Magnanti and Orlin, Network Flows (1993),
 //! section 7.3. A search goes from the head of the arc over the residual network, and never over the
@@ -32,7 +32,7 @@ pub fn reached(circ: &CirculationMut<'_>, node: u32) -> bool
     requires { node ≤ circ.now.nodes }
     ensures { IsTrue result ↔ IsReached circ.now node }
 {
-    // This call tells that the circulation is kept.
+    // This call says that the circulation is kept.
     let _nodes = circ.nodes();
     position(circ, node) != 0
 }

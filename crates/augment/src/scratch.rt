@@ -34,7 +34,8 @@ pub fn position(circ: &CirculationMut<'_>, node: u32) -> u64
     word(circ, node as usize)
 }
 
-/// Reaches a node by a step, unless it was reached before. Takes and answers how many were reached.
+/// Reaches a node by a step, unless it was reached before. Takes how many were reached before, and answers
+/// how many are now.
 pub fn visit(circ: &mut CirculationMut<'_>, node: u32, step: u64, size: usize) -> usize
     requires node { node ≤ circ.old.nodes }
     requires room { position_of circ.old node ≡ 0 → size ≤ circ.old.nodes }

@@ -63,7 +63,7 @@ fn scan(circ: &mut CirculationMut<'_>, arc: u32, least: u64, node: u32, size: us
     count
 }
 
-/// Reaches the head of the arc alone.
+/// Reaches only the head of the arc.
 fn plant(circ: &mut CirculationMut<'_>, arc: u32, least: u64)
     requires arc { arc < arcs circ.old }
     requires kept { IsCirculation circ.old }

@@ -9,7 +9,7 @@ use crate::scratch::{position, set_word, word};
 use circulation::CirculationMut;
 use circulation::residual::{room, start};
 
-/// Where a walk begins among the scratch words, up to their end, and how much it can carry.
+/// Where a walk begins in the scratch words, which it fills to their end, and how much it can carry.
 #[derive(Clone, Copy)]
 pub struct Walk {
     pub first: usize,

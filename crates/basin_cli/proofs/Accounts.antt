@@ -42,7 +42,7 @@ month_of b series month name right m about =
       },
     )
 
--- what holds of the bytes that are read holds as far as they are told
+-- what holds of the bytes that are read holds as far as they are known
 after_both : (t o : Option (List ℕ)) (b : Basin) (series : Inflows) (P : List ℕ → List ℕ → Type 0) →
     IsSeriesOf b series →
     IfSome t (IsBasinText b) → IfSome o (IsSeriesText b series) →

@@ -18,7 +18,7 @@ use Rattle.basin_cli.specs.Comparison.{SomebodyIsInjured, HasComparingCause, Com
 use Rattle.basin_cli.specs.Ending.{status_of, finding_of}
 use Rattle.basin_cli.proofs.OneSeries.{one_basin}
 
--- what is to be shown of what is told of three files
+-- what is to be shown of what is known of three files
 abbrev Shown : Option (List ℕ) → Option (List ℕ) → Option (List ℕ) → (List ℕ → List ℕ → List ℕ → Type 0) → Type 0
 Shown t o s P =
     IfSome t (λ bytes. IsGoodBasin bytes →
@@ -47,7 +47,7 @@ not_good : (t o s : Option (List ℕ)) (P : List ℕ → List ℕ → List ℕ �
 not_good None o s P B never h = tt
 not_good (Some bytes) o s P B never h = λ good. absurd (never bytes h good)
 
--- a second one that can't be compared
+-- a second basin that can't be compared
 by_first : (t o s : Option (List ℕ)) (P : List ℕ → List ℕ → List ℕ → Type 0) (G : List ℕ → List ℕ → Type 0) →
     First t o G →
     ((bytes other : List ℕ) → G bytes other → IsGoodSecond bytes other → ⊥) → Shown t o s P
@@ -64,7 +64,7 @@ by_series (Some bytes) None s P Q h shows = λ _. tt
 by_series (Some bytes) (Some other) None P Q h shows = λ _ _. tt
 by_series (Some bytes) (Some other) (Some series) P Q h shows = λ _ _. shows bytes other series h.1.1
 
--- good bytes are not refused, nor too long
+-- good bytes are neither refused nor too long
 no_refusal : (finding : Finding) (bytes : List ℕ) → IsRefusedFor finding bytes → IsGoodBasin bytes → ⊥
 no_refusal finding bytes is good = let first = rw good.sound at is.first in cc
 

@@ -73,7 +73,7 @@ reach_at b m right reaches l short =
     subst (λ (set : List Bool). IsReach b m.month m.supply m.delivered right set)
     (sym (ap (λ (o : Option (List Bool)). unwrap_or o []) own.1)) own.2
 
--- what a short right is told answers it
+-- the account of a short right is its answer
 pub short_explained : (asked : Account) (b : Basin) (m : MonthRecord) (right : ℕ) (text : List ℕ) → IsShort m right →
     TellsShort asked b m right text → Explains asked b m right text
 short_explained asked b m right text is tells = record { short = λ _. tells; met = λ h. absurd (omega arith) }

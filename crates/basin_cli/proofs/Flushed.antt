@@ -29,14 +29,14 @@ pub whole_prefix : (old mid new : Option (List ℕ)) (text : List ℕ) → Appen
     (count : ℕ) × Appends old new (take count text)
 whole_prefix old mid new text h k = (length text, rw (take-length text) (kept_appends old mid new text h k))
 
--- a piece that was put whole, whether or not it could be handed on
+-- a piece that was put whole, whether or not it could be flushed
 pub puts_kept : {E : Type 0} (old mid new : Option (List ℕ)) (r : Result (Unit {0}) E) (text : List ℕ) →
     Appends old mid text → Keeps mid new → Puts old new r text
 puts_kept old mid new (Ok u) text h k = kept_appends old mid new text h k
 puts_kept old mid new (Err e) text h k =
     (length text, omega arith, rw (take-length text) (kept_appends old mid new text h k))
 
--- the text of something that was put whole, where it couldn't be handed on
+-- the text of something that was put whole, where it couldn't be flushed
 pub prefixes : {X : Type 0} (P : X → Type 0) (text : X → List ℕ) (old mid new : Option (List ℕ)) →
     ((x : X) × P x × Appends old mid (text x)) → Keeps mid new → (x : X) × P x ×
     ((count : ℕ) × Appends old new (take count (text x)))

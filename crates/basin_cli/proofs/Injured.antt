@@ -75,7 +75,7 @@ module _ (bytes other_bytes s : List ℕ) (b c : Basin) (series other : Inflows)
       never : suc there.0 ≤ 0 → ⊥
       never l = omega (arith, l)
 
-  -- and else somebody is
+  -- and otherwise somebody is
   somebody : (all : List Injury) (injury : Injury) → injuries b c records others ≡ injury ∷ all →
       SomebodyIsInjured bytes other_bytes s
   somebody all injury some = record {
@@ -118,7 +118,7 @@ ends_not how n e not_done not_injured = by_test (n == 0) e
     by_test true f = not_done f
     by_test false f = not_injured f
 
--- what holds of what is told of the files
+-- what holds of what is known of the files
 module _ (known : KnownFiles) (files : Files) (second : List ℕ) (pair : BasinPair)
     (paired : ArePaired known files second pair) where
   after : (t o s : Option (List ℕ)) (P : List ℕ → List ℕ → List ℕ → Type 0) → IfSome t (IsBasinText pair.first.basin) →

@@ -153,7 +153,7 @@ pub good_series : (bytes s : List ℕ) (b : Basin) (series : Inflows) → IsBasi
 good_series bytes s b series basin_text series_text =
     record { basin = b; spelled = basin_text.spelled; within = series_text.within; sound = series_text.sound }
 
--- what follows for known bytes from what is known of them holds as far as they are told
+-- what follows for known bytes from what is known of them holds as far as they are known
 pub after_told : (t o r : Option (List ℕ)) (b : Basin) (series : Inflows) (Q : List ℕ → Type 0) (P : List ℕ → List ℕ →
     List ℕ → Type 0) →
     IsSeriesOf b series → IfSome t (IsBasinText b) → IfSome o (IsSeriesText b series) → IfSome r Q →
@@ -171,7 +171,7 @@ after_told (Some bytes) (Some s) (Some text) b series Q P fits from_basin from_s
   ),
 )
 
--- what holds of the bytes that are read holds as far as they are told
+-- what holds of the bytes that are read holds as far as they are known
 pub after : (t o r : Option (List ℕ)) (b : Basin) (series : Inflows) (text : List ℕ) (P : List ℕ → List ℕ → List ℕ →
     Type 0) → IsSeriesOf b series →
     IfSome t (IsBasinText b) → IfSome o (IsSeriesText b series) → IfSome r (λ bytes. text ≡ bytes) →
@@ -191,7 +191,7 @@ accepted (Some bytes) (Some s) b series from_basin from_series =
 
 -- The answer to a result, which is read as it is checked.
 
--- how a check ends whose answer is told
+-- how a check ends that has an answer
 pub answer_ends : (asked : Question) (b : Basin) (series : Inflows) (known : Option (List ℕ))
     (answer : Result ℕ Refuted)
     (how : Ending) (read write : Type 0) →
@@ -216,7 +216,7 @@ answer_writes answer other write h = subst (λ how. MayWrite (status_of how)) (s
     by_answer (Ok months) = tt
     by_answer (Err refuted) = tt
 
--- and what is told of it
+-- and what it leaves, as far as the bytes are known
 pub answer_leaves : (asked : Question) (b : Basin) (series : Inflows) (known : Option (List ℕ))
     (answer : Result ℕ Refuted) (how : Ending) (old new : Option (List ℕ)) →
     IsAnswerTo asked b series known answer → Leaves (status_of how) (answered asked answer) old new →
@@ -225,7 +225,7 @@ answer_leaves asked b series None answer how old new is left = tt
 answer_leaves asked b series (Some text) answer how old new is left = λ may.
     record { answer = answer; is = is; written = left }
 
--- where no part could be read, nothing is told
+-- where a part could not be read, no answer is put
 pub unread_leaves : (asked : Question) (b : Basin) (series : Inflows) (known : Option (List ℕ)) (how : Ending)
     (old new : Option (List ℕ)) →
     how ≡ ending.ReadFault file.Result →

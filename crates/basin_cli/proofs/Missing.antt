@@ -80,7 +80,7 @@ due_within b valid k d l =
     subst (λ (e : Month × ℕ). IsDue b e) (sym at)
     (record { calendar = IsMonth-run_month b row valid.run s.row; inside = column_below b column s.gauge })
 
--- what is found in a list has what all its elements have
+-- what holds of all elements of a list holds of the one that is found
 found_within : (b : Basin) (p : (Month × ℕ) → Bool) (xs : List (Month × ℕ)) (d : Month × ℕ) →
     ((k : ℕ) (e : Month × ℕ) → k < length xs → IsDue b (get_or xs k e)) → find p xs ≡ Some d → IsDue b d
 found_within b p [] d h e = cc

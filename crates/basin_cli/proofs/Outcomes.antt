@@ -35,7 +35,7 @@ use Rattle.basin_cli.specs.Upgrading.{HasUpgradingCause, UpgradesAfter}
 use Rattle.basin_cli.proofs.Comparisons.{comparing}
 use Rattle.basin_cli.proofs.Edited.{refused_not_good}
 
--- what is to be shown of what is told of two files
+-- what is to be shown of what is known of two files
 abbrev Shown : Option (List ℕ) → Option (List ℕ) → (List ℕ → List ℕ → Type 0) → Type 0
 Shown known series P = IfSome known (λ bytes. IsGoodBasin bytes → IfSome series (λ s. IsGoodSeries bytes s → P bytes s))
 
@@ -216,7 +216,7 @@ checking asked files result ending.OutOfMemory known read write h =
     checked_by_stop asked files result ending.OutOfMemory known read write h
 checking asked files result other known read write h = absurd h
 
--- a question why a right got no more
+-- the question why a right got no more
 abbrev Explained : Status → Month → List ℕ → Type 0 → Type 0 → List ℕ → List ℕ → Type 0
 Explained status month name read write bytes s = IsAsked month name bytes → (read → ⊥) → (write → ⊥) →
     IsJudged status (IsShortIn month name bytes s)
@@ -439,12 +439,12 @@ completes (Some (ensemble files)) how known read write h = gathering files how k
 completes (Some (edit files script)) how known read write h = editing files script how known read write h
 completes (Some (upgrade name)) how known read write h = upgrading name how known read write h
 
--- nothing was told
+-- nothing was put to err
 pub tells_nothing : (old : Option (List ℕ)) (before : ℕ) → WritesErrLine old old before before []
 tells_nothing old before =
     record { count = 0; within = omega arith; appended = Appends-nil old; cut = λ l. absurd (omega (arith, l)) }
 
--- a refusal of the second basin is told
+-- a refusal of the second basin has a line
 pub second_told : (finding : SecondFinding) → IsQuiet (status_of_second finding) → ⊥
 second_told (of_second.Basin finding) q = q
 second_told of_second.OtherRun q = q

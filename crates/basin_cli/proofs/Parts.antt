@@ -19,7 +19,7 @@ pub record IsFed (c : PiecesView) (from : ℕ) (whole : List ℕ) : Type 0 where
   pub within : from ≤ length whole
   pub stands : StandsForText c (take from whole)
 
--- with a part more
+-- and so it is after one part more
 pub next_fed : (known : Option (List ℕ)) (c after : PiecesView) (from count : ℕ) (old new : List ℕ) → 0 < count →
     IfSome known (IsFed c from) →
     IfSome known (λ whole. IsPart whole from old new count) →

@@ -38,7 +38,7 @@ joined : (t : Option (List ℕ)) (A : List ℕ → Type 0) (B : List ℕ → Typ
 joined None A B f h = tt
 joined (Some bytes) A B f h = f bytes h
 
--- a later shelf tells the same, and a count that rose since then rose since the beginning
+-- of a later shelf the same is known, and a count that rose since then rose since the beginning
 same_series : (known later : KnownFiles) (name : Option (List ℕ)) → ((n : List ℕ) → later n ≡ known n) →
     known_series later name ≡ known_series known name
 same_series known later None same = refl

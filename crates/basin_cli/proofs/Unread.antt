@@ -1,4 +1,4 @@
--- A check or an audit that finds no memory asked nobody for its result.
+-- A check or an audit that finds no memory did not ask for its result.
 use Rattle.std.proofs.Common.{◌≡◌, refl}
 use Rattle.basin_cli.specs.Ending.{status_of}
 use Rattle.basin_cli.specs.Out.{WithoutMemory}

@@ -124,7 +124,7 @@ pub stopped : {E : Type 0} (r : Result (Unit {0}) E) (P : Type 0) → P → OnEr
 stopped (Ok u) P p = tt
 stopped (Err x) P p = p
 
--- a prefix of the second piece stands after the first, whatever goes on with it
+-- a prefix of the second piece stands after the first, whatever follows it
 pub prefix_after : (start mid now : Option (List ℕ)) (a lines rest : List ℕ) (k : ℕ) → k ≤ length lines →
     Appends start mid a →
     Appends mid now (take k lines) → Appends start now (take (length a + k) ((a ++ lines) ++ rest))

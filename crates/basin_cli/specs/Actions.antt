@@ -31,7 +31,7 @@ LeavesTraces b series how old new =
     MayWrite (status_of how) → (traces : List (List MonthRecord)) × AreTraces b series traces ×
     Leaves (status_of how) (ensemble_text b traces) old new
 
--- how the checking of a result may end, by the answer to its bytes where they are told. `read` and `write` say that
+-- how the checking of a result may end, by the answer to its bytes where they are known. `read` and `write` say that
 -- the shelf's and out's count of faults rose
 abbrev pub EndsChecking : Question → Basin → Inflows → Option (List ℕ) → Ending → Type 0 → Type 0 → Type 0
 EndsChecking asked b series known ending.Done read write = (months : ℕ) × IsAnswerTo asked b series known (Ok months)

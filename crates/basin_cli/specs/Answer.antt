@@ -32,7 +32,7 @@ abbrev pub IsAnswerFor : Question → Basin → Inflows → List ℕ → Result 
 IsAnswerFor question.Check b series text answer = IsAnswer b answer (text_verdict b series text)
 IsAnswerFor question.Audit b series text answer = IsAuditAnswer b series text answer
 
--- and so of a text, where its bytes are told
+-- and so of a text, where its bytes are known
 abbrev pub IsAnswerTo : Question → Basin → Inflows → Option (List ℕ) → Result ℕ Refuted → Type 0
 IsAnswerTo asked b series known answer = IfSome known (λ text. IsAnswerFor asked b series text answer)
 

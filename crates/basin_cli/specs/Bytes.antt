@@ -51,7 +51,7 @@ pub record AreSpelled (bytes series_bytes : List ℕ) (basin : Basin) (series : 
   pub valid : IsValidBasin basin
   pub fits : IsSeriesOf basin series
 
--- what a shelf tells under a name
+-- what is known of a shelf under a name
 abbrev pub KnownFiles : Type 0
 KnownFiles = List ℕ → Option (List ℕ)
 

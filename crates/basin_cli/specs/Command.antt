@@ -20,9 +20,9 @@ pub record Files : Type 0 where
 
 -- a command with the names of its files, or with its numbers: `run` and `report` have the files of a basin and its
 -- series, `check` and `audit`, which are one command with two questions, the file of a result besides, `compare` the
--- file of a second basin, `trial` the number and the size of a generated basin, `why` and `where`, which are one command
--- with two accounts, a month and the name of a right beside the files, `ensemble` and `calls` the files, `edit` the file
--- of a script besides, and `upgrade` the file of a basin alone
+-- file of a second basin, `trial` the number and the size of a generated basin, `why` and `where`, which are one
+-- command with two accounts, a month and the name of a right beside the files, `ensemble` and `calls` the files, `edit`
+-- the file of a script besides, and `upgrade` the file of a basin alone
 pub data Command : Type 0 where
   run : Files → Command
   check : Question → Files → List ℕ → Command
@@ -105,7 +105,7 @@ abbrev pub ServesSeries : (List ℕ → Type 0) → Option (List ℕ) → Type 0
 ServesSeries serves None = ⊤
 ServesSeries serves (Some name) = serves name
 
--- each name that stands in the place of a file is served
+-- each name that the words give for a file is served
 abbrev pub ServesFiles : (List ℕ → Type 0) → Option Command → Type 0
 ServesFiles serves None = ⊤
 ServesFiles serves (Some (run files)) = serves files.basin × ServesSeries serves files.series

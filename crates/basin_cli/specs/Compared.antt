@@ -33,7 +33,7 @@ pub record IsTextOfComparison (b c : Basin) (series other : Inflows) (bytes : Li
   pub text : bytes ≡ comparison_text b c records others
   pub number : injured ≡ length (injuries b c records others)
 
--- how a comparison with a given number of injuries ends, unless it can't be written
+-- how a comparison with this many injuries ends, unless it can't be written
 abbrev pub ending_with : ℕ → Ending
 ending_with injured = if injured == 0 then ending.Done else ending.Injured
 

@@ -50,7 +50,7 @@ pub record IsGoodForBoth (bytes second_bytes series_bytes : List ℕ) : Type 0 w
   pub second : IsGoodSeries second_bytes series_bytes
 
 -- Somebody is injured: in some month of histories of the two basins, each with the series, a right that both have is
--- delivered less in the second's. Which of several histories are taken makes no difference.
+-- delivered less in the second's. It makes no difference which of several histories are taken.
 pub record SomebodyIsInjured (bytes second_bytes series_bytes : List ℕ) : Type 0 where
   pub first : Basin
   pub second : Basin
@@ -65,7 +65,7 @@ pub record SomebodyIsInjured (bytes second_bytes series_bytes : List ℕ) : Type
   pub injury : Injury
   pub is_injury : IsInjury first second records others injury
 
--- the first basin is good, and this holds of its bytes and those of the second, as far as they are told
+-- the first basin is good, and this holds of its bytes and those of the second, as far as they are known
 abbrev pub AfterFirst : KnownFiles → Files → List ℕ → (List ℕ → List ℕ → Type 0) → Type 0
 AfterFirst known files second P =
     IfSome (known files.basin) (λ bytes. IsGoodBasin bytes × IfSome (known second) (P bytes))
@@ -137,7 +137,7 @@ pub record WritesComparison (how : Status) (bytes second_bytes series_bytes : Li
   pub second_run : IsRunOf second_bytes series_bytes second others
   pub written : Leaves how (comparison_text first second records others) old new
 
--- this holds of what is told of all three files
+-- this holds of what is known of all three files
 abbrev pub OfThree : KnownFiles → Files → List ℕ → (List ℕ → List ℕ → List ℕ → Type 0) → Type 0
 OfThree known files second P =
     IfSome (known files.basin)
@@ -147,7 +147,7 @@ abbrev pub ComparisonWrites : KnownFiles → Files → List ℕ → Status → O
 ComparisonWrites known files second how old new =
     OfThree known files second (λ bytes other series. MayWrite how → WritesComparison how bytes other series old new)
 
--- searches push at most so often as the bounds of both runs allow
+-- searches push at most as often as the bounds of both runs allow
 abbrev pub ComparisonPushes : KnownFiles → Files → List ℕ → ℕ → ℕ → Type 0
 ComparisonPushes known files second before now =
     IfSome (known files.basin) (λ bytes. IfSome (known second) (λ other.

@@ -90,7 +90,7 @@ abbrev pub EditWrites : KnownFiles → Files → List ℕ → Status → Option 
 EditWrites known files script status old new =
     OfBoth known files (λ bytes series. IfSome (known script) (λ text. EditLeaves status bytes series text old new))
 
--- Searches push at most so often as the cost of the script allows, in months that are solved: a month before the first
+-- Searches push at most as often as the cost of the script allows, in months that are solved: a month before the first
 -- change is solved once. A script that is refused has no push.
 pub record PushesOfScript (b : Basin) (series : Inflows) (script : List ℕ) (before now : ℕ) : Type 0 where
   pub asked : (edits : List Edit) → script_of b series script ≡ Ok edits → now ≤ before + cost edits * month_pushes b

@@ -50,7 +50,7 @@ second_of (ending.BasinRefused finding) = ending.SecondRefused (of_second.Basin 
 second_of (ending.SeriesRefused finding) = ending.SecondRefused (of_second.Series finding)
 second_of how = how
 
--- what a refusal of a basin's series is told as: a missing amount by the node's or the right's name
+-- what a refusal of a basin's series is reported as: a missing amount by the node's or the right's name
 abbrev pub finding_of : Basin → SeriesRefused → Option SeriesFinding
 finding_of b (refused.Record fault number) = Some (finding.Record fault number)
 finding_of b (refused.Missing month node) = Some (finding.Missing month (node_name b node))

@@ -31,7 +31,7 @@ pub record IsMonthAt (b : Basin) (month : Month) (index : ℕ) : Type 0 where
 abbrev pub HasMonth : Basin → Month → Type 0
 HasMonth b month = (index : ℕ) × IsMonthAt b month index
 
--- the right of this number has the name
+-- the right of this index has the name
 pub record IsRightNamed (b : Basin) (name : List ℕ) (right : ℕ) : Type 0 where
   pub within : right < length b.rights
   pub is : right_name b right ≡ name
@@ -66,15 +66,15 @@ pub record IsBookOfReach (b : Basin) (m : MonthRecord) (right : ℕ) (reach : Li
 unfoldable pub met_line : Month → List ℕ → List ℕ
 met_line month name = codes "met " ++ month_digits month ++ codes " " ++ name ++ codes "\n"
 
--- the text that tells a short right what it asked for: the book of its reach, or where one more unit would help it, with
--- the account of its core
+-- the text that answers a short right: the book of its reach, or where one more unit would help it, with the account of
+-- its core
 abbrev pub TellsShort : Account → Basin → MonthRecord → ℕ → List ℕ → Type 0
 TellsShort account.Reach b m right text =
     (reach : List Bool) × IsBookOfReach b m right reach × (text ≡ book_bytes b m right reach)
 TellsShort account.Core b m right text = IsHelpingText b m right text
 
--- the text that answers why a right got no more in a month, or where one more unit would help it: that, where it is
--- short, and else that it is met
+-- the text that answers why a right got no more in a month, or where one more unit would help it: that text, where it
+-- is short, and otherwise that it is met
 pub record Explains (asked : Account) (b : Basin) (m : MonthRecord) (right : ℕ) (text : List ℕ) : Type 0 where
   pub short : IsShort m right → TellsShort asked b m right text
   pub met : slice_index m.want right ≤ slice_index m.delivered right → text ≡ met_line m.month (right_name b right)
@@ -84,7 +84,7 @@ pub record HasLast (run : RunView) : Type 0 where
   pub before : List MonthRecord
   pub stands : RunStandsFor run (before ++ run.last ∷ [])
 
--- searches push at most so often as the bound of a month allows, for each month up to this one, and not at all where
+-- searches push at most as often as the bound of a month allows, for each month up to this one, and not at all where
 -- the run of the basin hasn't it
 pub record PushesUpTo (b : Basin) (month : Month) (before now : ℕ) : Type 0 where
   pub in_run : (index : ℕ) → IsMonthAt b month index → now ≤ before + (index + 1) * month_pushes b

@@ -48,7 +48,7 @@ IsFound found.BasinRefused bytes series_bytes result = IsFaultyBasin bytes
 IsFound found.SeriesRefused bytes series_bytes result = IsFaultySeries bytes series_bytes
 IsFound found.OutOfMemory bytes series_bytes result = ⊤
 
--- what is found where the reading of a basin or a series ended so
+-- what is found where the reading of a basin or a series ended this way
 abbrev pub refusal : Ending → Found
 refusal (ending.BasinRefused finding) = found.BasinRefused
 refusal (ending.SeriesRefused finding) = found.SeriesRefused

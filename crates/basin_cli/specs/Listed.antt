@@ -18,7 +18,7 @@ abbrev pub begun_with : {X : Type 0} → List ℕ → (X → List ℕ) → List 
 begun_with head lines months = head ++ flat_map lines months
 
 -- Where such writing stopped: all of these months but the last stand after what out had taken, and of the last one a
--- front; no line of the tail stands before all months do.
+-- prefix; no line of the tail stands before all months do.
 pub record IsPrefixOf {X : Type 0} (head tail : List ℕ) (lines : X → List ℕ) (months : List X) (are_all : Type 0)
     (old now : Option (List ℕ)) : Type 0 where
   pub count : ℕ

@@ -49,12 +49,12 @@ abbrev pub WithoutMemory : Status → Type 0 → Type 0
 WithoutMemory OutOfMemory P = P
 WithoutMemory status P = ⊤
 
--- nobody asked for a result that has a name of its own: `old` and `new` count the calls for each name, where that is
--- told
+-- a result that has a name of its own was not asked for: `old` and `new` count the calls for each name, where that is
+-- known
 abbrev pub AsksNot : Files → List ℕ → (List ℕ → Option ℕ) → (List ℕ → Option ℕ) → Type 0
 AsksNot files result old new = result ≢ files.basin → Some result ≢ files.series → new result ≡ old result
 
--- where a check or an audit finds no memory, nobody asked for its result
+-- where a check or an audit finds no memory, its result was not asked for
 abbrev pub IsUnread : Option Command → Status → (List ℕ → Option ℕ) → (List ℕ → Option ℕ) → Type 0
 IsUnread (Some (check asked files result)) status old new = WithoutMemory status (AsksNot files result old new)
 IsUnread command status old new = ⊤

@@ -316,7 +316,7 @@ WritesFor (Some (upgrade basin)) status known old new before after = UpgradeWrit
 WritesFor (Some (ensemble files)) status known old new before after =
     OfBoth known files (λ bytes series. MayWrite status → WritesEnsemble status bytes series old new)
 
--- searches push at most so often as the bound of a month allows, for each month of the basin that the bytes spell
+-- searches push at most as often as the bound of a month allows, for each month of the basin that the bytes spell
 abbrev pub PushesOf : KnownFiles → Files → ℕ → ℕ → Type 0
 PushesOf known files before now =
     IfSome (known files.basin) (λ bytes. (basin : Basin) → Spells bytes basin → now ≤ before + run_pushes basin)

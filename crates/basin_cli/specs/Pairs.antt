@@ -26,7 +26,7 @@ SecondEnds bytes (ending.SecondRefused (of_second.Basin finding)) = file_fault b
 SecondEnds bytes ending.OutOfMemory = ⊤
 SecondEnds bytes other = ⊥
 
--- how the reading of the second basin may end, where its bytes are told or not
+-- how the reading of the second basin may end, where its bytes are known or not
 abbrev pub SecondReadEnds : Option (List ℕ) → Type 0 → Ending → Type 0
 SecondReadEnds known read (ending.SecondRefused (of_second.Basin finding)) = IfSome known (IsRefusedFor finding)
 SecondReadEnds known read (ending.ReadFault file.SecondBasin) = read
@@ -47,7 +47,7 @@ BothSeriesEnd first second bytes (ending.SecondRefused (of_second.Series finding
 BothSeriesEnd first second bytes ending.OutOfMemory = ⊤
 BothSeriesEnd first second bytes other = ⊥
 
--- how the reading of a series for both basins may end, where its bytes are told or not
+-- how the reading of a series for both basins may end, where its bytes are known or not
 abbrev pub BothSeriesReadEnd : Basin → Basin → Option (List ℕ) → Option (List ℕ) → Type 0 → Ending → Type 0
 BothSeriesReadEnd first second name known read (ending.SeriesRefused finding) =
     IfSome known (λ bytes. (length bytes ≤ file_limit) × BothSeriesEnd first second bytes

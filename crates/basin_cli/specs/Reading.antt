@@ -9,7 +9,7 @@ use Rattle.basin_cli.specs.declared.ending.File.TheVariants as file
 use Rattle.basin_cli.specs.declared.status.Status.{Status}
 use Rattle.basin_cli.specs.declared.status.Status.TheVariants.{Done, No, OutOfMemory}
 
--- the basin file is good, and this holds of its bytes and those of the series, as far as they are told
+-- the basin file is good, and this holds of its bytes and those of the series, as far as they are known
 abbrev pub AfterBasin : KnownFiles → Files → (List ℕ → List ℕ → Type 0) → Type 0
 AfterBasin known files P =
     IfSome (known files.basin) (λ bytes. IsGoodBasin bytes × IfSome (known_series known files.series) (P bytes))
@@ -27,7 +27,7 @@ AfterSeries known files result P =
     AfterBasin known files (λ bytes series. IsGoodSeries bytes series × IfSome (known result) (P bytes series))
 
 -- The cause of an ending at which the basin or its series is not read or refused. `known` gives the bytes under a name,
--- where the shelf tells them; `read` and `write` say that the shelf's and out's count of faults rose.
+-- where they are known of the shelf; `read` and `write` say that the shelf's and out's count of faults rose.
 abbrev pub StopsReading : Files → Ending → KnownFiles → Type 0 → Type 0
 StopsReading files (ending.BasinRefused finding) known read = IfSome (known files.basin) (IsRefusedFor finding)
 StopsReading files (ending.SeriesRefused finding) known read = AfterBasin known files (IsSeriesRefusedFor finding)
@@ -42,7 +42,7 @@ StopsReading files other known read = ⊥
 abbrev pub IsDone : Status → Type 0
 IsDone status = (status ≡ Done) ⊎ (status ≡ OutOfMemory)
 
--- what is asked is answered as it is: done where this holds, else no
+-- the answer says whether this holds: done if it does, and no if it does not
 abbrev pub IsJudged : Status → Type 0 → Type 0
 IsJudged status asked = (status ≡ OutOfMemory) ⊎ (((status ≡ Done) × asked) ⊎ ((status ≡ No) × (asked → ⊥)))
 
@@ -53,7 +53,7 @@ CompletesAfter known files P =
     IfSome (known files.basin) (λ bytes. IsGoodBasin bytes →
     IfSome (known_series known files.series) (λ series. IsGoodSeries bytes series → P bytes series))
 
--- this holds of what is told of both files
+-- this holds of what is known of both files
 abbrev pub OfBoth : KnownFiles → Files → (List ℕ → List ℕ → Type 0) → Type 0
 OfBoth known files P =
     IfSome (known files.basin) (λ bytes. IfSome (known_series known files.series) (λ series. P bytes series))

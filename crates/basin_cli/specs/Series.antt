@@ -27,7 +27,7 @@ BasinEnds bytes (ending.BasinRefused finding) = file_fault bytes ≡ Some findin
 BasinEnds bytes ending.OutOfMemory = ⊤
 BasinEnds bytes other = ⊥
 
--- how the reading of a basin may end, where its bytes are told or not
+-- how the reading of a basin may end, where its bytes are known or not
 abbrev pub BasinReadEnds : Option (List ℕ) → Type 0 → Ending → Type 0
 BasinReadEnds known read (ending.BasinRefused finding) = IfSome known (IsRefusedFor finding)
 BasinReadEnds known read (ending.ReadFault file.Basin) = read
@@ -57,7 +57,7 @@ pub record IsSeriesText (b : Basin) (series : Inflows) (bytes : List ℕ) : Type
   pub sound : series_fault b bytes ≡ None
   pub spelled : SpellsSeries b bytes series
 
--- how the reading of a series may end, where its bytes are told or not. Without a file it is the header alone, and no
+-- how the reading of a series may end, where its bytes are known or not. Without a file it is the header alone, and no
 -- reading fails
 abbrev pub SeriesReadEnds : Basin → Option (List ℕ) → Option (List ℕ) → Type 0 → Ending → Type 0
 SeriesReadEnds b name known read (ending.SeriesRefused finding) =

@@ -10,8 +10,8 @@ use Rattle.basin_cli.specs.Out.{IsIdle, IsUnread, MayLeave}
 use Rattle.basin_cli.specs.Outcome.{EndingHasCause, IsQuiet, PushesFor, WritesFor}
 
 -- The ending has its cause and a line, and what is left on out, what was read and how often searches pushed are as the
--- ending says. `shelf` and `sink` tell what a state of the shelf and of out is seen as, and `before` and `after` count
--- the pushes.
+-- ending says. `shelf` and `sink` say what the views of the shelf and of out are, and `before` and `after` count the
+-- pushes.
 pub record Serves {S K : Type 0} (shelf : Shelf.Ghosts S) (sink : Sink.Ghosts K) (command : Option Command)
     (how : Ending) (shelf_old shelf_new : S) (old new : K) (before after : ℕ) : Type 0 where
   pub cause : EndingHasCause command how (shelf.known shelf_old)

@@ -12,8 +12,8 @@ use Rattle.basin_cli.specs.Bytes.{IsGoodBasin, IsRefusedFor, IsTooLong, KnownFil
 use Rattle.basin_cli.specs.Out.{Leaves, MayWrite}
 use Rattle.basin_cli.specs.Reading.{IsDone}
 
--- a text is read as the table of format 2 of the basin that the bytes of a file spell. So it spells the same basin, but
--- for the format, and nothing in it is at fault
+-- a text is read as the table of format 2 of the basin that the bytes of a file spell. So it spells the same basin,
+-- except for the format, and nothing in it is at fault
 pub record IsUpgradeOf (bytes text : List ℕ) : Type 0 where
   pub basin : Basin
   pub spelled : Spells bytes basin

@@ -233,7 +233,7 @@ fn put_answer(line: &mut Line, question: Question, answer: &Result<u32, Refuted>
     }
 }
 
-/// How a check ends whose answer is told.
+/// How a check ends that has this answer.
 fn judged(answer: &Result<u32, Refuted>) -> Ending
     ensures { result ≡ ending_of answer.now }
 {

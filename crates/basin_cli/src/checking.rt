@@ -101,8 +101,8 @@ pub fn answer_parts<S: Shelf>(
 }
 
 /// Checks or audits the result of this name as it is read, and puts the answer: the number of its months, or the first
-/// line at fault and why. All memory is taken before the first byte of the result is asked for, so OutOfMemory says nothing of
-/// the result.
+/// line at fault and why. All memory is taken before the first byte of the result is asked for, so OutOfMemory says
+/// nothing of the result.
 pub fn check_file<S: Shelf, K: Sink>(
     alloc: Global,
     question: Question,

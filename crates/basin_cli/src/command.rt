@@ -49,7 +49,7 @@ pub enum Words<'a> {
         inputs: Inputs<'a>,
         script: &'a str,
     },
-    /// Tell why the right of this name got no more in a month, or where one more unit of water would help it.
+    /// Say why the right of this name got no more in a month, or where one more unit of water would help it.
     Why {
         account: Account,
         inputs: Inputs<'a>,

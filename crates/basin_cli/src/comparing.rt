@@ -183,7 +183,7 @@ pub fn text_of_comparison<L: Ledger>(
     )
 }
 
-/// How a comparison with a given number of injuries ends.
+/// How a comparison with this many injuries ends.
 fn ending_with(injured: u32) -> Ending
     ensures is { result ≡ ending_with injured }
     ensures idle { IsRefusal (status_of result) → ⊥ }

@@ -66,7 +66,7 @@ fn answer_edits<K: Sink, L: Ledger>(
         },
         Err(EditStop::SinkFailed) => Ending::WriteFault,
         Err(EditStop::OutOfMemory) => {
-            // The months that were shown are handed on as far as that goes.
+            // The months that were shown are flushed, if the sink can.
             let _ = out.flush();
             Ending::OutOfMemory
         }

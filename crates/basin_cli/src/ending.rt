@@ -1,4 +1,4 @@
-//! How a call ends, and the line that tells it on err.
+//! How a call ends, and the line that reports it on err.
 ghost use Rattle.std.specs.Prelude.{◌≡◌, ◌↔◌, ◌≤◌, ◌++◌, IsTrue, [], codes, length};
 ghost use Rattle.std.specs.Fmt.{decimal};
 ghost use Rattle.water_text.specs.Months.{IsMonth, month_digits};
@@ -78,15 +78,15 @@ impl SecondFinding {
     }
 }
 
-/// How a call ended, with what its line on err tells.
+/// How a call ended, with what its line on err says.
 #[derive(Drop)]
 pub enum Ending {
     Done,
-    /// A result is refuted, which out was told.
+    /// A result is refuted, which out says.
     Refuted(Refuted),
-    /// Somebody is injured in a comparison, which out was told.
+    /// Somebody is injured in a comparison, which out says.
     Injured,
-    /// The right that was asked for is not short, which out was told.
+    /// The right that was asked for is not short, which out says.
     Met,
     Usage,
     BasinRefused(Finding),
@@ -103,7 +103,7 @@ pub enum Ending {
 }
 
 impl Ending {
-    /// Whether err is told of it.
+    /// Whether it has a line on err.
     pub fn has_line_on_err(&self) -> bool
         ensures { IsTrue result ↔ (IsQuiet (status_of self.now) → ⊥) }
     {

@@ -55,7 +55,7 @@ fn index_of(basin: &Basin, month: Month) -> Option<u32>
     index_in_run(basin, month)
 }
 
-/// The place of the first right with this name.
+/// The index of the first right with this name.
 fn place_named(basin: &Basin, name: &[u8]) -> Option<usize>
     ensures { result ≡ position (λ right. bytes_eq name.now right.name) basin.now.rights }
 {
@@ -78,7 +78,7 @@ fn right_named(basin: &Basin, name: &[u8]) -> Option<u32>
     }
 }
 
-/// Solves a given number of months of a run that had none yet.
+/// Solves the first `count` months of a run that had none yet.
 fn solve_months<L: Ledger>(run: &mut Run, count: u32, searches: &mut Steps<L>)
     requires first { RunStandsFor run.old [] }
     requires within { count ≤ run.old.basin.months }
@@ -188,7 +188,7 @@ fn put_answer<K: Sink>(
     }
 }
 
-/// How the answer about a right ends that is put.
+/// How a call ends whose answer about a right is put.
 fn ending_for(month: &MonthRecord, right: u32) -> Ending
     requires delivered { right < length month.now.delivered }
     requires want { right < length month.now.want }
@@ -202,7 +202,7 @@ fn ending_for(month: &MonthRecord, right: u32) -> Ending
     }
 }
 
-/// Puts why a right got no more in a month, and tells how the call ends.
+/// Puts why a right got no more in a month, and says how the call ends.
 fn answer<K: Sink>(
     out: &mut K,
     account: Account,
@@ -303,7 +303,8 @@ fn explain_at<K: Sink, L: Ledger>(
 }
 
 /// Puts why the right of this name got no more in a month: where it is short, the account book of its reach, or where
-/// one more unit would help it and the account of its core; and else that it is met. Months are solved up to this one and no further, and nothing is put before it is solved.
+/// one more unit would help it and the account of its core; and otherwise that it is met. Months are solved up to this
+/// one and no further, and nothing is put before it is solved.
 pub fn explain_right<K: Sink, L: Ledger>(
     alloc: Global,
     account: Account,

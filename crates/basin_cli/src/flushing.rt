@@ -1,10 +1,10 @@
-//! Texts that are put and handed on.
+//! Texts that are put and flushed.
 ghost use Rattle.std.specs.Prelude.{◌≡◌, IsErr, OnOk};
 ghost use Rattle.water_edge.specs.Edge.{HasCause, Puts};
 
 use water_edge::{Sink, SinkFailed};
 
-/// Puts a text by one `put` and hands it on.
+/// Puts a text by one `put` and flushes it.
 pub fn put_whole<K: Sink>(out: &mut K, text: &[u8]) -> Result<(), SinkFailed>
     ensures text { Puts (K.taken out.old) (K.taken out.new) result text.now }
     ensures flushed { OnOk result (K.flushed out.new ≡ K.taken out.new) }

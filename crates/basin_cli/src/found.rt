@@ -22,7 +22,7 @@ pub enum Found {
     OutOfMemory,
 }
 
-/// What is found where the reading of a basin or a series ended so.
+/// What is found where the reading of a basin or a series ended this way.
 fn refusal(ending: &Ending) -> Found
     ensures { result ≡ refusal ending.now }
 {

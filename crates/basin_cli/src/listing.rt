@@ -27,7 +27,7 @@ fn put_found<K: Sink>(out: &mut K, finder: &CallFinder, run: &Run) -> Result<(),
     put_month(out, &calls)
 }
 
-/// Solves the next month, finds what one more unit would do in it, puts its lines and hands them on. `start` is what out
+/// Solves the next month, finds what one more unit would do in it, puts its lines and flushes them. `start` is what out
 /// had taken before the first line. It takes no memory.
 fn list_month<K: Sink, L: Ledger>(
     out: &mut K,

@@ -255,22 +255,22 @@ pub fn basin_main<S: Shelf, K: Sink, E: Sink, L: Ledger>(
 
     // The text of records that keep the priority of rights, the list of their calls, a report on them, the answer to a
     // result, the comparison of two such lists of records, or the months that a script shows; or after a fault of out a
-    // front of it. The months of a run and of a list of calls are written as they are solved.
+    // prefix of it. The months of a run and of a list of calls are written as they are solved.
     ensures writes { WritesFor (command_of (map string_bytes words.now)) result (S.known shelf.old) (K.taken out.old)
         (K.taken out.new) searches.old searches.new }
     ensures out_stays { (MayLeave (command_of (map string_bytes words.now)) result → ⊥) → out.new ≡ out.old }
     ensures err_stays { IsQuiet result → err.new ≡ err.old }
 
-    // Done and no come only where all that was put was flushed; err got its line handed on unless it failed.
+    // Done and no come only where all that was put was flushed; the line on err was flushed unless err failed.
     ensures flushed { IsQuiet result → K.flushed out.new ≡ K.taken out.new }
     ensures err_flushed { (IsQuiet result → ⊥) → (Rose (E.faults err.old) (E.faults err.new) → ⊥) →
         E.flushed err.new ≡ E.taken err.new }
 
-    // Want of memory says nothing of a result: nobody asked for it.
+    // Want of memory says nothing of a result: it was not asked for.
     ensures unread { IsUnread (command_of (map string_bytes words.now)) result (S.asked shelf.old) (S.asked shelf.new) }
 
     // Where words, a file or a script are refused or not read, nothing is solved; of a run, a report, a trial and an
-    // account want of memory comes before a month is solved, or not at all. Each month that is solved has at most so
+    // account want of memory comes before a month is solved, or not at all. Each month that is solved has at most as
     // many pushes as its bound allows, and a check or an audit has none.
     ensures idle { IsIdle (command_of (map string_bytes words.now)) result → searches.new ≡ searches.old }
     ensures pushes { PushesFor (command_of (map string_bytes words.now)) (S.known shelf.old) searches.old searches.new }

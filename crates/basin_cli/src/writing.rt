@@ -11,7 +11,7 @@ use std::sync::ledger::Ledger;
 use steps::Steps;
 use water_edge::{Sink, SinkFailed};
 
-/// Solves the next month, puts its lines and hands them on. `start` is what out had taken before the head. It takes no
+/// Solves the next month, puts its lines and flushes them. `start` is what out had taken before the head. It takes no
 /// memory.
 fn write_month<K: Sink, L: Ledger>(
     out: &mut K,

@@ -53,7 +53,7 @@ use Rattle.basin_file.proofs.TableSpells.{link_closed, link_end, link_per_day}
 pub fits_at : (tree : Members) (key : KeyRow) (o p : Option Data) → o ≡ p → Fits tree key p → Fits tree key o
 fits_at tree key o p e f = subst (Fits tree key) (sym e) f
 
--- a name that is first at its place is no earlier entry's
+-- a name that first stands at its own index is no earlier entry's
 pub owns : (tree : Members) (e : Entry) (space : Space) (q : List ℕ) (k : ℕ) → own_space e.table ≡ Some space →
     text_at (own_key e.table) e.row ≡ Some q →
     named_at tree space q ≡ Some k → rights_before tree e.table + (e.number - 1) ≤ k → same_name tree e ≡ false
@@ -65,7 +65,7 @@ owns tree e space q k own text named low =
     named
     ∙ le-ltb k (rights_before tree e.table + (e.number - 1)) low))
 
--- the item at a place of what is listed
+-- the item at an index of what is listed
 item_there : {X : Type 0} (row : X → Members) (xs : List X) (at : ℕ) →
     get_item at (items_of (map (λ x. table (row x)) xs)) ≡ option_map (λ x. table (row x)) (slice_get xs at)
 item_there row [] at = refl

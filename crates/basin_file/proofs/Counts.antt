@@ -12,7 +12,7 @@ pub count_by-cons : {X : Type 0} (p : X → Bool) (x : X) (xs : List X) →
     count_by p (x ∷ xs) ≡ (if p x then 1 else 0) + count_by p xs
 count_by-cons p x xs = sum_by-cons (λ y. if p y then 1 else 0) x xs
 
--- how many places of a list have an entry that passes is how many entries pass
+-- as many indices of a list have an entry that passes as entries pass
 pub count_where-entries : {X : Type 0} (p : X → Bool) (xs : List X) →
     count_where (length xs) (λ k. of_entry xs k p false) ≡ count_by p xs
 count_where-entries {X = X} p [] = let none : List X = [] in total_start (λ k. if of_entry none k p false then 1 else 0)
@@ -40,7 +40,7 @@ bounded_pass p limit n (x ∷ xs) each low =
     at_most true passes = (let h : n + 0 < limit = each 0 x refl passes in omega arith)
     at_most false fails = omega arith
 
--- at most as many of one list pass as of another, where each that passes has one that passes at its place
+-- at most as many of one list pass as of another, where each that passes has one that passes at its index
 pub counts_within : {X Y Z : Type 0} (f : X → Y) (g : X → Z) (p : Y → Bool) (q : Z → Bool) (n : ℕ) (xs : List X) →
     Each (λ x. p (f x) ≡ true → q (g x) ≡ true) xs → count_by p (take n (map f xs)) ≤ count_by q (take n (map g xs))
 counts_within f g p q zero xs each = omega arith
@@ -57,8 +57,8 @@ counts_within f g p q (suc n) (x ∷ xs) each =
     by false true h low = omega arith
     by false false h low = omega arith
 
--- where no entry's number, after a given number of others, is past the limit, there are at most a given number of
--- entries
+-- where no entry's number, counted on from others before, is past the limit, the entries with those others are at most
+-- the limit
 pub bounded_by : {X : Type 0} (limit before n : ℕ) (xs : List X) →
     EachFrom (λ k x. nat_lt limit (before + (k + 1)) ≡ false) n xs → before + n ≤ limit → before + n + length xs ≤ limit
 bounded_by limit before n [] each low = omega arith

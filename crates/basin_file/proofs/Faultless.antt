@@ -31,7 +31,7 @@ use Rattle.basin_file.proofs.Joins.{areas_sound, valid_by}
 use Rattle.basin_file.proofs.Whole.{sound_basin}
 use Rattle.basin_file.proofs.Passed.{no_fault, or_none}
 
--- a fault of a network is told
+-- a fault of a network is reported
 net_four : (a b c d : Option ℕ) →
     option_and_then net_finding (option_or (option_map net.SelfLink a) (option_or (option_map net.LinkFromOutlet b)
     (option_or (option_map net.NoRiver c) (option_map net.DirectedCycle d)))) ≡ None →
@@ -50,7 +50,7 @@ net_none nodes links e =
     net_four (first_self_link links) (first_from_outlet nodes links) (first_without_river nodes links)
     (first_on_cycle nodes links) e
 
--- a fault of a roll is told
+-- a fault of a roll is reported
 abbrev IsTold : Option RollRefused → Type 0
 IsTold o = o ≢ Some roll.OutOfMemory
 

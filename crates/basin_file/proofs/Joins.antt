@@ -27,7 +27,7 @@ use Rattle.basin_file.proofs.Lists.{Each, each_all}
 use Rattle.basin_file.proofs.Passed.{no_fault, or_none}
 use Rattle.basin_file.proofs.Whole.{sound_basin}
 
--- a refused roll is told as its first fault
+-- a refused roll is reported as its first fault
 pub roll_found : (rights : List Right) (returns : List ReturnRow) (e : RollRefused) (finding : Finding) →
     IsRollRefusal e rights returns → Some finding ≡ roll_finding rights e →
     Some finding ≡ option_and_then (roll_finding rights) (roll_fault rights returns)
@@ -41,7 +41,7 @@ roll_found rights returns (roll.ReturnParts right) finding refusal f =
     f ∙ ap (option_and_then (roll_finding rights)) (sym refusal)
 roll_found rights returns roll.OutOfMemory finding refusal f = cc
 
--- an area table that is told as no fault has none
+-- an area table that is reported as no fault has none
 no_memory_after : (before : AreaPoint) (n : ℕ) (points : List AreaPoint) →
     fault_after before n points ≢ Some area.OutOfMemory
 no_memory_after before n [] e = cc

@@ -1,4 +1,4 @@
--- The entries that the table of a basin lists: their rows, the places of their names, and the rights by their tables.
+-- The entries that the table of a basin lists: their rows, the indices of their names, and the rights by their tables.
 use Rattle.std.proofs.Common.{◌≡◌, ◌≢◌, ℕ, zero, suc, ◌<◌, ◌≤◌, ◌∙◌, Bool, true, false, cond, ap, sym, refl, inl, inr}
 use Rattle.std.proofs.Common.{arith, List, [], ◌∷◌, ◌++◌, length, map, filter, All, slice_get, eq-or-lt_of_le}
 use Rattle.std.specs.Prelude.{Option, Some, option_and_then, option_map, unwrap_or}
@@ -58,7 +58,7 @@ texts_listed key row name (x ∷ xs) each = texts_items key row name (x ∷ xs) 
 abbrev pub HaveOwn : {X : Type 0} → (X → List ℕ) → List X → Type 0
 HaveOwn name xs = (i j : ℕ) → i < j → j < length xs → of_entry xs i name [] ≢ of_entry xs j name []
 
--- so the name of an entry stands first at its place
+-- so the name of an entry stands first at its index
 pub index_found : {X : Type 0} (name : X → List ℕ) (xs : List X) (k : ℕ) → k < length xs → HaveOwn name xs →
     first_from (is_the_text (of_entry xs k name [])) 0 (map (λ x. Some (name x)) xs) ≡ Some k
 index_found {X = X} name xs k within own =
@@ -92,7 +92,7 @@ index_found {X = X} name xs k within own =
               absurd (own j k before within (rw (other.1, here) names)))
         ]
 
--- and is read as the place
+-- and is read as the index
 pub number_read : (tree : Members) (space : Space) (key : List ℕ) (row : Members) (q : List ℕ) (k : ℕ) →
     text_at key row ≡ Some q → named_at tree space q ≡ Some k → k < 4000 →
     number_at tree space key row ≡ k
@@ -200,7 +200,7 @@ rights_by_table least (r ∷ rights) ranked =
 none_there : (k : ℕ) (rights : List Right) → rights ≡ [] → k < length rights → ⊥
 none_there k rights none within = let len : length rights ≡ 0 = ap (λ rs. length rs) none in absurd (omega arith)
 
--- a diversion has the same place among the diversions as among the rights
+-- a diversion has the same index among the diversions as among the rights
 pub diversion_same : (least : ℕ) (rights : List Right) → AreRanked least rights → (k : ℕ) →
     k < length (rights_in Diversion rights) →
     slice_get (rights_in Diversion rights) k ≡ slice_get rights k

@@ -7,7 +7,7 @@ abbrev pub Each : {X : Type 0} → (X → Type 0) → List X → Type 0
 Each P [] = Unit {0}
 Each P (x ∷ xs) = P x × Each P xs
 
--- a fact for each of a list and its place, where the first one's place is n
+-- a fact for each of a list and its index, where the first one's index is n
 abbrev pub EachFrom : {X : Type 0} → (ℕ → X → Type 0) → ℕ → List X → Type 0
 EachFrom P n [] = Unit {0}
 EachFrom P n (x ∷ xs) = P n x × EachFrom P (n + 1) xs
@@ -36,7 +36,7 @@ pub each_any : {X : Type 0} (P : X → Type 0) (xs : List X) → ((x : X) → P 
 each_any P [] f = tt
 each_any P (x ∷ xs) f = (f x, each_any P xs f)
 
--- what holds of each at its place holds of each
+-- what holds of each at its index holds of each
 pub each_from : {X : Type 0} (P : ℕ → X → Type 0) (Q : X → Type 0) (n : ℕ) (xs : List X) →
     ((k : ℕ) (x : X) → P k x → Q x) →
     EachFrom P n xs → Each Q xs
@@ -53,7 +53,7 @@ pub from_with : {X : Type 0} (P Q : ℕ → X → Type 0) (n : ℕ) (xs : List X
 from_with P Q n [] a b = tt
 from_with P Q n (x ∷ xs) a b = ((a.0, b.0), from_with P Q (n + 1) xs a.1 b.1)
 
--- the same of what a function makes of each, where the places begin at m in place of n
+-- the same of what a function makes of each, where the indices begin at m instead of n
 pub from_map : {X Y : Type 0} (P : ℕ → X → Type 0) (Q : ℕ → Y → Type 0) (f : X → Y) (m n : ℕ) (xs : List X) →
     ((k : ℕ) (x : X) → P (n + k) x → Q (m + k) (f x)) → EachFrom P n xs → EachFrom Q m (map f xs)
 from_map P Q f m n [] g each = tt
@@ -76,7 +76,7 @@ from_append P n [] ys a b = let at : ℕ → Type 0 = λ i. EachFrom P i ys in s
 from_append P n (x ∷ xs) ys a b =
     let at : ℕ → Type 0 = λ i. EachFrom P i ys in (a.0, from_append P (n + 1) xs ys a.1 (subst at (omega arith) b))
 
--- the one at a place
+-- the one at an index
 pub from_at : {X : Type 0} (P : ℕ → X → Type 0) (n : ℕ) (xs : List X) (k : ℕ) (x : X) →
     slice_get xs k ≡ Some x → EachFrom P n xs → P (n + k) x
 from_at P n [] k x e each = cc

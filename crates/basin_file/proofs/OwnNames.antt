@@ -28,7 +28,7 @@ use Rattle.basin_file.proofs.Lists.{Each, EachFrom, from_at, from_map, from_appe
 use Rattle.basin_file.proofs.Passed.{IsListed, HasNoFault, IsFine, fine_rows}
 use Rattle.basin_file.proofs.Refers.{texts_in-rows, length-rows_in}
 
--- a place that passes is not before the first
+-- an index that passes is not before the first
 pub first_le : {X : Type 0} (p : X → Bool) (n : ℕ) (xs : List X) (i : ℕ) (x : X) → slice_get xs i ≡ Some x →
     p x ≡ true →
     (at : ℕ) × (first_from p n xs ≡ Some at) × (at ≤ n + i)
@@ -43,7 +43,7 @@ first_le p n (y ∷ xs) (suc i) x there passes =
           (rest.0, rw other rest.1, omega arith))
     ]
 
--- the first place passes
+-- the first index passes
 pub first_at : {X : Type 0} (p : X → Bool) (n : ℕ) (xs : List X) (at : ℕ) → first_from p n xs ≡ Some at →
     (k : ℕ) × (x : X) × (at ≡ n + k) × (slice_get xs k ≡ Some x) × (p x ≡ true)
 first_at p n [] at e = cc
@@ -54,12 +54,12 @@ first_at p n (y ∷ xs) at e =
           (let rest = first_at p (n + 1) xs at (rw other at e) in (suc rest.0, rest.1, omega arith, rest.3, rest.4))
     ]
 
--- a text that is the first of no place before its own
+-- a text that is the first of no index before its own
 abbrev pub IsOwn : List (Option (List ℕ)) → ℕ → Option (List ℕ) → Type 0
 IsOwn texts k text =
     option_map_or (λ q. option_map_or (λ at. nat_lt at k) (first_from (is_the_text q) 0 texts) false) text false ≡ false
 
--- where each text is, no two places have one text
+-- where each text is, no two indices have one text
 pub own_texts : (texts : List (Option (List ℕ))) → EachFrom (IsOwn texts) 0 texts → (i j : ℕ) (q : List ℕ) → i < j →
     slice_get texts i ≡ Some (Some q) → slice_get texts j ≡ Some (Some q) → ⊥
 own_texts texts own i j q before one other =
@@ -71,7 +71,7 @@ own_texts texts own i j q before one other =
     not_before : (n m : ℕ) → n < m → nat_lt n m ≡ false → ⊥
     not_before n m h e = grind (arith, nat_tests)
 
--- what is named at one place is one text
+-- what is named at one index is one text
 pub same_text : (tree : Members) (space : Space) (q r : List ℕ) (at : ℕ) → named_at tree space q ≡ Some at →
     named_at tree space r ≡ Some at → q ≡ r
 same_text tree space q r at one other =
@@ -86,7 +86,7 @@ same_text tree space q r at one other =
     by None one other = cc
     by (Some t) one other = (bytes_eq-Decides q t).0 one ∙ sym ((bytes_eq-Decides r t).0 other)
 
--- the text of a fine row in a space is the first of no place before its own
+-- the text of a fine row in a space is the first of no index before its own
 row_own : (tree : Members) (table : BasinTable) (space : Space) → own_space table ≡ Some space →
     (k : ℕ) (row : Members) → IsFine tree table k row →
     IsOwn (texts_of tree space) (rights_before tree table + k) (text_at (own_key table) row)

@@ -163,7 +163,7 @@ all_tables tree none Instream h = tables_at tree none Instream 7 false refl
 all_tables tree none Zone h = tables_at tree none Zone 8 false refl
 all_tables tree none Return h = tables_at tree none Return 9 false refl
 
--- each entry of a table passes a test that finds nothing, by its place
+-- each entry of a table passes a test that finds nothing, by its index
 rows_pass : (f : Entry → Bool) (table : BasinTable) (n : ℕ) (items : Items) →
     items_all (λ x. is_some (as_table x)) items ≡ true →
     find f (entries_after table n items) ≡ None →

@@ -39,7 +39,7 @@ whole_read least most default n low high = rw (between least n most low high) re
     between : (least n most : ℕ) → least ≤ n → n ≤ most → (nat_le least n && nat_le n most) ≡ true
     between least n most low high = grind (arith, nat_tests)
 
--- twelve numbers, each at its place
+-- twelve numbers, each at its index
 item_read : (most : ℕ) (ns : List ℕ) (k : ℕ) → k < length ns → get_or ns k 0 ≤ most →
     integer_of 0 most 0 (get_item k (numbers ns)) ≡ get_or ns k 0
 item_read most [] k within bounded = absurd (omega arith)

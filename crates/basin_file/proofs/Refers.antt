@@ -106,7 +106,7 @@ length-rows (item d ds) e =
     by None some rest = cc
     by (Some row) some rest = ap suc rest
 
--- the item at a place is the row there
+-- the item at an index is the row there
 pub get_item-rows : (n : ℕ) (items : Items) → items_all (λ x. is_some (as_table x)) items ≡ true →
     option_and_then as_table (get_item n items) ≡ slice_get (rows_after items) n
 get_item-rows n no_items e = refl
@@ -151,7 +151,7 @@ number_within tree space key row q at text named =
     small_within : (m n : ℕ) → m < n → small m < n
     small_within m n h = grind (arith, nat_tests)
 
--- and it is the place, where there are not too many
+-- and it is the index, where the space has at most 4,000 names
 pub number_is : (tree : Members) (space : Space) (key : List ℕ) (row : Members) (q : List ℕ) (at : ℕ) →
     text_at key row ≡ Some q → named_at tree space q ≡ Some at → length (texts_of tree space) ≤ 4000 →
     number_at tree space key row ≡ at

@@ -63,7 +63,7 @@ some_items format (Some d) p k n = by (as_array d) (not-false _ k) n
     by None e n = cc
     by (Some items) e n = positive (items_len items) n
 
--- the right at a place among the diversions is one
+-- the right at an index among the diversions is one
 prefix_diversion : (tree : Members) (rows : List Members) (more others : List Right) (k : ℕ) → k < length rows →
     of_entry (map (diversion_of tree) rows ++ more ++ others) k (λ r. is_diversion_kind r.kind) false ≡ true
 prefix_diversion tree [] more others k h = absurd (omega arith)
@@ -147,7 +147,7 @@ module _ (tree : Members) (none : HasNoFault tree) where
       (keys_of Top) 3 node refl (top_passes (wrong_kind tree) tree none.kinds))
       missing.1)
 
-  -- a text that should name an entry has a number below so many
+  -- a text that should name an entry has a number below the count of the names in its space
   number : (table : BasinTable) (k : ℕ) (members : Members) (i : ℕ) (key : List ℕ) (space : Space) (n : ℕ) →
       slice_get (keys_of table) i ≡ Some (record { name = key; is_required = true; kind = Refers space; since = 1 }) →
       IsFine tree table k members →
@@ -193,7 +193,7 @@ module _ (tree : Members) (none : HasNoFault tree) where
     carry = carry_valid (get_member (codes "per_day") members) (get_member (codes "closed") members);
   }
 
-  -- the node that a place spells is an outlet where the document says so
+  -- the node at an index is an outlet where the document says so
   outlet_at : (at : ℕ) → is_outlet (basin_of tree) at ≡ is_outlet_at tree at
   outlet_at at =
       rw (

@@ -179,7 +179,7 @@ module _ (b : Basin) (valid : IsValidBasin b) where
   keys : HasKeysOf b (basin_table b)
   keys = table_keys b
 
-  -- names stand at their places
+  -- names stand at their indices
   pub node_named : (k : ℕ) → k < length b.nodes → named_at (basin_table b) Nodes (node_name b k) ≡ Some k
   node_named k within =
       ap (λ texts. first_from (is_the_text (node_name b k)) 0 texts) texts
@@ -252,7 +252,7 @@ module _ (b : Basin) (valid : IsValidBasin b) where
           ap (λ (o : Option Data). texts_after (codes "name") (items_in o)) keys.diversions
           ∙ texts_listed (codes "name") (right_row b) (λ r. r.name) ours (λ r. kind_name b r r.kind)
 
-  -- so a text that is such a name is read as the place
+  -- so a text that is such a name is read as the index
   node_at : (key : List ℕ) (row : Members) (k : ℕ) → get_member key row ≡ Some (string (node_name b k)) →
       k < length b.nodes →
       number_at (basin_table b) Nodes key row ≡ k

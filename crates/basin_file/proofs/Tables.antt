@@ -33,7 +33,7 @@ pub listed-put : (key : List ℕ) (values : List Value) (ms : Members) → (leng
 listed-put key [] ms h = cc
 listed-put key (v ∷ values) ms h = refl
 
--- a key that comes before the others stands in front
+-- a key that is before the others stands first
 pub with_member-prefix : (key : List ℕ) (d : Data) (ms : Members) → is_before key ms ≡ true →
     with_member key d ms ≡ member key d ms
 with_member-prefix key d no_members h = refl

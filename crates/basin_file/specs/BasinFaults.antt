@@ -30,7 +30,7 @@ use Rattle.basin_file.specs.Spelled.{basin_of}
 use Rattle.basin_file.specs.declared.refused.BasinRefused.{BasinRefused}
 use Rattle.basin_file.specs.declared.refused.BasinRefused.TheVariants as refused
 
--- the fault that a refused network is told as. Entries count from 1
+-- the fault that a refused network is reported as. Entries count from 1
 abbrev pub net_finding : NetRefused → Option Finding
 net_finding (net.SelfLink link) = Some (found fault.SelfLink table.Link (link + 1))
 net_finding (net.LinkFromOutlet link) = Some (found fault.LinkFromOutlet table.Link (link + 1))
@@ -56,7 +56,7 @@ right_found fault rights right =
     let its = of_entry rights right (λ r. table_of r.kind) table.Top in
     found fault its (count_by (λ r. is_in_table its r.kind) (take (right + 1) rights))
 
--- the fault that a refused roll of rights is told as. Of two rights of one priority the later one has it
+-- the fault that a refused roll of rights is reported as. Of two rights of one priority the later one has it
 abbrev pub roll_finding : List Right → RollRefused → Option Finding
 roll_finding rights (roll.BadDate right) = Some (right_found fault.BadDate rights right)
 roll_finding rights (roll.SameSeniority first later) = Some (right_found fault.SameSeniority rights later)
@@ -64,7 +64,7 @@ roll_finding rights (roll.ZoneOrder right) = Some (right_found fault.ZoneOrder r
 roll_finding rights (roll.ReturnParts right) = Some (right_found fault.ReturnParts rights right)
 roll_finding rights roll.OutOfMemory = None
 
--- the fault that a refused area table is told as, by the number of its reservoir
+-- the fault that a refused area table is reported as, by the number of its reservoir
 abbrev pub area_finding : ℕ → TableRefused → Option Finding
 area_finding number area.Empty = Some (found fault.TableEmpty table.Reservoir number)
 area_finding number area.FirstNotZero = Some (found fault.TableFirst table.Reservoir number)

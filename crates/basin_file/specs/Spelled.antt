@@ -53,7 +53,7 @@ name_at key row = name_of (text_or_empty key row)
 abbrev pub truth_at : List ℕ → Members → Bool
 truth_at key row = unwrap_or (option_and_then as_bool (get_member key row)) false
 
--- the place, from 0, of the entry that the text at a key names
+-- the index, from 0, of the entry that the text at a key names
 abbrev pub small : ℕ → ℕ
 small at = if nat_lt at (2 ^ 32) then at else 0
 
@@ -160,7 +160,7 @@ zone_of tree row =
     right_of (kind.Zone (number_at tree Reservoirs (codes "reservoir") row) (integer_at (codes "level") 1 16 1 row)) None
     row
 
--- diversions are the first rights, so the place of a diversion is that of its right
+-- diversions are the first rights, so the index of a diversion is that of its right
 abbrev pub return_of : Members → Members → ReturnRow
 return_of tree row = record {
   right = number_at tree Diversions (codes "diversion") row;

@@ -26,7 +26,7 @@ use Rattle.basin_tree.specs.declared.tables.BasinTable.{BasinTable}
 use Rattle.basin_tree.specs.declared.tables.BasinTable.TheVariants.{Diversion, Instream, Zone}
 use Rattle.basin_file.specs.BasinFaults.{is_in_table}
 
--- the table with a key and its value, at the key's place in the order. A key that is there takes the value
+-- the table with a key and its value, where the order has the key. A key that is there gets the value
 abbrev pub with_member : List ℕ → Data → Members → Members
 with_member key d no_members = member key d no_members
 with_member key d (member other e rest) =
@@ -38,7 +38,7 @@ abbrev pub with_option : List ℕ → Option Data → Members → Members
 with_option key None rest = rest
 with_option key (Some d) rest = with_member key d rest
 
--- in front of others a key that stands only where it has a value
+-- before others a key that stands only where it has a value
 abbrev pub with_some : List ℕ → Option Data → Members → Members
 with_some key None rest = rest
 with_some key (Some d) rest = member key d rest

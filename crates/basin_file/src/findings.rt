@@ -19,7 +19,7 @@ fn found_after(fault: BasinFault, table: BasinTable, before: u32) -> Finding
     found(fault, table, u64::from(before) + 1)
 }
 
-/// The fault that a refused network is told as, or `None` for want of memory.
+/// The fault that a refused network is reported as, or `None` for want of memory.
 pub fn net_finding(e: NetRefused) -> Option<Finding>
     ensures { result ≡ net_finding e }
 {
@@ -102,7 +102,7 @@ fn right_found(fault: BasinFault, rights: &[Right], right: u32) -> Finding
     found(fault, table, count as u64)
 }
 
-/// The fault that a refused roll of rights is told as, or `None` for want of memory.
+/// The fault that a refused roll of rights is reported as, or `None` for want of memory.
 pub fn roll_finding(rights: &[Right], e: RollRefused) -> Option<Finding>
     ensures { result ≡ roll_finding rights.now e }
 {
@@ -123,7 +123,7 @@ pub fn roll_finding(rights: &[Right], e: RollRefused) -> Option<Finding>
     }
 }
 
-/// The fault that a refused area table is told as, by the number of its reservoir, or `None` for want of memory.
+/// The fault that a refused area table is reported as, by the number of its reservoir, or `None` for want of memory.
 pub fn area_finding(number: u64, e: TableRefused) -> Option<Finding>
     ensures { result ≡ area_finding number e }
 {

@@ -109,7 +109,7 @@ fn carry_at(row: &Table) -> Carry
     }
 }
 
-/// The place, from 0, of the entry that the text at a key names.
+/// The index, from 0, of the entry that the text at a key names.
 pub fn number_at(document: &Document, space: Space, row: &Table, key: &str) -> u32
     ensures { result ≡ number_at (tree_of document.now) space key.now (table_view row.now) }
 {

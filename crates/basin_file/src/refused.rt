@@ -6,7 +6,7 @@ use basin_tree::tables::BasinTable;
 #[derive(Clone, Copy, Debug, PartialEq, Eq)]
 pub enum BasinRefused {
     /// A fault at an entry of a table. The entry of the top table is 0; others count from 1 in their table, and one
-    /// past the greatest `u32` is told as that number.
+    /// past the greatest `u32` is reported as that number.
     Refused {
         fault: BasinFault,
         table: BasinTable,

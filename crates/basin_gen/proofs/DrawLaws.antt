@@ -1,4 +1,4 @@
--- Draws one after the other, and lists by place.
+-- Draws one after the other, and lists by index.
 use Rattle.std.proofs.Common.{◌≡◌, ℕ, zero, suc, ◌+◌, ◌*◌, ◌/◌, ◌%◌, ◌^◌, ◌<◌, true, false, refl, sym, ap, ◌∙◌, arith}
 use Rattle.std.proofs.Common.{List, [], ◌∷◌, ◌++◌, add-one, add-zero, add-suc, append_assoc, append-nil}
 use Rattle.std.specs.Prelude.{◌==◌}

@@ -1,4 +1,4 @@
--- Lists by place: the entry at each place is known.
+-- Lists by index: the entry at each index is known.
 use Rattle.std.proofs.Common.{◌≡◌, ◌≢◌, ℕ, zero, suc, ◌+◌, ◌-◌, ◌<◌, ◌≤◌, Bool, true, false, refl, sym, ap, subst, ◌∙◌}
 use Rattle.std.proofs.Common.{arith, List, [], ◌∷◌, ◌++◌, length, take, length-append, inl, inr}
 use Rattle.std.specs.Prelude.{Some, slice_get, nat_lt, if◌then◌else◌, ◌⊎◌, All, ◌||◌}
@@ -11,7 +11,7 @@ use Rattle.finite_sums.proofs.Totals.{total_zero}
 use Rattle.water_model.specs.Lookups.{of_entry}
 use Rattle.basin_gen.specs.Draws.{list_of}
 
--- a list has so many entries, and this one at each place
+-- a list has this many entries, and this one at each index
 pub record IsListOf {X : Type 0} (xs : List X) (n : ℕ) (f : ℕ → X) : Type 0 where
   pub count : length xs ≡ n
   pub at : (i : ℕ) → i < n → slice_get xs i ≡ Some (f i)
@@ -95,7 +95,7 @@ own_names xs n f is name d apart i j before within equal =
     apart i j before (omega arith) (sym (entry_is xs n f is name d i (omega arith)) ∙ equal
     ∙ entry_is xs n f is name d j (omega arith))
 
--- no entry before a place passes a test
+-- no entry before an index passes a test
 pub none_before : {X : Type 0} → (p : X → Bool) (xs : List X) (n : ℕ) (f : ℕ → X) (i : ℕ) → i < n → IsListOf xs n f →
     ((k : ℕ) → k < i → p (f k) ≡ false) →
     list_any p (take i xs) ≡ false

@@ -195,7 +195,7 @@ right_dated size s =
     (λ h. ap not (new_year 1880 (omega arith) (omega arith)))
     (λ h. ap not (new_year 1940 (omega arith) (omega arith)))))
 
--- which right a place has
+-- which right stands at an index
 pub first_right : (size : ℕ) (s : States) (i : ℕ) → i < diversion_count size →
     right_made size s i ≡ diversion_made size s i
 first_right size s i l = joined_left (diversion_count size) (diversion_made size s) (other_made size s) i l
@@ -268,7 +268,7 @@ lower_is_senior y z x w e odd =
     both : (p q : Bool) → p ≡ true → q ≡ true → p && q ≡ true
     both p q a c = rw (a, c) refl
 
--- whether a right would be a zone at fault at a place
+-- whether a right would be a zone at fault at an index
 abbrev fault_at : Basin → ℕ → Right → Bool
 fault_at b i r = is_zone_fault b.rights (take i b.rights) (priority r) r.kind
 

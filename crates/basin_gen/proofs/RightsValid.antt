@@ -20,7 +20,7 @@ use Rattle.basin_gen.proofs.Lists.{zone_count, return_count, diversion_made, ins
 use Rattle.basin_gen.proofs.Lists.{right_made}
 use Rattle.basin_gen.proofs.RightsLaws.{zone_by, is_zone, first_right}
 
--- rights of one kind in front of rights that may not stand before them
+-- rights of one kind before rights that may not stand before them
 abbrev HasRank : ℕ → Right → Type 0
 HasRank rank r = rank_of_kind r.kind ≡ rank
 

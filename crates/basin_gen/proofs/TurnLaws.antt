@@ -10,7 +10,7 @@ use Rattle.basin_gen.specs.Entries.{diversion_at, instream_at, return_at}
 use Rattle.basin_gen.specs.Generator.{diversions_in, instreams_in, returns_in, draws_of_turns, turn_of_diversion}
 use Rattle.basin_gen.proofs.DrawLaws.{later_later, list_of_none, list_of_more}
 
--- what a given number of turns make
+-- what this many turns make
 pub record AreMade (size x turns : ℕ) (ds ss : List Right) (rows : List ReturnRow) : Type 0 where
   pub diversions : ds ≡ diversions_in size x turns
   pub instreams : ss ≡ instreams_in size x turns

@@ -65,7 +65,7 @@ generated_valid number size some bounded =
       roll = roll_sound b size s bounded made;
     }
 
--- no place passes a test
+-- no index passes a test
 none_of : (p : ℕ → Bool) (from count : ℕ) → ((k : ℕ) → k < from + count → p k ≡ false) →
     filter p (numbers_from from count) ≡ []
 unfolding numbers_from

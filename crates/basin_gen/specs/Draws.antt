@@ -9,7 +9,7 @@ next x = (x * 6364136223846793005 + 1442695040888963407) % 2 ^ 64
 unfoldable pub drawn : ℕ → ℕ → ℕ
 drawn x k = next x / 2 ^ 33 % k
 
--- the number after a given number of draws
+-- the number after this many draws
 unfoldable pub later : ℕ → ℕ → ℕ
 later x zero = x
 later x (suc n) = next (later x n)

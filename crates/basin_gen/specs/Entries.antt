@@ -25,7 +25,7 @@ inflow_at i x = if i % 2 == 0 then twelve_drawn x 100 else replicate 12 0
 abbrev pub node_at : ℕ → ℕ → ℕ → Node
 node_at size i x = record { name = 110 ∷ decimal i; outlet = i + 1 == size; inflow = Monthly (inflow_at i x) }
 
--- a link leads to one of the next nodes, at most so many further
+-- a link leads to one of the next nodes, at most `reach` further
 unfoldable pub node_after : ℕ → ℕ → ℕ → ℕ → ℕ
 node_after size reach i x = i + 1 + drawn x (min reach (size - 1 - i))
 

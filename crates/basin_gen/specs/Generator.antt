@@ -14,7 +14,7 @@ use Rattle.basin_gen.specs.Entries.{zone_at}
 abbrev pub draws_of_node : ℕ → ℕ
 draws_of_node i = if i % 2 == 0 then 12 else 0
 
--- a given number of draws do those before node i take
+-- how many draws the nodes before node i take
 abbrev pub draws_of_nodes : ℕ → ℕ
 draws_of_nodes i = 12 * ((i + 1) / 2)
 

@@ -28,7 +28,7 @@ use Rattle.basin_names.specs.Named.{named}
 
 -- Maps of names.
 
--- the first of some places that passes a test, and of one place more
+-- the first of some indices that passes a test, and of one index more
 pub found-more : (p : ℕ → Bool) (i : ℕ) (before after : Option ℕ) → before ≡ find p (numbers_from 0 i) →
     after ≡ option_or before (if p i then Some i else None) → after ≡ find p (numbers_from 0 (i + 1))
 found-more p i before after h k =
@@ -60,7 +60,7 @@ pub named_within : (b : Basin) (s : Space) (name : List ℕ) (o : Option ℕ) �
 named_within b s name None e = tt
 named_within b s name (Some at) e = (named_is b s name at (sym e)).1
 
--- where nothing passes a test, no place does
+-- where none that passes a test is found, no index passes it
 missed : (p : ℕ → Bool) (from n : ℕ) → find p (numbers_from from n) ≡ None → (at : ℕ) → from ≤ at → at < from + n →
     p at ≡ false
 unfolding numbers_from
@@ -119,7 +119,7 @@ names_differ b valid space.Links i j l h = valid.names.links i j l h
 names_differ b valid space.Reservoirs i j l h = reservoirs_differ b valid i j l h
 names_differ b valid space.Rights i j l h = valid.names.rights i j l h
 
--- the first of some places that passes a test
+-- the first of some indices that passes a test
 found-at : (p : ℕ → Bool) (at : ℕ) → p at ≡ true → (from n : ℕ) → from ≤ at → at < from + n →
     ((k : ℕ) → from ≤ k → k < at → p k ≡ false) →
     find p (numbers_from from n) ≡ Some at
@@ -150,7 +150,7 @@ named-at b valid s at l =
 
 -- Entries in a list.
 
--- a test of places is one of the entries there
+-- a test of indices is one of the entries there
 by_indices : {X : Type 0} (p : X → Bool) (q : ℕ → Bool) (k : ℕ) (xs : List X) →
     ((i : ℕ) (x : X) → slice_get xs i ≡ Some x → q (k + i) ≡ p x) →
     find q (numbers_from k (length xs)) ≡ first_from p k xs

@@ -35,7 +35,7 @@ pub unknown_by : (format : ℕ) (keys : List Key) (rows : List KeyRow) (es : Lis
 unknown_by format keys rows es e =
     rw (← e) (rw (names_of_keys es, list_any-map string_bytes) (simp (list_any-map row_of) refl))
 
--- a value that is a list of so many, by its items
+-- a value that is a list of a given length, by its items
 pub listed_by : (test : Data → Bool) (len : ℕ) (d : Data) (vs : List Value) → Some (items_view vs) ≡ as_array d →
     is_listed test len d ≡ (length vs == len && list_all (λ v. test (view v)) vs)
 listed_by test len d vs e = rw (← e) (rw (items_len-view vs, items_all-view test vs) refl)

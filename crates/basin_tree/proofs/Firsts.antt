@@ -1,4 +1,4 @@
--- The first one of two lists.
+-- The first element of two lists that passes.
 use Rattle.std.proofs.Common.{◌≡◌, ℕ, ◌+◌, ◌<◌, List, [], ◌∷◌, ◌++◌, length, get_or, drop, Bool, Some, None, option_map}
 use Rattle.std.proofs.Common.{refl, sym, ap, ◌∙◌, inl, inr}
 use Rattle.std.proofs.lemmas.List.{drop_more}
@@ -25,7 +25,7 @@ find-none f p (x ∷ xs) ys e =
       | inr passes ↦ rw passes (find-none f p xs ys (rw passes at e))
     ]
 
--- the one that is found at a place of a list of lists is the first of all, if it is the first from there on
+-- the one that is found at an index of a list of lists is the first of all, if it is the first from there on
 pub found_at : {A X Y : Type 0} (f : X → Y) (p : X → Bool) (g : A → List X) (xs : List A) (i : ℕ) (d : A) (r : Y) →
     i < length xs → Some r ≡ option_map f (find p (g (get_or xs i d))) →
     find p (flat_map g (drop i xs)) ≡ find p (flat_map g xs) → Some r ≡ option_map f (find p (flat_map g xs))
@@ -34,7 +34,7 @@ found_at f p g xs i d r h e same =
     rw (drop_more xs i d h) (find-some f p (g (get_or xs i d)) (flat_map g (drop (i + 1) xs)) r e) in
     sym here ∙ ap (option_map f) same
 
--- where none is found at a place, the first from there on is the first after it
+-- where none is found at an index, the first from there on is the first after it
 pub none_at : {A X Y : Type 0} (f : X → Y) (p : X → Bool) (g : A → List X) (xs : List A) (i : ℕ) (d : A) →
     i < length xs → None ≡ option_map f (find p (g (get_or xs i d))) →
     find p (flat_map g (drop i xs)) ≡ find p (flat_map g xs) →

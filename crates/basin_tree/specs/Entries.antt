@@ -36,7 +36,7 @@ entries_in tree table = entries_after table 0 (items_at tree table)
 abbrev pub entries_of : Members → List Entry
 entries_of tree = record { table = Top; number = 0; row = tree } ∷ flat_map (entries_in tree) listed
 
--- a fault at the entry of a table and number. A number past the greatest of `u32` is told as that one
+-- a fault at the entry of a table and number. A number past the greatest `u32` is reported as that number
 abbrev pub found : BasinFault → BasinTable → ℕ → Finding
 found fault table number = record { fault = fault; table = table; entry = min number (2 ^ 32 - 1) }
 

@@ -25,6 +25,6 @@ texts_of tree Reservoirs = texts_in tree Reservoir
 texts_of tree Diversions = texts_in tree Diversion
 texts_of tree Rights = texts_in tree Diversion ++ texts_in tree Instream ++ texts_in tree Zone
 
--- the place in its space, from 0, of the first entry that has the text as its name
+-- the index in its space, from 0, of the first entry that has the text as its name
 abbrev pub named_at : Members → Space → List ℕ → Option ℕ
 named_at tree space q = first_from (is_the_text q) 0 (texts_of tree space)

@@ -62,7 +62,7 @@ any_value test table row =
 abbrev pub wrong_kind : Members → Entry → Bool
 wrong_kind tree e = any_value (λ kind d. not (has_kind (format_of tree) kind d)) e.table e.row
 
--- the run that is told by the top table ends too late
+-- the run that the top table describes ends too late
 abbrev pub runs_late : BasinTable → Members → Bool
 runs_late Top row = ends_late row
 runs_late _ row = false

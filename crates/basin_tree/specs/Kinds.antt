@@ -12,7 +12,7 @@ use Rattle.basin_tree.specs.declared.tables.Kind.TheVariants.{Monthly, Want, Cal
 abbrev pub is_integer_value : Data → Bool
 is_integer_value d = is_some (as_integer d)
 
--- a list of a given number of values that each pass a test
+-- a list of this many values that each pass a test
 abbrev pub is_listed : (Data → Bool) → ℕ → Data → Bool
 is_listed test len d = option_map_or (λ ds. items_len ds == len && items_all test ds) (as_array d) false
 

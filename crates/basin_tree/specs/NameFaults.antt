@@ -64,7 +64,7 @@ own_space Instream = Some Rights
 own_space Zone = Some Rights
 own_space Return = None
 
--- an entry before this place of the space has the text as its name
+-- an entry before this index of the space has the text as its name
 abbrev pub stands_before : Members → Space → ℕ → List ℕ → Bool
 stands_before tree space index text = option_map_or (λ at. nat_lt at index) (named_at tree space text) false
 
@@ -85,7 +85,7 @@ names_none tree _ d = false
 abbrev pub no_such_name : Members → Entry → Bool
 no_such_name tree e = any_value (names_none tree) e.table e.row
 
--- the node at a place of its list is an outlet
+-- the node at an index of its list is an outlet
 abbrev pub is_outlet_at : Members → ℕ → Bool
 is_outlet_at tree at =
     option_map_or (λ outlet. outlet)

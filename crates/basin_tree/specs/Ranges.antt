@@ -46,7 +46,7 @@ in_range MonthText d = option_map_or (λ text. is_some (read_month text)) (as_st
 in_range Points d = points_in d
 in_range _ d = true
 
--- whether the run that the top table tells ends after 2999-12
+-- whether the run that the top table describes ends after 2999-12
 abbrev pub ends_late : Members → Bool
 ends_late top =
     option_map_or (λ first. is_none (month_within first (integer_at (codes "months") 1 1200 1 top - 1)))

@@ -17,7 +17,7 @@ use toml::{Table, Value};
 use toml_tree::indices::{add_indices, earlier_of, indices_of};
 use toml_tree::values::{integer_at, items_of, member};
 
-/// A document with, for each name of a space, the first place that has it, and for each return row the number of
+/// A document with, for each name of a space, the first index that has it, and for each return row the number of
 /// earlier rows of its diversion.
 #[derive(Drop)]
 pub struct Document<'a> {
@@ -87,7 +87,7 @@ fn right_indices<'a>(alloc: Global, tree: &'a Table) -> Result<IndexMap<&'a [u8]
     Ok(indices)
 }
 
-/// The places of nodes and of links.
+/// The indices of nodes and of links.
 fn network_indices<'a>(
     alloc: Global,
     tree: &'a Table,
@@ -100,7 +100,7 @@ fn network_indices<'a>(
     Ok((nodes, links))
 }
 
-/// The places of reservoirs, of diversions and of rights.
+/// The indices of reservoirs, of diversions and of rights.
 fn use_indices<'a>(
     alloc: Global,
     tree: &'a Table,
@@ -164,7 +164,7 @@ impl<'a> Document<'a> {
         listed_at(self.tree, table)
     }
 
-    /// The place in its space, from 0, of the first entry that has the name.
+    /// The index in its space, from 0, of the first entry that has the name.
     pub fn named_at(&self, space: Space, name: &str) -> Option<u64>
         ensures { result ≡ named_at (tree_of self.now) space name.now }
     {
@@ -177,7 +177,7 @@ impl<'a> Document<'a> {
         }
     }
 
-    /// How many earlier return rows have the row's diversion, by the place of the row from 0.
+    /// How many earlier return rows have the row's diversion, by the index of the row from 0.
     pub fn earlier_rows(&self, index: u64) -> u64
         ensures { result
             ≡ earlier_like (texts_after (codes "diversion") (items_at (tree_of self.now) BasinTable.Return)) index }

@@ -87,7 +87,7 @@ fn own_space(table: BasinTable) -> Option<Space>
     }
 }
 
-/// Whether an entry before the place `first + more` of the space has the text as its name.
+/// Whether an entry before the index `first + more` of the space has the text as its name.
 fn stands_before(document: &Document, space: Space, first: u64, more: u64, text: &str) -> bool
     ensures { result ≡ stands_before (tree_of document.now) space (first + more) text.now }
 {

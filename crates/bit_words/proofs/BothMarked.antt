@@ -15,7 +15,7 @@ both_ones (suc zero) (suc zero) h k = refl
 both_ones (suc (suc x)) y h k = absurd (omega arith)
 both_ones x (suc (suc y)) h k = absurd (omega arith)
 
--- the words of a place in both lists, bit by bit
+-- the words at an index in both lists, bit by bit
 abbrev word_in_both : List ℕ → List ℕ → ℕ → ℕ
 word_in_both words others at = bit_and (slice_index words at) (slice_index others at)
 
@@ -27,7 +27,7 @@ both_is words others q =
     sym (ap (λ (n : ℕ). n == 1) (bit_at_and w o (q % 64))
     ∙ both_ones (bit_at w (q % 64)) (bit_at o (q % 64)) (bit_at-lt w (q % 64)) (bit_at-lt o (q % 64)))
 
--- a bit of a word is that of its place
+-- a bit of the words is the mark of the bit's index
 at_bit : (words others : List ℕ) (at q n : ℕ) → at * 64 ≤ q → q < (at + 1) * 64 →
     bit_at (word_in_both words others at) (q - at * 64) ≡ n → in_both words others q ≡ (n == 1)
 at_bit words others at q n after before is =
@@ -38,7 +38,7 @@ at_bit words others at q n after before is =
     ∙ ap (λ (k : ℕ). bit_at (word_in_both words others at) k == 1) bit
     ∙ ap (λ (k : ℕ). k == 1) is
 
--- no place of the words so far, and none of this word below a bit
+-- no index of the earlier words is marked in both, and none of this word below a bit
 pub unmarked_to : (words others : List ℕ) (from indices at low last : ℕ) →
     ((q : ℕ) → from ≤ q → q < indices → q < at * 64 → in_both words others q ≡ false) → low ≡ from - at * 64 →
     last ≤ (at + 1) * 64 →

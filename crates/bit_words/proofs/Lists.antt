@@ -1,4 +1,4 @@
--- Lists by place: f 0, f 1, .. f (n - 1).
+-- Lists by index: f 0, f 1, .. f (n - 1).
 use Rattle.std.proofs.Common.{◌≡◌, ◌≢◌, ℕ, ◌<◌, length, get_or, map, replicate, ap, sym, ◌∙◌, inl, inr, zero-add, arith}
 use Rattle.std.specs.Prelude.{slice_set}
 use Rattle.std.specs.List.{range_with_len}
@@ -14,7 +14,7 @@ at_index n f q d below = get_or-map-range_with_len f 0 n q q d below (zero-add q
 count : {X : Type 0} (n : ℕ) (f : ℕ → X) → length (map f (range_with_len 0 n)) ≡ n
 count n f = length-map-range_with_len f 0 n
 
--- another at one place
+-- another value at one index
 pub one_changed : {X : Type 0} (n : ℕ) (f g : ℕ → X) (p : ℕ) → ((q : ℕ) → q < n → q ≢ p → g q ≡ f q) →
     map g (range_with_len 0 n) ≡ slice_set (map f (range_with_len 0 n)) p (g p)
 one_changed n f g p same =
@@ -27,7 +27,7 @@ one_changed n f g p same =
       | inr e ↦ same q below e ∙ sym (get_or-set_other before p q (g p) d e ∙ at_index n f q d below)
     ])
 
--- one value at each place
+-- one value at each index
 pub all_one : {X : Type 0} (n : ℕ) (f : ℕ → X) (x : X) → ((q : ℕ) → q < n → f q ≡ x) →
     map f (range_with_len 0 n) ≡ replicate n x
 all_one n f x each =

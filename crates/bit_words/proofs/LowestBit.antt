@@ -1,4 +1,4 @@
--- The lowest bit of a word that is 1, from a bit on.
+-- The lowest bit of a word that is 1, from a bit onwards.
 use Rattle.std.proofs.Common.{◌≡◌, ℕ, ◌+◌, ◌-◌, ◌/◌, ◌^◌, ◌<◌, ◌≤◌, ap, sym, ◌∙◌, inl, inr, arith}
 use Rattle.std.specs.Int.{bit_at, w64, trailing_zeros}
 use Rattle.std.proofs.lemmas.Bool.{cases_lt}
@@ -7,7 +7,7 @@ use Rattle.std.proofs.lemmas.Nat.Bits.{bit_at-zero, bit_at_above, bit_at-trailin
 use Rattle.bit_words.specs.Marks.{IsLowestFrom}
 use Rattle.bit_words.proofs.Marks.{bit_at_shr}
 
--- the bits from one on are those of the word that is shifted down by as many
+-- the bits from one onwards are those of the word that is shifted down by as many
 shifted : (word from i : ℕ) → from ≤ i → bit_at word i ≡ bit_at (word / 2 ^ from) (i - from)
 shifted word from i after =
     let sum : i ≡ from + (i - from) = omega arith in

@@ -12,7 +12,7 @@ use Rattle.std.proofs.lemmas.Nat.Bits.{bit_at-zero}
 use Rattle.bit_words.specs.Marks.{is_marked, marks}
 use Rattle.bit_words.proofs.Lists.{one_changed, all_one}
 
--- where only the bit of place p is changed in its word, the other places' marks stay
+-- where only the bit of index p is changed in its word, the marks of the other indices stay
 pub others_stay : (words : List ℕ) (p x : ℕ) → p / 64 < length words →
     ((i : ℕ) → i < 64 → i ≢ p % 64 → bit_at x i ≡ bit_at (get_or words (p / 64) 0) i) →
     (q : ℕ) → q ≢ p → is_marked (slice_set words (p / 64) x) q ≡ is_marked words q
@@ -25,7 +25,7 @@ others_stay words p x within same q apart = elim (cases_eq (q / 64) (p / 64)) [
   | inr e ↦ ap (λ (w : ℕ). bit_at w (q % 64) == 1) (get_or-set_other words (p / 64) (q / 64) x 0 e)
 ]
 
--- and the place's own mark is its new bit
+-- and the mark of p is its new bit
 pub this_marked : (words : List ℕ) (p x : ℕ) → p / 64 < length words →
     is_marked (slice_set words (p / 64) x) p ≡ (bit_at x (p % 64) == 1)
 this_marked words p x within =
@@ -46,7 +46,7 @@ zero_unmarked count p =
       | inr past ↦ get_or_past (replicate count 0) (p / 64) 0 (omega (arith, length-replicate {A = ℕ} count 0))
     ]
 
--- the marks of n places are n
+-- the marks of n indices are n
 pub length-marks : (n : ℕ) (words : List ℕ) → length (marks n words) ≡ n
 length-marks n words = length-map-range_with_len (is_marked words) 0 n
 

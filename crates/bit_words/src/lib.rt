@@ -1,20 +1,20 @@
-//! Marks of places by the bits of words, 64 to a word. Nothing here takes memory.
+//! Marks of indices by the bits of words, 64 to a word. Nothing here takes memory.
 //!
-//! The mark of place p is bit p % 64 of word p / 64, counted from the lowest.
+//! The mark of index p is bit p % 64 of word p / 64, counted from the lowest.
 #![tactic(auto)]
 
 ghost use Rattle.std.specs.Prelude.{◌≡◌, ◌≢◌, ℕ, ◌+◌, ◌*◌, ◌/◌, ◌<◌, ◌≤◌, true, false, length, IfSome, IfNone};
 ghost use Rattle.std.specs.Int.{bit_at};
 ghost use Rattle.bit_words.specs.Marks.{words_for, is_marked, in_both, IsNextInBoth, IsLowestFrom};
 
-/// How many words hold the marks of a given number of places.
+/// How many words hold the marks of this many indices.
 pub fn words_for(indices: u32) -> usize
     ensures { result ≡ words_for indices }
 {
     (indices as usize + 63) / 64
 }
 
-/// Whether a place is marked.
+/// Whether an index is marked.
 pub fn is_marked(words: &[u64], index: u32) -> bool
     requires { index / 64 < length words.now }
     ensures { result ≡ is_marked words.now index }
@@ -22,7 +22,7 @@ pub fn is_marked(words: &[u64], index: u32) -> bool
     (words[index as usize / 64] >> (index % 64)) & 1 == 1
 }
 
-/// Marks a place. The marks of the other places stay.
+/// Marks an index. The marks of the other indices stay.
 pub fn mark(words: &mut [u64], index: u32)
     requires { index / 64 < length words.old }
     ensures count { length words.new ≡ length words.old }
@@ -32,7 +32,7 @@ pub fn mark(words: &mut [u64], index: u32)
     words[index as usize / 64] |= 1 << (index % 64);
 }
 
-/// Takes the mark of a place away. The marks of the other places stay.
+/// Removes the mark of an index. The marks of the other indices stay.
 pub fn unmark(words: &mut [u64], index: u32)
     requires { index / 64 < length words.old }
     ensures count { length words.new ≡ length words.old }
@@ -42,7 +42,7 @@ pub fn unmark(words: &mut [u64], index: u32)
     words[index as usize / 64] &= !(1 << (index % 64));
 }
 
-/// The least place from `from` on and below `indices` that both lists mark, or none where there is none. Two words
+/// The least index from `from` onwards and below `indices` that both lists mark, or none where there is none. Two words
 /// without a common mark cost one look.
 pub fn next_marked_in_both(words: &[u64], others: &[u64], from: u32, indices: u32) -> Option<u32>
     requires words { indices ≤ 64 * length words.now }
@@ -60,7 +60,7 @@ pub fn next_marked_in_both(words: &[u64], others: &[u64], from: u32, indices: u3
     None
 }
 
-/// The lowest bit of a word that is 1, of those from `from` on, or none where all of them are 0.
+/// The lowest bit of a word that is 1, of those from `from` onwards, or none where all of them are 0.
 fn lowest_bit(word: u64, from: u32) -> Option<u32>
     requires { from < 64 }
     ensures some { IfSome result (λ bit. IsLowestFrom word from bit) }

@@ -15,14 +15,14 @@ use Rattle.next_unit.specs.Helped.{IsHelped}
 use Rattle.next_unit.specs.Laws.{CarryHelpsRight}
 use Rattle.call_list.specs.Found.{Found, IsFoundIn, FitsFound}
 
--- a place with a right is one of the list
+-- an index with a right is one of the list
 pub answered_below : (xs : List (Option ℕ)) (k r : ℕ) → slice_index_or xs k None ≡ Some r → k < length xs
 answered_below xs k r h = elim (cases_lt k (length xs)) [
   | inl below ↦ below
   | inr past ↦ (let none : None ≡ Some r = sym (get_or_past xs k None past) ∙ h in cc)
 ]
 
--- two lists of one length with the same answer at each place
+-- two lists of one length with the same answer at each index
 pub same_answers : (xs ys : List (Option ℕ)) → length xs ≡ length ys →
     ((k : ℕ) → k < length xs → slice_index_or xs k None ≡ slice_index_or ys k None) → xs ≡ ys
 same_answers [] [] e h = refl

@@ -1,4 +1,4 @@
--- Where one more unit would help a short right, and the pieces of the text that tells it.
+-- Where one more unit would help a short right, and the pieces of the text that says it.
 use Rattle.std.proofs.Common.{◌≡◌, ℕ, ◌<◌, Bool, refl, ap, sym, List, ◌++◌, length}
 use Rattle.std.proofs.lemmas.Grind.{flat_map-append}
 use Rattle.std.specs.List.{flat_map}

@@ -25,7 +25,7 @@ prefix_none c r set sized is = record {
   rest = λ n l. nowhere c.nodes n;
 }
 
--- one node more that the set doesn't have
+-- one more node that the set doesn't have
 pub prefix_skip : (before now : CutSets) (r : ℕ) (set : List Bool) (k : ℕ) → has set k ≡ false →
     HoldsPrefix before now r set k → HoldsPrefix before now r set (k + 1)
 prefix_skip before now r set k none so = record {

@@ -36,7 +36,7 @@ abbrev pub helping_bytes : Basin → MonthRecord → ℕ → List Bool → List 
 helping_bytes b m right reach core =
     flat_map (whole_line b) (helping_lines b m right reach core) ++ account_bytes b m right core
 
--- the text that tells it: by the right's core and its reach; what the lines of the account bring, less what they keep,
+-- the text that says it: by the right's core and its reach; what the lines of the account bring, less what they keep,
 -- is the bound that the core puts on the right, and this is what it was delivered
 pub record IsHelpingText (b : Basin) (m : MonthRecord) (right : ℕ) (text : List ℕ) : Type 0 where
   pub core : List Bool

@@ -25,12 +25,12 @@ count_in part.Nexts b = length b.nodes
 count_in part.Links b = length b.links
 count_in part.Curtailed b = length b.rights
 
--- the line of a place with the right that it names, if there is one
+-- the line of an index with the right that it names, if there is one
 abbrev pub line_with : (ℕ → ℕ → Entry) → ℕ → Option ℕ → List Entry
 line_with make position None = []
 line_with make position (Some right) = make position right ∷ []
 
--- the line of a place of a part, if it has one
+-- the line of an index of a part, if it has one
 abbrev pub lines_at : Part → Basin → MonthRecord → Found → ℕ → List Entry
 lines_at part.Shorts b m found right =
     if nat_lt (slice_index m.delivered right) (slice_index m.want right)

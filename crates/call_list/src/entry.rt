@@ -34,13 +34,14 @@ pub enum Entry {
         right: u32,
         caller: u32,
     },
-    /// The month is told.
+    /// The lines of the month end here.
     End,
-    /// All months are told.
+    /// The list of this many months ends here.
     Done {
         months: u32,
     },
-    /// It is told what would help a short right: what it was delivered in the month, and what it wanted.
+    /// What a short right was delivered in the month, and what it wanted. The lines after it say what would help the
+    /// right.
     Where {
         month: Month,
         right: u32,

@@ -27,8 +27,8 @@ use water_edge::{Sink, SinkFailed};
 use water_model::cut_list::CutList;
 use water_model::types::{Basin, MonthRecord};
 
-/// What it takes to tell where one more unit would help a right: the search through a month's residual network, and
-/// cuts that keep the core that was found. All memory for the basin's months is taken when it is opened.
+/// What it takes to say where one more unit would help a right: the search through a month's residual network, and cuts
+/// that keep the core that was found. All memory for the basin's months is taken when it is opened.
 #[derive(Drop)]
 pub struct HelpFinder {
     search: ResidualSearch,
@@ -206,7 +206,8 @@ fn first_line(month: &MonthRecord, right: u32) -> Entry
     }
 }
 
-/// Puts what a right got and wanted, the nodes of its core, and the links that lead from outside its reach into that.
+/// Puts what a right got and wanted, the nodes of its core, and the links that lead from outside its reach into the
+/// core.
 fn put_indices<K: Sink>(
     sink: &mut K,
     basin: &Basin,
@@ -228,10 +229,10 @@ fn put_indices<K: Sink>(
     put_links(sink, basin, &month.cuts, core, right)
 }
 
-/// Puts where one more unit would help a short right of a month whose sets are the reaches: what it got and wanted; each
-/// node where one more unit of water would help it, which are the nodes of its core; each link whose carry of one more
-/// unit would help it, which are those that lead from outside its reach into the core; and the account of the core, the
-/// shortest that shows why it got no more.
+/// Puts where one more unit would help a short right of a month whose sets are the reaches: what it got and wanted;
+/// each node where one more unit of water would help it, which are the nodes of its core; each link where one more unit
+/// of carry would help it, which are those that lead from outside its reach into the core; and the account of the core,
+/// the shortest that shows why it got no more.
 ///
 /// Each line is one `put`. `SinkFailed` comes only where the sink counted a fault; a prefix of the text was then put.
 /// The cost is linear in nodes, links and rights, and no memory is taken.

@@ -1,7 +1,7 @@
 //! The list of a month's calls, for whoever administers them: who is short, whose the next unit of water at each node
 //! would be, which right one more unit of carry on each canal would help, and who is curtailed for whom. A finder finds
-//! all that of a month. Another finds where one more unit would help one short right, which is told with the account of
-//! its core. A finder takes its memory when it is opened, and no other call takes memory.
+//! all that of a month. Another finds where one more unit would help one short right, which is printed with the account
+//! of its core. A finder takes its memory when it is opened, and no other call takes memory.
 #![tactic(auto)]
 
 mod entry;

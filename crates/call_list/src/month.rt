@@ -38,7 +38,7 @@ impl<'b> Model for MonthCalls<'b> {
 }
 
 impl<'b> MonthCalls<'b> {
-    /// How many places a part goes over.
+    /// How many indices a part goes over.
     pub(crate) fn count_in(&self, part: Part) -> u32
         ensures { result ≡ count_in part self.now.basin }
     {
@@ -130,7 +130,7 @@ impl<'b> MonthCalls<'b> {
         }
     }
 
-    /// The line of a place of a part, if it has one.
+    /// The line of an index of a part, if it has one.
     pub(crate) fn line_at(&self, part: Part, position: u32) -> Option<Entry>
         requires { position < count_in part self.now.basin }
         ensures lines { option_to_list result ≡ lines_of self.now part position }

@@ -31,7 +31,7 @@ pub(crate) fn put_entry<K: Sink>(
     sink.put(line.bytes())
 }
 
-/// Puts the line of a place of a part, if it has one.
+/// Puts the line of an index of a part, if it has one.
 fn put_line<K: Sink>(
     sink: &mut K,
     calls: &MonthCalls,
@@ -49,7 +49,7 @@ fn put_line<K: Sink>(
     }
 }
 
-/// Puts the lines of a part whose places are nodes or links, in the order of the basin.
+/// Puts the lines of a part whose indices are those of nodes or links, in the order of the basin.
 fn put_indices<K: Sink>(sink: &mut K, calls: &MonthCalls, part: Part) -> Result<(), SinkFailed>
     requires { indices_in part calls.now.basin ≡ numbers_from 0 (count_in part calls.now.basin) }
     ensures text { Puts (K.taken sink.old) (K.taken sink.new) result (bytes_of calls.now (part_of calls.now part)) }
@@ -62,7 +62,7 @@ fn put_indices<K: Sink>(sink: &mut K, calls: &MonthCalls, part: Part) -> Result<
     Ok(())
 }
 
-/// Puts the lines of a part whose places are rights, seniors first.
+/// Puts the lines of a part whose indices are those of rights, seniors first.
 fn put_rights<K: Sink>(sink: &mut K, calls: &MonthCalls, part: Part) -> Result<(), SinkFailed>
     requires order { indices_in part calls.now.basin ≡ seniors_first calls.now.basin }
     requires count { count_in part calls.now.basin ≡ length calls.now.basin.rights }
@@ -99,7 +99,7 @@ fn put_parts<K: Sink>(sink: &mut K, calls: &MonthCalls) -> Result<(), SinkFailed
 }
 
 /// Puts the list of a month: each short right with what it got and wanted, seniors first; each node at which one more
-/// unit of water would be a right's, with that right; each link whose carry of one more unit would help a right, with
+/// unit of water would be a right's, with that right; each link where one more unit of carry would help a right, with
 /// the most senior one; and each diversion or zone that is curtailed, seniors first, with the senior for whom it is.
 ///
 /// Each line is one `put`. `SinkFailed` comes only where the sink counted a fault; a prefix of the list was then put.

@@ -15,7 +15,7 @@ use Rattle.calls.specs.Callers.{caller_at, AreFree}
 
 -- A right's set is gone over from its least node on.
 
--- the nodes below a place are given to the right where they are free and in its set, and the others are as they were
+-- the nodes below an index are given to the right where they are free and in its set, and the others are as they were
 pub record IsClaimed (nodes right from : ℕ) (set : List ℕ) (before now : List (Option ℕ)) (free rest : List ℕ) : Type 0
   where
     pub given : (n : ℕ) → n < from → n < nodes →

@@ -25,7 +25,7 @@ first_caller b m node = find (λ caller. is_short_at m caller node) (seniors_fir
 abbrev pub caller_at : List (Option ℕ) → ℕ → Option ℕ
 caller_at callers node = slice_index_or callers node None
 
--- for each node its first caller. There may be places after the nodes
+-- for each node its first caller. The list may be longer than the nodes
 pub record AreCallers (b : Basin) (m : MonthRecord) (callers : List (Option ℕ)) : Type 0 where
   pub enough : length b.nodes ≤ length callers
   pub each : (n : ℕ) → n < length b.nodes → caller_at callers n ≡ first_caller b m n

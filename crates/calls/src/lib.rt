@@ -18,7 +18,7 @@ use rights_roll::roll::Roll;
 use water_model::calls::taking_node;
 use water_model::types::{Basin, MAX_NODES, MonthRecord};
 
-/// How many words hold the marks of a given number of nodes.
+/// How many words hold the marks of the most nodes that a basin has.
 const MAX_WORDS: usize = 32;
 
 /// Whether a right was delivered less than its want.

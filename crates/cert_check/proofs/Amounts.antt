@@ -150,7 +150,7 @@ history_amounts b series before m valid fits partial left f = record {
     listed quantity.Closing = all_small m.closing (length b.reservoirs) f.after.fits.closing
         (closing_small b series before m valid fits f)
 
--- the records of a history are such as a text tells
+-- the records of a history are such as a text gives
 pub history_texts : (b : Basin) (series : Inflows) (records : List MonthRecord) → IsValidBasin b → IsSeriesOf b series →
     IsPartialHistory b series records → AreTextMonths b series records
 history_texts b series records valid fits h = record {

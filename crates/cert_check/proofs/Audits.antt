@@ -1,4 +1,4 @@
--- An audit with one line more.
+-- An audit with one more line.
 use Rattle.std.proofs.Common.{◌≡◌, ℕ, ◌+◌, ◌<◌, Bool, false, refl, sym, ap, subst, ◌∙◌, arith, inl, inr, List}
 use Rattle.std.proofs.Common.{[], ◌∷◌, ◌++◌, length, replicate, append-nil, length-append, cond}
 use Rattle.std.specs.Prelude.{Option, Some, None, IsSome, slice_index, slice_set, unwrap_or}

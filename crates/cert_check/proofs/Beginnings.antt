@@ -21,7 +21,7 @@ use Rattle.cert_check.specs.Keeping.{Keeps}
 use Rattle.cert_check.specs.Standing.{IsProgressOf}
 use Rattle.cert_check.specs.declared.progress.CheckProgress.{CheckProgress}
 
--- One outlet more.
+-- One more outlet.
 
 pub no_outlet : (p : ℕ → Bool) (n : ℕ) → list_all (λ other. nat_le other n) (filter p (numbers_from 0 0)) ≡ nat_le 0 n
 unfolding numbers_from
@@ -56,7 +56,7 @@ pub most_more : (t : Bool) (k last : ℕ) → last ≤ k → (if t then k else l
 most_more true k last l = omega arith
 most_more false k last l = omega arith
 
--- An account of nothing.
+-- A check state of nothing.
 
 pub blank_is : (b : Basin) → IsValidBasin b → IsBlank b (blank_month b 0 b.first)
 blank_is b valid = record {
@@ -65,7 +65,7 @@ blank_is b valid = record {
   shows = assumption (refl);
 }
 
--- a book of no line
+-- check progress of no line
 pub first_book : (b : Basin) (series : Inflows) (k : CheckProgress) → k.reader.basin ≡ b →
     reader.ReaderStandsFor k.reader [] →
     Keeps b series k.state.value (nothing_read b) →

@@ -97,7 +97,7 @@ in_month b valid m r xs ys e = by_first xs (sym (month_lines_are b m) ∙ e)
 own_call : (r : ℕ) → no_call r (line.Call r) ≡ false
 own_call r = grind (arith, nat_tests)
 
--- the first `call` of a right in a list stands at one place
+-- the first `call` of a right in a list stands at one index
 one_first : (r : ℕ) (xs ys us vs : List Item) → xs ++ line.Call r ∷ ys ≡ us ++ line.Call r ∷ vs →
     list_all (no_call r) xs ≡ true → list_all (no_call r) us ≡ true → length xs ≡ length us
 one_first r [] ys [] vs e h k = refl

@@ -103,7 +103,7 @@ called_good b series dues (x ∷ xs) before t c is =
 not_less : (n : ℕ) → nat_lt n n ≡ false
 not_less n = grind (arith, nat_tests)
 
--- what stays behind them
+-- what stays after them
 pub record After (b : Basin) (series : Inflows) (dues : List (ℕ × ℕ)) (take : List ℕ) (t : ReadSoFar) : Type 0 where
   pub callers : Callers b series dues dues t
   pub take_is : t.now.plan.take ≡ take

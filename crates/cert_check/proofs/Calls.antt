@@ -143,7 +143,7 @@ call_good : (b : Basin) (series : Inflows) (t : ReadSoFar) (r : ℕ) → IsSettl
 call_good b series t r settled short passed =
     (loose_fails b series t (line.Call r) settled, (missing_fails b t (line.Call r) passed, (ap not short, (refl, tt))))
 
--- what stays from call to call: the sets of the rights that had their place
+-- what stays from call to call: the sets of the rights that had their turn
 pub record Calling (b : Basin) (series : Inflows) (m : MonthRecord) (xs : List ℕ) (t : ReadSoFar) : Type 0 where
   pub sees : Sees b series m t.now
   pub settled : IsSettled b series t

@@ -1,4 +1,4 @@
--- The next `called` line that is due, by the place that an account keeps.
+-- The next `called` line that is due, by the index that a check state keeps.
 use Rattle.std.proofs.Common.{◌≡◌, ℕ, ◌+◌, zero, suc, true, false, refl, sym, ap, ◌∙◌, arith, List, [], ◌∷◌, ◌++◌}
 use Rattle.std.proofs.Common.{length, take, drop, append_assoc}
 use Rattle.std.specs.Prelude.{Some, None, nat_lt, slice_get}

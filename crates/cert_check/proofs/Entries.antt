@@ -1,4 +1,4 @@
--- An account keeps what was read with one line more.
+-- A check state keeps what was read with one more line.
 use Rattle.std.proofs.Common.{◌≡◌, ℕ, zero, suc, ◌+◌, Bool, true, false, refl, sym, ap, ◌∙◌, arith, List, [], ◌∷◌}
 use Rattle.std.proofs.Common.{◌++◌, length, map, replicate, take, length-append}
 use Rattle.std.specs.Prelude.{Option, Some, None, ◌&&◌, not, is_some, slice_set, slice_get, if◌then◌else◌}
@@ -162,13 +162,13 @@ keeps_month b series a t month calendar k = record {
   room = k.room;
 }
 
--- a `called` line, with a given number of rights whose callers were read
+-- a `called` line, with the number of rights whose callers were read
 pub keeps_called : (b : Basin) (series : Inflows) (a : CheckState) (t : ReadSoFar) (x caller next : ℕ) →
     AreAnswered b t.now next (t.called + 1) → Keeps b series a t →
     Keeps b series (record a { calling = None; answered = next }) (read_item b series t (line.Called x caller))
 keeps_called b series a t x caller next answered k = assumption (nobody b a.month.cuts)
 
--- the deliveries of one month more
+-- the deliveries of one more month
 delivered_more : (b : Basin) (series : Inflows) (a : CheckState) (t : ReadSoFar) → Keeps b series a t →
     map (λ m. m.delivered) (t.months ++ with_supply b series t.now ∷ []) ≡ map (λ m. m.delivered)
     t.months ++ a.month.delivered ∷ []
@@ -202,7 +202,7 @@ keeps_end b series a t lags comes used stands back spent k = assumption (left, n
       used = rw (delivered_more b series a t k) spent;
     }
 
--- the callers that were read are those of the account's record
+-- the callers that were read are those of the check state's record
 pub callers_read : (b : Basin) (series : Inflows) (a : CheckState) (t : ReadSoFar) → Keeps b series a t →
     (xs : List ℕ) →
     callers_of b a.month xs ≡ callers_of b t.now xs
@@ -249,7 +249,7 @@ keeps_next b series a t x caller (Some due) k good next =
         ∙ ap (λ xs. xs ++ (due.right, due.caller) ∷ [])
         (callers_read b series a t k (take a.answered (seniors_first b))))
 
--- the same, where the line and the account are known by an equation
+-- the same, where the line and the check state are known by an equation
 pub along : (b : Basin) (series : Inflows) (t : ReadSoFar) (a c : CheckState) (x y : Item) → x ≡ y → c ≡ a →
     Keeps b series a (read_item b series t y) → Keeps b series c (read_item b series t x)
 along b series t a c x y e f k = rw (e, f) k

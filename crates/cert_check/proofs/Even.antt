@@ -1,4 +1,4 @@
--- The tests of sums, by what an account keeps.
+-- The tests of sums, by what a check state keeps.
 use Rattle.std.proofs.Common.{◌≡◌, ℕ, ◌+◌, ◌<◌, ◌≤◌, Bool, true, false, refl, sym, ap, ◌∙◌, arith, inl, inr, List, []}
 use Rattle.std.proofs.Common.{◌∷◌, length}
 use Rattle.std.specs.Prelude.{◌&&◌, not, nat_le}

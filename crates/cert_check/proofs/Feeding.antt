@@ -1,4 +1,4 @@
--- A text that comes in pieces: its lines with one piece more, and what is refused whatever follows.
+-- A text that comes in pieces: its lines with one more piece, and what is refused whatever follows.
 use Rattle.std.proofs.Common.{◌≡◌, ℕ, ◌+◌, ◌<◌, Bool, true, false, refl, sym, ap, ◌∙◌, arith, inl, inr, List, [], ◌∷◌}
 use Rattle.std.proofs.Common.{◌++◌, length, take, drop, length-append, append_assoc, take-append-drop}
 use Rattle.std.specs.Prelude.{Option, Some, None, Result, Ok, Err, IsOk, nat_lt, not, slice_range, if◌then◌else◌}
@@ -300,7 +300,7 @@ ended_refused c line text bytes piece taken e given takes answer more = elim tak
   | inr to_full ↦ long_refused c line text bytes piece taken e given to_full answer more
 ]
 
--- A piece from a place on.
+-- A piece from an index on.
 
 pub given_on : (c : CheckerView) (line : LineHeld) (text piece : List ℕ) (at taken : ℕ) →
     AreGiven c line ((text ++ take at piece) ++ take taken (slice_range piece at (length piece))) →

@@ -1,4 +1,4 @@
--- The parts of what an account keeps, at first and where one amount changes.
+-- The parts of what a check state keeps, at first and where one amount changes.
 use Rattle.std.proofs.Common.{◌≡◌, ℕ, Bool, true, false, refl, sym, ap, ◌∙◌, arith, List, length, take}
 use Rattle.std.specs.Prelude.{Option, Some, None, ◌&&◌, not, slice_set}
 use Rattle.std.proofs.Math.ListN.{length-set}

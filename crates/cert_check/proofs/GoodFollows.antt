@@ -59,7 +59,7 @@ map_at f from (suc n) zero l = let e : from ≡ from + 0 = omega arith in ap f e
 map_at f from (suc n) (suc k) l = let e : suc from + k ≡ from + suc k = omega arith in
     map_at f (suc from) n k (omega arith) ∙ ap f e
 
--- a number of a place that passes a test or was read to be 0
+-- a number at an index that passes a test, or that was read to be 0
 by_filter : (p : ℕ → Bool) (xs : List ℕ) (k x y : ℕ) → Has xs k → (Has (filter p xs) k → x ≡ y) →
     ((Has (filter p xs) k → ⊥) → x ≡ 0) → (p k ≡ false → y ≡ 0) → x ≡ y
 by_filter p xs k x y has so_far none zero_there = elim (cases_Bool (p k)) [

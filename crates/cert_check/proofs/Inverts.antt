@@ -85,7 +85,7 @@ one_line b d ds items o (inr (i, members, others, f, followed, are, h)) = record
   rest = h;
 }
 
--- no place comes twice
+-- no index comes twice
 abbrev pub AreApart : List ℕ → Type 0
 AreApart [] = Unit {0}
 AreApart (x ∷ xs) = (Has xs x → ⊥) × AreApart xs
@@ -106,7 +106,7 @@ elsewhere f x y k h = by_test (k == x) refl
     by_test true e = absurd (h (eqb-true k x e))
     by_test false e = rw e refl
 
--- the lines of a section that has one for each place
+-- the lines of a section that has one for each index
 pub record Lines (b : Basin) (line_at : ℕ → Shape) (xs : List ℕ) (ds : List Shape) (items : List Item) : Type 0 where
   pub fields : ℕ → Fields
   pub others : List Item

@@ -1,4 +1,4 @@
--- An account keeps what was read where it only learns what follows from it.
+-- A check state keeps what was read where only what follows from it is added.
 use Rattle.std.proofs.Common.{◌≡◌, ℕ, true, refl, List, length}
 use Rattle.std.specs.Prelude.{Option}
 use Rattle.calls.specs.Callers.{AreCallers}
@@ -24,7 +24,7 @@ keeps_supply b series a t k =
     callers : a.has_callers ≡ true → AreCallers b (with_supply b series a.month) a.callers
     callers e = let known = k.callers e in assumption known
 
--- a given number of rights are passed, or answered
+-- this many rights are passed, or answered
 pub keeps_passed : (b : Basin) (series : Inflows) (a : CheckState) (t : ReadSoFar) (count : ℕ) → Keeps b series a t →
     AreSettled b t.now count → Keeps b series (record a { passed = count }) t
 keeps_passed b series a t count k settled = assumption

@@ -26,7 +26,7 @@ use Rattle.rights_roll.proofs.Seniors.{has-get_or}
 clash : {X : Type 0} → true ≡ false → X
 clash e = cc
 
--- an element stands in front of a place or after it
+-- an element stands before an index or from it on
 by_index : (xs : List ℕ) (k y : ℕ) → Has xs y → Has (take k xs) y ⊎ Has (drop k xs) y
 by_index xs zero y h = inr h
 by_index [] (suc k) y h = absurd h
@@ -39,7 +39,7 @@ none_in p [] y h m = absurd m
 none_in p (x ∷ xs) y h (inl e) = ap p e ∙ (or_parts (p x) (list_any p xs) h).0
 none_in p (x ∷ xs) y h (inr m) = none_in p xs y (or_parts (p x) (list_any p xs) h).1 m
 
--- after a place each right is the one there, or junior to it
+-- from an index on each right is the one there, or junior to it
 after_index : (b : Basin) (xs : List ℕ) (k y : ℕ) → IsOrdered b.rights xs → Has (drop k xs) y →
     (k < length xs) × ((y ≡ slice_index xs k) ⊎ (is_senior b (slice_index xs k) y ≡ true))
 after_index b [] zero y o m = absurd m
@@ -66,7 +66,7 @@ not_passed b (line.Called r caller) x y h (inr senior) = h
 not_passed b line.End x y h (inr senior) = h
 not_passed b (line.Done months) x y h (inr senior) = h
 
--- rights that lack their calls by what was read do so by the account's record
+-- rights that lack their calls by what was read do so by the check state's record
 pub lacks_read : (b : Basin) (series : Inflows) (a : CheckState) (t : ReadSoFar) → Keeps b series a t → (xs : List ℕ) →
     list_any (lacks_call a.month) xs ≡ list_any (lacks_call t.now) xs
 lacks_read b series a t k xs = rw (k.month.shows.delivered, k.month.shows.want, k.month.shows.sets) refl

@@ -72,7 +72,7 @@ pub good_parts : (b : Basin) (series : Inflows) (t : ReadSoFar) (xs ys : List It
     AreGood b series t xs × AreGood b series (fold (read_item b series) t xs) ys
 good_parts b series t xs ys g = (good_first b series t xs ys g, good_rest b series t xs ys g)
 
--- Lines one for each place, after which something that a place's row needs stays.
+-- Lines, one for each index, after which something that the row of an index needs stays.
 pub record Section (b : Basin) (series : Inflows) (P : ReadSoFar → Type 0) (good : ℕ → Type 0) (item : ℕ →
     Item) : Type 0 where
   pub makes : (x : ℕ) (t : ReadSoFar) → P t → good x → NoneHolds (rows b series t (item x))

@@ -41,7 +41,7 @@ use Rattle.cert_check.proofs.Verdicts.{AreJudged, verdict_says, IsYes, yes_says}
 abbrev pub from_month : Basin → ℕ → ℕ → List Shape
 from_month b i n = flat_map (due_for_month b) (numbers_from i n) ++ shape.Done b.months ∷ []
 
--- the lines of one month more
+-- the lines of one more month
 pub record OneMonth (b : Basin) (i n : ℕ) (items : List Item) : Type 0 where
   pub sheet : Sheet
   pub dues : List (ℕ × ℕ)
@@ -131,7 +131,7 @@ pub record AfterMonths (b : Basin) (series : Inflows) (before : List MonthRecord
   pub partial : IsPartialHistory b series before
   pub opens : length (opening_after b before) ≡ length b.reservoirs
 
--- one month more that is not refuted
+-- one more month that is not refuted
 pub record NextMonth (b : Basin) (series : Inflows) (before : List MonthRecord) (t : ReadSoFar) (i : ℕ) (s : Sheet)
     (dues : List (ℕ × ℕ)) : Type 0 where
   pub lines_are : line.Month (run_month b i) ∷ sheet_lines b s dues ≡ items_of_month b (record_of b series i s)

@@ -1,4 +1,4 @@
--- An account keeps the sets that were read, with one line more.
+-- A check state keeps the sets that were read, with one more line.
 use Rattle.std.proofs.Common.{◌≡◌, ℕ, ◌<◌, Bool, true, false, refl, sym, ap, subst, ◌∙◌, arith, inl, inr, List, []}
 use Rattle.std.proofs.Common.{◌∷◌, length, replicate, take}
 use Rattle.std.specs.Prelude.{Option, Some, None, IsSome, ◌&&◌, is_none, slice_set, option_map}
@@ -24,7 +24,7 @@ clash e = cc
 no_right : {X : Type 0} (r : ℕ) → None ≡ Some r → X
 no_right r e = cc
 
--- rights that have their calls have them with one set more
+-- rights that have their calls have them with one more set
 settled_with : (b : Basin) (m : MonthRecord) (r : ℕ) (set : List Bool) → r < length m.cuts.sets → (xs : List ℕ) →
     list_any (lacks_call m) xs ≡ false →
     list_any (lacks_call (record m { cuts = with_set m.cuts r (Some set) })) xs ≡ false
@@ -51,7 +51,7 @@ has_set cuts r set l = rw (set_of_with cuts r (Some set) l) refl
 
 -- A right's set was read, before the `called` lines.
 
--- the account with the set, while the nodes of this right come
+-- the check state with the set, while the nodes of this right come
 abbrev pub with_own : CheckState → ℕ → List Bool → Option ℕ → CheckState
 with_own a r set calling = record a {
   month = record a.month { cuts = with_set a.month.cuts r (Some set) };

@@ -41,7 +41,7 @@ use Rattle.cert_check.proofs.Spread.{onto, onto_same}
 use Rattle.result_reader.proofs.Sets.{put_sets, set_in, length-put_sets, put_sets-has, put_sets-same, no_sets}
 use Rattle.result_reader.proofs.AllRead.{set_all-same}
 
--- No place comes twice in the lists that sections go over.
+-- No index comes twice in the lists that sections go over.
 
 pub indices_apart : (from n : ℕ) → AreApart (numbers_from from n)
 unfolding numbers_from
@@ -155,7 +155,7 @@ cut_is b cut k h =
     (omega (arith, length-replicate {A = Option (List Bool)} (length b.rights) None)) (no_sets (length b.rights) k)
     h)
 
--- the record of a sheet tells all of itself
+-- all of a sheet's record is read
 pub record_read : (b : Basin) (series : Inflows) (i : ℕ) (s : Sheet) →
     ((r : ℕ) (set : List Bool) → s.cut r ≡ Some set → length set ≡ length b.nodes) →
     IsAllRead b series (record_of b series i s)

@@ -1,4 +1,4 @@
--- A book with one line more.
+-- Check progress with one more line.
 use Rattle.std.proofs.Common.{◌≡◌, ℕ, ◌+◌, ◌*◌, ◌^◌, ◌<◌, ◌≤◌, true, false, refl, sym, ap, subst, ◌∙◌, arith, List, []}
 use Rattle.std.proofs.Common.{◌∷◌, ◌++◌, length, append_assoc, append-nil}
 use Rattle.std.specs.Prelude.{Option, Some, None, Result, Ok, Err}
@@ -71,7 +71,7 @@ bounded_lines b series k lines valid s =
         let all : count * (1 + dues + rights * nodes) ≤ 1200 * (1 + 50000 + 2000 * 2000) = mul-le-mul m month in
         omega arith
 
--- The verdict with one line more.
+-- The verdict with one more line.
 
 one_more : (b : Basin) (series : Inflows) (before : List Item) (lines : List (List ℕ)) (bytes : List ℕ) →
     verdict_from b series before (lines ++ bytes ∷ [])

@@ -71,7 +71,7 @@ short_rest b series lines rest h =
     fails : (n : ℕ) → n ≤ 128 → nat_lt 128 n ≡ false
     fails n h = grind (arith, nat_tests)
 
--- the pieces in front of others are lines
+-- the pieces before others are lines
 prefix_lines : (prefix more : List (List ℕ)) → 0 < length more → (after : List (List ℕ)) ×
     (lines_of_pieces (prefix ++ more) ≡ prefix ++ after)
 prefix_lines prefix more some = by_test (is_line (after_last (prefix ++ more)))

@@ -1,4 +1,4 @@
--- What the lines of a month tell stays within bounds.
+-- What the lines of a month say stays within bounds.
 use Rattle.std.proofs.Common.{◌≡◌, ℕ, zero, suc, ◌^◌, ◌<◌, ◌≤◌, Bool, true, false, refl, sym, ap, ◌∙◌, arith, inl, inr}
 use Rattle.std.proofs.Common.{List, [], ◌∷◌, length, map, fold, replicate}
 use Rattle.std.specs.Prelude.{Option, Some, None, ◌||◌, ◌==◌, not, min, is_some, slice_index, slice_get}
@@ -114,7 +114,7 @@ both_fail : (p q : Bool) → not p || q ≡ false → (p ≡ true) × (q ≡ fal
 both_fail true q h = (refl, h)
 both_fail false q h = cc
 
--- one line more
+-- one more line
 pub in_month_more : (b : Basin) → IsValidBasin b → (series : Inflows) → IsSeriesOf b series →
     (before : List MonthRecord) (i : ℕ) → i ≡ length before → i < b.months → (t : ReadSoFar) (item : Item) →
     is_amid item ≡ true → NoneHolds (rows b series t item) → InMonth b before i t →

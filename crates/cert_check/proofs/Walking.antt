@@ -1,11 +1,11 @@
--- Walks over the rights in the order of seniority, one place further.
+-- Walks over the rights in the order of seniority, one index further.
 use Rattle.std.proofs.Common.{◌≡◌, ℕ, ◌+◌, ap, arith}
 use Rattle.std.specs.Prelude.{Option, None, if◌then◌else◌}
 use Rattle.finite_sums.specs.Sums.{total_where}
 use Rattle.finite_sums.proofs.Totals.{total_more}
 use Rattle.water_model.specs.Basin.{is_at}
 
--- a sum over one place more, whose key is no place
+-- a sum over one more index, whose key is none
 pub none_more : (n k : ℕ) (key : ℕ → Option ℕ) (f : ℕ → ℕ) (sum base : ℕ) → key n ≡ None →
     sum ≡ base + total_where n (λ v. is_at (key v) k) f →
     sum ≡ base + total_where (n + 1) (λ v. is_at (key v) k) f

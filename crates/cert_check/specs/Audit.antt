@@ -28,7 +28,8 @@ is_end other = false
 abbrev pub ended_months : List Item → ℕ
 ended_months items = count_by is_end items
 
--- The line of this number, counted from 1, is the `call` of a right in a month: a given number of months end before it.
+-- The line of this number, counted from 1, is the `call` of a right in the month of this index: as many months end
+-- before it.
 pub record IsCallLine (items : List Item) (month right number : ℕ) : Type 0 where
   pub position : ℕ
   pub at : slice_get items position ≡ Some (line.Call right)

@@ -34,14 +34,14 @@ pub record HasMemory (b : Basin) (a : Audit) : Type 0 where
   pub search : IsSearchOf b a.search
   pub lines : length a.call_lines ≡ length b.rights
 
--- an audit of these lines, by what they tell
+-- an audit of these lines, by what they say
 pub record IsAuditOf (b : Basin) (t : ReadSoFar) (items : List Item) (a : Audit) : Type 0 where
   pub memory : HasMemory b a
   pub months : ended_months items ≡ length t.months
   pub lines : HasCallLines t items a.call_lines
   pub found : IsFound b t.months items a.other
 
--- so is what a checker keeps, where an audit was asked for
+-- what a checker keeps is such an audit, where one was asked for
 abbrev pub IsAuditIfAny : Basin → ReadSoFar → List Item → Option Audit → Type 0
 IsAuditIfAny b t items None = Unit {0}
 IsAuditIfAny b t items (Some a) = IsAuditOf b t items a
@@ -50,7 +50,7 @@ IsAuditIfAny b t items (Some a) = IsAuditOf b t items a
 abbrev pub MonthFollows : Basin → Inflows → ReadSoFar → Type 0
 MonthFollows b series t = Follows b series t.months (with_supply b series t.now)
 
--- an account keeps what some lines say, and the month that was read may end
+-- a check state keeps what some lines say, and the month that was read may end
 pub record MonthEnds (b : Basin) (series : Inflows) (a : CheckState) : Type 0 where
   pub so_far : ReadSoFar
   pub keeps : Keeps b series a so_far
@@ -70,7 +70,7 @@ pub record AsksMonth (b : Basin) (m : MonthRecord) (old new : Audit) : Type 0 wh
   pub lines : new.call_lines ≡ old.call_lines
   pub other : IsAsked b m old.call_lines old.other new.other
 
--- a `call` line is kept, and at an `end` line the month is asked
+-- the number of a `call` line is kept, and at an `end` line the month is asked
 abbrev pub TakesAudit : Basin → Inflows → ReadSoFar → Item → ℕ → Audit → Audit → Type 0
 TakesAudit b series t (line.Call r) number old new =
     new ≡ record old { call_lines = slice_set old.call_lines r number }

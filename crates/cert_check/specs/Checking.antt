@@ -29,7 +29,7 @@ use Rattle.cert_check.specs.declared.refuted.RefutedKind.{RefutedKind}
 use Rattle.cert_check.specs.declared.refuted.RefutedKind.TheVariants as kind
 use Rattle.cert_check.specs.declared.refuted.Refuted.{Refuted}
 
--- The rows. Each is of what the lines before tell, what was read with this line, and this line.
+-- The rows. Each tests what the lines before say, what was read with this line, and this line.
 
 -- whether a set is a tight cut of a right
 abbrev pub is_tight : Basin → MonthRecord → ℕ → List Bool → Bool
@@ -49,7 +49,7 @@ is_after_calls (line.Amount q entry amount) = is_closing q
 is_after_calls line.End = true
 is_after_calls other = false
 
--- whether a line stands after the place of a right's `call` line
+-- whether a line stands after where a right's `call` line would stand
 abbrev pub passes : Basin → Item → ℕ → Bool
 passes b (line.Call r) right = is_senior b right r
 passes b other right = is_after_calls other
@@ -89,8 +89,8 @@ called_wrong b t other = is_after_calls other && nat_lt t.called (length (caller
 abbrev pub is_same_month : Month → Month → Bool
 is_same_month m n = m.year == n.year && m.month == n.month
 
--- The rows of the amounts. An amount is wrong by what the lines before it tell, and of the last `out` line by what is
--- told with it.
+-- The rows of the amounts. An amount is wrong by what the lines before it say, and that of the last `out` line by what
+-- they say with it.
 
 abbrev pub head_wrong : Basin → Month → ℕ → Bool
 head_wrong b first months = not (is_same_month first b.first && months == b.months)
@@ -110,7 +110,7 @@ balances b m n =
     slice_index m.supply n + inflow_to b m.plan.flow n
     == outflow_from b m.plan.flow n + taken_at b m.plan.take n + slice_index m.plan.out n
 
--- at the last `out` line, with its amount
+-- whether some node isn't in balance at the last `out` line, with its amount
 abbrev pub balance_wrong : Basin → Inflows → ReadSoFar → ℕ → Bool
 balance_wrong b series with_line n =
     list_all (λ other. nat_le other n) (outlets b)
@@ -162,7 +162,7 @@ call_rows b series t item =
 abbrev pub rows : Basin → Inflows → ReadSoFar → Item → List Row
 rows b series t item = call_rows b series t item ++ own_rows b series t item
 
--- the first row that holds of a line, by what the lines before it tell
+-- the first row that holds of a line, by what the lines before it say
 unfoldable pub first_row : Basin → Inflows → ReadSoFar → Item → Option RefutedKind
 first_row b series t item = option_map (λ row. row.0) (find (λ row. row.1) (rows b series t item))
 
@@ -171,7 +171,7 @@ abbrev pub members_first : List Item → ℕ
 members_first [] = 0
 members_first (item ∷ items) = if is_member item then members_first items + 1 else 0
 
--- the line that a row names: of a loose cut its `call` line, and else this line
+-- the line that a row names: for a loose cut its `call` line, and else this line
 abbrev pub named_line : List Item → RefutedKind → ℕ
 named_line before kind.CutLoose = length before - members_first (reverse before)
 named_line before other = length before + 1

@@ -52,20 +52,20 @@ pub record MayCome (b : Basin) (series : Inflows) (t : ReadSoFar) (item : Item) 
   pub uncalled : is_before_called item ≡ true → t.called ≡ 0
   pub free : (r : ℕ) → item ≡ line.Call r → cut_of t.now r ≡ None
 
--- an account keeps what some lines say, after which this one may come
+-- a check state keeps what some lines say, after which this one may come
 pub record Awaits (b : Basin) (series : Inflows) (a : CheckState) (item : Item) : Type 0 where
   pub so_far : ReadSoFar
   pub keeps : Keeps b series a so_far
   pub comes : MayCome b series so_far item
 
--- an account keeps what some lines say, within a month of the run
+-- a check state keeps what some lines say, within a month of the run
 pub record HasMonth (b : Basin) (series : Inflows) (a : CheckState) : Type 0 where
   pub so_far : ReadSoFar
   pub keeps : Keeps b series a so_far
   pub partial : IsPartialHistory b series so_far.months
   pub under_way : IsWithinMonth b series so_far
 
--- an account keeps what some lines say
+-- a check state keeps what some lines say
 pub record HasRead (b : Basin) (series : Inflows) (a : CheckState) : Type 0 where
   pub so_far : ReadSoFar
   pub keeps : Keeps b series a so_far

@@ -1,4 +1,4 @@
--- What an account keeps of what lines say.
+-- What a check state keeps of what lines say.
 use Rattle.std.specs.Prelude.{◌≡◌, ℕ, ◌<◌, ◌≤◌, Bool, true, false, ◌&&◌, List, map, length, take, slice_index}
 use Rattle.std.specs.Prelude.{slice_set, Option, Some, IsSome, is_none}
 use Rattle.std.specs.List.{list_any, flat_map}
@@ -36,11 +36,12 @@ is_supplied other = false
 abbrev pub lacks_call : MonthRecord → ℕ → Bool
 lacks_call m r = is_short m r && is_none (cut_of m r)
 
--- of some rights those that answer to a caller, each with it
+-- those of some rights that answer to a caller, each with its caller
 abbrev pub callers_of : Basin → MonthRecord → List ℕ → List (ℕ × ℕ)
 callers_of b m rights = flat_map (λ r. caller_due r (calling_right b m r)) rights
 
--- The parts of what an account keeps. A part names only the fields that it depends on, and is the same where they are.
+-- The parts of what a check state keeps. A part names only the fields that it depends on, and is the same where they
+-- are.
 
 -- what the months that ended leave to the next one: their number, what is on its way back, what the reservoirs open
 -- with, what comes back to the nodes, and what the rights used
@@ -58,23 +59,23 @@ pub record IsCalling (b : Basin) (cuts : CutSets) (right due : Option ℕ) : Typ
   pub so_far : right ≡ due
   pub held : (r : ℕ) → right ≡ Some r → (r < length b.rights) × IsSome (set_of cuts r)
 
--- a given number of rights, the most senior ones, are met or have their `call`
+-- this many rights, the most senior ones, are met or have their `call`
 pub record AreSettled (b : Basin) (m : MonthRecord) (count : ℕ) : Type 0 where
   pub within : count ≤ length b.rights
   pub each : list_any (lacks_call m) (take count (seniors_first b)) ≡ false
 
--- a given number of rights, the most senior ones, answer to the callers of so many `called` lines, and to no other
+-- this many rights, the most senior ones, answer to the callers of this many `called` lines, and to no other
 pub record AreAnswered (b : Basin) (m : MonthRecord) (count lines : ℕ) : Type 0 where
   pub within : count ≤ length b.rights
   pub called : lines ≡ length (callers_of b m (take count (seniors_first b)))
 
--- there is room for a sum for each reservoir, and for two for each node
+-- there is room for a sum for each reservoir, and for two sums for each node
 pub record HasRoom (b : Basin) (zones inflows outflows : List ℕ) : Type 0 where
   pub closes : length zones ≡ length b.reservoirs
   pub into : length inflows ≡ length b.nodes
   pub out_of : length outflows ≡ length b.nodes
 
--- the account keeps what was read, and what follows from it
+-- the check state keeps what was read, and what follows from it
 pub record Keeps (b : Basin) (series : Inflows) (a : CheckState) (t : ReadSoFar) : Type 0 where
   pub left : AreLeft b t.months a.done a.lags a.opens a.comes a.used
   pub month : IsRecordOf b a.month t.now

@@ -17,7 +17,7 @@ pub record AreSums (b : Basin) (m : MonthRecord) (into out_of : List ℕ) : Type
   pub comes : (n : ℕ) → slice_index into n ≡ slice_index m.supply n + inflow_to b m.plan.flow n
   pub leaves : (n : ℕ) → slice_index out_of n ≡ outflow_from b m.plan.flow n + taken_at b m.plan.take n
 
--- an account has the supply that was read, and the sums of it
+-- a check state has the supply that was read, and the sums of it
 pub record HasSums (b : Basin) (a : CheckState) : Type 0 where
   pub supply : a.has_supply ≡ true
   pub sums : AreSums b a.month a.into a.out_of

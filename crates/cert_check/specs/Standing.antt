@@ -12,15 +12,15 @@ use Rattle.cert_check.specs.Keeping.{Keeps}
 use Rattle.cert_check.specs.declared.progress.CheckProgress.{CheckProgress}
 use Rattle.cert_check.specs.declared.refuted.Refuted.{Refuted}
 
--- the numbers of a book are those of these lines: how many they are, the number of the last that is no `in` line, and
--- whether the text has its last line
+-- the counts of check progress are those of these lines: how many they are, the number of the last that is no `in`
+-- line, and whether the text has its last line
 pub record Counts (k : CheckProgress) (items : List Item) : Type 0 where
   pub read : k.read ≡ length items
   pub last_other : k.last_other ≡ length items - members_first (reverse items)
   pub ended : k.ended ≡ is_whole items
 
--- no line is at fault so far. The reader accepted what the lines say, the account keeps what they tell, and an audit
--- found the first set that isn't a reach
+-- no line is at fault so far. The reader accepted what the lines say, the check state keeps it, and an audit found the
+-- first set that isn't a reach
 pub record IsProgressOf (b : Basin) (series : Inflows) (k : CheckProgress) (lines : List (List ℕ)) : Type 0 where
   pub items : List Item
   pub verdict : verdict_from b series [] lines ≡ Ok items
@@ -46,8 +46,8 @@ IsAudit c = IsSome c.progress.audit
 abbrev pub lines_left : CheckerView → ℕ
 lines_left c = c.progress.reader.left
 
--- The checker was given these lines: none of them is at fault and it keeps what they say and tell, or it keeps the
--- refusal that the verdict on them is.
+-- The checker was given these lines: none of them is at fault and it keeps what they say, or it keeps the refusal that
+-- the verdict on them is.
 abbrev pub Stands : Option Refuted → CheckerView → List (List ℕ) → Type 0
 Stands None c lines = IsProgressOf c.basin c.series c.progress lines
 Stands (Some refused) c lines = verdict_from c.basin c.series [] lines ≡ Err refused

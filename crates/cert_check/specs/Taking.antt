@@ -13,12 +13,12 @@ use Rattle.cert_check.specs.Standing.{IsProgressOf, Counts}
 use Rattle.cert_check.specs.declared.progress.CheckProgress.{CheckProgress}
 use Rattle.cert_check.specs.declared.refuted.Refuted.{Refuted}
 
--- a book of some lines
+-- check progress of some lines
 pub record HasLines (b : Basin) (series : Inflows) (k : CheckProgress) : Type 0 where
   pub lines : List (List ℕ)
   pub stands : IsProgressOf b series k lines
 
--- with one line more the book is that of all of them, or the verdict is a refusal
+-- with one more line the check progress is that of all of them, or the verdict is a refusal
 abbrev pub TakesLine : Basin → Inflows → CheckProgress → List (List ℕ) → Result (Unit {0}) Refuted → Type 0
 TakesLine b series k lines (Ok _) = IsProgressOf b series k lines
 TakesLine b series k lines (Err e) = verdict_from b series [] lines ≡ Err e
@@ -36,7 +36,7 @@ pub record HasItems (b : Basin) (series : Inflows) (k : CheckProgress) (item : I
   pub items : List Item
   pub so_far : IsRead b series k items item
 
--- an item that no row refutes was read, and of every other it was read why
+-- an item that no row refutes was read, and every other is refused as the verdict refuses it
 abbrev pub TakesItem : Basin → Inflows → CheckProgress → List Item → Item → Result (Unit {0}) Refuted → Type 0
 TakesItem b series k items item (Ok _) =
     (first_row b series (read_so_far b series items) item ≡ None) ×

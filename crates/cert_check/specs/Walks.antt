@@ -10,7 +10,7 @@ use Rattle.cert_check.specs.Checking.{passes, callers_due}
 use Rattle.cert_check.specs.Keeping.{lacks_call, callers_of}
 use Rattle.cert_check.specs.declared.answering.Due.{Due}
 
--- a line passes over a given number of rights, and none of them lacks its `call`
+-- a line passes over at most this many rights, the most senior ones, and none of these lacks its `call`
 pub record ArePassed (b : Basin) (m : MonthRecord) (item : Item) (count : ℕ) : Type 0 where
   pub within : count ≤ length (seniors_first b)
   pub settled : list_any (lacks_call m) (take count (seniors_first b)) ≡ false
@@ -27,18 +27,18 @@ abbrev pub IsPassed : Basin → MonthRecord → Item → Option ℕ → Type 0
 IsPassed b m item (Some count) = ArePassed b m item count
 IsPassed b m item None = IsMissed b m item
 
--- from a place on this right is the first that answers to a caller
+-- from an index on this right is the first that answers to a caller
 pub record IsNextDue (b : Basin) (m : MonthRecord) (from : ℕ) (due : Due) : Type 0 where
   pub within : due.position < length (seniors_first b)
   pub up_to : callers_of b m (take (due.position + 1) (seniors_first b)) ≡ callers_of b m
       (take from (seniors_first b)) ++ (due.right, due.caller) ∷ []
 
--- the first right from a place on that answers to a caller, or none
+-- the first right from an index on that answers to a caller, or none
 abbrev pub IsDueFrom : Basin → MonthRecord → ℕ → Option Due → Type 0
 IsDueFrom b m from (Some due) = IsNextDue b m from due
 IsDueFrom b m from None = callers_due b m ≡ callers_of b m (take from (seniors_first b))
 
--- a given number of rights are after it
+-- the index after it, or where there is none the index from which it was looked for
 abbrev pub after : ℕ → Option Due → ℕ
 after from None = from
 after from (Some due) = due.position + 1

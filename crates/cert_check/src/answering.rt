@@ -10,7 +10,7 @@ use calls::calling_right;
 use rights_roll::roll::Roll;
 use water_model::types::{Basin, MonthRecord};
 
-/// A right that answers to a caller, and its place in the order of seniority.
+/// A right that answers to a caller, and its index in the order of seniority.
 #[derive(Clone, Copy)]
 pub struct Due {
     pub position: usize,
@@ -18,7 +18,7 @@ pub struct Due {
     pub caller: u32,
 }
 
-/// The first right in the order of seniority that answers to a caller, from a place on. `callers` has the first caller
+/// The first right in the order of seniority that answers to a caller, from an index on. `callers` has the first caller
 /// of each node.
 pub fn next_due(
     basin: &Basin,

@@ -57,7 +57,7 @@ fn keep_call(audit: &mut Audit, right: u32, number: u64)
     audit.call_lines.as_mut_slice()[right as usize] = number;
 }
 
-/// Asks for the most senior short right of a month whose set isn't its reach, unless one was found before.
+/// Asks a month for its most senior short right whose set isn't its reach, unless one was found before.
 fn ask_month(basin: &Basin, roll: &Roll, month: &MonthRecord, audit: &mut Audit)
     requires memory { HasMemory basin.now audit.old }
     requires plan { HasPlan basin.now month.now }
@@ -75,8 +75,8 @@ fn ask_month(basin: &Basin, roll: &Roll, month: &MonthRecord, audit: &mut Audit)
     }
 }
 
-/// Takes a good line of this number, before it is entered: a `call` line is kept, and of the month that an `end` line
-/// ends is asked.
+/// Takes a good line of this number, before it is entered: the number of a `call` line is kept, and the month that an
+/// `end` line ends is asked.
 pub fn audit_item(
     context: &Context,
     audit: &mut Audit,

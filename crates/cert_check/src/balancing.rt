@@ -68,7 +68,7 @@ fn is_even(into: u64, out_of: u64, out: u64) -> bool
     out_of <= into && into - out_of == out
 }
 
-/// What leaves the basin at a node, where it is this amount at this one.
+/// What leaves the basin at `node`, where `amount` leaves it at the node `at`.
 fn out_with(out: &[u64], at: u32, amount: u64, node: usize) -> u64
     requires at { at < length out.now }
     requires node { node < length out.now }
@@ -81,8 +81,8 @@ fn out_with(out: &[u64], at: u32, amount: u64, node: usize) -> u64
     }
 }
 
-/// Whether each node is in balance, by what comes into it, what leaves it and what leaves the basin there, where that
-/// is this amount at this node.
+/// Whether each node is in balance, by what comes into it, what leaves it and what leaves the basin there, which is
+/// `amount` at the node `at`.
 fn are_even(into: &[u64], out_of: &[u64], out: &[u64], at: u32, amount: u64) -> bool
     requires count { length out_of.now ≡ length into.now }
     requires out { length out.now ≡ length into.now }

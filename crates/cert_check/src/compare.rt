@@ -1,4 +1,4 @@
-//! The rows of a verdict that compare one line with what the lines before it tell.
+//! The rows of a verdict that compare one line with what the lines before it say.
 //!
 //! `month` is a record that shows what was read of the current month. A row answers whether it holds of the line.
 ghost use Rattle.std.specs.Prelude.{◌≡◌, ◌<◌, ◌==◌, length, map, not, slice_index};
@@ -107,7 +107,7 @@ pub fn flow_wrong(basin: &Basin, month: &MonthRecord, link: u32, amount: u64) ->
     carry_of(basin, link, month.month) < amount
 }
 
-/// What evaporates from a reservoir that opens with an amount, in the month at this place of a list of twelve.
+/// What evaporates from a reservoir that opens with an amount, in the month at this index of a list of twelve.
 fn evaporation_of(
     basin: &Basin,
     tables: &[AreaTable],
@@ -125,8 +125,8 @@ fn evaporation_of(
     tables[reservoir as usize].evaporation(storage, rate)
 }
 
-/// Whether an amount is another than evaporates from what the reservoir opens with. `tables` has the area table of
-/// each.
+/// Whether an amount isn't what evaporates from the reservoir, by what it opens with. `tables` has the area table of
+/// each reservoir.
 pub fn evaporation_wrong(
     basin: &Basin,
     tables: &[AreaTable],
@@ -147,7 +147,7 @@ pub fn evaporation_wrong(
     !(amount == evaporation_of(basin, tables, reservoir, position, storage))
 }
 
-/// Whether an amount that is delivered is wrong by the want: a take above it, or of an instream right another amount
+/// Whether an amount that is delivered is wrong by the want: a take above it, or for an instream right another amount
 /// than the lesser of want and flow.
 fn amount_wrong(basin: &Basin, flow: &[u64], right: u32, amount: u64, want: u64) -> bool
     requires basin { IsValidBasin basin.now }
@@ -162,7 +162,7 @@ fn amount_wrong(basin: &Basin, flow: &[u64], right: u32, amount: u64, want: u64)
     }
 }
 
-/// Whether a right's want is another, or what it is delivered is wrong by it.
+/// Whether this isn't the right's want, or what it is delivered is wrong by it.
 pub fn delivery_wrong(
     basin: &Basin,
     series: &Inflows,

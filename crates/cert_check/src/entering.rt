@@ -1,4 +1,4 @@
-//! Enters what a line says into an account.
+//! Enters what a line says into a check state.
 ghost use Rattle.std.specs.Prelude.{ℕ, ◌≡◌, ◌+◌, ◌^◌, ◌<◌, ◌≤◌, ◌&&◌, not, ◌++◌, ◌∷◌, [], List, Some, None, true};
 ghost use Rattle.std.specs.Prelude.{false, Bool, All, Option, IfSome, IsSome, length, replicate, slice_index};
 ghost use Rattle.std.specs.Prelude.{slice_set, is_some, if◌then◌else◌};
@@ -40,7 +40,7 @@ fn clear(list: &mut Rows<u64>)
     list.as_mut_slice().fill(0);
 }
 
-/// Makes a record one of which nothing was read but its index and month. Its supply stays.
+/// Makes a record one of which only its index and month were read. Its supply stays.
 fn blank(month: &mut MonthRecord, index: u32, calendar: Month)
     ensures { month.new ≡ record month.old {
       index = index;
@@ -271,7 +271,7 @@ pub fn enter_end(basin: &Basin, state: &mut CheckState)
     state.calling = None;
 }
 
-/// Enters what a good line tells. The account is ready for it.
+/// Enters what a good line says. The check state is ready for it.
 pub fn enter(context: &Context, state: &mut CheckState, item: &Item)
     requires context { IsContext context.now }
     requires item { IsOfBasin context.now.basin.now item.now }

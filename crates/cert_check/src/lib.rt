@@ -1,7 +1,7 @@
 //! A checker of result texts: whether a text is that of a history of a basin and its series, whoever wrote it.
 //!
 //! The verdict on a text is one function of the list of its lines. Nothing is searched for: each line is compared with
-//! what the lines before it tell, and each set of nodes that a text gives for a short right is tested as a cut.
+//! what the lines before it say, and each set of nodes that a text gives for a short right is tested as a cut.
 #![tactic(auto)]
 
 mod answering;

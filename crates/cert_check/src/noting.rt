@@ -12,7 +12,7 @@ ghost use Rattle.cert_check.specs.Shows.{Shows};
 use water_model::quantity::Quantity;
 use water_model::types::{Basin, MonthRecord, RightKind};
 
-/// Writes an amount at a place of a list.
+/// Writes an amount at an index of a list.
 fn put(list: &mut [u64], position: u32, amount: u64)
     requires { position < length list.old }
     ensures { list.new ≡ slice_set list.old position amount }
@@ -20,7 +20,7 @@ fn put(list: &mut [u64], position: u32, amount: u64)
     list[position as usize] = amount;
 }
 
-/// Tells an amount of an entry.
+/// Notes an amount of an entry.
 pub fn note_amount(month: &mut MonthRecord, quantity: Quantity, entry: u32, amount: u64)
     requires { entry < length (amounts_of quantity month.old) }
     ensures exact { month.new
@@ -52,7 +52,7 @@ fn take_of(basin: &Basin, right: u32, amount: u64) -> u64
     }
 }
 
-/// Tells what a right is delivered, and its want.
+/// Notes what a right is delivered, and its want.
 pub fn note_delivery(basin: &Basin, month: &mut MonthRecord, right: u32, amount: u64, want: u64)
     requires basin { IsValidBasin basin.now }
     requires right { right < length basin.now.rights }

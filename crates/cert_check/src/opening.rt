@@ -29,7 +29,7 @@ fn first_comes(alloc: Global, basin: &Basin, lags: &Lags) -> Result<Rows<u64>, A
     Ok(comes)
 }
 
-/// Room for a number for each reservoir, and for two for each node.
+/// Room for a number for each reservoir, and for two numbers for each node.
 fn room_for_sums(
     alloc: Global,
     basin: &Basin,
@@ -43,7 +43,7 @@ fn room_for_sums(
     Ok((closes, into, out_of))
 }
 
-/// An account of no line.
+/// A check state of no line.
 pub fn blank_state(alloc: Global, basin: &Basin) -> Result<Box<CheckState>, AllocError>
     requires { IsValidBasin basin.now }
     ensures { IfOk result (λ state. (series : Inflows) →

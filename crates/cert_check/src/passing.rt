@@ -25,7 +25,7 @@ fn lacks_call(basin: &Basin, month: &MonthRecord, right: u32) -> bool
     is_short(month, right) && month.cuts.words(right).is_none()
 }
 
-/// Whether a line stands after the place of a right's `call` line.
+/// Whether a line stands after where a right's `call` line would stand.
 fn passes(basin: &Basin, item: &Item, right: u32) -> bool
     requires item { IsOfBasin basin.now item.now }
     requires right { right < length basin.now.rights }
@@ -40,7 +40,7 @@ fn passes(basin: &Basin, item: &Item, right: u32) -> bool
     }
 }
 
-/// How many of the rights in the order of seniority a line passes over, from a place on, or none where one of them is
+/// How many of the rights in the order of seniority a line passes over, from an index on, or none where one of them is
 /// short and has no set.
 pub fn pass_over(
     basin: &Basin,

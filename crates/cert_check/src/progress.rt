@@ -38,7 +38,7 @@ pub struct CheckProgress<'b> {
     pub audit: Option<Audit>,
 }
 
-/// The number of the line that a row names: of a loose cut its `call` line, and else the next line.
+/// The number of the line that a row names: for a loose cut its `call` line, and else the next line.
 fn named_line(progress: &CheckProgress, kind: RefutedKind) -> u64
     requires { progress.now.read + 1 < 2 ^ 64 }
     ensures { (items : List Item) → Counts progress.now items → result ≡ named_line items kind }
@@ -120,7 +120,7 @@ fn take_item(context: &Context, progress: &mut CheckProgress, item: &Item) -> Re
     }
 }
 
-/// Takes the next line, without its line feed, or refuses it. A refused line leaves a book that says nothing.
+/// Takes the next line, without its line feed, or refuses it. A refused line leaves check progress that says nothing.
 pub fn take_line(
     context: &Context,
     progress: &mut CheckProgress,

@@ -35,7 +35,7 @@ pub fn know_supply(context: &Context, state: &mut CheckState)
     }
 }
 
-/// Makes the sums of the zones' takes that were read, unless the account has them.
+/// Makes the sums of the zones' takes that were read, unless the check state has them.
 fn know_closes(context: &Context, state: &mut CheckState)
     requires context { IsContext context.now }
     requires month { HasMonth context.now.basin.now context.now.series.now state.old }
@@ -53,7 +53,7 @@ fn know_closes(context: &Context, state: &mut CheckState)
     }
 }
 
-/// Finds the first caller of each node by the deliveries and sets that were read, unless the account has them.
+/// Finds the first caller of each node by the deliveries and sets that were read, unless the check state has them.
 fn know_callers(context: &Context, state: &mut CheckState)
     requires context { IsContext context.now }
     requires keeps { HasRead context.now.basin.now context.now.series.now state.old }

@@ -78,7 +78,7 @@ fn cut_missing(context: &Context, state: &CheckState, item: &Item) -> bool
     }
 }
 
-/// Whether a right answers to a caller of which no `called` line tells yet.
+/// Whether a right that answers to a caller has no `called` line yet.
 fn has_due(context: &Context, state: &CheckState) -> bool
     requires context { IsContext context.now }
     requires keeps { HasRead context.now.basin.now context.now.series.now state.now }
@@ -138,7 +138,7 @@ fn called_wrong(context: &Context, state: &CheckState, item: &Item) -> bool
     }
 }
 
-/// Whether some node isn't in balance, where this amount leaves the basin at this one.
+/// Whether some node isn't in balance, where this amount leaves the basin at `node`.
 fn is_uneven(context: &Context, state: &CheckState, node: u32, amount: u64) -> bool
     requires context { IsContext context.now }
     requires node { node < length context.now.basin.now.nodes }
@@ -174,7 +174,7 @@ fn balance_wrong(context: &Context, state: &CheckState, node: u32, amount: u64) 
     is_uneven(context, state, node, amount)
 }
 
-/// Whether an amount is another than the reservoir's zones take.
+/// Whether an amount isn't what the reservoir's zones take.
 fn closing_wrong(context: &Context, state: &CheckState, reservoir: u32, amount: u64) -> bool
     requires context { IsContext context.now }
     requires reservoir { reservoir < length context.now.basin.now.reservoirs }
@@ -310,7 +310,7 @@ fn own_row(context: &Context, state: &CheckState, item: &Item) -> Option<Refuted
     }
 }
 
-/// The first row of the verdict that holds of a line. The account is ready for it.
+/// The first row of the verdict that holds of a line. The check state is ready for it.
 pub fn first_row(context: &Context, state: &CheckState, item: &Item) -> Option<RefutedKind>
     requires context { IsContext context.now }
     requires item { IsOfBasin context.now.basin.now item.now }

@@ -19,8 +19,8 @@ pub struct Context<'b> {
 /// What is kept of the lines so far: what the months that ended leave to the next one, and what was read of the month
 /// under way. Amounts are in units of 1,000 cubic metres.
 ///
-/// No month before is kept. Of what follows from the lines of the current month its supply, the sums of its zones and
-/// the callers of its nodes are made before the first line whose tests look at them, and again only where a line told
+/// No earlier month is kept. Of what follows from the lines of the current month its supply, the sums of its zones and
+/// the callers of its nodes are made before the first line whose tests look at them, and again only where a line said
 /// something that they are made of.
 #[derive(Drop)]
 pub struct CheckState {
@@ -32,7 +32,7 @@ pub struct CheckState {
     pub opens: Rows<u64>,
     /// For each node what comes back to it next.
     pub comes: Rows<u64>,
-    /// For each right with a volume what it used of it before, in the water year of the current month.
+    /// For each right with a volume what it used of that before, in the water year of the current month.
     pub used: Rows<u64>,
     /// What was read of the current month.
     pub month: MonthRecord,
@@ -48,10 +48,9 @@ pub struct CheckState {
     pub callers: [Option<u32>; MAX_NODES],
     /// Whether these are by the deliveries and sets that were read.
     pub has_callers: bool,
-    /// A given number of rights, the most senior ones, are met or have their `call`.
+    /// This many rights, the most senior ones, are met or have their `call`.
     pub passed: usize,
-    /// A given number of rights, the most senior ones, answer to the callers of the `called` lines so far and to no
-    /// other.
+    /// This many rights, the most senior ones, answer to the callers of the `called` lines so far and to no other.
     pub answered: usize,
     /// Room for what comes into each node.
     pub into: Rows<u64>,

@@ -11,7 +11,7 @@ use Rattle.circulation.specs.Chains.{tails_of, heads_of}
 abbrev pub no_ends : Ends
 no_ends = record { from = 0; to = 0 }
 
--- the ends of the arcs before a place are packed
+-- the ends of the arcs before an index are packed
 pub record ArePacked (es : List Ends) (pairs : List ℕ) (at : ℕ) : Type 0 where
   pub from : (a : ℕ) → a < at → tail_of (slice_index pairs a) ≡ (get_or es a no_ends).from
   pub to : (a : ℕ) → a < at → head_of (slice_index pairs a) ≡ (get_or es a no_ends).to

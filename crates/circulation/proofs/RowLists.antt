@@ -69,7 +69,7 @@ key_of_turn from to s b = elim (cases_Bool (is_backward s)) [
 pub less_other : (p q : ℕ) → p < q → p ≢ q
 less_other p q b e = omega (arith, e)
 
--- what stands in a list after one of its places was written
+-- what stands in a list after one of its words was written
 record IsWrittenAt (xs ys : List ℕ) (at x : ℕ) : Type 0 where
   here : slice_index ys at ≡ x
   other : (p : ℕ) → p ≢ at → slice_index ys p ≡ slice_index xs p
@@ -275,7 +275,7 @@ apart_more from to n last s steps apart room arc start is_new =
       ];
     }
 
--- and when a later place is written
+-- and when a later index is written
 pub apart_stays : (from to : List ℕ) (n last at s : ℕ) (steps : List ℕ) → AreApart from to n last steps →
     last ≤ at → AreApart from to n last (slice_set steps at s)
 apart_stays from to n last at s steps apart beyond =
@@ -304,7 +304,7 @@ apart_start from to steps = record {
   once = λ p q d b. absurd (omega arith);
 }
 
--- lists that were the same below a place stay so when a later place is written
+-- lists that were the same below an index stay so when a later index is written
 pub same_stays : (last at s u : ℕ) (steps ends steps' ends' : List ℕ) → AreSameBelow last steps ends steps' ends' →
     last ≤ at → AreSameBelow last steps ends (slice_set steps' at s) (slice_set ends' at u)
 same_stays last at s u steps ends steps' ends' same beyond = record {
@@ -312,7 +312,7 @@ same_stays last at s u steps ends steps' ends' same beyond = record {
   same_ends = λ p b. get_or-set_other ends' at p u 0 (less_other p at (omega arith)) ∙ same.same_ends p b;
 }
 
--- the rows of the nodes below n are written, and end before a place
+-- the rows of the nodes below n are written, and end before an index
 pub record AreRowsUpTo (from to : List ℕ) (n last : ℕ) (r : Rows) : Type 0 where
   pub place : slice_index r.first n ≡ last
   pub inside : last ≤ length r.step

@@ -16,15 +16,14 @@ not_true : (t : Bool) → not t ≡ true → t ≡ false
 not_true true h = cc
 not_true false h = refl
 
--- what is known of numbered places: those that pass a test have numbers of arcs, and each arc with the key v has one
--- place
+-- what is known of indices: those that pass a test have numbers of arcs, and each arc with the key v has one index
 record AreNumbered (n arcs v : ℕ) (at number key : ℕ → ℕ) (test : ℕ → Bool) : Type 0 where
   passes : (k : ℕ) → k < n → test (at k) ≡ true → (arc_of (at k) < arcs) × (at k ≡ number (arc_of (at k)))
   numbers : (k a : ℕ) → k < n → a < arcs → at k ≡ number a → (test (at k) ≡ true) × ((key a ≡ v) × (arc_of (at k) ≡ a))
   place : (a : ℕ) → a < arcs → key a ≡ v → (k : ℕ) × ((k < n) × (at k ≡ number a))
   once : (j k : ℕ) → j < n → k < n → at j ≡ at k → j ≡ k
 
--- the sum over the places that pass is that over the arcs with the key
+-- the sum over the indices that pass is that over the arcs with the key
 sum_over : (n arcs v : ℕ) (at number key g : ℕ → ℕ) (test : ℕ → Bool) → AreNumbered n arcs v at number key test →
     total n (λ k. when (test (at k)) (g (arc_of (at k)))) ≡ total arcs (λ a. when (key a == v) (g a))
 sum_over n arcs v at number key g test h =
@@ -149,7 +148,7 @@ row_outflow from to r v g row =
       once = λ j k b c e. let same = row.once (first + j) (first + k) (inside j b) (inside k c) e in omega arith;
     }
 
--- the sum of the amounts of the arcs over which the steps before a place of a row go, as far as the steps pass a test
+-- the sum of the amounts of the arcs over which the steps before an index in a row go, of the steps that pass a test
 pub record IsRowSum (r : Rows) (amounts : List ℕ) (v : ℕ) (test : ℕ → Bool) (place sum : ℕ) : Type 0 where
   pub from : slice_index r.first v ≤ place
   pub is : sum ≡ total (place - slice_index r.first v) (λ k. when
@@ -224,7 +223,7 @@ when_le : (t : Bool) (x m : ℕ) → x ≤ m → when t x ≤ m
 when_le true x m h = h
 when_le false x m h = omega arith
 
--- a sum of words over places that are words
+-- a sum of words over indices that are words
 pub row_sum_small : (r : Rows) (amounts : List ℕ) (v : ℕ) (test : ℕ → Bool) (place sum : ℕ) →
     ((a : ℕ) → Fits w64 (slice_index amounts a)) → IsRowSum r amounts v test place sum → sum ≤ place * 2 ^ 64
 row_sum_small r amounts v test place sum fits s =

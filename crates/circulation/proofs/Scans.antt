@@ -6,28 +6,28 @@ use Rattle.circulation.specs.Contents.{Contents, network, arcs, IsCirculation}
 use Rattle.circulation.specs.Residual.{arc_of, is_backward, by_direction, start_of, end_of}
 use Rattle.circulation.specs.Rows.{IsInRow}
 
--- of the row of the node v, the steps before a place are done
+-- of the row of the node v, the steps before an index are done
 pub record IsScan (c : Contents) (v place : ℕ) (Done : ℕ → Type 0) : Type 0 where
   pub done : (p : ℕ) → slice_index c.rows.first v ≤ p → p < place → Done (slice_index c.rows.step p)
 
--- a scan at the first place
+-- a scan at the first index
 pub scan_start : (c : Contents) (v place : ℕ) (Done : ℕ → Type 0) → place ≡ slice_index c.rows.first v →
     IsScan c v place Done
 scan_start c v place Done is = record { done = λ p b d. absurd (omega arith) }
 
--- there are steps at the places of a row
+-- there are steps at the indices of a row
 pub scan_inside : (c : Contents) (v place : ℕ) → IsCirculation c → v ≤ c.nodes →
     place < slice_index c.rows.first (v + 1) → place < length c.rows.step
 scan_inside c v place k within below = omega (arith, (k.rows.rows v within).within)
 
--- the step at a place of the row of the node v leads from there to the node u
+-- the step at an index in the row of the node v leads from v to the node u
 pub record IsAt (c : Contents) (v s u : ℕ) : Type 0 where
   pub arc : arc_of s < arcs c
   pub start : start_of (network c) s ≡ v
   pub end : end_of (network c) s ≡ u
   pub inside : u ≤ c.nodes
 
--- what bounds both bounds either
+-- a bound of two numbers is a bound of the chosen one
 pub by_direction_both : (back : Bool) (x y n : ℕ) → x ≤ n → y ≤ n → by_direction back x y ≤ n
 by_direction_both back x y n a b = elim back as (λ t. by_direction t x y ≤ n) [ true ↦ b | false ↦ a ]
 
@@ -53,7 +53,7 @@ scan_at c v place s u k within from below step end =
     subst (λ (x : ℕ). IsAt c v x u) (sym step)
     (subst (λ (x : ℕ). IsAt c v (slice_index c.rows.step place) x) (sym end) own)
 
--- a scan goes on to the next place
+-- a scan goes on to the next index
 pub scan_next : (c : Contents) (v place s : ℕ) (Done Done' : ℕ → Type 0) → IsScan c v place Done →
     s ≡ slice_index c.rows.step place → ((t : ℕ) → Done t → Done' t) → Done' s → IsScan c v (place + 1) Done'
 scan_next c v place s Done Done' scan is more here = record {

@@ -43,7 +43,7 @@ month-words circ c kept old new supply upper start w count s is =
       },
     )
 
--- are those that the words tell
+-- are known from the words
 told_frame : (circ : Circulation) (c : Contents) (kept s l u f x : List ℕ) → AreFixedOf circ c kept →
     let after = drop circ.arcs kept in let last = drop (2 * circ.arcs) after in
     contents_of c.nodes c.from c.to s l u f x c.rows.first c.rows.step c.rows.end
@@ -70,13 +70,13 @@ told_frame circ c kept s l u f x w =
     (take (2 * n) (drop (2 * n) (drop n kept))) w.nodes from to refl refl refl refl refl (sym first) (sym step)
     (sym end)
 
--- and so the same in all contents that the words may be of
+-- and so are the same in all contents whose words these may be
 pub frame_same : (circ : Circulation) (c d : Contents) (kept s l u f x : List ℕ) → AreFixedOf circ c kept →
     AreFixedOf circ d kept → contents_of c.nodes c.from c.to s l u f x c.rows.first c.rows.step c.rows.end
     ≡ contents_of d.nodes d.from d.to s l u f x d.rows.first d.rows.step d.rows.end
 frame_same circ c d kept s l u f x w v = told_frame circ c kept s l u f x w ∙ sym (told_frame circ d kept s l u f x v)
 
--- a month starts with the same contents, of whichever its words are
+-- a month starts with the same contents, whichever contents its words were of
 pub month_same : (circ : Circulation) (c d m : Contents) (kept supply upper start scratch : List ℕ) →
     AreFixedOf circ c kept → AreFixedOf circ d kept →
     m ≡ record (month_contents c supply upper start) { scratch = scratch } →
@@ -89,7 +89,7 @@ month_same circ c d m kept supply upper start scratch w v is =
     ∙ ap (λ (x : List ℕ). record (month_contents d supply upper start) { scratch = x })
     (sym (ap (λ (e : Contents). e.scratch) is))
 
--- the contents have as many arcs as the words tell
+-- the contents have as many arcs as the words say
 pub frame_arcs : (circ : Circulation) (c : Contents) (kept : List ℕ) → AreFixedOf circ c kept →
     length c.from ≡ circ.arcs
 frame_arcs circ c kept w = ap length w.from ∙ (length-map w.pairs tail_of ∙ w.arcs)

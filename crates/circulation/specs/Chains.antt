@@ -15,14 +15,14 @@ heads_of pairs = map head_of pairs
 abbrev pub keys_of : List ℕ → List ℕ
 keys_of pairs = tails_of pairs ++ heads_of pairs
 
--- a is the least place from `start` on with the key v, or the number of keys where there is none
+-- a is the least index from `start` on with the key v, or the number of keys where there is none
 pub record IsNext (keys : List ℕ) (v start a : ℕ) : Type 0 where
   pub within : a ≤ length keys
   pub after : start ≤ a
   pub here : a < length keys → slice_index keys a ≡ v
   pub skipped : (b : ℕ) → start ≤ b → b < a → slice_index keys b ≢ v
 
--- the first place with each key, and for each place the next one with its key
+-- the first index with each key, and for each index the next one with its key
 pub record AreChains (keys : List ℕ) (nodes : ℕ) (first next : List ℕ) : Type 0 where
   pub firsts : length first ≡ nodes + 1
   pub nexts : length next ≡ length keys
@@ -33,9 +33,8 @@ pub record AreChains (keys : List ℕ) (nodes : ℕ) (first next : List ℕ) : T
 abbrev pub turn_of : ℕ → ℕ → ℕ
 turn_of arcs s = by_direction (is_backward s) (arc_of s) (arcs + arc_of s)
 
--- the places from `first` to below `last` have the steps that leave the node v, with the nodes that they enter, as far
--- as
--- their turns are below a bound
+-- the indices from `first` to below `last` have the steps that leave the node v and whose turns are below the bound
+-- `upto`, with the nodes that they enter
 pub record IsPartRow (from to : List ℕ) (v upto first last : ℕ) (steps ends : List ℕ) : Type 0 where
   pub order : first ≤ last
   pub leads : (p : ℕ) → first ≤ p → p < last → Leads from to v (slice_index steps p) (slice_index ends p)
@@ -44,13 +43,13 @@ pub record IsPartRow (from to : List ℕ) (v upto first last : ℕ) (steps ends 
   pub all : (s : ℕ) → arc_of s < length from → start_of (over from to) s ≡ v → turn_of (length from) s < upto →
       (p : ℕ) × ((first ≤ p) × ((p < last) × (slice_index steps p ≡ s)))
 
--- the places below `last` have steps that leave nodes below n, each once
+-- the indices below `last` have steps that leave nodes below n, each once
 pub record AreApart (from to : List ℕ) (n last : ℕ) (steps : List ℕ) : Type 0 where
   pub arcs : (p : ℕ) → p < last → arc_of (slice_index steps p) < length from
   pub starts : (p : ℕ) → p < last → start_of (over from to) (slice_index steps p) < n
   pub once : (p q : ℕ) → p < q → q < last → slice_index steps p ≢ slice_index steps q
 
--- the lists are the same below a place
+-- the lists are the same below the index `last`
 pub record AreSameBelow (last : ℕ) (steps ends steps' ends' : List ℕ) : Type 0 where
   pub same_steps : (p : ℕ) → p < last → slice_index steps' p ≡ slice_index steps p
   pub same_ends : (p : ℕ) → p < last → slice_index ends' p ≡ slice_index ends p

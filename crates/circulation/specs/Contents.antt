@@ -55,7 +55,7 @@ pub record IsCirculation (c : Contents) : Type 0 where
   pub flow : IsFlow (network c) (flow_of c)
   pub rows : AreRows c.nodes c.from c.to c.rows
 
--- the scratch word at a place, which may be a step of a walk
+-- the scratch word at an index, which may be a step of a walk
 abbrev pub step_of : Contents → ℕ → ℕ
 step_of c i = slice_index c.scratch i
 

@@ -9,7 +9,7 @@ use Rattle.circulation.specs.Contents.{Contents, IsCirculation}
 abbrev pub word_count : ℕ → ℕ → ℕ
 word_count nodes arcs = 8 * arcs + 8 * nodes + 16
 
--- how many of them, the first, never change
+-- how many of them, from the first on, never change
 abbrev pub fixed_count : ℕ → ℕ → ℕ
 fixed_count nodes arcs = 5 * arcs + nodes + 2
 

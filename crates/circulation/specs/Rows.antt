@@ -3,7 +3,7 @@ use Rattle.std.specs.Prelude.{ℕ, ◌≡◌, ◌+◌, ◌<◌, ◌≤◌, List,
 use Rattle.circulation.specs.Network.{Network}
 use Rattle.circulation.specs.Residual.{arc_of, start_of, end_of}
 
--- the steps of all rows, one row after another, the node that each of them enters, and the place at which each row
+-- the steps of all rows, one row after another, the node that each of them enters, and the index at which each row
 -- begins
 pub record Rows : Type 0 where
   pub first : List ℕ
@@ -28,7 +28,7 @@ pub record Leads (from to : List ℕ) (v s u : ℕ) : Type 0 where
   pub start : start_of (over from to) s ≡ v
   pub end : end_of (over from to) s ≡ u
 
--- the place is in the row of the node v
+-- the index p is in the row of the node v
 pub record IsInRow (r : Rows) (v p : ℕ) : Type 0 where
   pub from : slice_index r.first v ≤ p
   pub below : p < slice_index r.first (v + 1)

@@ -222,7 +222,7 @@ impl CirculationMut<'_> {
         searches.tick();
     }
 
-    /// The place at which the row of a node begins: the steps that leave the node, forward over the arcs that leave it,
+    /// The index at which the row of a node begins: the steps that leave the node, forward over the arcs that leave it,
     /// by arc, and then backward over those that enter it.
     pub fn row_first(&self, node: u32) -> usize
         requires { node ≤ self.now.nodes }
@@ -232,7 +232,7 @@ impl CirculationMut<'_> {
         self.first[node as usize] as usize
     }
 
-    /// The place before which the row of a node ends.
+    /// The index before which the row of a node ends.
     pub fn row_last(&self, node: u32) -> usize
         requires { node ≤ self.now.nodes }
         ensures place { result ≡ slice_index self.now.rows.first (node + 1) }
@@ -241,7 +241,7 @@ impl CirculationMut<'_> {
         self.first[node as usize + 1] as usize
     }
 
-    /// The step at a place of a row: 2 * a goes over the arc a forward, and 2 * a + 1 backward.
+    /// The step at an index in a row: 2 * a goes over the arc a forward, and 2 * a + 1 backward.
     pub fn step_at(&self, place: usize) -> u64
         requires { place < length self.now.rows.step }
         ensures { result ≡ slice_index self.now.rows.step place }
@@ -250,7 +250,7 @@ impl CirculationMut<'_> {
         step[place]
     }
 
-    /// The node that the step at a place of a row enters.
+    /// The node that the step at an index in a row enters.
     pub fn end_at(&self, place: usize) -> u32
         requires { place < length self.now.rows.step }
         ensures { result ≡ slice_index self.now.rows.end place }

@@ -50,14 +50,14 @@ pub struct Circulation {
     pub arcs: u32,
 }
 
-/// How many words a circulation of a given number of basin nodes and arcs takes.
+/// How many words a circulation takes, with this many basin nodes and arcs.
 pub fn words(nodes: u32, arcs: u32) -> usize
     ensures { result ≡ word_count nodes arcs }
 {
     8 * arcs as usize + 8 * nodes as usize + 16
 }
 
-/// How many of them, the first, never change: ends, and the rows of the steps.
+/// How many of these words, from the first on, never change: the ends, and the rows of the steps.
 fn fixed_words(nodes: u32, arcs: u32) -> usize
     ensures { result ≡ fixed_count nodes arcs }
 {
@@ -65,7 +65,7 @@ fn fixed_words(nodes: u32, arcs: u32) -> usize
 }
 
 impl Circulation {
-    /// A circulation of `nodes` basin nodes and of arcs with these ends, which may name the outside node, in a place of
+    /// A circulation of `nodes` basin nodes and of arcs with these ends, which may be the outside node, in a place of
     /// its own, which is the region's next. All supplies, bounds and flows are 0. Full comes exactly where fewer than
     /// `words(nodes, arcs)` words are free; then the region is unchanged. All other places stay, and no memory is
     /// taken.
@@ -93,7 +93,7 @@ impl Circulation {
         Ok(Circulation { place, nodes, arcs })
     }
 
-    /// How many words of its place, the first, never change.
+    /// How many words of its place, from the first on, never change.
     pub fn fixed(&self) -> usize
         ensures { result ≡ fixed_count self.now.nodes self.now.arcs }
     {
@@ -129,9 +129,9 @@ impl Circulation {
         }
     }
 
-    /// The circulation at the start of a month, in its words: those that never change, and those that do, which may be
-    /// any. No arc is held. Supplies by node and upper bounds by arc are those given, and so is the flow of the last
-    /// arcs; on those before them there is none. All are in units of 1,000 cubic metres.
+    /// The circulation at the start of a month, in its words: those that never change, and those that do, which may
+    /// hold anything. No arc is held. Supplies by node and upper bounds by arc are those given, and so is the flow of
+    /// the last arcs; on those before them there is none. All are in units of 1,000 cubic metres.
     pub fn lend_month<'r>(
         &self,
         fixed: &'r [u64],
@@ -155,7 +155,7 @@ impl Circulation {
     }
 }
 
-/// Writes nothing for the first arcs, and for the last ones their amounts.
+/// Writes 0 for the first arcs, and for the last ones their amounts.
 fn write_flow(flow: &mut [u64], amounts: &[u64])
     requires { length amounts.now ≤ length flow.old }
     ensures { flow.new ≡ on_last (length flow.old) amounts.now }

@@ -23,7 +23,8 @@ fn key(pairs: &[u64], turn: usize) -> usize
     }
 }
 
-/// Chains each turn to the next one with its key, from the last turn to the first. The number of turns stands for none.
+/// Chains each turn to the next one with its key, from the last turn to the first. The number of turns stands for
+/// no turn.
 fn link(first: &mut [u64], next: &mut [u64], pairs: &[u64])
     requires bounded { length pairs.now < 2 ^ 32 }
     requires nexts { length next.old ≡ 2 * length pairs.now }
@@ -40,7 +41,7 @@ fn link(first: &mut [u64], next: &mut [u64], pairs: &[u64])
     }
 }
 
-/// The step of a turn, among a given number of arcs.
+/// The step of a turn, with this many arcs.
 fn step_in_turn(arcs: u64, turn: u64) -> u64
     requires bounded { arcs < 2 ^ 32 }
     requires turn { turn < 2 * arcs }
@@ -68,7 +69,7 @@ fn end(pairs: &[u64], step: u64) -> u64
     }
 }
 
-/// Writes the row of a node from a place on, along its chain. Answers where it ends.
+/// Writes the row of a node from an index on, along its chain. Answers where it ends.
 fn write_row(
     pairs: &[u64],
     heads: &[u64],

@@ -59,7 +59,7 @@ live_text : book_bytes ordinary july 4 above_sea
 unfolding numbers_from by_seniority greatest_where holder_of whole_line fields_of digits
 live_text = refl
 
--- a book whose one term is what the canal carries, in a month of a given number of days
+-- a book whose one term is what the canal carries, in a month of this many days
 abbrev canal_book : ℕ → List BookLine
 canal_book days =
     let entered : List BookLine = (filter has_amount (line.Enter 5 (100 * days) ∷ []) ++ []) ++ [] in

@@ -24,7 +24,7 @@ IsFirstOf b p n None = (s : ℕ) → s < n → p s ≡ false
 IsFirstOf b p n (Some first) = (first < n) × (p first ≡ true) ×
     ((s : ℕ) → s < n → p s ≡ true → (s ≡ first) ⊎ (is_senior b first s ≡ true))
 
--- places that don't pass may be added
+-- indices that don't pass may be added
 first_skips : (b : Basin) (p : ℕ → Bool) (m n : ℕ) (o : Option ℕ) → m ≤ n → ((k : ℕ) → m ≤ k → k < n → p k ≡ false) →
     IsFirstOf b p m o → IsFirstOf b p n o
 first_skips b p m n None h none first = λ s l. elim (cases_order s m) [
@@ -48,7 +48,7 @@ first_skips b p m n (Some at) h none first = (
 below_or_last : (s n : ℕ) → s < suc n → (s < n) ⊎ (s ≡ n)
 below_or_last s n h = grind arith
 
--- one right more that doesn't pass, and one that does
+-- one more right that doesn't pass, and one that does
 first_passed : (b : Basin) (p : ℕ → Bool) (n : ℕ) (o : Option ℕ) → p n ≡ false → IsFirstOf b p n o →
     IsFirstOf b p (suc n) o
 first_passed b p n o none first =

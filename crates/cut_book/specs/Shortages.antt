@@ -34,7 +34,7 @@ pub record IsShortage (s : ShortageView) : Type 0 where
   pub fits : FitsText s.basin s.month
   pub cut : HasCut s.basin s.cuts s.right
 
--- the lines of a place of a part of its set's bound, those of the part, and all
+-- the lines of an index of a part of its set's bound, those of the part, and all
 abbrev pub lines_of : ShortageView → Part → ℕ → List BookLine
 lines_of s of_part index = lines_at of_part s.basin s.month s.right (cut_at s.cuts s.right) index
 

@@ -47,7 +47,7 @@ fn unless_zero(entry: BookLine, amount: u64) -> Option<BookLine>
 }
 
 impl<'b> Shortage<'b> {
-    /// How many places a part goes over.
+    /// How many indices a part goes over.
     pub fn count_in(&self, part: Part) -> u32
         ensures { result ≡ count_in part self.now.basin }
     {
@@ -136,7 +136,7 @@ impl<'b> Shortage<'b> {
         )
     }
 
-    /// The line of a place of a part, if it has one.
+    /// The line of an index of a part, if it has one.
     pub fn line_at(&self, part: Part, index: u32) -> Option<BookLine>
         requires { index < count_in part self.now.basin }
         ensures lines { option_to_list result ≡ lines_of self.now part index }

@@ -32,7 +32,7 @@ fn put_entry<K: Sink>(sink: &mut K, shortage: &Shortage, entry: BookLine) -> Res
     sink.put(line.bytes())
 }
 
-/// Puts the line of a place of a part, if it has one.
+/// Puts the line of an index of a part, if it has one.
 fn put_line<K: Sink>(
     sink: &mut K,
     shortage: &Shortage,
@@ -50,7 +50,7 @@ fn put_line<K: Sink>(
     }
 }
 
-/// Puts the lines of a part whose places are nodes or links, in the order of the basin.
+/// Puts the lines of a part whose indices are those of nodes or links, in the order of the basin.
 fn put_indices<K: Sink>(sink: &mut K, shortage: &Shortage, part: Part) -> Result<(), SinkFailed>
     requires { indices_in part shortage.now.basin ≡ numbers_from 0 (count_in part shortage.now.basin) }
     ensures text { Puts (K.taken sink.old) (K.taken sink.new) result

@@ -9,7 +9,7 @@ use Rattle.water_model.specs.Cuts.{kept_on}
 use Rattle.water_model.specs.declared.types.Basin.{Basin}
 use Rattle.rights_roll.specs.Rolls.{IsNextOn, link_in}
 
--- places that don't pass may be left out
+-- indices that don't pass may be left out
 greatest_skips : (m n : ℕ) (p : ℕ → Bool) (f : ℕ → ℕ) → m ≤ n → ((k : ℕ) → m ≤ k → k < n → p k ≡ false) →
     greatest_where n p f ≡ greatest_where m p f
 unfolding greatest_where

@@ -9,7 +9,7 @@ use Rattle.bit_words.proofs.Marks.{get_or-marks}
 use Rattle.finite_sums.specs.Sums.{total, total_where}
 use Rattle.water_model.specs.Lookups.{has}
 
--- places that don't pass may be left out of a sum
+-- indices that don't pass may be left out of a sum
 pub total_skips : (m n : ℕ) (p : ℕ → Bool) (f : ℕ → ℕ) → m ≤ n → ((k : ℕ) → m ≤ k → k < n → p k ≡ false) →
     total_where n p f ≡ total_where m p f
 unfolding total

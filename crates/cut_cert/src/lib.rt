@@ -1,7 +1,7 @@
 //! The bound that a set of nodes puts on a right, and whether it shows why the right got no more.
 //!
-//! It needs no flow and no search: supplies, carries and what senior rights keep are all. (The max-flow min-cut theorem
-//! with lower bounds, for one right at a time: Ahuja, Magnanti and Orlin, Network Flows.)
+//! It needs no flow and no search: supplies, carries and what senior rights keep are all that it needs. (The max-flow
+//! min-cut theorem with lower bounds, for one right at a time: Ahuja, Magnanti and Orlin, Network Flows.)
 #![tactic(auto)]
 
 ghost use Rattle.std.specs.Prelude.{◌≡◌, ◌+◌, ◌*◌, ◌<◌, ◌≤◌, ◌^◌, ◌&&◌, not, max, All, if◌then◌else◌, length};
@@ -86,7 +86,7 @@ pub fn is_senior_to(basin: &Basin, one: u32, other: u32) -> bool
     is_senior(&basin.rights[one as usize], &basin.rights[other as usize])
 }
 
-/// A sum, and after it the supplies of the marked nodes from one on and before another.
+/// A sum, with the supplies of the marked nodes from one node on and before another added.
 #[tactic(auto, using(finite_sums::proofs::Totals::sums))]
 fn add_supplies(words: &[u64], supply: &[u64], from: usize, to: usize, before: u64) -> u64
     requires words { length words.now ≡ words_for (length supply.now) }
@@ -130,7 +130,7 @@ fn supply_in(words: &[u64], supply: &[u64]) -> u64
     sum
 }
 
-/// What is kept so far, or what one right more keeps if it is senior.
+/// What is kept so far, or what one more right keeps if it is senior and keeps more.
 fn kept_with(basin: &Basin, delivered: &[u64], right: u32, holder: u32, kept: u64) -> u64
     requires delivered { length delivered.now ≡ length basin.now.rights }
     requires right { right < length basin.now.rights }
@@ -161,7 +161,7 @@ pub fn kept_on(basin: &Basin, roll: &Roll, delivered: &[u64], right: u32, link: 
     kept
 }
 
-/// What a link of this kind carries in a month of a given number of days.
+/// What a link of this kind carries in a month of this many days.
 fn carry_in_days(carry: &Carry, month: Month, days: u64) -> u64
     requires carry { IsValidCarry carry.now }
     requires month { IsMonth month }
@@ -188,7 +188,7 @@ struct Crossing {
     kept: u64,
 }
 
-/// The amounts of one link, in a month of a given number of days.
+/// The amounts of one link, in a month of this many days.
 fn crossing_at(
     basin: &Basin,
     roll: &Roll,

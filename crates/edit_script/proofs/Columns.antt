@@ -1,4 +1,4 @@
--- The columns of a series are few.
+-- A series has at most 2,000 gauges and at most 2,000 rights with wants.
 use Rattle.std.proofs.Common.{◌≡◌, ℕ, ◌≤◌, Bool, arith, List, length, filter}
 use Rattle.std.proofs.lemmas.List.Sums.{length-filter, count_by-le-length}
 use Rattle.water_model.specs.Indices.{numbers_from}

@@ -144,7 +144,7 @@ pub no_first : (b : Basin) (series : Inflows) (text : List ℕ) → lines_of tex
 unfolding script_of
 no_first b series text at = ap (edits_of_lines b series) at
 
--- an answer that is given on
+-- an answer that is passed on
 pub given_on : {Z : Type 0} (whole part : Reading) (r : Result (Vec Edit Z) ScriptRefused) → whole ≡ part →
     MatchResult r (λ edits. part ≡ Ok edits.items) (IsRefusalOf part) →
     MatchResult r (λ edits. whole ≡ Ok edits.items) (IsRefusalOf whole)

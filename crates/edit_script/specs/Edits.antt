@@ -5,8 +5,8 @@ use Rattle.water_model.specs.declared.types.Inflows.{Inflows}
 use Rattle.edit_script.specs.declared.edit.Edit.{Edit}
 use Rattle.edit_script.specs.declared.edit.Edit.TheVariants.{Inflow, Want, Show}
 
--- the series with one amount of a gauge changed, or one want of a right. Gauges and rights are given by their places in
--- the series
+-- the series with one amount of a gauge changed, or one want of a right. Gauges and rights are given by their indices
+-- in the series
 abbrev pub with_inflow : Inflows → ℕ → ℕ → ℕ → Inflows
 with_inflow series index gauge amount =
     record series { amount = slice_set series.amount (index * length series.gauged + gauge) amount }
@@ -25,26 +25,26 @@ abbrev pub edited : Inflows → List Edit → Inflows
 edited series [] = series
 edited series (e ∷ edits) = edited (edited_by series e) edits
 
--- a line speaks of a month of the run and of a place in the series, and of an amount of at most 10^9
+-- a line speaks of a month of the run and of an index in the series, and of an amount of at most 10^9
 abbrev pub IsValidEdit : Basin → Inflows → Edit → Type 0
 IsValidEdit b series (Inflow index gauge amount) = (index < b.months) × (gauge < length series.gauged) ×
     (amount ≤ 10 ^ 9)
 IsValidEdit b series (Want index place amount) = (index < b.months) × (place < length series.wanted) × (amount ≤ 10 ^ 9)
 IsValidEdit b series (Show index) = index < b.months
 
--- how many of a given number of months that are kept stay kept: those before the month of a change
+-- how many of the kept months stay kept: those before the month of a change
 abbrev pub kept_by : ℕ → Edit → ℕ
 kept_by kept (Inflow index gauge amount) = min kept index
 kept_by kept (Want index place amount) = min kept index
 kept_by kept (Show index) = kept
 
--- how many months a line solves where so many are kept: those up to the month that is shown
+-- how many months a line solves where this many are kept: those up to the month that is shown
 abbrev pub solved_by : ℕ → Edit → ℕ
 solved_by kept (Inflow index gauge amount) = 0
 solved_by kept (Want index place amount) = 0
 solved_by kept (Show index) = index + 1 - kept
 
--- the cost of a script in months that are solved, where so many are kept at first
+-- the cost of a script in months that are solved, where this many are kept at first
 abbrev pub cost_from : ℕ → List Edit → ℕ
 cost_from kept [] = 0
 cost_from kept (e ∷ edits) = solved_by kept e + cost_from (kept_by kept e + solved_by kept e) edits

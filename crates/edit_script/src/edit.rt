@@ -1,6 +1,6 @@
 //! What a line of a script asks for.
 
-/// A change of a series, or a month to show. A gauge is given by its place in `gauged`, a right by its place in
+/// A change of a series, or a month to show. A gauge is given by its index in `gauged`, a right by its index in
 /// `wanted`, a month by its index.
 #[derive(Clone, Copy, Debug, PartialEq, Eq)]
 pub enum Edit {

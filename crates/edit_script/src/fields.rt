@@ -4,7 +4,7 @@ ghost use Rattle.std.specs.List.{position};
 ghost use Rattle.edit_script.specs.Lines.{fields_of, fields_after};
 ghost use Rattle.edit_script.specs.Scripts.{lines_of};
 
-/// The place of the first space.
+/// The index of the first space.
 fn first_space(text: &[u8]) -> Option<usize>
     ensures { result ≡ position (λ byte. byte == 32) text.now }
 {
@@ -21,7 +21,7 @@ pub fn cut(text: &[u8]) -> (&[u8], Option<&[u8]>)
     }
 }
 
-/// The place of the first line feed.
+/// The index of the first line feed.
 fn first_feed(text: &[u8]) -> Option<usize>
     ensures { result ≡ position (λ byte. byte == 10) text.now }
 {

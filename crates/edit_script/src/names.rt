@@ -52,7 +52,7 @@ pub fn is_in_series(basin: &Basin, right: u32) -> bool
     basin.rights[right as usize].series
 }
 
-/// The place of a number in a list of numbers in rising order, or the list's length where it isn't there.
+/// The index of a number in a list of numbers in rising order, or the list's length where it isn't there.
 pub fn place_of(list: &[u32], number: u32) -> u32
     requires bounded { length list.now < 4000 }
     requires rising { IsStrictlyIncreasing list.now }

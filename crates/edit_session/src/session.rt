@@ -114,7 +114,7 @@ impl<'b> Session<'b> {
         &self.kept[index as usize]
     }
 
-    /// Changes what flows in at a gauge in a month, in units of 1,000 cubic metres. The gauge is given by its place
+    /// Changes what flows in at a gauge in a month, in units of 1,000 cubic metres. The gauge is given by its index
     /// among the gauged nodes. The months before are kept, and no other. No memory is taken.
     pub fn set_inflow(&mut self, index: u32, gauge: u32, amount: u64)
         requires index { index < self.old.basin.months }
@@ -135,7 +135,7 @@ impl<'b> Session<'b> {
         );
     }
 
-    /// Changes what a right wants in a month, in units of 1,000 cubic metres. The right is given by its place among
+    /// Changes what a right wants in a month, in units of 1,000 cubic metres. The right is given by its index among
     /// those whose wants stand in the series. The months before are kept, and no other. No memory is taken.
     pub fn set_want(&mut self, index: u32, place: u32, amount: u64)
         requires index { index < self.old.basin.months }

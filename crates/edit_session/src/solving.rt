@@ -11,8 +11,8 @@ use std::sync::ledger::Ledger;
 use steps::Steps;
 use water_model::types::{Inflows, MonthRecord};
 
-/// Solves the month of this index, after those that are kept, and keeps its record too. After an AllocError these are
-/// kept.
+/// Solves the month of this index, after those that are kept, and keeps its record too. After an AllocError those
+/// before are kept.
 fn add_month<L: Ledger>(
     alloc: Global,
     engine: &mut Engine,
@@ -35,7 +35,8 @@ fn add_month<L: Ledger>(
     Ok(())
 }
 
-/// Solves the months after those that are kept until so many are. After an AllocError some months more may be kept.
+/// Solves the months after those that are kept until `count` are kept. After an AllocError some months more may be
+/// kept.
 pub fn solve_months<L: Ledger>(
     alloc: Global,
     engine: &mut Engine,

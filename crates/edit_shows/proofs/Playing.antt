@@ -48,7 +48,7 @@ bytes_after : (b : Basin) (xs ys : List MonthRecord) →
     months_bytes b (xs ++ ys) ≡ months_bytes b xs ++ months_bytes b ys
 bytes_after b xs ys = flat_map-append (λ m. flat_map (whole_line b) (items_of_month b m)) xs ys
 
--- a change moves no place
+-- a change moves no index
 placed_by : (b : Basin) (series : Inflows) (d e : Edit) → IsValidEdit b series e → IsValidEdit b (edited_by series d) e
 placed_by b series (Inflow index gauge amount) (Inflow i g a) h = h
 placed_by b series (Inflow index gauge amount) (Want i p a) h = h
@@ -63,7 +63,7 @@ placed_after : (b : Basin) (series : Inflows) (ds : List Edit) (e : Edit) → Is
 placed_after b series [] e h = h
 placed_after b series (d ∷ ds) e h = placed_after b (edited_by series d) ds e (placed_by b series d e h)
 
--- so far the first lines were answered
+-- the first lines were answered
 pub record IsPlayed (b : Basin) (series now : Inflows) (edits : List Edit) (old new : Option (List ℕ)) (i : ℕ) : Type 0
   where
     pub shown : List MonthRecord

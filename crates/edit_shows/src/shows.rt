@@ -98,7 +98,7 @@ fn put_answers<K: Sink, L: Ledger>(
 }
 
 /// Answers a script: puts for each `show` the lines of its month, of the series as it is by then, and at the end the
-/// number of months shown. Kept months before a change are not solved again: the searches push at most so often as the
+/// number of months shown. Kept months before a change are not solved again: the searches push at most as often as the
 /// cost of the script in months allows.
 ///
 /// Kept months take memory. OutOfMemory comes where that is lacking, and the whole lines of the months shown so far

@@ -1,4 +1,4 @@
--- Counts of places that pass a test.
+-- Counts of indices that pass a test.
 use Rattle.std.proofs.Common.{◌≡◌, ℕ, zero, suc, ◌+◌, ◌<◌, ◌≤◌, Bool, true, false, refl, ◌∙◌, ap, arith, inl, inr}
 use Rattle.std.proofs.lemmas.Bool.{cases_lt, cases_Bool}
 use Rattle.std.proofs.lemmas.Bool.Decides.{nat_tests}
@@ -12,11 +12,11 @@ unfolding total
 total_ones zero = refl
 total_ones (suc n) = omega (arith, total_ones n)
 
--- a place below a bound
+-- an index below a bound
 pub at_inside : (k n x : ℕ) → k < n → (if nat_lt k n then x else 0) ≡ x
 at_inside k n x l = grind (arith, nat_tests)
 
--- where a place does not pass, fewer pass than there are
+-- where an index does not pass, fewer pass than there are
 pub fewer : (n : ℕ) (p : ℕ → Bool) (k : ℕ) → k < n → p k ≡ false → count_where n p + 1 ≤ n
 fewer n p k l h =
     omega (
@@ -31,7 +31,7 @@ fewer n p k l h =
     at_most : (p : ℕ → Bool) (k v : ℕ) → p k ≡ false → (if p v then 1 else 0) + (if k == v then 1 else 0) ≤ 1
     at_most p k v h = grind (arith, nat_tests)
 
--- all places pass, or one does not
+-- all indices pass, or one does not
 pub all_or_one : (n : ℕ) (p : ℕ → Bool) → ((k : ℕ) → k < n → p k ≡ true) ⊎ ((k : ℕ) × ((k < n) × (p k ≡ false)))
 all_or_one zero p = inl (λ k l. absurd (omega arith))
 all_or_one (suc n) p = elim (all_or_one n p) [
@@ -45,7 +45,7 @@ all_or_one (suc n) p = elim (all_or_one n p) [
   ]
 ]
 
--- where all places pass, all are counted
+-- where all indices pass, all are counted
 pub all_counted : (n : ℕ) (p : ℕ → Bool) → ((k : ℕ) → k < n → p k ≡ true) → count_where n p ≡ n
 all_counted n p h = total_same n (λ k. if p k then 1 else 0) (λ k. 1) (λ k l. ap (λ t. if t then 1 else 0) (h k l))
     ∙ total_ones n

@@ -54,7 +54,7 @@ term_le_total (suc n) f k h =
     cases_eq_lt : (k n : ℕ) → k < suc n → (k ≡ n) ⊎ (k < n)
     cases_eq_lt k n h = grind arith
 
--- two sums change places
+-- two sums are exchanged
 pub total_exchange : (n m : ℕ) (f : ℕ → ℕ → ℕ) →
     total n (λ v. total m (λ e. f v e)) ≡ total m (λ e. total n (λ v. f v e))
 unfolding total
@@ -62,7 +62,7 @@ total_exchange n zero f = total_zero n (λ v. 0) (λ k h. refl)
 total_exchange n (suc m) f =
     omega (arith, total_add n (λ v. total m (λ e. f v e)) (λ v. f v m), total_exchange n m f)
 
--- the one place that is k
+-- the one index that is k
 pub total_at : (n : ℕ) (k x : ℕ) → total n (λ v. if k == v then x else 0) ≡ (if nat_lt k n then x else 0)
 unfolding total
 total_at zero k x = grind (arith, nat_tests)
@@ -72,7 +72,7 @@ total_at (suc n) k x = at_more k n x _ (total_at n k x)
         t + (if k == n then x else 0) ≡ (if nat_lt k (suc n) then x else 0)
     at_more k n x t h = grind (arith, nat_tests)
 
--- a sum over some places is at most another over them, term by term
+-- a sum over some indices is at most another over them, term by term
 pub total_where_le : (n : ℕ) (p q : ℕ → Bool) (f g : ℕ → ℕ) →
     ((k : ℕ) → k < n → p k ≡ true → (q k ≡ true) × (f k ≤ g k)) → total_where n p f ≤ total_where n q g
 total_where_le n p q f g h =
@@ -88,7 +88,7 @@ term_le_total_where n p f k l h =
     let term : (if p k then f k else 0) ≤ total_where n p f = term_le_total n (λ i. if p i then f i else 0) k l in
     rw h at term
 
--- a sum of places that pass a test and no other, by a second test
+-- where a sum over the indices that pass a test is 0, each of its terms is 0
 pub total_where_none : (n : ℕ) (p : ℕ → Bool) (f : ℕ → ℕ) → total_where n p f ≡ 0 →
     (k : ℕ) → k < n → p k ≡ true → f k ≡ 0
 total_where_none n p f none k l h = let le = term_le_total_where n p f k l h in omega arith
@@ -106,7 +106,7 @@ greatest_where_le (suc n) p f x h =
     term true y x h = h refl
     term false y x h = omega arith
 
--- one place more, as loops count
+-- one index more, as loops count
 pub total_where_more : (n : ℕ) (p : ℕ → Bool) (f : ℕ → ℕ) →
     total_where (n + 1) p f ≡ total_where n p f + (if p n then f n else 0)
 unfolding total
@@ -126,7 +126,7 @@ total_grows m (suc n) f h = elim (cases_lt m (suc n)) [
     at_end : m ≡ suc n → total m f ≤ total (suc n) f
     at_end e = rw e (omega arith)
 
--- a sum over some places so far and the next number are within the whole sum
+-- a sum over some indices below k and the number at k are within the whole sum
 pub total_where_fits : (k n : ℕ) (p : ℕ → Bool) (f : ℕ → ℕ) → k < n → total_where k p f + f k ≤ total n f
 unfolding total
 total_where_fits k n p f h =
@@ -150,13 +150,13 @@ pub total_start : (f : ℕ → ℕ) → total 0 f ≡ 0
 unfolding total
 total_start f = refl
 
--- the first place first
+-- the first index first
 pub total_first : (n : ℕ) (f : ℕ → ℕ) → total (suc n) f ≡ f 0 + total n (λ k. f (suc k))
 unfolding total
 total_first zero f = omega arith
 total_first (suc n) f = omega (arith, total_first n f)
 
--- two functions that differ at one place alone
+-- two functions that differ at one index alone
 pub total_change : (n i : ℕ) (f g : ℕ → ℕ) → i < n → ((k : ℕ) → k < n → k ≢ i → f k ≡ g k) →
     total n f + g i ≡ total n g + f i
 unfolding total
@@ -174,7 +174,7 @@ total_change (suc n) i f g b h =
 pub total_pick : (n i : ℕ) (f : ℕ → ℕ) → i < n → ((k : ℕ) → k < n → k ≢ i → f k ≡ 0) → total n f ≡ f i
 total_pick n i f b h = omega (arith, total_change n i f (λ k. 0) b h, total_zero n (λ k. 0) (λ k c. refl))
 
--- a sum over two runs of places
+-- a sum over two runs of indices
 pub total_append : (m n : ℕ) (f : ℕ → ℕ) → total (m + n) f ≡ total m f + total n (λ k. f (m + k))
 unfolding total
 total_append m zero f = rw add-zero (omega arith)
@@ -189,7 +189,7 @@ counted_step : (t : Bool) (c rest m : ℕ) (f : ℕ → ℕ) → total c (λ k. 
 counted_step true c rest m f h = omega (arith, total_more c (λ k. f (m + k)), h)
 counted_step false c rest m f h = rw add-zero (omega arith)
 
--- a sum over numbers that are given in turn to the places that pass
+-- a sum over numbers that are given in turn to the indices that pass
 pub total_counted : (n m : ℕ) (p : ℕ → Bool) (f : ℕ → ℕ) →
     total (count_where n p) (λ k. f (m + k)) ≡ total_where n p (λ k. f (m + count_where k p))
 unfolding total
@@ -200,14 +200,14 @@ pub count_more : (n : ℕ) (p : ℕ → Bool) → count_where (suc n) p ≡ coun
 unfolding total
 count_more n p = refl
 
--- a place that passes is counted by each later one
+-- an index that passes is counted by each later one
 pub count_less : (m n : ℕ) (p : ℕ → Bool) → m < n → p m ≡ true → count_where m p < count_where n p
 count_less m n p l h =
     let more : count_where (suc m) p ≡ count_where m p + 1 =
     count_more m p ∙ ap (λ t. count_where m p + (if t then 1 else 0)) h in
     omega (arith, more, total_grows (suc m) n (λ k. if p k then 1 else 0) (omega arith))
 
--- two places that pass have different numbers
+-- two indices that pass have different numbers
 pub count_apart : (m n : ℕ) (p : ℕ → Bool) → p m ≡ true → p n ≡ true → count_where m p ≡ count_where n p → m ≡ n
 count_apart m n p h i e = elim (cases_order m n) [
   | inl same ↦ same
@@ -217,7 +217,7 @@ count_apart m n p h i e = elim (cases_order m n) [
   ]
 ]
 
--- the place with a number
+-- the index with a number
 pub record IsCounted (n : ℕ) (p : ℕ → Bool) (k : ℕ) : Type 0 where
   pub place : ℕ
   pub below : place < n
@@ -253,7 +253,7 @@ term_le_greatest (suc n) p f k l h = elim (cases_lt k n) [
       omega arith)
 ]
 
--- greatest values over tests that pass at the same places
+-- greatest values over tests that pass at the same indices
 pub greatest_same_tests : (n : ℕ) (p q : ℕ → Bool) (f : ℕ → ℕ) → ((k : ℕ) → k < n → p k ≡ q k) →
     greatest_where n p f ≡ greatest_where n q f
 unfolding greatest_where
@@ -262,7 +262,7 @@ greatest_same_tests (suc n) p q f h =
     ap₂ max (greatest_same_tests n p q f (λ k l. h k (omega arith)))
     (ap (λ t. if t then f n else 0) (h n (omega arith)))
 
--- one place more that passes
+-- one index more that passes
 pub greatest_one_more : (n : ℕ) (p q : ℕ → Bool) (f : ℕ → ℕ) (r : ℕ) → r < n → q r ≡ true →
     ((k : ℕ) → k < n → p k ≡ true → q k ≡ true) → ((k : ℕ) → k < n → q k ≡ true → (p k ≡ true) ⊎ (k ≡ r)) →
     greatest_where n q f ≡ max (greatest_where n p f) (f r)

@@ -29,7 +29,7 @@ pub or_none : {V : Type 0} (r : Option V) → option_or r None ≡ r
 or_none None = refl
 or_none (Some v) = refl
 
--- a text that had no place has one from now on
+-- a text that had no index has one from now on
 pub added : {V S : Type 0} (own : Bor (List ℕ)) (old new : IndexMap (Bor (List ℕ)) V S) (index : V) →
     UpdatesBy (λ x y. bytes_eq x.now y.now) (λ k. bytes_eq own.now k.now) old new (Some index) →
     is_some (get_by (λ k. bytes_eq own.now k.now) old) ≡ false → AddsIndex old new own.now index

@@ -1,4 +1,4 @@
--- The place of the first entry of a list that passes a test.
+-- The index of the first entry of a list that passes a test.
 use Rattle.std.proofs.Common.{◌≡◌, ℕ, suc, ◌+◌, ◌<◌, Bool, true, false, refl, ap, ◌∙◌, arith, List, [], ◌∷◌, ◌++◌}
 use Rattle.std.proofs.Common.{length, take, slice_get, position, Some, None, if◌then◌else◌, inl, inr}
 use Rattle.std.proofs.Common.{zero-add, add-zero}

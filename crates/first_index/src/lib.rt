@@ -1,4 +1,4 @@
-//! The first place of each text of a list, kept in a map.
+//! The first index of each text of a list, kept in a map.
 #![tactic(auto)]
 
 ghost use Rattle.std.specs.Prelude.{OnErr, OnOk};
@@ -8,7 +8,7 @@ ghost use Rattle.first_index.specs.Indices.{AddsIndex};
 use indexmap::IndexMap;
 use std::alloc::AllocError;
 
-/// Gives a text the place, unless it has one.
+/// Gives a text the index, unless it has one.
 ///
 /// It takes memory. AllocError comes where memory is lacking: the map then is as it was.
 pub fn add_index<'b, V: Drop>(

@@ -19,7 +19,7 @@ use Rattle.water_model.specs.Indices.{seniors_first}
 use Rattle.index_seq.specs.declared.entry.EnsembleLine.TheVariants as line
 use Rattle.index_seq.proofs.Counting.{first_of_rest}
 
--- so far the lines of the lower amounts were put, and those of the rest are still to come
+-- the lines of the lower amounts were put, and those of the rest are still to come
 pub record IsPutSoFar (b : Basin) (amounts rest : List ℕ) (old now : Option (List ℕ)) (before after : ℕ) : Type 0 where
   pub done : List ℕ
   pub put : Appends old now done

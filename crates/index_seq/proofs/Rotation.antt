@@ -29,7 +29,7 @@ late xs at k h l u =
     same : (n : ℕ) → at ≤ n → n ≤ at + k → k - (n - at) ≡ at + k - n
     same n p q = omega arith
 
--- row i of a table of n columns, a given number of rows on, which is counted on from the first row past the last
+-- the row of a table of n columns that comes `shift` rows after row i, counted on from the first row past the last
 row_further : (xs : List ℕ) (rows n shift i column : ℕ) → length xs ≡ rows * n → shift ≤ rows → i < rows → column < n →
     get_or (drop (shift * n) xs ++ take (shift * n) xs) (i * n + column) 0 ≡ get_or xs ((i + shift) % rows * n + column)
     0
@@ -64,7 +64,7 @@ row_further xs rows n shift i column count low inside col = elim (cases_lt (i + 
         let less : k < rows = omega arith in
         ap (λ m. m % rows) sum ∙ (add-mod_left rows k ∙ mod-eq_of_lt less)
 
--- what is begun later has the amounts of a given number of years later
+-- what is begun some years later has the amounts of as many years later
 pub begun_is : (b : Basin) (series : Inflows) (years : ℕ) → IsSeriesOf b series → years < years_of b →
     IsBegunAfter b series years (begun_after series years)
 begun_is b series years fits h = record {
@@ -97,7 +97,7 @@ begun_fits b series years fits h = record {
 pub turn_of_same : (series begun : Inflows) → begun ≡ series → IsRotationOf series begun
 turn_of_same series begun e = subst (IsRotationOf series) (sym e) (record { rest = refl; count = refl })
 
--- gauges are nodes, so the place is small
+-- gauges are nodes, so the index is small
 pub small_place : (b : Basin) (series : Inflows) (years : ℕ) → IsValidBasin b → IsSeriesOf b series →
     years < years_of b → 12 * years * length series.gauged ≤ 1200 * 2000
 small_place b series years valid fits h =

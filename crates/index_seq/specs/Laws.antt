@@ -6,7 +6,7 @@ use Rattle.water_model.specs.declared.types.Inflows.{Inflows}
 use Rattle.water_model.specs.declared.types.MonthRecord.{MonthRecord}
 use Rattle.index_seq.specs.Traces.{AreTraces, IsBegunAfter, begun_after, yearly_deliveries, years_of}
 
--- the series of a trace has in each month the amounts of a given number of years later, counted on from the beginning
+-- the series of trace `years` has in each month the amounts of that many years later, counted on from the beginning
 -- past the end
 abbrev pub TracesBeginInTheirYear : Type 0
 TracesBeginInTheirYear = (b : Basin) (series : Inflows) (years : ℕ) → IsSeriesOf b series → years < years_of b →

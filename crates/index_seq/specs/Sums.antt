@@ -1,4 +1,4 @@
--- What is kept of the traces, in place of their months.
+-- What is kept of the traces, instead of their months.
 use Rattle.std.specs.Prelude.{◌≡◌, ℕ, ◌+◌, ◌*◌, ◌<◌, List, [], ◌++◌, drop, map, length, sum_by, slice_index}
 use Rattle.std.specs.Prelude.{slice_index_or, slice_get, Some}
 use Rattle.month_fold.specs.Runs.{RunView, RunStandsFor}
@@ -17,7 +17,7 @@ pub record AreSums (b : Basin) (traces : List (List MonthRecord)) (records : Lis
       slice_index_or sums r [] ≡ yearly_deliveries b traces r ++ map (delivered_in_year records r)
       (numbers_from 0 years)
 
--- by right, what it was delivered since a given number of years of a trace
+-- by right, what it was delivered in a trace after its first `years` years
 pub record IsYear (b : Basin) (records : List MonthRecord) (years : ℕ) (year : List ℕ) : Type 0 where
   pub count : length year ≡ length b.rights
   pub each : (r : ℕ) → r < length b.rights →

@@ -15,7 +15,7 @@ HasWholeYears b = b.months % 12 ≡ 0
 abbrev pub years_of : Basin → ℕ
 years_of b = b.months / 12
 
--- the series whose gauges' record begins a given number of years later; what stood before comes last
+-- the series whose gauges' record begins `years` years later; what stood before comes last
 abbrev pub begun_after : Inflows → ℕ → Inflows
 begun_after series years =
     record series {
@@ -28,8 +28,8 @@ pub record IsRotationOf (series begun : Inflows) : Type 0 where
   pub rest : begun ≡ record series { amount = begun.amount }
   pub count : length begun.amount ≡ length series.amount
 
--- the amount of each gauge in a month is that of a given number of years later, counted on from the beginning past the
--- end. The wants stay
+-- the amount of each gauge in a month is that of `years` years later, counted on from the beginning past the end.
+-- The wants stay
 pub record IsBegunAfter (b : Basin) (series : Inflows) (years : ℕ) (begun : Inflows) : Type 0 where
   pub gauged : begun.gauged ≡ series.gauged
   pub amount : (i gauge : ℕ) → i < b.months → gauge < length series.gauged →

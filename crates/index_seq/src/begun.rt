@@ -6,7 +6,7 @@ ghost use Rattle.index_seq.specs.Traces.{HasWholeYears, years_of, begun_after, I
 use std::alloc::{AllocError, Global};
 use water_model::types::{Basin, Inflows};
 
-/// Writes the amounts from a place on, and then those before it.
+/// Writes the amounts from an index on, and then those before it.
 fn rotate_one(amounts: &[u64], at: usize, into: &mut [u64])
     requires at { at ≤ length amounts.now }
     requires room { length into.old ≡ length amounts.now }
@@ -17,8 +17,8 @@ fn rotate_one(amounts: &[u64], at: usize, into: &mut [u64])
     back.copy_from_slice(&amounts[..at]);
 }
 
-/// Writes into `begun` the series whose gauges' record begins a given number of years later and is wrapped round at its
-/// end. `begun` differs from the series in what the gauges measured alone, as those do that were written before.
+/// Writes into `begun` the series whose gauges' record begins `years` years later and is wrapped round at its end.
+/// `begun` differs from the series only in what the gauges measured, as it did before.
 pub fn rotate_series(basin: &Basin, series: &Inflows, years: u32, begun: &mut Inflows)
     requires basin { IsValidBasin basin.now }
     requires whole { HasWholeYears basin.now }
@@ -32,8 +32,8 @@ pub fn rotate_series(basin: &Basin, series: &Inflows, years: u32, begun: &mut In
     rotate_one(series.amount.as_slice(), at, begun.amount.as_mut_slice());
 }
 
-/// The series whose gauges' record begins a given number of years later and is wrapped round at its end. The wants
-/// stay. AllocError comes where memory is lacking.
+/// The series whose gauges' record begins `years` years later and is wrapped round at its end. The wants stay.
+/// AllocError comes where memory is lacking.
 pub fn rotate(
     alloc: Global,
     basin: &Basin,

@@ -10,6 +10,6 @@ pub enum EnsembleLine {
     Right { right: u32 },
     /// What the right was delivered in a year, and in how many years of all traces.
     Yearly { amount: u64, count: u64 },
-    /// All traces are told.
+    /// The end: all traces are listed.
     Done { traces: u32 },
 }

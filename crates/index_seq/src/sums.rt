@@ -7,14 +7,14 @@ use std::alloc::{AllocError, Global};
 use water_model::rows::Rows;
 use water_model::types::MonthRecord;
 
-/// No amounts yet, with room for so many.
+/// No amounts yet, with room for `room` of them.
 fn empty_amounts(alloc: Global, room: usize) -> Result<Rows<u64>, AllocError>
     ensures { IfOk result (λ amounts. amounts ≡ []) }
 {
     Ok(Rows::from_vec(Vec::with_capacity(alloc, room)?))
 }
 
-/// No amounts yet for each of a given number of rights, with room for so many. AllocError comes where memory is
+/// No amounts yet for each of `count` rights, with room for `room` of them each. AllocError comes where memory is
 /// lacking.
 pub fn empty_sums(alloc: Global, count: usize, room: usize) -> Result<Rows<Rows<u64>>, AllocError>
     ensures count { IfOk result (λ sums. length sums ≡ count) }

@@ -31,7 +31,7 @@ fn put_entry<K: Sink>(sink: &mut K, basin: &Basin, entry: EnsembleLine) -> Resul
     sink.put(line.bytes())
 }
 
-/// How many amounts at the front are the first one.
+/// How many of the first amounts are equal to the first one.
 #[tactic(auto, using(crate::proofs::Prefixes::prefixes))]
 fn run_length(amounts: &[u64]) -> usize
     requires { 0 < length amounts.now }
@@ -46,7 +46,7 @@ fn run_length(amounts: &[u64]) -> usize
     count
 }
 
-/// The amounts after so many at the front.
+/// The amounts after the first `count`.
 fn after(amounts: &[u64], count: usize) -> &[u64]
     requires { count ≤ length amounts.now }
     ensures { result.now ≡ drop count amounts.now }
@@ -124,8 +124,8 @@ fn put_rights<K: Sink>(
     Ok(())
 }
 
-/// Puts the text of an ensemble of a given number of traces, by the amounts that each right was delivered in their
-/// years, which don't fall.
+/// Puts the text of an ensemble, by the amounts that each right was delivered in the years of its traces, which don't
+/// fall.
 ///
 /// Each line is one `put`. `SinkFailed` comes only where the sink counted a fault; a prefix of the text was then put.
 /// No memory is taken.

@@ -1,4 +1,4 @@
--- The places of columns, and which of them are gauges and wants.
+-- The indices of columns, and which of them are gauges and wants.
 use Rattle.std.proofs.Common.{◌≡◌, ℕ, zero, suc, ◌+◌, ◌-◌, ◌<◌, ◌≤◌, Bool, true, false, refl, sym, ap, ◌∙◌, arith, List}
 use Rattle.std.proofs.Common.{[], ◌∷◌, ◌++◌, length, get_or, slice_index, filter, if◌then◌else◌, inl, inr, add-one}
 use Rattle.std.proofs.Common.{zero-add}
@@ -40,7 +40,7 @@ passed_most p (suc n) =
 other_test : (a c : ℕ) → a < c → a == c ≡ false
 other_test a c h = grind (arith, nat_tests)
 
--- the place of a number among those that pass a test: as many stand before it as pass below it
+-- the index of a number among those that pass a test: as many stand before it as pass below it
 index_from : (p : ℕ → Bool) (from count k x : ℕ) → k < count → x ≡ from + k → p x ≡ true →
     index_in (filter p (numbers_from from count)) x ≡ length (filter p (numbers_from from k))
 unfolding numbers_from
@@ -61,7 +61,7 @@ index_from p from (suc count) (suc k) x l e h =
     by_test true f h = rw f (omega arith)
     by_test false f h = h
 
--- a number that passes stands at its place
+-- a number that passes stands at its index
 pub index_holds : (p : ℕ → Bool) (from count k x : ℕ) → k < count → x ≡ from + k → p x ≡ true →
     (index_in (filter p (numbers_from from count)) x < length (filter p (numbers_from from count)))
     × (get_or (filter p (numbers_from from count)) (index_in (filter p (numbers_from from count)) x) 0 ≡ x)
@@ -113,7 +113,7 @@ passing_from p from (suc count) g l = by_test (p from) g l (passing_from p (suc 
     by_test true (suc g) l further = let h = further g (omega arith) in omega (arith, h)
     by_test false g l further = let h = further g l in omega (arith, h)
 
--- the place of the number that stands at a place
+-- the index of the number that stands at an index
 pub index_of_passing : (p : ℕ → Bool) (from count g : ℕ) → g < length (filter p (numbers_from from count)) →
     index_in (filter p (numbers_from from count)) (get_or (filter p (numbers_from from count)) g 0) ≡ g
 unfolding numbers_from
@@ -148,7 +148,7 @@ pub none_below : (p : ℕ → Bool) → filter p (numbers_from 0 0) ≡ []
 unfolding numbers_from
 none_below p = refl
 
--- the places of one more number
+-- the indices of one more number
 pub index_added : (p : ℕ → Bool) (indices : List ℕ) (passing : List ℕ) (n k : ℕ) → length indices ≡ n →
     passing ≡ filter p (numbers_from 0 n) →
     ((m : ℕ) → m < n → slice_index indices m ≡ passed_below p m) → k < n + 1 →
@@ -249,7 +249,7 @@ below_right b right =
 pub count_of_columns : (b : Basin) → length (column_numbers b) ≡ length (gauged_nodes b) + length (rights_in_series b)
 count_of_columns b = below_right b (length b.rights)
 
--- a gauge has its place among the gauges, and a right its place among the wants, after all gauges
+-- a gauge has its index among the gauges, and a right its index among the wants, after all gauges
 pub index_of_gauge : (b : Basin) (node : ℕ) → node < length b.nodes → is_gauged b node ≡ true →
     index_in (column_numbers b) node ≡ index_in (gauged_nodes b) node
 index_of_gauge b node l h =

@@ -90,7 +90,7 @@ small_table b months bounded = small b.months (width b) months (bounded_columns 
     small : (m g : ℕ) → m ≤ 1200 → g ≤ 4000 → m * g ≤ 4800000
     small m g h k = mul-le m g 1200 4000 h k
 
--- the place of a column
+-- the index of a column
 pub column_there : (b : Basin) (n : ℕ) → IsColumn b n →
     (index_in (column_numbers b) n < width b) × (get_or (column_numbers b) (index_in (column_numbers b) n) 0 ≡ n)
 column_there b n h = index_holds (λ k. is_column b k) 0 (count_of_both b) n n h.within (omega arith) h.due
@@ -101,7 +101,7 @@ small_index b i n months bounded l h =
     let within = cell_within i b.months (width b) (index_in (column_numbers b) n) l (column_there b n h).0 in
     (omega (arith, within, small_table b months bounded), within)
 
--- the row and the column of a place
+-- the row and the column of a cell
 pub record IsSplit (b : Basin) (k : ℕ) : Type 0 where
   pub row : k / width b < b.months
   pub gauge : k % width b < width b
@@ -158,7 +158,7 @@ one_entry_more (x ∷ entries) e month node = by_test (is_for month node x) (one
     by_test true h = refl
     by_test false h = h
 
--- each column has its own place
+-- each column has its own index
 pub own_gauge : (b : Basin) (g node : ℕ) → g < width b → get_or (column_numbers b) g 0 ≡ node →
     index_in (column_numbers b) node ≡ g
 own_gauge b g node l e =
@@ -167,7 +167,7 @@ own_gauge b g node l e =
 abbrev pub index_for : Basin → ℕ → ℕ → ℕ
 index_for b i node = i * width b + index_in (column_numbers b) node
 
--- an entry that is for a place of the table has this place
+-- an entry that is for a cell of the table has this cell
 same_cell : (b : Basin) (e : SeriesRecord) (i k g : ℕ) → IsMonth b.first → k < b.months → g < width b →
     e.month ≡ run_month b i →
     is_for (run_month b k) (get_or (column_numbers b) g 0) e ≡ true → k * width b + g ≡ index_for b i e.column
@@ -268,7 +268,7 @@ pub outside_is : (b : Basin) (earlier : List SeriesRecord) (e : SeriesRecord) (a
     (repeats b earlier e ≡ false) × (amounts ≡ given b (earlier ++ e ∷ []))
 outside_is b earlier e amounts outside is = (rw outside refl, is ∙ sym (passes_by b earlier e outside))
 
--- where it has a place in the table, what stands there
+-- where it has a cell in the table, what stands there
 pub stands_there : (b : Basin) (earlier : List SeriesRecord) (e : SeriesRecord) (i : ℕ) (amounts : List (Option ℕ)) →
     IsEntry b e →
     i < b.months → e.month ≡ run_month b i → amounts ≡ given b earlier →

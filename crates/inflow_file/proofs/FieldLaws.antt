@@ -7,7 +7,7 @@ use Rattle.inflow_file.specs.CsvRecords.{with_kind}
 use Rattle.inflow_file.specs.Entries.{read_record}
 use Rattle.inflow_file.specs.declared.refused.SeriesFault.TheVariants as fault
 
--- a record has a field at each place before its end
+-- a record has a field at each index before its end
 pub has_field : (row : List (List ℕ)) (i : ℕ) → None ≡ field_at row i → i < length row → ⊥
 unfolding field_at
 has_field [] i e l = omega arith

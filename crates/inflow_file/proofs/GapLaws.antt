@@ -38,7 +38,7 @@ use Rattle.inflow_file.proofs.ColumnLaws.{count_of_columns, is_gauge, is_want, i
 use Rattle.inflow_file.proofs.ColumnLaws.{index_of_want}
 use Rattle.inflow_file.proofs.DueLaws.{IsSplit, column_there, due_at, given_at, length-due, length-given, split, width}
 
--- the first element that passes a test, by its place
+-- the first element that passes a test, by its index
 find_first : {X : Type 0} (p : X → Bool) (xs : List X) (k : ℕ) (d : X) → k < length xs →
     ((j : ℕ) → j < k → p (get_or xs j d) ≡ false) →
     p (get_or xs k d) ≡ true → find p xs ≡ Some (get_or xs k d)
@@ -204,12 +204,12 @@ part_more f part n k x count each is l =
       | inr past ↦ let same : k ≡ n = omega arith in rw same (get_or_push part x 0 n count ∙ is)
     ]
 
--- a place below a given number of columns of months is one of some column
+-- a cell of some months and columns is one of some column
 pub some_column : (k m g : ℕ) → k < m * g → 0 < g
 some_column k m zero h = absurd (omega arith)
 some_column k m (suc g) h = omega arith
 
--- where the amount at a place of a part stands among all
+-- where the amount of a cell of a part stands among all
 pub cell_below : (k all from months count : ℕ) → from + count ≤ all → k < months * count →
     k / count * all + from + k % count < months * all
 cell_below k all from months count h l =

@@ -70,7 +70,7 @@ end_step st.AfterCr c =
     either (c == 10) (st.StartRecord, act.Skip) (start_record default_config c)
     (goes_on (st.StartRecord, act.Skip) refl) (end_start_record c)
 
--- what is left behind a record is shorter, and the reader is between two records
+-- what is left after a record is shorter, and the reader is between two records
 record IsAfter (bytes : List ℕ) (r : Read) : Type 0 where
   fewer : length r.2 ≤ length bytes
   between : ends_at_end r.1 ≡ false
@@ -203,7 +203,7 @@ meets : (s after : State) (bytes rest : List ℕ) (fields : List (List ℕ)) (kn
 meets s after bytes rest fields known later p is will first state left between e =
     rw (is, will, first, ← state, ← left) (one_more s bytes p between e)
 
--- what one read of a reader does, as `ReadFacts` of csv tells it
+-- what one read of a reader does, as `ReadFacts` of csv says
 pub record TookOne (a b : Reader (Bor (List ℕ))) (fields : List (List ℕ)) : Type 0 where
   pub bytes : List ℕ
   pub known : bytes_left b ≡ Some bytes

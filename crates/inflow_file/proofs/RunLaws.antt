@@ -16,7 +16,7 @@ use Rattle.water_text.proofs.MonthLaws.{same_month}
 pub same_itself : (n : ℕ) → n == n ≡ true
 same_itself n = grind (arith, nat_tests)
 
--- months are told apart by year and month
+-- months are distinguished by year and month
 pub same_month_is : (m n : Month) → is_same_month m n ≡ true → m ≡ n
 same_month_is m n h =
     let tests = and_parts (m.year == n.year) (m.month == n.month) h in

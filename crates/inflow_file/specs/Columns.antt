@@ -25,7 +25,7 @@ pub record IsColumn (b : Basin) (n : ℕ) : Type 0 where
   pub within : n < count_of_both b
   pub due : is_column b n ≡ true
 
--- the columns, and for each number that is one its place among them
+-- the columns, and for each number that is one its index among them
 pub record AreIndices (b : Basin) (numbers indices : List ℕ) : Type 0 where
   pub columns_are : numbers ≡ column_numbers b
   pub count : length indices ≡ count_of_both b

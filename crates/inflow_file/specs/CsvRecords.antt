@@ -4,8 +4,8 @@ use Rattle.std.specs.Borrow.{Bor}
 use Rattle.std.specs.Str.{bytes_eq}
 use Rattle.csv.specs.Reading.{default_config, records, strip_bom}
 
--- every record of a table by the settings that csv begins with, each as the list of its fields. One byte order mark in
--- front is skipped
+-- every record of a table by the settings that csv begins with, each as the list of its fields. One byte order mark
+-- at the beginning is skipped
 unfoldable pub records_of : List ℕ → List (List (List ℕ))
 records_of text = records default_config (strip_bom text)
 

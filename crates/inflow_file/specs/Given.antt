@@ -24,7 +24,7 @@ Takes b before row old new result = old ≡ given_by b before → MatchResult re
     (λ _. (record_fault b before row ≡ None) × (new ≡ given_by b (before ++ row ∷ [])))
     (λ fault. record_fault b before row ≡ Some fault)
 
--- all records after the header are taken, or the first at fault is told
+-- all records after the header are taken, or the first at fault is reported
 abbrev pub TakesAll : Basin → List (List (List ℕ)) → List (Option ℕ) → Result (Unit {0}) SeriesRefused → Type 0
 TakesAll b rows new (Ok done) = (first_fault b [] 2 rows ≡ None) × (new ≡ given_by b rows)
 TakesAll b rows new (Err e) = IsRefusalOf (first_fault b [] 2 rows) e
@@ -34,7 +34,7 @@ pub record TookTable (b : Basin) (table : List (List (List ℕ))) (amounts : Lis
   pub fault : table_fault b table ≡ missing b (entries_of b (body_of b table))
   pub given : amounts ≡ given_by b (body_of b table)
 
--- they are, or the first fault is told
+-- they are, or the first fault is reported
 abbrev pub TakesTable : Basin → List (List (List ℕ)) → List (Option ℕ) → Result (Unit {0}) SeriesRefused → Type 0
 TakesTable b table new (Ok done) = TookTable b table new
 TakesTable b table new (Err e) = IsRefusalOf (table_fault b table) e

@@ -18,7 +18,7 @@ use Rattle.inflow_file.specs.declared.refused.SeriesFault.TheVariants as fault
 use Rattle.inflow_file.specs.declared.refused.SeriesRefused.{SeriesRefused}
 use Rattle.inflow_file.specs.declared.refused.SeriesRefused.TheVariants as refused
 
--- months are told apart by year and month
+-- months are distinguished by year and month
 abbrev pub is_same_month : Month → Month → Bool
 is_same_month m n = m.year == n.year && m.month == n.month
 
@@ -72,7 +72,7 @@ abbrev pub missing : Basin → List SeriesRecord → Option SeriesRefused
 missing b entries =
     option_map (λ d. missing_of b d.0 d.1) (find (λ d. not (is_some (amount_for entries d.0 d.1))) (due b))
 
--- whether a table's header tells kinds. That of a basin of format 1 never does
+-- whether a table's header has kinds. That of a basin of format 1 never has
 abbrev pub has_kinds : Basin → List (List ℕ) → Bool
 has_kinds b header = b.format == 2 && is_kind_header header
 

@@ -39,7 +39,7 @@ fn index_in_run(basin: &Basin, month: Month) -> Option<u32>
     Some(number - first)
 }
 
-/// The place of a column's amount in the month with this index.
+/// The cell of a column's amount in the month with this index.
 fn index_of(columns: &Columns, index: u32, number: u32) -> usize
     requires basin { IsValidBasin columns.now.basin.now }
     requires index { index < columns.now.basin.now.months }
@@ -77,7 +77,7 @@ pub(crate) fn enter(
     Ok(())
 }
 
-/// The place of the first amount that isn't there, or the number of places.
+/// The cell of the first amount that isn't there, or the number of cells.
 fn first_gap(amounts: &[Option<u64>]) -> usize
     ensures within { result ≤ length amounts.now }
     ensures before { (k : ℕ) → k < result → is_some (slice_index_or amounts.now k None) ≡ true }
@@ -110,7 +110,7 @@ fn missing_of(basin: &Basin, month: Month, number: u32) -> SeriesRefused
     }
 }
 
-/// The refusal where the amount at a place isn't there.
+/// The refusal where the amount of a cell isn't there.
 fn missing_at(columns: &Columns, cell: usize) -> SeriesRefused
     requires basin { IsValidBasin columns.now.basin.now }
     requires cell { cell < columns.now.basin.now.months * length (column_numbers columns.now.basin.now) }
@@ -126,7 +126,7 @@ fn missing_at(columns: &Columns, cell: usize) -> SeriesRefused
     )
 }
 
-/// Number `cell` of the amounts of a given number of columns from one on. `cells` has all columns, `width` in each
+/// Amount number `cell` of those of the `count` columns from column `from` on. `cells` has all columns, `width` in each
 /// month.
 fn cell_in(cells: &[Option<u64>], width: usize, from: usize, count: usize, cell: usize) -> u64
     requires count { 0 < count }
@@ -138,7 +138,7 @@ fn cell_in(cells: &[Option<u64>], width: usize, from: usize, count: usize, cell:
     cells[row * width + from + cell % count].unwrap_or(0)
 }
 
-/// The amounts of a given number of columns from one on, month by month, out of those of all columns.
+/// The amounts of the `count` columns from column `from` on, month by month, out of those of all columns.
 fn part_of(
     alloc: Global,
     columns: &Columns,

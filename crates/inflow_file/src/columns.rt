@@ -183,7 +183,7 @@ impl<'a> Columns<'a> {
         self.numbers.len()
     }
 
-    /// The place of a column among the columns.
+    /// The index of a column in the list of the columns.
     pub fn index_of(&self, number: u32) -> u32
         requires { IsColumn self.now.basin.now number }
         ensures { result ≡ index_in (column_numbers self.now.basin.now) number }
@@ -235,7 +235,7 @@ impl<'a> Columns<'a> {
         Ok(self.basin.nodes.len() as u32 + right)
     }
 
-    /// The column that a kind and a name tell.
+    /// The column that a kind and a name stand for.
     fn column_of(&self, kind: &[u8], name: &[u8]) -> Result<u32, SeriesFault>
         ensures reads { result ≡ column_of self.now.basin.now kind.now name.now }
         ensures column { IfOk result (IsColumn self.now.basin.now) }
@@ -305,7 +305,7 @@ impl<'a> Columns<'a> {
         }
     }
 
-    /// What a record says after a header that tells kinds or doesn't, or the first fault that it has by itself.
+    /// What a record says after a header with kinds or without, or the first fault that it has by itself.
     pub fn read_record(&self, kinds: bool, row: &ByteRecord) -> Result<SeriesRecord, SeriesFault>
         ensures reads { result ≡ read_record self.now.basin.now (with_kind kinds (fields_of row.now)) }
         ensures entry { IfOk result (IsEntry self.now.basin.now) }

@@ -36,7 +36,7 @@ fn take(
     enter(columns, amounts, &entry)
 }
 
-/// Takes the records that a reader has left behind the header, or refuses the first that is at fault.
+/// Takes the records that a reader has left after the header, or refuses the first that is at fault.
 fn take_all(
     reader: &mut Reader<&[u8]>,
     row: &mut ByteRecord,
@@ -69,7 +69,7 @@ fn no_header() -> SeriesRefused
     }
 }
 
-/// Whether a header tells kinds. That of a basin of format 1 never does.
+/// Whether a header has kinds. That of a basin of format 1 never has.
 fn has_kinds(basin: &Basin, row: &ByteRecord) -> bool
     ensures { result ≡ has_kinds basin.now (fields_of row.now) }
 {
@@ -107,7 +107,7 @@ fn take_table(
     take_all(&mut reader, &mut row, columns, kinds, amounts)
 }
 
-/// A place for each amount that is due, none of which is given.
+/// A cell for each amount that is due, none of which is given.
 fn no_amounts(alloc: Global, columns: &Columns) -> Result<Vec<Option<u64>>, AllocError>
     requires { IsValidBasin columns.now.basin.now }
     ensures { IfOk result (λ amounts. amounts.items ≡ given_by columns.now.basin.now []) }
@@ -136,7 +136,7 @@ pub const HEADER: &[u8] = b"month,node,amount\n";
 
 /// The series of a basin that a table spells: for each month of the run an inflow of each gauged node, and a want of
 /// each right whose wants stand in the series, in units of 1,000 cubic metres. Where the table is at fault, the first
-/// fault is told, and want of memory may come at any point.
+/// fault is reported, and want of memory may come at any point.
 ///
 /// A record takes the time of a look-up by name. The memory is that of the series and of a mark for each of its
 /// amounts: records aren't kept.

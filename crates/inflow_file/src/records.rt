@@ -73,7 +73,7 @@ pub(crate) fn four_fields(row: &ByteRecord) -> Option<(&[u8], &[u8], &[u8], &[u8
     Some((first, second, third, fourth))
 }
 
-/// Whether a record is the header that tells kinds.
+/// Whether a record is the header with kinds.
 pub(crate) fn is_kind_header(row: &ByteRecord) -> bool
     ensures { result ≡ is_kind_header (fields_of row.now) }
 {

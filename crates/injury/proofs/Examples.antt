@@ -16,7 +16,7 @@ use Rattle.injury.specs.Injuries.{injuries, row, comparison_text}
 use Rattle.injury.specs.OneMore.{HasOneMore}
 use Rattle.injury.specs.Changed.{HasChanged, IsSeniorToChange, SparesCarryover}
 
--- a month of which the deliveries are told
+-- a month of which the deliveries are given
 abbrev delivers : List ℕ → MonthRecord
 delivers amounts = record {
   index = 0;

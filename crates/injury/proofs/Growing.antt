@@ -34,7 +34,7 @@ common_bounded first second valid =
     let bounded = valid.bounded.rights in
     omega (arith, pairs_bounded first second (seniors_first first), length-by_seniority first.rights)
 
--- one month more
+-- one more month
 pub injuries_more : (first second : Basin) (records others : List MonthRecord) (m n : MonthRecord) →
     length records ≡ length others →
     injuries first second (records ++ m ∷ []) (others ++ n ∷ [])

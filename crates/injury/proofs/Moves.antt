@@ -1,4 +1,4 @@
--- Places after an inserted one move on: what that does to lists and sums.
+-- Indices from an inserted one on move by one: what that does to lists and sums.
 use Rattle.std.proofs.Common.{◌≡◌, ℕ, zero, suc, ◌+◌, ◌<◌, ◌≤◌, Bool, true, false, refl, sym, ◌∙◌, ap, arith, List}
 use Rattle.std.proofs.Common.{[], ◌∷◌, length, inl, inr}
 use Rattle.std.proofs.lemmas.Bool.{cases_lt, cases_order}
@@ -29,7 +29,7 @@ moved_within at r n l = elim (cases_lt r at) [
   | inr after ↦ omega (arith, moved_after at r after)
 ]
 
--- each place but the inserted one is that of an old place
+-- each index but the inserted one is that of an old one
 pub record IsMoved (at n s : ℕ) : Type 0 where
   pub position : ℕ
   pub within : position < n
@@ -66,7 +66,7 @@ pub one_longer : {X : Type 0} (xs : List X) (at : ℕ) (x : X) → at ≤ length
     length (insert xs at x) ≡ suc (length xs)
 one_longer xs at x l = omega (arith, length-insert xs at x l)
 
--- a sum over all places is that over the old ones and the new term
+-- a sum over all indices is that over the old ones and the new term
 total_moved : (n at : ℕ) (f : ℕ → ℕ) → at ≤ n → total (suc n) f ≡ total n (λ r. f (moved at r)) + f at
 unfolding total
 total_moved zero at f l = let e : f at ≡ f 0 = ap f (omega arith) in omega arith
@@ -77,7 +77,7 @@ total_moved (suc n) at f l = elim (cases_lt n at) [
       omega (arith, total_moved n at f before))
 ]
 
--- a sum over places that pass, and nothing at the new one
+-- a sum over indices that pass, and nothing at the new one
 pub total_where_moved : (m n at : ℕ) (p q : ℕ → Bool) (f g : ℕ → ℕ) → m ≡ suc n → at ≤ n →
     (q at ≡ true → g at ≡ 0) →
     ((r : ℕ) → r < n → q (moved at r) ≡ p r) →

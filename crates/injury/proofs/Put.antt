@@ -37,7 +37,7 @@ injuries-count (p ∷ ps) m n = one (is_injured m n p) (injuries-count ps m n)
     one true l = omega arith
     one false l = omega arith
 
--- one pair more, and one that failed
+-- one more pair, and one that failed
 module _ (b : Basin) (m n : MonthRecord) (pairs : List Pair) (i : ℕ) (p : Pair) (at : slice_get pairs i ≡ Some p) where
   one_more : injuries_of (take (i + 1) pairs) m n ≡ injuries_of (take i pairs) m n ++ injuries_of (p ∷ []) m n
   one_more =

@@ -100,7 +100,7 @@ module _ (b : Basin) (at : ℕ) (x : Right) (more : HasOneMore b (with_right b a
               ∙ (sym (same r l)
               ∙ (f.after.delivered r l ∙ delivery_by_take b m.want m.plan r (zone_on_no_link b r v zone))))
 
-  -- the place of the right that has a common name
+  -- the index of the right that has a common name
   one_place : (r s : ℕ) → IsValidBasin (with_right b at x) → HaveOneName b (with_right b at x) r s → s ≡ moved at r
   one_place r s valid one = elim (cases_order s (moved at r)) [
     | inl same ↦ same

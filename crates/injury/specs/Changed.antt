@@ -9,7 +9,7 @@ use Rattle.water_model.specs.declared.types.Inflows.{Inflows}
 use Rattle.water_model.specs.declared.types.MonthRecord.{MonthRecord}
 use Rattle.water_model.specs.declared.types.ReturnRow.{ReturnRow}
 
--- The second basin is the first but for the rights at the changed places, which may differ in anything.
+-- The second basin is the first but for the rights at the changed indices, which may differ in anything.
 pub record HasChanged (first second : Basin) (changed : ℕ → Bool) : Type 0 where
   pub basin : second ≡ record first { rights = second.rights }
   pub count : length second.rights ≡ length first.rights

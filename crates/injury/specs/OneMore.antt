@@ -9,11 +9,11 @@ use Rattle.water_model.specs.declared.types.Basin.{Basin}
 use Rattle.water_model.specs.declared.types.Inflows.{Inflows}
 use Rattle.water_model.specs.declared.types.Right.{Right}
 
--- the basin with one more right, which stands at this place; all else is the same
+-- the basin with one more right, which stands at this index; all else is the same
 abbrev pub with_right : Basin → ℕ → Right → Basin
 with_right b at right = record b { rights = insert b.rights at right }
 
--- where a right of the basin stands beside a right that is put at a place: after it one further on
+-- the index of a right of the basin once another right is put at an index: from that on it is one greater
 unfoldable pub moved : ℕ → ℕ → ℕ
 moved at r = if nat_lt r at then r else suc r
 

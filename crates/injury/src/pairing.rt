@@ -86,7 +86,7 @@ impl Pairing {
         self.pairs.as_slice()
     }
 
-    /// Whether the pair at a place is injured: its right is delivered less in the second record than in the first.
+    /// Whether the pair at an index is injured: its right is delivered less in the second record than in the first.
     pub fn injured(&self, k: usize, first: &MonthRecord, second: &MonthRecord) -> bool
         requires k { k < length self.now }
         requires records { HaveDeliveries self.now first.now second.now }

@@ -1,4 +1,4 @@
--- The rows of what is on its way, and the places of nodes.
+-- The rows of what is on its way, and the indices of nodes.
 use Rattle.std.proofs.Common.{◌≡◌, ◌∙◌, ℕ, ◌+◌, ◌-◌, ◌*◌, ◌%◌, ◌^◌, ◌<◌, ◌≤◌, List, [], ◌∷◌, length, get_or, set, map}
 use Rattle.std.proofs.Common.{refl, sym, ap, subst, arith}
 use Rattle.std.specs.Prelude.{All, if◌then◌else◌, ◌==◌, option_map, unwrap_or, slice_get, Some}
@@ -53,12 +53,12 @@ stands_fresh rows = record {
   each = All-map (IsInTransit []) fresh rows (λ k d l. fresh_waits _);
 }
 
--- a place to which something is added
+-- an index at which something is added
 index_after : (xs : List ℕ) (k n a : ℕ) → k < length xs →
     get_or (set xs k (get_or xs k 0 + a)) n 0 ≡ get_or xs n 0 + (if k == n then a else 0)
 index_after xs k n a l = grind (arith, common_steps, nat_tests)
 
--- once one row more has come
+-- once one more row has come
 pub one_row_more : (lags : List InTransit) (i : ℕ) (w : InTransit) (into : List ℕ) (n before : ℕ) → i < length lags →
     w ≡ get_or lags i w → w.row.node < length into →
     get_or into n 0 ≡ before + total i (λ k. of_entry lags k (brought_to n) 0) →

@@ -1,4 +1,4 @@
--- What a row keeps after one month more.
+-- What a row keeps after one more month.
 use Rattle.std.proofs.Common.{◌≡◌, ◌∙◌, ℕ, ◌+◌, ◌-◌, ◌*◌, ◌%◌, ◌<◌, ◌≤◌, List, [], ◌∷◌, ◌++◌, length, get_or, map, take}
 use Rattle.std.proofs.Common.{drop, refl, sym, ap, arith}
 use Rattle.std.specs.Prelude.{slice_index, All, Vec, option_map, unwrap_or}

@@ -18,7 +18,7 @@ pub record InTransit : Type 0 where
 abbrev pub return_rows : List InTransit → List ReturnRow
 return_rows lags = map (λ w. w.row) lags
 
--- the numbers of a row's part and lag
+-- the bounds of a row's part and lag
 pub record IsLagged (row : ReturnRow) : Type 0 where
   pub part : (1 ≤ row.part) × (row.part ≤ 10000)
   pub lag : (1 ≤ row.lag) × (row.lag ≤ 120)

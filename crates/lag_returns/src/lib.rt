@@ -65,7 +65,7 @@ impl ReturnFlow {
         }
     }
 
-    /// Adds what the row brings this month to its node's place.
+    /// Adds what the row brings this month to its node's amount.
     fn arrive(&self, into: &mut [u64])
         requires node { self.now.row.node < length into.old }
         requires room { slice_index into.old self.now.row.node + 10 ^ 9 ≤ 10 ^ 15 }
@@ -76,7 +76,7 @@ impl ReturnFlow {
         into[self.row.node as usize] += self.due() / 10_000;
     }
 
-    /// Takes the month's delivery to the diversion.
+    /// Takes in the month's delivery to the diversion.
     fn take(&mut self, amount: u64)
         requires { amount ≤ 10 ^ 9 }
         ensures { self.new ≡ with_delivery amount self.old }
@@ -94,7 +94,7 @@ impl ReturnFlow {
     }
 }
 
-/// Adds what each row brings to its node's place.
+/// Adds what each row brings to its node's amount.
 fn arrive_each(flows: &[ReturnFlow], into: &mut [u64])
     requires nodes { All (λ row. row.node < length into.old) (return_rows flows.now) }
     requires room { All (λ n. n + 10 ^ 9 * length (return_rows flows.now) ≤ 10 ^ 15) into.old }
@@ -107,7 +107,7 @@ fn arrive_each(flows: &[ReturnFlow], into: &mut [u64])
     }
 }
 
-/// Takes each row's delivery out of the month's deliveries by right.
+/// Takes in each row's delivery, from the month's deliveries by right.
 fn take_each(flows: &mut [ReturnFlow], delivered: &[u64])
     requires rights { All (λ row. row.right < length delivered.now) (return_rows flows.old) }
     requires small { All (λ n. n ≤ 10 ^ 9) delivered.now }
@@ -163,8 +163,8 @@ impl Lags {
         Ok(Lags { flows })
     }
 
-    /// Adds what each row brings this month to the place of its node, in units of 1,000 cubic metres. The list is
-    /// indexed by node, and each place has room for 10^9 from each row. The cost is linear in the rows.
+    /// Adds what each row brings this month to the amount of its node, in units of 1,000 cubic metres. The list is
+    /// indexed by node, and each amount has room for 10^9 from each row. The cost is linear in the rows.
     pub fn arrive(&self, into: &mut [u64])
         requires nodes { All (λ row. row.node < length into.old) (return_rows self.now) }
         requires room { All (λ n. n + 10 ^ 9 * length (return_rows self.now) ≤ 10 ^ 15) into.old }
@@ -202,8 +202,8 @@ impl Lags {
         self.write_arrivals(basin, returned.as_mut_slice());
     }
 
-    /// Takes the month's deliveries, indexed by right and each at most 10^9, and moves to the next month. The cost is
-    /// linear in the rows.
+    /// Takes in the month's deliveries, indexed by right and each at most 10^9, and moves to the next month. The cost
+    /// is linear in the rows.
     pub fn month_done(&mut self, delivered: &[u64])
         requires rights { All (λ row. row.right < length delivered.now) (return_rows self.old) }
         requires small { All (λ n. n ≤ 10 ^ 9) delivered.now }

@@ -112,7 +112,7 @@ used_by_none b (m ∷ ms) used none count zeros =
     let there = entry_at (m ∷ ms) (length (m ∷ ms) - 1) (omega arith) in
     let never : None ≡ Some there.0 = none ∙ there.1 in absurd (cc)
 
--- what the last of some months tells
+-- what the record of the last of some months says
 pub last_tells : {X : Type 0} (f : X → MonthRecord) (b : Basin) (xs : List X) (x : X) (m : MonthRecord) →
     StateUse b (map f xs) → m ≡ f x → Some x ≡ slice_get xs (length xs - 1) →
     StatesUse b (take (length (map f xs) - 1) (map f xs)) m
@@ -166,7 +166,7 @@ stored_by_none f b xs none =
     (ap (λ k. slice_get (map f xs) (k - 1)) (length-map xs f)
     ∙ (slice_get-map f xs (length xs - 1) ∙ ap (option_map f) (sym none)))
 
--- the deliveries up to one month more
+-- the deliveries of some months and one more
 pub deliveries_more : {X : Type 0} (f : X → MonthRecord) (xs : List X) (i : ℕ) (x : X) (delivered : List ℕ) →
     i < length xs → x ≡ get_or xs i x →
     delivered ≡ (f x).delivered →

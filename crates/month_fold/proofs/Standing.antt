@@ -1,4 +1,4 @@
--- A run stands for one month more.
+-- A run stands for one more month.
 use Rattle.std.proofs.Common.{◌≡◌, ℕ, ◌+◌, ◌<◌, sym, subst, arith, List, [], ◌∷◌, ◌++◌, map, inl, inr}
 use Rattle.std.proofs.Common.{length-append}
 use Rattle.std.proofs.lemmas.List.{map-append}

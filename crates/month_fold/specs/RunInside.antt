@@ -22,6 +22,6 @@ pub record IsFitted (e : EngineInside) : Type 0 where
 abbrev pub view_of : Inside → RunView
 view_of i = run_with i.engine i.series.now i.done
 
--- some months stand after the run
+-- the run went through some months
 abbrev pub IsValidState : Inside → Type 0
 IsValidState i = HasMonths (view_of i)

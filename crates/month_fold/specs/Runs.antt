@@ -29,7 +29,7 @@ pub record EngineView : Type 0 where
   pub lags : List InTransit
   pub used : List ℕ
 
--- the run that it makes of a series, after a given number of months
+-- the run that it makes of a series, after `done` months
 abbrev pub run_with : EngineView → Inflows → ℕ → RunView
 run_with engine series done = record {
   basin = engine.basin;

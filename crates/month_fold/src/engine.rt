@@ -30,7 +30,7 @@ use water_model::types::{Basin, Inflows, MonthRecord};
 /// is on its way, what was used of volumes and the record of the last month. One engine serves one run after another.
 ///
 /// All memory is taken where an engine is opened. The network, the roll and the area tables are built there once: no
-/// run that it serves, and nobody who writes of one, builds them anew.
+/// run that it serves, and no writer of such a run's results, builds them again.
 #[derive(Drop)]
 pub struct Engine<'b> {
     basin: &'b Basin,
@@ -117,15 +117,15 @@ impl<'b> Engine<'b> {
     }
 
     /// The record of the month that was solved last. Where none was since the engine was started after some months, it
-    /// says nothing but the storage with which the next one opens, as its closing.
+    /// says only with which storage the next month opens, as its closing.
     pub fn month(&self) -> &MonthRecord
         ensures { result.now ≡ self.now.last }
     {
         &self.month
     }
 
-    /// Solves the month after so many of a series, whose record `month` then gives. Each search that finds a walk ticks
-    /// `searches` once.
+    /// Solves the month after the first `done` of a series; `month` then gives its record. Each search that finds a
+    /// walk ticks `searches` once.
     pub fn step<L: Ledger>(&mut self, series: &Inflows, done: u32, searches: &mut Steps<L>)
         requires left { done < self.old.basin.months }
         requires months { HasMonths (run_with self.old series.now done) }

@@ -37,7 +37,7 @@ fn write_returns(basin: &Basin, lags: &Lags, used: &[u64], month: &mut MonthReco
 }
 
 /// Goes on to the month after the one with this index and record: `used` is what each right with a volume used of it
-/// before the one month, and then before the other.
+/// before this month, and then before the month after it.
 pub fn use_volumes(basin: &Basin, index: u32, month: &MonthRecord, used: &mut Rows<u64>)
     requires basin { IsValidBasin basin.now }
     requires index { index < basin.now.months }

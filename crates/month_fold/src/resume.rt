@@ -30,7 +30,7 @@ pub fn store_after(basin: &Basin, months: &[Box<MonthRecord>], month: &mut Month
     }
 }
 
-/// Brings what is in transit back to the river to where it is after these months, whatever it was. The cost is linear
+/// Makes what is in transit back to the river what it is after these months, whatever it was before. The cost is linear
 /// in the return rows times the months.
 pub fn replay_returns(basin: &Basin, months: &[Box<MonthRecord>], lags: &mut Lags)
     requires basin { IsValidBasin basin.now }

@@ -132,22 +132,22 @@ impl<'b, 's> Run<'b, 's> {
         self.engine.roll()
     }
 
-    /// How many months are left: at first all of the run.
+    /// How many months are left: at first all months of the run.
     pub fn left(&self) -> u32
         ensures { result ≡ self.now.basin.months - self.now.done }
     {
         self.engine.basin().months - self.done
     }
 
-    /// The record of the month that was solved last. Before the first step it says nothing but the storage with which
-    /// the next month opens, as its closing.
+    /// The record of the month that was solved last. Before the first step it says only with which storage the next
+    /// month opens, as its closing.
     pub fn month(&self) -> &MonthRecord
         ensures { result.now ≡ self.now.last }
     {
         self.engine.month()
     }
 
-    /// Solves the next month, whose record `month` then gives: it follows the records before it, and the set of each
+    /// Solves the next month; `month` then gives its record: it follows the records before it, and the set of each
     /// short right is its reach. Each search that finds a walk ticks `searches` once. It refuses nothing and takes no
     /// memory: once a run is open, each of its months has its record.
     pub fn step<L: Ledger>(&mut self, searches: &mut Steps<L>)

@@ -1,4 +1,4 @@
--- Sums that grow by one place.
+-- Sums that grow by one index.
 use Rattle.std.proofs.Common.{◌≡◌, ℕ, zero, suc, ◌+◌, ◌<◌, ◌≤◌, Bool, false, refl, sym, ◌∙◌, ap, subst}
 use Rattle.std.proofs.Common.{arith, List, [], ◌∷◌, length}
 use Rattle.std.specs.Prelude.{◌==◌, slice_index, slice_get, slice_set, Option, Some, None, if◌then◌else◌, unwrap_or}
@@ -20,7 +20,7 @@ use Rattle.water_model.proofs.Balance.{entry_holds}
 same_numbers : (k j x : ℕ) → when (suc k == suc j) x ≡ when (k == j) x
 same_numbers k j x = grind (arith, nat_tests)
 
--- a number added at a place of a list
+-- a number added at an index of a list
 pub added : (xs : List ℕ) (position x k : ℕ) → position < length xs →
     slice_index (slice_set xs position (slice_index xs position + x)) k ≡ slice_index xs k + when (position == k) x
 added [] position x k l = absurd (omega arith)
@@ -36,7 +36,7 @@ added (y ∷ xs) (suc position) x zero l = other y position x
 added (y ∷ xs) (suc position) x (suc k) l =
     added xs position x k (omega arith) ∙ ap (λ d. slice_index xs k + d) (sym (same_numbers position k x))
 
--- a sum over one place more, where the place's key is known
+-- a sum over one index more, where the key of that index is known
 pub one_more : (n k : ℕ) (key : ℕ → Option ℕ) (f : ℕ → ℕ) (at sum base : ℕ) → key n ≡ Some at →
     sum ≡ base + total_where n (λ v. is_at (key v) k) f →
     sum + when (at == k) (f n) ≡ base + total_where (n + 1) (λ v. is_at (key v) k) f
@@ -76,7 +76,7 @@ node_within b v entry valid e =
 pub nothing_yet : (p : ℕ → Bool) (f : ℕ → ℕ) (x : ℕ) → x ≡ x + total_where 0 p f
 nothing_yet p f x = omega (arith, total_where_start p f)
 
--- what is told of a right by its entry's kind
+-- whether a right is a zone of a reservoir, by its entry's kind
 pub zone_told : (b : Basin) (r v : ℕ) (right : Right) → slice_get b.rights r ≡ Some right →
     is_zone_of b r v ≡ is_zone_of_kind right.kind v
 zone_told b r v right e = ap (λ o. unwrap_or (option_map (λ x. is_zone_of_kind x.kind v) o) false) e

@@ -39,7 +39,7 @@ inflow_most b series n i valid fits l =
     by_kind (Monthly amounts) is = entry_most amounts (10 ^ 9) (in_year b i) is.each
     by_kind Gauged is = entry_most series.amount (10 ^ 9) _ fits.small_amounts
 
--- what stands at one place is not more than itself, and all of it where the place is one of the n
+-- the sum of what stands at one index is at most that, and is that where the index is one of the n
 at_one : (n : ℕ) (key : Option ℕ) (x : ℕ) → total n (λ v. if is_at key v then x else 0) ≤ x
 at_one n None x = omega (arith, total_zero n (λ v. 0) (λ k l. refl))
 at_one n (Some k) x = omega (arith, total_at n k x, at_most (nat_lt k n))
@@ -54,14 +54,14 @@ at_one_inside n k x l = total_at n k x ∙ inside k n x l
     inside : (k n x : ℕ) → k < n → (if nat_lt k n then x else 0) ≡ x
     inside k n x l = grind (arith, nat_tests)
 
--- what is spread over places by a key sums to no more than the whole
+-- what is spread over indices by a key sums to no more than the whole
 pub spread : (n m : ℕ) (key : ℕ → Option ℕ) (f : ℕ → ℕ) →
     total n (λ v. total m (λ e. if is_at (key e) v then f e else 0)) ≤ total m f
 spread n m key f =
     rw (total_exchange n m (λ v e. if is_at (key e) v then f e else 0))
     (total_le m (λ e. total n (λ v. if is_at (key e) v then f e else 0)) f (λ e l. at_one n (key e) (f e)))
 
--- and to the whole where each key is one of the places
+-- and to the whole where each key is one of the indices
 pub spread_whole : (n m : ℕ) (key : ℕ → ℕ) (f : ℕ → ℕ) → ((e : ℕ) → e < m → key e < n) →
     total n (λ v. total m (λ e. if key e == v then f e else 0)) ≡ total m f
 spread_whole n m key f h =
@@ -188,7 +188,7 @@ returns_small b deliveries i valid small =
     by_part None = omega arith
     by_part (Some row) = one_month row deliveries i (small row.right)
 
--- reservoirs at nodes of their own hold as much as one each
+-- a sum over indices of which at most one passes is at most the bound of each amount
 apart_most : (m x : ℕ) (p : ℕ → Bool) (f : ℕ → ℕ) → ((i j : ℕ) → i < j → j < m → p i ≡ true → p j ≡ true → ⊥) →
     ((k : ℕ) → k < m → f k ≤ x) →
     total_where m p f ≤ x

@@ -184,7 +184,7 @@ nothing_used b used count none = record {
     by None used e = refl
     by (Some volume) used e = e
 
--- in a given number of months no more than a given number of deliveries are used
+-- in i months no more is used than i times the most that a month delivers
 pub used_most : (b : Basin) (deliveries : List (List ℕ)) (r i most : ℕ) →
     ((j : ℕ) → delivered_in deliveries r j ≤ most) → used_of b deliveries r i ≤ i * most
 used_most b deliveries r i most small =

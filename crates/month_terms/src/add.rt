@@ -1,9 +1,9 @@
-//! An amount added at a place of a list.
+//! An amount added at an index of a list.
 ghost use Rattle.std.specs.Prelude.{ℕ, ◌≡◌, ◌+◌, ◌<◌, ◌^◌, length, slice_index};
 ghost use Rattle.finite_sums.specs.Sums.{when};
 ghost use Rattle.std.specs.Prelude.{◌==◌};
 
-/// Adds an amount at a place.
+/// Adds an amount at an index.
 #[tactic(auto, using(crate::proofs::Adds::added))]
 pub fn add_at(list: &mut [u64], position: usize, amount: u64)
     requires position { position < length list.old }

@@ -26,7 +26,7 @@ pub fn tables_of(alloc: Global, basin: &Basin) -> Result<Vec<AreaTable>, AllocEr
     Ok(tables)
 }
 
-/// What evaporates from a reservoir at a storage, in the month at this place of a list of twelve.
+/// What evaporates from a reservoir at a storage, in the month with this index in a list of twelve.
 fn evaporation_of(
     basin: &Basin,
     tables: &[AreaTable],

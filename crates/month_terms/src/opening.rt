@@ -30,7 +30,7 @@ pub fn openings(alloc: Global, basin: &Basin) -> Result<Rows<u64>, AllocError>
     Ok(stored)
 }
 
-/// Three lists of a given number of zeros.
+/// Three lists of `count` zeros each.
 fn three_zeros(alloc: Global, count: usize) -> Result<(Rows<u64>, Rows<u64>, Rows<u64>), AllocError>
     ensures first { IfOk result (λ lists. lists.0 ≡ replicate count 0) }
     ensures second { IfOk result (λ lists. lists.1 ≡ replicate count 0) }

@@ -25,9 +25,10 @@ fn add_deliveries(basin: &Basin, delivered: &[u64], used: &mut [u64])
     }
 }
 
-/// Goes on to the month after the one with this index, which delivered this: `used` has, for each right with a volume,
-/// what it used in the water year of the month before, and then of the month after it, in units of 1,000 cubic metres.
-/// With a water year all volumes are given back. For other rights it stays 0.
+/// Goes on to the month after the one with this index, in which this was delivered. For each right with a volume,
+/// `used` has what it used in the month's water year before the month, in units of 1,000 cubic metres: first for the
+/// month with this index, and then for the month after it. A new water year gives all volumes back. For other rights it
+/// stays 0.
 pub fn use_month(basin: &Basin, index: u32, delivered: &[u64], used: &mut [u64])
     requires basin { IsValidBasin basin.now }
     requires index { index < basin.now.months }

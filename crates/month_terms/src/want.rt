@@ -7,7 +7,7 @@ ghost use Rattle.water_model.specs.Valid.{IsValidBasin, IsSeriesOf};
 use water_model::calls::want_of;
 use water_model::types::{Basin, Inflows, Plan, RightKind};
 
-/// Writes the want of each right in the month with this index. `used` is what each right used of its volume before in
+/// Writes the want of each right in the month with this index. `used` is what each right used of its volume earlier in
 /// the water year.
 pub fn read_wants(basin: &Basin, series: &Inflows, index: u32, used: &[u64], want: &mut [u64])
     requires basin { IsValidBasin basin.now }

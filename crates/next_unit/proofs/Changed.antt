@@ -31,7 +31,7 @@ pub record HelpsBy (b : Basin) (m : MonthRecord) (carry : ℕ → ℕ) (supply :
   pub serves : ServesSeniors b m.delivered m.want plan r
   pub more : delivery b m.want plan r ≡ slice_index m.delivered r + 1
 
--- a list with one more, and one less, at a place
+-- a list with one more, and one less, at an index
 pub one_more_at : (xs : List ℕ) (n k : ℕ) → n < length xs →
     slice_index (one_more xs n) k ≡ slice_index xs k + when (n == k) 1
 one_more_at xs n k l = elim (eqb_tells n k) [
@@ -178,7 +178,7 @@ taken_there b m r carry supply take out own node to rank flow given l short no_l
         here
         (taken_change b take q.take r to n l at other)
 
--- what an instream right is delivered where its link carries one unit more
+-- what an instream right is delivered where its link carries one more unit
 own_more : (b : Basin) (m : MonthRecord) (r e : ℕ) (q : Plan) → HasPlan b m → r < length b.rights → IsShort m r →
     instream_link b r ≡ Some e → slice_index q.flow e ≡ slice_index m.plan.flow e + 1 →
     delivery b m.want q r ≡ slice_index m.delivered r + 1

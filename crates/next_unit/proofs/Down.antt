@@ -18,7 +18,8 @@ use Rattle.next_unit.proofs.Pushes.{changed, rises}
 use Rattle.next_unit.proofs.Changed.{one_more_at}
 use Rattle.next_unit.proofs.Helps.{HasNumbers, numbers_of}
 
--- the month's flow, and a unit more from a node to another; links that leave nodes from that one on have their old flow
+-- the month's flow, and one more unit from a node to another; links that leave nodes from that one on have their old
+-- flow
 record IsSent (b : Basin) (m : MonthRecord) (number : ℕ → ℕ) (from to : ℕ) (flow : List ℕ) : Type 0 where
   size : length flow ≡ length b.links
   carries : (e : ℕ) → e < length b.links → slice_index flow e ≤ carry_of b m.month e

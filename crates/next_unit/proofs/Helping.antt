@@ -32,7 +32,7 @@ helped_is_short b m link r l helps =
       delivery_le_want b (raised_carry b m.month link) m.supply m.want helps.plan r l helps.is_plan,
     )
 
--- one place more, whose right would not be helped
+-- one more index, whose right would not be helped
 pub not_helped : (b : Basin) (m : MonthRecord) (position link : ℕ) →
     (CarryHelpsRight b m link (right_at b position) → ⊥) → HelpsNoneTo b m position link →
     HelpsNoneTo b m (position + 1) link
@@ -58,14 +58,14 @@ pub one_before : (b : Basin) (m : MonthRecord) (position link : ℕ) (before : O
 one_before b m position link None h now = cc
 one_before b m position link (Some r) h now = now
 
--- a right was noted, or the one at the place would not be helped
+-- a right was noted, or the one at the index would not be helped
 pub still_helped : (b : Basin) (m : MonthRecord) (position link : ℕ) (before : Option ℕ) →
     (HelpsNoneTo b m position link → CarryHelpsRight b m link (right_at b position) → ⊥) →
     IsHelpedTo b m position link before → IsHelpedTo b m (position + 1) link before
 still_helped b m position link None here now = not_helped b m position link (here now) now
 still_helped b m position link (Some r) here now = now
 
--- the right at the place is the first that would be helped
+-- the right at the index is the first that would be helped
 pub now_helped : (b : Basin) (m : MonthRecord) (position link right : ℕ) →
     IsSeniorityOrder b.rights (seniors_first b) → position < length b.rights → right_at b position ≡ right →
     CarryHelpsRight b m link right → HelpsNoneTo b m position link → IsFirstHelped b m link right
@@ -82,13 +82,13 @@ now_helped b m position link right o within at helps now = record {
     in_range : right < length b.rights
     in_range = subst (λ (q : ℕ). q < length b.rights) at (o.below position within)
 
--- what is so of one place more is so without it
+-- what is so of one more index is so without it
 earlier : (b : Basin) (m : MonthRecord) (position link : ℕ) (answer : Option ℕ) →
     IsHelpedTo b m (position + 1) link answer → IsHelpedTo b m position link answer
 earlier b m position link None now = record { before = λ i l. now.before i (omega arith); instream = now.instream }
 earlier b m position link (Some r) now = now
 
--- what is decided is so at each place
+-- what is decided is so at each index
 decided_to : (b : Basin) (m : MonthRecord) (position link : ℕ) (answer : Option ℕ) →
     ((i : ℕ) → i < position → right_at b i < length b.rights) → IsHelped b m link answer →
     IsHelpedTo b m position link answer
@@ -199,7 +199,7 @@ nobody_more b m position helped met l now = record {
       (λ none helps. met (helped_is_short b m e (right_at b position) l helps)) (now.each e k);
 }
 
--- a diversion or zone is helped by no link of which no right was told at first
+-- a diversion or zone is helped by no link for which no right was known at first
 pub none_instream : (b : Basin) (m : MonthRecord) (position : ℕ) (helped : List (Option ℕ)) →
     instream_link b (right_at b position) ≡ None → right_at b position < length b.rights →
     AreHelpedTo b m position helped →
@@ -233,7 +233,7 @@ short_has_reach b m r reaches l short =
     subst (λ (cut : List Bool). IsReach b m.month m.supply m.delivered r cut)
     (sym (ap (λ o. unwrap_or o []) set.1)) set.2
 
--- the right at a place of the order
+-- the right at an index of the order
 pub record IsPlaced (b : Basin) (order : List ℕ) (position : ℕ) : Type 0 where
   pub within : position < length order
   pub is : get_or order position 0 ≡ right_at b position

@@ -104,7 +104,7 @@ module _ (b : Basin) (month : Month) (supply want : List ℕ) (q h : Plan) (up :
     | inr first ↦ absurd (clash first.0 first.1)
   ]
 
--- no plan with one more unit of supply at a node gives a right more that could not use it there
+-- no plan with one more unit of supply at a node gives more to a right that could not use it there
 no_more_unused : (b : Basin) (m : MonthRecord) (node s : ℕ) (p : Plan) → HasPlan b m → HaveTightCuts b m →
     s < length b.rights → (CouldUseAt b m node s → ⊥) → IsPlan b m.month (one_more m.supply node) m.want p →
     ((t : ℕ) → t < length b.rights → is_senior b t s ≡ true → slice_index m.delivered t ≤ delivery b m.want p t) →
@@ -127,7 +127,7 @@ no_more_unused b m node s p given cuts l unused plan serves =
         unused (record { in_range = l; short = short; core = core.0; is_core = core.1; here = here })))
         plan (record { each = serves })
 
--- and to one that could, at most one more
+-- and to one that could, at most one more unit
 one_more_most : (b : Basin) (m : MonthRecord) (node r : ℕ) (p : Plan) → HasPlan b m → HaveTightCuts b m →
     CouldUseAt b m node r → IsPlan b m.month (one_more m.supply node) m.want p →
     ((t : ℕ) → t < length b.rights → is_senior b t r ≡ true → slice_index m.delivered t ≤ delivery b m.want p t) →

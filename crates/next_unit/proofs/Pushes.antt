@@ -32,8 +32,8 @@ on_link b r e h = of_link (instream_link b r) h
 pub off_link : (b : Basin) (r e k : ℕ) → is_on_link b r e ≡ false → instream_link b r ≡ Some k → k ≢ e
 off_link b r e k off is same = both_ways (is_on_link b r e) off (ap (λ o. is_at o e) is ∙ eq-eqb k e same)
 
--- a month's flow from which the unit was moved from a node to another: the right's own link carries what is told, and
--- each link at most what is told
+-- a month's flow from which the unit was moved from a node to another: the right's own link carries what is given, and
+-- each link at most what is given
 pub record IsMoved (b : Basin) (m : MonthRecord) (r : ℕ) (carry : ℕ → ℕ) (own_flow from to : ℕ) (rank : ℕ → ℕ)
     (flow : List ℕ) : Type 0 where
   pub size : length flow ≡ length b.links

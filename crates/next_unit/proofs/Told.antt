@@ -170,7 +170,7 @@ module _ (b : Basin) (m : MonthRecord) (link : ℕ) (given : HasPlan b m) (reach
   pub free_link : IsFreeAt b m (head_of b link) → IsHelped b m link None
   free_link free s l helps = free s (leads s l helps).uses
 
-  -- and so no place has one that is
+  -- and so no right at the first indices is
   pub free_head : IsFreeAt b m (head_of b link) → HelpsNoneTo b m 0 link
   free_head free = record {
     before = λ i l. absurd (omega arith);
@@ -214,7 +214,7 @@ module _ (b : Basin) (m : MonthRecord) (link : ℕ) (given : HasPlan b m) (reach
                 (short_has_reach b m s reaches l to.uses.short) (tail_of b link) within)
           ]
 
--- a right that was told decides it
+-- a right that is known decides it
 pub told_some : (b : Basin) (m : MonthRecord) (link : ℕ) (told : Option ℕ) → is_some told ≡ true →
     IsHelpedTo b m 0 link told → IsHelped b m link told
 told_some b m link None h now = cc
@@ -226,7 +226,7 @@ pub told_none : (b : Basin) (m : MonthRecord) (link : ℕ) (told : Option ℕ) �
 told_none b m link None h none = none
 told_none b m link (Some r) h none = cc
 
--- before the first link is told
+-- before the first link
 pub none_told_of : (b : Basin) (m : MonthRecord) (helped : List (Option ℕ)) (undecided : List ℕ) →
     length helped ≡ length b.links → length undecided ≡ length b.links → AreToldOf b m helped undecided 0 0
 none_told_of b m helped undecided one other = record {
@@ -238,7 +238,7 @@ none_told_of b m helped undecided one other = record {
   decided = λ e l. absurd (omega arith);
 }
 
--- one link more
+-- one more link
 module _ (b : Basin) (m : MonthRecord) (helped : List (Option ℕ)) (undecided : List ℕ) (count link : ℕ)
     (answer : Option ℕ) (l : link < length b.links) (now : AreToldOf b m helped undecided count link) where
   at : (e : ℕ) → e ≡ link → slice_index_or (slice_set helped link answer) e None ≡ answer
@@ -315,7 +315,7 @@ pub told_as : (b : Basin) (m : MonthRecord) (helped : List (Option ℕ)) (undeci
     AreToldOf b m helped list number links
 told_as b m helped undecided list count number links same equal now = rw (same, equal) now
 
--- all links are told
+-- all links are decided
 pub all_told_of : (b : Basin) (m : MonthRecord) (helped : List (Option ℕ)) (undecided : List ℕ) (count links : ℕ) →
     length b.links ≤ links → AreToldOf b m helped undecided count links → AreHelpedTo b m 0 helped
 all_told_of b m helped undecided count links all now = record {

@@ -1,4 +1,4 @@
--- The least tight cut of a right, and what one unit more of supply or of carry is.
+-- The least tight cut of a right, and what one more unit of supply or of carry is.
 use Rattle.std.specs.Prelude.{◌≡◌, ℕ, ◌+◌, ◌<◌, ◌==◌, Bool, List, length, slice_index, slice_set, Some, IsTrue}
 use Rattle.finite_sums.specs.Sums.{when}
 use Rattle.water_model.specs.Lookups.{has}

@@ -26,7 +26,7 @@ pub record AreHelped (b : Basin) (m : MonthRecord) (helped : List (Option ℕ)) 
   pub count : length helped ≡ length b.links
   pub each : (e : ℕ) → e < length b.links → IsHelped b m e (slice_index_or helped e None)
 
--- a link whose carry would help no diversion or zone, and no right at the first places of the order
+-- a link whose carry would help no diversion or zone, and no right at the first indices of the order
 pub record HelpsNoneTo (b : Basin) (m : MonthRecord) (indices link : ℕ) : Type 0 where
   pub before : (i : ℕ) → i < indices → CarryHelpsRight b m link (right_at b i) → ⊥
   pub instream : (s : ℕ) → s < length b.rights → instream_link b s ≡ None → CarryHelpsRight b m link s → ⊥
@@ -40,7 +40,7 @@ pub record AreHelpedTo (b : Basin) (m : MonthRecord) (indices : ℕ) (helped : L
   pub count : length helped ≡ length b.links
   pub each : (e : ℕ) → e < length b.links → IsHelpedTo b m indices e (slice_index_or helped e None)
 
--- the first places of a list have links
+-- the first entries of a list are links
 abbrev pub AreLinks : Basin → List ℕ → ℕ → Type 0
 AreLinks b links count = (count ≤ length links) × ((j : ℕ) → j < count → slice_index links j < length b.links)
 
@@ -64,7 +64,7 @@ NoneEnters b cut links count = (j : ℕ) → j < count → enters b cut (slice_i
 abbrev pub HelpNot : Basin → MonthRecord → List ℕ → ℕ → ℕ → Type 0
 HelpNot b m links count right = (j : ℕ) → j < count → CarryHelpsRight b m (slice_index links j) right → ⊥
 
--- the first links are told before any search for a core, or are listed
+-- the first links are decided before any search for a core, or are listed
 pub record AreToldOf (b : Basin) (m : MonthRecord) (helped : List (Option ℕ)) (undecided : List ℕ) (count links : ℕ) :
     Type 0
   where
@@ -76,13 +76,13 @@ pub record AreToldOf (b : Basin) (m : MonthRecord) (helped : List (Option ℕ)) 
     pub decided : (e : ℕ) → e < links →
         IsHelped b m e (slice_index_or helped e None) ⊎ IsListed undecided count e
 
--- the first of the undecided links are told of one right more than the others
+-- for the first of the undecided links one more right was gone over than for the others
 pub record AreBeingHelped (b : Basin) (m : MonthRecord) (position : ℕ) (helped : List (Option ℕ)) (undecided : List ℕ)
     (done : ℕ) : Type 0 where
   pub each : AreHelpedTo b m position helped
   pub told : (j : ℕ) → j < done →
       IsHelpedTo b m (position + 1) (slice_index undecided j) (slice_index_or helped (slice_index undecided j) None)
 
--- for each short right there is room for one unit more down the rivers
+-- for each short right there is room for one more unit down the rivers
 pub record HasRoomForAll (b : Basin) (m : MonthRecord) : Type 0 where
   pub each : (r : ℕ) → r < length b.rights → IsShort m r → HasRoomDown b m r

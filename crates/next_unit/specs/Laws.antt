@@ -37,7 +37,7 @@ NothingOutsideTightCutsHelps =
     ServesSeniors b delivered other_want q right → delivery b other_want q right ≤ slice_index delivered right
 
 -- a plan of the month, but for its supply, that delivers at least as much to each senior of a right, and to the right
--- one unit more
+-- one more unit
 pub record HelpsRight (b : Basin) (m : MonthRecord) (supply : List ℕ) (right : ℕ) : Type 0 where
   pub plan : Plan
   pub is_plan : IsPlan b m.month supply m.want plan
@@ -69,7 +69,7 @@ NoCarryPastTightCutsHelps =
     ServesSeniors b delivered other_want q right → delivery b other_want q right ≤ slice_index delivered right
 
 -- with one more unit of carry on a link, a plan that delivers at least as much to each senior of a right, and to the
--- right one unit more
+-- right one more unit
 pub record CarryHelpsRight (b : Basin) (m : MonthRecord) (link right : ℕ) : Type 0 where
   pub plan : Plan
   pub is_plan : IsFeasible b (raised_carry b m.month link) m.supply m.want plan
@@ -130,8 +130,8 @@ NextUnitIsDecided =
     (b : Basin) (m : MonthRecord) (node : ℕ) → HasPlan b m →
     IsFreeAt b m node ⊎ ((right : ℕ) × IsNextAt b m node right)
 
--- Whose the next unit is. Where the supply of a month is one unit more at a node, a greatest plan delivers one unit
--- more to the most senior short right whose core holds the node, and to each senior of that right what it got.
+-- Whose the next unit is. Where the supply of a month is one more unit at a node, a greatest plan delivers one more
+-- unit to the most senior short right whose core holds the node, and to each senior of that right what it got.
 abbrev pub NextUnitGoesToOne : Type 0
 NextUnitGoesToOne =
     (b : Basin) (series : Inflows) (records : List MonthRecord) (i : ℕ) (m : MonthRecord) (node right : ℕ)
@@ -155,8 +155,8 @@ FirstChangedIsNext =
     slice_get records i ≡ Some m → node < length b.nodes →
     IsGreatest b m.month (one_more m.supply node) m.want q → IsNextAt b m node right ↔ IsFirstChanged b m q right
 
--- And in two histories: where a month has one unit more at a node in the second, and all want the same, the record has
--- one unit more for that right, and the same for its seniors.
+-- And in two histories: where a month has one more unit at a node in the second, and all want the same, the record has
+-- one more unit for that right, and the same for its seniors.
 abbrev pub NextUnitShowsInHistories : Type 0
 NextUnitShowsInHistories =
     (b : Basin) (series other : Inflows) (records others : List MonthRecord) (i : ℕ) (m n : MonthRecord)

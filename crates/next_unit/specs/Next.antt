@@ -12,7 +12,7 @@ abbrev pub SeniorsGetSame : Basin → MonthRecord → Plan → ℕ → Type 0
 SeniorsGetSame b m q right =
     (s : ℕ) → s < length b.rights → IsTrue (is_senior b s right) → delivery b m.want q s ≡ slice_index m.delivered s
 
--- and to the right one unit more
+-- and to the right one more unit
 pub record GivesOneMore (b : Basin) (m : MonthRecord) (q : Plan) (right : ℕ) : Type 0 where
   pub seniors : SeniorsGetSame b m q right
   pub more : delivery b m.want q right ≡ slice_index m.delivered right + 1

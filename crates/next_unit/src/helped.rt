@@ -24,8 +24,8 @@ use plan_residual::steps::can_rise;
 use rights_roll::roll::Roll;
 use water_model::types::{Basin, MonthRecord, RightKind};
 
-/// The right to which one more unit at a link's head would go, if its reach does not hold the link's tail. Else no
-/// diversion or zone would be helped by carry on the link.
+/// The right to which one more unit at a link's head would go, if its reach does not hold the link's tail. Else carry
+/// on the link would help no diversion or zone.
 fn told_by_right(basin: &Basin, month: &MonthRecord, right: u32, link: u32) -> Option<u32>
     requires plan { HasPlan basin.now month.now }
     requires reaches { HasReaches basin.now month.now }
@@ -53,8 +53,8 @@ fn at_head(basin: &Basin, next: &[Option<u32>], link: u32) -> Option<u32>
     next[ends.to as usize]
 }
 
-/// The most senior right that one more unit of carry on a link would help, as far as it is told by the right to which
-/// one more unit at its head would go. Where no right is told, only an instream right could be helped.
+/// The most senior right that one more unit of carry on a link would help, as far as the right to which one more unit
+/// at its head would go says it. Where it says none, only an instream right could be helped.
 fn told_by_next(basin: &Basin, month: &MonthRecord, next: &[Option<u32>], link: u32) -> Option<u32>
     requires plan { HasPlan basin.now month.now }
     requires reaches { HasReaches basin.now month.now }
@@ -69,7 +69,7 @@ fn told_by_next(basin: &Basin, month: &MonthRecord, next: &[Option<u32>], link: 
     }
 }
 
-/// Whether it isn't decided yet whom one more unit of carry on a link would help: no right was told, but the link is
+/// Whether it isn't decided yet whom one more unit of carry on a link would help: no right is known, but the link is
 /// full, and one more unit at its head would be a right's.
 fn is_undecided(
     basin: &Basin,
@@ -95,7 +95,7 @@ fn is_undecided(
     }
 }
 
-/// Notes for each link what is told without a search for a core, and lists the links of which that doesn't decide it.
+/// Notes for each link what is known without a search for a core, and lists the links of which that doesn't decide it.
 /// Answers how many those are.
 fn begin(
     basin: &Basin,
@@ -147,7 +147,7 @@ fn any_enters(
     false
 }
 
-/// The right before, or the one at this place of the order if one more unit of carry on the link would help it.
+/// The right before, or the one at this index of the order if one more unit of carry on the link would help it.
 fn helped_with(
     basin: &Basin,
     roll: &Roll,
@@ -198,8 +198,8 @@ fn could_be_helped(
     is_short(month, right) && any_enters(basin, month, right, undecided, count)
 }
 
-/// Notes for each undecided link the right at a place of the order, if no senior was noted and one more unit of carry on
-/// the link would help it.
+/// Notes for each undecided link the right at an index of the order, if no senior was noted and one more unit of carry
+/// on the link would help it.
 fn note_links(
     basin: &Basin,
     roll: &Roll,
@@ -230,7 +230,7 @@ fn note_links(
     }
 }
 
-/// Notes the right at a place of the order, if it is short, for the links whose carry would help it and no senior. Its
+/// Notes the right at an index of the order, if it is short, for the links whose carry would help it and no senior. Its
 /// core is searched for if an undecided link enters its reach.
 fn note_right(
     search: &mut ResidualSearch,
@@ -262,7 +262,7 @@ fn note_right(
     }
 }
 
-/// The right at a place of the order.
+/// The right at an index of the order.
 fn right_at(basin: &Basin, roll: &Roll, position: usize) -> u32
     requires basin { IsValidBasin basin.now }
     requires roll { IsRollOf basin.now.rights roll.now }
@@ -286,7 +286,7 @@ fn instream_link(basin: &Basin, right: u32) -> Option<u32>
     }
 }
 
-/// Notes the right at a place of the order, if it is an instream right that is short. No other could be helped by an
+/// Notes the right at an index of the order, if it is an instream right that is short. No other could be helped by an
 /// undecided link.
 fn note_index(
     search: &mut ResidualSearch,
@@ -321,9 +321,9 @@ fn note_index(
 
 /// For each link the most senior right that one more unit of carry on it would help, or none.
 ///
-/// The right to which one more unit at each node would go tells it of most links. The others are listed in `undecided`,
-/// which has a place for each link: they are full. Only an instream right could be helped by one, and its core is
-/// searched for if one enters its reach. No memory is taken.
+/// For most links the right to which one more unit at each node would go decides it. The others are listed in
+/// `undecided`, which has room for each link: they are full. Only an instream right could be helped by one, and its
+/// core is searched for if one enters its reach. No memory is taken.
 pub fn find_helped(
     search: &mut ResidualSearch,
     basin: &Basin,

@@ -1,4 +1,4 @@
--- A right more claims the nodes of its core.
+-- One more right claims the nodes of its core.
 use Rattle.std.proofs.Common.{◌≡◌, ◌≢◌, ℕ, zero, suc, ◌+◌, ◌<◌, ◌≤◌, Bool, true, false, refl, sym, ◌∙◌, ap, subst}
 use Rattle.std.proofs.Common.{arith, List, [], ◌∷◌, length, replicate, inl, inr}
 use Rattle.std.proofs.lemmas.Bool.{both_ways, cases_Bool, cases_eq, cases_lt, ltb-true}
@@ -93,7 +93,7 @@ claim_made b m r node seen one seen' queue q1 queue' size s1 size' at closed vis
     itself : (core : List Bool) (is : IsCore b m r core) → is.node ≡ node
     itself core is = let same : Some is.node ≡ Some node = sym is.at ∙ at in cc
 
--- one place more is marked
+-- one more index is marked
 pub marked_more : (queue : List ℕ) (from position right : ℕ) (next next' : List (Option ℕ)) → from ≤ position →
     slice_index queue position < length next → AreMarked queue from position right next next' →
     AreMarked queue from (position + 1) right next (slice_set next' (slice_index queue position) (Some right))

@@ -36,7 +36,7 @@ set_tight b m r sets l short =
     subst (λ (set : List Bool). IsTight b m.month m.supply m.delivered r set)
     (sym (ap (λ o. unwrap_or o []) s.1)) s.2
 
--- the right at a place of the order
+-- the right at an index of the order
 pub order_below : (b : Basin) (order : List ℕ) (position : ℕ) → IsValidBasin b → order ≡ seniors_first b →
     position < length order → get_or order position 0 < length b.rights
 order_below b order position valid is below =

@@ -190,7 +190,7 @@ forget_last seen queue size now = record {
       | inr other ↦ sym (apart v other) ∙ h
     ]
 
--- two queues with the same first places have the same nodes
+-- two queues with the same first entries have the same nodes
 pub same_queue : (one two : List Bool) (queue queue' : List ℕ) (size : ℕ) → IsQueue one queue size →
     IsQueue two queue' size → ((j : ℕ) → j < size → slice_index queue' j ≡ slice_index queue j) →
     (v : ℕ) → has one v ≡ true → has two v ≡ true

@@ -27,7 +27,7 @@ reaching_none b m r n seen queue is count room bounded = record {
       (ap (λ (xs : List Bool). has xs v) is ∙ nowhere n v) h);
 }
 
--- a node more that is in every such set
+-- one more node that is in every such set
 pub reaching_more : (b : Basin) (m : MonthRecord) (r : ℕ) (seen seen' : List Bool) (queue queue' : List ℕ)
     (size size' node : ℕ) → IsReaching b m r seen queue size → IsVisit seen seen' queue queue' size size' node →
     ((other : List Bool) → IsClosedApart b m r other → has other node ≡ true) → IsReaching b m r seen' queue' size'

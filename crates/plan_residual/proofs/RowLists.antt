@@ -1,4 +1,4 @@
--- A step more is put into the row of the node that it leaves.
+-- One more step is put into the row of the node that it leaves.
 use Rattle.std.proofs.Common.{◌≡◌, ◌∙◌, ℕ, ◌+◌, ◌<◌, ◌≢◌, List, length, sym, ap, subst, arith, get_or, inl, inr}
 use Rattle.std.proofs.lemmas.Bool.{cases_eq}
 use Rattle.std.proofs.lemmas.List.{get_or-set_same, get_or-set_other, length-set}
@@ -23,7 +23,7 @@ skip b v s (Some step) apart h = (
   ],
 )
 
--- a step more, in front of those that leave its node
+-- one more step, before those that leave its node
 pub rows_more : (b : Basin) (s v : ℕ) (first next : List (Option ℕ)) (x : Option ℕ) → s < step_count b →
     v < length b.nodes → start_of b s ≡ v → x ≡ get_or first v None → AreRowsFrom b first next (s + 1) →
     AreRowsFrom b (slice_set first v (Some s)) (slice_set next s x) s

@@ -54,7 +54,7 @@ pub followed_stays : (b : Basin) (m : MonthRecord) (r : ℕ) (d : Direction) (s 
     ((v : ℕ) → has seen v ≡ true → has seen' v ≡ true) → IsFollowed b m r d seen s → IsFollowed b m r d seen' s
 followed_stays b m r d s seen seen' grows h = λ room. grows (end_of b s) (h room)
 
--- the node at a place of the queue
+-- the node at an index of the queue
 pub index_below : (b : Basin) (seen : List Bool) (queue : List ℕ) (size j : ℕ) → IsQueue seen queue size →
     length seen ≡ length b.nodes → j < size → slice_index queue j < length b.nodes
 index_below b seen queue size j now count l =
@@ -64,8 +64,8 @@ abbrev pub is_before : Option ℕ → ℕ → Bool
 is_before None step = true
 is_before (Some next) step = nat_lt step next
 
--- since a search had come so far, steps from the first places of the queue were followed, and of those from the next
--- place the ones before a step
+-- since a search had come so far, steps from the first nodes of the queue were followed, and of those from the next
+-- node the ones before a step
 pub record IsSpreading (b : Basin) (m : MonthRecord) (r : ℕ) (d : Direction) (seen seen' : List Bool)
     (queue queue' : List ℕ) (size size' done : ℕ) (next : Option ℕ) : Type 0 where
   pub grown : HasGrown b m r d seen seen' queue queue' size size'
@@ -80,7 +80,7 @@ next_leaves : (b : Basin) (v from : ℕ) (o : Option ℕ) → IsNextFrom b v fro
 next_leaves b v from None h = tt
 next_leaves b v from (Some s) h = (h.1, h.2)
 
--- a step that leaves the node before the next one is before the place from which that was looked for
+-- a step that leaves the node before the next one is before the number from which that was looked for
 passed : (b : Basin) (v from : ℕ) (o : Option ℕ) → IsNextFrom b v from o → (s : ℕ) → s < step_count b →
     start_of b s ≡ v → is_before o s ≡ true → s < from
 passed b v from None h s l e before = elim (cases_lt s from) [ inl less ↦ less | inr more ↦ absurd (h s more l e) ]
@@ -101,7 +101,7 @@ spreading_start b m r d seen queue size done next now before first = record {
       omega arith);
 }
 
--- one step more
+-- one more step
 pub spreading_next : {b : Basin} {m : MonthRecord} {r : ℕ} {d : Direction} {seen one two : List Bool}
     {queue q1 q2 : List ℕ} {size s1 s2 done step : ℕ} (next : Option ℕ) → done < size →
     IsSpreading b m r d seen one queue q1 size s1 done (Some step) → HasGrown b m r d one two q1 q2 s1 s2 →

@@ -154,7 +154,7 @@ reaching_before b m position before seen queue size o now = record {
       (senior_at b position before o now.within now.less) closed) n h;
 }
 
--- a right between two places of the order was passed with the others
+-- a right between two indices of the order was passed with the others
 passed_at : (b : Basin) (m : MonthRecord) (position before : ℕ) (seen seen' : List Bool)
     (o : IsSeniorityOrder b.rights (seniors_first b)) →
     ArePassed b m (right_at b position) seen seen' (position + 1) (before + 1) → (s : ℕ) → s < length b.rights →
@@ -163,7 +163,7 @@ passed_at b m position before seen seen' o passed s l above below =
     subst (λ t. IsPassed b m (right_at b position) seen seen' t) (o.each s l)
     (passed (o.place s) (omega arith) (omega arith))
 
--- once the rights between two places of the order were passed, all juniors of the one were seen
+-- once the rights between two indices of the order were passed, all juniors of the one were seen
 pub juniors_passed : (b : Basin) (m : MonthRecord) (position before : ℕ) (seen seen' : List Bool) (queue : List ℕ)
     (size : ℕ) → IsSeniorityOrder b.rights (seniors_first b) → IsBetween b m position before seen queue size →
     ((v : ℕ) → has seen v ≡ true → has seen' v ≡ true) →
@@ -260,7 +260,7 @@ advanced b m position before seen seen' queue queue' size size' o now more passe
       | inr closed ↦ opened s below from closed room
     ]
 
--- one right more is passed
+-- one more right is passed
 pub passed_more : (b : Basin) (m : MonthRecord) (r : ℕ) (seen one two : List Bool) (from position s : ℕ) →
     ((v : ℕ) → has seen v ≡ true → has one v ≡ true) → ((v : ℕ) → has one v ≡ true → has two v ≡ true) →
     ArePassed b m r seen one from position → get_or (seniors_first b) position 0 ≡ s → IsPassed b m r one two s →

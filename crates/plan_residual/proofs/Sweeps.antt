@@ -11,14 +11,14 @@ use Rattle.rights_roll.specs.SeniorityOrder.{IsSeniorityOrder}
 use Rattle.plan_residual.specs.Reaches.{HasReach, IsFirstOther}
 use Rattle.plan_residual.specs.Sweep.{IsAt, IsFirstFrom, right_at}
 
--- what is known from a place on is known from a later one on
+-- what is known from an index on is known from a later one on
 pub at_lower : (b : Basin) (m : MonthRecord) (seen : List Bool) (queue : List ℕ) (position : ℕ) (before : Option ℕ)
     (size : ℕ) →
     IsAt b m seen queue (position + 1) before size → IsAt b m seen queue position before size
 at_lower b m seen queue position None size now = now
 at_lower b m seen queue position (Some before) size now = (let l = now.0 in omega arith, now.1, now.2, now.3, now.4)
 
--- one right more was judged
+-- one more right was judged
 pub judged_more : (b : Basin) (m : MonthRecord) (position right : ℕ) (other : Bool) (answer : Option ℕ) →
     position < length b.rights → right_at b position ≡ right →
     OnTrue other (IsShort m (right_at b position) × (HasReach b m (right_at b position) → ⊥)) →

@@ -54,7 +54,7 @@ pub record HasRanks (b : Basin) (m : MonthRecord) (r target : ℕ) : Type 0 wher
   pub ranked : AreRanked b m r target set
   pub closed : IsClosedBackward b m r set
 
--- a place that passes a test, or none
+-- an index that passes a test, or none
 pub find_below : (n : ℕ) (p : ℕ → Bool) → ((k : ℕ) → k < n → p k ≡ false) ⊎ ((k : ℕ) × (k < n) × (p k ≡ true))
 find_below zero p = inl (λ k l. absurd (omega arith))
 find_below (suc n) p = elim (find_below n p) [
@@ -113,7 +113,7 @@ has_more set v n h = elim (cases_eq n v) [
 has_had : (set : List Bool) (v n : ℕ) → n ≢ v → has (slice_set set v true) n ≡ true → has set n ≡ true
 has_had set v n ne h = sym (get_or-set_other set v n true false ne) ∙ h
 
--- a node more
+-- one more node
 with_node : (b : Basin) (m : MonthRecord) (r target : ℕ) (set : List Bool) (back : Bool) (e : ℕ) → e < length b.links →
     AreRanked b m r target set → start_by b back e < length b.nodes → room_by b m r back e ≡ true →
     has set (end_by b back e) ≡ true → has set (start_by b back e) ≡ false →

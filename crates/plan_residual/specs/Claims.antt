@@ -22,14 +22,14 @@ pub record IsClaim (b : Basin) (m : MonthRecord) (right : ℕ) (seen seen' : Lis
   pub only : (core : List Bool) → IsCore b m right core → (n : ℕ) → has seen' n ≡ true →
       (has seen n ≡ true) ⊎ (has core n ≡ true)
 
--- the nodes at some places of the queue were marked as a right's, and no others
+-- the nodes at some indices of the queue were marked as a right's, and no others
 pub record AreMarked (queue : List ℕ) (from to right : ℕ) (next next' : List (Option ℕ)) : Type 0 where
   pub count : length next' ≡ length next
   pub marked : (j : ℕ) → from ≤ j → j < to → slice_index_or next' (slice_index queue j) None ≡ Some right
   pub kept : (v : ℕ) → ((j : ℕ) → from ≤ j → j < to → slice_index queue j ≢ v) →
       slice_index_or next' v None ≡ slice_index_or next v None
 
--- The nodes in the queue are those at which a short right before a place of the order could use one more unit, each
+-- The nodes in the queue are those at which a short right before an index of the order could use one more unit, each
 -- marked as the most senior one's. As seen from the short rights after, no step with room leads to them.
 pub record AreClaimed (b : Basin) (m : MonthRecord) (position : ℕ) (seen : List Bool) (queue : List ℕ) (size : ℕ)
     (next : List (Option ℕ)) : Type 0 where

@@ -7,7 +7,7 @@ use Rattle.plan_residual.specs.Residual.{start_of}
 abbrev pub step_count : Basin → ℕ
 step_count b = 2 * length b.links
 
--- the answer is the first step from a place on that leaves the node, or none
+-- the answer is the first step from an index on that leaves the node, or none
 abbrev pub IsNextFrom : Basin → ℕ → ℕ → Option ℕ → Type 0
 IsNextFrom b node from None = (s : ℕ) → from ≤ s → s < step_count b → start_of b s ≢ node
 IsNextFrom b node from (Some step) =
@@ -15,7 +15,7 @@ IsNextFrom b node from (Some step) =
     × ((s : ℕ) → from ≤ s → s < step → start_of b s ≢ node)
 
 -- for each node the first step that leaves it, and for each step the next that leaves the same node, of the steps from
--- a place on
+-- an index on
 pub record AreRowsFrom (b : Basin) (first next : List (Option ℕ)) (from : ℕ) : Type 0 where
   pub nodes : length first ≡ length b.nodes
   pub steps : length next ≡ step_count b

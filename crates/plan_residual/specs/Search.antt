@@ -12,7 +12,7 @@ use Rattle.plan_residual.specs.declared.steps.Direction.TheVariants.{FromSources
 use Rattle.plan_residual.specs.Residual.{start_of, end_of, has_room, opposite}
 use Rattle.plan_residual.specs.Rows.{step_count}
 
--- the first places of the queue have the nodes that were seen, each once
+-- the first entries of the queue are the nodes that were seen, each once
 pub record IsQueue (seen : List Bool) (queue : List ℕ) (size : ℕ) : Type 0 where
   pub sized : length queue ≡ length seen
   pub bounded : length seen ≤ 2000
@@ -45,7 +45,7 @@ abbrev pub IsFollowed : Basin → MonthRecord → ℕ → Direction → List Boo
 IsFollowed b m right direction seen step =
     has_room b m right (asked direction step) ≡ true → has seen (end_of b step) ≡ true
 
--- the steps from the first places of the queue were followed
+-- the steps from the first nodes of the queue were followed
 abbrev pub AreFollowed : Basin → MonthRecord → ℕ → Direction → List Bool → List ℕ → ℕ → Type 0
 AreFollowed b m right direction seen queue done = (j s : ℕ) → j < done → s < step_count b →
     start_of b s ≡ slice_index queue j → IsFollowed b m right direction seen s

@@ -27,16 +27,16 @@ pub record IsPassed (b : Basin) (m : MonthRecord) (right : ℕ) (seen seen' : Li
   pub followed : (e : ℕ) → e < length b.links → instream_link b junior ≡ Some e → has seen (head_of b e) ≡ true →
       IsFollowed b m right FromSources seen' (2 * e + 1)
 
--- so are those at some places of the order
+-- so are those at some indices of the order
 abbrev pub ArePassed : Basin → MonthRecord → ℕ → List Bool → List Bool → ℕ → ℕ → Type 0
 ArePassed b m right seen seen' from to = (i : ℕ) → from ≤ i → i < to →
     IsPassed b m right seen seen' (slice_index_or (seniors_first b) i 0)
 
--- the right at a place of the order
+-- the right at an index of the order
 abbrev pub right_at : Basin → ℕ → ℕ
 right_at b position = slice_index_or (seniors_first b) position 0
 
--- two short rights at places of the order, and what is reached as seen from the junior one
+-- two short rights at indices of the order, and what is reached as seen from the junior one
 pub record IsBetween (b : Basin) (m : MonthRecord) (position before : ℕ) (seen : List Bool) (queue : List ℕ)
     (size : ℕ) :
     Type 0
@@ -49,7 +49,7 @@ pub record IsBetween (b : Basin) (m : MonthRecord) (position before : ℕ) (seen
     pub in_queue : IsQueue seen queue size
     pub reached : AreReachedApart b m (right_at b before) seen
 
--- how far a sweep has come, most junior first: at a short right at a place of the order or after it, with the nodes
+-- how far a sweep has come, most junior first: at a short right at an index of the order or after it, with the nodes
 -- that are reached as seen from it but for those only from the end of its own link, or at none yet
 abbrev pub IsAt : Basin → MonthRecord → List Bool → List ℕ → ℕ → Option ℕ → ℕ → Type 0
 IsAt b m seen queue from None size = ⊤
@@ -57,7 +57,7 @@ IsAt b m seen queue from (Some before) size =
     (from ≤ before) × (before < length b.rights) × IsShortRight b m (right_at b before)
     × IsQueue seen queue size × AreReachedApart b m (right_at b before) seen
 
--- of the rights from a place of the order on, the most senior short one whose set is not its reach, or none
+-- of the rights from an index of the order on, the most senior short one whose set is not its reach, or none
 abbrev pub IsFirstFrom : Basin → MonthRecord → ℕ → Option ℕ → Type 0
 IsFirstFrom b m from None =
     (i : ℕ) → from ≤ i → i < length b.rights → IsShort m (right_at b i) → HasReach b m (right_at b i)

@@ -44,7 +44,7 @@ fn claim(
     spread_on(basin, roll, month, right, way, rows, seen, queue, own, size)
 }
 
-/// Marks the nodes at some places of the queue as a right's.
+/// Marks the nodes at some indices of the queue as a right's.
 fn mark(queue: &[u32], from: usize, to: usize, right: u32, next: &mut [Option<u32>])
     requires from { from ≤ to }
     requires to { to ≤ length queue.now }
@@ -57,7 +57,7 @@ fn mark(queue: &[u32], from: usize, to: usize, right: u32, next: &mut [Option<u3
     }
 }
 
-/// Claims the nodes for the right at a place of the order, if it is short.
+/// Claims the nodes for the right at an index of the order, if it is short.
 fn serve(
     basin: &Basin,
     roll: &Roll,

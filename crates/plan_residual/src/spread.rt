@@ -41,7 +41,7 @@ pub fn follow(
     }
 }
 
-/// Follows the steps that leave the node at a place of the queue.
+/// Follows the steps that leave the node at an index of the queue.
 fn expand(
     basin: &Basin,
     roll: &Roll,
@@ -77,7 +77,7 @@ fn expand(
     more
 }
 
-/// Follows the steps that leave the nodes of the queue, from a place on, and so sees what is reached from them, and no
+/// Follows the steps that leave the nodes of the queue, from an index on, and so sees what is reached from them, and no
 /// other node.
 pub fn spread_on(
     basin: &Basin,

@@ -115,7 +115,7 @@ fn pass(
     fall_on_own(basin, roll, month, right, junior, seen, queue, more)
 }
 
-/// Passes the rights at some places of the order.
+/// Passes the rights at some indices of the order.
 fn pass_all(
     basin: &Basin,
     roll: &Roll,
@@ -154,7 +154,7 @@ fn pass_all(
     more
 }
 
-/// The right at a place of the order.
+/// The right at an index of the order.
 pub fn right_at(basin: &Basin, roll: &Roll, position: usize) -> u32
     requires basin { IsValidBasin basin.now }
     requires roll { IsRollOf basin.now.rights roll.now }
@@ -166,8 +166,8 @@ pub fn right_at(basin: &Basin, roll: &Roll, position: usize) -> u32
 }
 
 /// Goes on from the nodes that are reached as seen from a short right to those as seen from a more senior one. Their
-/// places in the order of seniority are given. The cost is that of the rights between them, and of the steps that leave
-/// the nodes that are new.
+/// indices in the order of seniority are given. The cost is that of the rights between them, and of the steps that
+/// leave the nodes that are new.
 fn advance(
     basin: &Basin,
     roll: &Roll,
@@ -203,7 +203,7 @@ fn advance(
     )
 }
 
-/// How far a sweep has come: the place of the last short right, and how many nodes are reached as seen from it, but for
+/// How far a sweep has come: the index of the last short right, and how many nodes are reached as seen from it, but for
 /// those only from the end of its own link.
 #[derive(Clone, Copy)]
 pub struct Level {
@@ -211,7 +211,7 @@ pub struct Level {
     size: usize,
 }
 
-/// Sees the nodes that are reached as seen from the short right at a place, but for those only from the end of its own
+/// Sees the nodes that are reached as seen from the short right at an index, but for those only from the end of its own
 /// link, from where the sweep has come.
 fn rise(
     basin: &Basin,
@@ -274,7 +274,8 @@ fn has_reach(
     whole
 }
 
-/// Whether the right at a place is short and has another set than its reach. The sweep comes to it, if it is short.
+/// Whether the right at an index of the order is short and has another set than its reach. The sweep comes to it, if it
+/// is short.
 fn judge(
     basin: &Basin,
     roll: &Roll,

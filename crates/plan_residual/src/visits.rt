@@ -16,7 +16,7 @@ pub fn visit(seen: &mut [bool], queue: &mut [u32], size: usize, node: u32) -> us
     size + 1
 }
 
-/// Takes away the marks of the nodes after a place of the queue.
+/// Takes away the marks of the nodes from an index of the queue on.
 pub fn forget(seen: &mut [bool], queue: &[u32], size: usize, more: usize)
     requires queue { IsQueue seen.old queue.now more }
     requires size { size ≤ more }

@@ -29,7 +29,7 @@ use Rattle.reports.specs.Reports.{row, right_row, balance_row, done_row, report_
 use Rattle.reports.proofs.Growth.{same_waters}
 use Rattle.reports.proofs.Told.{same_rows}
 
--- two records of one month that differ in nothing that a report tells
+-- two records of one month that differ in nothing that a report shows
 record IsAlike (b : Basin) (m n : MonthRecord) : Type 0 where
   same : HaveSameOutcome m n
   sets : (r : ℕ) → r < length b.rights → cut_of m r ≡ cut_of n r
@@ -73,7 +73,7 @@ all_alike b (m ∷ records) [] len h = omega arith
 all_alike b (m ∷ records) (n ∷ others) len h =
     (h 0 m n refl refl, all_alike b records others (omega arith) (λ i k j e f. h (suc i) k j e f))
 
--- what tells the same of records that are alike tells the same of the lists
+-- what is the same for records that are alike is the same for the lists
 same_sums : (b : Basin) (f : MonthRecord → ℕ) (records others : List MonthRecord) → AreAlike b records others →
     ((m n : MonthRecord) → IsAlike b m n → f m ≡ f n) →
     sum_by f records ≡ sum_by f others

@@ -8,7 +8,7 @@ use Rattle.water_model.proofs.Lists.{numbers_more}
 use Rattle.water_model.specs.Indices.{numbers_from, indices_of}
 use Rattle.water_model.proofs.Order.{length-numbers_from, numbers_from-get}
 
--- the entry of a list that has something for each place
+-- the element of a list that has something for each index
 pub entry_is : {X Y : Type 0} (f : ℕ → X) (ys : List Y) (xs : List X) (k : ℕ) → xs ≡ map f (indices_of ys) →
     k < length ys → slice_get xs k ≡ Some (f k)
 entry_is f ys xs k is l =
@@ -31,7 +31,7 @@ entry_told f ys xs k x is at =
     let same : Some x ≡ Some (f k) = sym at ∙ entry_is f ys xs k is l in
     (l, cc)
 
--- and the list by its entries
+-- and the list by its elements
 by_entries : {X : Type 0} (f : ℕ → X) (from : ℕ) (xs : List X) →
     ((k : ℕ) → k < length xs → slice_get xs k ≡ Some (f (from + k))) →
     xs ≡ map f (numbers_from from (length xs))

@@ -1,4 +1,4 @@
--- Sums over places and lists, and how large they are.
+-- Sums over indices and lists, and how large they are.
 use Rattle.std.proofs.Common.{ℕ, ◌+◌, ◌*◌, ◌^◌, ◌<◌, ◌≤◌, arith, length}
 use Rattle.std.specs.Prelude.{sum_by, All}
 use Rattle.std.proofs.lemmas.List.Sums.{sum_by-le}

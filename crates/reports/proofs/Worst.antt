@@ -14,7 +14,7 @@ pub greatest-append : {X : Type 0} (f : X → ℕ) (xs : List X) (y : X) →
 greatest-append f [] y = omega arith
 greatest-append f (x ∷ xs) y = omega (arith, greatest-append f xs y)
 
--- to be as great as all is to be as great as the greatest
+-- an element is as great as all exactly if it is as great as the greatest
 all_le : {X : Type 0} (f : X → ℕ) (xs : List X) (n : ℕ) →
     list_all (λ x. nat_le (f x) n) xs ≡ nat_le (greatest_of f xs) n
 all_le f [] n = least n

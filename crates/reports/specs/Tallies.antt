@@ -1,4 +1,4 @@
--- What is kept of the months of a run, in place of the months.
+-- What is kept of the months of a run, instead of the months.
 use Rattle.std.specs.Prelude.{◌≡◌, ℕ, ◌+◌, ◌<◌, ◌^◌, max, List, [], ◌∷◌, ◌++◌, map, sum, sum_by, slice_index}
 use Rattle.month_fold.specs.Runs.{RunView, RunStandsFor}
 use Rattle.water_model.specs.Balance.{total_inflow, diverted}

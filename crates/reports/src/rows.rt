@@ -158,7 +158,7 @@ pub fn put_size<K: Sink>(sink: &mut K, basin: &Basin) -> Result<(), SinkFailed>
     sink.put(line.bytes())
 }
 
-/// Makes the front of the balance: what came in, and what is stored.
+/// Makes the first piece of the balance: what came in, and what is stored.
 #[tactic(auto, unfolding(crate::specs::Texts::balance_prefix))]
 fn spell_prefix(line: &mut Line, waters: &Waters)
     requires { line.old ≡ [] }
@@ -171,7 +171,7 @@ fn spell_prefix(line: &mut Line, waters: &Waters)
     line.add_number(waters.closing);
 }
 
-/// Puts the front of the balance.
+/// Puts the first piece of the balance.
 fn put_prefix<K: Sink>(sink: &mut K, waters: &Waters) -> Result<(), SinkFailed>
     ensures text { Puts (K.taken sink.old) (K.taken sink.new) result (balance_prefix waters.now) }
     ensures cause { HasCause (K.faults sink.old) (K.faults sink.new) (IsErr result) }
@@ -181,7 +181,7 @@ fn put_prefix<K: Sink>(sink: &mut K, waters: &Waters) -> Result<(), SinkFailed>
     sink.put(line.bytes())
 }
 
-/// Makes the rest of the balance: what else went out.
+/// Makes the second piece of the balance: what else went out.
 #[tactic(auto, unfolding(crate::specs::Reports::row, crate::specs::Texts::balance_rest))]
 fn spell_rest(line: &mut Line, waters: &Waters)
     requires { line.old ≡ [] }
@@ -193,7 +193,7 @@ fn spell_rest(line: &mut Line, waters: &Waters)
     line.word(b"\n");
 }
 
-/// Puts the rest of the balance.
+/// Puts the second piece of the balance.
 fn put_rest<K: Sink>(sink: &mut K, waters: &Waters) -> Result<(), SinkFailed>
     ensures text { Puts (K.taken sink.old) (K.taken sink.new) result (balance_rest waters.now) }
     ensures cause { HasCause (K.faults sink.old) (K.faults sink.new) (IsErr result) }

@@ -17,7 +17,7 @@ pub struct Tally {
     pub waters: Waters,
 }
 
-/// The figures of a given number of rights before the first month.
+/// The figures of `count` rights before the first month.
 fn first_figures(alloc: Global, count: usize) -> Result<Rows<RightFigures>, AllocError>
     ensures count { IfOk result (λ rights. length rights ≡ count) }
     ensures each { IfOk result (λ rights. (right : ℕ) → right < count →

@@ -11,7 +11,7 @@ use Rattle.residual_tree.specs.Tree.{label_of, IsLabeled}
 use Rattle.residual_tree.specs.Repair.{IsLooseBranch, IsTreeBut, IsWayIn}
 use Rattle.residual_tree.specs.Adopting.{IsClear}
 
--- the tree comes to the outside past any other node
+-- the tree leads to the outside past any other node
 clear_outside : (c : Contents) (labels : List ℕ) (v : ℕ) → v < c.nodes → IsClear c labels v c.nodes
 clear_outside c labels v b = record {
   on = λ x. x == c.nodes;
@@ -23,7 +23,7 @@ clear_outside c labels v b = record {
 pub clear_arrived : (c : Contents) (labels : List ℕ) (v u : ℕ) → v < c.nodes → u ≡ c.nodes → IsClear c labels v u
 clear_arrived c labels v u b is = subst (λ (x : ℕ). IsClear c labels v x) (sym is) (clear_outside c labels v b)
 
--- and to a node, where it comes past the other to the node before it
+-- and to a node, where it leads past the other to the node before it
 pub clear_step : (c : Contents) (labels : List ℕ) (v u : ℕ) → u ≢ v →
     IsClear c labels v (start_of (network c) (label_of labels u - 1)) → IsClear c labels v u
 clear_step c labels v u ne h = record {
@@ -52,7 +52,7 @@ rank_off : (rank : ℕ → ℕ) (on : ℕ → Bool) (k u : ℕ) → on u ≡ fal
 unfolding adopted_rank
 rank_off rank on k u e = ap (λ t. if t then rank u else rank u + k) e
 
--- a node that is on keeps those before it on, so that each step still leads upwards
+-- where a node is on, those before it are on, so that each step still leads upwards
 rank_before : (rank : ℕ → ℕ) (on : ℕ → Bool) (k x y : ℕ) → rank y < rank x → (on x ≡ true → on y ≡ true) →
     adopted_rank rank on k y < adopted_rank rank on k x
 rank_before rank on k x y less closed = elim (cases_Bool (on x)) [

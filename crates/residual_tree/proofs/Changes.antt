@@ -1,4 +1,4 @@
--- What freeing and reaching a node do to a tree that is repaired.
+-- What freeing and labeling a node do to a tree that is repaired.
 use Rattle.std.proofs.Common.{ℕ, Bool, nat_lt, ◌==◌, ◌≡◌, ◌≢◌, ◌+◌, ◌-◌, ◌<◌, ◌≤◌, ◌⊎◌, if◌then◌else◌, List, length}
 use Rattle.std.proofs.Common.{slice_index, slice_set, refl, arith, ap, sym, subst, inl, inr, ◌∙◌}
 use Rattle.std.proofs.lemmas.Bool.{cases_eq, lt-ltb, le-ltb, eq-eqb, ne_eqb}
@@ -29,7 +29,7 @@ counts x b = ap (λ (t : Bool). when t 1) (lt-ltb 0 x b)
 counts_not : (x : ℕ) → x ≡ 0 → when (nat_lt 0 x) 1 ≡ 0
 counts_not x e = ap (λ (t : Bool). when t 1) (le-ltb 0 x (omega arith))
 
--- one node less is labeled
+-- one node fewer is labeled
 pub count_freed : (nodes v : ℕ) (labels : List ℕ) → v < nodes → v < length labels → IsLabeled labels v →
     labeled_count nodes (slice_set labels v 0) + 1 ≡ labeled_count nodes labels
 count_freed nodes v labels b long m = omega (
@@ -51,7 +51,7 @@ count_kept nodes v x labels b long m some =
       counts (label_of (slice_set labels v x) v) (omega (arith, here)),
     )
 
--- one node more is labeled
+-- one more node is labeled
 pub count_attached : (nodes v x : ℕ) (labels : List ℕ) → v < nodes → v < length labels → label_of labels v ≡ 0 → 0 < x →
     labeled_count nodes (slice_set labels v x) ≡ labeled_count nodes labels + 1
 count_attached nodes v x labels b long m some =
@@ -63,7 +63,7 @@ count_attached nodes v x labels b long m some =
       counts (label_of (slice_set labels v x) v) (omega (arith, here)),
     )
 
--- a step more stands in a list after a write after those before
+-- what stood in a list still stands there after one more step was written at its end
 pub occurs_more : (xs : List ℕ) (first size v x : ℕ) → OccursIn xs first size x →
     OccursIn (slice_set xs size v) first (size + 1) x
 occurs_more xs first size v x h = record {
@@ -83,7 +83,7 @@ occurs_here xs first size v order long = record {
   is = get_or-set_same xs size v 0 long;
 }
 
--- what stands from a place on stands there or after it
+-- what stands from an index on stands there or after it
 pub occurs_or : (xs : List ℕ) (first last x : ℕ) → OccursIn xs first last x →
     (slice_index xs first ≡ x) ⊎ OccursIn xs (first + 1) last x
 occurs_or xs first last x h = elim (cases_eq h.place first) [
@@ -91,7 +91,7 @@ occurs_or xs first last x h = elim (cases_eq h.place first) [
   | inr ne ↦ inr record { place = h.place; from = omega (arith, h.from, ne); below = h.below; is = h.is }
 ]
 
--- nothing stands at no place
+-- nothing stands where there is no index
 pub occurs_nowhere : {A : Type 0} (xs : List ℕ) (first last x : ℕ) → OccursIn xs first last x → last ≤ first → A
 occurs_nowhere xs first last x h order = absurd (omega (arith, h.from, h.below))
 
@@ -103,7 +103,7 @@ freed_word labels v u long = elim (cases_eq u v) [
   | inr ne ↦ inr (ne, get_or-set_other labels v u 0 0 ne)
 ]
 
--- whether a node of the old tree is still reached
+-- a labeled node is the freed one, or is still labeled
 still : (labels : List ℕ) (v u : ℕ) → v < length labels → IsLabeled labels u → (u ≡ v) ⊎
     IsLabeled (slice_set labels v 0) u
 still labels v u long m = elim (cases_eq u v) [
@@ -162,7 +162,7 @@ tree_free c labels saturated orphan free unscanned orphan' free' v t b more_orph
       ];
     }
 
--- the tree stays, and what is but for changes
+-- a tree but for some steps and nodes is one but for others that cover them
 pub tree_map : (c : Contents) (labels : List ℕ)
     (saturated orphan free unscanned saturated' orphan' free' unscanned' : ℕ → Type 0) →
     IsTreeBut c labels saturated orphan free unscanned →
@@ -201,7 +201,7 @@ tree_map c labels saturated orphan free unscanned saturated' orphan' free' unsca
       ];
     }
 
--- a rank in which the node v has the number x
+-- a rank in which the node v has x
 ranked : (ℕ → ℕ) → ℕ → ℕ → ℕ → ℕ
 ranked rank v x u = if u == v then x else rank u
 
@@ -213,7 +213,7 @@ ranked_other : (rank : ℕ → ℕ) (v x u : ℕ) → u ≢ v → ranked rank v 
 unfolding ranked
 ranked_other rank v x u ne = ap (λ (t : Bool). if t then x else rank u) (ne_eqb u v ne)
 
--- a step by which a node may be reached, with room unless it is worn
+-- a step by which a node may be labeled, with room unless it is saturated
 pub record IsLooseWay (c : Contents) (labels : List ℕ) (saturated : ℕ → Type 0) (v s : ℕ) : Type 0 where
   pub arc : arc_of s < arcs c
   pub enters : end_of (network c) s ≡ v

@@ -144,7 +144,7 @@ freeing_end c labels freed labels' freed' at last done size size' s k b f child 
           record { frees = frees_none labels freed size; next = f; gone = ne }))
     ]
 
--- a scratch word that names no step without room is left behind
+-- a scratch word that names no step without room needs nothing: the next one follows
 past_firm : (c : Contents) (labels freed : List ℕ) (at last done size s : ℕ) → s ≡ step_of c at →
     IsFreeing c labels freed at last done size → ((u : ℕ) → u < c.nodes → IsLabeled labels u →
     end_of (network c) (label_of labels u - 1) ≡ u → label_of labels u - 1 ≡ s → 0 < room_of (network c) (flow_of c)
@@ -184,7 +184,7 @@ adopted_state c labels freed at last size v t f b m in_t clear = record {
   );
 }
 
--- a step has no room, and the node that hung on it is adopted over another one
+-- a step has no room, and the node that is labeled by it is adopted over another one
 adopted_next : (c : Contents) (labels freed labels' freed' : List ℕ) (at last size size' s : ℕ) → IsCirculation c →
     arc_of s < arcs c → s ≡ step_of c at → IsFreeing c labels freed at last 0 size →
     label_of labels (end_of (network c) s) ≡ s + 1 → IsAdopted c labels labels' freed freed' size size'
@@ -220,8 +220,7 @@ freed_next c labels freed labels' freed' at last size size' s k b is f child oth
     (λ u d m e same. absurd (done.gone
     (ap (label_of labels') (sym (ap (end_of (network c)) same) ∙ e) ∙ omega (arith, m, same))))
 
--- a scratch word was tried: where its step has no room, the node that it reached is adopted over another one or was
--- freed
+-- a scratch word was tried: where its step has no room, the node labeled by it is adopted over another one or was freed
 pub loosen_next : (c : Contents) (labels freed labels' freed' : List ℕ) (at last size size' s : ℕ) → IsCirculation c →
     arc_of s < arcs c → s ≡ step_of c at → IsFreeing c labels freed at last 0 size →
     (label_of labels (end_of (network c) s) ≡ s + 1 → room_of (network c) (flow_of c) s ≡ 0 →
@@ -251,7 +250,7 @@ loosen_next c labels freed labels' freed' at last size size' s k b is f saturate
           (subst (λ (n : ℕ). IsFreeing c labels freed (at + 1) last 0 n) (sym e.0) next))
     ]
 
--- the steps that leave a freed node are tried, and those before the answer reach no child
+-- the steps that leave a freed node are tried, and by those tried before no child is labeled
 pub record IsOrphaning (c : Contents) (labels freed : List ℕ) (at done size node : ℕ) : Type 0 where
   pub state : IsFreeing c labels freed at at done size
   pub occurs : slice_index freed done ≡ node

@@ -34,11 +34,11 @@ growing_start c labels freed queue at count long f = record {
   bounded = omega arith;
 }
 
--- a step by which a node may be reached, with room unless it is the lent one
+-- a step by which a node may be labeled, with room unless it is the artificial one
 abbrev pub IsArtificialWay : Contents → ℕ → List ℕ → ℕ → ℕ → Type 0
 IsArtificialWay c artificial labels v s = IsLooseWay c labels (only artificial) v s
 
--- there is room for an unlabeled node among those reached
+-- there is room for an unlabeled node in the queue
 pub growing_room : (c : Contents) (artificial : ℕ) (labels freed queue : List ℕ) (next count done size v : ℕ) →
     v < c.nodes →
     IsGrowing c artificial labels freed queue next count done size → label_of labels v ≡ 0 → size < length queue
@@ -106,7 +106,7 @@ pub record IsLabeledEnd (c : Contents) (artificial : ℕ) (labels queue labels' 
     pub more : (u : ℕ) → IsLabeled labels u → IsLabeled labels' u
     pub here : IsTried c labels' s
 
--- nothing is to be reached by the step
+-- nothing is to be labeled by the step
 tried_already : (c : Contents) (artificial : ℕ) (labels queue labels' queue' : List ℕ) (done size size' node s : ℕ) →
     IsSpreading c artificial labels queue done size node → IsTried c labels s → (size' ≡ size) × (labels' ≡ labels) ×
     (queue' ≡ queue) →
@@ -160,7 +160,7 @@ inner_end c labels s k b root unlabeled =
       | inr ne ↦ omega arith
     ]
 
--- a step was tried, and its end reached if it has room and the end was unlabeled
+-- a step was tried, and its end labeled if it has room and the end was unlabeled
 pub spreading_next : (c : Contents) (artificial : ℕ) (labels queue labels' queue' : List ℕ)
     (done size size' node s : ℕ) →
     IsCirculation c → IsSpreading c artificial labels queue done size node → arc_of s < arcs c →
@@ -216,7 +216,7 @@ spreading_end c artificial labels queue done size node p tried = record {
   bounded = p.state.bounded;
 }
 
--- a tree in which no step is lent
+-- a tree in which no step is artificial
 pub artificial_none : (c : Contents) (labels : List ℕ) → HasArtificialStep c labels (no_step c) →
     IsResidualTree c labels
 artificial_none c labels t = record {
@@ -252,14 +252,14 @@ artificial_some c labels artificial t = record {
   closed = λ s b r m. inl (t.closed s b r m);
 }
 
--- the node before a node in a tree with a artificial step
+-- the node before a node in a tree with an artificial step
 pub artificial_marked : (c : Contents) (labels : List ℕ) (artificial v : ℕ) → HasArtificialStep c labels artificial →
     v < c.nodes → IsLabeled labels v →
     IsLabeled labels (start_of (network c) (label_of labels v - 1))
 artificial_marked c labels artificial v t b m = elim (t.branch v b m).marked
     [ inl labeled ↦ labeled | inr o ↦ absurd o ]
 
--- a tree with a artificial step is closed
+-- a tree with an artificial step is closed
 pub artificial_closed : (c : Contents) (labels : List ℕ) (artificial s : ℕ) → HasArtificialStep c labels artificial →
     arc_of s < arcs c →
     0 < room_of (network c) (flow_of c) s → IsLabeled labels (start_of (network c) s) →
@@ -269,7 +269,7 @@ artificial_closed c labels artificial s t b room m = elim (t.closed s b room m) 
   | inr o ↦ elim o [ inl free ↦ absurd free | inr unscanned ↦ absurd unscanned ]
 ]
 
--- the head of an arc is labeled by a artificial step
+-- the head of an arc is labeled by an artificial step
 pub lend_start : (c : Contents) (labels queue : List ℕ) (v s : ℕ) → IsResidualTree c labels → length queue ≡ c.nodes →
     v < c.nodes → label_of labels v ≡ 0 → arc_of s < arcs c → end_of (network c) s ≡ v →
     start_of (network c) s ≡ c.nodes →
@@ -303,7 +303,7 @@ pub record IsLending (c : Contents) (labels queue : List ℕ) (x size : ℕ) : T
   pub labeled : IsLabeled labels (slice_index c.from x)
   pub grows : IsGrowing c (label_of labels (slice_index queue 0) - 1) labels [] queue 0 0 0 size
 
--- the artificial step is that of the first node among those reached
+-- the artificial step is that of the first node in the queue
 pub lending : (c : Contents) (labels queue labels' queue' : List ℕ) (x v s size : ℕ) → IsCirculation c →
     IsResidualTree c labels → length queue ≡ c.nodes → x < arcs c → slice_index c.to x ≡ c.nodes →
     label_of labels (slice_index c.from x) ≡ 0 → v ≡ slice_index c.from x → s ≡ 2 * x + 1 →

@@ -8,7 +8,7 @@ use Rattle.bit_words.specs.Marks.{words_for, is_marked}
 use Rattle.residual_tree.specs.Tree.{label_of}
 use Rattle.residual_tree.specs.UnlabeledMarks.{HasUnlabeledMarks}
 
--- where all bits are 1, all places are marked
+-- where all bits are 1, all indices are marked
 full : (m v : ℕ) → v / 64 < m → is_marked (replicate m (2 ^ 64 - 1)) v ≡ true
 full m v b =
     let bit : v % 64 < 64 = omega arith in

@@ -56,7 +56,7 @@ pub record IsOutEnd (c : Contents) (labels queue labels' queue' : List ℕ) (siz
   pub more : (u : ℕ) → IsLabeled labels u → IsLabeled labels' u
   pub here : IsTried c labels' s
 
--- nothing is to be reached by the step
+-- nothing is to be labeled by the step
 out_already : (c : Contents) (labels queue labels' queue' : List ℕ) (size size' s : ℕ) →
     IsOutgoing c labels queue size → IsTried c labels s → (size' ≡ size) × (labels' ≡ labels) × (queue' ≡ queue) →
     IsOutEnd c labels queue labels' queue' size size' s
@@ -105,7 +105,7 @@ out_fresh c labels queue size s inner p b starts unlabeled room =
       here = λ r. omega (arith, get_or-set_same labels v (s + 1) 0 long);
     }
 
--- a step was tried, and its end reached if it has room and the end was unlabeled
+-- a step was tried, and its end labeled if it has room and the end was unlabeled
 pub outgoing_next : (c : Contents) (labels queue labels' queue' : List ℕ) (size size' s : ℕ) →
     IsCirculation c → IsOutgoing c labels queue size → arc_of s < arcs c → start_of (network c) s ≡ c.nodes →
     (label_of labels (end_of (network c) s) ≡ 0 → 0 < room_of (network c) (flow_of c) s → (size' ≡ size + 1)

@@ -117,11 +117,11 @@ gains c lower flow s t amount e ne positive l low high room on =
       ]
     ]
 
--- a step that stands in the scratch words of a walk, or the lent one
+-- a step that stands in the scratch words of a walk, or the artificial one
 abbrev pub IsSaturated : List ℕ → ℕ → ℕ → ℕ → ℕ → Type 0
 IsSaturated scratch first last artificial s = OccursIn scratch first last s ⊎ (s ≡ artificial)
 
--- after a push along a closed walk of nodes that are labeled, only its steps and a lent one may have no room
+-- after a push along a closed walk of nodes that are labeled, only its steps and an artificial one may have no room
 pub pushed_saturated : (c : Contents) (labels lower flow : List ℕ) (r first last amount : ℕ) → IsCirculation c →
     (t : HasSomeArtificial c labels r) → IsClosedWalk (network c) (flow_of c) (step_of c) first last amount →
     IsPushed (flow_of c) (slice_index flow) (step_of c) first last amount → step_of c first ≡ 2 * r →
@@ -281,7 +281,7 @@ but_over c labels scratch saturated orphan free unscanned t = record {
   closed = t.closed;
 }
 
--- a tree in which all steps have room, as one with a artificial step to the head of an arc
+-- a tree in which all steps have room, as one with an artificial step to the head of an arc
 pub residual_artificial : (c : Contents) (labels : List ℕ) (r : ℕ) → IsResidualTree c labels →
     HasSomeArtificial c labels r
 residual_artificial c labels r t = record {
@@ -290,7 +290,7 @@ residual_artificial c labels r t = record {
   tree = artificial_some c labels (2 * r) t;
 }
 
--- the artificial step was written in front of the walk
+-- the artificial step was written before the walk
 pub saturated_written : (c : Contents) (labels : List ℕ) (first first' last artificial : ℕ) → first' + 1 ≡ first →
     first ≤ length c.scratch → first ≤ last → IsTreeBut c labels (IsSaturated c.scratch first last artificial) none none
     none →
@@ -331,7 +331,7 @@ stopped_tree c d labels labels' t rest same =
     subst (λ (x : List ℕ). IsResidualTree d x) (sym same)
     (subst (λ (x : Contents). IsResidualTree x labels) (sym rest) (tree_over c labels d.scratch t))
 
--- a tree with a artificial step, which was written down
+-- a tree with an artificial step, which was written down
 pub settle_saturated : (c d : Contents) (labels : List ℕ) (artificial s : ℕ) → IsCirculation c →
     HasArtificialStep c labels artificial → s ≡ artificial →
     d ≡ record c { scratch = slice_set c.scratch 0 s } → IsSaturatedTree d labels 0 1
@@ -346,7 +346,7 @@ settle_saturated c d labels artificial s k t is written =
     (λ u s d e b g o. o)
     (λ s b r m o. inr o))
 
--- a tree with a artificial step stays where only scratch words were written
+-- a tree with an artificial step stays where only scratch words were written
 pub stopped_artificial : (c d : Contents) (labels labels' : List ℕ) (artificial : ℕ) →
     HasArtificialStep c labels artificial → SameButScratch c d →
     labels' ≡ labels → HasArtificialStep d labels' artificial

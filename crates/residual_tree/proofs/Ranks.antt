@@ -1,4 +1,4 @@
--- Ranks as places up to the number of nodes: how many nodes have a lesser rank.
+-- Ranks as small numbers: one more than how many nodes have a lesser rank.
 use Rattle.std.proofs.Common.{ℕ, zero, suc, Bool, nat_lt, ◌≡◌, ◌+◌, ◌<◌, ◌≤◌, if◌then◌else◌, arith, ap, inl, inr, refl}
 use Rattle.std.proofs.lemmas.Bool.{cases_eq, cases_lt, lt-ltb, le-ltb}
 use Rattle.finite_sums.specs.Sums.{total}

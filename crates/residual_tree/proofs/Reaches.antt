@@ -44,7 +44,7 @@ labeled_is_reachable_lem c labels v k t b = (
   λ w. labeled_by c labels t v w.0 w.1,
 )
 
--- what a tree reaches, another reaches too, where all is the same but scratch words
+-- what is labeled in a tree is labeled in another too, where all is the same but scratch words
 pub same_labeled : (c d : Contents) (labels labels' : List ℕ) (v : ℕ) → IsCirculation c → SameButScratch c d →
     IsResidualTree c labels → IsResidualTree d labels' → v ≤ c.nodes → IsLabeled labels v → IsLabeled labels' v
 same_labeled c d labels labels' v k same t t' b m =

@@ -38,7 +38,7 @@ raised_is c d e f r amount written pushed held =
     held ∙ ap (λ (x : Contents). held_contents x r amount) pushed
     ∙ ap (λ (x : Contents). held_contents (record x { flow = e.flow }) r amount) written
 
--- the tree after a walk was written, a push, a hold, and the artificial step in front of the walk
+-- the tree after a walk was written, a push, a hold, and the artificial step before the walk
 pub record IsRoundTree (c g : Contents) (labels : List ℕ) (first last : ℕ) : Type 0 where
   pub saturated : IsSaturatedTree g labels first last
   pub arcs : (i : ℕ) → first ≤ i → i < last → arc_of (step_of g i) < arcs g

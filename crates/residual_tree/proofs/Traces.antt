@@ -45,7 +45,7 @@ tracing_start c labels r most k b positive m =
       passed = λ i h j. absurd (omega arith);
     }
 
--- a word was written in front of the others
+-- a word was written before the others
 pub record IsWritten (d e : Contents) (first first' s : ℕ) : Type 0 where
   pub at : step_of e first' ≡ s
   pub others : (i : ℕ) → first ≤ i → step_of e i ≡ step_of d i
@@ -138,7 +138,7 @@ head_labeled c labels r most t b positive room m =
     (artificial_closed c labels t.step (2 * r) t.tree (omega (arith, o.arc, b)) (omega (arith, o.room, positive, room))
     (subst (λ (u : ℕ). IsLabeled labels u) (sym o.starts) m))
 
--- the tree comes by the head of the arc
+-- the tree leads to the tail through the head of the arc
 pub tracing_head : (c d e : Contents) (labels : List ℕ) (r most first first' node amount s : ℕ) → IsCirculation c →
     r < arcs c → IsTracing c d labels r most first node amount → HasSomeArtificial c labels r →
     flow_of c r + most ≤ slice_index c.upper r → node ≡ slice_index c.to r → s ≡ 2 * r → first' + 1 ≡ first →
@@ -222,7 +222,7 @@ tracing_exit c d d' e labels r x most first first' first'' node amount more s s'
       ];
     }
 
--- there is room for two more words in front
+-- there is room for two more words before them
 pub tracing_space : (c d : Contents) (labels : List ℕ) (r most first node amount : ℕ) →
     IsTracing c d labels r most first node amount → HasSomeArtificial c labels r → (2 ≤ first) ×
     (first ≤ 4 * d.nodes + 8)

@@ -120,7 +120,7 @@ labeled_outside (suc n) c labels r z k t full basin head none v b m less = elim 
   | inr outer ↦ basin v outer
 ]
 
--- where the head of an arc is labeled and its tail dry, the unlabeled nodes are its greatest tight cut
+-- where the head of an arc is labeled and its tail is not, the unlabeled nodes are its greatest tight cut
 pub unlabeled_cut : (c : Contents) (labels : List ℕ) (r : ℕ) → IsCirculation c → HasSomeArtificial c labels r →
     r < arcs c →
     label_of labels (slice_index c.from r) ≡ 0 → IsLabeled labels (slice_index c.to r) →

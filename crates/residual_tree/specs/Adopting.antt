@@ -1,4 +1,4 @@
--- On which steps a node may hang whose own step lost its room.
+-- Over which steps a node may be adopted whose own step lost its room.
 use Rattle.std.specs.Prelude.{ℕ, ◌≡◌, ◌+◌, ◌-◌, ◌<◌, Bool, true, false, List, slice_set}
 use Rattle.circulation.specs.Contents.{Contents, network, arcs}
 use Rattle.circulation.specs.Residual.{arc_of, start_of}
@@ -9,7 +9,7 @@ use Rattle.residual_tree.specs.Repair.{IsWayIn}
 abbrev pub HasSteps : Contents → List ℕ → Type 0
 HasSteps c labels = (u : ℕ) → u < c.nodes → IsLabeled labels u → arc_of (label_of labels u - 1) < arcs c
 
--- the tree comes to the node u past the node v: by nodes `on` its way, of which v is none
+-- the tree leads to the node u past the node v: through nodes that are `on`, of which v is none
 pub record IsClear (c : Contents) (labels : List ℕ) (v u : ℕ) : Type 0 where
   pub on : ℕ → Bool
   pub here : on u ≡ true

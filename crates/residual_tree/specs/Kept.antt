@@ -6,6 +6,6 @@ use Rattle.residual_tree.specs.declared.ResidualTree.TheInside.{Inside}
 abbrev pub words : Inside → List ℕ
 words i = i.labels
 
--- there is room for all basin nodes among those freed, those reached and the ways that were found
+-- there is room for all basin nodes among those freed, those labeled and the ways that were found
 pub record HasTreeRoom (i : Inside) : Type 0 where
   pub room : length i.room.now + 3 ≡ 3 * length i.labels

@@ -13,7 +13,7 @@ IsWalkTo c v (s ∷ path) =
     (arc_of s < arcs c) × (end_of (network c) s ≡ v) × (0 < room_of (network c) (flow_of c) s) ×
     IsWalkTo c (start_of (network c) s) path
 
--- the tree reaches exactly the nodes to which such a walk leads
+-- exactly the nodes to which such a walk leads are labeled
 abbrev pub LabeledIsReachable : Type 0
 LabeledIsReachable = (c : Contents) (labels : List ℕ) (v : ℕ) → IsCirculation c → IsResidualTree c labels →
     v ≤ c.nodes →

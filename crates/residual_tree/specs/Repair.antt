@@ -1,4 +1,4 @@
--- A tree that is repaired: subtrees are freed, and then what was freed grows on to what is left.
+-- A tree that is repaired: subtrees are freed, and then grow again on what is left.
 use Rattle.std.specs.Prelude.{ℕ, ◌≡◌, ◌+◌, ◌-◌, ◌*◌, ◌<◌, ◌≤◌, ◌⊎◌, nat_lt, List, length, slice_index}
 use Rattle.residual_tree.specs.declared.TheConstants.{ROOT}
 use Rattle.finite_sums.specs.Sums.{total, when}
@@ -7,7 +7,7 @@ use Rattle.circulation.specs.Residual.{arc_of, start_of, end_of, room_of}
 use Rattle.circulation.specs.Residual.{opposite}
 use Rattle.residual_tree.specs.Tree.{label_of, IsLabeled}
 
--- x stands in the list at a place from `first` on and below `last`
+-- x stands in the list at an index from `first` to below `last`
 pub record OccursIn (xs : List ℕ) (first last x : ℕ) : Type 0 where
   pub place : ℕ
   pub from : first ≤ place
@@ -43,9 +43,8 @@ pub record IsTreeBut (c : Contents) (labels : List ℕ) (saturated orphan free u
 abbrev pub none : ℕ → Type 0
 none v = ⊥
 
--- nodes are being freed: steps that the scratch words from `at` on name may have no room, `size` nodes were freed, and
--- of
--- those from number `done` on children may still be reached
+-- nodes are being freed: the steps that the scratch words from `at` on name may have no room, `size` nodes were freed,
+-- and children of those from the index `done` on may still be labeled
 pub record IsFreeing (c : Contents) (labels freed : List ℕ) (at last done size : ℕ) : Type 0 where
   pub tree : IsTreeBut c labels (OccursIn c.scratch at last) (OccursIn freed done size) (OccursIn freed 0 size) none
   pub order : done ≤ size
@@ -61,8 +60,8 @@ only x s = s ≡ x
 abbrev pub no_step : Contents → ℕ
 no_step c = 2 * arcs c
 
--- the tree grows, over steps with room but for the step `artificial`: freed nodes from number `next` on may still have
--- a way in, and of those that were labeled, from number `done` on, the steps were not tried yet
+-- the tree grows, over steps with room but for the step `artificial`: freed nodes from the index `next` on may still
+-- have a way in, and the steps of the nodes in the queue from the index `done` on were not tried yet
 pub record IsGrowing (c : Contents) (artificial : ℕ) (labels freed queue : List ℕ) (next count done size : ℕ) : Type 0
   where
     pub tree : IsTreeBut c labels (only artificial) none (OccursIn freed next count) (OccursIn queue done size)
@@ -72,7 +71,7 @@ pub record IsGrowing (c : Contents) (artificial : ℕ) (labels freed queue : Lis
     pub marked : (k : ℕ) → k < size → (slice_index queue k < c.nodes) × IsLabeled labels (slice_index queue k)
     pub bounded : size ≤ labeled_count c.nodes labels
 
--- a step with room by which the outside comes to the node
+-- a step with room into the node, from one that is labeled
 pub record IsWayIn (c : Contents) (labels : List ℕ) (v s : ℕ) : Type 0 where
   pub arc : arc_of s < arcs c
   pub enters : end_of (network c) s ≡ v
@@ -93,7 +92,7 @@ pub record IsFoundLabel (c : Contents) (labels : List ℕ) (v word : ℕ) : Type
 abbrev pub IsSaturatedTree : Contents → List ℕ → ℕ → ℕ → Type 0
 IsSaturatedTree c labels first last = IsTreeBut c labels (OccursIn c.scratch first last) none none none
 
--- a tree of the circulation in which the step `artificial` may have no room, as though it brought artificial water
+-- a tree of the circulation in which the step `artificial` may have no room: it counts as one that has
 abbrev pub HasArtificialStep : Contents → List ℕ → ℕ → Type 0
 HasArtificialStep c labels artificial = IsTreeBut c labels (only artificial) none none none
 

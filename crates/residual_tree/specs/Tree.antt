@@ -1,4 +1,4 @@
--- The tree of the nodes that the outside comes to over the residual network, by a word for each node.
+-- The tree of the nodes to which steps with room lead from the outside, by a word for each node.
 use Rattle.std.specs.Prelude.{ℕ, ◌≡◌, ◌+◌, ◌-◌, ◌<◌, ◌==◌, ◌&&◌, nat_lt, Bool, List, length, slice_index}
 use Rattle.residual_tree.specs.declared.TheConstants.{ROOT}
 use Rattle.circulation.specs.Contents.{Contents, network, flow_of, arcs}
@@ -9,7 +9,7 @@ use Rattle.circulation.specs.Residual.{arc_of, start_of, end_of, room_of}
 abbrev pub label_of : List ℕ → ℕ → ℕ
 label_of labels v = slice_index labels v
 
--- the outside comes to the node
+-- the node is labeled
 abbrev pub IsLabeled : List ℕ → ℕ → Type 0
 IsLabeled labels v = 0 < label_of labels v
 
@@ -31,6 +31,6 @@ pub record IsResidualTree (c : Contents) (labels : List ℕ) : Type 0 where
   pub closed : (s : ℕ) → arc_of s < arcs c → 0 < room_of (network c) (flow_of c) s →
       IsLabeled labels (start_of (network c) s) → IsLabeled labels (end_of (network c) s)
 
--- the basin nodes that the outside does not reach
+-- the basin nodes that are unlabeled
 abbrev pub unlabeled : Contents → List ℕ → ℕ → Bool
 unlabeled c labels v = nat_lt v c.nodes && (label_of labels v == 0)

@@ -1,8 +1,8 @@
-//! A node whose step lost its room is adopted over another step, where one is near: with room, and from a node to which
-//! the tree comes from the outside by few steps and not through the node itself. So what is below the node stays in the
-//! tree.
+//! A node whose step lost its room is adopted over another step, where one is near. Such a step has room, and comes
+//! from a node to which the tree leads from the outside by few steps and not through the node itself. So what is below
+//! the node stays in the tree.
 //!
-//! That is the adoption of orphans of Boykov and Kolmogorov (2004), as far as a short look goes.
+//! That is the adoption of orphans of Boykov and Kolmogorov (2004), with a search that is short.
 ghost use Rattle.std.specs.Prelude.{◌≡◌, true, ℕ, ◌+◌, ◌-◌, ◌<◌, ◌≤◌, length};
 ghost use Rattle.circulation.specs.Contents.{network, IsCirculation};
 ghost use Rattle.circulation.specs.Residual.{start_of};
@@ -14,10 +14,10 @@ use crate::labels::Labels;
 use circulation::CirculationMut;
 use circulation::residual::{opposite, start};
 
-/// By how many steps, at most, a node is labeled that is near.
+/// The most steps by which the tree leads from the outside to a node that is near.
 const NEAR: u32 = 2;
 
-/// Whether the outside comes to a node by few steps, none of which leaves or enters another node.
+/// Whether the tree leads from the outside to a node by few steps, none of which leaves or enters the node `other`.
 fn is_near(circ: &CirculationMut<'_>, labels: &Labels<'_>, node: u32, other: u32) -> bool
     requires node { node ≤ circ.now.nodes }
     requires other { other < circ.now.nodes }
@@ -44,8 +44,8 @@ fn is_near(circ: &CirculationMut<'_>, labels: &Labels<'_>, node: u32, other: u32
     at == outside
 }
 
-/// One more than a step on which a node may hang, from a node that is near, or 0 where there is none. That it is 0 only
-/// there no clause says: whoever isn't hung is freed, and no answer depends on it.
+/// One more than a step from a near node over which a node may be adopted, or 0 where there is none. No clause says
+/// that it is 0 only there: a node that isn't adopted is freed, and no answer depends on it.
 pub fn find_near(circ: &CirculationMut<'_>, labels: &Labels<'_>, node: u32) -> u64
     requires node { node < circ.now.nodes }
     requires words { length labels.now ≡ circ.now.nodes + 1 }

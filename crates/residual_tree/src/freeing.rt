@@ -1,5 +1,5 @@
-//! Nodes are freed: those whose steps lost their room and that no near step reaches, and all that is below them in the
-//! tree.
+//! Nodes are freed: those whose steps lost their room and into which no near step leads, and all that is below them in
+//! the tree.
 ghost use Rattle.std.specs.Prelude.{◌≡◌, ℕ, ◌+◌, ◌-◌, ◌*◌, ◌^◌, ◌<◌, ◌≤◌, ◌≢◌, ◌⊎◌, length, slice_set};
 ghost use Rattle.circulation.specs.Contents.{arcs, flow_of, network, step_of, IsCirculation};
 ghost use Rattle.circulation.specs.Residual.{arc_of, room_of, end_of};
@@ -13,8 +13,8 @@ use crate::labels::Labels;
 use circulation::CirculationMut;
 use circulation::residual::{end, room};
 
-/// Frees the node that a step enters, where it is the step by which the node is labeled. Takes and answers how many
-/// nodes were freed.
+/// Frees the node that a step enters, where it is the step by which the node is labeled. Takes how many nodes were
+/// freed before, and answers how many are now.
 fn free_end(labels: &mut Labels<'_>, freed: &mut [u64], step: u64, node: u32, size: usize) -> usize
     requires step { step < 2 ^ 33 }
     requires node { node < length labels.old }
@@ -33,7 +33,7 @@ fn free_end(labels: &mut Labels<'_>, freed: &mut [u64], step: u64, node: u32, si
     }
 }
 
-/// Where a node is labeled by a step that has no room, it is adopted over a step that is near, or is freed.
+/// Where a node is labeled by this step, which has no room, it is adopted over a step that is near, or is freed.
 fn adopt_or_free_node(
     circ: &CirculationMut<'_>,
     labels: &mut Labels<'_>,
@@ -67,8 +67,8 @@ fn adopt_or_free_node(
     size + 1
 }
 
-/// Where the node that a step enters is labeled by it, and it has no room, the node is adopted over a step that is
-/// near, or is freed.
+/// Where a step has no room and the node that it enters is labeled by it, the node is adopted over a step that is near,
+/// or is freed.
 fn adopt_or_free_end(
     circ: &CirculationMut<'_>,
     labels: &mut Labels<'_>,
@@ -98,8 +98,8 @@ fn adopt_or_free_end(
     }
 }
 
-/// Hangs the nodes whose steps lost their room on steps that are near, or frees them. Those that may have lost it stand
-/// in the scratch words from `first` to below `last`.
+/// Adopts the nodes whose steps lost their room over steps that are near, or frees them. The steps that may have lost
+/// it stand in the scratch words from `first` to below `last`.
 pub fn adopt_or_free(
     circ: &CirculationMut<'_>,
     labels: &mut Labels<'_>,
@@ -122,7 +122,7 @@ pub fn adopt_or_free(
     size
 }
 
-/// Frees the children of the freed node with the number `done`.
+/// Frees the children of the freed node at the index `done`.
 fn free_children(
     circ: &CirculationMut<'_>,
     labels: &mut Labels<'_>,

@@ -30,7 +30,7 @@ pub fn is_way_back(circ: &CirculationMut<'_>, labels: &Labels<'_>, step: u64, no
     room(circ, opposite(circ, step)) != 0
 }
 
-/// One more than a step by which the outside comes to a node, or 0 where there is none.
+/// One more than a way into a node, which is a step with room from a labeled node, or 0 where there is none.
 fn find_way(circ: &CirculationMut<'_>, labels: &Labels<'_>, node: u32) -> u64
     requires node { node ≤ circ.now.nodes }
     requires words { length labels.now ≡ circ.now.nodes + 1 }
@@ -66,7 +66,7 @@ fn find_ways(
     }
 }
 
-/// labels a node by a step. Takes and answers how many nodes were labeled.
+/// Labels a node by a step. Takes how many nodes were labeled before, and answers how many are now.
 fn attach(labels: &mut Labels<'_>, queue: &mut [u64], node: u32, step: u64, size: usize) -> usize
     requires node { node < length labels.old }
     requires size { size < length queue.old }
@@ -80,7 +80,8 @@ fn attach(labels: &mut Labels<'_>, queue: &mut [u64], node: u32, step: u64, size
     size + 1
 }
 
-/// Gives an unlabeled node its word, unless the word is 0. Takes and answers how many nodes were labeled.
+/// Gives an unlabeled node its word, unless the word is 0. Takes how many nodes were labeled before, and answers how
+/// many are now.
 fn seed_node(labels: &mut Labels<'_>, queue: &mut [u64], node: u32, word: u64, size: usize) -> usize
     requires node { node < length labels.old }
     requires room { label_of labels.old node ≡ 0 → size < length queue.old }
@@ -101,7 +102,7 @@ fn seed_node(labels: &mut Labels<'_>, queue: &mut [u64], node: u32, word: u64, s
     size + 1
 }
 
-/// labels the freed nodes that steps from nodes that were labeled before enter. All ways are found before the first is
+/// Labels the freed nodes into which steps lead from nodes labeled before. All ways are found before the first is
 /// taken, so that a way is no longer than it need be.
 fn seed(
     circ: &CirculationMut<'_>,
@@ -125,7 +126,7 @@ fn seed(
     size
 }
 
-/// labels the node that a step enters, if the step has room and the node is not labeled.
+/// Labels the node that a step enters, if the step has room and the node is not labeled.
 fn label_end(
     circ: &CirculationMut<'_>,
     labels: &mut Labels<'_>,
@@ -156,7 +157,7 @@ fn label_end(
     }
 }
 
-/// labels the nodes to which steps lead from the node with the number `done` among those reached.
+/// Labels the nodes to which steps with room lead from the node at the index `done` of the queue.
 fn spread_from(
     circ: &CirculationMut<'_>,
     labels: &mut Labels<'_>,
@@ -180,7 +181,7 @@ fn spread_from(
     count
 }
 
-/// labels all nodes to which steps lead from those that were labeled, in the order in which they were labeled.
+/// Labels all nodes to which steps lead from those that were labeled, in the order in which they were labeled.
 fn spread(circ: &CirculationMut<'_>, labels: &mut Labels<'_>, queue: &mut [u64], size: usize)
     ghost artificial: { ℕ }
     requires tree { IsGrowing circ.now artificial labels.old [] queue.old 0 0 0 size }
@@ -196,7 +197,7 @@ fn spread(circ: &CirculationMut<'_>, labels: &mut Labels<'_>, queue: &mut [u64],
     }
 }
 
-/// labels the freed nodes again, as far as steps with room lead to them.
+/// Labels the freed nodes again, as far as steps with room lead to them.
 pub fn grow(
     circ: &CirculationMut<'_>,
     labels: &mut Labels<'_>,
@@ -215,7 +216,7 @@ pub fn grow(
     spread(circ, labels, queue, size);
 }
 
-/// labels the nodes to which steps lead from the outside, where no other node is labeled.
+/// Labels the nodes to which steps lead from the outside, where no other node is labeled.
 fn spread_out(circ: &CirculationMut<'_>, labels: &mut Labels<'_>, queue: &mut [u64]) -> usize
     requires bare { labels.old ≡ slice_set (replicate (circ.now.nodes + 1) 0) circ.now.nodes ROOT }
     requires places { length queue.old ≡ circ.now.nodes }
@@ -231,7 +232,7 @@ fn spread_out(circ: &CirculationMut<'_>, labels: &mut Labels<'_>, queue: &mut [u
     count
 }
 
-/// labels all nodes to which steps lead from the outside, where none is labeled.
+/// Labels all nodes to which steps lead from the outside, where none is labeled.
 pub fn grow_out(circ: &CirculationMut<'_>, labels: &mut Labels<'_>, queue: &mut [u64])
     requires bare { labels.old ≡ replicate (circ.now.nodes + 1) 0 }
     requires places { length queue.old ≡ circ.now.nodes }
@@ -243,7 +244,7 @@ pub fn grow_out(circ: &CirculationMut<'_>, labels: &mut Labels<'_>, queue: &mut 
     spread(circ, labels, queue, size);
 }
 
-/// labels the unlabeled tail of an exit back over the exit, and all that is below it.
+/// Labels the unlabeled tail of an exit back over the exit, and all nodes to which steps with room lead from there.
 pub fn label_over(circ: &CirculationMut<'_>, labels: &mut Labels<'_>, queue: &mut [u64], exit: u32)
     requires exit { exit < arcs circ.now }
     requires out { slice_index circ.now.to exit ≡ circ.now.nodes }

@@ -27,7 +27,7 @@ impl<'t> Model for Labels<'t> {
 }
 
 impl<'t> Labels<'t> {
-    /// The word 0 for each of the basin nodes and for the outside, in these words, with marks in those.
+    /// The word 0 for each basin node and for the outside, in the words `labels`, with marks in the words `unlabeled`.
     pub fn over(labels: &'t mut [u64], unlabeled: &'t mut [u64]) -> Labels<'t>
         requires outside { 0 < length labels.old }
         requires marks { length unlabeled.old ≡ words_for (length labels.old - 1) }
@@ -67,7 +67,7 @@ impl<'t> Labels<'t> {
     }
 }
 
-/// Marks a place, or takes its mark away. The other marks stay.
+/// Marks an index, or takes its mark away. The other marks stay.
 fn mark_as(words: &mut [u64], place: u32, marked: bool)
     requires { place / 64 < length words.old }
     ensures count { length words.new ≡ length words.old }

@@ -1,7 +1,7 @@
 //! Laws over the definitions. Each is the contract of a function that does nothing.
 ghost use Rattle.residual_tree.specs.Laws.{LabeledIsReachable, UnlabeledIsGreatestCut, CutStaysWhenHeld};
 
-/// A residual tree reaches exactly what walks with room from the outside reach.
+/// In a residual tree exactly those nodes are labeled to which walks with room lead from the outside.
 pub fn labeled_is_reachable()
     ensures { LabeledIsReachable }
 {}

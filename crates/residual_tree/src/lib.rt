@@ -1,9 +1,10 @@
-//! A tree of the nodes that the outside comes to over the residual network of a circulation, kept from push to push.
+//! A tree of the nodes to which steps with room lead from the outside, in the residual network of a circulation. It is
+//! kept from push to push.
 //!
 //! The kept tree is that of Boykov and Kolmogorov, An Experimental Comparison of Min-Cut/Max-Flow Algorithms for Energy
 //! Minimization in Vision (2004), in a simple form: where a step lost its room, the subtree below it is freed, and
-//! grows again from what is still reached. The terms are those of Ahuja, Magnanti and Orlin, Network Flows (1993),
-//! section 2.4. A basin node that the outside doesn't reach is unlabeled. All amounts are in units of 1,000 cubic
+//! grows again from the nodes that are still labeled. The terms are those of Ahuja, Magnanti and Orlin, Network Flows
+//! (1993), section 2.4. A basin node to which no such steps lead is unlabeled. All amounts are in units of 1,000 cubic
 //! metres. A tree lies in words that are borrowed: no call takes memory.
 #![tactic(auto)]
 
@@ -35,15 +36,15 @@ use std::marker::Model;
 /// The word of the outside node, which no step has.
 const ROOT: u64 = u64::MAX;
 
-/// How many words a tree of a given number of basin nodes takes.
+/// How many words a tree takes, for this many basin nodes.
 pub fn tree_words(nodes: u32) -> usize
     ensures { result ≡ tree_words nodes }
 {
     4 * nodes as usize + 1 + words_for(nodes)
 }
 
-/// The tree, by a word for each node and a mark for each that is unlabeled, and room for a search. Contracts see it as
-/// the list of its words.
+/// The tree: a word for each node, a mark for each that is unlabeled, and room for a search. Contracts see it as the
+/// list of its words.
 #[derive(Drop)]
 pub struct ResidualTree<'t> {
     labels: Labels<'t>,
@@ -63,7 +64,7 @@ impl<'t> Model for ResidualTree<'t> {
 }
 
 impl<'t> ResidualTree<'t> {
-    /// The tree that grows from the outside alone, over all steps with room, in these words, which may be any.
+    /// The tree that grows from the outside alone, over all steps with room, in these words, which may hold anything.
     pub fn plant(circ: &CirculationMut<'_>, words: &'t mut [u64]) -> ResidualTree<'t>
         requires { length words.old ≡ tree_words circ.now.nodes }
         ensures { IsResidualTree circ.now result }
@@ -84,12 +85,13 @@ impl<'t> ResidualTree<'t> {
         requires saturated { IsSaturatedTree circ.now self.old first (first + count) }
         ensures { IsResidualTree circ.now self.new }
     {
-        // This call tells that the circulation is kept.
+        // This call says that the circulation is kept.
         let _nodes = circ.nodes();
         regrow(circ, self.room, &mut self.labels, first, count);
     }
 
-    /// The word of a node: 0 where it is unlabeled, else one more than the step by which the outside comes to it.
+    /// The word of a node: 0 where it is unlabeled, else one more than the step by which it is labeled. The
+    /// outside has `ROOT`.
     fn word(&self, node: u32) -> u64
         requires { node < length self.now }
         ensures { result ≡ label_of self.now node }
@@ -106,7 +108,7 @@ impl<'t> ResidualTree<'t> {
         self.labels.unlabeled()
     }
 
-    /// Whether a node is a basin node that the outside does not reach.
+    /// Whether a node is unlabeled, which only a basin node can be.
     pub fn is_unlabeled(&self, node: u32) -> bool
         requires { node < length self.now }
         ensures { IsTrue result ↔ (label_of self.now node ≡ 0) }
@@ -115,7 +117,7 @@ impl<'t> ResidualTree<'t> {
     }
 
     /// Holds an amount on an arc, in units of 1,000 cubic metres, as `CirculationMut::hold` does, and repairs the tree.
-    /// Where as much is held already, nothing changes.
+    /// Where at least as much is held already, nothing changes.
     pub fn hold(&mut self, circ: &mut CirculationMut<'_>, arc: u32, amount: u64)
         requires arc { arc < arcs circ.old }
         requires amount { amount ≤ flow_of circ.old arc }
@@ -124,7 +126,7 @@ impl<'t> ResidualTree<'t> {
         ensures held { circ.new ≡ record (held_contents circ.old arc amount) { scratch = circ.new.scratch } }
         ensures tree { IsResidualTree circ.new self.new }
     {
-        // This call tells that the circulation is kept.
+        // This call says that the circulation is kept.
         let _nodes = circ.nodes();
         if amount <= circ.lower(arc) {
             return;
@@ -134,8 +136,8 @@ impl<'t> ResidualTree<'t> {
         self.repair(circ, 0, 1);
     }
 
-    /// labels the unlabeled tail of an exit, an arc to the outside, as though the outside artificial water back over
-    /// the exit, and all that is below it.
+    /// Labels the unlabeled tail of an exit, an arc to the outside, by the artificial step back over the exit, and then
+    /// all nodes to which steps with room lead from there.
     pub fn add_artificial(&mut self, circ: &CirculationMut<'_>, exit: u32)
         requires exit { exit < arcs circ.now }
         requires out { slice_index circ.now.to exit ≡ circ.now.nodes }
@@ -144,12 +146,12 @@ impl<'t> ResidualTree<'t> {
         ensures tree { HasArtificialStep circ.now self.new (2 * exit + 1) }
         ensures head { IsLabeled self.new (slice_index circ.now.from exit) }
     {
-        // This call tells that the circulation is kept.
+        // This call says that the circulation is kept.
         let _nodes = circ.nodes();
         label_back(circ, self.room, &mut self.labels, exit);
     }
 
-    /// Takes back what was lent over an exit.
+    /// Drops the artificial step back over an exit, and repairs the tree.
     pub fn drop_artificial(&mut self, circ: &mut CirculationMut<'_>, exit: u32)
         requires exit { exit < arcs circ.old }
         requires tree { HasArtificialStep circ.old self.old (2 * exit + 1) }
@@ -157,7 +159,7 @@ impl<'t> ResidualTree<'t> {
         ensures rest { SameButScratch circ.old circ.new }
         ensures tree { IsResidualTree circ.new self.new }
     {
-        // This call tells that the circulation is kept.
+        // This call says that the circulation is kept.
         let _nodes = circ.nodes();
         circ.scratch_set(0, 2 * u64::from(exit) + 1);
         self.repair(circ, 0, 1);

@@ -46,7 +46,7 @@ pub fn regrow(
     grow(circ, labels, queue, freed, free, found);
 }
 
-/// labels the unlabeled tail of an exit back over the exit, and all that is below it.
+/// Labels the unlabeled tail of an exit back over the exit, and all nodes to which steps with room lead from there.
 pub fn label_back(circ: &CirculationMut<'_>, room: &mut [u64], labels: &mut Labels<'_>, exit: u32)
     requires room { length room.old ≡ 3 * circ.now.nodes }
     requires exit { exit < arcs circ.now }

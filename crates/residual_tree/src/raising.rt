@@ -16,7 +16,7 @@ use steps::Steps;
 
 /// One push along the walk over the arc, the exit and the tree, after which the flow of the arc is held and the tree
 /// repaired. The step `artificial` to the head of the arc may have no room. Answers whether there was room for the
-/// push, which lacks only where the walk goes over the exit and that has none.
+/// push. There is none only where the walk goes over the exit and the exit has none.
 fn round<L: Ledger>(
     circ: &mut CirculationMut<'_>,
     tree: &mut ResidualTree<'_>,
@@ -60,7 +60,7 @@ fn round<L: Ledger>(
     true
 }
 
-/// Pushes as long as the flow on the arc is less than wanted and its tail is labeled, and at most so often.
+/// Pushes as long as the flow on the arc is less than wanted and its tail is labeled, at most `max_pushes` times.
 fn raise_labeled<L: Ledger>(
     circ: &mut CirculationMut<'_>,
     tree: &mut ResidualTree<'_>,
@@ -145,7 +145,7 @@ pub fn raise_by_tree<L: Ledger>(
     ensures limit { flow_of circ.new arc ≤ want }
     ensures met { (result ≡ TreeRaised.Met) ↔ (flow_of circ.new arc ≡ want) }
 
-    // After Dry the unlabeled nodes are the greatest tight cut of the arc, where its head is the outside or reached.
+    // After Stopped the unlabeled nodes are the greatest tight cut of the arc, where its head is labeled.
     ensures unlabeled { result ≡ TreeRaised.Stopped → label_of tree.new (slice_index circ.old.from arc) ≡ 0 }
     ensures cut { result ≡ TreeRaised.Stopped → IsLabeled tree.new (slice_index circ.old.to arc) →
         IsGreatestCut (network circ.new) (flow_of circ.new) arc (unlabeled circ.new tree.new) }
@@ -158,7 +158,7 @@ pub fn raise_by_tree<L: Ledger>(
     ensures unfinished { result ≡ TreeRaised.Unfinished → (searches.new ≡ searches.old + max_pushes) ⊎
         ((slice_index circ.old.to arc ≢ circ.old.nodes) × IsFull circ.new exit) }
 
-    // Without a push, an arc that was held at its flow leaves all as it was but scratch words.
+    // Without a push, all but scratch words stays as it was, where the arc was held at its flow.
     ensures still { searches.new ≡ searches.old → flow_of circ.old arc ≡ slice_index circ.old.lower arc →
         SameButScratch circ.old circ.new }
 {
@@ -177,8 +177,9 @@ pub fn raise_by_tree<L: Ledger>(
 }
 
 /// Raises the flow on an arc within the unlabeled nodes, where its head is unlabeled too: by walks from the head to the
-/// tail, which need no water. After Dry the tree is lent over the exit, so that `drop_artificial` has to follow; until
-/// then the nodes that it does not reach are the greatest tight cut of the arc. The rest is as at `raise_by_tree`.
+/// tail, which need no water. After Stopped the tree has the artificial step back over the exit, so that
+/// `drop_artificial` has to follow; until then the unlabeled nodes are the greatest tight cut of the arc. The rest is
+/// as at `raise_by_tree`.
 pub fn raise_within_unlabeled<L: Ledger>(
     circ: &mut CirculationMut<'_>,
     tree: &mut ResidualTree<'_>,
@@ -205,13 +206,13 @@ pub fn raise_within_unlabeled<L: Ledger>(
     ensures met { (result ≡ TreeRaised.Met) ↔ (flow_of circ.new arc ≡ want) }
     ensures tree { result ≢ TreeRaised.Stopped → IsResidualTree circ.new tree.new }
 
-    // After Dry no flow has more on the arc.
+    // After Stopped no flow has more on the arc.
     ensures artificial { result ≡ TreeRaised.Stopped → HasArtificialStep circ.new tree.new (2 * exit + 1) }
     ensures cut { result ≡ TreeRaised.Stopped →
         IsGreatestCut (network circ.new) (flow_of circ.new) arc (unlabeled circ.new tree.new) }
 
     // Each push raises the flow, and Unfinished comes only where all pushes were made, the exit is full, or the head is
-    // not dry. Before the first push the head is as it was at first.
+    // labeled. Before the first push the head is as it was at first.
     ensures count { searches.old ≤ searches.new }
     ensures cost { searches.new ≤ searches.old + max_pushes }
     ensures each { flow_of circ.old arc + (searches.new - searches.old) ≤ flow_of circ.new arc }

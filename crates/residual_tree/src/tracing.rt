@@ -9,14 +9,14 @@ use crate::ResidualTree;
 use circulation::CirculationMut;
 use circulation::residual::{room, start};
 
-/// Where a walk begins among the scratch words, up to their end, and how much it can carry.
+/// Where a walk begins in the scratch words, which it fills to their end, and how much it can carry.
 #[derive(Clone, Copy)]
 pub struct Walk {
     pub first: usize,
     pub amount: u64,
 }
 
-/// Writes a step in front of the scratch words from `first` on, and answers where they begin then.
+/// Writes a step before the scratch words from `first` on, and answers where they begin now.
 pub fn write_step(circ: &mut CirculationMut<'_>, first: usize, step: u64) -> usize
     requires some { 0 < first }
     requires fits { first ≤ 4 * circ.old.nodes + 8 }
@@ -29,9 +29,9 @@ pub fn write_step(circ: &mut CirculationMut<'_>, first: usize, step: u64) -> usi
     first - 1
 }
 
-/// Writes the closed walk that goes over the arc, then from its head over the exit to the outside, and then along
-/// the tree to its tail; where the tree comes by the head, the walk goes on from there. It carries the
-/// least of its rooms, and at most `most`.
+/// Writes the closed walk that goes over the arc, then from its head over the exit to the outside, and then along the
+/// tree to its tail. Where the tree leads to the tail through the head, the walk follows the tree from the head
+/// instead. It carries the least of its rooms, and at most `most`.
 pub fn trace(
     circ: &mut CirculationMut<'_>,
     tree: &ResidualTree<'_>,

@@ -52,7 +52,7 @@ read_list xs zs n len each =
     by_place k (inl h) = inl h
     by_place k (inr (other, none)) = inr (other, no_numbers n k ∙ sym none)
 
--- numbers that are equal at the places that are set
+-- numbers that are equal at the indices that are set
 pub set_all-same : (xs : List ℕ) (a c : ℕ → ℕ) (ys : List ℕ) → ((k : ℕ) → Has xs k → a k ≡ c k) →
     set_all xs a ys ≡ set_all xs c ys
 set_all-same [] a c ys h = refl
@@ -60,7 +60,7 @@ set_all-same (x ∷ xs) a c ys h =
     ap (λ n. set_all xs a (slice_set ys x n)) (h x (inl refl))
     ∙ set_all-same xs a c (slice_set ys x (c x)) (λ k m. h k (inr m))
 
--- a place that passes a test was read, and one that doesn't has 0
+-- an index that passes a test was read, and one that doesn't has 0
 by_filter : (p : ℕ → Bool) (xs zs : List ℕ) (k : ℕ) → Has xs k → (p k ≡ false → slice_index zs k ≡ 0) →
     Has (filter p xs) k ⊎ ((Has (filter p xs) k → ⊥) × (slice_index zs k ≡ 0))
 by_filter p xs zs k h none = elim (cases_Bool (p k)) [
@@ -87,7 +87,7 @@ map-numbers f from (suc n) (y ∷ ys) e h =
     shift : (from k : ℕ) → from + suc k ≡ suc from + k
     shift from k = omega arith
 
--- Returns, use and takes that no line tells.
+-- Returns, use and takes that no line gives.
 
 none_passes : {X : Type 0} (p : X → Bool) (xs : List X) (k : ℕ) (x : X) → list_any p xs ≡ false →
     slice_get xs k ≡ Some x → p x ≡ false

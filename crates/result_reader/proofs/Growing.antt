@@ -13,7 +13,7 @@ more f (y ∷ ys) zero x h = let same : Some y ≡ Some x = h in let is : y ≡ 
 more f (y ∷ ys) (suc k) x h = ap (λ t. f y ++ t) (more f ys k x h)
     ∙ sym (append_assoc (f y) (flat_map f (take k ys)) (f x))
 
--- what was added so far is that of the first elements, and then of one element more
+-- what was added so far is that of the first elements, and then of one more element
 pub added-next : {X Y : Type 0} (f : X → List Y) (xs : List X) (k : ℕ) (x : X) (old mid new : List Y) →
     slice_get xs k ≡ Some x →
     mid ≡ old ++ flat_map f (take k xs) → new ≡ mid ++ f x → new ≡ old ++ flat_map f (take (k + 1) xs)

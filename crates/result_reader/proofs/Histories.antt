@@ -1,4 +1,4 @@
--- Months that follow others are months that a text tells.
+-- Months that follow others are months that a text gives.
 use Rattle.std.proofs.Common.{◌≡◌, ℕ, zero, suc, Bool, true, false, refl, List, [], ◌∷◌}
 use Rattle.std.specs.Prelude.{Option, Some, None, ◌&&◌, not, nat_lt, length}
 use Rattle.std.specs.List.{list_any}
@@ -35,7 +35,7 @@ cut_has_some b taking (Some link) cut h =
     first true q g = refl
     first false q g = cc
 
--- a record that follows others is one that a text tells, if its amounts are those of a text
+-- a record that follows others is one that a text gives, if its amounts are those of a text
 pub IsTextMonth-Follows : (b : Basin) (series : Inflows) (before : List MonthRecord) (m : MonthRecord) →
     Follows b series before m → HasTextAmounts m →
     IsTextMonth b series before m

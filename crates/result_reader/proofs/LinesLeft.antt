@@ -42,7 +42,7 @@ most_for-some b (shape.Called right) = omega arith
 most_for-some b shape.End = omega arith
 most_for-some b (shape.Done months) = omega arith
 
--- a given number of lines for each entry of a list
+-- n lines for each entry of a list
 max_lines-map : (b : Basin) (f : ℕ → Shape) (n : ℕ) → ((x : ℕ) → most_for b (f x) ≡ n) → (xs : List ℕ) →
     max_lines b (map f xs) ≡ n * length xs
 max_lines-map b f n h [] = omega arith
@@ -95,7 +95,7 @@ step-fewer b must ds i es h = by_guard (must && not (is_member i)) refl
 
 -- At first.
 
--- a given number of more lines than lines that are due
+-- n more lines than lines that are due
 abbrev Exceeds : Basin → List Shape → ℕ → Type 0
 Exceeds b ds n = max_lines b ds ≡ length ds + n
 
@@ -103,7 +103,7 @@ exceed_both : (b : Basin) (ds es : List Shape) (n m : ℕ) → Exceeds b ds n �
     Exceeds b (ds ++ es) (n + m)
 exceed_both b ds es n m h k = sum_by-append (most_for b) ds es ∙ omega (arith, length-append ds es)
 
--- so many more for an entry of a section: for a right that may have a `call` the nodes
+-- how many more for an entry of a section: for a right that may have a `call` the nodes
 abbrev more_for : Section → Basin → ℕ
 more_for (section.Amounts q) b = 0
 more_for section.Deliveries b = 0

@@ -85,7 +85,7 @@ member_found b ds j (suc n) k m l e = elim (cases_order k j) [
         other : line.Member j ≡ line.Member k → ⊥
         other is = let same : j ≡ k = cc in omega arith
 
--- no `in` line is due at a place
+-- no `in` line is due from an index on
 drop_no_members : (ds : List Shape) (k : ℕ) → has_no_members ds ≡ true → has_no_members (drop k ds) ≡ true
 drop_no_members ds zero h = h
 drop_no_members [] (suc k) h = refl

@@ -1,4 +1,4 @@
--- The steps of a reader's place.
+-- The steps of a reader's position.
 use Rattle.std.proofs.Common.{◌≡◌, ℕ, zero, suc, ◌+◌, ◌-◌, ◌<◌, ◌≤◌, Bool, true, false, refl, sym, ap, subst, ◌∙◌}
 use Rattle.std.proofs.Common.{arith, [], ◌∷◌, ◌++◌, add-one, append_assoc}
 use Rattle.std.specs.Prelude.{Some, None, IsTrue, ◌↔◌}

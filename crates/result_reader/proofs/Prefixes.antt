@@ -119,7 +119,7 @@ completes b (d ∷ ds) = by_shape d (completes b ds)
     by_shape shape.End c = needed line.End refl refl refl c
     by_shape (shape.Done months) c = needed (line.Done months) refl refl refl c
 
--- behind a `call` there is a node to name
+-- after a `call` there is a node to name
 abbrev CanGoOn : Due → Type 0
 CanGoOn s = s.must ≡ true → (node : ℕ) × (ds : List Shape) × (s.dues ≡ shape.Member node ∷ ds)
 
@@ -244,7 +244,7 @@ due_prefix b some items t h =
           (accepted_after b (all_due b) t items c.rest h c.accepted);
     }
 
--- one line more
+-- one more line
 pub due_more : (b : Basin) (s t : Due) (items : List Item) (i : Item) → due_after b s items ≡ Some t →
     due_after b s (items ++ i ∷ []) ≡ option_and_then (λ ds. Some (record { must = is_call i; dues = ds }))
     (step b t.must t.dues i)

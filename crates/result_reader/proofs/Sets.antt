@@ -18,7 +18,7 @@ put_sets (r ∷ rs) cut ys = put_sets rs cut (put_set (cut r))
     put_set None = ys
     put_set (Some set) = slice_set ys r (Some set)
 
--- the sets of one right more
+-- the sets of one more right
 put_one : (r : ℕ) (o : Option (List Bool)) → Sets → Sets
 put_one r None ys = ys
 put_one r (Some set) ys = slice_set ys r (Some set)

@@ -37,7 +37,7 @@ all_due_first b dues =
     whole : (n : ℕ) → n ≡ n - 0
     whole n = omega arith
 
--- what is due after one line more
+-- what is due after one more line
 due_later : (b : Basin) (dues : List Shape) (p : Progress) (items : List Item) (i : Item) (s : Option (List Shape)) →
     due_after b (all_due b) items ≡ Some (due_of b dues p) → step b p.must (dues_of b dues p) i ≡ s →
     due_after b (all_due b) (items ++ i ∷ []) ≡ option_and_then (λ ds. Some (record { must = is_call i; dues = ds })) s
@@ -99,7 +99,7 @@ pub next_along : (b : Basin) (ds dues : List Shape) (p : Progress) (i : Item) (o
     IsNextProgress b ds p i o → IsNextProgress b dues p i o
 next_along b ds dues p i o is h = subst (λ (xs : List Shape). IsNextProgress b xs p i o) is h
 
--- a given number of lines are left behind it
+-- after a line that is accepted at least one line fewer is left
 pub next_left : (b : Basin) (dues : List Shape) (p next : Progress) (i : Item) (left : ℕ) →
     max_lines b (dues_of b dues p) ≤ left →
     IsNextProgress b dues p i (Some next) → max_lines b (dues_of b dues next) + 1 ≤ left

@@ -1,4 +1,4 @@
--- What the lines of a month tell.
+-- What the lines of a month say.
 use Rattle.std.proofs.Common.{◌≡◌, ℕ, suc, ◌<◌, Bool, true, false, refl, sym, ap, ◌∙◌, arith, inl, inr, List, []}
 use Rattle.std.proofs.Common.{◌∷◌, ◌++◌, length, map, fold, replicate, append_assoc, length-append}
 use Rattle.std.specs.Prelude.{Some, option_map, ◌⊎◌, slice_index, slice_set}
@@ -17,7 +17,7 @@ use Rattle.water_model.specs.declared.item.Item.TheVariants as line
 use Rattle.water_model.proofs.Order.{Has}
 use Rattle.water_model.proofs.SetEntries.{entry_set, set_entry, set_twice}
 
--- a list with the numbers of a set at some places
+-- a list with numbers set at some indices
 abbrev pub set_all : List ℕ → (ℕ → ℕ) → List ℕ → List ℕ
 set_all [] a ys = ys
 set_all (x ∷ xs) a ys = set_all xs a (slice_set ys x (a x))
@@ -26,7 +26,7 @@ pub length-set_all : (xs : List ℕ) (a : ℕ → ℕ) (ys : List ℕ) → lengt
 length-set_all [] a ys = refl
 length-set_all (x ∷ xs) a ys = length-set_all xs a (slice_set ys x (a x)) ∙ length-set ys x (a x)
 
--- at a place that is set stands its number, and at each other place what stood there
+-- at an index that is set stands its number, and at each other index what stood there
 pub set_all-other : (xs : List ℕ) (a : ℕ → ℕ) (ys : List ℕ) (k : ℕ) → (Has xs k → ⊥) →
     slice_index (set_all xs a ys) k ≡ slice_index ys k
 set_all-other [] a ys k h = refl

@@ -1,4 +1,4 @@
--- The lines of a month tell the whole of its record.
+-- The lines of a month say all of its record.
 use Rattle.std.proofs.Common.{◌≡◌, ℕ, ◌+◌, ◌<◌, Bool, refl, sym, ap, subst, ◌∙◌, List, [], ◌∷◌, ◌++◌, length, map, fold}
 use Rattle.std.proofs.Common.{replicate, append_assoc, append-nil, length-append}
 use Rattle.std.specs.Prelude.{Option, Some, None, slice_index}
@@ -22,7 +22,7 @@ use Rattle.result_reader.proofs.Telling.{set_all, fold-both}
 use Rattle.result_reader.proofs.MonthRead.{Reads, sections_read, take_of, with_section}
 use Rattle.result_reader.proofs.Sets.{put_sets}
 
--- the numbers of the record are all told, and what is not told is 0
+-- the numbers of the record are all read, and what is not read is 0
 pub record IsAllRead (b : Basin) (series : Inflows) (m : MonthRecord) : Type 0 where
   pub listed : (q : Quantity) →
       set_all (entries_with_line b q) (λ x. slice_index (amounts_of q m) x) (replicate (count_in (space_of q) b) 0)
@@ -110,7 +110,7 @@ months_read b series (m ∷ ms) t h =
     longer : length (fold (read_item b series) t (items_of_month b m)).months ≡ length t.months + 1
     longer = ap length first ∙ length-append t.months (m ∷ [])
 
--- the text's items tell the records
+-- the text's items give the records
 pub records_read : (b : Basin) (series : Inflows) (records : List MonthRecord) → AreAllRead b series 0 records →
     (read_so_far b series (items_of b records)).months ≡ records
 records_read b series records h =

@@ -22,7 +22,7 @@ abbrev pub is_member_shape : Shape → Bool
 is_member_shape (shape.Member node) = true
 is_member_shape other = false
 
--- the lines that a line opens: behind a `call`, an `in` line of each node
+-- the lines that a line opens: after a `call`, an `in` line of each node
 abbrev pub opened : Basin → Item → List Shape
 opened b (line.Call right) = map (λ n. shape.Member n) (numbers_from 0 (length b.nodes))
 opened b other = []
@@ -33,7 +33,7 @@ take_line b [] item = None
 take_line b (d ∷ ds) item =
     if fits b d item then Some (opened b item ++ ds) else (if is_optional d then take_line b ds item else None)
 
--- behind a `call` an `in` line must come
+-- after a `call` an `in` line must come
 abbrev pub step : Basin → Bool → List Shape → Item → Option (List Shape)
 step b must ds item = if must && not (is_member item) then None else take_line b ds item
 

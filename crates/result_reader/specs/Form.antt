@@ -59,7 +59,7 @@ key_of (shape.Done months) = 9 ∷ months ∷ []
 unfoldable pub is_same_shape : Shape → Shape → Bool
 is_same_shape a b = bytes_eq (key_of a) (key_of b)
 
--- a line may be left out if it is a `call`, a `called`, or behind a `call` an `in` line
+-- a line may be left out if it is a `call`, a `called`, or after a `call` an `in` line
 abbrev pub is_optional : Shape → Bool
 is_optional (shape.Call right) = true
 is_optional (shape.Member node) = true
@@ -109,7 +109,7 @@ due_in_month b = flat_map (λ s. shapes_in s b) SECTIONS ++ shape.End ∷ []
 abbrev pub due_for_month : Basin → ℕ → List Shape
 due_for_month b i = shape.Month (run_month b i) ∷ due_in_month b
 
--- the lines that are due from month i on, for a given number of months
+-- the lines that are due from month i on, for this many months
 abbrev pub due_from : Basin → ℕ → ℕ → List Shape
 due_from b i count = flat_map (due_for_month b) (numbers_from i count) ++ shape.Done b.months ∷ []
 

@@ -34,7 +34,7 @@ PrefixesAreAccepted =
     (read_line b before bytes ≡ Ok item)
     ↔ ((bytes ≡ line_of b item) × IsOfText b item × IsPrefix b (before ++ item ∷ []))
 
--- A line that says an item is out of place exactly where with it they are not.
+-- A line that says an item is out of place exactly where with it they are not the prefix of one.
 abbrev pub OthersAreOutOfPlace : Type 0
 OthersAreOutOfPlace =
     (b : Basin) (before : List Item) (bytes : List ℕ) (item : Item) → IsValidBasin b → item_of b bytes ≡ Ok item →

@@ -14,7 +14,7 @@ use Rattle.result_reader.specs.declared.progress.Progress.{Progress}
 use Rattle.result_reader.specs.declared.shape.Shape.{Shape}
 use Rattle.result_reader.specs.declared.shape.Shape.TheVariants as shape
 
--- what a search over the lines of a month from a place on says of all that is due
+-- what a search over the lines of a month from an index on says of all that is due
 abbrev pub IsDueSearch : Basin → List Shape → ℕ → Item → DueSearch → Type 0
 IsDueSearch b dues from item (found.At at) =
     (at < length dues) ×
@@ -24,25 +24,25 @@ IsDueSearch b dues from item found.Blocked = (others : List Shape) → take_line
 IsDueSearch b dues from item found.Passed = (others : List Shape) →
     take_line b (drop from dues ++ others) item ≡ take_line b others item
 
--- what is due after a given number of months
+-- what is due after this many months
 abbrev pub months_due : Basin → ℕ → List Shape
 months_due b begun = due_from b begun (b.months - begun)
 
--- what is due at a place
+-- what is due at a position
 abbrev pub due_at : Basin → List Shape → Position → List Shape
 due_at b dues position.Title = shape.Title ∷ shape.Run ∷ months_due b 0
 due_at b dues position.Run = shape.Run ∷ months_due b 0
 due_at b dues (position.Month begun at) = drop at dues ++ months_due b begun
 due_at b dues position.After = []
 
--- the place is one among the run's months and a month's lines
+-- the position is one among the run's months and a month's lines
 abbrev pub IsPositionOf : Basin → List Shape → Position → Type 0
 IsPositionOf b dues position.Title = Unit {0}
 IsPositionOf b dues position.Run = Unit {0}
 IsPositionOf b dues (position.Month begun at) = (begun ≤ b.months) × (at ≤ length dues)
 IsPositionOf b dues position.After = Unit {0}
 
--- the place after a line, or none where the line may not come
+-- the position after a line, or none where the line may not come
 abbrev pub IsNextPosition : Basin → List Shape → List Shape → Item → Option Position → Type 0
 IsNextPosition b dues due item None = take_line b due item ≡ None
 IsNextPosition b dues due item (Some next) =

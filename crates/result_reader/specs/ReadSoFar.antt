@@ -1,4 +1,4 @@
--- What the lines of a text tell of the months' records.
+-- What the lines of a text say of the months' records.
 use Rattle.std.specs.Prelude.{ℕ, ◌+◌, true, false, List, [], ◌∷◌, ◌++◌, map, fold, length, replicate, Option, Some}
 use Rattle.std.specs.Prelude.{None, option_map, is_some, if◌then◌else◌, slice_index, slice_set}
 use Rattle.water_text.specs.declared.month.Month.{Month}
@@ -47,7 +47,7 @@ with_member t (Some right) node =
           };
     }
 
--- what was read with one line more
+-- what was read with one more line
 abbrev pub read_item : Basin → Inflows → ReadSoFar → Item → ReadSoFar
 read_item b series t line.Title = t
 read_item b series t (line.Run first months) = t

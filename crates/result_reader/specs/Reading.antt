@@ -27,7 +27,7 @@ use Rattle.result_reader.specs.declared.words.Word.TheVariants as word
 abbrev pub pieces_of : List ℕ → List (List ℕ)
 pieces_of bytes = slice_split (λ byte. byte == 32) bytes
 
--- and in what is after a space, if there is one
+-- and in what stands after a space, if there is one
 abbrev pub pieces_after : Option (Bor (List ℕ)) → List (List ℕ)
 pieces_after None = []
 pieces_after (Some rest) = pieces_of rest.now
@@ -37,7 +37,7 @@ abbrev pub and_then : {X Y : Type 0} → Result X BadLine → (X → Result Y Ba
 and_then (Ok x) f = f x
 and_then (Err why) f = Err why
 
--- the fields, where they are so many
+-- the fields, where there are this many: none, one, two or three
 abbrev pub no_field : List (List ℕ) → Result (Unit {0}) BadLine
 no_field [] = Ok tt
 no_field (x ∷ fields) = Err bad.BadField

@@ -9,7 +9,7 @@ use water_text::amount::read_plain;
 use water_text::month::Month;
 use water_text::name::is_name;
 
-/// The place of the first space.
+/// The index of the first space.
 fn first_space(text: &[u8]) -> Option<usize>
     ensures { result ≡ position (λ byte. byte == 32) text.now }
 {

@@ -25,7 +25,7 @@ fn entry_of(shape: &Shape) -> u32 {
     }
 }
 
-/// The first entry that the line at a place among those of a month names.
+/// The first entry that the line at a position names, or 0.
 fn due_entry(dues: &[Shape], position: Position) -> u32 {
     match position {
         Position::Month { at, .. } => dues.get(at).map_or(0, |shape| entry_of(shape)),
@@ -33,7 +33,7 @@ fn due_entry(dues: &[Shape], position: Position) -> u32 {
     }
 }
 
-/// The node that a list has at a number, or 0.
+/// The node that a list has at an index, or 0.
 fn node_at(nodes: &[u32], at: Option<u32>) -> u32 {
     match at {
         Some(at) => nodes.get(at as usize).copied().unwrap_or(0),
@@ -41,9 +41,9 @@ fn node_at(nodes: &[u32], at: Option<u32>) -> u32 {
     }
 }
 
-/// The entries that the next line most likely names: the one that is due, and of an `in` line the node that came after
-/// the last line's before. The sets of a month, and of one month and the next, differ little. `followers` has this node
-/// for each node one place after its own, and for a `call` line at the first.
+/// The entries that the next line most likely names: the one that is due, and for an `in` line the node that came after
+/// the last line in an earlier set. The sets of a month, and of one month and the next, differ little. `followers` has
+/// that node for each node at its index plus 1, and for a `call` line at index 0.
 pub fn likely_entries(dues: &[Shape], followers: &[u32], progress: Progress) -> Likely {
     Likely {
         member: node_at(followers, progress.next_member),
@@ -51,7 +51,7 @@ pub fn likely_entries(dues: &[Shape], followers: &[u32], progress: Progress) -> 
     }
 }
 
-/// Keeps the node of an `in` line as that which came after the line before it.
+/// Keeps the node of an `in` line as the one that came after the line before it.
 pub fn follow(followers: &mut [u32], progress: Progress, item: &Item) {
     if let (Some(next), Item::Member { node }) = (progress.next_member, *item)
         && (next as usize) < followers.len()

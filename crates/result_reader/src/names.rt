@@ -9,7 +9,7 @@ use std::alloc::{AllocError, Global};
 use water_model::space::{Space, count_in, name_in};
 use water_model::types::Basin;
 
-/// The names of a basin's entries, with the place of each in its space.
+/// The names of a basin's entries, with the index of each in its space.
 #[derive(Drop)]
 pub struct Names<'b> {
     pub basin: &'b Basin,
@@ -42,7 +42,7 @@ impl<'b> Names<'b> {
         })
     }
 
-    /// Whether the entry at a place has the name.
+    /// Whether the entry at an index has the name.
     fn has_name(&self, space: Space, at: u32, name: &[u8]) -> bool
         requires { IsValidBasin self.now.basin.now }
         ensures { result ≡ true → named self.now.basin.now space name.now ≡ Some at }
@@ -50,7 +50,7 @@ impl<'b> Names<'b> {
         at < count_in(space, self.basin) && name_in(space, self.basin, at).bytes() == name
     }
 
-    /// The place of the entry that has the name, or `None` where none has it, by a look-up in the map.
+    /// The index of the entry that has the name, or `None` where none has it, by a look-up in the map.
     fn look_up(&self, space: Space, name: &[u8]) -> Option<u32>
         ensures { result ≡ named self.now.basin.now space name.now }
     {
@@ -62,8 +62,8 @@ impl<'b> Names<'b> {
         }
     }
 
-    /// The place of the entry that has the name, or `None` where none has it. Where it is the entry at the likely
-    /// place, which may be any number, the name isn't looked up.
+    /// The index of the entry that has the name, or `None` where none has it. Where it is the entry at the likely
+    /// index, which may be any number, the name isn't looked up.
     pub fn named(&self, space: Space, likely: u32, name: &[u8]) -> Option<u32>
         requires { IsValidBasin self.now.basin.now }
         ensures value { result ≡ named self.now.basin.now space name.now }

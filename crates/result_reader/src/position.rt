@@ -1,4 +1,4 @@
-//! The place of a line among those that are due.
+//! The position of a line among those that are due.
 ghost use Rattle.std.specs.Prelude.{◌≡◌, ◌<◌, ◌≤◌, length};
 ghost use Rattle.water_model.specs.OfBasin.{IsOfBasin};
 ghost use Rattle.water_model.specs.Valid.{IsValidBasin};
@@ -11,16 +11,16 @@ use water_model::calls::month_at;
 use water_model::item::Item;
 use water_model::types::Basin;
 
-/// Where a line was found among those that are due: at a place, or not, because a line that is due stands before it, or
-/// because all that are left may be left out.
+/// Where a line was found among those that are due: at an index, or not, because a line that has to come stands before
+/// it, or because all that are left may be left out.
 pub enum DueSearch {
     At(usize),
     Blocked,
     Passed,
 }
 
-/// Where a reader stands: before a line of the head, or after so many `month` lines and at a place in that month's
-/// lines, or at the end.
+/// Where a reader stands: before a line of the head, or after `begun` of the `month` lines and at an index in that
+/// month's lines, or at the end.
 #[derive(Clone, Copy)]
 pub enum Position {
     Title,
@@ -51,7 +51,7 @@ fn fits(basin: &Basin, due: &Shape, item: &Item) -> bool
     is_same_shape(due, &shape_of(item)) && is_allowed(basin, item)
 }
 
-/// Looks for a line among those of a month, from a place on, over lines that may be left out.
+/// Looks for a line among those of a month, from an index on, over lines that may be left out.
 fn find_due(basin: &Basin, dues: &[Shape], from: usize, item: &Item) -> DueSearch
     requires from { from ≤ length dues.now }
     requires item { IsOfBasin basin.now item.now }
@@ -68,7 +68,7 @@ fn find_due(basin: &Basin, dues: &[Shape], from: usize, item: &Item) -> DueSearc
     DueSearch::Passed
 }
 
-/// The place after the line of the next month, or after the last line, if the line is the one that is due.
+/// The position after the line of the next month, or after the last line, if the line is the one that is due.
 fn next_month(basin: &Basin, begun: u32, item: &Item) -> Option<Position>
     requires basin { IsValidBasin basin.now }
     requires begun { begun ≤ basin.now.months }
@@ -99,7 +99,7 @@ fn next_month(basin: &Basin, begun: u32, item: &Item) -> Option<Position>
     }
 }
 
-/// The place after a line, if the line may come.
+/// The position after a line, if the line may come.
 pub fn next_position(
     basin: &Basin,
     dues: &[Shape],

@@ -12,8 +12,8 @@ use crate::shape::{Shape, is_call};
 use water_model::item::Item;
 use water_model::types::Basin;
 
-/// The place among the lines that are due, and behind a `call` the first node whose `in` line may come, and whether one
-/// must.
+/// The position among the lines that are due, and after a `call` the first node whose `in` line may come, and whether
+/// one must come.
 #[derive(Clone, Copy)]
 pub struct Progress {
     pub position: Position,

@@ -5,7 +5,7 @@ use Rattle.std.proofs.lemmas.Option.{slice_get-get_or}
 use Rattle.water_model.specs.Indices.{numbers_from}
 use Rattle.water_model.proofs.Order.{length-numbers_from, numbers_from-get}
 
--- a place is its own entry
+-- an index is its own entry
 pub index_at : (entries : List ℕ) (count k : ℕ) → entries ≡ numbers_from 0 count → k < count →
     slice_get entries k ≡ Some k
 index_at entries count k is l = ap (λ xs. slice_get xs k) is ∙ numbers_from-get 0 count k k l (omega arith)

@@ -18,7 +18,7 @@ use Rattle.water_model.proofs.Order.{length-numbers_from, numbers_from-get}
 use Rattle.result_text.specs.Members.{member_at, members_of}
 use Rattle.water_edge.proofs.Puts.{SoFar, SoFar-next, SoFar-whole}
 
--- a line for each place that a set has, told place by place
+-- a line for each index that a set has, index by index
 members : (g : ℕ → Bool) (set : List Bool) (from : ℕ) → ((k : ℕ) → k < length set → g (from + k) ≡ has set k) →
     flat_map (λ n. if g n then line.Member n ∷ [] else []) (numbers_from from (length set)) ≡ map (λ n. line.Member n)
     (members_from from set)
@@ -84,7 +84,7 @@ skip b words nodes from (suc count) {old} {now} {before} {after} s l h =
     (sym (unmarked words (from + count) (h (from + count) (omega arith) (omega arith)))) (Appends-nil now))
     (omega arith))
 
--- all lines in front of the next node that is marked
+-- all lines before the next node that is marked
 pub SoFar-at : (b : Basin) (words : List ℕ) (nodes from node : ℕ) {old now : Option (List ℕ)} {before after : ℕ} →
     SoFar (whole_line b) (member_at words) (numbers_from 0 nodes) from old now before after →
     IsNextInBoth words words from nodes node →

@@ -10,6 +10,6 @@ use Rattle.water_model.specs.declared.item.Item.TheVariants as line
 abbrev pub member_at : List ℕ → ℕ → List Item
 member_at words n = if is_marked words n then line.Member n ∷ [] else []
 
--- and those of a given number of nodes
+-- the lines of the first `nodes` nodes
 abbrev pub members_of : ℕ → List ℕ → List Item
 members_of nodes words = flat_map (member_at words) (numbers_from 0 nodes)

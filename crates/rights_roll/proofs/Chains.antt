@@ -6,7 +6,7 @@ use Rattle.std.proofs.lemmas.List.{length-set, get_or-set_same, get_or-set_other
 use Rattle.water_model.specs.declared.types.Right.{Right}
 use Rattle.rights_roll.specs.Rolls.{link_in, IsNextOn}
 
--- the chains of the rights from a place on
+-- the chains of the rights from an index onwards
 pub record ChainsFrom (rights : List Right) (first_on next_on : List (Option ℕ)) (at : ℕ) : Type 0 where
   pub count : length next_on ≡ length rights
   pub links : (right link : ℕ) → link_in rights right ≡ Some link → link < length first_on
@@ -15,7 +15,7 @@ pub record ChainsFrom (rights : List Right) (first_on next_on : List (Option ℕ
       IsNextOn rights link (right + 1) (get_or next_on right None)
   pub others : (right : ℕ) → link_in rights right ≡ None → get_or next_on right None ≡ None
 
--- the answer from the place after one that is not on the link
+-- the answer from the index after that of a right that is not on the link
 skip : (rights : List Right) (link k : ℕ) (o : Option ℕ) → link_in rights k ≢ Some link →
     IsNextOn rights link (k + 1) o → IsNextOn rights link k o
 skip rights link k None apart next = λ s from below e. elim (cases_eq s k) [

@@ -1,4 +1,4 @@
--- The first place at which a list of keys has a key.
+-- The first index at which a list of keys has a key.
 use Rattle.std.proofs.Common.{◌≡◌, ℕ, zero, suc, ◌+◌, ◌<◌, ◌≤◌, Bool, true, false, cond, List, [], ◌∷◌, ◌++◌, length}
 use Rattle.std.proofs.Common.{take, get_or, Some, None, refl, sym, ap, ◌∙◌, arith, add-zero}
 use Rattle.std.proofs.lemmas.Iterator.Adapters.{position_from-zero}
@@ -42,7 +42,7 @@ position-append p xs x =
     ∙ (ap (λ k. option_or (position_from p 0 xs) (cond (p x) (Some k) None)) count
     ∙ ap (λ o. option_or o (cond (p x) (Some (length xs)) None)) (sym (position_from-zero p xs))))
 
--- a first place is at most each place that passes, and at least each above places that all fail
+-- the first index is at most each index that passes, and at least each one below which all fail
 pub position_or_len-at_most : {X : Type 0} (p : X → Bool) (xs : List X) (k : ℕ) (d : X) → k < length xs →
     p (get_or xs k d) ≡ true → position_or_len p xs ≤ k
 position_or_len-at_most p [] k d h e = absurd (omega arith)
@@ -75,7 +75,7 @@ position-fails p xs k d none below = by_test (p (get_or xs k d)) refl
         let found : Some (position_or_len p xs) ≡ None =
         rw (lt-ltb (position_or_len p xs) (length xs) (omega (arith, at_most))) at none in cc
 
--- what is found in a prefix is the first place of the whole
+-- what is found in a prefix is the first index of the whole list
 pub position_or_len-found : {X : Type 0} (p : X → Bool) (xs : List X) (i first : ℕ) (d : X) → i ≤ length xs →
     position p (take i xs) ≡ Some first →
     (first < i) × (position_or_len p xs ≡ first)
@@ -88,7 +88,7 @@ position_or_len-found {X} p xs i first d h found =
           (λ l. ap p (sym (get_or-take i xs first d before)) ∙ at.1),
     )
 
--- where nothing is found in a prefix, the first place is past it
+-- where nothing is found in a prefix, the first index is past it
 pub position_or_len-past : {X : Type 0} (p : X → Bool) (xs : List X) (i : ℕ) (d : X) → i ≤ length xs →
     position p (take i xs) ≡ None → i ≤ position_or_len p xs
 position_or_len-past p xs i d h none =

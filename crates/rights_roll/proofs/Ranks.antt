@@ -31,12 +31,12 @@ use Rattle.rights_roll.proofs.SameSeniority.{IsFresh, first_like, same_seniority
 use Rattle.rights_roll.proofs.SameSeniority.{priority_in-is, strict-from_none}
 use Rattle.rights_roll.proofs.Seniors.{is_by_seniority}
 
--- the first rights by priority, no two with one
+-- the first rights by priority, no two with the same
 pub record AreFresh (rights : List Right) (ranks : BTreeMap Priority ℕ) (i : ℕ) : Type 0 where
   pub ranked : AreRanks (take i rights) ranks
   pub fresh : (k : ℕ) → k < i → IsFresh (map priority rights) k
 
--- the priority of a right that the map looks for
+-- the first right with a priority, among the first i rights
 abbrev pub at_prefix : List Right → ℕ → Priority → Option ℕ
 at_prefix rights i p = position (bytes_eq (numbers_of p)) (take i (map priority rights))
 
@@ -202,7 +202,7 @@ has-lookup test (e ∷ es) r h = by_test (test e.0) refl (has-lookup test es r)
     by_test true f further = let here : Some e.1 ≡ Some r = rw f at h in inl cc
     by_test false f further = inr (further (rw f at h))
 
--- the priority of the right at a place
+-- the priority of the right at an index
 priority_at : (rights : List Right) (r : ℕ) → r < length rights → (p : Priority) ×
     (numbers_of p ≡ get_or (map priority rights) r [])
 priority_at [] r h = absurd (omega arith)

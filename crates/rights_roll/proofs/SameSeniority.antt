@@ -12,15 +12,15 @@ use Rattle.rights_roll.specs.RollFaults.{same_from, same_seniority}
 use Rattle.rights_roll.specs.declared.RollRefused.TheVariants.{SameSeniority}
 use Rattle.rights_roll.proofs.Indices.{same_bytes, bytes_same, position_or_len-at_most, position_or_len-at_least}
 
--- the first place of the key at a place
+-- the first index of the key at an index
 abbrev pub first_like : List (List ℕ) → ℕ → ℕ
 first_like keys k = position_or_len (bytes_eq (get_or keys k [])) keys
 
--- no earlier place has the key
+-- no earlier index has the key
 abbrev pub IsFresh : List (List ℕ) → ℕ → Type 0
 IsFresh keys k = k ≤ first_like keys k
 
--- the keys from a place on
+-- the keys from an index onwards
 abbrev AreAfter : List (List ℕ) → ℕ → List (List ℕ) → Type 0
 AreAfter keys n rest = (k : ℕ) → k < length rest → get_or rest k [] ≡ get_or keys (n + k) []
 
@@ -42,7 +42,7 @@ from-fresh keys n key rest is fresh =
     ap (λ q. nat_lt (position_or_len (bytes_eq q) keys) n) is ∙ le-ltb (first_like keys n) n fresh in
     rw test refl
 
--- at a key that an earlier place has it ends
+-- at a key that an earlier index has, the search ends
 from-like : (keys : List (List ℕ)) (n : ℕ) (key : List ℕ) (rest : List (List ℕ)) → key ≡ get_or keys n [] →
     first_like keys n < n →
     same_from keys n (key ∷ rest) ≡ Some (SameSeniority (first_like keys n) n)

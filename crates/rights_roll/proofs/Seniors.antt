@@ -1,4 +1,4 @@
--- The list of the rights by seniority: it is the only one, and the place of each right in it.
+-- The list of the rights by seniority: it is the only one, and the index of each right in it.
 use Rattle.std.proofs.Common.{◌≡◌, ℕ, zero, suc, ◌<◌, ◌≤◌, Bool, true, false, List, [], ◌∷◌, length, get_or, refl, sym}
 use Rattle.std.proofs.Common.{ap, ◌∙◌, inl, inr, arith}
 use Rattle.std.proofs.lemmas.Bool.{cases_eq, cases_order}
@@ -22,7 +22,7 @@ not_both rights r s h k = let both : true ≡ false =
 
 -- Two orders of the same rights are equal.
 
--- a right in front of an order is not after it
+-- the first right of an order does not come again after it
 not_after : (rights : List Right) (x : ℕ) (xs : List ℕ) (r : ℕ) → IsOrdered rights (x ∷ xs) → Has xs r → r ≢ x
 not_after rights x xs r order has e = let both : true ≡ false =
     sym (order.0 r has) ∙ not_senior_to_same rights x r (sym e) in cc
@@ -58,7 +58,7 @@ is_by_seniority rights xs strict order all only =
     one_order rights xs (by_seniority rights) order (seniors_ordered rights strict)
     (λ r h. seniors_have rights r (only r h)) (λ r h. all r (seniors_below rights r h))
 
--- The place of a right in a list.
+-- The index of a right in a list.
 
 pub has-get_or : (xs : List ℕ) (i : ℕ) → i < length xs → Has xs (get_or xs i 0)
 has-get_or [] i h = absurd (omega arith)
@@ -72,7 +72,7 @@ by_seniority-below rights i h =
     seniors_below rights (get_or (by_seniority rights) i 0)
     (has-get_or (by_seniority rights) i (omega (arith, length-by_seniority rights)))
 
--- the first place at which a number stands, or the length
+-- the first index at which a number stands, or the length
 abbrev pub index_in : List ℕ → ℕ → ℕ
 index_in [] r = 0
 index_in (x ∷ xs) r = if r == x then 0 else suc (index_in xs r)
@@ -115,7 +115,7 @@ index_in-get_or rights (x ∷ xs) (suc i) order h =
     index_in-further x (get_or xs i 0) xs (not_after rights x xs (get_or xs i 0) order (has-get_or xs i (omega arith)))
     ∙ ap suc (index_in-get_or rights xs i order.1 (omega arith))
 
--- of two entries the one at the lower place is senior
+-- of two entries the one at the lower index is senior
 pub senior_by_index : (rights : List Right) (xs : List ℕ) (i j : ℕ) → IsOrdered rights xs → i < j → j < length xs →
     is_senior_in rights (get_or xs i 0) (get_or xs j 0) ≡ true
 senior_by_index rights [] i j order h k = absurd (omega arith)
@@ -148,7 +148,7 @@ senior-indices rights xs i j order h k = elim (cases_order i j) [
     false_by true e back = absurd (not_both rights (get_or xs i 0) (get_or xs j 0) e back)
     false_by false e back = refl
 
--- the rights by seniority have an order with places
+-- the rights by seniority are in an order with indices
 pub by_seniority_order : (rights : List Right) → AreStrict rights → IsSeniorityOrder rights (by_seniority rights)
 by_seniority_order rights strict = record {
   count = length-by_seniority rights;

@@ -18,7 +18,7 @@ use Rattle.rights_roll.specs.declared.RollRefused.TheVariants.{OutOfMemory}
 use Rattle.rights_roll.proofs.Firsts.{find-no_index, place-fails}
 use Rattle.rights_roll.proofs.SameSeniority.{strict-from_none, none-from_strict}
 
--- a fault that comes from none came from no place
+-- where there is no fault, no index was found
 none-mapped : (f : ℕ → RollRefused) (o : Option ℕ) → option_map f o ≡ None → o ≡ None
 none-mapped f None h = refl
 none-mapped f (Some k) h = let none : Some (f k) ≡ None = h in cc

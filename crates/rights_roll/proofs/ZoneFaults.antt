@@ -28,7 +28,7 @@ pub record AreClear (rights : List Right) (seen : ZoneSet) (i : ℕ) : Type 0 wh
       contains same_zone seen (reservoir, level) ≡ list_any (λ r. is_zone_kind reservoir level r.kind) (take i rights)
   pub clear : (k : ℕ) → k < i → has_zone_fault rights k ≡ false
 
--- the entry at a place within the list
+-- the entry at an index within the list
 pub of_entry-within : {X Y : Type 0} (xs : List X) (k : ℕ) (f : X → Y) (default : Y) (x : X) → k < length xs →
     x ≡ get_or xs k x → of_entry xs k f default ≡ f x
 of_entry-within [] k f default x below is = absurd (omega arith)

@@ -15,7 +15,7 @@ use Rattle.rights_roll.specs.Priorities.{numbers_of}
 use Rattle.rights_roll.specs.Zones.{ZoneTable, same_zone, is_senior_one, has_senior, AreSeniorZones}
 use Rattle.rights_roll.specs.declared.priority.Priority.{Priority}
 
--- what a list is lower than, one that it is not lower than is lower than too
+-- a list is lower than a third where another is, and that one is not lower than it
 lower_past : (xs ys zs : List ℕ) → length xs ≡ length ys → is_lower xs ys ≡ false → is_lower xs zs ≡ true →
     is_lower ys zs ≡ true
 lower_past [] ys zs e h i = cc

@@ -8,7 +8,7 @@ use Rattle.rights_roll.specs.RollFaults.{roll_fault}
 use Rattle.rights_roll.specs.SeniorityOrder.{IsSeniorityOrder}
 
 -- Seniors come first. Where no two rights have one priority, the list by seniority has every right once, and of two
--- rights the one at the lower place is senior.
+-- rights the one at the lower index is senior.
 abbrev pub SeniorsComeFirst : Type 0
 SeniorsComeFirst = (rights : List Right) → AreStrict rights → IsSeniorityOrder rights (by_seniority rights)
 

@@ -15,7 +15,7 @@ use Rattle.rights_roll.specs.declared.RollRefused.TheVariants.{OutOfMemory}
 abbrev pub date_fault : List Right → Option RollRefused
 date_fault rights = option_map BadDate (position has_bad_date rights)
 
--- the first right whose priority an earlier one has, with the first that has it. The rest begins at place n
+-- the first right whose priority an earlier one has, with the first that has it. The rest begins at index n
 abbrev pub same_from : List (List ℕ) → ℕ → List (List ℕ) → Option RollRefused
 same_from keys n [] = None
 same_from keys n (key ∷ rest) =
@@ -43,7 +43,7 @@ roll_fault rights returns =
     option_or (date_fault rights)
     (option_or (same_seniority rights) (option_or (zone_fault rights) (parts_fault rights returns)))
 
--- the refusal is the fault; want of memory is free
+-- the refusal is the fault, or says that memory ran out, whatever the fault
 abbrev pub IsRefusal : RollRefused → Option RollRefused → Type 0
 IsRefusal OutOfMemory fault = ⊤
 IsRefusal e fault = fault ≡ Some e

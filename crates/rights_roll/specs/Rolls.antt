@@ -10,7 +10,7 @@ use Rattle.rights_roll.specs.RollView.{RollView}
 abbrev pub link_in : List Right → ℕ → Option ℕ
 link_in rights right = of_entry rights right (λ r. link_of_kind r.kind) None
 
--- the answer is the first right from a place on that is on the link, or none where there is none
+-- the answer is the first right from index `start` onwards that is on the link, or none where there is none
 abbrev pub IsNextOn : List Right → ℕ → ℕ → Option ℕ → Type 0
 IsNextOn rights link start None = (s : ℕ) → start ≤ s → s < length rights → link_in rights s ≢ Some link
 IsNextOn rights link start (Some right) =

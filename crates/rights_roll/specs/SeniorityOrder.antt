@@ -3,7 +3,8 @@ use Rattle.std.specs.Prelude.{◌≡◌, ℕ, ◌<◌, nat_lt, List, length, sli
 use Rattle.water_model.specs.Rights.{is_senior_in}
 use Rattle.water_model.specs.declared.types.Right.{Right}
 
--- each right stands in the order once, at its place, and of two rights the one at the lower place is senior
+-- each right stands in the order once, at the index that `place` gives, and of two rights the one at the lower index is
+-- senior
 pub record IsSeniorityOrder (rights : List Right) (order : List ℕ) : Type 0 where
   pub count : length order ≡ length rights
   pub place : ℕ → ℕ

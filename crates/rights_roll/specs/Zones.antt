@@ -25,7 +25,7 @@ is_senior_one (Some p) key = is_lower (numbers_of p) key
 abbrev pub has_senior : ZoneTable → ℕ → ℕ → List ℕ → Bool
 has_senior zones reservoir level key = is_senior_one (get same_zone zones (reservoir, level)) key
 
--- the table tells whether some zone of a reservoir and level is senior to a priority
+-- the table says whether some zone of a reservoir and level is senior to a priority
 abbrev pub AreSeniorZones : List Right → ZoneTable → Type 0
 AreSeniorZones rights zones =
     (reservoir level : ℕ) (key : List ℕ) →

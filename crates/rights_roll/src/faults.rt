@@ -44,7 +44,7 @@ fn parts_by_right(
     Ok(sums)
 }
 
-/// The first place with more than 10,000 parts, that is, more than the whole.
+/// The first index with more than 10,000 parts, that is, more than the whole.
 fn first_above_whole(sums: &[u32]) -> Option<usize>
     ensures { result ≡ position (nat_lt 10000) sums.now }
 {

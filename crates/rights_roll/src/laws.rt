@@ -7,7 +7,7 @@ pub fn seniors_come_first()
 {}
 
 /// Rights and return rows are a sound roll exactly where they have no fault. So [`crate::roll::Roll::build`] answers a
-/// roll exactly for the sound ones, and for all others their first fault, but where memory runs out.
+/// roll exactly for the sound ones, and for all others their first fault, except where memory runs out.
 pub fn sound_rolls_have_no_fault()
     ensures { SoundRollsHaveNoFault }
 {}

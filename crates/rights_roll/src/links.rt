@@ -37,7 +37,7 @@ fn link_count(rights: &[Right]) -> usize
 }
 
 /// The chains of the instream rights. They are gone through from the last, so each finds the one after it. The tables
-/// have a place for each link up to the greatest with an instream right, and for each right.
+/// have an entry for each link up to the greatest with an instream right, and for each right.
 pub fn chains_of(alloc: Global, rights: &[Right]) -> Result<Chains, AllocError>
     requires { length rights.now ≤ 2000 }
     ensures { IfOk result (λ chains. AreChains rights.now chains.first_on.items chains.next_on.items) }

@@ -74,7 +74,7 @@ river_of nodes links v (Some e) sound l first =
       tail,
     )
 
--- the list of heads, place by place
+-- the list of heads, index by index
 heads_are : (links : List Link) (e : ℕ) → e < length links →
     slice_index (map (λ (l : Link). l.to) links) e ≡ head_in links e
 heads_are [] e l = absurd (omega arith)

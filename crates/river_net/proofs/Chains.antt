@@ -1,4 +1,4 @@
--- Links after one another, backwards: as many of them as there are nodes pass some node twice.
+-- Links one after another, backwards: as many of them as there are nodes pass some node twice.
 use Rattle.std.proofs.Common.{◌≡◌, ℕ, zero, suc, ◌<◌, ◌≤◌, true, refl, sym, ◌∙◌, ap, arith, List, length, inl, inr}
 use Rattle.std.proofs.lemmas.Bool.{cases_eq, cases_lt, eqb-true, ltb-false, ltb-true}
 use Rattle.std.specs.Prelude.{◌==◌, nat_lt, if◌then◌else◌}
@@ -9,7 +9,7 @@ use Rattle.water_model.specs.declared.types.Link.{Link}
 use Rattle.finite_sums.proofs.Counts.{total_ones, all_or_one, at_inside}
 use Rattle.river_net.proofs.Walks.{walk_by, walk_within}
 
--- two places at which a function has one value
+-- two indices at which a function has one value
 pub record Repeats (f : ℕ → ℕ) (n : ℕ) : Type 0 where
   pub first : ℕ
   pub second : ℕ
@@ -67,7 +67,7 @@ repeats n f below = elim (all_or_one n (λ v. nat_lt (count_where (suc n) (λ k.
           ]
         ]
 
--- a given number of links, each leading to where the one before it begins, the first to the node
+-- k links, each leading to where the one before it begins, the first to the node
 pub record Chain (links : List Link) (nodes k node : ℕ) : Type 0 where
   pub at : ℕ → ℕ
   pub start : at 0 ≡ node
@@ -89,7 +89,7 @@ chain_start links nodes node l = record {
   tail = λ i m. absurd (omega arith);
 }
 
--- a function with one value more in front
+-- a function with one more value before the others
 before : (ℕ → ℕ) → ℕ → ℕ → ℕ
 before f x zero = x
 before f x (suc i) = f i

@@ -1,4 +1,4 @@
--- A link more is counted at its head.
+-- One more link is counted at its head.
 use Rattle.std.proofs.Common.{◌≡◌, ℕ, ◌+◌, ◌<◌, ◌≤◌, sym, ◌∙◌, ap, arith, List, length, get_or, inl, inr, replicate}
 use Rattle.std.proofs.lemmas.Bool.{cases_eq, eq-eqb, ne_eqb}
 use Rattle.std.proofs.lemmas.List.{get_or-set_same, get_or-set_other, get_or-replicate, get_or_default, length-set}
@@ -20,7 +20,7 @@ entering_start g counts is = record {
       ∙ sym (total_where_start (λ e. head_in g.links e == v) (λ e. 1));
 }
 
--- a link more
+-- one more link
 pub entering_next : (g : GraphView) (k : ℕ) (counts : List ℕ) (x : Link) (old : ℕ) → k < length g.links →
     x.to < g.nodes →
     x ≡ get_or g.links k x → old ≡ get_or counts x.to old → AreEntering g k counts →

@@ -1,4 +1,4 @@
--- A link more is put into the list of its tail.
+-- One more link is put into the list of its tail.
 use Rattle.std.proofs.Common.{◌≡◌, ◌∙◌, ℕ, ◌+◌, ◌-◌, ◌<◌, Bool, false, List, length, sym, ap, subst, arith, get_or, inl}
 use Rattle.std.proofs.Common.{inr}
 use Rattle.std.proofs.lemmas.Bool.{cases_eq, eq-eqb, ne_eqb}
@@ -8,7 +8,7 @@ use Rattle.water_model.specs.Network.{tail_in}
 use Rattle.water_model.specs.declared.types.Link.{Link}
 use Rattle.river_net.specs.Firsts.{IsFirstFrom, IsLeaving, leaves}
 
--- a place before the others that does not pass
+-- an index before the others that does not pass
 first_skip : (test : ℕ → Bool) (e bound : ℕ) (o : Option ℕ) → test e ≡ false → IsFirstFrom test (e + 1) bound o →
     IsFirstFrom test e bound o
 first_skip test e bound None fails h = λ k a b. elim (cases_eq k e) [
@@ -25,7 +25,7 @@ first_skip test e bound (Some position) fails h = (
   ],
 )
 
--- a link more, in front of those of its tail
+-- one more link, before the others of its tail
 pub leaving_next : (nodes : ℕ) (links : List Link) (e : ℕ) (first next : List (Option ℕ)) (v : ℕ) (x : Option ℕ) →
     e < length links → v < nodes → tail_in links e ≡ v → x ≡ get_or first v None →
     IsLeaving nodes links (e + 1) first next → IsLeaving nodes links e (slice_set first v (Some e)) (slice_set next e x)

@@ -1,4 +1,4 @@
--- A node more gets its place.
+-- One more node gets its position.
 use Rattle.std.proofs.Common.{◌≡◌, ◌≢◌, ℕ, ◌+◌, ◌<◌, refl, sym, ◌∙◌, ap, arith, List, [], ◌∷◌, ◌++◌, length, inl, inr}
 use Rattle.std.proofs.lemmas.Bool.{cases_lt, cases_eq, le-ltb}
 use Rattle.std.proofs.lemmas.Bool.Decides.{nat_tests}
@@ -11,19 +11,19 @@ use Rattle.river_net.specs.GraphView.{GraphView}
 use Rattle.river_net.specs.Sorting.{IsPlacing}
 use Rattle.finite_sums.proofs.Counts.{fewer, at_inside}
 
--- the places with one more
+-- the positions with one more
 abbrev pub with_index : (ℕ → ℕ) → ℕ → ℕ → ℕ → ℕ
 with_index position v k u = if u == v then k else position u
 
--- the new place
+-- the new position
 pub at_index : (position : ℕ → ℕ) (v k : ℕ) → with_index position v k v ≡ k
 at_index position v k = grind (arith, nat_tests)
 
--- the other places
+-- the other positions
 pub off_index : (position : ℕ → ℕ) (v k u : ℕ) → u ≢ v → with_index position v k u ≡ position u
 off_index position v k u ne = grind (arith, nat_tests)
 
--- at the start no node has a place
+-- at the start no node has a position
 pub placing_start : (g : GraphView) → IsPlacing g [] (λ v. g.nodes)
 placing_start g = record {
   each = λ v l. inl refl;
@@ -35,7 +35,7 @@ placing_start g = record {
     no : (n x : ℕ) → (if nat_lt n n then x else 0) ≡ 0
     no n x = grind (arith, nat_tests)
 
--- an order of fewer nodes than there are, where a node has no place
+-- an order has fewer nodes than there are, where a node has no position
 pub room : (g : GraphView) (order : List ℕ) (position : ℕ → ℕ) (v : ℕ) → IsPlacing g order position → v < g.nodes →
     position v ≡ g.nodes →
     length order < g.nodes
@@ -43,7 +43,7 @@ room g order position v now l unplaced =
     let f = fewer g.nodes (λ u. nat_lt (position u) g.nodes) v l (le-ltb (position v) g.nodes (omega arith)) in
     omega (arith, now.number)
 
--- a node gets the next place, after all tails of links to it
+-- a node gets the next position, after all tails of links to it
 pub placing_next : (g : GraphView) (order : List ℕ) (position : ℕ → ℕ) (v : ℕ) → IsWithin g.nodes g.links →
     IsPlacing g order position →
     v < g.nodes → position v ≡ g.nodes →
@@ -108,7 +108,7 @@ placing_next g order position v within now inside unplaced tails = record {
     earlier : (k : ℕ) → k < length order → slice_index order' k ≡ slice_index order k
     earlier k l = grind (arith, common_steps)
 
-    -- a node with a place is another node
+    -- a node with a position is another node
     tail_stays : (u : ℕ) → position u < length order → position' u ≡ position u
     tail_stays u l = there u (λ same. let p = ap position same in absurd (omega (arith, full)))
 

@@ -22,7 +22,7 @@ use Rattle.river_net.proofs.Entries.{ends_in}
 use Rattle.water_model.proofs.Finds.{find_none, none_found}
 use Rattle.river_net.proofs.Walks.{any_index, index_any, walk_one, walk_within}
 
--- no entry passes where no place is found
+-- no entry passes where no index is found
 none_at : {X : Type 0} (p : X → Bool) (xs : List X) → position p xs ≡ None → (k : ℕ) (x : X) → slice_get xs k ≡ Some x →
     p x ≡ false
 none_at {X} p xs none k x at = elim (cases_Bool (nat_lt (position_or_len p xs) (length xs))) [
@@ -35,7 +35,7 @@ none_at {X} p xs none k x at = elim (cases_Bool (nat_lt (position_or_len p xs) (
     found : {n : ℕ} → Some n ≡ None → ⊥
     found h = cc
 
--- where no entry passes, no place is found
+-- where no entry passes, no index is found
 all_fail : {X : Type 0} (p : X → Bool) (xs : List X) → ((k : ℕ) (x : X) → slice_get xs k ≡ Some x → p x ≡ false) →
     position p xs ≡ None
 all_fail {X} p xs fails = elim (cases_Bool (nat_lt (position_or_len p xs) (length xs))) [
@@ -59,7 +59,7 @@ river_is : (links : List Link) (k : ℕ) (x : Link) → slice_get links k ≡ So
     is_river_in links k ≡ is_river_kind x.carry
 river_is links k x at = ap (λ o. unwrap_or (option_map (λ (l : Link). is_river_kind l.carry) o) false) at
 
--- whether a river leaves a node, over entries and over places
+-- whether a river leaves a node, over entries and over indices
 abbrev pub has_river : List Link → ℕ → Bool
 has_river links node = list_any (λ l. l.from == node && is_river_kind l.carry) links
 

@@ -14,7 +14,7 @@ use Rattle.river_net.specs.Firsts.{IsWithin}
 use Rattle.river_net.proofs.Chains.{Chain, chain_start, chain_more, chain_turns}
 use Rattle.river_net.proofs.Walks.{any_index, index_any, link_at}
 
--- whether a given number of links, one after the other, end at a node
+-- whether this many links, one after the other, end at a node
 has_chain : List Link → ℕ → ℕ → Bool
 has_chain links zero node = true
 has_chain links (suc k) node = list_any (λ l. l.to == node && has_chain links k l.from) links
@@ -35,7 +35,7 @@ chain_of links nodes within (suc k) v l h =
     (chain_of links nodes within k (tail_in links at.0) (within.ends at.0 below).0
     (ap (has_chain links k) tail ∙ parts.1)))
 
--- a link more after a chain
+-- one more link after a chain
 longer : (links : List Link) (k e : ℕ) → e < length links → has_chain links k (tail_in links e) ≡ true →
     has_chain links (suc k) (head_in links e) ≡ true
 unfolding has_chain
@@ -50,7 +50,7 @@ no_links : (links : List Link) (v : ℕ) → has_chain links 0 v ≡ true
 unfolding has_chain
 no_links links v = refl
 
--- the greatest place that passes is one that does
+-- the greatest index that passes is one that does
 reached : (n : ℕ) (p : ℕ → Bool) → p 0 ≡ true → (k : ℕ) × (k < suc n) × (p k ≡ true) ×
     (greatest_where (suc n) p (λ i. i) ≡ k)
 unfolding greatest_where

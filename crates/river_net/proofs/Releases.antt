@@ -19,7 +19,7 @@ pub first_leaves : (g : GraphView) (node from : ℕ) (next : Option ℕ) →
 first_leaves g node from None first = tt
 first_leaves g node from (Some e) first = (first.1, eqb-true (tail_in g.links e) node first.2)
 
--- of the links that leave the node, those from a place on are those from the next one on
+-- of the links that leave the node, those from an index on are those from the next one on
 pub splits : (g : GraphView) (node from : ℕ) (next : Option ℕ) →
     IsFirstFrom (leaves g.links node) from (length g.links) next →
     (f : ℕ) → f < length g.links → tail_in g.links f ≡ node → is_before next f ≡ nat_lt f from
@@ -40,7 +40,7 @@ pub order_fits : (g : GraphView) (order : List ℕ) (position : ℕ → ℕ) →
     length order ≤ g.nodes
 order_fits g order position now = omega (arith, now.number, count_at_most g.nodes (λ v. nat_lt (position v) g.nodes))
 
--- the node that has a place is the one that stands there
+-- the node that has a position is the one that stands there
 own_node : (g : GraphView) (order : List ℕ) (position : ℕ → ℕ) (done v : ℕ) → IsPlacing g order position → v < g.nodes →
     done < length order →
     position v ≡ done → v ≡ slice_index order done
@@ -117,7 +117,7 @@ release_next g order waits order' waits' done node e next within now first waits
         (let p = o.1 in
         omega arith) waits_are order_is
 
-    -- a new place is not among those that are done
+    -- a new position is not among those that are done
     compares : (p q d n k : ℕ) → (q ≡ p) ⊎ ((p ≡ n) × (q ≡ k)) → d < k → k ≤ n → (nat_lt q d ≡ nat_lt p d) ×
         (q == d ≡ (p == d))
     compares p q d n k h a b = grind (arith, nat_tests)

@@ -25,13 +25,13 @@ use Rattle.river_net.specs.Laws.{RunOfRiverIsPlan}
 use Rattle.finite_sums.proofs.Counts.{at_inside}
 use Rattle.river_net.proofs.Ranks.{forward_numbers}
 
--- the least place that passes
+-- the least index that passes
 pub record IsLeast (p : ℕ → Bool) (n k : ℕ) : Type 0 where
   pub below : k < n
   pub passes : p k ≡ true
   pub before : (j : ℕ) → j < k → p j ≡ false
 
--- there is a least place that passes, or none passes
+-- there is a least index that passes, or none passes
 least : (n : ℕ) (p : ℕ → Bool) → ((k : ℕ) × IsLeast p n k) ⊎ ((k : ℕ) → k < n → p k ≡ false)
 least zero p = inr (λ k l. absurd (omega arith))
 least (suc n) p = elim (least n p) [
@@ -123,7 +123,7 @@ river_balance nodes links supply flow out sound run v l = elim (cases_Bool (is_o
     own_value : (u v x : ℕ) → u ≡ v → (if u == v then x else 0) ≡ x
     own_value u v x e = grind (arith, nat_tests)
 
--- no link carries more than all nodes are supplied with: of the nodes up to its tail no water comes from behind
+-- no link carries more than all nodes are supplied with: no water comes to the nodes up to its tail from those after it
 pub river_small : (nodes : List Node) (links : List Link) (rank : ℕ → ℕ) (supply flow out : List ℕ) →
     IsWithin (length nodes) links → IsSoundNetwork nodes links →
     IsForward links rank → RunsNaturally nodes links supply flow out → (e : ℕ) → e < length links →

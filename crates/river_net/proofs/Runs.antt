@@ -40,7 +40,7 @@ running_start nodes links supply position flow out dry here = record {
     none true x h = h
     none false x h = refl
 
--- another node that is up to a place in the order is before it
+-- another node that is up to a position in the order is before it
 at_index : (nodes : List Node) (links : List Link) (order : List ℕ) (run : IsRunningOrder nodes links order) (i u : ℕ) →
     i < length nodes → u < length nodes → u ≢ slice_index order i →
     run.position u < i + 1 → run.position u < i

@@ -1,4 +1,4 @@
--- A search goes on, over one link more.
+-- A search goes on, over one more link.
 use Rattle.std.proofs.Common.{◌≡◌, ◌≢◌, ℕ, suc, ◌+◌, ◌<◌, ◌≤◌, Bool, true, false, refl, sym, ◌∙◌, ap, subst, arith}
 use Rattle.std.proofs.Common.{List, [], ◌∷◌, ◌++◌, length, replicate, inl, inr}
 use Rattle.std.proofs.lemmas.Bool.{cases_eq, cases_lt, cases_Bool, false_from_ne_true}
@@ -16,7 +16,7 @@ use Rattle.finite_sums.proofs.Counts.{at_inside}
 use Rattle.river_net.proofs.Releases.{first_leaves, splits}
 use Rattle.river_net.proofs.Walks.{walk_on, walk_one, walk_within, walk_stays}
 
--- what a set has with one node more
+-- what a set has with one more node
 has_more : (seen : List Bool) (v u : ℕ) → v < length seen → has (slice_set seen v true) u ≡ (u == v || has seen u)
 has_more seen v u l = elim (cases_eq u v) [
   | inl same ↦
@@ -242,7 +242,7 @@ expand_next g start seen queue done node e seen' queue' next within now other se
         less : (f e : ℕ) → (f ≡ e → ⊥) → nat_lt f (e + 1) ≡ true → nat_lt f e ≡ true
         less f e apart h = grind (arith, nat_tests)
 
--- where all places of the queue were followed, no walk leads back
+-- where the links of all nodes in the queue were followed, no walk leads back
 pub search_ends : (g : GraphView) (start : ℕ) (seen : List Bool) (queue : List ℕ) (done : ℕ) →
     IsWithin g.nodes g.links → start < g.nodes → length queue ≤ done →
     IsExpanded g start seen queue done → reaches_itself g start ≡ false
@@ -251,7 +251,7 @@ search_ends g start seen queue done within inside all now = false_from_ne_true (
     now.search.each (tail_in g.links e) (within.ends e l).0 t in
     let b = at.1 in now.closed at.0 e (omega arith) l (sym at.2)) now.search.start_seen h)
 
--- the queue has no more places than there are nodes
+-- the queue is no longer than there are nodes
 pub queue_fits : (g : GraphView) (start : ℕ) (seen : List Bool) (queue : List ℕ) → IsSearch g start seen queue →
     length queue ≤ g.nodes
 queue_fits g start seen queue now = omega (arith, now.number, count_at_most g.nodes (λ v. has seen v))

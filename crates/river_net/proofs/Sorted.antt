@@ -24,14 +24,14 @@ off_cycle g order waits done now v l free = false_from_ne_true (walks g.links g.
     let up = walk_rises g.links now.position (length order) g.nodes v v now.sorting.placing.forward
     (now.sorting.free v l l free) h in absurd (omega arith))
 
--- a link leads to a node without a place from another without a place
+-- a link leads to a node without a position from another without a position
 pub record HasOpenLink (g : GraphView) (order : List ℕ) (position : ℕ → ℕ) (node : ℕ) : Type 0 where
   pub link : ℕ
   pub in_range : link < length g.links
   pub head : head_in g.links link ≡ node
   pub tail : length order ≤ position (tail_in g.links link)
 
--- a node without a place waits for such a link
+-- a node without a position waits for such a link
 open_link : (g : GraphView) (order waits : List ℕ) → (now : IsReleased g order waits (length order)) → (v : ℕ) →
     v < g.nodes → length order ≤ now.position v →
     HasOpenLink g order now.position v
@@ -67,7 +67,7 @@ chain_to g order waits within now (suc k) v l unplaced =
     (chain_more g.links g.nodes k one.link one.in_range (within.ends one.link one.in_range).1
     (chain_to g order waits within now k (tail_in g.links one.link) (within.ends one.link one.in_range).0 one.tail))
 
--- where no node is on a cycle, every node has its place
+-- where no node is on a cycle, every node has its position
 pub all_placed : (g : GraphView) (order waits : List ℕ) → IsWithin g.nodes g.links →
     (now : IsReleased g order waits (length order)) →
     ((v : ℕ) → v < g.nodes → walks g.links g.nodes v v ≡ false) → (v : ℕ) → v < g.nodes → now.position v < length order

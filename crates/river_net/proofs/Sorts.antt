@@ -1,4 +1,4 @@
--- Nodes get their places while links are handled.
+-- Nodes get their positions while links are handled.
 use Rattle.std.proofs.Common.{◌≡◌, ◌≢◌, ℕ, ◌+◌, ◌-◌, ◌<◌, ◌≤◌, Bool, true, false, refl, sym, ◌∙◌, ap, subst, arith}
 use Rattle.std.proofs.Common.{List, [], ◌∷◌, ◌++◌, length, inl, inr}
 use Rattle.std.proofs.lemmas.Bool.{cases_eq, eqb-true, eq-eqb, ne_eqb, false≢true, or_cases}
@@ -19,7 +19,7 @@ use Rattle.river_net.proofs.Indices.{with_index, at_index, off_index, placing_st
 abbrev pub waiting_at : GraphView → (ℕ → Bool) → ℕ → ℕ
 waiting_at g handled v = count_where (length g.links) (λ e. head_in g.links e == v && not (handled e))
 
--- a node that waits for none gets its place
+-- a node that waits for none gets its position
 sorting_index : (g : GraphView) (order waits : List ℕ) (position : ℕ → ℕ) (handled : ℕ → Bool) (bound v : ℕ) →
     IsWithin g.nodes g.links → IsPlacing g order position → length waits ≡ g.nodes →
     ((u : ℕ) → u < g.nodes → slice_index waits u ≡ waiting_at g handled u) →
@@ -98,7 +98,7 @@ sources_start g order waits none entering = subst (λ xs. HasSources g xs waits 
     unhandled true = refl
     unhandled false = refl
 
--- a node that no link leads to gets its place
+-- a node that no link leads to gets its position
 pub source_next : (g : GraphView) (order order' waits : List ℕ) (v : ℕ) → IsWithin g.nodes g.links → v < g.nodes →
     slice_index waits v ≡ 0 →
     order' ≡ order ++ v ∷ [] → HasSources g order waits v → HasSources g order' waits (v + 1)
@@ -135,7 +135,7 @@ source_skip g order waits v some now = record {
   };
 }
 
--- one link more is handled
+-- one more link is handled
 abbrev pub and_link : (ℕ → Bool) → ℕ → ℕ → Bool
 and_link handled e f = handled f || f == e
 
@@ -174,7 +174,7 @@ waits_for g order waits position handled e within now below unhandled_yet =
     own : (u x : ℕ) → (if u == u then x else 0) ≡ x
     own u x = grind (arith, nat_tests)
 
--- what handling a link leaves: old places stay, and at most its head gets a new one
+-- what handling a link leaves: old positions stay, and at most its head gets a new one
 pub record IsSettled (g : GraphView) (order waits : List ℕ) (position : ℕ → ℕ) (handled : ℕ →
     Bool) (e : ℕ) (order' waits' : List ℕ) : Type 0 where
   pub position' : ℕ → ℕ

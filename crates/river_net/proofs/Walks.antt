@@ -25,14 +25,14 @@ index_any p [] k x at h = cc
 index_any p (y ∷ xs) zero x at h = or_left (p y) (list_any p xs) (let same : y ≡ x = cc in ap p same ∙ h)
 index_any p (y ∷ xs) (suc k) x at h = or_right (p y) (list_any p xs) (index_any p xs k x at h)
 
--- the link at a place
+-- the link at an index
 pub link_at : (links : List Link) (e : ℕ) → e < length links → (l : Link) × (slice_get links e ≡ Some l) ×
     (tail_in links e ≡ l.from) × (head_in links e ≡ l.to)
 link_at [] e l = absurd (omega arith)
 link_at (x ∷ links) zero l = (x, refl, refl, refl)
 link_at (x ∷ links) (suc e) l = link_at links e (omega arith)
 
--- the first link of a walk of at most k links more
+-- the first link of a walk of at most k more links
 pub record BeginsWalk (links : List Link) (k from to : ℕ) : Type 0 where
   pub link : ℕ
   pub in_range : link < length links
@@ -106,7 +106,7 @@ walk_within links j (suc k) from to le h = elim (cases_lt j (suc k)) [
   | inr above ↦ (let same : j ≡ suc k = omega arith in subst (λ i. walks links i from to ≡ true) same h)
 ]
 
--- a walk goes on over one link more
+-- a walk goes on over one more link
 pub walk_on : (links : List Link) (k from e : ℕ) → e < length links → walks links k from (tail_in links e) ≡ true →
     walks links (suc k) from (head_in links e) ≡ true
 walk_on links zero from e l h = absurd (no_walk links from (tail_in links e) h)

@@ -8,7 +8,7 @@ use Rattle.water_model.specs.declared.types.Link.{Link}
 use Rattle.water_model.specs.declared.types.Node.{Node}
 use Rattle.river_net.specs.NetView.{NetView}
 
--- the order has every node once, each at its place, and each link leads from a node to one with a greater place
+-- the order has every node once, each at its position, and each link leads from a node to one with a greater position
 pub record IsRunningOrder (nodes : List Node) (links : List Link) (order : List ℕ) : Type 0 where
   pub count : length order ≡ length nodes
   pub position : ℕ → ℕ

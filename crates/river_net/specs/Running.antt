@@ -7,7 +7,7 @@ use Rattle.water_model.specs.RunOfRiver.{IsFirstRiver}
 use Rattle.water_model.specs.declared.types.Link.{Link}
 use Rattle.water_model.specs.declared.types.Node.{Node}
 
--- a river has places in the lists, leads to another node, and the water there stays below 2^64
+-- a river has its index in the lists, leads to another node, and the water there stays below 2^64
 abbrev pub CanSend : Option ℕ → ℕ → List ℕ → List ℕ → List ℕ → Type 0
 CanSend river node heads flow out =
     IfSome river (λ e. (e < length flow) × ((e < length heads) × ((slice_index heads e < length out)
@@ -21,7 +21,7 @@ pub record IsSent (link node head : ℕ) (flow flow' out out' : ℕ → ℕ) : T
   pub reached : out' head ≡ out head + out node
   pub others : (v : ℕ) → v ≢ node → v ≢ head → out' v ≡ out v
 
--- the nodes with the first places have sent their water on
+-- the nodes at the positions below `done` have sent their water on
 pub record IsRunning (nodes : List Node) (links : List Link) (supply position : ℕ → ℕ) (done : ℕ) (flow out : ℕ →
     ℕ) : Type 0 where
   pub balance : (v : ℕ) → v < length nodes →

@@ -10,7 +10,7 @@ use Rattle.river_net.specs.Sorting.{is_before}
 abbrev pub reaches_itself : GraphView → ℕ → Bool
 reaches_itself g node = walks g.links g.nodes node node
 
--- the nodes that were seen stand in a queue, each once, and the links that leave a place of it end walks from the start
+-- the nodes that were seen stand in a queue, each once, and each link that leaves one ends a walk from the start
 pub record IsSearch (g : GraphView) (start : ℕ) (seen : List Bool) (queue : List ℕ) : Type 0 where
   pub count : length seen ≡ g.nodes
   pub start_seen : has seen start ≡ true
@@ -20,13 +20,13 @@ pub record IsSearch (g : GraphView) (start : ℕ) (seen : List Bool) (queue : Li
   pub reached : (j e : ℕ) → j < length queue → e < length g.links → tail_in g.links e ≡ slice_index queue j →
       walks g.links (j + 1) start (head_in g.links e) ≡ true
 
--- the links from the first places of the queue were followed, and none led to the start
+-- the links from the first `done` nodes of the queue were followed, and none led to the start
 pub record IsExpanded (g : GraphView) (start : ℕ) (seen : List Bool) (queue : List ℕ) (done : ℕ) : Type 0 where
   pub search : IsSearch g start seen queue
   pub closed : (j e : ℕ) → j < done → e < length g.links → tail_in g.links e ≡ slice_index queue j →
       (has seen (head_in g.links e) ≡ true) × (head_in g.links e ≡ start → ⊥)
 
--- so were those before the next that leave the node after them
+-- so were the links before `next` that leave the node after them
 pub record IsExpanding (g : GraphView) (start : ℕ) (seen : List Bool) (queue : List ℕ) (done node : ℕ)
     (next : Option ℕ) : Type 0 where
   pub expanded : IsExpanded g start seen queue done

@@ -1,17 +1,17 @@
--- How nodes get their places in an order in which each link runs forward.
+-- How nodes get their positions in an order in which each link runs forward.
 use Rattle.std.specs.Prelude.{◌≡◌, ◌⊎◌, ℕ, ◌<◌, ◌≤◌, ◌==◌, ◌&&◌, ◌||◌, Bool, true, false, not, nat_lt, List, length}
 use Rattle.std.specs.Prelude.{slice_index, Option, Some, None, IfSome}
 use Rattle.finite_sums.specs.Sums.{count_where}
 use Rattle.water_model.specs.Network.{tail_in, head_in}
 use Rattle.river_net.specs.GraphView.{GraphView}
 
--- how many of the links before a place lead to each node
+-- how many of the links before the index `bound` lead to each node
 pub record AreEntering (g : GraphView) (bound : ℕ) (counts : List ℕ) : Type 0 where
   pub count : length counts ≡ g.nodes
   pub each : (v : ℕ) → v < g.nodes → slice_index counts v ≡ count_where bound (λ e. head_in g.links e == v)
 
--- the nodes of the order have their places in it, after all nodes from which links lead to them; any other node has the
--- place `nodes`
+-- the nodes of the order have their positions in it, after all nodes from which links lead to them; any other node has
+-- the position `nodes`
 pub record IsPlacing (g : GraphView) (order : List ℕ) (position : ℕ → ℕ) : Type 0 where
   pub each : (v : ℕ) → v < g.nodes →
       (position v ≡ g.nodes) ⊎ ((position v < length order) × (slice_index order (position v) ≡ v))
@@ -21,7 +21,7 @@ pub record IsPlacing (g : GraphView) (order : List ℕ) (position : ℕ → ℕ)
   pub number : count_where g.nodes (λ v. nat_lt (position v) g.nodes) ≡ length order
 
 -- each node waits for the links that lead to it and are not handled; of the nodes below a bound those that wait for
--- none have places
+-- none have positions in the order
 pub record IsSorting (g : GraphView) (order waits : List ℕ) (position : ℕ → ℕ) (handled : ℕ → Bool) (bound : ℕ) : Type 0
   where
     pub placing : IsPlacing g order position
@@ -32,12 +32,12 @@ pub record IsSorting (g : GraphView) (order waits : List ℕ) (position : ℕ �
     pub idle : (v : ℕ) → v < g.nodes → position v < length order → (v < bound) × (slice_index waits v ≡ 0)
     pub tails : (e : ℕ) → e < length g.links → handled e ≡ true → position (tail_in g.links e) < length order
 
--- no link is handled, and the nodes below a bound that no link leads to have places
+-- no link is handled, and the nodes below a bound that no link leads to have positions in the order
 pub record HasSources (g : GraphView) (order waits : List ℕ) (bound : ℕ) : Type 0 where
   pub position : ℕ → ℕ
   pub sorting : IsSorting g order waits position (λ e. false) bound
 
--- the links are handled that leave the first nodes of the order
+-- the links that leave the first `done` nodes of the order are handled
 pub record IsReleased (g : GraphView) (order waits : List ℕ) (done : ℕ) : Type 0 where
   pub position : ℕ → ℕ
   pub handled : ℕ → Bool
@@ -49,7 +49,7 @@ abbrev pub is_before : Option ℕ → ℕ → Bool
 is_before None link = true
 is_before (Some next) link = nat_lt link next
 
--- so are those before the next that leave the node after them
+-- so are the links before `next` that leave the node after them
 pub record IsReleasing (g : GraphView) (order waits : List ℕ) (done node : ℕ) (next : Option ℕ) : Type 0 where
   pub position : ℕ → ℕ
   pub handled : ℕ → Bool

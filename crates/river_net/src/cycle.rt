@@ -13,14 +13,14 @@ use std::alloc::{AllocError, Global};
 /// A search along links, breadth first.
 #[derive(Drop)]
 struct Search {
-    /// For each node whether it was reached.
+    /// For each node whether it was seen.
     seen: Vec<bool>,
-    /// The nodes that were reached, in the order in which they were.
+    /// The nodes that were seen, in the order in which they were.
     queue: Vec<u32>,
 }
 
 impl Search {
-    /// Only the start is reached.
+    /// A search that has seen only the start.
     fn start(alloc: Global, graph: &Graph, node: u32) -> Result<Search, AllocError>
         requires { node < graph.now.nodes }
         ensures search { IfOk result (λ search.
@@ -33,7 +33,7 @@ impl Search {
         Ok(Search { seen, queue })
     }
 
-    /// Puts a node into the queue that was not there yet.
+    /// Puts a node into the queue, unless it is there already.
     fn visit(&mut self, node: u32) -> Result<(), AllocError>
         requires { node < length self.old.seen.items }
         ensures seen { OnOk result (self.new.seen.items ≡ slice_set self.old.seen.items node true) }
@@ -48,7 +48,7 @@ impl Search {
         Ok(())
     }
 
-    /// Follows the links that leave the node at a place of the queue. Says whether one leads to the start.
+    /// Follows the links that leave the node at the index `done` of the queue. Says whether one leads to the start.
     fn expand(&mut self, done: usize, start: u32, graph: &Graph) -> Result<bool, AllocError>
         requires within { done < length self.old.queue.items }
         requires search { IsExpanded graph.now start self.old.seen.items self.old.queue.items done }
@@ -86,8 +86,8 @@ fn reaches_itself(alloc: Global, graph: &Graph, node: u32) -> Result<bool, Alloc
     Ok(false)
 }
 
-/// The first node that reaches itself. Given are the counts of [`crate::sorting::Sorting`]: where one is 0, the node
-/// does not, so it is not searched from.
+/// The first node that reaches itself. `waits` has the counts of [`crate::sorting::Sorting`]: where one is 0, the node
+/// does not reach itself, so no search starts from it.
 pub fn node_on_cycle(alloc: Global, graph: &Graph, waits: &[u32]) -> Result<Option<u32>, AllocError>
     requires count { length waits.now ≡ graph.now.nodes }
     requires waiting { (v : ℕ) → v < graph.now.nodes → slice_index waits.now v ≡ 0 →

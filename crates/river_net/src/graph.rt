@@ -8,7 +8,7 @@ use std::alloc::{AllocError, Global};
 use std::marker::Model;
 use water_model::types::{Link, Node};
 
-/// Links between nodes, with the links that leave each node as a list in the order of their places.
+/// Links between nodes, with the links that leave each node as a list in the order of their indices.
 #[derive(Drop)]
 pub struct Graph<'a> {
     links: &'a [Link],

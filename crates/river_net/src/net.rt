@@ -63,7 +63,7 @@ fn send(river: Option<u32>, heads: &[u32], node: usize, flow: &mut [u64], out: &
 }
 
 impl Net {
-    /// The network of nodes and links, which name each other by their places, from 0. Where something is at fault, the
+    /// The network of nodes and links, which name nodes by their indices, from 0. Where something is at fault, the
     /// answer is the first fault: a link from a node to itself, else a link from an outlet, else a node that is no
     /// outlet and that no river leaves, else a cycle of links. It takes memory: `OutOfMemory` comes only where it runs
     /// out, and then says nothing of nodes and links.

@@ -4,7 +4,7 @@ ghost use Rattle.std.specs.Prelude.{◌≡◌};
 use std::alloc::AllocError;
 use thiserror::Error;
 
-/// Why nodes and links are no network. Links and nodes are named by their places, from 0.
+/// Why nodes and links are no network. Links and nodes are named by their indices, from 0.
 #[derive(Clone, Copy, Debug, PartialEq, Eq, Error)]
 pub enum NetRefused {
     /// The first link that leads from a node to itself.
@@ -16,7 +16,7 @@ pub enum NetRefused {
     /// The first node that is no outlet and that no river leaves.
     #[error("no river leaves node {0}, which is no outlet")]
     NoRiver(u32),
-    /// The first node that its own water comes back to, by rivers or canals.
+    /// The first node to which its own water comes back, by rivers or canals.
     #[error("links lead from node {0} back to it")]
     DirectedCycle(u32),
     #[error("out of memory")]

@@ -10,13 +10,13 @@ use std::alloc::{AllocError, Global};
 #[derive(Drop)]
 pub struct Sorting {
     pub order: Vec<u32>,
-    /// For each node how many links lead to it from nodes that have no place in the order yet, or whose links are still
-    /// to be looked at.
+    /// For each node how many links lead to it from nodes that have no position in the order yet, or whose links are
+    /// still to be looked at.
     pub waits: Vec<u32>,
 }
 
 impl Sorting {
-    /// Places the nodes that no link leads to.
+    /// Puts the nodes that no link leads to into the order.
     fn start(alloc: Global, graph: &Graph) -> Result<Sorting, AllocError>
         ensures { IfOk result (λ sorting.
             HasSources graph.now sorting.order.items sorting.waits.items graph.now.nodes) }
@@ -31,7 +31,7 @@ impl Sorting {
         Ok(Sorting { order, waits })
     }
 
-    /// Takes off a link that leads to a node. Where it was the last, the node gets the next place.
+    /// Counts off a link that leads to a node. Where it was the last, the node gets the next position.
     fn settle(&mut self, node: u32) -> Result<(), AllocError>
         requires within { node < length self.old.waits.items }
         requires waits { 0 < slice_index self.old.waits.items node }
@@ -49,7 +49,7 @@ impl Sorting {
         Ok(())
     }
 
-    /// Takes off the links that leave the node at a place of the order.
+    /// Counts off the links that leave the node at the position `done` of the order.
     fn release(&mut self, done: usize, graph: &Graph) -> Result<(), AllocError>
         requires within { done < length self.old.order.items }
         requires sorting { IsReleased graph.now self.old.order.items self.old.waits.items done }
@@ -65,7 +65,8 @@ impl Sorting {
     }
 }
 
-/// Places nodes as long as one waits for no link (A. B. Kahn, Topological sorting of large networks, 1962).
+/// Puts nodes into the order as long as one waits for no link (A. B. Kahn, Topological sorting of large
+/// networks, 1962).
 pub fn sort(alloc: Global, graph: &Graph) -> Result<Sorting, AllocError>
     ensures { IfOk result (λ sorting.
         let order = sorting.order.items in

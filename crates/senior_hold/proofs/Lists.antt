@@ -11,7 +11,7 @@ get_last [] (suc k) x h = absurd (omega arith)
 get_last (y ∷ xs) zero x h = absurd (omega arith)
 get_last (y ∷ xs) (suc k) x h = get_last xs k x (omega arith)
 
--- one number more of a list that is known place by place
+-- one more number of a list that is known index by index
 pub pushed_each : (f : ℕ → ℕ) (xs ys : List ℕ) (n y : ℕ) → ys ≡ xs ++ y ∷ [] → length xs ≡ n →
     ((k : ℕ) → k < n → slice_index xs k ≡ f k) → y ≡ f n → (k : ℕ) → k < n + 1 → slice_index ys k ≡ f k
 pushed_each f xs ys n y is len each here k l = elim (cases_lt k n) [

@@ -85,7 +85,7 @@ marked_more n y k m h = ext_get_or false (slice_set (marked n y k) k true) (mark
           ∙ (list_at n (λ v. nat_lt v k && y v) i l ∙ other i k (y i) ne)
     ]
 
--- one node more is marked
+-- one more node is marked
 pub mark_more : (c : CutSets) (new : CutSets) (r n : ℕ) (y : ℕ → Bool) (k : ℕ) → r < length c.sets → k < n →
     y k ≡ true → IfSome (set_of (with_set c r (Some (marked n y k))) r)
     (λ set. new ≡ with_set (with_set c r (Some (marked n y k))) r (Some (slice_set set k true))) →

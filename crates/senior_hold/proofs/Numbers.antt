@@ -1,4 +1,4 @@
--- Writes of a plan's numbers to the places of their arcs.
+-- Writes of a plan's numbers at the indices of their arcs.
 use Rattle.std.proofs.Common.{◌≡◌, ◌≢◌, ℕ, ◌+◌, ◌<◌, ◌≤◌, true, false, sym, ◌∙◌, ap, arith, List, length, inl, inr}
 use Rattle.std.proofs.Common.{get_or, get_or-set_same, get_or-set_other}
 use Rattle.std.proofs.lemmas.Bool.{cases_lt, cases_eq}
@@ -92,7 +92,7 @@ numbers_out b p into into' n x arc l h is inside write value now = record {
     there : (a : ℕ) → a ≢ arc → slice_index into' a ≡ slice_index into a
     there a ne = ap (λ (xs : List ℕ). slice_index xs a) write ∙ get_or-set_other into arc a x 0 ne
 
--- a list that is known place by place
+-- a list that is known index by index
 pub list_is : (n k : ℕ) (f : ℕ → ℕ) (xs : List ℕ) → length xs ≡ n → n ≤ k → ((i : ℕ) → i < k → slice_index xs i ≡ f i) →
     xs ≡ list_of n f
 list_is n k f xs size enough each =

@@ -74,7 +74,7 @@ pub record AreLent (r : Words) (p : Places) (fixed moving tree : List ℕ) : Typ
   pub first : fixed ≡ take (fixed_count p.circ.nodes p.circ.arcs) held
   pub rest : moving ≡ drop (fixed_count p.circ.nodes p.circ.arcs) held
 
--- are the parts of both
+-- they are the parts of both
 pub parts_lent : (b : Basin) (r : Words) (p : Places) (fixed moving tree : List ℕ) → HasPlaces b r p →
     AreLent r p fixed moving tree → HasParts b p.circ fixed moving tree
 parts_lent b r p fixed moving tree h l =

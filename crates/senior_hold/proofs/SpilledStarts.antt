@@ -32,11 +32,11 @@ last_at : (arcs : ℕ) (xs : List ℕ) (k n : ℕ) → k + length xs ≡ arcs �
     slice_index (on_last arcs xs) (k + n) ≡ slice_index xs n
 last_at arcs xs k n is = grind (arith, common_steps)
 
--- there are a given number of amounts
+-- there are as many amounts as arcs
 pub length-on_last : (arcs : ℕ) (xs : List ℕ) → length xs ≤ arcs → length (on_last arcs xs) ≡ arcs
 length-on_last arcs xs bounded = grind (arith, common_steps)
 
--- and all are given where none is left
+-- and they are those given, where these are as many
 pub last_all : (arcs : ℕ) (xs : List ℕ) → length xs ≡ arcs → on_last arcs xs ≡ xs
 last_all arcs xs all =
     let none : arcs - length xs ≡ 0 = omega arith in ap (λ (n : ℕ). replicate {A = ℕ} n 0 ++ xs) none

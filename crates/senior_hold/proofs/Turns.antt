@@ -25,7 +25,7 @@ use Rattle.rights_roll.specs.Rolls.{IsRollOf}
 use Rattle.rights_roll.proofs.Seniors.{by_seniority_order}
 use Rattle.senior_hold.specs.Solved.{AreWants}
 
--- the order of a roll has each right at its place
+-- the order of a roll has each right at its index
 pub order_of_roll : (b : Basin) (roll : RollView) → IsValidBasin b → IsRollOf b.rights roll →
     IsSeniorityOrder b.rights roll.order
 order_of_roll b roll valid is =
@@ -84,7 +84,7 @@ pub turn_free : (b : Basin) (month : Month) (supply want order : List ℕ) (o : 
 turn_free b month supply want order o k r arc c cuts t now =
     (now.swept o).others r t.in_range (let p = ap o.place t.is ∙ o.placed k t.below in omega arith)
 
--- the cost of one turn more
+-- the cost of one more turn
 pub one_more : (a arcs k before now after : ℕ) → arcs ≤ a → now ≤ before + k * (30 * (2 * a + 1)) →
     after ≤ now + 30 * (2 * arcs + 1) → after ≤ before + (k + 1) * (30 * (2 * a + 1))
 one_more a arcs k before now after bounded so_far turn =

@@ -16,7 +16,7 @@ pub record AreArcs (b : Basin) (arcs : Arcs) : Type 0 where
   pub right : (r : ℕ) → r < length b.rights → slice_index arcs.rights.items r ≡ right_arc b r
   pub spill : arcs.spill ≡ spill_arc b 0
 
--- the ends of the arcs of a given number of links, rights and nodes, from the first on
+-- the ends of the arcs of the first `links` links, `rights` rights and `nodes` nodes
 pub record AreEndsOf (b : Basin) (ends : List Ends) (links rights nodes : ℕ) : Type 0 where
   pub count : length ends ≡ links + (count_where rights (λ r. takes b r) + count_where nodes (λ n. is_outlet b n))
   pub link : (e : ℕ) → e < links → slice_get ends e ≡ Some (record { from = tail_of b e; to = head_of b e })
@@ -29,7 +29,7 @@ pub record AreEndsOf (b : Basin) (ends : List Ends) (links rights nodes : ℕ) :
 abbrev pub AreEnds : Basin → List Ends → Type 0
 AreEnds b ends = AreEndsOf b ends (length b.links) (length b.rights) (length b.nodes)
 
--- the amounts of a plan on the arcs of a given number of links, rights and nodes, from the first on
+-- the amounts of a plan on the arcs of the first `links` links, `rights` rights and `nodes` nodes
 pub record AreAmountsOf (b : Basin) (p : Plan) (g : ℕ → ℕ) (links rights nodes : ℕ) : Type 0 where
   pub on_links : (e : ℕ) → e < links → g e ≡ slice_index p.flow e
   pub on_takes : (r : ℕ) → r < rights → takes b r ≡ true → g (take_arc b r) ≡ slice_index p.take r
@@ -39,7 +39,7 @@ pub record AreAmountsOf (b : Basin) (p : Plan) (g : ℕ → ℕ) (links rights n
 abbrev pub AreAmounts : Basin → Plan → (ℕ → ℕ) → Type 0
 AreAmounts b p g = AreAmountsOf b p g (length b.links) (length b.rights) (length b.nodes)
 
--- the carries of links, the wants of rights, and so much at each outlet
+-- the carries of links, the wants of rights, and at each outlet its amount of `most`
 pub record AreBounds (b : Basin) (month : Month) (want : List ℕ) (most upper : ℕ → ℕ) : Type 0 where
   pub on_links : (e : ℕ) → e < length b.links → upper e ≡ carry_of b month e
   pub on_takes : (r : ℕ) → r < length b.rights → takes b r ≡ true → upper (take_arc b r) ≡ slice_index want r

@@ -13,8 +13,7 @@ use Rattle.water_model.specs.declared.types.Plan.{Plan}
 use Rattle.senior_hold.specs.Solved.{AreWants, IsSolved}
 
 -- The wants of a valid basin and a series of it in a month, whatever was used of volumes, are wants that a solver may
--- be
--- given.
+-- be given.
 abbrev pub WantsAreWithin : Type 0
 WantsAreWithin =
     (b : Basin) (series : Inflows) (index : ℕ) (used want : List ℕ) → IsValidBasin b → IsSeriesOf b series →
@@ -33,8 +32,7 @@ pub record HasPlanAndCuts (b : Basin) (month : Month) (supply want delivered : L
       IsReach b month supply delivered r cut
 
 -- A solved month, with what its plan delivers, has a plan, a tight cut for each right that is short, and none for
--- others;
--- and each of the cuts is the reach of its right.
+-- others; and each of the cuts is the reach of its right.
 abbrev pub SolvedMonthsFollow : Type 0
 SolvedMonthsFollow =
     (b : Basin) (month : Month) (supply want delivered : List ℕ) (p : Plan) (cuts : CutSets) →

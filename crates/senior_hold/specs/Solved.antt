@@ -17,7 +17,7 @@ pub record FitsPlan (b : Basin) (p : Plan) : Type 0 where
   pub take : length p.take ≡ length b.rights
   pub out : length p.out ≡ length b.nodes
 
--- none or a set of the nodes for each right
+-- for each right no set or a set of the nodes
 pub record FitsCuts (b : Basin) (cuts : CutSets) : Type 0 where
   pub nodes : cuts.nodes ≡ length b.nodes
   pub rights : length cuts.sets ≡ length b.rights
@@ -48,7 +48,7 @@ IsMetOrReached b month supply want delivered cuts right =
     ⊎ ((slice_index delivered right < slice_index want right)
     × ((cut : List Bool) × ((set_of cuts right ≡ Some cut) × IsReach b month supply delivered right cut)))
 
--- the plan is greatest, each right is settled by what the plan delivers, and without rights the water runs as by nature
+-- the plan is greatest, each right is settled by what it delivers, and without rights it is the run of the river
 pub record IsSolved (b : Basin) (month : Month) (supply want : List ℕ) (p : Plan) (cuts : CutSets) : Type 0 where
   pub greatest : IsGreatest b month supply want p
   pub settled : (delivered : List ℕ) → AreDeliveries b want p delivered → (r : ℕ) → r < length b.rights →

@@ -21,7 +21,7 @@ use water_text::month::Month;
 /// As much as a river carries in a month, in units of 1,000 cubic metres.
 pub const RIVER_CARRY: u64 = 1_000_000_000_000_000;
 
-/// Writes the flows of a plan to the places of links.
+/// Writes the flows of a plan at the indices of links.
 fn lay_flows(basin: &Basin, plan: &Plan, into: &mut [u64])
     requires plan { FitsPlan basin.now plan.now }
     requires into { length basin.now.links ≤ length into.old }
@@ -32,7 +32,7 @@ fn lay_flows(basin: &Basin, plan: &Plan, into: &mut [u64])
     }
 }
 
-/// Writes the takes of a plan to the places of their arcs.
+/// Writes the takes of a plan at the indices of their arcs.
 fn lay_takes(basin: &Basin, arcs: &Arcs, plan: &Plan, into: &mut [u64])
     requires valid { IsValidBasin basin.now }
     requires arcs { AreArcs basin.now arcs.now }
@@ -49,7 +49,7 @@ fn lay_takes(basin: &Basin, arcs: &Arcs, plan: &Plan, into: &mut [u64])
     }
 }
 
-/// Writes the outflows of a plan to the places of the spills.
+/// Writes the outflows of a plan at the indices of the spills.
 fn lay_spills(basin: &Basin, arcs: &Arcs, plan: &Plan, into: &mut [u64])
     requires valid { IsValidBasin basin.now }
     requires arcs { AreArcs basin.now arcs.now }
@@ -64,7 +64,7 @@ fn lay_spills(basin: &Basin, arcs: &Arcs, plan: &Plan, into: &mut [u64])
     }
 }
 
-/// Writes the amounts of a plan, which may let water out at each node, to the places of their arcs.
+/// Writes the amounts of a plan, which may let water out at each node, at the indices of their arcs.
 pub fn lay(basin: &Basin, arcs: &Arcs, plan: &Plan, into: &mut [u64])
     requires valid { IsValidBasin basin.now }
     requires arcs { AreArcs basin.now arcs.now }
@@ -103,8 +103,8 @@ pub fn write_outlets(basin: &Basin, into: &mut [u64])
     }
 }
 
-/// The most that each arc may have in a month: the carry of a link, the want of a right that takes, and of a spill what
-/// stands among the outflows of `most`, which is room for the same by link and right.
+/// The most that each arc may have in a month: for a link its carry, for a take the want of its right, and for a spill
+/// the outflow in `most`, whose flows and takes are room that is written over.
 pub fn write_bounds(
     basin: &Basin,
     arcs: &Arcs,

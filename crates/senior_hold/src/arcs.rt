@@ -14,7 +14,7 @@ use water_model::types::{Basin, RightKind};
 /// The arcs of rights and of spills.
 #[derive(Drop)]
 pub struct Arcs {
-    /// For each right its arc: an instream right's link, and else the arc of what it takes.
+    /// The arc of each right: an instream right's link, or the arc of what the right takes.
     pub rights: Vec<u32>,
     /// The arc of the first node's spill. Those of the other nodes follow, in the order of the nodes.
     pub spill: u32,

@@ -38,7 +38,7 @@ pub enum Method {
     Searches,
 }
 
-/// How many words the circulation and the tree of a basin take, with a given number of arcs.
+/// How many words the circulation and the tree of a basin take, with this many arcs.
 pub fn words_of(basin: &Basin, arcs: usize) -> usize
     requires valid { IsValidBasin basin.now }
     requires arcs { arcs ≡ arc_count (spilled basin.now) }
@@ -69,7 +69,8 @@ pub fn open_places(basin: &Basin, ends: &[Ends], region: &mut Region) -> Places
     Places { circ, tree }
 }
 
-/// Solves a month in words that are lent: those of the circulation that never change, those that do, and the tree's.
+/// Solves a month in words that are lent: those of the circulation that never change, those of it that do, and the
+/// tree's.
 fn sweep_lent<L: Ledger>(
     method: Method,
     basin: &Basin,

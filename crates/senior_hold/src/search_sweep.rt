@@ -37,7 +37,7 @@ fn run_river(basin: &Basin, net: &Net, supply: &[u64], plan: &mut Plan)
 }
 
 /// Starts a month from the run of the river, with no arc held. Where a node is no outlet, its spill carries nothing.
-/// The words that change may be any.
+/// The words that change may hold anything.
 fn begin_river<'r>(
     basin: &Basin,
     layout: &Layout,

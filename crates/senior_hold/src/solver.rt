@@ -73,7 +73,7 @@ fn layout_of(alloc: Global, basin: &Basin) -> Result<Layout, AllocError>
 {
     let nodes = basin.nodes.as_slice();
     let rights = basin.rights.as_slice();
-    // A valid basin has a network and a roll, so that only memory can be wanting.
+    // A valid basin has a network and a roll, so that only memory can be lacking.
     let Ok(net) = Net::build(alloc, nodes, basin.links.as_slice()) else {
         return Err(AllocError);
     };
@@ -84,7 +84,7 @@ fn layout_of(alloc: Global, basin: &Basin) -> Result<Layout, AllocError>
     Ok(Layout { net, roll, arcs })
 }
 
-/// Room for a given number of links, rights, nodes and arcs.
+/// Room for amounts by link, right and node of a basin, and by arc, of which there are `arcs`.
 fn room_of(alloc: Global, basin: &Basin, arcs: usize) -> Result<Room, AllocError>
     requires { arcs ≡ arc_count (spilled basin.now) }
     ensures { IfOk result (λ room. FitsRoom basin.now room) }

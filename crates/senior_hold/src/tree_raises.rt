@@ -58,8 +58,8 @@ fn raise_once<L: Ledger>(
 }
 
 /// Raises the flow on an arc to its want, or as far as it can be, by at most `left` pushes, and takes from `left` what
-/// it used, with one for the end. Unfinished says that they were used up: as many pushes were made, unless the exit got
-/// full.
+/// it used: at most one more than it pushed. Unfinished says that `left` pushes were made. Both hold unless the exit
+/// got full on the way.
 fn raise_fully<L: Ledger>(
     circ: &mut CirculationMut<'_>,
     tree: &mut ResidualTree<'_>,
@@ -113,7 +113,7 @@ pub enum Turn {
 }
 
 /// Serves a right as `serve` does, by at most `left` pushes, and takes from `left` what it used: at most one more than
-/// it pushed. It gives up after `left` pushes. Both are so unless the exit got full on the way. `exit` is an arc from
+/// it pushed. It gives up after `left` pushes. Both hold unless the exit got full on the way. `exit` is an arc from
 /// the head of the right's arc to the outside, unless the head is the outside.
 pub fn serve_by_tree<L: Ledger>(
     circ: &mut CirculationMut<'_>,
@@ -152,7 +152,7 @@ pub fn serve_by_tree<L: Ledger>(
         TreeRaised::Met => Turn::Served,
         TreeRaised::Unfinished => Turn::GaveUp,
         TreeRaised::Stopped => {
-            // The nodes that the tree does not reach are the greatest tight cut of the arc.
+            // The unlabeled nodes are the greatest tight cut of the arc.
             cuts.begin_with(right, tree.unlabeled_marks());
             tree.drop_artificial(circ, exit);
             Turn::Served

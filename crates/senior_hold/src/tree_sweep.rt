@@ -29,7 +29,8 @@ use water_text::month::Month;
 /// The pushes that a month may have for each of its rights.
 const PUSHES_PER_RIGHT: u32 = 30;
 
-/// Starts a month with all supply spilled where it comes in, and with no arc held. The words that change may be any.
+/// Starts a month with all supply spilled where it comes in, and with no arc held. The words that change may hold
+/// anything.
 fn begin_spilled<'r>(
     basin: &Basin,
     layout: &Layout,
@@ -82,7 +83,7 @@ fn exit_of(circ: &CirculationMut<'_>, first: u32, arc: u32) -> u32
     }
 }
 
-/// Adds to flows what runs beside them.
+/// Adds the flows of a run to flows.
 fn add_run(run: &[u64], flow: &mut [u64])
     requires count { length run.now ≡ length flow.old }
     requires fits { (e : ℕ) → e < length flow.old → slice_index flow.old e + slice_index run.now e < 2 ^ 64 }
@@ -111,7 +112,7 @@ fn settle_plan(
     ensures fits { FitsPlan basin.now plan.new }
     ensures settled { IsSettledPlan basin.now (flow_of circ.now) plan.new }
 {
-    // This call tells that the circulation is kept.
+    // This call says that the circulation is kept.
     let _nodes = circ.nodes();
     read_spills(basin, circ, &layout.arcs, room.most.out.as_mut_slice());
     read_links(circ, plan.flow.as_mut_slice());

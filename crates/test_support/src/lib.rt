@@ -91,7 +91,7 @@ pub fn call(
     call_over::<Brand>(alloc, Blank::new(1), words, set)
 }
 
-/// Fails where a text is another than is wanted, and tells what it is.
+/// Fails where a text is another than is wanted, and prints it.
 fn same(stream: &str, text: &[u8], want: &str) -> Result<(), Fail> {
     if text == want.as_bytes() {
         return Ok(());
@@ -118,13 +118,13 @@ pub fn expect(
     same("err", err.bytes(), want.2)
 }
 
-/// A text with other words in the place of some that stand in it.
+/// A text with other words instead of some that stand in it.
 pub fn with(alloc: Global, text: &str, old: &str, new: &str) -> Result<String, Fail> {
     let (before, after) = text.split_once(old).ok_or("nothing to change")?;
     Ok(format!(in alloc; "{before}{new}{after}")?)
 }
 
-/// A given number of lines of a text, from its first on.
+/// The first lines of a text, at most `count`.
 pub fn prefix(alloc: Global, text: &str, count: u64) -> Result<String, Fail> {
     let mut prefix = String::new(alloc);
     let mut left = count;
@@ -139,7 +139,7 @@ pub fn prefix(alloc: Global, text: &str, count: u64) -> Result<String, Fail> {
     Ok(prefix)
 }
 
-/// A file of as many blanks.
+/// A file of this many blanks.
 pub fn blanks(alloc: Global, count: usize) -> Result<Vec<u8>, Fail> {
     Ok(vec![in alloc; 32; count]?)
 }

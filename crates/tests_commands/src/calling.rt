@@ -685,7 +685,7 @@ fn delivers_one_more_to_the_next(rt: HostRuntime) -> Result<(), Fail> {
     Ok(())
 }
 
-/// The lines of a month of a text, from behind its first line to before its `end`.
+/// The lines of a month of a text, from after its first line to before its `end`.
 fn month_of<'a>(text: &'a str, month: &str) -> Result<&'a str, Fail> {
     let (_before, from) = text.split_once(month).ok_or("no such month")?;
     let (lines, _after) = from.split_once("\nend\n").ok_or("no end")?;

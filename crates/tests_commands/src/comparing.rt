@@ -66,7 +66,7 @@ fn lists_injuries_by_month_and_seniority(rt: HostRuntime) -> Result<(), Fail> {
     expect(rt.alloc(), &GAUGES, set, (Status::No, injured, ""))
 }
 
-/// Changes of the ordinary basin: what stands in it, and what is put in its place.
+/// Changes of the ordinary basin: what stands in it, and what replaces that.
 const CHANGES: [(&str, &str); 14] = [
     // A junior diversion before the others of its kind, between them and after them.
     (
@@ -201,7 +201,7 @@ fn lists_what_both_runs_say(rt: HostRuntime) -> Result<(), Fail> {
     Ok(())
 }
 
-/// The junior rights among them injure nobody, whatever their place.
+/// The junior rights among them injure nobody, wherever they stand.
 #[test]
 fn junior_rights_injure_nobody(rt: HostRuntime) -> Result<(), Fail> {
     for (old, new) in CHANGES.iter().take(6) {

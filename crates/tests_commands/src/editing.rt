@@ -270,7 +270,7 @@ fn refuses_a_script_at_its_first_fault(rt: HostRuntime) -> Result<(), Fail> {
     Ok(())
 }
 
-/// The files are refused before the script is looked at, and `-` in the place of SERIES names no file.
+/// The files are refused before the script is looked at, and `-` instead of SERIES names no file.
 #[test]
 fn refuses_files_before_the_script(rt: HostRuntime) -> Result<(), Fail> {
     let basin = with_script(rt.alloc(), "format = 7\n", "", "")?;

@@ -4,7 +4,7 @@ use std::alloc::Global;
 use std::test::Fail;
 use test_support::{expect, files};
 
-/// The amounts of gauges in each month of two years from the month of this place in 1900, as a series.
+/// The amounts of gauges in each month of two years from the month of this index in 1900, as a series.
 fn record(alloc: Global, first: u32, gauges: &[(&str, [u64; 2])]) -> Result<String, Fail> {
     let mut text = String::from_str(alloc, "month,node,amount\n")?;
     for year in 1900..1903u32 {
@@ -37,7 +37,7 @@ fn add_month(
     Ok(())
 }
 
-/// Runs the ensemble of a basin with two years of its gauges from the month of this place in 1900, and compares its
+/// Runs the ensemble of a basin with two years of its gauges from the month of this index in 1900, and compares its
 /// text.
 fn expect_ensemble(
     alloc: Global,
@@ -220,7 +220,7 @@ fn carries_storage_from_year_to_year(rt: HostRuntime) -> Result<(), Fail> {
     expect_ensemble(rt.alloc(), STORING, 0, &[("lake", [2, 15])], STORING_TEXT)
 }
 
-/// Thirteen months are no whole years, which is told before the series is read.
+/// Thirteen months are no whole years, which is reported before the series is read.
 const PART_YEAR: &str = r#"format = 1
 first_month = "1900-01"
 months = 13

@@ -16,8 +16,8 @@ const LIVE_BOOK: &str = "\
     take canalco 3100\n\
     sum 4460\n";
 
-/// Months and rights of the ordinary basin, and what is told of them: a zone, a diversion whose reach only a canal
-/// enters, one that gets nothing, the last month, and a right that is met.
+/// Months and rights of the ordinary basin, and what is answered about them: a zone, a diversion whose reach only a
+/// canal enters, one that gets nothing, the last month, and a right that is met.
 const ORDINARY_BOOKS: [(&str, &str, Status, &str); 6] = [
     ("1960-07", "live", Status::Done, LIVE_BOOK),
     (
@@ -153,7 +153,7 @@ date = "1880-01-01"
 want = 40
 "#;
 
-/// Basins without gauges, a right of each, and what is told of it.
+/// Basins without gauges, a right of each, and what is answered about it.
 const BOOKS: [(&str, &str, Status, &str); 5] = [
     (
         BOUNDED_FISH,
@@ -192,7 +192,7 @@ fn names_what_is_kept_and_for_whom(rt: HostRuntime) -> Result<(), Fail> {
     expect_book(rt.alloc(), idle, "none", Status::No, "met 1900-01 none\n")
 }
 
-/// Words that ask for what isn't there. A month that the run hasn't is told before a name that no right has.
+/// Words that ask for what isn't there. A month that the run hasn't is reported before a name that no right has.
 pub const UNKNOWN: [(&str, &str, &str); 5] = [
     ("1960-09", "live", "script: OutsideRun 0\n"),
     ("1960-06", "live", "script: OutsideRun 0\n"),

@@ -1,5 +1,5 @@
-//! The tests of the commands beside a run, `why`, `where`, `calls`, `compare`, `ensemble`, `edit` and `upgrade`, and of a
-//! month's two ways, over the program's top call.
+//! The tests of the commands beside a run, `why`, `where`, `calls`, `compare`, `ensemble`, `edit` and `upgrade`, and of
+//! a month's two methods, over the program's top call.
 #![tactic(auto)]
 
 #[cfg(test)]

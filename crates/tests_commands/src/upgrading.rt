@@ -1,4 +1,4 @@
-//! Basin files in format 2, written by `upgrade`. What they spell is told by what runs of them write.
+//! Basin files in format 2, written by `upgrade`. What they spell shows in what runs of them write.
 use basin_cli::Status;
 use std::alloc::Global;
 use std::test::Fail;

@@ -133,7 +133,7 @@ done 2
 "#,
 );
 
-/// A basin and its text, lines of it with what stands in their place, and the answer.
+/// A basin and its text, lines of it with what stands there instead, and the answer.
 type Edited = (
     (&'static str, &'static str),
     &'static [(usize, &'static str)],

@@ -12,7 +12,7 @@ use test_support::basins::{JUNIOR_SHORT, LAKE, NOTHING_WANTED};
 use test_support::ordinary::{ORDINARY, ORDINARY_SERIES, ORDINARY_TEXT};
 use test_support::{NEVER, blanks, expect, files};
 
-/// What is put in the place of the line at a place, or `None` where it stays. Lines count from 1, and places from 0.
+/// What replaces the line with this index, or `None` where it stays. Lines count from 1, and indices from 0.
 fn put_at<'a>(edits: &[(usize, &'a str)], place: usize) -> Option<&'a str> {
     for (number, put) in edits {
         if number.checked_sub(1) == Some(place) {
@@ -22,7 +22,7 @@ fn put_at<'a>(edits: &[(usize, &'a str)], place: usize) -> Option<&'a str> {
     None
 }
 
-/// A text with other lines in the place of some. Lines count from 1.
+/// A text with other lines instead of some. Lines count from 1.
 pub fn with_lines(alloc: Global, text: &str, edits: &[(usize, &str)]) -> Result<String, Fail> {
     let mut changed = String::new(alloc);
     for (place, line) in text.lines().enumerate() {
@@ -36,7 +36,7 @@ pub fn with_lines(alloc: Global, text: &str, edits: &[(usize, &str)]) -> Result<
     Ok(changed)
 }
 
-/// Asks `check` or `audit` of a result that is read in parts of a given number of bytes, and compares the answer.
+/// Asks `check` or `audit` of a result that is read in parts of this many bytes, and compares the answer.
 pub fn asks(
     alloc: Global,
     command: &str,
@@ -88,7 +88,7 @@ fn accepts_what_is_written(rt: HostRuntime) -> Result<(), Fail> {
     checks(rt.alloc(), ORDINARY, ORDINARY_SERIES, ORDINARY_TEXT, yes)
 }
 
-/// Texts by hand with other tight cuts and other flows: a basin, its text, a line and what stands in its place.
+/// Texts by hand with other tight cuts and other flows: a basin, its text, a line and what stands there instead.
 const BY_HAND: [((&str, &str), usize, &str); 4] = [
     // The new right's node and the old one's, without the mouth: 80 come in, and 60 are kept.
     (JUNIOR_SHORT, 12, ""),
@@ -289,7 +289,7 @@ done 1
 "#,
 );
 
-/// A basin and its text, the number of a line, what is put in its place, and the answer.
+/// A basin and its text, the number of a line, what replaces it, and the answer.
 pub type Refuting = (
     (&'static str, &'static str),
     usize,

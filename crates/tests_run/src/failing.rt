@@ -68,7 +68,7 @@ fn tells_what_fails(rt: HostRuntime) -> Result<(), Fail> {
     Ok(())
 }
 
-/// Of a check, too: its files in their order, and out, which is told of a refutation.
+/// Of a check, too: its files in their order, and out, which gets the refutation.
 #[test]
 fn tells_what_fails_of_a_check(rt: HostRuntime) -> Result<(), Fail> {
     let words = ["check", "BASIN", "SERIES", "RESULT"];
@@ -104,7 +104,7 @@ fn ends_the_same_where_err_fails(rt: HostRuntime) -> Result<(), Fail> {
     Ok(())
 }
 
-/// Runs a basin, whose text has so many lines, once for each of them with its put failing, and once more.
+/// Runs a basin, whose text has this many lines, once for each of them with its put failing, and once more.
 fn stops_at_each_line(alloc: Global, (basin, text): (&str, &str), lines: u64) -> Result<(), Fail> {
     for fails in 0..lines {
         let mut set = files(alloc, basin, "")?;

@@ -107,7 +107,7 @@ done 1
 "#,
 );
 
-/// Each right stands on a branch of its own, and the water of one is out of the reach of the other.
+/// Each right stands on a branch of its own, and the water of one never gets to the other.
 pub const OWN_BRANCHES: (&str, &str) = (
     r#"format = 1
 first_month = "1900-01"
@@ -253,7 +253,7 @@ done 1
 "#,
 );
 
-/// Two rights of one date, told apart by their order.
+/// Two rights of one date, distinguished by their order.
 pub const ONE_DATE: (&str, &str) = (
     r#"format = 1
 first_month = "1900-01"

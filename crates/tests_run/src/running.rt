@@ -251,7 +251,7 @@ const BRANCHES: [(&str, &str); 10] = [
     ),
 ];
 
-/// The lines of a text that tell deliveries.
+/// The lines of a text that give deliveries.
 fn deliveries(alloc: Global, text: &str) -> Result<String, Fail> {
     let mut lines = String::new(alloc);
     for line in text.lines() {

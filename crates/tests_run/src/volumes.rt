@@ -284,7 +284,7 @@ done 2
 "#,
 );
 
-/// Format 2 with nothing of its own: the water year begins with October, and no line tells of it.
+/// Format 2 with nothing of its own: the water year begins with October, and no line says so.
 pub const PLAIN: (&str, &str) = (
     r#"format = 2
 first_month = "1900-01"

@@ -8,7 +8,7 @@ use water_edge::{
     WatchedShelf,
 };
 
-/// Whether a shelf answered with these bytes, or refused so.
+/// Whether a shelf answered with these bytes, or refused as is wanted.
 fn is_answer(answer: Result<Vec<u8>, ShelfRefused>, want: Result<&[u8], ShelfRefused>) -> bool {
     match answer {
         Ok(bytes) => Ok(bytes.as_slice()) == want,
@@ -43,7 +43,7 @@ fn reads_files(rt: &HostRuntime, bytes: &[u8]) -> u32 {
     reads
 }
 
-/// Whether a shelf answers with a given number of bytes of the file from a place on.
+/// Whether a shelf answers with this many bytes of the file from an offset on.
 fn is_part(shelf: &mut FileShelf<'_, HostRuntime>, bytes: &[u8], from: u64, want: usize) -> bool {
     let mut part = [0u8; 5000];
     match shelf.read_part("shelf_test", from, &mut part) {

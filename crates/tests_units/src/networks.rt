@@ -1,4 +1,4 @@
-//! Worked networks. The greatest flows and the greatest tight cuts were worked out by hand, as the comments tell.
+//! Worked networks. The greatest flows and the greatest tight cuts were worked out by hand, as the comments say.
 //!
 //! Basin nodes are 0, 1, .. and the outside node comes after them. Each arc that is raised leads there.
 ghost use Rattle.std.specs.Prelude.{◌≢◌, ◌<◌, ◌≤◌, ◌↔◌, All, IfOk, IsTrue};

@@ -62,7 +62,7 @@ static REFUTED: [(&str, u64, RefutedKind); 8] = [
     ("", 1, RefutedKind::EarlyEnd),
 ];
 
-/// The answer to a text that comes in pieces of a given number of bytes.
+/// The answer to a text that comes in pieces of at most `length` bytes.
 fn answer_in_pieces(
     alloc: Global,
     basin: &Basin,

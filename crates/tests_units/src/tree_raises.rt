@@ -17,7 +17,7 @@ use steps::Steps;
 /// More raises than any turn needs, if each may push once.
 const MAX_RAISES: u32 = 10;
 
-/// Raises the arc of a turn along the tree, by at most a given number of pushes. A turn may want less than there is,
+/// Raises the arc of a turn along the tree, by at most `max_pushes` pushes. A turn may want less than there is,
 /// which `raise_by_tree` does not take: then the flow is held, and that is Met.
 fn pull<L: Ledger, R: Abort>(
     rt: &R,
@@ -64,7 +64,7 @@ fn compare_turn<R: Abort>(
     assert!(rt; flow(rt, circ, turn) == turn.3, "the flow of {name}");
 }
 
-/// Takes a turn by raises of at most a given number of pushes each. Answers how many of the raises pushed.
+/// Takes a turn by raises of at most `max_pushes` pushes each. Answers how many of the raises pushed.
 fn play<L: Ledger, R: Abort>(
     rt: &R,
     circ: &mut CirculationMut<'_>,
@@ -91,7 +91,7 @@ fn play<L: Ledger, R: Abort>(
     panic!(rt; "the raises of {name}");
 }
 
-/// Takes the turns of a case by raises of at most a given number of pushes each. Answers how many of the raises pushed.
+/// Takes the turns of a case by raises of at most `max_pushes` pushes each. Answers how many of the raises pushed.
 fn play_all<L: Ledger, R: Abort>(
     rt: &R,
     circ: &mut CirculationMut<'_>,
@@ -168,7 +168,7 @@ fn run_alone<R: Abort>(
     run::<Brand, R>(rt, alloc, Blank::new(1), case, max_pushes)
 }
 
-/// Plays all cases by raises of at most a given number of pushes each. Answers how many raises pushed.
+/// Plays all cases by raises of at most `max_pushes` pushes each. Answers how many raises pushed.
 fn run_all<R: Abort>(rt: &R, alloc: Global, max_pushes: u32) -> Result<u32, AllocError> {
     let mut raises: u32 = 0;
     for case in &CASES {

@@ -19,7 +19,7 @@ fn inflow_of(nodes: &[Node]) -> u64 {
     sum
 }
 
-/// The sum of the heads of links, each times its place from 1.
+/// The sum of the heads of links, each times its number from 1.
 fn heads_of(links: &[Link]) -> u64 {
     let mut sum = 0_u64;
     let mut place = 0_u64;
@@ -52,7 +52,7 @@ fn storage_of(reservoirs: &[Reservoir]) -> (u64, u64) {
     (opening, rate)
 }
 
-/// The sums of January's wants and of years, each times its place from 1.
+/// The sums of January's wants and of years, each times its number from 1.
 fn wants_of(rights: &[Right]) -> (u64, u64) {
     let mut want = 0_u64;
     let mut year = 0_u64;
@@ -116,7 +116,7 @@ static NODES: [(&[u8], bool, [u64; 12]); 2] = [
     (b"n1", true, [0; 12]),
 ];
 
-/// Links: the size of the basin, a place, and the name, the ends and what a canal carries in a day.
+/// Links: the size of the basin, an index, and the name, the ends and what a canal carries in a day.
 static LINKS: [(usize, usize, &[u8], u32, u32, Option<u64>); 5] = [
     (2, 0, b"r0", 0, 1, None),
     (85, 0, b"r0", 0, 2, None),

@@ -19,7 +19,7 @@ node = [
 link = [{ name = "a", from = "top", to = "mouth" }, { name = "b", from = "hill", to = "mouth" }]
 "#;
 
-/// In each month the amount of `top` is the month's place in three calendar years from 1900 on, and that of `hill` 100
+/// In each month the amount of `top` is the month's index in three calendar years from 1900 on, and that of `hill` 100
 /// more.
 fn record(alloc: Global) -> Result<String, Fail> {
     let mut text = String::from_str(alloc, "month,node,amount\n")?;
@@ -37,7 +37,7 @@ fn record(alloc: Global) -> Result<String, Fail> {
     Ok(text)
 }
 
-/// The amounts of a month of the run are those of this place of the record.
+/// The amounts of a month of the run are those of this index in the record.
 fn expect_month<R: Abort>(rt: &R, series: &Inflows, month: usize, place: u64) {
     let amounts = series.amount.as_slice();
     assert!(rt; month < 24);
@@ -48,7 +48,7 @@ fn expect_month<R: Abort>(rt: &R, series: &Inflows, month: usize, place: u64) {
     );
 }
 
-/// The run goes from place 9 to place 32. Begun one year later it has the places 21 to 32, and then 9 to 20.
+/// The run goes from index 9 to index 32. Begun one year later it has the indices 21 to 32, and then 9 to 20.
 #[test]
 fn begins_in_the_second_year(rt: HostRuntime) -> Result<(), Fail> {
     let basin = basin_of(rt.alloc(), BASIN)?;

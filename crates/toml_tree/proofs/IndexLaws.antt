@@ -1,4 +1,4 @@
--- The first places of texts, kept in a map.
+-- The first indices of texts, kept in a map.
 use Rattle.std.proofs.Common.{◌≡◌, ℕ, ◌+◌, ◌<◌, ◌≤◌, suc, List, [], ◌∷◌, ◌++◌, length, map, take, drop, get_or}
 use Rattle.std.proofs.Common.{slice_get, slice_index, Option, Some, None, if◌then◌else◌}
 use Rattle.std.proofs.Common.{refl, sym, ap, ◌∙◌, inl, inr, arith, count_by, option_map, option_and_then}
@@ -35,7 +35,7 @@ pub texts_len : (key : List ℕ) (vs : List Value) → length (texts_after key (
 texts_len key [] = refl
 texts_len key (v ∷ vs) = ap suc (texts_len key vs)
 
--- the text of a value stands at the value's place
+-- the text of a value stands at the value's index
 pub text_there : (key : List ℕ) (vs : List Value) (i : ℕ) (v : Value) (text : Option (List ℕ)) → i < length vs →
     v ≡ get_or vs i v → text ≡ option_and_then as_str (get key (view v)) →
     slice_get (texts_after key (items_view vs)) i ≡ Some text

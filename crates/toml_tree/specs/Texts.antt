@@ -12,7 +12,7 @@ texts_after key (item d ds) = option_and_then as_str (get key d) ∷ texts_after
 abbrev pub is_the_text : List ℕ → Option (List ℕ) → Bool
 is_the_text q text = option_map_or (bytes_eq q) text false
 
--- how many of the texts before a place are the one at the place
+-- how many of the texts before an index are the one at it
 abbrev pub earlier_like : List (Option (List ℕ)) → ℕ → ℕ
 earlier_like texts index =
     option_map_or (λ text. option_map_or (λ q. count_by (is_the_text q) (take index texts)) text 0)

@@ -1,4 +1,4 @@
-//! The first places of texts in lists.
+//! The first indices of texts in lists.
 ghost use Rattle.std.specs.Prelude.{◌≡◌, ◌+◌, ◌<◌, ◌^◌, [], List, ℕ, length, IfOk, OnOk, OnErr, MatchResult};
 ghost use Rattle.std.specs.Prelude.{Some, None, option_map, option_and_then, if◌then◌else◌};
 ghost use Rattle.std.specs.Option.{option_or, option_map_or};
@@ -39,7 +39,7 @@ fn add_text<'a>(
     }
 }
 
-/// Adds the texts at a key of some values, where the first value's place is `from`. A text that has a place keeps it.
+/// Adds the texts at a key of some values, where the first value's index is `from`. A text that has an index keeps it.
 ///
 /// It takes memory. AllocError comes where memory is lacking for the text of some value: the texts of the values before
 /// it are then added, and no other.
@@ -60,7 +60,7 @@ pub fn add_indices<'a>(
     Ok(())
 }
 
-/// The first place of each text at a key of some values, from 0. AllocError comes where memory is lacking.
+/// The first index of each text at a key of some values, from 0. AllocError comes where memory is lacking.
 pub fn indices_of<'a>(
     alloc: Global,
     values: &'a [Value],

@@ -1,4 +1,4 @@
-//! The values of a TOML document by their keys, and the first places of the texts of a list.
+//! The values of a TOML document by their keys, and the first indices of the texts of a list.
 #![tactic(auto)]
 
 pub mod indices;

@@ -25,7 +25,7 @@ pub fn items_of(value: &Value) -> Option<&[Value]>
     }
 }
 
-/// The item at a place.
+/// The item at an index.
 pub fn item_at(items: &[Value], at: u64) -> Option<&Value>
     ensures { option_map (λ x. view x.now) result ≡ get_item at (items_view items.now) }
 {

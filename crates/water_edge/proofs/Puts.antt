@@ -30,7 +30,7 @@ PutsPrefix-then old mid new a b h k = (
   rw (take-append-add a b k.0) (Appends-trans old mid new a (take k.0 b) h k.2),
 )
 
--- a prefix of a piece is a prefix of whatever goes on with it
+-- a prefix of a piece is a prefix of that piece with more after it
 pub PutsPrefix-cut : (old new : Option (List ℕ)) (a b : List ℕ) → PutsPrefix old new a → PutsPrefix old new (a ++ b)
 PutsPrefix-cut old new a b k = (k.0, omega (arith, length-append a b, k.1), rw (take-append-le k.0 a b k.1) k.2)
 
@@ -48,7 +48,7 @@ Puts-first h y ys old mid new r here further =
     Puts-then old mid new r (h y) (flat_map h ys)
     (subst (λ (piece : List ℕ). Appends old mid piece) (append-nil (h y)) here) further
 
--- Three pieces, of which the first fails, or the second, or all so far were put.
+-- Three pieces, of which the first fails, or the second, or both of these were put.
 
 pub Puts-cut : {E : Type 0} (old new : Option (List ℕ)) (r : Result (Unit {0}) E) (a b : List ℕ) → IsErr r →
     PutsPrefix old new a → Puts old new r (a ++ b)

@@ -1,4 +1,4 @@
--- What a call of a shelf or a sink answers, and what it leaves behind.
+-- What a call of a shelf or a sink answers, and what is so after it.
 use Rattle.std.specs.Prelude.{◌≡◌, ◌≢◌, ℕ, ◌+◌, ◌-◌, ◌^◌, ◌<◌, ◌≤◌, min, List, length, take, drop, ⊤, Option, None}
 use Rattle.std.specs.Prelude.{Some, IfSome, Result, Ok, Err, Vec}
 use Rattle.std.specs.declared.alloc.Global.{Global}
@@ -19,13 +19,13 @@ pub record HasCause (before now : ℕ) (fault : Type 0) : Type 0 where
   pub later : before ≤ now
   pub rose : fault → Rose before now
 
--- the bytes that are told under each name stay, and each name that was served still is
+-- the bytes that are known under each name stay, and each name that was served still is
 pub record SameShelf (told_old told_new : List ℕ → Option (List ℕ)) (serves_old serves_new : List ℕ →
     Type 0) : Type 0 where
   pub known : (name : List ℕ) → told_new name ≡ told_old name
   pub served : (name : List ℕ) → serves_old name → serves_new name
 
--- a call asked for this file, where that is told, and for no other
+-- a call asked for this file, where that is known, and for no other
 pub record AsksFor (old new : List ℕ → Option ℕ) (name : List ℕ) : Type 0 where
   pub once : IfSome (old name) (λ count. new name ≡ Some (next_count count))
   pub others : (other : List ℕ) → other ≢ name → new other ≡ old other
@@ -38,8 +38,8 @@ ReadsWhole (Some whole) limit (Err TooLong) = limit < length whole
 ReadsWhole (Some whole) limit (Err Failed) = ⊤
 ReadsWhole (Some whole) limit (Err OutOfMemory) = ⊤
 
--- the first `count` bytes of a buffer are those of a file from a place on, and the others stay; there are none only
--- where the buffer is empty or the file has no byte from there on
+-- the first `count` bytes of a buffer are those of a file from index `from` onwards, and the others stay; there are
+-- none only where the buffer is empty or the file has no byte from there onwards
 pub record IsPart (whole : List ℕ) (from : ℕ) (old new : List ℕ) (count : ℕ) : Type 0 where
   pub there : 0 < count → from + count ≤ length whole
   pub prefix : take count new ≡ take count (drop from whole)

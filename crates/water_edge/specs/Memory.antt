@@ -39,7 +39,7 @@ abbrev pub after_read : {T : Type 0} → ShelfState → Result T ShelfRefused �
 after_read shelf (Err Failed) = record shelf { calls = next_count shelf.calls; faults = next_count shelf.faults }
 after_read shelf _ = record shelf { calls = next_count shelf.calls }
 
--- how many bytes a part has: those that there are from a place on, as far as they fit and a part may have them
+-- how many bytes a part has: those from index `from` onwards, as many as there are, as fit, and as a part may have
 abbrev pub part_length : ShelfState → List ℕ → ℕ → ℕ → ℕ
 part_length shelf whole from room = min (min room shelf.most) (length whole - from)
 

@@ -2,7 +2,7 @@
 use Rattle.std.specs.Prelude.{◌≡◌, ℕ, ◌≤◌, List, length, take, drop, Option}
 use Rattle.std.specs.Io.KnownBytes.{Appends, append_known}
 
--- a sink: the bytes that the writer holds, where it tells them, those kept back, and how many calls failed
+-- a sink: the bytes that the writer holds, where they are known, those kept back, and how many calls failed
 pub record WriterState : Type 0 where
   pub bytes : Option (List ℕ)
   pub kept : List ℕ

@@ -39,7 +39,7 @@ fn read_within<F: Read>(reader: &mut F, alloc: Global, limit: u64) -> Result<Vec
     }
 }
 
-/// A file that is open to be read in parts, its name, and the place where it stands.
+/// A file that is open to be read in parts, its name, and, as `place`, the index of the byte that it reads next.
 #[derive(Drop)]
 struct Opened<F> {
     name: ArrayString<LONGEST_NAME>,
@@ -48,15 +48,15 @@ struct Opened<F> {
 }
 
 impl<F> Opened<F> {
-    /// Whether a read of the named file from a place on can go on with this one. From 0 on it begins anew, unless
-    /// nothing was read yet.
+    /// Whether a read of the named file from index `from` onwards can use this one. A read from 0 onwards opens the
+    /// file anew, unless nothing was read yet.
     fn serves(&self, name: &str, from: u64) -> bool {
         self.name.as_str() == name && (from > 0 || self.place == 0)
     }
 }
 
 impl<F: Read + Seek> Opened<F> {
-    /// One read from a place on, with a seek where the file stands elsewhere. None where one of them fails.
+    /// One read from index `from` onwards, after a seek if the file stands elsewhere. None where one of them fails.
     fn read_from(&mut self, from: u64, into: &mut [u8]) -> Option<usize>
         ensures { IfSome result (λ count. count ≤ length into.old) }
     {
@@ -80,8 +80,8 @@ fn open<R: Files>(rt: &R, name: &str) -> Option<Opened<R::File>> {
     })
 }
 
-/// One read of a part, by the file that is open where it serves. After a failure, None, no file is open, since
-/// nobody knows where it stands.
+/// One read of a part, by the open file if that serves. None where it fails: then no file stays open, since nobody
+/// knows where it stands.
 fn read_on<R: Files>(
     rt: &R,
     opened: &mut Option<Opened<R::File>>,
@@ -108,7 +108,7 @@ fn read_on<R: Files>(
     count
 }
 
-/// The files of a runtime. It serves every name, as a path, and tells no bytes. Contracts see it as how many calls
+/// The files of a runtime. It serves every name, as a path, and no bytes are known. Contracts see it as how many calls
 /// failed.
 #[derive(Drop)]
 pub struct FileShelf<'a, R: Files> {
@@ -147,7 +147,7 @@ impl<'a, R: Files> Shelf for FileShelf<'a, R> {
 
     ghost faults = { λ faults. faults };
 
-    /// Fails where std's `open` or `read` does. `TooLong` comes as soon as more than `limit` bytes were read.
+    /// Fails where std's `open` or `read` fails. `TooLong` comes as soon as more than `limit` bytes were read.
     fn read_whole(
         &mut self,
         alloc: Global,
@@ -164,12 +164,12 @@ impl<'a, R: Files> Shelf for FileShelf<'a, R> {
         answer
     }
 
-    /// One read of std, so that a part may be shorter than the buffer though more follows. Fails where std's `open`,
-    /// `seek` or `read` does, and where the name has more than 4,096 bytes.
+    /// One read of std, so a part may be shorter than the buffer although more follows. Fails where std's `open`,
+    /// `seek` or `read` fails, and where the name has more than 4,096 bytes.
     ///
-    /// The file stays open, and where a call asks for what follows the last part it is only read on: so a pipe can be
-    /// read. From 0 on the file is opened anew, unless nothing of it was read yet. From any other place on it seeks,
-    /// which fails for a pipe.
+    /// The file stays open, and a call that asks for what follows the last part doesn't seek: so a pipe can be read.
+    /// A call from 0 onwards opens the file anew, unless nothing of it was read yet. A call from any other index
+    /// seeks, which fails for a pipe.
     fn read_part(&mut self, name: &str, from: u64, into: &mut [u8]) -> Result<usize, ShelfRefused> {
         match read_on(self.rt, &mut self.opened, name, from, into) {
             Some(count) => Ok(count),

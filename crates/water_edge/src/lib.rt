@@ -1,7 +1,7 @@
 //! Where bytes come from and where they go: a shelf of named files, and a sink.
 //!
 //! Everything above reads by `Shelf` and writes by `Sink`, so that its contracts can say which bytes were read and
-//! written. In memory both are exact; over the system's files and streams no contract can tell the bytes.
+//! written. In memory both are known exactly; over the system's files and streams no contract can say which bytes.
 #![tactic(auto)]
 
 mod file;

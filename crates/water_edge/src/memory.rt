@@ -1,4 +1,4 @@
-//! A shelf and a sink in memory, which fail where they are told to.
+//! A shelf and a sink in memory, of which listed calls fail.
 ghost use Rattle.std.specs.Prelude.{◌≡◌, ◌-◌, ◌^◌, ◌<◌, ◌≤◌, ◌↔◌, min, [], None, Some, ⊤, Contains, IfOk, IfSome};
 ghost use Rattle.std.specs.Prelude.{IsErr, IsErrOf, IsOk, IsTrue, OnOk, option_map, map, length, vec_len};
 ghost use Rattle.std.specs.Io.KnownBytes.{Keeps};
@@ -62,7 +62,7 @@ fn find<'a>(files: &'a [(String, Vec<u8>)], name: &str) -> Option<&'a [u8]>
     None
 }
 
-/// Copies bytes of a file from a place on to the front of a buffer, at most `most` of them, and answers how many.
+/// Copies at most `most` bytes of a file, from index `from` onwards, to the start of a buffer, and answers how many.
 fn copy_part(whole: &[u8], from: u64, most: usize, into: &mut [u8]) -> usize
     requires { 0 < most }
     ensures part { IsPart whole.now from into.old into.new result }
@@ -75,7 +75,8 @@ fn copy_part(whole: &[u8], from: u64, most: usize, into: &mut [u8]) -> usize
     count
 }
 
-/// Files in memory. It serves every name and tells the bytes of each file; of two files of one name the first counts.
+/// Files in memory. It serves every name, and the bytes of each file are known; of two files of one name the first
+/// counts.
 ///
 /// Its calls are numbered from 0. Contracts see it as its files, how many bytes a part may have, the numbers of the
 /// calls that are to fail, how many calls there were, which is the number of the next, and how many failed. Both counts
@@ -123,7 +124,7 @@ impl MemoryShelf {
         }
     }
 
-    /// The same shelf, of which a part has at most a given number of bytes, as a pipe gives them.
+    /// The same shelf, of which a part has at most `most` bytes, as parts of a pipe may be short.
     pub fn in_pieces(self, most: usize) -> MemoryShelf
         requires { 0 < most }
         ensures { result ≡ record self { most = most } }
@@ -178,8 +179,8 @@ impl Shelf for MemoryShelf {
         Vec::from_slice(alloc, bytes).map_err(|_| ShelfRefused::OutOfMemory)
     }
 
-    /// Fails exactly where the number of the call is listed or there is no file of the name. A part has all the bytes
-    /// that there are from the place on and that fit, or as many as a part may have.
+    /// Fails exactly where the number of the call is listed or there is no file of the name. A part has the bytes from
+    /// index `from` onwards, as many as there are, as fit, and as a part may have.
     fn read_part(&mut self, name: &str, from: u64, into: &mut [u8]) -> Result<usize, ShelfRefused>
         ensures part { ReadsPart (file_of self.old.files name.now) from into.old into.new result }
         ensures length { length into.new ≡ length into.old }
@@ -239,8 +240,8 @@ impl Model for MemorySink {
 }
 
 impl MemorySink {
-    /// An empty sink for `room` bytes, whose calls of the numbers in `failing` fail. It had no call yet. Without
-    /// memory for the room there is no sink.
+    /// An empty sink for `room` bytes, whose calls of the numbers in `failing` fail. It had no call yet.
+    /// AllocError comes where memory for the room is lacking.
     pub fn new(alloc: Global, room: usize, failing: Vec<u64>) -> Result<MemorySink, AllocError>
         ensures { IfOk result (λ sink. sink ≡ record {
           bytes = [];
@@ -296,7 +297,7 @@ impl Sink for MemorySink {
         Ok(())
     }
 
-    /// Never fails, and is no call of the count, since nothing is kept back.
+    /// Never fails, and isn't counted as a call, since nothing is kept back.
     fn flush(&mut self) -> Result<(), SinkFailed>
         ensures bytes { Keeps (Some self.old.bytes) (Some self.new.bytes) }
         ensures all { OnOk result (Some self.new.bytes ≡ Some self.new.bytes) }

@@ -18,17 +18,17 @@ pub enum ShelfRefused {
 
 /// Files by name. A name is UTF-8 text, and a file is its bytes.
 ///
-/// A shelf that knows its files tells them, and each answer is then tied to the known bytes. One that doesn't, as a
-/// shelf over the system's files, tells none, and its answers say nothing of bytes.
+/// Where a shelf's contract states the bytes of its files, they are known, and each answer agrees with the known bytes.
+/// Of other shelves, as one over the system's files, no bytes are known, and their answers say nothing of bytes.
 pub trait Shelf {
-    /// The bytes of the file under a name. None where the shelf doesn't tell them, and where it has no such file.
+    /// The bytes of the file under a name. None where they aren't known, and where there is no such file.
     ghost known: { Self → List ℕ → Option (List ℕ) };
 
     /// The names that may be asked for, which need not have a file.
     ghost serves: { Self → List ℕ → Type 0 };
 
-    /// How many calls asked for the file of a name, where the shelf tells that. The count never falls, and stands still
-    /// at 2^64 - 1.
+    /// How many calls asked for the file of a name, where that is known. The count never falls, and stands still at
+    /// 2^64 - 1.
     ghost asked: { Self → List ℕ → Option ℕ };
 
     /// How many calls have failed. The count never falls, and stands still at 2^64 - 1.
@@ -36,12 +36,12 @@ pub trait Shelf {
 
     /// All bytes of the file under a served name, if there are at most `limit` of them.
     ///
-    /// - `Ok` has the whole file. where the bytes are known, they are the known ones.
+    /// - `Ok` has the whole file. Where the bytes are known, they are the known ones.
     /// - `TooLong`: the file has more than `limit` bytes.
     /// - `Failed` comes only where this call counted a fault. A name without a file is a fault.
     /// - `OutOfMemory` may come at any point.
     ///
-    /// Each answer leaves the known bytes as they were, and serves the names that were served.
+    /// After each answer the known bytes are as before, and each name that was served still is.
     fn read_whole(&mut self, alloc: Global, name: &str, limit: u64) -> Result<Vec<u8>, ShelfRefused>
         requires { serves self.old name.now }
         ensures within { IfOk result (λ bytes. vec_len bytes ≤ limit) }
@@ -50,16 +50,16 @@ pub trait Shelf {
         ensures asked { AsksFor (asked self.old) (asked self.new) name.now }
         ensures cause { HasCause (faults self.old) (faults self.new) (IsErrOf result Failed) };
 
-    /// A part of the file under a served name: bytes from place `from` on are written to the front of `into`, and the
-    /// answer is how many. It takes no memory.
+    /// A part of the file under a served name: bytes from index `from` onwards are written to the start of `into`, and
+    /// the answer is how many. It takes no memory.
     ///
-    /// - `Ok(0)` comes only where `into` is empty or the file has no byte at or after `from`. where the bytes are
-    ///   known, the part has the known ones, and what is behind it in `into` stays.
+    /// - `Ok(0)` comes only where `into` is empty or the file has no byte at or after `from`. Where the bytes are
+    ///   known, the part has the known ones, and what stands after it in `into` stays.
     /// - `Failed` comes only where this call counted a fault. A name without a file is a fault. What `into` holds then
     ///   is not said.
     /// - `TooLong` and `OutOfMemory` never come.
     ///
-    /// Each answer leaves the known bytes as they were, and serves the names that were served.
+    /// After each answer the known bytes are as before, and each name that was served still is.
     fn read_part(&mut self, name: &str, from: u64, into: &mut [u8]) -> Result<usize, ShelfRefused>
         requires { serves self.old name.now }
         ensures part { ReadsPart (known self.old name.now) from into.old into.new result }

@@ -9,15 +9,15 @@ pub struct SinkFailed;
 
 /// What takes bytes, piece after piece.
 ///
-/// A sink that knows what it took tells it. One that doesn't, as a sink over a stream of the system, tells none, and
-/// its answers say nothing of bytes. What it took it may keep back until it is flushed, and loses none of it by a
-/// later failure of its own.
+/// Where a sink's contract states what it took, that is known. Of other sinks, as one over a stream of the system, no
+/// bytes are known, and their answers say nothing of bytes. A sink may keep back what it took until it is flushed, and
+/// loses none of it by a later failure of its own.
 pub trait Sink {
-    /// The bytes that it took so far, or None where the sink doesn't tell them.
+    /// The bytes that it took, or None where they aren't known.
     ghost taken: { Self → Option (List ℕ) };
 
-    /// The bytes that it handed on to whoever reads them, where it tells them: a prefix of those taken. The rest it
-    /// keeps back until it is full or flushed.
+    /// The bytes that were flushed, so that others can read them, where they are known: a prefix of those taken. The
+    /// sink keeps the rest back until it is full or flushed.
     ghost flushed: { Self → Option (List ℕ) };
 
     /// How many calls have failed. The count never falls, and stands still at 2^64 - 1.
@@ -31,7 +31,7 @@ pub trait Sink {
         ensures bytes { Puts (taken self.old) (taken self.new) result bytes.now }
         ensures cause { HasCause (faults self.old) (faults self.new) (IsErr result) };
 
-    /// Hands on all that was taken.
+    /// Hands on what is kept back, so that all that was taken is flushed.
     ///
     /// `SinkFailed` comes only where this call counted a fault: a prefix was flushed then, and the rest is kept. The
     /// bytes taken stay in both cases.

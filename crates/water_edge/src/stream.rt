@@ -29,7 +29,7 @@ fn write_prefix<W: Write>(writer: &mut W, piece: &[u8]) -> usize
     written
 }
 
-/// Takes the first `count` bytes away.
+/// Removes the first `count` bytes.
 fn drop_prefix(bytes: &mut ArrayVec<u8, ROOM>, count: usize)
     requires { count ≤ array_vec_len bytes.old }
     ensures { bytes.new.items ≡ drop count bytes.old.items }
@@ -39,9 +39,9 @@ fn drop_prefix(bytes: &mut ArrayVec<u8, ROOM>, count: usize)
     bytes.truncate(len - count);
 }
 
-/// A writer of std, as a file or a standard stream, behind a buffer of 65,536 bytes, so that a short piece costs no
-/// call of the system. It tells what the writer tells. Contracts see it as the bytes that the writer holds, those that
-/// are kept back in the buffer, and how many calls failed.
+/// A writer of std, as a file or a standard stream, with a buffer of 65,536 bytes, so that a short piece costs no call
+/// of the system. Its bytes are known where the writer's are. Contracts see it as the bytes that the writer holds,
+/// those that are kept back in the buffer, and how many calls failed.
 ///
 /// The buffer lies in the sink itself, and no call takes memory unless the writer does. What is kept when the sink is
 /// dropped is lost, so flush it first.
@@ -84,8 +84,8 @@ impl<W: Write + Drop> StdSink<W> {
         self.kept.is_empty()
     }
 
-    /// Puts a piece that has no room after what is kept: that is written first, and so is a piece of the buffer's size
-    /// or more. Counts no fault.
+    /// Puts a piece that has no room after what is kept. What is kept is written first; then a piece of the buffer's
+    /// size or more is written too, and a shorter one is kept. Counts no fault.
     #[cold]
     #[inline(never)]
     fn put_beyond(&mut self, piece: &[u8]) -> Result<(), SinkFailed>
@@ -129,7 +129,7 @@ impl<W: Write + Drop> Sink for StdSink<W> {
     /// Keeps a piece that fits after what is kept and is shorter than the buffer. Otherwise what is kept is written
     /// first, and a piece of the buffer's size or more is written at once.
     ///
-    /// Fails where std's `write` does, or takes nothing of a rest. What it did write is no longer kept.
+    /// Fails where std's `write` fails, or takes nothing of what is left. What was written is no longer kept.
     fn put(&mut self, bytes: &[u8]) -> Result<(), SinkFailed>
         ensures bytes { Puts (taken_bytes self.old) (taken_bytes self.new) result bytes.now }
         ensures cause { HasCause self.old.faults self.new.faults (IsErr result) }
@@ -149,7 +149,8 @@ impl<W: Write + Drop> Sink for StdSink<W> {
         answer
     }
 
-    /// Writes what is kept and calls std's `flush`. Fails where one of them does, or a write takes nothing of a rest.
+    /// Writes what is kept and calls std's `flush`. Fails where one of them fails, or a write takes nothing of what is
+    /// left.
     fn flush(&mut self) -> Result<(), SinkFailed>
         ensures bytes { Keeps (taken_bytes self.old) (taken_bytes self.new) }
         ensures all { OnOk result (self.new.bytes ≡ taken_bytes self.new) }

@@ -1,12 +1,12 @@
-//! What no clause says: that parts of real files and of a pipe are met, when a sink over a writer writes, and what each
-//! call answers on its happy path.
+//! What no clause says: which parts of real files and of a pipe are read, when a sink over a writer writes, and what
+//! each call answers where nothing fails.
 use crate::{FileShelf, MemoryShelf, MemorySink, Shelf, ShelfRefused, Sink, SinkFailed, StdSink};
 use std::alloc::{AllocError, Global};
 use std::io::{PipeReader, Write};
 use std::os::fd::AsRawFd;
 use std::{fs, io};
 
-/// Whether a read of a part into a given number of bytes of seven answers so, and leaves the seven so.
+/// Whether a read of a part into the first `room` of seven bytes answers `want`, and leaves the seven as `after`.
 fn is_part<S: Shelf>(
     shelf: &mut S,
     name: &str,
@@ -176,8 +176,8 @@ fn file_shelf_reads_a_pipe(rt: HostRuntime) -> io::Result<()> {
     Ok(())
 }
 
-/// How many bytes a sink over a vector has written after pieces of these lengths and a given number of calls of
-/// `flush`. Then the sink is dropped, and with it what it keeps.
+/// How many bytes a sink over a vector has written after pieces of these lengths and `flushes` calls of `flush`.
+/// Then the sink is dropped, and with it what it keeps.
 fn written(alloc: Global, lengths: &[usize], flushes: u32) -> Result<usize, AllocError> {
     let line = vec![in alloc; b'x'; 70_000]?;
     let mut bytes = Vec::new(alloc);
@@ -222,7 +222,7 @@ fn std_sink_gathers_pieces(rt: HostRuntime) -> Result<(), AllocError> {
     Ok(())
 }
 
-/// What a sink over a place of five bytes answers to two pieces, each flushed.
+/// What a sink over five bytes of memory answers to two pieces, each flushed.
 fn overflows(place: &mut [u8]) -> [Result<(), SinkFailed>; 5] {
     let mut sink = StdSink::new(place);
     [

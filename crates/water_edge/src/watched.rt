@@ -7,7 +7,7 @@ use crate::{Shelf, ShelfRefused};
 use std::alloc::Global;
 use std::marker::Model;
 
-/// A shelf, and how many calls asked for its file of one name. It tells that count, and of all other names none.
+/// A shelf, and how many calls asked for its file of one name. That count is known, and of all other names none.
 /// Contracts see it as the shelf, the name and the count, which stands still at 2^64 - 1.
 #[derive(Drop)]
 pub struct WatchedShelf<S: Shelf + Drop> {

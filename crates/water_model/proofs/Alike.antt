@@ -63,7 +63,7 @@ same_priority b c s u same = of_same b c priority [] s u same
 pub same_senior : (b c : Basin) (s t u v : ℕ) → IsSame b c s u → IsSame b c t v → is_senior c u v ≡ is_senior b s t
 same_senior b c s t u v one two = ap₂ is_lower (same_priority b c s u one) (same_priority b c t v two)
 
--- in a basin with strict priorities a right of another stands at one place
+-- in a basin with strict priorities a right of another basin stands at one index
 same_index : (b c : Basin) (s t u v : ℕ) → AreStrict b.rights → IsSame b c s u → IsSame b c t v → u ≡ v → s ≡ t
 same_index b c s t u v strict one two e = elim (cases_order s t) [
   | inl same ↦ same
@@ -77,7 +77,7 @@ same_index b c s t u v strict one two e = elim (cases_order s t) [
     equal = sym (same_priority b c s u one) ∙ (ap (priority_in c.rights) e ∙ same_priority b c t v two)
 
 module _ (b c : Basin) (s u : ℕ) (same : IsSame b c s u) where
-  -- it takes and is on the same, if the second basin has the network of the first
+  -- it takes at the same node and is on the same link, if the second basin has the network of the first
   pub same_link : instream_link (on_network b c) u ≡ instream_link b s
   same_link = of_same b c (λ y. link_of_kind y.kind) None s u same
 
@@ -202,7 +202,7 @@ no_more_there b c month supply want other delivered given q r t strict same (inr
     at_most : {x y : ℕ} → x ≡ y → x ≤ y
     at_most e = omega arith
 
--- whether a right, up to another one, is delivered otherwise in the second basin
+-- whether a right, up to another one, is delivered another amount in the second basin
 abbrev differs : Basin → (ℕ → ℕ) → ℕ → List ℕ → List ℕ → ℕ → Bool
 differs b at right delivered given s =
     (s == right || is_senior b s right) && not (slice_index delivered s == slice_index given (at s))

@@ -34,7 +34,7 @@ use Rattle.water_model.proofs.Sets.{grouped, at_some_index}
 use Rattle.water_model.proofs.CutBalance.{cut_balance}
 use Rattle.water_model.proofs.Duality.{delivery_by_take}
 
--- the sum of a list is that over its places
+-- the sum of a list is that over its indices
 pub sum_total : (xs : List ℕ) → sum xs ≡ total (length xs) (λ k. slice_index xs k)
 sum_total [] = sym (total_start (λ k. slice_index [] k))
 sum_total (x ∷ xs) =
@@ -49,7 +49,7 @@ has_all zero k l = absurd (omega arith)
 has_all (suc n) zero l = refl
 has_all (suc n) (suc k) l = has_all n k (omega arith)
 
--- a sum over places that all pass
+-- a sum over indices that all pass
 pub total_where_all : (n : ℕ) (p : ℕ → Bool) (f : ℕ → ℕ) → ((k : ℕ) → k < n → p k ≡ true) →
     total_where n p f ≡ total n f
 total_where_all n p f h = total_same n (λ k. if p k then f k else 0) f (λ k l. ap (λ t. if t then f k else 0) (h k l))

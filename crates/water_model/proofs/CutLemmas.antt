@@ -41,7 +41,7 @@ pub set_is : (nodes : ℕ) (words : List ℕ) (begin : ℕ) (part : List ℕ) �
 set_is nodes words zero part some is = absurd (omega arith)
 set_is nodes words (suc w) part some is = ap (λ (xs : List ℕ). Some (marks nodes xs)) is
 
--- the sets of two, where all stay but that of one right
+-- the sets of two lists of words, where all stay but that of one right
 pub one_set : (rights nodes : ℕ) (before now : List ℕ) (right : ℕ) (set : Option (List Bool)) →
     set_in nodes now right ≡ set →
     ((s : ℕ) → s < rights → s ≢ right → set_in nodes now s ≡ set_in nodes before s) →

@@ -91,13 +91,13 @@ in_order-has space.Links b k l = numbers_from-has 0 (length b.links) k k l (omeg
 in_order-has space.Reservoirs b k l = numbers_from-has 0 (length b.reservoirs) k k l (omega arith)
 in_order-has space.Rights b k l = seniors_have b.rights k l
 
--- what stands at a place is an element
+-- what stands at an index is an element
 pub has_at : (xs : List ℕ) (k x : ℕ) → slice_get xs k ≡ Some x → Has xs x
 has_at [] k x e = let none : None ≡ Some x = e in cc
 has_at (y ∷ ys) zero x e = let same : Some y ≡ Some x = e in let is : y ≡ x = cc in inl (sym is)
 has_at (y ∷ ys) (suc k) x e = inr (has_at ys k x e)
 
--- An entry stands at its place of the order.
+-- The entry that stands at an index of the order.
 
 pub right_at : (s : Space) (b : Basin) (order : List ℕ) (k : ℕ) → s ≡ space.Rights →
     order ≡ by_seniority b.rights → k < count_in s b →

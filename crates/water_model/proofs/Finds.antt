@@ -1,11 +1,11 @@
--- The first place that passes a test.
+-- The first index that passes a test.
 use Rattle.std.proofs.Common.{◌≡◌, ℕ, zero, suc, ◌+◌, ◌<◌, ◌≤◌, Bool, true, false, refl, sym, ◌∙◌, ap, arith, inl, inr}
 use Rattle.std.proofs.Common.{cond}
 use Rattle.std.proofs.lemmas.Bool.{cases_eq, cases_Bool}
 use Rattle.std.specs.Prelude.{Some, None}
 use Rattle.std.specs.List.{find, range_with_len}
 
--- the first place that passes is found
+-- the first index that passes is found
 pub find_first : (p : ℕ → Bool) (from n k : ℕ) → from ≤ k → k < from + n → p k ≡ true →
     ((j : ℕ) → from ≤ j → j < k → p j ≡ false) →
     find p (range_with_len from n) ≡ Some k

@@ -23,7 +23,7 @@ use Rattle.water_model.specs.declared.types.Node.{Node}
 use Rattle.water_model.specs.declared.types.Right.{Right}
 use Rattle.water_model.proofs.Order.{Has, numbers_from-get, numbers_from-has, length-numbers_from, has-filter}
 
--- the place of a number that stands at i and nowhere before, or that stands nowhere where i is the length
+-- the index of a number that stands at i and nowhere before, or of one that stands nowhere, where i is the length
 pub index_is : (xs : List ℕ) (x i : ℕ) → i ≤ length xs → ((k : ℕ) → k < i → get_or xs k 0 ≡ x → ⊥) →
     (i < length xs → get_or xs i 0 ≡ x) → i ≡ index_in xs x
 index_is xs x i within before here =
@@ -36,7 +36,7 @@ index_is xs x i within before here =
     same : (a c : ℕ) → a ≡ c → a == c ≡ true
     same a c h = grind (arith, nat_tests)
 
--- The gauges of a series rise, so that a search by halves finds one.
+-- The gauges of a series rise, so that a binary search finds one.
 
 rises : (from n : ℕ) → IsStrictlyIncreasing (numbers_from from n)
 rises from n = λ k l. (let within : k + 1 < n = omega (arith, length-numbers_from from n) in
@@ -103,7 +103,7 @@ gauge_within b series node fits l gauged =
     has_index series.gauged node (rw fits.gauged (has-filter (λ n. is_gauged b n) (indices_of b.nodes) node
     (numbers_from-has 0 (length b.nodes) node node l (omega arith)) gauged))
 
--- a column of a row of a table stands within the table
+-- the cell of a row and a column stands within the table
 pub cell_within : (i m l p : ℕ) → i < m → p < l → i * l + p < m * l
 cell_within i m l p h k = let below : (i + 1) * l ≤ m * l = mul-le-mul_right l (omega arith) in omega arith
 
@@ -122,11 +122,11 @@ gauged_here : (b : Basin) (node : ℕ) (n : Node) → slice_get b.nodes node ≡
 gauged_here b node n at e = ap (λ o. unwrap_or (option_map (λ m. is_gauged_kind m.inflow) o) false) at
     ∙ ap is_gauged_kind e
 
--- where a number of a month stands in a table of a given number of columns
+-- the index of a cell, in a table of at most 1,200 rows and 2,000 columns, fits in 64 bits
 small_cell : (i m l p : ℕ) → i * l + p < m * l → m ≤ 1200 → l ≤ 2000 → i * l + p < 2 ^ 64
 small_cell i m l p h months bounded = let most : m * l ≤ 1200 * l = mul-le-mul_right l months in omega arith
 
--- where the amount of a gauged node in a month stands
+-- the index of the amount of a gauged node in a month
 pub record HasCell (b : Basin) (series : Inflows) (node index : ℕ) : Type 0 where
   pub within : index * length series.gauged + index_in series.gauged node < length series.amount
   pub small : index * length series.gauged + index_in series.gauged node < 2 ^ 64
@@ -171,7 +171,7 @@ wanted_within b series right fits l e =
     has_index series.wanted right (rw fits.wanted (has-filter (λ r. is_in_series b r) (indices_of b.rights) right
     (numbers_from-has 0 (length b.rights) right right l (omega arith)) e))
 
--- where the want of a right in a month stands
+-- the index of the want of a right in a month
 pub record HasWant (b : Basin) (series : Inflows) (right index : ℕ) : Type 0 where
   pub within : index * length series.wanted + index_in series.wanted right < length series.want
   pub small : index * length series.wanted + index_in series.wanted right < 2 ^ 64

@@ -212,7 +212,7 @@ greatest_same b month supply want p q strict gp gq =
     by_case (inr more) (inl same) = λ r l. sym (same r l)
     by_case (inr more) (inr other) = absurd (clash more other)
 
--- two sets of one length with the same places are equal
+-- two sets of one length with the same indices are equal
 pub same_set : (one other : List Bool) → length one ≡ length other →
     ((n : ℕ) → has one n ≡ true → has other n ≡ true) → ((n : ℕ) → has other n ≡ true → has one n ≡ true) → one ≡ other
 same_set [] [] e h i = refl

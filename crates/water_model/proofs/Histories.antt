@@ -61,7 +61,7 @@ last_follows b series before m partial =
     (take-append-le (length before) before (m ∷ []) (omega arith) ∙ take-length before)
     (partial.each (length before) m (get_after before [] m))
 
--- a record that follows others with one series does with another that gives the same in its month
+-- a record that follows others with one series also follows them with another that gives the same in its month
 pub follows_alike : (b : Basin) (series other : Inflows) (before : List MonthRecord) (m : MonthRecord) →
     ((n : ℕ) → n < length b.nodes → inflow_at b series n m.index ≡ inflow_at b other n m.index) →
     ((r used : ℕ) → r < length b.rights → want_of b series r m.index used ≡ want_of b other r m.index used) →

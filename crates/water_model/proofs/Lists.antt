@@ -11,7 +11,7 @@ use Rattle.water_model.specs.declared.types.Basin.{Basin}
 use Rattle.water_model.specs.declared.types.Inflows.{Inflows}
 use Rattle.water_model.specs.declared.types.MonthRecord.{MonthRecord}
 
--- what holds of all holds of the entry at a place
+-- what holds of all holds of the entry at an index
 pub all_at : {X : Type 0} (P : X → Type 0) (xs : List X) (k : ℕ) (x : X) → All P xs → slice_get xs k ≡ Some x → P x
 all_at P xs k x h e = subst P (get_or_from_slice_get xs k x x e) (h k x (slice_get_within xs k x e))
 
@@ -46,7 +46,7 @@ take_prefix [] (suc i) (suc j) l = refl
 take_prefix (y ∷ ys) (suc i) zero l = refl
 take_prefix (y ∷ ys) (suc i) (suc j) l = ap (λ zs. y ∷ zs) (take_prefix ys i j (omega arith))
 
--- a list that is written whole
+-- a list that is written over from end to end
 pub whole_rows : {X : Type 0} (old prefix : List X) → length prefix ≡ length old →
     take (length old) (prefix ++ drop (length prefix) old) ≡ prefix
 whole_rows old prefix len = rw (sym len) (take_at prefix (drop (length prefix) old) (length prefix) refl)
@@ -57,7 +57,7 @@ no_numbers zero k = refl
 no_numbers (suc n) zero = refl
 no_numbers (suc n) (suc k) = no_numbers n k
 
--- where no two places are named alike, a name is that of one place
+-- where no two indices have the same name, a name is that of one index
 pub once : {X : Type 0} (name : ℕ → X) (n : ℕ) → ((i j : ℕ) → i < j → j < n → name i ≢ name j) → (i j : ℕ) → i < n →
     j < n → name i ≡ name j → i ≡ j
 once name n apart i j l m same = elim (cases_order i j) [

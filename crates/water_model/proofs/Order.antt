@@ -37,7 +37,7 @@ numbers_from-below from (suc n) x (inl e) = (omega arith, omega arith)
 numbers_from-below from (suc n) x (inr h) = let b = numbers_from-below (suc from) n x h in
     (omega (arith, b.0), omega (arith, b.1))
 
--- what is made of each element, where it is the same of each
+-- what two functions make of a list is the same where they make the same of each element
 pub map_same : {Y : Type 0} (f g : ℕ → Y) (xs : List ℕ) → ((x : ℕ) → Has xs x → f x ≡ g x) → map f xs ≡ map g xs
 map_same f g [] h = refl
 map_same f g (x ∷ xs) h = rw (h x (inl refl), map_same f g xs (λ y m. h y (inr m))) refl

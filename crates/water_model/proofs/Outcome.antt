@@ -27,7 +27,7 @@ use Rattle.water_model.proofs.Balance.{plan_balance, sum_total, kind_is, KindIs,
 use Rattle.water_model.proofs.Duality.{delivery_by_take}
 use Rattle.water_model.proofs.Greatest.{greatest_same, record_is_greatest}
 
--- two lists of numbers of one length that agree at each place
+-- two lists of numbers of one length that agree at each index
 pub same_lists : (xs ys : List ℕ) (n : ℕ) → length xs ≡ n → length ys ≡ n →
     ((k : ℕ) → k < n → slice_index xs k ≡ slice_index ys k) → xs ≡ ys
 same_lists xs ys n e f h = same_number_lists xs ys (e ∙ sym f) (λ k l. h k (omega arith))
@@ -67,7 +67,7 @@ pub record BeginAlike (m n : MonthRecord) : Type 0 where
   pub supply : m.supply ≡ n.supply
 
 -- a month of a basin begins as one of the basin with other rights, after as many months that leave the same storage,
--- where as much comes back and flows in
+-- where the same comes back and flows in
 pub begin_alike : (b : Basin) (rights : List Right) (series other : Inflows) (before others : List MonthRecord)
     (m n : MonthRecord) → length before ≡ length others → opening_after b before ≡ opening_after b others →
     ((k : ℕ) → returned_at b (map (λ k. k.delivered) before) k m.index

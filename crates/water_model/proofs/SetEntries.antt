@@ -9,7 +9,7 @@ use Rattle.water_model.specs.Lookups.{of_entry}
 abbrev pub Sets : Type 0
 Sets = List (Option (List Bool))
 
--- what was written at a place stands there, and all else stays
+-- what was written at an index stands there, and all else stays
 pub entry_set : (xs : Sets) (k : ℕ) (v : Option (List Bool)) → k < length xs →
     of_entry (slice_set xs k v) k (λ s. s) None ≡ v
 entry_set [] k v l = absurd (omega arith)

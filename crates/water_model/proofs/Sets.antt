@@ -10,7 +10,7 @@ use Rattle.water_model.specs.Basin.{is_at}
 use Rattle.water_model.specs.Cuts.{node_within}
 use Rattle.finite_sums.proofs.Totals.{total_same, total_exchange, total_at, total_zero, total_add, term_le_total_where}
 
--- a place that is in the set is below its length
+-- an index that is in the set is below its length
 pub has_below : (set : List Bool) (k : ℕ) → has set k ≡ true → k < length set
 has_below [] k h = cc
 has_below (x ∷ set) zero h = omega arith
@@ -34,7 +34,7 @@ grouped n m y p within f one =
     (λ e. if within e then f e else 0)
     (λ e l. one e (f e))
 
--- one place: what stands at node k
+-- one index: what stands at node k
 pub at_index : (n : ℕ) (set : List Bool) → length set ≡ n → (k x : ℕ) →
     total n (λ v. if has set v then (if k == v then x else 0) else 0) ≡ (if has set k then x else 0)
 at_index n set len k x =
@@ -52,7 +52,7 @@ at_index n set len k x =
         (if nat_lt k n then (if b then x else 0) else 0) ≡ (if b then x else 0)
     drop_test k n b x h = grind (arith, nat_tests)
 
--- the same where there may be no place
+-- the same where there may be no index
 pub at_some_index : (n : ℕ) (set : List Bool) → length set ≡ n → (o : Option ℕ) (x : ℕ) →
     total n (λ v. if has set v then (if is_at o v then x else 0) else 0) ≡ (if node_within o set then x else 0)
 at_some_index n set len None x = total_zero n (λ v. if has set v then 0 else 0) (λ v l. same (has set v) 0)
@@ -101,11 +101,11 @@ total_swap n a c f =
     swap : (p q : Bool) (x : ℕ) → (if p && q then x else 0) ≡ (if q && p then x else 0)
     swap p q x = grind (arith, nat_tests)
 
--- for each place below n that passes one below m that passes, with no less
+-- for each index below n that passes there is one below m that passes, with no lower value
 abbrev pub Into : (n m : ℕ) → (ℕ → Bool) → (ℕ → Bool) → (ℕ → ℕ) → (ℕ → ℕ) → Type 0
 Into n m p q f g = (k : ℕ) → k < n → p k ≡ true → (j : ℕ) × (j < m) × (q j ≡ true) × (f k ≤ g j)
 
--- and for two places two
+-- and for two indices there are two
 abbrev pub IsOneToOne : (n m : ℕ) (p q : ℕ → Bool) (f g : ℕ → ℕ) → Into n m p q f g → Type 0
 IsOneToOne n m p q f g into =
     (i k : ℕ) (a : i < n) (c : k < n) (h : p i ≡ true) (w : p k ≡ true) → (into i a h).0 ≡ (into k c w).0 → i ≡ k

@@ -13,7 +13,7 @@ use Rattle.water_model.specs.declared.types.Right.{Right}
 use Rattle.water_model.specs.declared.types.RightKind.{RightKind}
 use Rattle.water_model.specs.declared.types.RightKind.TheVariants.{Diversion, Instream, Zone}
 
--- a node on which the same comes in each month
+-- a node with the same inflow in each month
 abbrev pub spring : List ℕ → ℕ → Node
 spring name amount = record { name = name; outlet = false; inflow = Monthly (replicate 12 amount) }
 
@@ -29,7 +29,7 @@ link name tail head carry = record { name = name; from = tail; to = head; carry 
 abbrev pub river : List ℕ → ℕ → ℕ → Link
 river name tail head = link name tail head River
 
--- a right of this day, with its wants from January on
+-- a right of this day, with its wants from January onwards
 abbrev pub right : List ℕ → Day → RightKind → List ℕ → Right
 right name date kind want = record {
   name = name;
@@ -48,7 +48,7 @@ steady name year kind amount = right name (record { year = year; month = 1; day 
 abbrev pub no_series : Inflows
 no_series = record { gauged = []; amount = []; wanted = []; want = [] }
 
--- One month of a stream, on which so much comes in at the top.
+-- One month of a stream with this inflow at the top.
 abbrev pub stream : ℕ → List Right → Basin
 stream amount rights = record {
   format = 1;

@@ -16,7 +16,7 @@ pub record HaveOneNetwork (first second : Basin) : Type 0 where
 abbrev pub IsUpTo : Basin → ℕ → ℕ → Type 0
 IsUpTo b s right = (s ≡ right) ⊎ IsTrue (is_senior b s right)
 
--- The right and each right senior to it are rights of the second basin too, where they stand at the place that `at`
+-- The right and each right senior to it are rights of the second basin too, where they stand at the index that `at`
 -- gives, and there no other right is senior to it.
 pub record HasSameSeniors (first second : Basin) (at : ℕ → ℕ) (right : ℕ) : Type 0 where
   pub in_range : right < length first.rights
@@ -46,7 +46,7 @@ JuniorsChangeNothing =
     IsCertified first month supply want delivered p → IsCertified second month supply other given q →
     slice_index delivered right ≡ slice_index given (at right)
 
--- And so by all greatest plans of both, where there are certified ones.
+-- All greatest plans of both basins, too, deliver the same to the right, where there are certified plans.
 abbrev pub GreatestPlansIgnoreJuniors : Type 0
 GreatestPlansIgnoreJuniors =
     (first second : Basin) (at : ℕ → ℕ) (right : ℕ) (month : Month) (supply want other delivered given : List ℕ)

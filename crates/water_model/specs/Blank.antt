@@ -13,7 +13,7 @@ blank_plan b = record {
   out = replicate (length b.nodes) 0;
 }
 
--- a month of which nothing is told: all numbers are 0, and no right has a set
+-- a month of which nothing is known: all numbers are 0, and no right has a set
 abbrev pub blank_month : Basin → ℕ → Month → MonthRecord
 blank_month b index month = record {
   index = index;

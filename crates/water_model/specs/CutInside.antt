@@ -29,11 +29,12 @@ set_in nodes words right = set_at nodes words (slice_index words right)
 abbrev pub cut_sets : ℕ → ℕ → List ℕ → CutSets
 cut_sets rights nodes words = record { nodes = nodes; sets = map (set_in nodes words) (range_with_len 0 rights) }
 
--- two sets of a given number of words don't meet
+-- two sets of `size` words don't overlap
 abbrev pub AreApart : ℕ → ℕ → ℕ → Type 0
 AreApart size one other = (one + size ≤ other) ⊎ (other + size ≤ one)
 
--- a set of each right has room, as much is used as there are sets, and they stand after the first place and apart
+-- there is room for a set of each right, the used words are those of the first place and of the sets, and the sets
+-- stand after that place and apart
 pub record KeepsSets (rights nodes : ℕ) (r : Words) : Type 0 where
   pub size : length r.words ≡ rights * (1 + words_for nodes)
   pub used : r.used ≡ rights + words_for nodes * count_where rights (has_set r.words)

@@ -16,18 +16,18 @@ use Rattle.water_model.specs.declared.types.Inflows.{Inflows}
 use Rattle.water_model.specs.declared.types.ReturnRow.{ReturnRow}
 use Rattle.water_model.specs.declared.types.Right.{Right}
 
--- the month with index i of the run, and its place in a list of twelve
+-- the month with index i of the run, and its index in a list of twelve
 abbrev pub run_month : Basin → ℕ → Month
 run_month b i = month_after b.first i
 
 abbrev pub in_year : Basin → ℕ → ℕ
 in_year b i = (run_month b i).month - 1
 
--- the place of a number in a list of numbers
+-- the index of a number in a list of numbers
 abbrev pub index_in : List ℕ → ℕ → ℕ
 index_in xs n = position_or_len (λ x. x == n) xs
 
--- number `column` of row i of a table with one column for each of the keys
+-- the cell of a key in row i of a table with one column for each of the keys
 abbrev pub table_at : List ℕ → List ℕ → ℕ → ℕ → ℕ
 table_at keys cells i key = slice_index cells (i * length keys + index_in keys key)
 
@@ -39,7 +39,7 @@ inflow_of_kind b series node i Gauged = table_at series.gauged series.amount i n
 abbrev pub inflow_at : Basin → Inflows → ℕ → ℕ → ℕ
 inflow_at b series node i = of_entry b.nodes node (λ n. inflow_of_kind b series node i n.inflow) 0
 
--- the area at a storage: between two points by interpolation, rounded down, and beyond the last its area
+-- the area at a storage: between two points by interpolation, rounded down, and beyond the last point its area
 abbrev pub area_from : AreaPoint → List AreaPoint → ℕ → ℕ
 area_from p [] storage = p.area
 area_from p (q ∷ points) storage =

@@ -5,16 +5,16 @@ use Rattle.water_model.specs.Basin.{is_outlet}
 use Rattle.water_model.specs.declared.types.Basin.{Basin}
 use Rattle.water_model.specs.declared.types.Right.{Right}
 
--- from, from + 1, .., a given number of numbers
+-- the `count` numbers from, from + 1, ..
 unfoldable pub numbers_from : ℕ → ℕ → List ℕ
 numbers_from from zero = []
 numbers_from from (suc count) = from ∷ numbers_from (suc from) count
 
--- the numbers of the entries of a list: 0, 1, .., below its length
+-- the indices of a list: 0, 1, .., below its length
 abbrev pub indices_of : {X : Type 0} → List X → List ℕ
 indices_of xs = numbers_from 0 (length xs)
 
--- the places of a set of nodes, in order
+-- the indices in a set of nodes, in order, counted from `from`
 unfoldable pub members_from : ℕ → List Bool → List ℕ
 members_from from [] = []
 members_from from (true ∷ set) = from ∷ members_from (suc from) set

@@ -38,7 +38,7 @@ CutBounds =
     AgreesOn cut supply other_supply → ServesSeniors b delivered other_want q right →
     pos (delivery b other_want q right) ≤ℤ cut_bound b month supply delivered right cut
 
--- Cuts make it greatest. In a partial history, and so in a history, each month's plan is greatest.
+-- Cuts make plans greatest. In a partial history, and so in a history, each month's plan is greatest.
 abbrev pub CutsMakeGreatest : Type 0
 CutsMakeGreatest =
     (b : Basin) (series : Inflows) (records : List MonthRecord) → IsPartialHistory b series records →

@@ -14,7 +14,7 @@ tail_in links link = of_entry links link (λ l. l.from) 0
 abbrev pub head_in : List Link → ℕ → ℕ
 head_in links link = of_entry links link (λ l. l.to) 0
 
--- whether a link is a river, which carries any amount, and no canal
+-- whether a link is a river, which carries any amount, and not a canal
 abbrev pub is_river_kind : Carry → Bool
 is_river_kind River = true
 is_river_kind (Canal per_day shut) = false
@@ -32,7 +32,7 @@ walks links zero from to = false
 walks links (suc k) from to = list_any (λ l. l.from == from && (l.to == to || walks links k l.to to)) links
 
 -- whether a node reaches itself. A walk back to it of more links than there are nodes passes some node twice and
--- contains a shorter one, so walks of at most that many links tell
+-- contains a shorter one, so walks of at most that many links are enough
 abbrev pub is_on_cycle : List Node → List Link → ℕ → Bool
 is_on_cycle nodes links node = walks links (length nodes) node node
 

@@ -20,7 +20,7 @@ carry_of_kind (Canal per_day shut) month =
 abbrev pub carry_of : Basin → Month → ℕ → ℕ
 carry_of b month link = of_entry b.links link (λ l. carry_of_kind l.carry month) 0
 
--- the sum over the links that enter, and that leave, a node
+-- the sum of the flows on the links that enter a node, and on those that leave it
 abbrev pub inflow_to : Basin → List ℕ → ℕ → ℕ
 inflow_to b flow node = total_where (length b.links) (λ e. head_of b e == node) (λ e. slice_index flow e)
 

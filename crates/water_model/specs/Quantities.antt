@@ -66,7 +66,7 @@ has_line b quantity.Closing v = true
 abbrev pub entries_with_line : Basin → Quantity → List ℕ
 entries_with_line b q = filter (λ entry. has_line b q entry) (in_order (space_of q) b)
 
--- for each node, whether some return row names it. There may be places after the nodes
+-- for each node, whether some return row names it. The list may go on after the nodes
 pub record AreReturnedTo (b : Basin) (marks : List Bool) : Type 0 where
   pub enough : length b.nodes ≤ length marks
   pub each : (n : ℕ) → n < length b.nodes → has marks n ≡ list_any (λ row. row.node == n) b.returns

@@ -27,6 +27,6 @@ fields_of b (line.Done months) = codes "done" ∷ decimal months ∷ []
 unfoldable pub line_of : Basin → Item → List ℕ
 line_of b item = join_with_byte 32 (fields_of b item)
 
--- and with it
+-- the bytes of a line with its line feed
 abbrev pub whole_line : Basin → Item → List ℕ
 whole_line b item = line_of b item ++ 10 ∷ []

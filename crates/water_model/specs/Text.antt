@@ -70,6 +70,6 @@ items_of b records = items_of_head b ++ (flat_map (items_of_month b) records ++ 
 abbrev pub text : Basin → List MonthRecord → List (List ℕ)
 text b records = map (whole_line b) (items_of b records)
 
--- and all its bytes
+-- all bytes of the text
 abbrev pub text_bytes : Basin → List MonthRecord → List ℕ
 text_bytes b records = flat_map (whole_line b) (items_of b records)

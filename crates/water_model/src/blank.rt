@@ -6,7 +6,7 @@ use crate::rows::Rows;
 use crate::types::{Basin, Plan};
 use std::alloc::{AllocError, Global};
 
-/// A list of a given number of zeros. AllocError comes where memory is lacking.
+/// A list of `count` zeros. AllocError comes where memory is lacking.
 pub fn zeros(alloc: Global, count: usize) -> Result<Rows<u64>, AllocError>
     ensures { IfOk result (λ rows. rows ≡ replicate count 0) }
 {

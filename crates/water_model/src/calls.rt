@@ -68,7 +68,7 @@ pub fn month_at(basin: &Basin, index: u32) -> Month
     }
 }
 
-/// The place in a list of twelve of the month with this index.
+/// The index, in a list of twelve, of the calendar month of the month with this index.
 fn index_in_year(basin: &Basin, index: u32) -> usize
     requires basin { IsValidBasin basin.now }
     ensures position { result ≡ in_year basin.now index }
@@ -77,7 +77,7 @@ fn index_in_year(basin: &Basin, index: u32) -> usize
     ((u64::from(basin.first.month) - 1 + u64::from(index)) % 12) as usize
 }
 
-/// Whether a water year begins with the month with this index. Indices past the run's last month count on.
+/// Whether a water year begins with the month with this index, which may be past the run's last month.
 pub fn begins_year(basin: &Basin, index: u32) -> bool
     requires basin { IsValidBasin basin.now }
     ensures { result ≡ begins_year basin.now index }
@@ -85,7 +85,7 @@ pub fn begins_year(basin: &Basin, index: u32) -> bool
     index_in_year(basin, index) + 1 == usize::from(basin.year_start)
 }
 
-/// The place of a number in a list in rising order, or the list's length where it isn't there.
+/// The index of a number in a rising list, or the list's length where it isn't there.
 fn index_of(numbers: &[u32], number: u32) -> usize
     requires { IsStrictlyIncreasing numbers.now }
     ensures { result ≡ index_in numbers.now number }
@@ -150,7 +150,7 @@ fn target_of(basin: &Basin, inflows: &Inflows, right: u32, index: u32) -> u64
 }
 
 /// The want of a right in the month with this index, in units of 1,000 cubic metres: its target, and of a diversion
-/// with a volume at most what is left of the volume. `used` is what the right used of it before in the water year.
+/// with a volume at most what is left of the volume. `used` is what the right used of it earlier in the water year.
 pub fn want_of(basin: &Basin, inflows: &Inflows, right: u32, index: u32, used: u64) -> u64
     requires basin { IsValidBasin basin.now }
     requires series { IsSeriesOf basin.now inflows.now }

@@ -37,8 +37,8 @@ impl Model for CutList {
 }
 
 impl CutList {
-    /// Holds none for each of the rights, over a given number of nodes. AllocError comes where memory for a set of each
-    /// right is lacking.
+    /// A list over these nodes, in which no right has a set. AllocError comes where memory for a set of each right is
+    /// lacking.
     pub fn open(alloc: Global, rights: u32, nodes: u32) -> Result<CutList, AllocError>
         ensures { IfOk result (λ c. c ≡ record { nodes = nodes; sets = replicate rights None }) }
     {
@@ -128,7 +128,7 @@ impl CutList {
         self.region.set(rights_place(self.rights), right as usize, place.from as u64);
     }
 
-    /// Gives up all sets.
+    /// Drops all sets.
     pub fn clear(&mut self)
         ensures { self.new ≡ without_sets self.old }
     {
@@ -157,7 +157,7 @@ fn set_place(nodes: u32, begin: u64) -> Place
     }
 }
 
-/// Takes the next words, which are there.
+/// Takes the next `len` words, of which there are enough.
 fn next_place(region: &mut Region, len: usize) -> Place
     requires { region.old.used + len ≤ length region.old.words }
     ensures place { result ≡ record { from = region.old.used; len = len } }

@@ -6,7 +6,8 @@ use crate::quantity::Quantity;
 use crate::space::Space;
 use water_text::month::Month;
 
-/// What one line of a result text says, by the basin's numbers. Amounts are in units of 1,000 cubic metres.
+/// What one line of a result text says, with entries as their indices in the basin. Amounts are in units of 1,000 cubic
+/// metres.
 #[derive(Clone, Copy, Debug, PartialEq, Eq)]
 pub enum Item {
     Title,

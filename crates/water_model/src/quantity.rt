@@ -7,8 +7,8 @@ ghost use Rattle.water_model.specs.Valid.{IsValidBasin};
 use crate::space::Space;
 use crate::types::{Basin, MAX_NODES};
 
-/// What one amount tells of an entry. A month's record has a list of amounts for each quantity, and a result text lines
-/// for them. All are in units of 1,000 cubic metres.
+/// What one amount says of an entry. A month's record has a list of amounts for each quantity, and a result text has
+/// lines for them. All are in units of 1,000 cubic metres.
 #[derive(Clone, Copy, Debug, PartialEq, Eq)]
 pub enum Quantity {
     /// What a reservoir holds when the month begins.

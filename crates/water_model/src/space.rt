@@ -45,8 +45,8 @@ pub fn name_in(space: Space, basin: &Basin, entry: u32) -> &Name
     }
 }
 
-/// The entry at a place of the order in which lines come: rights seniors first, as in `order`, and all others as in the
-/// basin.
+/// The entry at an index of the order in which lines come: rights seniors first, as in `order`, and all others as in
+/// the basin.
 pub fn entry_at(space: Space, basin: &Basin, order: &[u32], position: u32) -> u32
     requires order { order.now ≡ seniors_first basin.now }
     requires position { position < count_in space basin.now }

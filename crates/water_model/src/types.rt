@@ -12,7 +12,7 @@ use water_text::name::Name;
 /// The most nodes that a valid basin has.
 pub const MAX_NODES: usize = 2000;
 
-/// A place of the basin where water comes together. Water that reaches an outlet leaves the basin.
+/// A point of the basin where water comes together. Water that reaches an outlet leaves the basin.
 #[derive(Drop)]
 pub struct Node {
     pub name: Name,
@@ -36,8 +36,8 @@ pub struct Link {
     pub carry: Carry,
 }
 
-/// What a link can carry: a river any amount, a canal so much a day, and nothing in the calendar months in which it is
-/// shut.
+/// What a link can carry: a river any amount, a canal `per_day` each day, and nothing in the calendar months in which
+/// it is shut.
 #[derive(Drop)]
 pub enum Carry {
     River,

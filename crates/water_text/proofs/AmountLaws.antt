@@ -21,7 +21,7 @@ spelling_is_amount n h =
     tests : (k : ℕ) (d : Bool) → 0 < k → k ≤ 19 → d ≡ true → (nat_le 1 k && nat_le k 19) && d ≡ true
     tests k d some short e = grind (arith, nat_tests)
 
--- and no zero in front
+-- and no leading zero
 no_leading_zero : (n : ℕ) → n < 10 ^ 19 → has_leading_zero (decimal n) ≡ false
 no_leading_zero n h = elim (cases_lt n 10) [
   | inl one ↦ ap has_leading_zero (decimal_digit n one)
@@ -42,7 +42,7 @@ read_plain-decimal n limit within fits =
     at_most : (x y : ℕ) → x ≤ y → nat_le x y ≡ true
     at_most x y h = grind (arith, nat_tests)
 
--- what a reading tells of the text
+-- what a reading says of the text
 pub record IsRead (text : List ℕ) (limit n : ℕ) : Type 0 where
   pub some : 0 < length text
   pub short : length text ≤ 19

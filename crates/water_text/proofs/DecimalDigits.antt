@@ -8,7 +8,7 @@ use Rattle.std.proofs.lemmas.Fmt.{decimal_step, decimal_digit}
 use Rattle.std.proofs.lemmas.List.{drop-set}
 use Rattle.std.proofs.Math.Seq.{take-length}
 
--- one digit more in front of those that stand
+-- one digit more before those that stand
 one_digit : (ds : List ℕ) (at d : ℕ) → 0 < at → at ≤ length ds → drop (at - 1) (set ds (at - 1) d) ≡ d ∷ drop at ds
 one_digit ds at d some within =
     let back : at - 1 + 1 ≡ at = omega arith in

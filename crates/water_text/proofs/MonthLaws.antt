@@ -127,7 +127,7 @@ digit_of c h = record { is = is c (within c h); less = less c (within c h) }
     less : (c : ℕ) → IsInRange 48 57 c → digit_value c < 10
     less c h = omega (arith, digit_value_digit c h)
 
--- what a text of the shape has at each place
+-- what a text of the shape has at each index
 record HasPlaces (a b c d e f g : ℕ) : Type 0 where
   year : all_ascii_digits (a ∷ b ∷ c ∷ d ∷ []) ≡ true
   first : IsDigit a
@@ -138,7 +138,7 @@ record HasPlaces (a b c d e f g : ℕ) : Type 0 where
   tens : IsDigit f
   ones : IsDigit g
 
--- the places of a text of the shape
+-- a text of the shape has that at each index
 places : (a b c d e f g : ℕ) → has_shape (codes "dddd-dd") (a ∷ b ∷ c ∷ d ∷ e ∷ f ∷ g ∷ []) ≡ true →
     HasPlaces a b c d e f g
 unfolding has_shape

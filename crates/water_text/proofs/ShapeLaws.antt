@@ -52,7 +52,7 @@ shape_rest [] (t ∷ ts) (suc n) h = cc
 shape_rest (p ∷ ps) [] (suc n) h = cc
 shape_rest (p ∷ ps) (t ∷ ts) (suc n) h = shape_rest ps ts n (both (fits_at p t) (has_shape ps ts) h).1
 
--- digits in front
+-- a prefix of digits
 digits_prefix : (n : ℕ) (ps ts : List ℕ) → has_shape (replicate n 100 ++ ps) ts ≡ true →
     all_ascii_digits (take n ts) ≡ true
 unfolding has_shape

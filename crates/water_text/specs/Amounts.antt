@@ -13,7 +13,7 @@ unfoldable pub read_amount : List ℕ → ℕ → Option ℕ
 read_amount text limit =
     if is_amount text && nat_le (digits_value 10 text) limit then Some (digits_value 10 text) else None
 
--- a `0` (48) stands in front of other digits
+-- a `0` (48) stands before other digits
 abbrev pub has_leading_zero : List ℕ → Bool
 has_leading_zero text = nat_lt 1 (length text) && slice_index text 0 == 48
 

@@ -1,4 +1,4 @@
--- Lines of input, of which bytes come in pieces.
+-- Lines of input, whose bytes come in pieces.
 use Rattle.std.specs.Prelude.{◌≡◌, ℕ, ◌+◌, ◌≤◌, ◌==◌, Bool, true, false, List, [], ◌∷◌, ◌++◌, length, take, drop, All}
 use Rattle.std.specs.Prelude.{◌⊎◌}
 
@@ -44,7 +44,7 @@ pub record TakesToFull (old new piece : List ℕ) (taken : ℕ) : Type 0 where
   pub held : new ≡ old ++ take taken piece
   pub full : length new ≡ 129
 
--- a given number of bytes of a piece are taken, and the line is whole then or not
+-- the first `taken` bytes of a piece are taken, and then the line is whole or not
 abbrev pub Takes : Bool → List ℕ → List ℕ → List ℕ → ℕ → Type 0
 Takes false old new piece taken = TakesAll old new piece taken
 Takes true old new piece taken = TakesToFeed old new piece taken ⊎ TakesToFull old new piece taken

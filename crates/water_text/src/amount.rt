@@ -11,8 +11,8 @@ fn is_amount(text: &[u8]) -> bool
     1 <= text.len() && text.len() <= 19 && are_digits(text)
 }
 
-/// The value of 1 to 19 decimal digits, leading zeros allowed, or `None` where the text is nothing of
-/// the kind or the value is above `max`.
+/// The value of 1 to 19 decimal digits, leading zeros allowed, or `None` where the text is anything else or the value
+/// is above `max`.
 #[tactic(auto, unfolding(crate::specs::Amounts::read_amount))]
 pub fn read_amount(text: &[u8], max: u64) -> Option<u64>
     ensures value { result ≡ read_amount text.now max }
@@ -25,7 +25,7 @@ pub fn read_amount(text: &[u8], max: u64) -> Option<u64>
     if value <= max { Some(value) } else { None }
 }
 
-/// The same, and also `None` where a `0` stands in front of other digits.
+/// The same, and also `None` where a `0` stands before other digits.
 #[tactic(auto, unfolding(crate::specs::Amounts::read_plain))]
 pub fn read_plain(text: &[u8], max: u64) -> Option<u64>
     ensures value { result ≡ read_plain text.now max }

@@ -7,7 +7,7 @@ use crate::digits::value_at;
 use crate::month::days_in;
 use crate::shape::has_shape;
 
-/// A year, a month from 1 and a day from 1. It need not be a date: `is_date` tells.
+/// A year, a month from 1 and a day from 1. It need not be a date: `is_date` says whether it is.
 #[derive(Clone, Copy, Debug, PartialEq, Eq)]
 pub struct Day {
     pub year: u16,

@@ -26,7 +26,7 @@ pub fn value_of(digits: &[u8]) -> u64
     value
 }
 
-/// The number that the bytes at the places from `from` up to `to` write, at most four digits.
+/// The number that the digits at the indices from `from` to below `to` write, of which there are at most four.
 pub fn value_at(text: &[u8], from: usize, to: usize) -> u16
     requires order { from ≤ to }
     requires within { to ≤ length text.now }

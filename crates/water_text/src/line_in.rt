@@ -8,10 +8,10 @@ use std::marker::Model;
 /// The longest line has 128 bytes. One byte more shows that a line is longer.
 const ROOM: usize = 129;
 
-/// What a line in took of a piece.
+/// What a [`LineIn`] took of a piece.
 #[derive(Clone, Copy, Debug, PartialEq, Eq)]
 pub struct Fed {
-    /// A given number of bytes, the first of the piece.
+    /// How many bytes were taken, from the first of the piece onwards.
     pub taken: usize,
     /// Whether the line is whole: a line feed ended it, or it has 129 bytes.
     pub whole: bool,
@@ -37,14 +37,14 @@ impl Model for LineIn {
     ghost invariant = { λ l. HasRoom l.len l.whole };
 }
 
-/// The place of the first line feed.
+/// The index of the first line feed.
 fn first_feed(piece: &[u8]) -> Option<usize>
     ensures { result ≡ position is_feed piece.now }
 {
     piece.iter().position(|byte| *byte == b'\n')
 }
 
-/// Writes bytes into a list from a place on, where they fit.
+/// Writes bytes into a list from index `from` onwards, where they fit.
 fn copy_to(bytes: &mut [u8], from: usize, prefix: &[u8])
     requires { from + length prefix.now ≤ length bytes.old }
     ensures { take (from + length prefix.now) bytes.new ≡ take from bytes.old ++ prefix.now }
@@ -53,7 +53,7 @@ fn copy_to(bytes: &mut [u8], from: usize, prefix: &[u8])
 }
 
 impl LineIn {
-    /// A line in without a byte.
+    /// A line without a byte, which is not whole.
     pub fn new() -> LineIn
         ensures { result ≡ nothing_held }
     {

@@ -8,7 +8,7 @@ use crate::line::Line;
 use crate::shape::has_shape;
 use jiff::civil::date;
 
-/// A month of a year: `month` is 1 for January to 12 for December. Calls want a year from 1800 to 2999.
+/// A month of a year: `month` is 1 for January to 12 for December. Calls require a year from 1800 to 2999.
 #[derive(Clone, Copy, Debug, PartialEq, Eq)]
 pub struct Month {
     pub year: u16,

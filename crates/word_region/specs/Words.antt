@@ -15,10 +15,10 @@ IsUsed place r = place.from + place.len ≤ r.used
 abbrev pub words_at : List ℕ → Place → List ℕ
 words_at words place = slice_range words place.from (place.from + place.len)
 
--- the same with other words from a place on
+-- the same with other words from a word onwards
 abbrev pub with_words : List ℕ → ℕ → List ℕ → List ℕ
 with_words words from new = take from words ++ (new ++ drop (from + length new) words)
 
--- the same with 0 in a given number of words
+-- the same with 0 in `len` words
 abbrev pub zeroed : List ℕ → ℕ → ℕ → List ℕ
 zeroed words from len = with_words words from (replicate len 0)

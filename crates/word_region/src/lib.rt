@@ -11,7 +11,7 @@ ghost use Rattle.word_region.specs.Lending.{LendsWords};
 use std::alloc::{AllocError, Global};
 use std::marker::Model;
 
-/// Some words of a region: `len` of them, from the word `from` on.
+/// Some words of a region: `len` of them, from the word `from` onwards.
 #[derive(Clone, Copy, Debug, PartialEq, Eq)]
 pub struct Place {
     pub from: usize,
@@ -49,8 +49,7 @@ impl Model for Region {
 }
 
 impl Region {
-    /// A region of a given number of words, all 0, of which none is handed out. AllocError comes where memory is
-    /// lacking.
+    /// A region of this many words, all 0, of which none is handed out. AllocError comes where memory is lacking.
     pub fn open(alloc: Global, words: usize) -> Result<Region, AllocError>
         ensures { IfOk result (λ r. r ≡ record { words = replicate words 0; used = 0 }) }
     {
@@ -161,7 +160,7 @@ impl Region {
     }
 }
 
-/// Writes 0 into a given number of words.
+/// Writes 0 into `len` words, from the word `from` onwards.
 fn zero(words: &mut [u64], from: usize, len: usize)
     requires { from + len ≤ length words.old }
     ensures { words.new ≡ zeroed words.old from len }
@@ -169,7 +168,7 @@ fn zero(words: &mut [u64], from: usize, len: usize)
     words[from..from + len].fill(0);
 }
 
-/// Writes other words from a word on.
+/// Writes new words over those from the word `from` onwards.
 fn overwrite(words: &mut [u64], from: usize, new: &[u64])
     requires { from + length new.now ≤ length words.old }
     ensures { words.new ≡ with_words words.old from new.now }
@@ -182,7 +181,7 @@ mod tests {
     use super::*;
     use std::test::Fail;
 
-    // Of ten words: how many are asked for, and from where on they are handed out, if so many are left.
+    // Of ten words: how many are asked for, and from which word onwards they are handed out, if that many are left.
     static TAKES: [(usize, Option<usize>); 6] = [
         (4, Some(0)),
         (7, None),

@@ -11,7 +11,7 @@ use Rattle.water_model.proofs.Lists.{take_prefix}
 use Rattle.edit_session.proofs.solving.solve_months.Goals as goal
 use Rattle.senior_hold.specs.MonthNetwork.{month_pushes}
 
--- one month more pushes so often at most
+-- the pushes of one month more are within the bound
 pushes_more : (start before after i kept p : ℕ) → kept ≤ i → before ≤ start + (i - kept) * p → after ≤ before + p →
     after ≤ start + (i + 1 - kept) * p
 pushes_more start before after i kept p l many more =

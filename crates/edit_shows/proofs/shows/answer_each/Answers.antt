@@ -23,7 +23,7 @@ loop-edit-init g c = record {
   );
 }
 
--- the line at a place
+-- the line at an index
 abbrev line_at : List Edit → ℕ → Edit
 line_at edits i = get_or edits i (Inflow 0 0 0)
 

@@ -45,7 +45,7 @@ returns-else-eq-clause-cut g c = λ is. c.raise_by_tree-pulled.ensures.cut is (e
   | else-eq-via-else-eq w ↦ absurd (not_unlabeled c.raise_by_tree-pulled.result (sym c.eq.ensures ∙ w.if-eq.false) is)
 ])
 
--- without a push both ends are as they were, so that one of them is reached
+-- without a push both ends are as they were, so that one of them is labeled
 pub returns-then-is_unlabeled-3-clause-unfinished : goal.returns-then-is_unlabeled-3-clause-unfinished
 returns-then-is_unlabeled-3-clause-unfinished g c = λ _.
     let r = c.raise_by_tree-pulled in

@@ -19,12 +19,12 @@ river_read rivers seen n node o same at l read =
     read ∙ (ap (λ (xs : List (Option ℕ)). get_or xs n o) same
     ∙ (ap (λ k. get_or seen k o) at ∙ get_or_default seen node o None l))
 
--- a place of the order is below the number of nodes
+-- a position in the order is below the number of nodes
 index_in : (nodes : List Node) (links : List Link) (net : NetView) (items : List ℕ) (i : ℕ) → IsNet nodes links net →
     items ≡ net.order → i < length items → i < length nodes
 index_in nodes links net items i is same l = omega (arith, ap length same, is.run.count)
 
--- the node at a place has a place among the first rivers
+-- the node at a position has an index among the first rivers
 node_in : (nodes : List Node) (links : List Link) (net : NetView) (i : ℕ) → IsNet nodes links net → i < length nodes →
     slice_index net.order i < length net.rivers
 node_in nodes links net i is l = let b = is.run.below i l in omega (arith, is.river_count)
