@@ -230,7 +230,8 @@ struct Sums {
 
 inline void put_balance(const Basin& basin, const Sums& sums) {
   printf("balance");
-  for (Amount amount : {sums.opening, sums.inflows, sums.returns, sums.closing, sums.evaporated, sums.diverted, sums.out})
+  for (Amount amount :
+       {sums.opening, sums.inflows, sums.returns, sums.closing, sums.evaporated, sums.diverted, sums.out})
     printf(" %lld", (long long)amount);
   printf("\ndone %d\n", basin.months);
 }

@@ -25,7 +25,8 @@ static void put_network(FILE* file, const Basin& basin) {
   }
   for (const Link& link : basin.links) {
     fprintf(file, "\n[[link]]\nname = \"%s\"\n", link.name.c_str());
-    fprintf(file, "from = \"%s\"\nto = \"%s\"\n", basin.nodes[link.from].name.c_str(), basin.nodes[link.to].name.c_str());
+    const std::string &from = basin.nodes[link.from].name, &to = basin.nodes[link.to].name;
+    fprintf(file, "from = \"%s\"\nto = \"%s\"\n", from.c_str(), to.c_str());
     if (link.per_day >= 0) fprintf(file, "per_day = %lld\n", (long long)link.per_day);
   }
   for (const Reservoir& reservoir : basin.reservoirs) {

@@ -1,6 +1,6 @@
-// The rights one after the other by linear programs, with GLPK's simplex method: the greatest delivery of each right, all
-// seniors held at theirs. The basis is kept from right to right and from month to month. It reckons in doubles, and each
-// delivery is rounded.
+// The rights one after the other by linear programs, with GLPK's simplex method: the greatest delivery of each right,
+// all seniors held at theirs. The basis is kept from right to right and from month to month. It reckons in doubles, and
+// each delivery is rounded.
 #include <glpk.h>
 #include <cmath>
 #include "program.hpp"
@@ -46,8 +46,8 @@ class Glpk {
     glp_set_col_bnds(problem, column, low == high ? GLP_FX : GLP_DB, (double)low, (double)high);
   }
 
-  // A row for each node, that what goes out is what is supplied and comes in; and a row for each instream right, that it
-  // is delivered no more than its link's flow.
+  // A row for each node, that what goes out is what is supplied and comes in; and a row for each instream right, that
+  // it is delivered no more than its link's flow.
   void set_terms() {
     std::vector<int> rows(1), columns(1);
     std::vector<double> factors(1);

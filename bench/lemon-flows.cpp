@@ -1,6 +1,6 @@
 // The rights one after the other by a library's greatest flows: LEMON's Preflow, from nothing for each right and month.
-// All seniors have what they got as outflow of their nodes, and the right in hand asks for more. An instream right takes
-// from the room of its link what it asks for, which leaves at the link's tail and comes in again at its mouth.
+// All seniors have what they got as outflow of their nodes, and the right in hand asks for more. An instream right
+// takes from the room of its link what it asks for, which leaves at the link's tail and comes in again at its mouth.
 #include <lemon/preflow.h>
 #include <lemon/smart_graph.h>
 #include "program.hpp"

@@ -1,7 +1,7 @@
 // The fastest program that we know how to write for the same answers, without a proof.
 //
-// 1. Water stays where it rises. A river leads from every node to an outlet, so what nobody takes can always leave: each
-//    node keeps its water as an excess, and a right is raised from the nearest excess upstream of it.
+// 1. Water stays where it rises. A river leads from every node to an outlet, so what nobody takes can always leave:
+//    each node keeps its water as an excess, and a right is raised from the nearest excess upstream of it.
 // 2. A node that no excess can come to, by steps that have room, stays so for all juniors of the month: it is dry. So
 //    what finds no water is looked at once a month.
 // 3. Every other node has a label, the step by which water comes to it. A right is raised by going up the labels. Where

@@ -1,6 +1,6 @@
-// measure SECONDS PROGRAM WORDS..: runs a program, and ends it after so many seconds of processor time. The last line on
-// standard error is `STATUS MICROSECONDS KILOBYTES`: its status, or 128 and the signal that ended it, its processor time
-// and the most memory that it had. (A program of its own, as a child's memory counts what its starter had.)
+// measure SECONDS PROGRAM WORDS..: runs a program, and ends it after so many seconds of processor time. The last line
+// on standard error is `STATUS MICROSECONDS KILOBYTES`: its status, or 128 and the signal that ended it, its processor
+// time and the most memory that it had. (A program of its own, as a child's memory counts what its starter had.)
 #include <sys/resource.h>
 #include <sys/wait.h>
 #include <unistd.h>

@@ -16,6 +16,8 @@ IN_C = {
     "clp": ("coin/ClpSimplex.hpp", "coinor-libclp-dev", ["-lClp", "-lCoinUtils"]),
 }
 NAMES = [*IN_C, "highs"]
+# The shapes of the basins that `basins` makes.
+SHAPES = ("random", "gauged", "chain", "tree", "braid", "half-instream")
 
 
 def built(name):
@@ -37,7 +39,8 @@ def missing(name):
     header, package, _ = IN_C[name]
     if header is None:
         return None
-    tried = subprocess.run(["g++", "-E", "-x", "c++", "-"], input=f"#include <{header}>\n", capture_output=True, text=True)
+    line = f"#include <{header}>\n"
+    tried = subprocess.run(["g++", "-E", "-x", "c++", "-"], input=line, capture_output=True, text=True)
     return package if tried.returncode else None
 
 
