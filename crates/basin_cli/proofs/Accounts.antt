@@ -1,7 +1,8 @@
--- After the files of `why`: the cause of how it ends, what it leaves on out, and its pushes.
+-- After the files of `why`: the cause of how it ends, what it leaves on out, and the months that it solves.
 use Rattle.std.proofs.Common.{◌≡◌, ℕ, ◌≤◌, sym, ◌∙◌, subst, arith, List, [], ◌∷◌, Option, Some, None}
 use Rattle.std.proofs.Common.{length-append}
 use Rattle.std.specs.Prelude.{IfSome, slice_index}
+use Rattle.water_edge.specs.Edge.{Output}
 use Rattle.basin_file.specs.BasinFaults.{Spells}
 use Rattle.edit_script.specs.declared.refused.ScriptFault.TheVariants as script
 use Rattle.inflow_file.specs.SeriesFaults.{SpellsSeries}
@@ -10,13 +11,14 @@ use Rattle.water_model.specs.Valid.{IsValidBasin, IsSeriesOf}
 use Rattle.water_model.specs.declared.types.Basin.{Basin}
 use Rattle.water_model.specs.declared.types.Inflows.{Inflows}
 use Rattle.water_model.specs.declared.types.MonthRecord.{MonthRecord}
+use Rattle.month_fold.specs.Works.{WorkDone}
 use Rattle.basin_cli.specs.declared.explaining.Account.{Account}
 use Rattle.basin_cli.specs.declared.ending.Ending.{Ending}
 use Rattle.basin_cli.specs.declared.ending.Ending.TheVariants as ending
 use Rattle.basin_cli.specs.Actions.{EndsAsking, IsAnswered}
 use Rattle.basin_cli.specs.Command.{Files}
 use Rattle.basin_cli.specs.Ending.{status_of}
-use Rattle.basin_cli.specs.Explained.{HasMonth, HasRight, IsAbout, PushesUpTo}
+use Rattle.basin_cli.specs.Explained.{HasMonth, HasRight, IsAbout, WorkUpTo}
 use Rattle.basin_cli.specs.Bytes.{AreSpelled, IsGoodBasin, IsGoodSeries, KnownFiles, known_series}
 use Rattle.basin_cli.specs.Out.{MayWrite}
 use Rattle.basin_cli.specs.Outcome.{HasExplainingCause, IsAsked, IsOutsideRun, IsShortIn, IsUnknownRight, WritesBook}
@@ -143,7 +145,7 @@ asking_cause known files month name b series other read write valid fits loaded 
 -- what is left on out
 pub asking_writes : (asked : Account) (known : KnownFiles) (files : Files) (month : Month) (name : List ℕ) (b : Basin)
     (series : Inflows)
-    (how : Ending) (old new : Option (List ℕ)) →
+    (how : Ending) (old new : Output) →
     IsSeriesOf b series → AreLoaded known files b series →
     (MayWrite (status_of how) → IsAnswered asked b series month name how old new) →
     OfBoth known files
@@ -170,15 +172,15 @@ asking_writes asked known files month name b series how old new fits loaded answ
           written = answer.written;
         })
 
--- and how often searches pushed
+-- and the months that were solved
 pub asking_solves : (known : KnownFiles) (files : Files) (month : Month) (b : Basin) (series : Inflows)
-    (before now : ℕ) →
-    AreLoaded known files b series → PushesUpTo b month before now →
-    IfSome (known files.basin) (λ bytes. (c : Basin) → Spells bytes c → PushesUpTo c month before now)
-asking_solves known files month b series before now loaded pushes = of_told (known files.basin) loaded.from_basin
+    (before now : WorkDone) →
+    AreLoaded known files b series → WorkUpTo b month before now →
+    IfSome (known files.basin) (λ bytes. (c : Basin) → Spells bytes c → WorkUpTo c month before now)
+asking_solves known files month b series before now loaded solves = of_told (known files.basin) loaded.from_basin
   where
     of_told : (t : Option (List ℕ)) → IfSome t (IsBasinText b) →
-        IfSome t (λ bytes. (c : Basin) → Spells bytes c → PushesUpTo c month before now)
+        IfSome t (λ bytes. (c : Basin) → Spells bytes c → WorkUpTo c month before now)
     of_told None text = tt
     of_told (Some bytes) text =
-        λ c spelled. subst (λ d. PushesUpTo d month before now) (one_basin bytes b c text.spelled spelled) pushes
+        λ c spelled. subst (λ d. WorkUpTo d month before now) (one_basin bytes b c text.spelled spelled) solves

@@ -1,21 +1,20 @@
 -- A comparison grows month by month.
-use Rattle.std.proofs.Common.{◌≡◌, ℕ, ◌+◌, ◌*◌, ◌≤◌, ◌<◌, refl, sym, ◌∙◌, ap, ap₂, arith, List, [], ◌∷◌, ◌++◌, length}
+use Rattle.std.proofs.Common.{◌≡◌, ℕ, ◌+◌, ◌≤◌, ◌<◌, refl, sym, ◌∙◌, ap, ap₂, arith, List, [], ◌∷◌, ◌++◌, length}
 use Rattle.std.proofs.Common.{length-append}
 use Rattle.std.proofs.lemmas.Grind.{flat_map-append}
-use Rattle.std.proofs.Math.Nat.{mul-le-mul, mul-le-mul_right}
+use Rattle.std.proofs.Math.Nat.{mul-le-mul}
 use Rattle.std.specs.List.{flat_map}
 use Rattle.water_model.specs.Valid.{IsValidBasin}
 use Rattle.water_model.specs.declared.types.Basin.{Basin}
 use Rattle.water_model.specs.declared.types.Inflows.{Inflows}
 use Rattle.water_model.specs.declared.types.MonthRecord.{MonthRecord}
-use Rattle.month_fold.specs.Runs.{RunView, RunStandsFor, run_pushes}
+use Rattle.month_fold.specs.Runs.{RunView, RunStandsFor}
 use Rattle.injury.specs.Common.{common_rights}
 use Rattle.injury.specs.Injuries.{injuries, injuries_of, injured_row, compared_row, comparison_text}
 use Rattle.injury.proofs.Growing.{common_bounded, injuries_more, injuries_bounded}
 use Rattle.injury.proofs.Put.{injuries-count}
 use Rattle.basin_cli.specs.Compared.{AreCompared, IsTextOfComparison}
 use Rattle.basin_cli.proofs.Written.{whole_run}
-use Rattle.senior_hold.specs.MonthNetwork.{month_pushes}
 
 -- one month more of both runs
 pub compared_more : (b c : Basin) (first second first' second' : RunView) (m n : MonthRecord) (before after : List ℕ)
@@ -114,26 +113,3 @@ whole_comparison b c series other first second before after injured fits fits' d
       text = ends ∙ ap₂ (λ t n. t ++ compared_row (length (common_rights b c)) n) all.rows all.number;
       number = all.number;
     }
-
--- the pushes of some months and of one more are within those of both runs
-pub within_runs : (b c : Basin) (old before after i : ℕ) → c.months ≡ b.months →
-    before ≤ old + i * (month_pushes b + month_pushes c) →
-    after ≤ before + (month_pushes b + month_pushes c) → i < b.months → after ≤ old + (run_pushes b + run_pushes c)
-within_runs b c old before after i same so_far more l =
-    omega (arith, so_far, more, both (month_pushes b) (month_pushes c) b.months c.months i same l)
-  where
-    both : (x y k n i : ℕ) → n ≡ k → i < k → i * (x + y) + (x + y) ≤ k * x + n * y
-    both x y k n i same l =
-        let all : (i + 1) * (x + y) ≤ k * (x + y) = mul-le-mul_right (x + y) (omega arith) in
-        rw same (omega (arith, all))
-
-pub all_within_runs : (b c : Basin) (old now i : ℕ) → c.months ≡ b.months →
-    now ≤ old + i * (month_pushes b + month_pushes c) →
-    i ≤ b.months → now ≤ old + (run_pushes b + run_pushes c)
-all_within_runs b c old now i same so_far l =
-    omega (arith, so_far, both (month_pushes b) (month_pushes c) b.months c.months i same l)
-  where
-    both : (x y k n i : ℕ) → n ≡ k → i ≤ k → i * (x + y) ≤ k * x + n * y
-    both x y k n i same l =
-        let all : i * (x + y) ≤ k * (x + y) = mul-le-mul_right (x + y) l in
-        rw same (omega (arith, all))

@@ -1,8 +1,9 @@
 -- Scripts of changes: how a call that answers one ends, and what it leaves on out.
-use Rattle.std.proofs.Common.{◌≡◌, ℕ, ◌+◌, ◌≤◌, refl, sym, ◌∙◌, subst, List, [], ◌∷◌, length, Option}
+use Rattle.std.proofs.Common.{◌≡◌, ℕ, ◌+◌, ◌≤◌, refl, sym, ◌∙◌, subst, List, [], ◌∷◌, length}
 use Rattle.std.proofs.Common.{inl, inr}
 use Rattle.std.specs.Prelude.{IfSome, IsErr, IsOk, Ok, Err, Bool, true, false, if◌then◌else◌, Result, codes}
 use Rattle.std.specs.Str.{bytes_eq}
+use Rattle.water_edge.specs.Edge.{Output}
 use Rattle.edit_script.specs.Lines.{edit_of, inflow_of, want_of}
 use Rattle.edit_script.specs.Scripts.{Reading, ended, edits_from, edits_of_lines, in_prefix, lines_of, numbered}
 use Rattle.edit_script.specs.Scripts.{script_of}
@@ -11,14 +12,15 @@ use Rattle.edit_script.specs.declared.refused.ScriptRefused.TheVariants as refus
 use Rattle.water_model.specs.Valid.{IsSeriesOf}
 use Rattle.water_model.specs.declared.types.Basin.{Basin}
 use Rattle.water_model.specs.declared.types.Inflows.{Inflows}
+use Rattle.month_fold.specs.Works.{WorkDone}
 use Rattle.basin_cli.specs.declared.ending.Ending.{Ending}
 use Rattle.basin_cli.specs.declared.ending.Ending.TheVariants as ending
 use Rattle.basin_cli.specs.declared.status.Status.{Status}
 use Rattle.basin_cli.specs.declared.status.Status.TheVariants as status
 use Rattle.basin_cli.specs.Bytes.{AreSpelled, KnownFiles, file_limit, known_series}
 use Rattle.basin_cli.specs.Command.{Files}
-use Rattle.basin_cli.specs.Edited.{EditLeaves, EditPushes, EditWrites, EndsEditing, HasEditingCause, IsGoodScript}
-use Rattle.basin_cli.specs.Edited.{IsScriptRefusedFor, LeavesScript, PushesOfScript}
+use Rattle.basin_cli.specs.Edited.{EditLeaves, EditWork, EditWrites, EndsEditing, HasEditingCause, IsGoodScript}
+use Rattle.basin_cli.specs.Edited.{IsScriptRefusedFor, LeavesScript, WorkOfScript}
 use Rattle.basin_cli.specs.Series.{AreLoaded}
 use Rattle.basin_cli.proofs.Judged.{after, of_both}
 use Rattle.basin_cli.proofs.OneSeries.{one_basin}
@@ -105,7 +107,7 @@ editing_cause known files script text b series other read write fits loaded with
 
 -- what is left on out
 leaves_told : (status : Status) (bytes s : List ℕ) (b : Basin) (series : Inflows) (text : List ℕ)
-    (old new : Option (List ℕ)) → AreSpelled bytes s b series →
+    (old new : Output) → AreSpelled bytes s b series →
     LeavesScript status b series text old new → EditLeaves status bytes s text old new
 leaves_told status.OutOfMemory bytes s b series text old new spelled (inl same) = inl same
 leaves_told status.OutOfMemory bytes s b series text old new spelled (inr shows) =
@@ -114,7 +116,7 @@ leaves_told other bytes s b series text old new spelled left =
     λ may. record { basin = b; series = series; spelled = spelled; shows = left may }
 
 pub editing_writes : (known : KnownFiles) (files : Files) (script text : List ℕ) (b : Basin) (series : Inflows)
-    (status : Status) (old new : Option (List ℕ)) →
+    (status : Status) (old new : Output) →
     IsSeriesOf b series → AreLoaded known files b series → IfSome (known script) (λ bytes. text ≡ bytes) →
     LeavesScript status b series text old new →
     EditWrites known files script status old new
@@ -124,14 +126,14 @@ editing_writes known files script text b series status old new fits loaded is le
     loaded.from_basin loaded.from_series is
     (λ bytes s spelled. leaves_told status bytes s b series text old new spelled left)
 
--- and how often searches pushed
-pushes_same : (bytes s text : List ℕ) (b : Basin) (series : Inflows) (before now : ℕ) → AreSpelled bytes s b series →
-    PushesOfScript b series text before now →
-    (c : Basin) (other : Inflows) → AreSpelled bytes s c other → PushesOfScript c other text before now
-pushes_same bytes s text b series before now spelled pushes c other also =
+-- and the months that were solved
+work_same : (bytes s text : List ℕ) (b : Basin) (series : Inflows) (before now : WorkDone) → AreSpelled bytes s b series →
+    WorkOfScript b series text before now →
+    (c : Basin) (other : Inflows) → AreSpelled bytes s c other → WorkOfScript c other text before now
+work_same bytes s text b series before now spelled solves c other also =
     let same : b ≡ c = one_basin bytes b c spelled.basin_spelled also.basin_spelled in
-    let moved : PushesOfScript c series text before now =
-    subst (λ d. PushesOfScript d series text before now) same pushes in
+    let moved : WorkOfScript c series text before now =
+    subst (λ d. WorkOfScript d series text before now) same solves in
     let script : script_of c series text ≡ script_of c other text =
     same_script c series other (subst (λ d. IsSeriesOf d series) same spelled.fits) also.fits text in
     record {
@@ -139,13 +141,13 @@ pushes_same bytes s text b series before now spelled pushes c other also =
       refused = λ bad. moved.refused (subst (λ (r : Reading). IsErr r) (sym script) bad);
     }
 
-pub editing_pushes : (known : KnownFiles) (files : Files) (script text : List ℕ) (b : Basin) (series : Inflows)
-    (before now : ℕ) → IsSeriesOf b series →
+pub editing_solves : (known : KnownFiles) (files : Files) (script text : List ℕ) (b : Basin) (series : Inflows)
+    (before now : WorkDone) → IsSeriesOf b series →
     AreLoaded known files b series → IfSome (known script) (λ bytes. text ≡ bytes) →
-    PushesOfScript b series text before now →
-    EditPushes known files script before now
-editing_pushes known files script text b series before now fits loaded is pushes =
+    WorkOfScript b series text before now →
+    EditWork known files script before now
+editing_solves known files script text b series before now fits loaded is solves =
     of_both (known files.basin) (known_series known files.series) (known script) b series text
-    (λ bytes s t. (c : Basin) (other : Inflows) → AreSpelled bytes s c other → PushesOfScript c other t before now) fits
+    (λ bytes s t. (c : Basin) (other : Inflows) → AreSpelled bytes s c other → WorkOfScript c other t before now) fits
     loaded.from_basin loaded.from_series is
-    (λ bytes s spelled. pushes_same bytes s text b series before now spelled pushes)
+    (λ bytes s spelled. work_same bytes s text b series before now spelled solves)

@@ -1,8 +1,8 @@
 -- A text that was put and is flushed.
-use Rattle.std.proofs.Common.{◌≡◌, ℕ, ◌∙◌, ◌++◌, arith, inr, List, length, take, Option, None, Some, Result, Ok, Err}
-use Rattle.std.specs.Io.KnownBytes.{Appends, Keeps}
+use Rattle.std.proofs.Common.{◌≡◌, ℕ, ◌++◌, arith, inr, List, length, take, Result, Ok, Err}
 use Rattle.std.proofs.Math.Seq.{take-length}
-use Rattle.water_edge.specs.Edge.{Puts}
+use Rattle.water_edge.specs.Edge.{Extends, Output, Puts, Stays}
+use Rattle.water_edge.proofs.Outputs.{Extends-kept}
 use Rattle.water_model.specs.Valid.{IsSeriesOf}
 use Rattle.water_model.specs.declared.types.Basin.{Basin}
 use Rattle.water_model.specs.declared.types.Inflows.{Inflows}
@@ -14,39 +14,36 @@ use Rattle.edit_shows.specs.declared.stop.EditStop.TheVariants.{SinkFailed}
 use Rattle.reports.specs.Ends.{IsRun}
 use Rattle.reports.specs.Reports.{trial_text}
 use Rattle.basin_cli.specs.Outcome.{WritesTrial}
-use Rattle.basin_cli.specs.declared.status.Status.TheVariants.{WriteFault}
-
--- what was taken stays when it is flushed
-pub kept_appends : (old mid new : Option (List ℕ)) (text : List ℕ) → Appends old mid text → Keeps mid new →
-    Appends old new text
-kept_appends None mid new text h k = tt
-kept_appends (Some xs) None new text h k = absurd h
-kept_appends (Some xs) (Some ys) None text h k = absurd k
-kept_appends (Some xs) (Some ys) (Some zs) text h k = k ∙ h
+use Rattle.basin_cli.specs.declared.status.Status.TheVariants.{Done, WriteFault}
 
 -- the whole is a prefix
-pub whole_prefix : (old mid new : Option (List ℕ)) (text : List ℕ) → Appends old mid text → Keeps mid new →
-    (count : ℕ) × Appends old new (take count text)
-whole_prefix old mid new text h k = (length text, rw (take-length text) (kept_appends old mid new text h k))
+pub whole_prefix : (old mid new : Output) (text : List ℕ) → Extends old mid text → Stays mid new →
+    (count : ℕ) × Extends old new (take count text)
+whole_prefix old mid new text h k = (length text, rw (take-length text) (Extends-kept old mid new text h k))
 
 -- a piece that was put whole, whether or not it could be flushed
-pub puts_kept : {E : Type 0} (old mid new : Option (List ℕ)) (r : Result (Unit {0}) E) (text : List ℕ) →
-    Appends old mid text → Keeps mid new → Puts old new r text
-puts_kept old mid new (Ok u) text h k = kept_appends old mid new text h k
+pub puts_kept : {E : Type 0} (old mid new : Output) (r : Result (Unit {0}) E) (text : List ℕ) →
+    Extends old mid text → Stays mid new → Puts old new r text
+puts_kept old mid new (Ok u) text h k = Extends-kept old mid new text h k
 puts_kept old mid new (Err e) text h k =
-    (length text, omega arith, rw (take-length text) (kept_appends old mid new text h k))
+    (length text, omega arith, rw (take-length text) (Extends-kept old mid new text h k))
 
 -- the text of something that was put whole, where it couldn't be flushed
-pub prefixes : {X : Type 0} (P : X → Type 0) (text : X → List ℕ) (old mid new : Option (List ℕ)) →
-    ((x : X) × P x × Appends old mid (text x)) → Keeps mid new → (x : X) × P x ×
-    ((count : ℕ) × Appends old new (take count (text x)))
+pub prefixes : {X : Type 0} (P : X → Type 0) (text : X → List ℕ) (old mid new : Output) →
+    ((x : X) × P x × Extends old mid (text x)) → Stays mid new → (x : X) × P x ×
+    ((count : ℕ) × Extends old new (take count (text x)))
 prefixes P text old mid new put k = (put.0, put.1, whole_prefix old mid new (text put.0) put.2 k)
 
-pub trial_prefix : (number size : ℕ) (b : Basin) (series : Inflows) (old mid new : Option (List ℕ)) →
+-- and where it could
+pub kept : {X : Type 0} (P : X → Type 0) (text : X → List ℕ) (old mid new : Output) →
+    ((x : X) × P x × Extends old mid (text x)) → Stays mid new → (x : X) × P x × Extends old new (text x)
+kept P text old mid new put k = (put.0, put.1, Extends-kept old mid new (text put.0) put.2 k)
+
+pub trial_prefix : (number size : ℕ) (b : Basin) (series : Inflows) (old mid new : Output) →
     b ≡ generated number size → IsSeriesOf b series →
     ((records : List MonthRecord) × IsRun b series records ×
-    Appends old mid (trial_text number size b series records)) →
-    Keeps mid new → WritesTrial WriteFault number size old new
+    Extends old mid (trial_text number size b series records)) →
+    Stays mid new → WritesTrial WriteFault number size old new
 trial_prefix number size b series old mid new is fits put k = record {
   series = series;
   fits = rw (← is) fits;
@@ -55,10 +52,23 @@ trial_prefix number size b series old mid new is fits put k = record {
   written = rw (← is) (whole_prefix old mid new (trial_text number size b series put.0) put.2 k);
 }
 
-pub shows_prefix : (b : Basin) (series : Inflows) (edits : List Edit) (old mid new : Option (List ℕ)) →
+pub trial_kept : (number size : ℕ) (b : Basin) (series : Inflows) (old mid new : Output) →
+    b ≡ generated number size → IsSeriesOf b series →
+    ((records : List MonthRecord) × IsRun b series records ×
+    Extends old mid (trial_text number size b series records)) →
+    Stays mid new → WritesTrial Done number size old new
+trial_kept number size b series old mid new is fits put k = record {
+  series = series;
+  fits = rw (← is) fits;
+  records = put.0;
+  is_run = rw (← is) put.1;
+  written = rw (← is) (Extends-kept old mid new (trial_text number size b series put.0) put.2 k);
+}
+
+pub shows_prefix : (b : Basin) (series : Inflows) (edits : List Edit) (old mid new : Output) →
     ((shown : List MonthRecord) × AreShown b series edits shown ×
-    Appends old mid (months_bytes b shown ++ done_bytes (shows_in edits))) →
-    Keeps mid new → AnswersWhole b series edits (Err SinkFailed) old new
+    Extends old mid (months_bytes b shown ++ done_bytes (shows_in edits))) →
+    Stays mid new → AnswersWhole b series edits (Err SinkFailed) old new
 shows_prefix b series edits old mid new put k =
     let text : List ℕ = months_bytes b put.0 ++ done_bytes (shows_in edits) in
-    inr (put.0, put.1, (length text, omega arith, rw (take-length text) (kept_appends old mid new text put.2 k)))
+    inr (put.0, put.1, (length text, omega arith, rw (take-length text) (Extends-kept old mid new text put.2 k)))

@@ -1,9 +1,10 @@
 -- After the files of an ensemble.
-use Rattle.std.proofs.Common.{ℕ, ◌+◌, ◌*◌, ◌≤◌, subst, List, Option, Some, None}
+use Rattle.std.proofs.Common.{ℕ, ◌*◌, subst, List, Option, Some, None}
 use Rattle.std.specs.Prelude.{IfSome}
+use Rattle.water_edge.specs.Edge.{Output}
 use Rattle.basin_file.specs.BasinFaults.{Spells}
 use Rattle.index_seq.specs.Traces.{HasWholeYears, years_of}
-use Rattle.month_fold.specs.Runs.{run_pushes}
+use Rattle.month_fold.specs.Works.{Solves, WorkDone}
 use Rattle.water_model.specs.Valid.{IsSeriesOf}
 use Rattle.water_model.specs.declared.types.Basin.{Basin}
 use Rattle.water_model.specs.declared.types.Inflows.{Inflows}
@@ -44,7 +45,7 @@ gathering_cause known files b series other read write whole loaded ends = absurd
 
 -- what is left on out
 pub gathering_writes : (known : KnownFiles) (files : Files) (b : Basin) (series : Inflows) (how : Ending)
-    (old new : Option (List ℕ)) →
+    (old new : Output) →
     IsSeriesOf b series → AreLoaded known files b series → LeavesTraces b series how old new →
     OfBoth known files (λ bytes s. MayWrite (status_of how) → WritesEnsemble (status_of how) bytes s old new)
 gathering_writes known files b series how old new fits loaded leaves =
@@ -65,11 +66,11 @@ gathering_writes known files b series how old new fits loaded leaves =
           written = left.2;
         })
 
--- and how often searches pushed
-pub gathering_pushes : (known : Option (List ℕ)) (b : Basin) (before now : ℕ) → IfSome known (IsBasinText b) →
-    now ≤ before + years_of b * run_pushes b →
-    IfSome known (λ bytes. (c : Basin) → Spells bytes c → now ≤ before + years_of c * run_pushes c)
-gathering_pushes None b before now text pushes = tt
-gathering_pushes (Some bytes) b before now text pushes =
-    λ c spelled. subst (λ (d : Basin). now ≤ before + years_of d * run_pushes d)
-    (one_basin bytes b c text.spelled spelled) pushes
+-- and the months that were solved
+pub gathering_solves : (known : Option (List ℕ)) (b : Basin) (before now : WorkDone) → IfSome known (IsBasinText b) →
+    Solves (years_of b * b.months) b before now →
+    IfSome known (λ bytes. (c : Basin) → Spells bytes c → Solves (years_of c * c.months) c before now)
+gathering_solves None b before now text solves = tt
+gathering_solves (Some bytes) b before now text solves =
+    λ c spelled. subst (λ (d : Basin). Solves (years_of d * d.months) d before now)
+    (one_basin bytes b c text.spelled spelled) solves

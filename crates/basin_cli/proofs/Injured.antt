@@ -3,6 +3,7 @@ use Rattle.std.proofs.Common.{◌≡◌, ℕ, ◌+◌, ◌≤◌, suc, refl, sym
 use Rattle.std.proofs.Common.{None}
 use Rattle.std.proofs.lemmas.Bool.Decides.{nat_tests}
 use Rattle.std.specs.Prelude.{IfSome, Contains, ◌==◌, Bool, true, false, if◌then◌else◌}
+use Rattle.water_edge.specs.Edge.{Output}
 use Rattle.basin_file.specs.BasinFaults.{Spells}
 use Rattle.inflow_file.specs.SeriesFaults.{SpellsSeries}
 use Rattle.water_model.specs.History.{IsHistory}
@@ -10,7 +11,7 @@ use Rattle.water_model.specs.Valid.{IsValidBasin}
 use Rattle.water_model.specs.declared.types.Basin.{Basin}
 use Rattle.water_model.specs.declared.types.Inflows.{Inflows}
 use Rattle.water_model.specs.declared.types.MonthRecord.{MonthRecord}
-use Rattle.month_fold.specs.Runs.{run_pushes}
+use Rattle.month_fold.specs.Works.{SolvesBoth, WorkDone}
 use Rattle.injury.specs.Injuries.{IsInjury, injuries}
 use Rattle.injury.specs.declared.injuries.Injury.{Injury}
 use Rattle.injury.proofs.Listed.{injuries_are_all_listed}
@@ -23,7 +24,7 @@ use Rattle.basin_cli.specs.Bytes.{AreSpelled, IsGoodBasin, KnownFiles, known_ser
 use Rattle.basin_cli.specs.Command.{Files}
 use Rattle.basin_cli.specs.Compared.{Compares, ending_with}
 use Rattle.basin_cli.specs.Comparison.{IsGoodSecond, IsGoodForBoth, SomebodyIsInjured, AfterBoth, HasComparingCause}
-use Rattle.basin_cli.specs.Comparison.{WritesComparison, ComparisonWrites, ComparisonPushes}
+use Rattle.basin_cli.specs.Comparison.{WritesComparison, ComparisonWrites, ComparisonWork}
 use Rattle.basin_cli.specs.Ending.{status_of}
 use Rattle.basin_cli.specs.Out.{MayWrite}
 use Rattle.basin_cli.specs.Pairs.{ArePaired}
@@ -180,7 +181,7 @@ module _ (known : KnownFiles) (files : Files) (second : List ℕ) (pair : BasinP
       paired.loaded.from_series paired.second_loaded.from_series holds
 
   -- the cause of how a comparison ends
-  pub cause : (how : Ending) (read write : Type 0) (old new : Option (List ℕ)) →
+  pub cause : (how : Ending) (read write : Type 0) (old new : Output) →
       (MayWrite (status_of how) →
       Compares pair.first.basin pair.second.basin pair.first.series pair.second.series how write old new) →
       ((MayWrite (status_of how) → ⊥) → how ≡ ending.OutOfMemory) → HasComparingCause files second how known read write
@@ -233,7 +234,7 @@ module _ (known : KnownFiles) (files : Files) (second : List ℕ) (pair : BasinP
       no_memory e = cc
 
   -- what a comparison leaves on out
-  pub writes : (how : Ending) (write : Type 0) (old new : Option (List ℕ)) →
+  pub writes : (how : Ending) (write : Type 0) (old new : Output) →
       (MayWrite (status_of how) →
       Compares pair.first.basin pair.second.basin pair.first.series pair.second.series how write old new) →
       ComparisonWrites known files second (status_of how) old new
@@ -271,19 +272,20 @@ module _ (known : KnownFiles) (files : Files) (second : List ℕ) (pair : BasinP
             written = all.written;
           }
 
-  -- and how often its searches push
-  pub pushes : (before now : ℕ) → now ≤ before + (run_pushes pair.first.basin + run_pushes pair.second.basin) →
-      ComparisonPushes known files second before now
-  pushes before now l =
+  -- and the months that it solves
+  pub work : (before now : WorkDone) →
+      SolvesBoth pair.first.basin.months pair.first.basin pair.second.basin before now →
+      ComparisonWork known files second before now
+  work before now solves =
       by_told (known files.basin) (known second) paired.loaded.from_basin paired.second_loaded.from_basin
     where
       by_told : (t o : Option (List ℕ)) → IfSome t (IsBasinText pair.first.basin) →
           IfSome o (IsBasinText pair.second.basin) →
           IfSome t (λ x. IfSome o (λ y. (first second : Basin) → Spells x first → Spells y second →
-          now ≤ before + (run_pushes first + run_pushes second)))
+          SolvesBoth first.months first second before now))
       by_told None o first other = tt
       by_told (Some x) None first other = tt
       by_told (Some x) (Some y) first other = λ b c spelled second_spelled.
           let same : pair.first.basin ≡ b = one_basin x pair.first.basin b first.spelled spelled in
           let same_second : pair.second.basin ≡ c = one_basin y pair.second.basin c other.spelled second_spelled in
-          rw (← same, ← same_second) l
+          rw (← same, ← same_second) solves

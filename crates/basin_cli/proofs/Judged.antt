@@ -1,6 +1,7 @@
 -- What the verdict on a result's bytes says of them.
 use Rattle.std.proofs.Common.{◌≡◌, ℕ, subst, sym, List, Option, Some, None}
 use Rattle.std.specs.Prelude.{Result, Ok, Err, IsOk, IfSome}
+use Rattle.water_edge.specs.Edge.{Output}
 use Rattle.inflow_file.specs.SeriesFaults.{SpellsSeries}
 use Rattle.cert_check.proofs.AuditLaws.{audited_exactly_for_reaches}
 use Rattle.cert_check.proofs.ByteLaws.{yes_exactly_for_histories}
@@ -218,7 +219,7 @@ answer_writes answer other write h = subst (λ how. MayWrite (status_of how)) (s
 
 -- and what it leaves, as far as the bytes are known
 pub answer_leaves : (asked : Question) (b : Basin) (series : Inflows) (known : Option (List ℕ))
-    (answer : Result ℕ Refuted) (how : Ending) (old new : Option (List ℕ)) →
+    (answer : Result ℕ Refuted) (how : Ending) (old new : Output) →
     IsAnswerTo asked b series known answer → Leaves (status_of how) (answered asked answer) old new →
     IfSome known (λ text. MayWrite (status_of how) → LeavesAnswer asked b series text (status_of how) old new)
 answer_leaves asked b series None answer how old new is left = tt
@@ -227,7 +228,7 @@ answer_leaves asked b series (Some text) answer how old new is left = λ may.
 
 -- where a part could not be read, no answer is put
 pub unread_leaves : (asked : Question) (b : Basin) (series : Inflows) (known : Option (List ℕ)) (how : Ending)
-    (old new : Option (List ℕ)) →
+    (old new : Output) →
     how ≡ ending.ReadFault file.Result →
     IfSome known (λ text. MayWrite (status_of how) → LeavesAnswer asked b series text (status_of how) old new)
 unread_leaves asked b series None how old new is = tt
@@ -293,7 +294,7 @@ of_both t o r b series text P fits from_basin from_series is holds =
 
 pub checking_writes : (asked : Question) (known : KnownFiles) (files : Files) (result : List ℕ) (b : Basin)
     (series : Inflows)
-    (how : Ending) (old new : Option (List ℕ)) →
+    (how : Ending) (old new : Output) →
     IsSeriesOf b series → AreLoaded known files b series →
     IfSome (known result) (λ text. MayWrite (status_of how) →
     LeavesAnswer asked b series text (status_of how) old new) →

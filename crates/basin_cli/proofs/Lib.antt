@@ -2,6 +2,7 @@ pub mod Written
 pub mod Monthly
 pub mod Listed
 pub mod Missing
+pub mod Failing
 pub mod Reading
 pub mod OneSeries
 pub mod Judged
@@ -18,5 +19,6 @@ pub mod Edited
 pub mod FoundBytes
 pub mod Idle
 pub mod Flushed
+mod FlushedBefore
 pub mod Parts
 pub mod Unread

@@ -3,8 +3,8 @@ use Rattle.std.proofs.Common.{◌≡◌, inl, inr, refl, ℕ, List, [], Option, 
 use Rattle.std.proofs.Common.{ap, subst}
 use Rattle.std.specs.Prelude.{IfSome, IsTrue, Bool, true, false}
 use Rattle.std.specs.Option.{option_and_then}
-use Rattle.std.specs.Io.KnownBytes.{Appends}
-use Rattle.std.proofs.KnownBytes.{Appends-nil}
+use Rattle.water_edge.specs.Edge.{Output}
+use Rattle.water_edge.proofs.Outputs.{Extends-nil}
 use Rattle.edit_script.specs.declared.refused.ScriptFault.TheVariants as script
 use Rattle.index_seq.specs.Traces.{HasWholeYears}
 use Rattle.inflow_file.specs.SeriesFaults.{series_fault}
@@ -440,9 +440,9 @@ completes (Some (edit files script)) how known read write h = editing files scri
 completes (Some (upgrade name)) how known read write h = upgrading name how known read write h
 
 -- nothing was put to err
-pub tells_nothing : (old : Option (List ℕ)) (before : ℕ) → WritesErrLine old old before before []
+pub tells_nothing : (old : Output) (before : ℕ) → WritesErrLine old old before before []
 tells_nothing old before =
-    record { count = 0; within = omega arith; appended = Appends-nil old; cut = λ l. absurd (omega (arith, l)) }
+    record { count = 0; within = omega arith; appended = Extends-nil old; cut = λ l. absurd (omega (arith, l)) }
 
 -- a refusal of the second basin has a line
 pub second_told : (finding : SecondFinding) → IsQuiet (status_of_second finding) → ⊥
@@ -451,7 +451,7 @@ second_told of_second.OtherRun q = q
 second_told (of_second.Series finding) q = q
 
 -- a quiet ending has no line
-pub quiet : (how : Ending) (old : Option (List ℕ)) (before : ℕ) → ((IsQuiet (status_of how) → ⊥) → ⊥) →
+pub quiet : (how : Ending) (old : Output) (before : ℕ) → ((IsQuiet (status_of how) → ⊥) → ⊥) →
     WritesErrLine old old before before (line_of how)
 unfolding line_of
 quiet ending.Done old before h = tells_nothing old before

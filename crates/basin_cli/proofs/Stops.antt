@@ -1,7 +1,7 @@
 -- How the reading of a comparison's files ends.
 use Rattle.std.proofs.Common.{◌≡◌, refl, sym, subst, ℕ, ◌≤◌, List, Option, Some, None, length, arith}
 use Rattle.std.specs.Prelude.{IfSome, IfErr, Result, Ok, Err}
-use Rattle.water_edge.specs.Edge.{Rose}
+use Rattle.water_edge.specs.Edge.{Output, Rose}
 use Rattle.water_model.specs.declared.types.Basin.{Basin}
 use Rattle.water_model.specs.declared.types.Inflows.{Inflows}
 use Rattle.basin_cli.specs.declared.ending.Ending.{Ending}
@@ -160,7 +160,7 @@ never_writes known files second ending.OutOfMemory read h may = may
 never_writes known files second how read h may = h
 
 pub refused_writes : (known : KnownFiles) (files : Files) (second : List ℕ) (how : Ending) (read : Type 0)
-    (old new : Option (List ℕ)) →
+    (old new : Output) →
     StopsComparing files second how known read → ComparisonWrites known files second (status_of how) old new
 refused_writes known files second how read old new h =
     by_told (known files.basin) (known second) (known_series known files.series)

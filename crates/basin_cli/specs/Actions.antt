@@ -1,5 +1,6 @@
 -- How the actions of commands may end, after their files.
 use Rattle.std.specs.Prelude.{◌≡◌, ℕ, ◌≤◌, List, ⊤, Ok, Err, Option, slice_index}
+use Rattle.water_edge.specs.Edge.{Output}
 use Rattle.edit_script.specs.declared.refused.ScriptFault.TheVariants as script
 use Rattle.index_seq.specs.Text.{ensemble_text}
 use Rattle.index_seq.specs.Traces.{AreTraces}
@@ -20,13 +21,13 @@ use Rattle.basin_cli.specs.Explained.{EndsExplaining, Explains, HasMonth, HasRig
 use Rattle.basin_cli.specs.Out.{Leaves, MayWrite}
 
 -- out was left with the text of some records of which this holds, or with a prefix of it
-abbrev pub LeavesRecords : (List MonthRecord → Type 0) → (List MonthRecord → List ℕ) → Ending → Option (List ℕ) →
-    Option (List ℕ) → Type 0
+abbrev pub LeavesRecords : (List MonthRecord → Type 0) → (List MonthRecord → List ℕ) → Ending → Output →
+    Output → Type 0
 LeavesRecords P text how old new =
     MayWrite (status_of how) → (records : List MonthRecord) × P records × Leaves (status_of how) (text records) old new
 
 -- out was left with how often each yearly delivery came in some traces, or with a prefix of it
-abbrev pub LeavesTraces : Basin → Inflows → Ending → Option (List ℕ) → Option (List ℕ) → Type 0
+abbrev pub LeavesTraces : Basin → Inflows → Ending → Output → Output → Type 0
 LeavesTraces b series how old new =
     MayWrite (status_of how) → (traces : List (List MonthRecord)) × AreTraces b series traces ×
     Leaves (status_of how) (ensemble_text b traces) old new
@@ -43,7 +44,7 @@ EndsChecking asked b series known other read write = ⊥
 
 -- how the answer about a right in the month of this index ends, and what it leaves on out: its text, or a prefix of it
 pub record AnswersAt (asked : Account) (b : Basin) (series : Inflows) (index right : ℕ) (how : Ending) (write : Type 0)
-    (old new : Option (List ℕ)) : Type 0 where
+    (old new : Output) : Type 0 where
   pub last : MonthRecord
   pub of_month : IsRecordOf b series (run_month b index) last
   pub ends : EndsExplaining last right how write
@@ -67,7 +68,7 @@ EndsAsking b series month name other write = ⊥
 
 -- out was left with the answer about a right and a record of the month, or with a prefix of it
 pub record IsAnswered (asked : Account) (b : Basin) (series : Inflows) (month : Month) (name : List ℕ) (how : Ending)
-    (old new : Option (List ℕ)) : Type 0 where
+    (old new : Output) : Type 0 where
   pub right : ℕ
   pub last : MonthRecord
   pub about : IsAbout b series month name right last

@@ -1,6 +1,7 @@
 -- The answer to a checked text.
 use Rattle.std.specs.Prelude.{◌≡◌, ℕ, ◌++◌, List, codes, Option, IfSome, Result, Ok, Err, ⊤}
 use Rattle.std.specs.Fmt.{decimal}
+use Rattle.water_edge.specs.Edge.{Output}
 use Rattle.cert_check.specs.Audit.{IsAuditAnswer}
 use Rattle.cert_check.specs.KindNames.{kind_name}
 use Rattle.cert_check.specs.Pieces.{IsAudit, PiecesView}
@@ -43,7 +44,7 @@ CanAnswer question.Audit checker = IsAudit checker
 
 -- the answer to some bytes is put, or a prefix of its line
 pub record LeavesAnswer (asked : Question) (b : Basin) (series : Inflows) (text : List ℕ) (status : Status)
-    (old new : Option (List ℕ)) : Type 0 where
+    (old new : Output) : Type 0 where
   pub answer : Result ℕ Refuted
   pub is : IsAnswerFor asked b series text answer
   pub written : Leaves status (answered asked answer) old new

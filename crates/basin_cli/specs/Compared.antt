@@ -1,5 +1,6 @@
 -- The runs of two basins, compared month by month.
-use Rattle.std.specs.Prelude.{◌≡◌, ℕ, List, length, flat_map, Option, ◌==◌, if◌then◌else◌}
+use Rattle.std.specs.Prelude.{◌≡◌, ℕ, List, length, flat_map, ◌==◌, if◌then◌else◌}
+use Rattle.water_edge.specs.Edge.{Output}
 use Rattle.month_fold.specs.Runs.{RunView, RunStandsFor}
 use Rattle.water_model.specs.declared.types.Basin.{Basin}
 use Rattle.water_model.specs.declared.types.Inflows.{Inflows}
@@ -45,7 +46,7 @@ EndsComparing all how write = how ≡ ending_with (length all)
 -- what `compare` leaves on out, and how it ends: the comparison of two lists of records that keep the priority of
 -- rights, and whether somebody is injured in it
 pub record Compares (b c : Basin) (series other : Inflows) (how : Ending) (write : Type 0)
-    (old new : Option (List ℕ)) : Type 0 where
+    (old new : Output) : Type 0 where
   pub records : List MonthRecord
   pub others : List MonthRecord
   pub first_keeps : KeepsPriority b series records

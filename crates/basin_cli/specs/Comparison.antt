@@ -1,9 +1,10 @@
--- `compare`: the cause of each of its endings, what it leaves on out, and how often its searches push.
-use Rattle.std.specs.Prelude.{◌≡◌, ℕ, ◌+◌, ◌≤◌, List, Option, ⊤, IfSome, IsSome, ◌⊎◌}
+-- `compare`: the cause of each of its endings, what it leaves on out, and the months that it solves.
+use Rattle.std.specs.Prelude.{◌≡◌, ℕ, List, ⊤, IfSome, IsSome, ◌⊎◌}
+use Rattle.water_edge.specs.Edge.{Output}
 use Rattle.basin_file.specs.BasinFaults.{Spells}
 use Rattle.injury.specs.Injuries.{IsInjury, comparison_text}
 use Rattle.injury.specs.declared.injuries.Injury.{Injury}
-use Rattle.month_fold.specs.Runs.{run_pushes}
+use Rattle.month_fold.specs.Works.{SolvesBoth, WorkDone}
 use Rattle.water_model.specs.History.{IsHistory}
 use Rattle.water_model.specs.declared.types.Basin.{Basin}
 use Rattle.water_model.specs.declared.types.Inflows.{Inflows}
@@ -127,7 +128,7 @@ ComparesAfter known files second how read write =
 
 -- What `compare` leaves on out: the comparison of a run of the first basin with one of the second, each with the
 -- series. Both keep the priority of rights.
-pub record WritesComparison (how : Status) (bytes second_bytes series_bytes : List ℕ) (old new : Option (List ℕ)) : Type
+pub record WritesComparison (how : Status) (bytes second_bytes series_bytes : List ℕ) (old new : Output) : Type
     0 where
   pub first : Basin
   pub second : Basin
@@ -143,13 +144,13 @@ OfThree known files second P =
     IfSome (known files.basin)
     (λ bytes. IfSome (known second) (λ other. IfSome (known_series known files.series) (P bytes other)))
 
-abbrev pub ComparisonWrites : KnownFiles → Files → List ℕ → Status → Option (List ℕ) → Option (List ℕ) → Type 0
+abbrev pub ComparisonWrites : KnownFiles → Files → List ℕ → Status → Output → Output → Type 0
 ComparisonWrites known files second how old new =
     OfThree known files second (λ bytes other series. MayWrite how → WritesComparison how bytes other series old new)
 
--- searches push at most as often as the bounds of both runs allow
-abbrev pub ComparisonPushes : KnownFiles → Files → List ℕ → ℕ → ℕ → Type 0
-ComparisonPushes known files second before now =
+-- no more months are solved than those of both runs
+abbrev pub ComparisonWork : KnownFiles → Files → List ℕ → WorkDone → WorkDone → Type 0
+ComparisonWork known files second before now =
     IfSome (known files.basin) (λ bytes. IfSome (known second) (λ other.
     (first second : Basin) → Spells bytes first → Spells other second →
-    now ≤ before + (run_pushes first + run_pushes second)))
+    SolvesBoth first.months first second before now))

@@ -1,5 +1,6 @@
 -- Scripts of changes to a series: how a call that answers one may end, and what it leaves on out.
-use Rattle.std.specs.Prelude.{◌≡◌, ℕ, ◌+◌, ◌*◌, ◌≤◌, ◌⊎◌, List, length, Option, Ok, Err, IsOk, IsErr, IfSome, ⊤}
+use Rattle.std.specs.Prelude.{◌≡◌, ℕ, ◌≤◌, ◌⊎◌, List, length, Ok, Err, IsOk, IsErr, IfSome, ⊤}
+use Rattle.water_edge.specs.Edge.{Output}
 use Rattle.edit_script.specs.Edits.{cost}
 use Rattle.edit_script.specs.Scripts.{script_of}
 use Rattle.edit_script.specs.declared.edit.Edit.{Edit}
@@ -7,7 +8,7 @@ use Rattle.edit_script.specs.declared.refused.ScriptFault.{ScriptFault}
 use Rattle.edit_script.specs.declared.refused.ScriptRefused.TheVariants as refused
 use Rattle.edit_shows.specs.Shown.{AnswersWhole}
 use Rattle.edit_shows.specs.declared.stop.EditStop.TheVariants as stop
-use Rattle.senior_hold.specs.MonthNetwork.{month_pushes}
+use Rattle.month_fold.specs.Works.{Solves, WorkDone}
 use Rattle.water_model.specs.declared.types.Basin.{Basin}
 use Rattle.water_model.specs.declared.types.Inflows.{Inflows}
 use Rattle.basin_cli.specs.declared.ending.Ending.{Ending}
@@ -56,7 +57,7 @@ EditsAfter known files script status read write =
 -- What is left on out: for each `show` the lines of its month, of the series as it is by then, and after them how many
 -- were shown. After a fault of out a prefix is left of the months shown so far, or of the whole; and where memory ran
 -- out the whole lines of the months shown so far, and nothing else.
-abbrev pub LeavesShows : Status → Basin → Inflows → List Edit → Option (List ℕ) → Option (List ℕ) → Type 0
+abbrev pub LeavesShows : Status → Basin → Inflows → List Edit → Output → Output → Type 0
 LeavesShows Done b series edits old new = AnswersWhole b series edits (Ok tt) old new
 LeavesShows WriteFault b series edits old new = AnswersWhole b series edits (Err stop.SinkFailed) old new
 LeavesShows OutOfMemory b series edits old new = AnswersWhole b series edits (Err stop.OutOfMemory) old new
@@ -64,42 +65,42 @@ LeavesShows status b series edits old new = ⊥
 
 -- out was left with the months that the script shows
 pub record ShowsScript (status : Status) (b : Basin) (series : Inflows) (script : List ℕ)
-    (old new : Option (List ℕ)) : Type 0 where
+    (old new : Output) : Type 0 where
   pub edits : List Edit
   pub reads : script_of b series script ≡ Ok edits
   pub written : LeavesShows status b series edits old new
 
 -- what a call that has its files leaves on out: where memory ran out before the script was read, nothing
-abbrev pub LeavesScript : Status → Basin → Inflows → List ℕ → Option (List ℕ) → Option (List ℕ) → Type 0
+abbrev pub LeavesScript : Status → Basin → Inflows → List ℕ → Output → Output → Type 0
 LeavesScript OutOfMemory b series script old new = (new ≡ old) ⊎ ShowsScript OutOfMemory b series script old new
 LeavesScript status b series script old new = MayWrite status → ShowsScript status b series script old new
 
 -- what `edit` leaves on out: the months that the script shows, of a basin and a series that bytes spell
-pub record WritesShows (status : Status) (bytes series_bytes script : List ℕ) (old new : Option (List ℕ)) : Type 0 where
+pub record WritesShows (status : Status) (bytes series_bytes script : List ℕ) (old new : Output) : Type 0 where
   pub basin : Basin
   pub series : Inflows
   pub spelled : AreSpelled bytes series_bytes basin series
   pub shows : ShowsScript status basin series script old new
 
 -- and where memory ran out before a script was read, nothing
-abbrev pub EditLeaves : Status → List ℕ → List ℕ → List ℕ → Option (List ℕ) → Option (List ℕ) → Type 0
+abbrev pub EditLeaves : Status → List ℕ → List ℕ → List ℕ → Output → Output → Type 0
 EditLeaves OutOfMemory bytes series script old new = (new ≡ old) ⊎ WritesShows OutOfMemory bytes series script old new
 EditLeaves status bytes series script old new = MayWrite status → WritesShows status bytes series script old new
 
-abbrev pub EditWrites : KnownFiles → Files → List ℕ → Status → Option (List ℕ) → Option (List ℕ) → Type 0
+abbrev pub EditWrites : KnownFiles → Files → List ℕ → Status → Output → Output → Type 0
 EditWrites known files script status old new =
     OfBoth known files (λ bytes series. IfSome (known script) (λ text. EditLeaves status bytes series text old new))
 
--- Searches push at most as often as the cost of the script allows, in months that are solved: a month before the first
--- change is solved once. A script that is refused has no push.
-pub record PushesOfScript (b : Basin) (series : Inflows) (script : List ℕ) (before now : ℕ) : Type 0 where
-  pub asked : (edits : List Edit) → script_of b series script ≡ Ok edits → now ≤ before + cost edits * month_pushes b
+-- No more months are solved than the script costs: a month before the first change is solved once. For a script that is
+-- refused none is.
+pub record WorkOfScript (b : Basin) (series : Inflows) (script : List ℕ) (before now : WorkDone) : Type 0 where
+  pub asked : (edits : List Edit) → script_of b series script ≡ Ok edits → Solves (cost edits) b before now
   pub refused : IsErr (script_of b series script) → now ≡ before
 
-abbrev pub EditPushes : KnownFiles → Files → List ℕ → ℕ → ℕ → Type 0
-EditPushes known files script before now =
+abbrev pub EditWork : KnownFiles → Files → List ℕ → WorkDone → WorkDone → Type 0
+EditWork known files script before now =
     OfBoth known files (λ bytes series. IfSome (known script) (λ text.
-    (b : Basin) (s : Inflows) → AreSpelled bytes series b s → PushesOfScript b s text before now))
+    (b : Basin) (s : Inflows) → AreSpelled bytes series b s → WorkOfScript b s text before now))
 
 -- how the reading of a script's bytes may end without what they ask for
 abbrev pub ScriptEnds : Basin → Inflows → List ℕ → Ending → Type 0

@@ -1,13 +1,13 @@
 -- Why a right got no more in a month, and where one more unit would help it: what may be asked of a basin, and what is
 -- answered.
-use Rattle.std.specs.Prelude.{◌≡◌, ℕ, ◌+◌, ◌*◌, ◌<◌, ◌≤◌, pos, ◌-ℤ◌, Bool, List, [], ◌∷◌, ◌++◌, codes, length}
+use Rattle.std.specs.Prelude.{◌≡◌, ℕ, ◌+◌, ◌<◌, ◌≤◌, pos, ◌-ℤ◌, Bool, List, [], ◌∷◌, ◌++◌, codes, length}
 use Rattle.std.specs.Prelude.{slice_index, sum_by}
 use Rattle.call_list.specs.Helping.{IsHelpingText}
 use Rattle.cut_book.specs.Book.{book_bytes, terms}
 use Rattle.cut_book.specs.Entries.{balance_of, brought, kept}
 use Rattle.water_model.specs.History.{HaveReaches}
 use Rattle.month_fold.specs.Runs.{RunView, RunStandsFor}
-use Rattle.senior_hold.specs.MonthNetwork.{month_pushes}
+use Rattle.month_fold.specs.Works.{Solves, WorkDone}
 use Rattle.water_model.specs.Basin.{right_name}
 use Rattle.water_model.specs.Cuts.{IsReach, cut_bound}
 use Rattle.water_model.specs.History.{IsPartialHistory, IsShort}
@@ -84,10 +84,9 @@ pub record HasLast (run : RunView) : Type 0 where
   pub before : List MonthRecord
   pub stands : RunStandsFor run (before ++ run.last ∷ [])
 
--- searches push at most as often as the bound of a month allows, for each month up to this one, and not at all where
--- the run of the basin hasn't it
-pub record PushesUpTo (b : Basin) (month : Month) (before now : ℕ) : Type 0 where
-  pub in_run : (index : ℕ) → IsMonthAt b month index → now ≤ before + (index + 1) * month_pushes b
+-- no month is solved but those up to this one, and none where the run of the basin hasn't it
+pub record WorkUpTo (b : Basin) (month : Month) (before now : WorkDone) : Type 0 where
+  pub in_run : (index : ℕ) → IsMonthAt b month index → Solves (index + 1) b before now
   pub outside : (HasMonth b month → ⊥) → now ≡ before
 
 -- how the answer about a right in a record may end: as the right is, or by a fault of out

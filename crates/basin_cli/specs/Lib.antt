@@ -4,6 +4,7 @@ pub mod Header
 pub mod Headline
 pub mod Bytes
 pub mod Out
+pub mod Failed
 pub mod Reading
 pub mod Edited
 pub mod Upgrading

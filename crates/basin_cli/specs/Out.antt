@@ -1,6 +1,6 @@
 -- What a status leaves on out.
-use Rattle.std.specs.Prelude.{◌≡◌, ◌≢◌, ℕ, List, take, Option, Some, ⊤}
-use Rattle.std.specs.Io.KnownBytes.{Appends}
+use Rattle.std.specs.Prelude.{◌≡◌, ◌≢◌, ◌⊎◌, ℕ, List, take, Option, Some, ⊤}
+use Rattle.water_edge.specs.Edge.{Extends, Output}
 use Rattle.basin_cli.specs.declared.status.Status.{Status}
 use Rattle.basin_cli.specs.declared.status.Status.TheVariants.{Done, No, WriteFault, OutOfMemory}
 use Rattle.basin_cli.specs.Command.{Command, Files, calls, check, edit, report, run, trial, why}
@@ -49,6 +49,15 @@ abbrev pub WithoutMemory : Status → Type 0 → Type 0
 WithoutMemory OutOfMemory P = P
 WithoutMemory status P = ⊤
 
+-- months that `edit` showed before memory ran out were flushed, unless out failed
+abbrev pub KeepsShown : Option Command → Status → Type 0 → Type 0 → Type 0
+KeepsShown (Some (edit files script)) status fault flushed = WithoutMemory status ((fault → ⊥) → flushed)
+KeepsShown command status fault flushed = ⊤
+
+-- out was left alone, or all that it took is flushed
+abbrev pub IsUntouchedOrFlushed : {K : Type 0} → K → K → Output → Type 0
+IsUntouchedOrFlushed old new output = (new ≡ old) ⊎ (output.flushed ≡ output.taken)
+
 -- a result that has a name of its own was not asked for: `old` and `new` count the calls for each name, where that is
 -- known
 abbrev pub AsksNot : Files → List ℕ → (List ℕ → Option ℕ) → (List ℕ → Option ℕ) → Type 0
@@ -60,6 +69,6 @@ IsUnread (Some (check asked files result)) status old new = WithoutMemory status
 IsUnread command status old new = ⊤
 
 -- the text is appended to out, or after a fault of out a prefix of it
-abbrev pub Leaves : Status → List ℕ → Option (List ℕ) → Option (List ℕ) → Type 0
-Leaves WriteFault text old new = (count : ℕ) × Appends old new (take count text)
-Leaves status text old new = Appends old new text
+abbrev pub Leaves : Status → List ℕ → Output → Output → Type 0
+Leaves WriteFault text old new = (count : ℕ) × Extends old new (take count text)
+Leaves status text old new = Extends old new text

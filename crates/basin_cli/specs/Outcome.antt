@@ -1,8 +1,7 @@
 -- What each status of a call means: its cause, and what it leaves on out and err.
-use Rattle.std.specs.Prelude.{◌≡◌, ℕ, ◌+◌, ◌*◌, ◌<◌, ◌≤◌, List, length, take, Option, Some, None, Result}
+use Rattle.std.specs.Prelude.{◌≡◌, ℕ, ◌*◌, ◌<◌, ◌≤◌, List, length, take, Option, Some, None, Result}
 use Rattle.std.specs.Prelude.{Ok, Err, ⊤, IfSome, IsSome}
-use Rattle.std.specs.Io.KnownBytes.{Appends}
-use Rattle.water_edge.specs.Edge.{Rose}
+use Rattle.water_edge.specs.Edge.{Extends, Output, Rose}
 use Rattle.basin_file.specs.BasinFaults.{Spells}
 use Rattle.basin_gen.specs.Generator.{generated}
 use Rattle.cert_check.specs.declared.refuted.Refuted.{Refuted}
@@ -31,7 +30,8 @@ use Rattle.basin_cli.specs.Answer.{IsAnswerFor, LeavesAnswer}
 use Rattle.basin_cli.specs.Command.{Command, Files, calls, run, check, report, trial, why, compare, ensemble, edit}
 use Rattle.basin_cli.specs.Command.{upgrade}
 use Rattle.basin_cli.specs.Ending.{status_of, line_of}
-use Rattle.basin_cli.specs.Explained.{Explains, HasMonth, HasRight, IsAbout, PushesUpTo}
+use Rattle.basin_cli.specs.Explained.{Explains, HasMonth, HasRight, IsAbout, WorkUpTo}
+use Rattle.basin_cli.specs.Failed.{AskedCounts, HaveAsked}
 use Rattle.basin_cli.specs.Headline.{HasGreatestPlans, HasGreatestPlansInParts}
 use Rattle.basin_cli.specs.Bytes.{AreSpelled, IsGoodBasin, IsSeriesRefusedFor, IsTooLong, KnownFiles}
 use Rattle.basin_cli.specs.Out.{Leaves, MayWrite}
@@ -39,10 +39,10 @@ use Rattle.basin_cli.specs.Listed.{LeavesList}
 use Rattle.basin_cli.specs.Written.{LeavesRun}
 use Rattle.basin_cli.specs.Reading.{AreAccepted, AfterBasin, AfterBoth, AfterSeries, CompletesAfter, IsDone}
 use Rattle.basin_cli.specs.Reading.{IsJudged, OfBoth, StopsReading}
-use Rattle.basin_cli.specs.Edited.{HasEditingCause, EditsAfter, EditWrites, EditPushes}
+use Rattle.basin_cli.specs.Edited.{HasEditingCause, EditsAfter, EditWrites, EditWork}
 use Rattle.basin_cli.specs.Upgrading.{HasUpgradingCause, UpgradesAfter, UpgradeWrites}
-use Rattle.basin_cli.specs.Comparison.{HasComparingCause, ComparesAfter, ComparisonWrites, ComparisonPushes}
-use Rattle.month_fold.specs.Runs.{run_pushes}
+use Rattle.basin_cli.specs.Comparison.{HasComparingCause, ComparesAfter, ComparisonWrites, ComparisonWork}
+use Rattle.month_fold.specs.Works.{Solves, SolvesRun, WorkDone}
 
 -- A result's bytes are the text of a history of the basin and series that other bytes spell, whoever wrote it. So the
 -- deliveries of each of its months, in order of seniority, are lexicographically greatest among all plans of the month,
@@ -191,18 +191,20 @@ EndingHasCause None e known read write = e ≡ ending.Usage
 EndingHasCause (Some command) e known read write = HasCauseFor command e known read write
 
 -- a prefix of the line is appended, and all of it unless the count of faults rose
-pub record WritesErrLine (old new : Option (List ℕ)) (before now : ℕ) (line : List ℕ) : Type 0 where
+pub record WritesErrLine (old new : Output) (before now : ℕ) (line : List ℕ) : Type 0 where
   pub count : ℕ
   pub within : count ≤ length line
-  pub appended : Appends old new (take count line)
+  pub appended : Extends old new (take count line)
   pub cut : count < length line → Rose before now
 
--- the status is that of an ending that has its cause, and err got that ending's line, or a prefix of it
+-- the status is that of an ending that has its cause. Where it is at a file, that one was asked for and none after it.
+-- Err got the ending's line, or a prefix of it
 pub record Ends (command : Option Command) (status : Status) (known : KnownFiles) (read write : Type 0)
-    (err_old err_new : Option (List ℕ)) (err_before err_now : ℕ) : Type 0 where
+    (asked_old asked_new : AskedCounts) (err_old err_new : Output) (err_before err_now : ℕ) : Type 0 where
   pub how : Ending
   pub status_is : status ≡ status_of how
   pub cause : EndingHasCause command how known read write
+  pub asked : HaveAsked command how asked_old asked_new
   pub tells : WritesErrLine err_old err_new err_before err_now (line_of how)
 
 abbrev pub Completes : Option Command → Status → KnownFiles → Type 0 → Type 0 → Type 0
@@ -227,8 +229,8 @@ Completes (Some (edit files script)) status known read write = EditsAfter known 
 Completes (Some (upgrade basin)) status known read write = UpgradesAfter known basin status read write
 
 -- what `run` leaves on out: the text of a run of what the bytes spell, or after a fault of out as far as it was written
-pub record WritesRun (status : Status) (bytes series_bytes : List ℕ) (old new : Option (List ℕ))
-    (before after : ℕ) : Type 0 where
+pub record WritesRun (status : Status) (bytes series_bytes : List ℕ) (old new : Output)
+    (before after : WorkDone) : Type 0 where
   pub basin : Basin
   pub series : Inflows
   pub spelled : AreSpelled bytes series_bytes basin series
@@ -236,8 +238,8 @@ pub record WritesRun (status : Status) (bytes series_bytes : List ℕ) (old new 
 
 -- what `calls` leaves on out: the list of calls of a run of what the bytes spell, or after a fault of out as far as it
 -- was written
-pub record WritesCalls (status : Status) (bytes series_bytes : List ℕ) (old new : Option (List ℕ))
-    (before after : ℕ) : Type 0 where
+pub record WritesCalls (status : Status) (bytes series_bytes : List ℕ) (old new : Output)
+    (before after : WorkDone) : Type 0 where
   pub basin : Basin
   pub series : Inflows
   pub spelled : AreSpelled bytes series_bytes basin series
@@ -245,14 +247,14 @@ pub record WritesCalls (status : Status) (bytes series_bytes : List ℕ) (old ne
 
 -- what `check` and `audit` leave on out: the answer to the result's bytes
 pub record WritesAnswer (asked : Question) (status : Status) (bytes series_bytes result : List ℕ)
-    (old new : Option (List ℕ)) : Type 0 where
+    (old new : Output) : Type 0 where
   pub basin : Basin
   pub series : Inflows
   pub spelled : AreSpelled bytes series_bytes basin series
   pub written : LeavesAnswer asked basin series result status old new
 
 -- what `report` leaves on out: the report of a run of what the bytes spell
-pub record WritesReport (status : Status) (bytes series_bytes : List ℕ) (old new : Option (List ℕ)) : Type 0 where
+pub record WritesReport (status : Status) (bytes series_bytes : List ℕ) (old new : Output) : Type 0 where
   pub basin : Basin
   pub series : Inflows
   pub spelled : AreSpelled bytes series_bytes basin series
@@ -261,7 +263,7 @@ pub record WritesReport (status : Status) (bytes series_bytes : List ℕ) (old n
   pub written : Leaves status (report_text basin series records) old new
 
 -- what `trial` leaves on out: the summary of a run of the basin that the number and the size make
-pub record WritesTrial (status : Status) (number size : ℕ) (old new : Option (List ℕ)) : Type 0 where
+pub record WritesTrial (status : Status) (number size : ℕ) (old new : Output) : Type 0 where
   pub series : Inflows
   pub fits : IsSeriesOf (generated number size) series
   pub records : List MonthRecord
@@ -271,7 +273,7 @@ pub record WritesTrial (status : Status) (number size : ℕ) (old new : Option (
 -- what `why` and `where` leave on out: where the right is short in the month, the book of its reach, or where one more
 -- unit would help it; and else that it is met, by a run of what the bytes spell up to that month
 pub record WritesBook (asked : Account) (status : Status) (month : Month) (name bytes series_bytes : List ℕ)
-    (old new : Option (List ℕ)) : Type 0 where
+    (old new : Output) : Type 0 where
   pub basin : Basin
   pub series : Inflows
   pub spelled : AreSpelled bytes series_bytes basin series
@@ -284,7 +286,7 @@ pub record WritesBook (asked : Account) (status : Status) (month : Month) (name 
 
 -- what `ensemble` leaves on out: how often each yearly delivery came in traces of what the bytes spell, which are a
 -- history of the record begun in each of its years
-pub record WritesEnsemble (status : Status) (bytes series_bytes : List ℕ) (old new : Option (List ℕ)) : Type 0 where
+pub record WritesEnsemble (status : Status) (bytes series_bytes : List ℕ) (old new : Output) : Type 0 where
   pub basin : Basin
   pub series : Inflows
   pub spelled : AreSpelled bytes series_bytes basin series
@@ -292,8 +294,9 @@ pub record WritesEnsemble (status : Status) (bytes series_bytes : List ℕ) (old
   pub are_traces : AreTraces basin series traces
   pub written : Leaves status (ensemble_text basin traces) old new
 
--- `before` and `after` count the pushes
-abbrev pub WritesFor : Option Command → Status → KnownFiles → Option (List ℕ) → Option (List ℕ) → ℕ → ℕ → Type 0
+-- `before` and `after` are the work done
+abbrev pub WritesFor : Option Command → Status → KnownFiles → Output → Output → WorkDone → WorkDone →
+    Type 0
 WritesFor None status known old new before after = ⊤
 WritesFor (Some (run files)) status known old new before after =
     OfBoth known files (λ bytes series. MayWrite status → WritesRun status bytes series old new before after)
@@ -316,27 +319,27 @@ WritesFor (Some (upgrade basin)) status known old new before after = UpgradeWrit
 WritesFor (Some (ensemble files)) status known old new before after =
     OfBoth known files (λ bytes series. MayWrite status → WritesEnsemble status bytes series old new)
 
--- searches push at most as often as the bound of a month allows, for each month of the basin that the bytes spell
-abbrev pub PushesOf : KnownFiles → Files → ℕ → ℕ → Type 0
-PushesOf known files before now =
-    IfSome (known files.basin) (λ bytes. (basin : Basin) → Spells bytes basin → now ≤ before + run_pushes basin)
+-- no more months are solved than the basin has that the bytes spell
+abbrev pub WorkOf : KnownFiles → Files → WorkDone → WorkDone → Type 0
+WorkOf known files before now =
+    IfSome (known files.basin) (λ bytes. (basin : Basin) → Spells bytes basin → SolvesRun basin before now)
 
--- and a check or an audit searches for nothing
-abbrev pub PushesFor : Option Command → KnownFiles → ℕ → ℕ → Type 0
-PushesFor None known before now = now ≡ before
-PushesFor (Some (run files)) known before now = PushesOf known files before now
-PushesFor (Some (check asked files result)) known before now = now ≡ before
-PushesFor (Some (report files)) known before now = PushesOf known files before now
-PushesFor (Some (trial number size)) known before now = now ≤ before + run_pushes (generated number size)
-PushesFor (Some (compare files second)) known before now = ComparisonPushes known files second before now
-PushesFor (Some (calls files)) known before now = PushesOf known files before now
-PushesFor (Some (why asked files month name)) known before now =
-    IfSome (known files.basin) (λ bytes. (basin : Basin) → Spells bytes basin → PushesUpTo basin month before now)
-PushesFor (Some (ensemble files)) known before now =
+-- the months that each command may solve: of an ensemble a whole run for each year, and for a check or an audit none
+abbrev pub WorkFor : Option Command → KnownFiles → WorkDone → WorkDone → Type 0
+WorkFor None known before now = now ≡ before
+WorkFor (Some (run files)) known before now = WorkOf known files before now
+WorkFor (Some (check asked files result)) known before now = now ≡ before
+WorkFor (Some (report files)) known before now = WorkOf known files before now
+WorkFor (Some (trial number size)) known before now = SolvesRun (generated number size) before now
+WorkFor (Some (compare files second)) known before now = ComparisonWork known files second before now
+WorkFor (Some (calls files)) known before now = WorkOf known files before now
+WorkFor (Some (why asked files month name)) known before now =
+    IfSome (known files.basin) (λ bytes. (basin : Basin) → Spells bytes basin → WorkUpTo basin month before now)
+WorkFor (Some (ensemble files)) known before now =
     IfSome (known files.basin) (λ bytes. (basin : Basin) → Spells bytes basin →
-    now ≤ before + years_of basin * run_pushes basin)
-PushesFor (Some (edit files script)) known before now = EditPushes known files script before now
-PushesFor (Some (upgrade basin)) known before now = now ≡ before
+    Solves (years_of basin * basin.months) basin before now)
+WorkFor (Some (edit files script)) known before now = EditWork known files script before now
+WorkFor (Some (upgrade basin)) known before now = now ≡ before
 
 -- the statuses that leave err alone
 abbrev pub IsQuiet : Status → Type 0

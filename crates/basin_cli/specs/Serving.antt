@@ -1,25 +1,31 @@
 -- What doing a command promises.
-use Rattle.std.specs.Prelude.{◌≡◌, ℕ, Option}
+use Rattle.std.specs.Prelude.{◌≡◌, Option}
 use Rattle.water_edge.specs.Edge.{Rose}
 use Rattle.water_edge.specs.declared.shelf.Shelf
 use Rattle.water_edge.specs.declared.sink.Sink
+use Rattle.month_fold.specs.Works.{WorkDone}
 use Rattle.basin_cli.specs.declared.ending.Ending.{Ending}
 use Rattle.basin_cli.specs.Command.{Command}
 use Rattle.basin_cli.specs.Ending.{CanBePrinted, status_of}
-use Rattle.basin_cli.specs.Out.{IsIdle, IsUnread, MayLeave}
-use Rattle.basin_cli.specs.Outcome.{EndingHasCause, IsQuiet, PushesFor, WritesFor}
+use Rattle.basin_cli.specs.Failed.{HaveAsked}
+use Rattle.basin_cli.specs.Out.{IsIdle, IsUnread, IsUntouchedOrFlushed, KeepsShown, MayLeave}
+use Rattle.basin_cli.specs.Outcome.{EndingHasCause, IsQuiet, WorkFor, WritesFor}
 
--- The ending has its cause and a line, and what is left on out, what was read and how often searches pushed are as the
--- ending says. `shelf` and `sink` say what the views of the shelf and of out are, and `before` and `after` count the
--- pushes.
+-- The ending has its cause and a line, and what is left on out, what was read and which months were solved are as the
+-- ending says. `shelf` and `sink` tell what a state of the shelf and of out is seen as, and `before` and `after` are the
+-- work done.
 pub record Serves {S K : Type 0} (shelf : Shelf.Ghosts S) (sink : Sink.Ghosts K) (command : Option Command)
-    (how : Ending) (shelf_old shelf_new : S) (old new : K) (before after : ℕ) : Type 0 where
+    (how : Ending) (shelf_old shelf_new : S) (old new : K) (before after : WorkDone) : Type 0 where
   pub cause : EndingHasCause command how (shelf.known shelf_old)
       (Rose (shelf.faults shelf_old) (shelf.faults shelf_new)) (Rose (sink.faults old) (sink.faults new))
+  pub asked : HaveAsked command how (shelf.asked shelf_old) (shelf.asked shelf_new)
   pub can_be_printed : CanBePrinted how
-  pub writes : WritesFor command (status_of how) (shelf.known shelf_old) (sink.taken old) (sink.taken new) before after
+  pub writes : WritesFor command (status_of how) (shelf.known shelf_old) (sink.output old) (sink.output new)
+      before after
   pub out_stays : (MayLeave command (status_of how) → ⊥) → new ≡ old
-  pub flushed : IsQuiet (status_of how) → sink.flushed new ≡ sink.taken new
+  pub flushed : IsQuiet (status_of how) → (sink.output new).flushed ≡ (sink.output new).taken
+  pub shown : KeepsShown command (status_of how) (Rose (sink.faults old) (sink.faults new))
+      (IsUntouchedOrFlushed old new (sink.output new))
   pub unread : IsUnread command (status_of how) (shelf.asked shelf_old) (shelf.asked shelf_new)
   pub idle : IsIdle command (status_of how) → after ≡ before
-  pub pushes : PushesFor command (shelf.known shelf_old) before after
+  pub work : WorkFor command (shelf.known shelf_old) before after

@@ -1,5 +1,6 @@
 -- Basin files in format 2: how a call that writes one may end, and what it leaves on out.
-use Rattle.std.specs.Prelude.{◌≡◌, ℕ, List, Option, None, Some, IfSome, ⊤}
+use Rattle.std.specs.Prelude.{◌≡◌, ℕ, List, None, Some, IfSome, ⊤}
+use Rattle.water_edge.specs.Edge.{Output}
 use Rattle.basin_file.specs.BasinFaults.{Spells, file_fault}
 use Rattle.basin_file.specs.Upgraded.{basin_table}
 use Rattle.toml_tree.specs.Document.{document_of}
@@ -37,7 +38,7 @@ UpgradesAfter known name status read write =
     IfSome (known name) (λ bytes. IsGoodBasin bytes → (read → ⊥) → (write → ⊥) → IsDone status)
 
 -- out was left with such a text, or after a fault of out with a prefix of it
-abbrev pub UpgradeWrites : KnownFiles → List ℕ → Status → Option (List ℕ) → Option (List ℕ) → Type 0
+abbrev pub UpgradeWrites : KnownFiles → List ℕ → Status → Output → Output → Type 0
 UpgradeWrites known name status old new =
     IfSome (known name) (λ bytes. MayWrite status → (text : List ℕ) × IsUpgradeOf bytes text ×
     Leaves status text old new)

@@ -17,7 +17,7 @@ ghost use Rattle.basin_cli.specs.Out.{IsRefusal, Leaves, MayWrite};
 ghost use Rattle.basin_cli.specs.Outcome.{HasTrialCause, IsQuiet, WritesTrial};
 ghost use Rattle.basin_cli.specs.Listed.{LeavesList};
 ghost use Rattle.basin_cli.specs.Written.{LeavesRun};
-ghost use Rattle.month_fold.specs.Runs.{run_pushes};
+ghost use Rattle.month_fold.specs.Works.{Solves, SolvesRun};
 
 use crate::checking::Question;
 use crate::ending::Ending;
@@ -29,38 +29,38 @@ use call_list::CallFinder;
 use cert_check::{Checker, Refuted, check_text};
 use index_seq::{EnsembleStop, ensemble_report};
 use month_fold::run::Run;
+use month_fold::work::Work;
 use reports::{ReportStop, period_report, trial_report};
 use std::alloc::{AllocError, Global};
 use std::sync::ledger::Ledger;
-use steps::Steps;
 use water_edge::Sink;
 use water_model::types::{Basin, Inflows};
 use water_text::line::Line;
 
 /// Solves the months of a basin with a series and puts their text, each month's lines as soon as it is solved. Memory
 /// is taken before the first byte is put.
-pub fn run_basin<K: Sink, L: Ledger>(
+pub fn run_basin<K: Sink, P: Ledger, M: Ledger>(
     alloc: Global,
     basin: &Basin,
     series: &Inflows,
     out: &mut K,
-    searches: &mut Steps<L>,
+    work: &mut Work<P, M>,
 ) -> Ending
     requires basin { IsValidBasin basin.now }
     requires series { IsSeriesOf basin.now series.now }
     ensures ends { HasTrialCause result (Rose (K.faults out.old) (K.faults out.new)) }
-    ensures leaves { LeavesRun basin.now series.now (status_of result) (K.taken out.old) (K.taken out.new)
-        searches.old searches.new }
+    ensures leaves { LeavesRun basin.now series.now (status_of result) (K.output out.old) (K.output out.new)
+        work.old work.new }
     ensures out_stays { (MayWrite (status_of result) → ⊥) → out.new ≡ out.old }
-    ensures idle { (MayWrite (status_of result) → ⊥) → searches.new ≡ searches.old }
-    ensures pushes { searches.new ≤ searches.old + run_pushes basin.now }
-    ensures flushed { IsQuiet (status_of result) → K.flushed out.new ≡ K.taken out.new }
+    ensures idle { (MayWrite (status_of result) → ⊥) → work.new ≡ work.old }
+    ensures work { SolvesRun basin.now work.old work.new }
+    ensures flushed { IsQuiet (status_of result) → (K.output out.new).flushed ≡ (K.output out.new).taken }
 {
     let mut run = match Run::open(alloc, basin, series) {
         Ok(run) => run,
         Err(_) => return Ending::OutOfMemory,
     };
-    match write_run(out, &mut run, searches) {
+    match write_run(out, &mut run, work) {
         Ok(()) => Ending::Done,
         Err(_) => Ending::WriteFault,
     }
@@ -68,22 +68,22 @@ pub fn run_basin<K: Sink, L: Ledger>(
 
 /// Solves the months of a basin with a series and puts the list of their calls, each month's lines as soon as it is
 /// solved. Memory is taken before the first byte is put.
-pub fn list_basin<K: Sink, L: Ledger>(
+pub fn list_basin<K: Sink, P: Ledger, M: Ledger>(
     alloc: Global,
     basin: &Basin,
     series: &Inflows,
     out: &mut K,
-    searches: &mut Steps<L>,
+    work: &mut Work<P, M>,
 ) -> Ending
     requires basin { IsValidBasin basin.now }
     requires series { IsSeriesOf basin.now series.now }
     ensures ends { HasTrialCause result (Rose (K.faults out.old) (K.faults out.new)) }
-    ensures leaves { LeavesList basin.now series.now (status_of result) (K.taken out.old) (K.taken out.new)
-        searches.old searches.new }
+    ensures leaves { LeavesList basin.now series.now (status_of result) (K.output out.old) (K.output out.new)
+        work.old work.new }
     ensures out_stays { (MayWrite (status_of result) → ⊥) → out.new ≡ out.old }
-    ensures idle { (MayWrite (status_of result) → ⊥) → searches.new ≡ searches.old }
-    ensures pushes { searches.new ≤ searches.old + run_pushes basin.now }
-    ensures flushed { IsQuiet (status_of result) → K.flushed out.new ≡ K.taken out.new }
+    ensures idle { (MayWrite (status_of result) → ⊥) → work.new ≡ work.old }
+    ensures work { SolvesRun basin.now work.old work.new }
+    ensures flushed { IsQuiet (status_of result) → (K.output out.new).flushed ≡ (K.output out.new).taken }
 {
     let mut finder = match CallFinder::open(alloc, basin) {
         Ok(finder) => finder,
@@ -93,31 +93,31 @@ pub fn list_basin<K: Sink, L: Ledger>(
         Ok(run) => run,
         Err(_) => return Ending::OutOfMemory,
     };
-    match list_run(out, &mut finder, &mut run, searches) {
+    match list_run(out, &mut finder, &mut run, work) {
         Ok(()) => Ending::Done,
         Err(_) => Ending::WriteFault,
     }
 }
 
 /// Solves the months of a basin with a series and puts a report on them.
-pub fn report_basin<K: Sink, L: Ledger>(
+pub fn report_basin<K: Sink, P: Ledger, M: Ledger>(
     alloc: Global,
     basin: &Basin,
     series: &Inflows,
     out: &mut K,
-    searches: &mut Steps<L>,
+    work: &mut Work<P, M>,
 ) -> Ending
     requires basin { IsValidBasin basin.now }
     requires series { IsSeriesOf basin.now series.now }
     ensures ends { HasTrialCause result (Rose (K.faults out.old) (K.faults out.new)) }
     ensures leaves { LeavesRecords (IsRun basin.now series.now) (report_text basin.now series.now) result
-        (K.taken out.old) (K.taken out.new) }
+        (K.output out.old) (K.output out.new) }
     ensures out_stays { (MayWrite (status_of result) → ⊥) → out.new ≡ out.old }
-    ensures idle { (MayWrite (status_of result) → ⊥) → searches.new ≡ searches.old }
-    ensures pushes { searches.new ≤ searches.old + run_pushes basin.now }
-    ensures flushed { IsQuiet (status_of result) → K.flushed out.new ≡ K.taken out.new }
+    ensures idle { (MayWrite (status_of result) → ⊥) → work.new ≡ work.old }
+    ensures work { SolvesRun basin.now work.old work.new }
+    ensures flushed { IsQuiet (status_of result) → (K.output out.new).flushed ≡ (K.output out.new).taken }
 {
-    match period_report(alloc, basin, series, out, searches) {
+    match period_report(alloc, basin, series, out, work) {
         Ok(()) => match out.flush() {
             Ok(()) => Ending::Done,
             Err(_) => Ending::WriteFault,
@@ -128,24 +128,24 @@ pub fn report_basin<K: Sink, L: Ledger>(
 }
 
 /// Solves the record of a basin's gauges once from each of its years, and puts how often each yearly delivery came.
-pub fn ensemble_basin<K: Sink, L: Ledger>(
+pub fn ensemble_basin<K: Sink, P: Ledger, M: Ledger>(
     alloc: Global,
     basin: &Basin,
     series: &Inflows,
     out: &mut K,
-    searches: &mut Steps<L>,
+    work: &mut Work<P, M>,
 ) -> Ending
     requires basin { IsValidBasin basin.now }
     requires whole { HasWholeYears basin.now }
     requires series { IsSeriesOf basin.now series.now }
     ensures ends { HasTrialCause result (Rose (K.faults out.old) (K.faults out.new)) }
-    ensures leaves { LeavesTraces basin.now series.now result (K.taken out.old) (K.taken out.new) }
+    ensures leaves { LeavesTraces basin.now series.now result (K.output out.old) (K.output out.new) }
     ensures out_stays { (MayWrite (status_of result) → ⊥) → out.new ≡ out.old }
     ensures idle { IsRefusal (status_of result) → ⊥ }
-    ensures pushes { searches.new ≤ searches.old + years_of basin.now * run_pushes basin.now }
-    ensures flushed { IsQuiet (status_of result) → K.flushed out.new ≡ K.taken out.new }
+    ensures work { Solves (years_of basin.now * basin.now.months) basin.now work.old work.new }
+    ensures flushed { IsQuiet (status_of result) → (K.output out.new).flushed ≡ (K.output out.new).taken }
 {
-    match ensemble_report(alloc, basin, series, out, searches) {
+    match ensemble_report(alloc, basin, series, out, work) {
         Ok(()) => match out.flush() {
             Ok(()) => Ending::Done,
             Err(_) => Ending::WriteFault,
@@ -156,28 +156,28 @@ pub fn ensemble_basin<K: Sink, L: Ledger>(
 }
 
 /// Makes the basin of a number and a size, solves its months and puts a summary of them.
-pub fn trial_basin<K: Sink, L: Ledger>(
+pub fn trial_basin<K: Sink, P: Ledger, M: Ledger>(
     alloc: Global,
     number: u32,
     size: u32,
     out: &mut K,
-    searches: &mut Steps<L>,
+    work: &mut Work<P, M>,
 ) -> Ending
     requires some { 2 ≤ size }
     requires size { size ≤ 2000 }
     ensures ends { HasTrialCause result (Rose (K.faults out.old) (K.faults out.new)) }
     ensures writes { MayWrite (status_of result) →
-        WritesTrial (status_of result) number size (K.taken out.old) (K.taken out.new) }
+        WritesTrial (status_of result) number size (K.output out.old) (K.output out.new) }
     ensures out_stays { (MayWrite (status_of result) → ⊥) → out.new ≡ out.old }
-    ensures idle { (MayWrite (status_of result) → ⊥) → searches.new ≡ searches.old }
-    ensures pushes { searches.new ≤ searches.old + run_pushes (generated number size) }
-    ensures flushed { IsQuiet (status_of result) → K.flushed out.new ≡ K.taken out.new }
+    ensures idle { (MayWrite (status_of result) → ⊥) → work.new ≡ work.old }
+    ensures work { SolvesRun (generated number size) work.old work.new }
+    ensures flushed { IsQuiet (status_of result) → (K.output out.new).flushed ≡ (K.output out.new).taken }
 {
     let (basin, series) = match make(alloc, number, size) {
         Ok(made) => made,
         Err(_) => return Ending::OutOfMemory,
     };
-    match trial_report(alloc, number, size, &basin, &series, out, searches) {
+    match trial_report(alloc, number, size, &basin, &series, out, work) {
         Ok(()) => match out.flush() {
             Ok(()) => Ending::Done,
             Err(_) => Ending::WriteFault,
@@ -250,8 +250,8 @@ pub fn print_answer<K: Sink>(
     out: &mut K,
 ) -> Ending
     ensures ends { EndsAnswer answer.now result (Rose (K.faults out.old) (K.faults out.new)) }
-    ensures leaves { Leaves (status_of result) (answered question answer.now) (K.taken out.old) (K.taken out.new) }
-    ensures flushed { IsQuiet (status_of result) → K.flushed out.new ≡ K.taken out.new }
+    ensures leaves { Leaves (status_of result) (answered question answer.now) (K.output out.old) (K.output out.new) }
+    ensures flushed { IsQuiet (status_of result) → (K.output out.new).flushed ≡ (K.output out.new).taken }
 {
     let mut line = Line::new();
     put_answer(&mut line, question, answer);

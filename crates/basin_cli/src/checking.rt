@@ -1,5 +1,5 @@
 //! A result of any length, which is checked in parts as it is read.
-ghost use Rattle.std.specs.Prelude.{◌≡◌, ◌^◌, ◌<◌, ◌≤◌, ℕ, List, [], IfErr, IfOk, IfSome};
+ghost use Rattle.std.specs.Prelude.{◌≡◌, ◌^◌, ◌<◌, ◌≤◌, ℕ, List, [], ◌∷◌, IfErr, IfOk, IfSome};
 ghost use Rattle.cert_check.specs.Pieces.{StandsForText, bytes_left};
 ghost use Rattle.water_edge.specs.Edge.{Rose, SameShelf};
 ghost use Rattle.water_model.specs.Valid.{IsValidBasin, IsSeriesOf};
@@ -8,6 +8,7 @@ ghost use Rattle.basin_cli.specs.Answer.{CanAnswer, IsAnswerFor, IsAnswerTo, Lea
 ghost use Rattle.basin_cli.specs.declared.ending.Ending.TheVariants as ending;
 ghost use Rattle.basin_cli.specs.declared.ending.File.TheVariants as file;
 ghost use Rattle.basin_cli.specs.Ending.{status_of};
+ghost use Rattle.basin_cli.specs.Failed.{AskForEach};
 ghost use Rattle.basin_cli.specs.Out.{MayWrite};
 ghost use Rattle.basin_cli.specs.Outcome.{IsQuiet};
 
@@ -78,6 +79,7 @@ pub fn answer_parts<S: Shelf>(
     requires can { CanAnswer question checker.old }
     ensures same { SameShelf (S.known shelf.old) (S.known shelf.new) (S.serves shelf.old) (S.serves shelf.new) }
     ensures later { S.faults shelf.old ≤ S.faults shelf.new }
+    ensures reads { AskForEach (name.now ∷ []) (S.asked shelf.old) (S.asked shelf.new) }
     ensures answer { IfOk result
         (IsAnswerTo question checker.old.basin checker.old.series (S.known shelf.old name.now)) }
     ensures fault { IfErr result (λ e. (e ≡ ending.ReadFault file.Result) ×
@@ -119,10 +121,12 @@ pub fn check_file<S: Shelf, K: Sink>(
     ensures ends { EndsChecking question basin.now series.now (S.known shelf.old name.now) result
         (Rose (S.faults shelf.old) (S.faults shelf.new)) (Rose (K.faults out.old) (K.faults out.new)) }
     ensures leaves { IfSome (S.known shelf.old name.now) (λ text. MayWrite (status_of result) →
-        LeavesAnswer question basin.now series.now text (status_of result) (K.taken out.old) (K.taken out.new)) }
+        LeavesAnswer question basin.now series.now text (status_of result) (K.output out.old) (K.output out.new)) }
     ensures out_stays { (MayWrite (status_of result) → ⊥) → out.new ≡ out.old }
     ensures unread { result ≡ ending.OutOfMemory → shelf.new ≡ shelf.old }
-    ensures flushed { IsQuiet (status_of result) → K.flushed out.new ≡ K.taken out.new }
+    ensures reads { (result ≡ ending.OutOfMemory → ⊥) →
+        AskForEach (name.now ∷ []) (S.asked shelf.old) (S.asked shelf.new) }
+    ensures flushed { IsQuiet (status_of result) → (K.output out.new).flushed ≡ (K.output out.new).taken }
 {
     let mut checker = match open_checker(alloc, question, basin, series) {
         Ok(checker) => checker,

@@ -7,23 +7,23 @@ use crate::command::Inputs;
 use crate::comparing::compare_basins;
 use crate::ending::Ending;
 use crate::pairs::read_pair;
+use month_fold::work::Work;
 use std::alloc::Global;
 use std::sync::ledger::Ledger;
-use steps::Steps;
 use water_edge::{Shelf, Sink};
 
 /// `compare`: solves the months of two basins with one series and puts who is delivered less in the second.
-pub fn do_compare<S: Shelf, K: Sink, L: Ledger>(
+pub fn do_compare<S: Shelf, K: Sink, P: Ledger, M: Ledger>(
     alloc: Global,
     inputs: Inputs,
     second: &str,
     shelf: &mut S,
     out: &mut K,
-    searches: &mut Steps<L>,
+    work: &mut Work<P, M>,
 ) -> Ending
     requires { ServesFiles (S.serves shelf.old) (Some (compare (named inputs) second.now)) }
     ensures { Serves S.Shelf K.Sink (Some (compare (named inputs.entry) second.now)) result shelf.old shelf.new out.old
-        out.new searches.old searches.new }
+        out.new work.old work.new }
 {
     let pair = match read_pair(alloc, shelf, inputs, second) {
         Ok(pair) => pair,
@@ -36,6 +36,6 @@ pub fn do_compare<S: Shelf, K: Sink, L: Ledger>(
         &pair.first.series,
         &pair.second.series,
         out,
-        searches,
+        work,
     )
 }

@@ -1,8 +1,9 @@
 //! The comparison of two runs.
-ghost use Rattle.std.specs.Prelude.{[], ◌≡◌, ◌+◌, ◌-◌, ◌<◌, ◌≤◌, ◌++◌, length, flat_map, IfOk, OnOk};
+ghost use Rattle.std.specs.Prelude.{[], ◌≡◌, ◌+◌, ◌-◌, ◌<◌, ◌++◌, length, flat_map, IfOk, OnOk};
 ghost use Rattle.water_model.specs.Valid.{IsValidBasin, IsSeriesOf};
 ghost use Rattle.water_text.specs.Months.{IsMonth};
-ghost use Rattle.month_fold.specs.Runs.{RunStandsFor, run_pushes};
+ghost use Rattle.month_fold.specs.Runs.{RunStandsFor};
+ghost use Rattle.month_fold.specs.Works.{Solves, SolvesBoth};
 ghost use Rattle.injury.specs.Common.{common_rights, HaveDeliveries};
 ghost use Rattle.injury.specs.Injuries.{injuries_of, injured_row, compared_row};
 ghost use Rattle.water_edge.specs.Edge.{Rose};
@@ -11,16 +12,15 @@ ghost use Rattle.basin_cli.specs.Ending.{status_of};
 ghost use Rattle.basin_cli.specs.Out.{IsRefusal, MayWrite};
 ghost use Rattle.basin_cli.specs.Outcome.{IsQuiet};
 ghost use Rattle.basin_cli.specs.declared.ending.Ending.TheVariants.{OutOfMemory};
-ghost use Rattle.senior_hold.specs.MonthNetwork.{month_pushes};
 
 use crate::draft::Draft;
 use crate::ending::Ending;
 use crate::flushing::put_whole;
 use injury::{Pairing, put_compared};
 use month_fold::run::Run;
+use month_fold::work::Work;
 use std::alloc::{AllocError, Global};
 use std::sync::ledger::Ledger;
-use steps::Steps;
 use water_edge::Sink;
 use water_model::types::{Basin, Inflows, MonthRecord};
 
@@ -49,7 +49,7 @@ fn draft_injuries(
 
 /// Solves the next month of both runs and appends the rows of its injuries. `injured` counts those of the months
 /// before, and the answer those of this month too.
-fn compare_month<L: Ledger>(
+fn compare_month<P: Ledger, M: Ledger>(
     draft: &mut Draft,
     pairing: &Pairing,
     basin: &Basin,
@@ -57,7 +57,7 @@ fn compare_month<L: Ledger>(
     first: &mut Run,
     second: &mut Run,
     injured: u32,
-    searches: &mut Steps<L>,
+    work: &mut Work<P, M>,
 ) -> Result<u32, AllocError>
     requires basin { IsValidBasin basin.now }
     requires other { IsValidBasin other.now }
@@ -71,23 +71,23 @@ fn compare_month<L: Ledger>(
     ensures done { OnOk result (first.new.done ≡ first.old.done + 1) }
     ensures abreast { OnOk result (second.new.done ≡ first.new.done) }
     ensures compared { IfOk result (AreCompared basin.now other.now first.new second.new draft.new.bytes) }
-    ensures pushes { searches.new ≤ searches.old + (month_pushes basin.now + month_pushes other.now) }
+    ensures work { SolvesBoth 1 basin.now other.now work.old work.new }
 {
-    first.step(searches);
-    second.step(searches);
+    first.step(work);
+    second.step(work);
     let count = draft_injuries(draft, pairing, basin, first.month(), second.month())?;
     Ok(injured + count)
 }
 
 /// Solves all months of both runs and appends the rows of their injuries. Answers how many there are.
-fn compare_months<L: Ledger>(
+fn compare_months<P: Ledger, M: Ledger>(
     draft: &mut Draft,
     pairing: &Pairing,
     basin: &Basin,
     other: &Basin,
     first: &mut Run,
     second: &mut Run,
-    searches: &mut Steps<L>,
+    work: &mut Work<P, M>,
 ) -> Result<u32, AllocError>
     requires basin { IsValidBasin basin.now }
     requires other { IsValidBasin other.now }
@@ -101,13 +101,11 @@ fn compare_months<L: Ledger>(
     ensures done { OnOk result (first.new.done ≡ basin.now.months) }
     ensures abreast { OnOk result (second.new.done ≡ first.new.done) }
     ensures compared { IfOk result (AreCompared basin.now other.now first.new second.new draft.new.bytes) }
-    ensures pushes { searches.new ≤ searches.old + (run_pushes basin.now + run_pushes other.now) }
+    ensures work { SolvesBoth basin.now.months basin.now other.now work.old work.new }
 {
     let mut injured = 0;
     for _month in 0..basin.months {
-        injured = compare_month(
-            draft, pairing, basin, other, first, second, injured, searches,
-        )?;
+        injured = compare_month(draft, pairing, basin, other, first, second, injured, work)?;
     }
     Ok(injured)
 }
@@ -123,14 +121,14 @@ fn draft_counts(draft: &mut Draft, pairing: &Pairing, injured: u32) -> Result<()
 }
 
 /// Solves all months of both runs and drafts their comparison. Answers how many injuries there are, too.
-fn compare_runs<L: Ledger>(
+fn compare_runs<P: Ledger, M: Ledger>(
     alloc: Global,
     pairing: &Pairing,
     basin: &Basin,
     other: &Basin,
     first: &mut Run,
     second: &mut Run,
-    searches: &mut Steps<L>,
+    work: &mut Work<P, M>,
 ) -> Result<(Draft, u32), AllocError>
     requires basin { IsValidBasin basin.now }
     requires other { IsValidBasin other.now }
@@ -143,22 +141,22 @@ fn compare_runs<L: Ledger>(
     ensures text { IfOk result
         (λ drafted. IsTextOfComparison basin.now other.now first.old.series second.old.series drafted.0.bytes
         drafted.1) }
-    ensures pushes { searches.new ≤ searches.old + (run_pushes basin.now + run_pushes other.now) }
+    ensures work { SolvesBoth basin.now.months basin.now other.now work.old work.new }
 {
     let mut draft = Draft::new(alloc);
-    let injured = compare_months(&mut draft, pairing, basin, other, first, second, searches)?;
+    let injured = compare_months(&mut draft, pairing, basin, other, first, second, work)?;
     draft_counts(&mut draft, pairing, injured)?;
     Ok((draft, injured))
 }
 
 /// The comparison of two runs, before any of it is written, and the number of injuries in it.
-pub fn text_of_comparison<L: Ledger>(
+pub fn text_of_comparison<P: Ledger, M: Ledger>(
     alloc: Global,
     basin: &Basin,
     other: &Basin,
     series: &Inflows,
     other_series: &Inflows,
-    searches: &mut Steps<L>,
+    work: &mut Work<P, M>,
 ) -> Result<(Draft, u32), AllocError>
     requires basin { IsValidBasin basin.now }
     requires other { IsValidBasin other.now }
@@ -167,20 +165,12 @@ pub fn text_of_comparison<L: Ledger>(
     requires other_series { IsSeriesOf other.now other_series.now }
     ensures text { IfOk result
         (λ drafted. IsTextOfComparison basin.now other.now series.now other_series.now drafted.0.bytes drafted.1) }
-    ensures pushes { searches.new ≤ searches.old + (run_pushes basin.now + run_pushes other.now) }
+    ensures work { SolvesBoth basin.now.months basin.now other.now work.old work.new }
 {
     let pairing = Pairing::build(alloc, basin, other)?;
     let mut first = Run::open(alloc, basin, series)?;
     let mut second = Run::open(alloc, other, other_series)?;
-    compare_runs(
-        alloc,
-        &pairing,
-        basin,
-        other,
-        &mut first,
-        &mut second,
-        searches,
-    )
+    compare_runs(alloc, &pairing, basin, other, &mut first, &mut second, work)
 }
 
 /// How a comparison with this many injuries ends.
@@ -196,14 +186,14 @@ fn ending_with(injured: u32) -> Ending
 }
 
 /// Solves the months of two basins, each with its series, and puts who is delivered less in the second.
-pub fn compare_basins<K: Sink, L: Ledger>(
+pub fn compare_basins<K: Sink, P: Ledger, M: Ledger>(
     alloc: Global,
     basin: &Basin,
     other: &Basin,
     series: &Inflows,
     other_series: &Inflows,
     out: &mut K,
-    searches: &mut Steps<L>,
+    work: &mut Work<P, M>,
 ) -> Ending
     requires basin { IsValidBasin basin.now }
     requires other { IsValidBasin other.now }
@@ -212,12 +202,12 @@ pub fn compare_basins<K: Sink, L: Ledger>(
     requires other_series { IsSeriesOf other.now other_series.now }
     ensures compares { MayWrite (status_of result) →
         Compares basin.now other.now series.now other_series.now result (Rose (K.faults out.old) (K.faults out.new))
-        (K.taken out.old) (K.taken out.new) }
+        (K.output out.old) (K.output out.new) }
     ensures out_stays { (MayWrite (status_of result) → ⊥) → out.new ≡ out.old }
     ensures memory { (MayWrite (status_of result) → ⊥) → result ≡ OutOfMemory }
     ensures idle { IsRefusal (status_of result) → ⊥ }
-    ensures pushes { searches.new ≤ searches.old + (run_pushes basin.now + run_pushes other.now) }
-    ensures flushed { IsQuiet (status_of result) → K.flushed out.new ≡ K.taken out.new }
+    ensures work { SolvesBoth basin.now.months basin.now other.now work.old work.new }
+    ensures flushed { IsQuiet (status_of result) → (K.output out.new).flushed ≡ (K.output out.new).taken }
 {
     let (text, injured) = match text_of_comparison(
         alloc,
@@ -225,7 +215,7 @@ pub fn compare_basins<K: Sink, L: Ledger>(
         other,
         series,
         other_series,
-        searches,
+        work,
     ) {
         Ok(drafted) => drafted,
         Err(_) => return Ending::OutOfMemory,

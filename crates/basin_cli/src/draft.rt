@@ -1,8 +1,7 @@
 //! A text that grows in memory before any of it is written.
 ghost use Rattle.std.specs.Prelude.{◌≡◌, [], Some, IsErr, OnOk};
-ghost use Rattle.std.specs.Io.KnownBytes.{Keeps};
-ghost use Rattle.water_edge.specs.Edge.{HasCause, Puts};
-ghost use Rattle.basin_cli.specs.Drafts.{DraftState};
+ghost use Rattle.water_edge.specs.Edge.{HasCause, IsKnownPrefix, Puts, Stays};
+ghost use Rattle.basin_cli.specs.Drafts.{DraftState, draft_output};
 
 use std::alloc::Global;
 use std::marker::Model;
@@ -43,14 +42,13 @@ impl Draft {
 }
 
 impl Sink for Draft {
-    ghost taken = { λ d. Some d.bytes };
-
-    ghost flushed = { λ d. Some d.bytes };
+    ghost output = { draft_output };
 
     ghost faults = { λ d. d.faults };
 
     fn put(&mut self, bytes: &[u8]) -> Result<(), SinkFailed>
-        ensures bytes { Puts (Some self.old.bytes) (Some self.new.bytes) result bytes.now }
+        ensures bytes { Puts (draft_output self.old) (draft_output self.new) result bytes.now }
+        ensures first { IsKnownPrefix (Some self.new.bytes) (Some self.new.bytes) }
         ensures cause { HasCause self.old.faults self.new.faults (IsErr result) }
     {
         match self.bytes.extend_from_slice(bytes) {
@@ -64,7 +62,8 @@ impl Sink for Draft {
 
     /// Nothing is kept back.
     fn flush(&mut self) -> Result<(), SinkFailed>
-        ensures bytes { Keeps (Some self.old.bytes) (Some self.new.bytes) }
+        ensures bytes { Stays (draft_output self.old) (draft_output self.new) }
+        ensures first { IsKnownPrefix (Some self.new.bytes) (Some self.new.bytes) }
         ensures all { OnOk result (Some self.new.bytes ≡ Some self.new.bytes) }
         ensures cause { HasCause self.old.faults self.new.faults (IsErr result) }
     {

@@ -1,22 +1,22 @@
 //! Scripts of changes to a series: the months that they show.
-ghost use Rattle.std.specs.Prelude.{◌≡◌, ◌+◌, ◌*◌, ◌≤◌, All, IfErr, IfOk, Ok, length};
+ghost use Rattle.std.specs.Prelude.{◌≡◌, ◌≤◌, All, IfErr, IfOk, Ok};
 ghost use Rattle.edit_script.specs.Edits.{IsValidEdit, cost};
 ghost use Rattle.edit_script.specs.Scripts.{script_of};
-ghost use Rattle.senior_hold.specs.MonthNetwork.{month_pushes};
 ghost use Rattle.water_edge.specs.Edge.{Rose};
 ghost use Rattle.water_model.specs.Valid.{IsValidBasin, IsSeriesOf};
-ghost use Rattle.basin_cli.specs.Edited.{EndsEditing, LeavesScript, LeavesShows, PushesOfScript, ScriptEnds};
+ghost use Rattle.basin_cli.specs.Edited.{EndsEditing, LeavesScript, LeavesShows, WorkOfScript, ScriptEnds};
 ghost use Rattle.basin_cli.specs.Ending.{status_of};
-ghost use Rattle.basin_cli.specs.Out.{IsRefusal, MayShow};
+ghost use Rattle.basin_cli.specs.Out.{IsRefusal, IsUntouchedOrFlushed, MayShow, WithoutMemory};
 ghost use Rattle.basin_cli.specs.Outcome.{HasTrialCause, IsQuiet};
+ghost use Rattle.month_fold.specs.Works.{Solves};
 
 use crate::ending::Ending;
 use edit_script::edit::Edit;
 use edit_script::{ScriptRefused, read_script};
 use edit_shows::{EditStop, put_shows};
+use month_fold::work::Work;
 use std::alloc::Global;
 use std::sync::ledger::Ledger;
-use steps::Steps;
 use water_edge::Sink;
 use water_model::types::{Basin, Inflows};
 
@@ -29,7 +29,6 @@ fn accept_script(
 ) -> Result<Vec<Edit>, Ending>
     requires basin { IsValidBasin basin.now }
     requires series { IsSeriesOf basin.now series.now }
-    requires small { length text.now ≤ 67108864 }
     ensures reads { IfOk result (λ edits. script_of basin.now series.now text.now ≡ Ok edits.items) }
     ensures placed { IfOk result (λ edits. All (IsValidEdit basin.now series.now) edits.items) }
     ensures ends { IfErr result (λ e. ScriptEnds basin.now series.now text.now e) }
@@ -42,24 +41,27 @@ fn accept_script(
 }
 
 /// Puts the months that a script shows, and at the end their number.
-fn answer_edits<K: Sink, L: Ledger>(
+fn answer_edits<K: Sink, P: Ledger, M: Ledger>(
     alloc: Global,
     basin: &Basin,
     series: &Inflows,
     edits: &[Edit],
     out: &mut K,
-    searches: &mut Steps<L>,
+    work: &mut Work<P, M>,
 ) -> Ending
     requires basin { IsValidBasin basin.now }
     requires series { IsSeriesOf basin.now series.now }
     requires placed { All (IsValidEdit basin.now series.now) edits.now }
     ensures ends { HasTrialCause result (Rose (K.faults out.old) (K.faults out.new)) }
-    ensures leaves { LeavesShows (status_of result) basin.now series.now edits.now (K.taken out.old) (K.taken out.new) }
+    ensures leaves { LeavesShows (status_of result) basin.now series.now edits.now (K.output out.old)
+        (K.output out.new) }
     ensures idle { IsRefusal (status_of result) → ⊥ }
-    ensures pushes { searches.new ≤ searches.old + cost edits.now * month_pushes basin.now }
-    ensures flushed { IsQuiet (status_of result) → K.flushed out.new ≡ K.taken out.new }
+    ensures work { Solves (cost edits.now) basin.now work.old work.new }
+    ensures flushed { IsQuiet (status_of result) → (K.output out.new).flushed ≡ (K.output out.new).taken }
+    ensures shown { WithoutMemory (status_of result) ((Rose (K.faults out.old) (K.faults out.new) → ⊥) →
+        (K.output out.new).flushed ≡ (K.output out.new).taken) }
 {
-    match put_shows(alloc, basin, series, edits, out, searches) {
+    match put_shows(alloc, basin, series, edits, out, work) {
         Ok(()) => match out.flush() {
             Ok(()) => Ending::Done,
             Err(_) => Ending::WriteFault,
@@ -75,27 +77,29 @@ fn answer_edits<K: Sink, L: Ledger>(
 
 /// Changes numbers of a basin's series as a script says, and puts the months that it shows, each of the series as it is
 /// by then. The months before a change are not solved again, and nothing is put where the script is refused.
-pub fn edit_basin<K: Sink, L: Ledger>(
+pub fn edit_basin<K: Sink, P: Ledger, M: Ledger>(
     alloc: Global,
     basin: &Basin,
     series: &Inflows,
     text: &[u8],
     out: &mut K,
-    searches: &mut Steps<L>,
+    work: &mut Work<P, M>,
 ) -> Ending
     requires basin { IsValidBasin basin.now }
     requires series { IsSeriesOf basin.now series.now }
-    requires small { length text.now ≤ 67108864 }
     ensures ends { EndsEditing basin.now series.now text.now result (Rose (K.faults out.old) (K.faults out.new)) }
-    ensures leaves { LeavesScript (status_of result) basin.now series.now text.now (K.taken out.old) (K.taken out.new) }
+    ensures leaves { LeavesScript (status_of result) basin.now series.now text.now (K.output out.old)
+        (K.output out.new) }
     ensures out_stays { (MayShow (status_of result) → ⊥) → out.new ≡ out.old }
-    ensures idle { IsRefusal (status_of result) → searches.new ≡ searches.old }
-    ensures pushes { PushesOfScript basin.now series.now text.now searches.old searches.new }
-    ensures flushed { IsQuiet (status_of result) → K.flushed out.new ≡ K.taken out.new }
+    ensures idle { IsRefusal (status_of result) → work.new ≡ work.old }
+    ensures work { WorkOfScript basin.now series.now text.now work.old work.new }
+    ensures flushed { IsQuiet (status_of result) → (K.output out.new).flushed ≡ (K.output out.new).taken }
+    ensures shown { WithoutMemory (status_of result) ((Rose (K.faults out.old) (K.faults out.new) → ⊥) →
+        IsUntouchedOrFlushed out.old out.new (K.output out.new)) }
 {
     let edits = match accept_script(alloc, basin, series, text) {
         Ok(edits) => edits,
         Err(ending) => return ending,
     };
-    answer_edits(alloc, basin, series, &edits, out, searches)
+    answer_edits(alloc, basin, series, &edits, out, work)
 }

@@ -285,9 +285,10 @@ fn put_line(line: &mut Line, ending: &Ending)
 /// Puts the line of an ending to err. If err fails, a prefix of it stands there. It takes no memory.
 pub fn print_ending<E: Sink>(ending: &Ending, err: &mut E)
     requires { CanBePrinted ending.now }
-    ensures tells { WritesErrLine (E.taken err.old) (E.taken err.new) (E.faults err.old) (E.faults err.new)
+    ensures tells { WritesErrLine (E.output err.old) (E.output err.new) (E.faults err.old) (E.faults err.new)
         (line_of ending.now) }
-    ensures flushed { (Rose (E.faults err.old) (E.faults err.new) → ⊥) → E.flushed err.new ≡ E.taken err.new }
+    ensures flushed { (Rose (E.faults err.old) (E.faults err.new) → ⊥) →
+        (E.output err.new).flushed ≡ (E.output err.new).taken }
 {
     let mut line = Line::new();
     put_line(&mut line, ending);

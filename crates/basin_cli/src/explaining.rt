@@ -1,19 +1,19 @@
 //! Why a right got no more in a month: the account book of its reach, or where one more unit of water would help it and
 //! the account of its core; or that it is met.
-ghost use Rattle.std.specs.Prelude.{ℕ, List, [], ◌≡◌, ◌+◌, ◌*◌, ◌<◌, ◌≤◌, length, IsErr};
+ghost use Rattle.std.specs.Prelude.{ℕ, List, [], ◌≡◌, ◌+◌, ◌<◌, ◌≤◌, length, IsErr};
 ghost use Rattle.std.specs.Prelude.{IfNone, IfSome, bytes_eq, position};
 ghost use Rattle.water_text.specs.Months.{IsMonth};
 ghost use Rattle.water_model.specs.Valid.{IsValidBasin, IsSeriesOf};
 ghost use Rattle.rights_roll.specs.Rolls.{IsRollOf};
 ghost use Rattle.water_model.specs.History.{HasReaches, IsShort};
 ghost use Rattle.month_fold.specs.Runs.{HasMonths, RunStandsFor};
+ghost use Rattle.month_fold.specs.Works.{Solves};
 ghost use Rattle.result_text.specs.Range.{FitsText};
-ghost use Rattle.senior_hold.specs.MonthNetwork.{month_pushes};
 ghost use Rattle.water_edge.specs.Edge.{HasCause, Puts, Rose};
 ghost use Rattle.basin_cli.specs.Actions.{AnswersAt, EndsAsking, IsAnswered};
 ghost use Rattle.basin_cli.specs.Ending.{status_of};
 ghost use Rattle.basin_cli.specs.Explained.{EndsExplaining, Explains, HasLast, HasMonth, HasRight, IsMonthAt};
-ghost use Rattle.basin_cli.specs.Explained.{IsRightNamed, PushesUpTo, TellsShort, met_line};
+ghost use Rattle.basin_cli.specs.Explained.{IsRightNamed, WorkUpTo, TellsShort, met_line};
 ghost use Rattle.call_list.specs.Helpers.{IsHelpFinderOf};
 ghost use Rattle.plan_residual.specs.Residual.{HasPlan};
 ghost use Rattle.basin_cli.specs.Out.{IsRefusal, Leaves, MayWrite};
@@ -26,10 +26,10 @@ use calls::is_short;
 use cut_book::put_book;
 use edit_script::{ScriptFault, index_in_run};
 use month_fold::run::Run;
+use month_fold::work::Work;
 use rights_roll::roll::Roll;
 use std::alloc::Global;
 use std::sync::ledger::Ledger;
-use steps::Steps;
 use water_edge::{Sink, SinkFailed};
 use water_model::space::{Space, name_in};
 use water_model::types::{Basin, Inflows, MonthRecord};
@@ -79,32 +79,32 @@ fn right_named(basin: &Basin, name: &[u8]) -> Option<u32>
 }
 
 /// Solves the first `count` months of a run that had none yet.
-fn solve_months<L: Ledger>(run: &mut Run, count: u32, searches: &mut Steps<L>)
+fn solve_months<P: Ledger, M: Ledger>(run: &mut Run, count: u32, work: &mut Work<P, M>)
     requires first { RunStandsFor run.old [] }
     requires within { count ≤ run.old.basin.months }
     ensures basin { run.new.basin ≡ run.old.basin }
     ensures series { run.new.series ≡ run.old.series }
     ensures done { run.new.done ≡ count }
     ensures months { HasMonths run.new }
-    ensures pushes { searches.new ≤ searches.old + count * month_pushes run.old.basin }
+    ensures work { Solves count run.old.basin work.old work.new }
 {
     for _month in 0..count {
-        run.step(searches);
+        run.step(work);
     }
 }
 
 /// Solves the months of a run up to the one of this index, whose record `month` then gives.
-fn solve_up_to<L: Ledger>(run: &mut Run, index: u32, searches: &mut Steps<L>)
+fn solve_up_to<P: Ledger, M: Ledger>(run: &mut Run, index: u32, work: &mut Work<P, M>)
     requires first { RunStandsFor run.old [] }
     requires within { index < run.old.basin.months }
     ensures basin { run.new.basin ≡ run.old.basin }
     ensures series { run.new.series ≡ run.old.series }
     ensures done { run.new.done ≡ index + 1 }
     ensures last { HasLast run.new }
-    ensures pushes { searches.new ≤ searches.old + (index + 1) * month_pushes run.old.basin }
+    ensures work { Solves (index + 1) run.old.basin work.old work.new }
 {
-    solve_months(run, index, searches);
-    run.step(searches);
+    solve_months(run, index, work);
+    run.step(work);
 }
 
 /// Makes the line of a right that is met.
@@ -123,7 +123,7 @@ fn put_met(line: &mut Line, month: Month, name: &Name)
 /// Puts that a right is met, by one `put`. It takes no memory.
 fn print_met<K: Sink>(sink: &mut K, month: Month, name: &Name) -> Result<(), SinkFailed>
     requires { IsMonth month }
-    ensures text { Puts (K.taken sink.old) (K.taken sink.new) result (met_line month name.now) }
+    ensures text { Puts (K.output sink.old) (K.output sink.new) result (met_line month name.now) }
     ensures cause { HasCause (K.faults sink.old) (K.faults sink.new) (IsErr result) }
 {
     let mut line = Line::new();
@@ -150,7 +150,7 @@ fn put_account<K: Sink>(
     requires right { right < length basin.now.rights }
     requires short { IsShort month.now right }
     ensures text { (text : List ℕ) × TellsShort account basin.now month.now right text ×
-        Puts (K.taken sink.old) (K.taken sink.new) result text }
+        Puts (K.output sink.old) (K.output sink.new) result text }
     ensures cause { HasCause (K.faults sink.old) (K.faults sink.new) (IsErr result) }
 {
     match account {
@@ -178,7 +178,7 @@ fn put_answer<K: Sink>(
     requires reaches { HasReaches basin.now month.now }
     requires right { right < length basin.now.rights }
     ensures text { (text : List ℕ) × Explains account basin.now month.now right text ×
-        Puts (K.taken sink.old) (K.taken sink.new) result text }
+        Puts (K.output sink.old) (K.output sink.new) result text }
     ensures cause { HasCause (K.faults sink.old) (K.faults sink.new) (IsErr result) }
 {
     if is_short(month, right) {
@@ -221,9 +221,9 @@ fn answer<K: Sink>(
     requires right { right < length basin.now.rights }
     ensures ends { EndsExplaining month.now right result (Rose (K.faults out.old) (K.faults out.new)) }
     ensures leaves { (text : List ℕ) × Explains account basin.now month.now right text ×
-        Leaves (status_of result) text (K.taken out.old) (K.taken out.new) }
+        Leaves (status_of result) text (K.output out.old) (K.output out.new) }
     ensures idle { IsRefusal (status_of result) → ⊥ }
-    ensures flushed { IsQuiet (status_of result) → K.flushed out.new ≡ K.taken out.new }
+    ensures flushed { IsQuiet (status_of result) → (K.output out.new).flushed ≡ (K.output out.new).taken }
 {
     match put_answer(out, account, finder, basin, roll, month, right) {
         Ok(()) => match out.flush() {
@@ -235,28 +235,28 @@ fn answer<K: Sink>(
 }
 
 /// Solves the months of a run up to the one of this index, and puts why a right got no more in it.
-fn explain_in<K: Sink, L: Ledger>(
+fn explain_in<K: Sink, P: Ledger, M: Ledger>(
     account: Account,
     finder: &mut HelpFinder,
     run: &mut Run,
     index: u32,
     right: u32,
     out: &mut K,
-    searches: &mut Steps<L>,
+    work: &mut Work<P, M>,
 ) -> Ending
     requires finder { IsHelpFinderOf run.old.basin finder.old }
     requires first { RunStandsFor run.old [] }
     requires index { index < run.old.basin.months }
     requires right { right < length run.old.basin.rights }
     ensures answers { MayWrite (status_of result) → AnswersAt account run.old.basin run.old.series index right result
-        (Rose (K.faults out.old) (K.faults out.new)) (K.taken out.old) (K.taken out.new) }
+        (Rose (K.faults out.old) (K.faults out.new)) (K.output out.old) (K.output out.new) }
     ensures memory { (MayWrite (status_of result) → ⊥) → result ≡ OutOfMemory }
     ensures out_stays { (MayWrite (status_of result) → ⊥) → out.new ≡ out.old }
-    ensures idle { (MayWrite (status_of result) → ⊥) → searches.new ≡ searches.old }
-    ensures pushes { searches.new ≤ searches.old + (index + 1) * month_pushes run.old.basin }
-    ensures flushed { IsQuiet (status_of result) → K.flushed out.new ≡ K.taken out.new }
+    ensures idle { (MayWrite (status_of result) → ⊥) → work.new ≡ work.old }
+    ensures work { Solves (index + 1) run.old.basin work.old work.new }
+    ensures flushed { IsQuiet (status_of result) → (K.output out.new).flushed ≡ (K.output out.new).taken }
 {
-    solve_up_to(run, index, searches);
+    solve_up_to(run, index, work);
     answer(
         out,
         account,
@@ -269,7 +269,7 @@ fn explain_in<K: Sink, L: Ledger>(
 }
 
 /// Solves the months of a basin with its series up to the one of this index, and puts why a right got no more in it.
-fn explain_at<K: Sink, L: Ledger>(
+fn explain_at<K: Sink, P: Ledger, M: Ledger>(
     alloc: Global,
     account: Account,
     basin: &Basin,
@@ -277,19 +277,19 @@ fn explain_at<K: Sink, L: Ledger>(
     index: u32,
     right: u32,
     out: &mut K,
-    searches: &mut Steps<L>,
+    work: &mut Work<P, M>,
 ) -> Ending
     requires basin { IsValidBasin basin.now }
     requires series { IsSeriesOf basin.now series.now }
     requires index { index < basin.now.months }
     requires right { right < length basin.now.rights }
     ensures answers { MayWrite (status_of result) → AnswersAt account basin.now series.now index right result
-        (Rose (K.faults out.old) (K.faults out.new)) (K.taken out.old) (K.taken out.new) }
+        (Rose (K.faults out.old) (K.faults out.new)) (K.output out.old) (K.output out.new) }
     ensures memory { (MayWrite (status_of result) → ⊥) → result ≡ OutOfMemory }
     ensures out_stays { (MayWrite (status_of result) → ⊥) → out.new ≡ out.old }
-    ensures idle { (MayWrite (status_of result) → ⊥) → searches.new ≡ searches.old }
-    ensures pushes { searches.new ≤ searches.old + (index + 1) * month_pushes basin.now }
-    ensures flushed { IsQuiet (status_of result) → K.flushed out.new ≡ K.taken out.new }
+    ensures idle { (MayWrite (status_of result) → ⊥) → work.new ≡ work.old }
+    ensures work { Solves (index + 1) basin.now work.old work.new }
+    ensures flushed { IsQuiet (status_of result) → (K.output out.new).flushed ≡ (K.output out.new).taken }
 {
     let mut run = match Run::open(alloc, basin, series) {
         Ok(run) => run,
@@ -299,13 +299,13 @@ fn explain_at<K: Sink, L: Ledger>(
         Ok(finder) => finder,
         Err(_) => return Ending::OutOfMemory,
     };
-    explain_in(account, &mut finder, &mut run, index, right, out, searches)
+    explain_in(account, &mut finder, &mut run, index, right, out, work)
 }
 
 /// Puts why the right of this name got no more in a month: where it is short, the account book of its reach, or where
 /// one more unit would help it and the account of its core; and otherwise that it is met. Months are solved up to this
 /// one and no further, and nothing is put before it is solved.
-pub fn explain_right<K: Sink, L: Ledger>(
+pub fn explain_right<K: Sink, P: Ledger, M: Ledger>(
     alloc: Global,
     account: Account,
     basin: &Basin,
@@ -313,18 +313,18 @@ pub fn explain_right<K: Sink, L: Ledger>(
     month: Month,
     name: &[u8],
     out: &mut K,
-    searches: &mut Steps<L>,
+    work: &mut Work<P, M>,
 ) -> Ending
     requires basin { IsValidBasin basin.now }
     requires series { IsSeriesOf basin.now series.now }
     requires month { IsMonth month }
     ensures ends { EndsAsking basin.now series.now month name.now result (Rose (K.faults out.old) (K.faults out.new)) }
     ensures answers { MayWrite (status_of result) →
-        IsAnswered account basin.now series.now month name.now result (K.taken out.old) (K.taken out.new) }
+        IsAnswered account basin.now series.now month name.now result (K.output out.old) (K.output out.new) }
     ensures out_stays { (MayWrite (status_of result) → ⊥) → out.new ≡ out.old }
-    ensures idle { (MayWrite (status_of result) → ⊥) → searches.new ≡ searches.old }
-    ensures pushes { PushesUpTo basin.now month searches.old searches.new }
-    ensures flushed { IsQuiet (status_of result) → K.flushed out.new ≡ K.taken out.new }
+    ensures idle { (MayWrite (status_of result) → ⊥) → work.new ≡ work.old }
+    ensures work { WorkUpTo basin.now month work.old work.new }
+    ensures flushed { IsQuiet (status_of result) → (K.output out.new).flushed ≡ (K.output out.new).taken }
 {
     let Some(index) = index_of(basin, month) else {
         return Ending::ScriptRefused {
@@ -338,5 +338,5 @@ pub fn explain_right<K: Sink, L: Ledger>(
             line: 0,
         };
     };
-    explain_at(alloc, account, basin, series, index, right, out, searches)
+    explain_at(alloc, account, basin, series, index, right, out, work)
 }

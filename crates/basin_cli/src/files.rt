@@ -10,6 +10,7 @@ ghost use Rattle.water_model.specs.Basin.{node_name, right_name};
 ghost use Rattle.water_model.specs.Valid.{IsValidBasin, IsSeriesOf};
 ghost use Rattle.basin_cli.specs.Command.{ServesSeries, named};
 ghost use Rattle.basin_cli.specs.Ending.{CanBePrinted};
+ghost use Rattle.basin_cli.specs.Failed.{AskForEach, AskUpTo, inputs_to, series_file};
 ghost use Rattle.basin_cli.specs.Header.{header};
 ghost use Rattle.basin_cli.specs.Bytes.{file_limit, known_series};
 ghost use Rattle.basin_cli.specs.Outcome.{StopsReadingYears};
@@ -166,6 +167,8 @@ fn read_series<S: Shelf>(
     ensures later { S.faults shelf.old ≤ S.faults shelf.new }
     ensures asked { (other : List ℕ) → Some other ≢ option_map (λ n. n.now) name.entry →
         S.asked shelf.new other ≡ S.asked shelf.old other }
+    ensures reads { AskForEach (series_file (option_map (λ n. n.now) name.entry)) (S.asked shelf.old)
+        (S.asked shelf.new) }
     ensures fits { IfOk result (λ series. IsSeriesOf basin.now series) }
     ensures text { IfOk result
         (λ series. IfSome (known_series (S.known shelf.old) (option_map (λ n. n.now) name.entry))
@@ -200,6 +203,10 @@ pub fn read_inputs<S: Shelf>(alloc: Global, shelf: &mut S, inputs: Inputs) -> Re
     ensures later { S.faults shelf.old ≤ S.faults shelf.new }
     ensures asked { (other : List ℕ) → other ≢ (named inputs.entry).basin → Some other ≢ (named inputs.entry).series →
         S.asked shelf.new other ≡ S.asked shelf.old other }
+    ensures reads { OnOk result (AskForEach (inputs_to (named inputs.entry) File.Series) (S.asked shelf.old)
+        (S.asked shelf.new)) }
+    ensures up_to { IfErr result
+        (λ e. AskUpTo (inputs_to (named inputs.entry)) e (S.asked shelf.old) (S.asked shelf.new)) }
     ensures valid { IfOk result (λ files. IsValidBasin files.basin) }
     ensures fits { IfOk result (λ files. IsSeriesOf files.basin files.series) }
     ensures loaded { IfOk result (λ files. AreLoaded (S.known shelf.old) (named inputs.entry) files.basin files.series) }
@@ -217,6 +224,7 @@ fn read_years<S: Shelf>(alloc: Global, shelf: &mut S, name: &str) -> Result<Basi
     requires { S.serves shelf.old name.now }
     ensures same { SameShelf (S.known shelf.old) (S.known shelf.new) (S.serves shelf.old) (S.serves shelf.new) }
     ensures later { S.faults shelf.old ≤ S.faults shelf.new }
+    ensures asked { AsksFor (S.asked shelf.old) (S.asked shelf.new) name.now }
     ensures valid { IfOk result IsValidBasin }
     ensures whole { IfOk result HasWholeYears }
     ensures text { IfOk result (λ basin. IfSome (S.known shelf.old name.now) (IsBasinText basin)) }
@@ -237,6 +245,8 @@ pub fn read_record<S: Shelf>(alloc: Global, shelf: &mut S, inputs: Inputs) -> Re
     requires series { ServesSeries (S.serves shelf.old) (option_map (λ n. n.now) inputs.series) }
     ensures same { SameShelf (S.known shelf.old) (S.known shelf.new) (S.serves shelf.old) (S.serves shelf.new) }
     ensures later { S.faults shelf.old ≤ S.faults shelf.new }
+    ensures up_to { IfErr result
+        (λ e. AskUpTo (inputs_to (named inputs.entry)) e (S.asked shelf.old) (S.asked shelf.new)) }
     ensures valid { IfOk result (λ files. IsValidBasin files.basin) }
     ensures whole { IfOk result (λ files. HasWholeYears files.basin) }
     ensures fits { IfOk result (λ files. IsSeriesOf files.basin files.series) }

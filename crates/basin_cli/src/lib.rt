@@ -23,4 +23,4 @@ mod writing;
 
 pub use found::{Found, check_result, runs_are_accepted, runs_are_audited};
 pub use status::Status;
-pub use top::basin_main;
+pub use top::{basin_main, without_words};

@@ -1,12 +1,13 @@
 //! The files of a comparison: two basins whose runs have the same months, and one series for both.
-ghost use Rattle.std.specs.Prelude.{◌≤◌, ◌↔◌, None, IfOk, IfErr, IfSome, IsTrue, MatchResult, length};
+ghost use Rattle.std.specs.Prelude.{◌≤◌, ◌↔◌, None, IfOk, OnOk, IfErr, IfSome, IsTrue, MatchResult, length};
 ghost use Rattle.std.specs.Prelude.{option_map};
-ghost use Rattle.water_edge.specs.Edge.{Rose, SameShelf};
+ghost use Rattle.water_edge.specs.Edge.{AsksFor, Rose, SameShelf};
 ghost use Rattle.water_model.specs.Valid.{IsValidBasin, IsSeriesOf};
 ghost use Rattle.basin_cli.specs.Bytes.{file_limit, known_series};
 ghost use Rattle.basin_cli.specs.Command.{ServesSeries, named};
 ghost use Rattle.basin_cli.specs.Comparison.{HaveSameMonths, StopsComparing};
 ghost use Rattle.basin_cli.specs.Ending.{CanBePrinted};
+ghost use Rattle.basin_cli.specs.Failed.{AskForEach, AskUpTo, pair_to, series_file};
 ghost use Rattle.basin_cli.specs.Header.{header};
 ghost use Rattle.basin_cli.specs.Pairs.{ArePaired, BothSeriesEnd, BothSeriesReadEnd, IsOtherRun, SecondEnds};
 ghost use Rattle.basin_cli.specs.Pairs.{SecondReadEnds};
@@ -45,6 +46,7 @@ fn read_second<S: Shelf>(alloc: Global, shelf: &mut S, name: &str) -> Result<Bas
     requires { S.serves shelf.old name.now }
     ensures same { SameShelf (S.known shelf.old) (S.known shelf.new) (S.serves shelf.old) (S.serves shelf.new) }
     ensures later { S.faults shelf.old ≤ S.faults shelf.new }
+    ensures asked { AsksFor (S.asked shelf.old) (S.asked shelf.new) name.now }
     ensures valid { IfOk result IsValidBasin }
     ensures text { IfOk result (λ basin. IfSome (S.known shelf.old name.now) (IsBasinText basin)) }
     ensures ends { IfErr result
@@ -83,6 +85,10 @@ fn read_basins<S: Shelf>(
     requires second { S.serves shelf.old second.now }
     ensures same { SameShelf (S.known shelf.old) (S.known shelf.new) (S.serves shelf.old) (S.serves shelf.new) }
     ensures later { S.faults shelf.old ≤ S.faults shelf.new }
+    ensures reads { OnOk result (AskForEach (pair_to (named inputs.entry) second.now File.SecondBasin)
+        (S.asked shelf.old) (S.asked shelf.new)) }
+    ensures up_to { IfErr result
+        (λ e. AskUpTo (pair_to (named inputs.entry) second.now) e (S.asked shelf.old) (S.asked shelf.new)) }
     ensures valid { IfOk result (λ basins. IsValidBasin basins.0) }
     ensures second_valid { IfOk result (λ basins. IsValidBasin basins.1) }
     ensures text { IfOk result (λ basins. IfSome (S.known shelf.old inputs.entry.basin.now) (IsBasinText basins.0)) }
@@ -155,6 +161,8 @@ fn read_for_both<S: Shelf>(
     requires serves { ServesSeries (S.serves shelf.old) (option_map (λ n. n.now) name) }
     ensures same { SameShelf (S.known shelf.old) (S.known shelf.new) (S.serves shelf.old) (S.serves shelf.new) }
     ensures later { S.faults shelf.old ≤ S.faults shelf.new }
+    ensures reads { AskForEach (series_file (option_map (λ n. n.now) name.entry)) (S.asked shelf.old)
+        (S.asked shelf.new) }
     ensures fits { IfOk result (λ both. IsSeriesOf first.now both.0) }
     ensures second_fits { IfOk result (λ both. IsSeriesOf second.now both.1) }
     ensures text { IfOk result
@@ -188,6 +196,8 @@ pub fn read_pair<S: Shelf>(
     requires basin { S.serves shelf.old inputs.basin.now }
     requires series { ServesSeries (S.serves shelf.old) (option_map (λ n. n.now) inputs.series) }
     requires second { S.serves shelf.old second.now }
+    ensures up_to { IfErr result
+        (λ e. AskUpTo (pair_to (named inputs.entry) second.now) e (S.asked shelf.old) (S.asked shelf.new)) }
     ensures paired { IfOk result (λ pair. ArePaired (S.known shelf.old) (named inputs.entry) second.now pair) }
     ensures stops { IfErr result
         (λ e. StopsComparing (named inputs.entry) second.now e (S.known shelf.old)

@@ -1,11 +1,13 @@
 //! All that the program does.
-ghost use Rattle.std.specs.Prelude.{◌≡◌, ℕ, Some, map, string_bytes};
+ghost use Rattle.std.specs.Prelude.{◌≡◌, Some, map, string_bytes};
 ghost use Rattle.water_edge.specs.Edge.{Rose};
 ghost use Rattle.water_text.specs.Months.{IsMonth};
+ghost use Rattle.month_fold.specs.Works.{WorkDone};
 ghost use Rattle.basin_cli.specs.Command.{ServesFiles, calls, check, command_of, edit, ensemble, named, report, run};
 ghost use Rattle.basin_cli.specs.Command.{why};
-ghost use Rattle.basin_cli.specs.Out.{IsIdle, IsUnread, MayLeave};
-ghost use Rattle.basin_cli.specs.Outcome.{Completes, Ends, IsQuiet, PushesFor, WritesFor};
+ghost use Rattle.basin_cli.specs.Ending.{line_of};
+ghost use Rattle.basin_cli.specs.Out.{IsIdle, IsUnread, IsUntouchedOrFlushed, KeepsShown, MayLeave};
+ghost use Rattle.basin_cli.specs.Outcome.{Completes, Ends, IsQuiet, WorkFor, WritesErrLine, WritesFor};
 ghost use Rattle.basin_cli.specs.Serving.{Serves};
 
 use crate::actions::{ensemble_basin, list_basin, report_basin, run_basin, trial_basin};
@@ -18,67 +20,67 @@ use crate::explaining::{Account, explain_right};
 use crate::files::{read_file, read_inputs, read_record};
 use crate::status::Status;
 use crate::upgrading::do_upgrade;
+use month_fold::work::Work;
 use std::alloc::Global;
 use std::sync::ledger::Ledger;
-use steps::Steps;
 use water_edge::{Shelf, Sink};
 use water_text::month::Month;
 
 /// `run`: solves the months of a basin with its series and puts their result.
-fn do_run<S: Shelf, K: Sink, L: Ledger>(
+fn do_run<S: Shelf, K: Sink, P: Ledger, M: Ledger>(
     alloc: Global,
     inputs: Inputs,
     shelf: &mut S,
     out: &mut K,
-    searches: &mut Steps<L>,
+    work: &mut Work<P, M>,
 ) -> Ending
     requires { ServesFiles (S.serves shelf.old) (Some (run (named inputs))) }
     ensures { Serves S.Shelf K.Sink (Some (run (named inputs.entry))) result shelf.old shelf.new out.old out.new
-        searches.old searches.new }
+        work.old work.new }
 {
     let files = match read_inputs(alloc, shelf, inputs) {
         Ok(files) => files,
         Err(ending) => return ending,
     };
-    run_basin(alloc, &files.basin, &files.series, out, searches)
+    run_basin(alloc, &files.basin, &files.series, out, work)
 }
 
 /// `calls`: solves the months of a basin with its series and puts the list of their calls.
-fn do_calls<S: Shelf, K: Sink, L: Ledger>(
+fn do_calls<S: Shelf, K: Sink, P: Ledger, M: Ledger>(
     alloc: Global,
     inputs: Inputs,
     shelf: &mut S,
     out: &mut K,
-    searches: &mut Steps<L>,
+    work: &mut Work<P, M>,
 ) -> Ending
     requires { ServesFiles (S.serves shelf.old) (Some (calls (named inputs))) }
     ensures { Serves S.Shelf K.Sink (Some (calls (named inputs.entry))) result shelf.old shelf.new out.old out.new
-        searches.old searches.new }
+        work.old work.new }
 {
     let files = match read_inputs(alloc, shelf, inputs) {
         Ok(files) => files,
         Err(ending) => return ending,
     };
-    list_basin(alloc, &files.basin, &files.series, out, searches)
+    list_basin(alloc, &files.basin, &files.series, out, work)
 }
 
 /// `report`: solves the months of a basin with its series and puts a report on them.
-fn do_report<S: Shelf, K: Sink, L: Ledger>(
+fn do_report<S: Shelf, K: Sink, P: Ledger, M: Ledger>(
     alloc: Global,
     inputs: Inputs,
     shelf: &mut S,
     out: &mut K,
-    searches: &mut Steps<L>,
+    work: &mut Work<P, M>,
 ) -> Ending
     requires { ServesFiles (S.serves shelf.old) (Some (report (named inputs))) }
     ensures { Serves S.Shelf K.Sink (Some (report (named inputs.entry))) result shelf.old shelf.new out.old out.new
-        searches.old searches.new }
+        work.old work.new }
 {
     let files = match read_inputs(alloc, shelf, inputs) {
         Ok(files) => files,
         Err(ending) => return ending,
     };
-    report_basin(alloc, &files.basin, &files.series, out, searches)
+    report_basin(alloc, &files.basin, &files.series, out, work)
 }
 
 /// `check` and `audit`: reads a result, in parts, and puts whether it is the text of a history of a basin with its
@@ -92,8 +94,8 @@ fn do_check<S: Shelf, K: Sink>(
     out: &mut K,
 ) -> Ending
     requires { ServesFiles (S.serves shelf.old) (Some (check question (named inputs) result_name.now)) }
-    ensures { (count : ℕ) → Serves S.Shelf K.Sink (Some (check question (named inputs.entry) result_name.now)) result
-        shelf.old shelf.new out.old out.new count count }
+    ensures { (done : WorkDone) → Serves S.Shelf K.Sink (Some (check question (named inputs.entry) result_name.now)) result
+        shelf.old shelf.new out.old out.new done done }
 {
     let files = match read_inputs(alloc, shelf, inputs) {
         Ok(files) => files,
@@ -112,7 +114,7 @@ fn do_check<S: Shelf, K: Sink>(
 
 /// `why` and `where`: solves the months of a basin with its series up to one month, and puts why the right of this name
 /// got no more in it, or where one more unit of water would help it.
-fn do_why<S: Shelf, K: Sink, L: Ledger>(
+fn do_why<S: Shelf, K: Sink, P: Ledger, M: Ledger>(
     alloc: Global,
     account: Account,
     inputs: Inputs,
@@ -120,12 +122,12 @@ fn do_why<S: Shelf, K: Sink, L: Ledger>(
     right: &str,
     shelf: &mut S,
     out: &mut K,
-    searches: &mut Steps<L>,
+    work: &mut Work<P, M>,
 ) -> Ending
     requires files { ServesFiles (S.serves shelf.old) (Some (why account (named inputs) month right.now)) }
     requires month { IsMonth month }
     ensures { Serves S.Shelf K.Sink (Some (why account (named inputs.entry) month right.now)) result shelf.old shelf.new
-        out.old out.new searches.old searches.new }
+        out.old out.new work.old work.new }
 {
     let files = match read_inputs(alloc, shelf, inputs) {
         Ok(files) => files,
@@ -139,42 +141,42 @@ fn do_why<S: Shelf, K: Sink, L: Ledger>(
         month,
         right.as_bytes(),
         out,
-        searches,
+        work,
     )
 }
 
 /// `ensemble`: solves the record of a basin's gauges once from each of its years, and puts how often each yearly
 /// delivery came.
-fn do_ensemble<S: Shelf, K: Sink, L: Ledger>(
+fn do_ensemble<S: Shelf, K: Sink, P: Ledger, M: Ledger>(
     alloc: Global,
     inputs: Inputs,
     shelf: &mut S,
     out: &mut K,
-    searches: &mut Steps<L>,
+    work: &mut Work<P, M>,
 ) -> Ending
     requires { ServesFiles (S.serves shelf.old) (Some (ensemble (named inputs))) }
     ensures { Serves S.Shelf K.Sink (Some (ensemble (named inputs.entry))) result shelf.old shelf.new out.old out.new
-        searches.old searches.new }
+        work.old work.new }
 {
     let files = match read_record(alloc, shelf, inputs) {
         Ok(files) => files,
         Err(ending) => return ending,
     };
-    ensemble_basin(alloc, &files.basin, &files.series, out, searches)
+    ensemble_basin(alloc, &files.basin, &files.series, out, work)
 }
 
 /// `edit`: changes numbers of a basin's series as a script says, and puts the months that it shows.
-fn do_edit<S: Shelf, K: Sink, L: Ledger>(
+fn do_edit<S: Shelf, K: Sink, P: Ledger, M: Ledger>(
     alloc: Global,
     inputs: Inputs,
     script: &str,
     shelf: &mut S,
     out: &mut K,
-    searches: &mut Steps<L>,
+    work: &mut Work<P, M>,
 ) -> Ending
     requires { ServesFiles (S.serves shelf.old) (Some (edit (named inputs) script.now)) }
     ensures { Serves S.Shelf K.Sink (Some (edit (named inputs.entry) script.now)) result shelf.old shelf.new out.old
-        out.new searches.old searches.new }
+        out.new work.old work.new }
 {
     let files = match read_inputs(alloc, shelf, inputs) {
         Ok(files) => files,
@@ -184,27 +186,27 @@ fn do_edit<S: Shelf, K: Sink, L: Ledger>(
         Ok(text) => text,
         Err(ending) => return ending,
     };
-    edit_basin(alloc, &files.basin, &files.series, &text, out, searches)
+    edit_basin(alloc, &files.basin, &files.series, &text, out, work)
 }
 
 /// Does what the words say, and leaves err alone.
-fn decide<S: Shelf, K: Sink, L: Ledger>(
+fn decide<S: Shelf, K: Sink, P: Ledger, M: Ledger>(
     alloc: Global,
     words: &[String],
     shelf: &mut S,
     out: &mut K,
-    searches: &mut Steps<L>,
+    work: &mut Work<P, M>,
 ) -> Ending
     requires { ServesFiles (S.serves shelf.old) (command_of (map string_bytes words.now)) }
     ensures { Serves S.Shelf K.Sink (command_of (map string_bytes words.now)) result shelf.old shelf.new out.old out.new
-        searches.old searches.new }
+        work.old work.new }
 {
     match command(words) {
         None => Ending::Usage,
-        Some(Words::Run(inputs)) => do_run(alloc, inputs, shelf, out, searches),
-        Some(Words::Calls(inputs)) => do_calls(alloc, inputs, shelf, out, searches),
-        Some(Words::Report(inputs)) => do_report(alloc, inputs, shelf, out, searches),
-        Some(Words::Ensemble(inputs)) => do_ensemble(alloc, inputs, shelf, out, searches),
+        Some(Words::Run(inputs)) => do_run(alloc, inputs, shelf, out, work),
+        Some(Words::Calls(inputs)) => do_calls(alloc, inputs, shelf, out, work),
+        Some(Words::Report(inputs)) => do_report(alloc, inputs, shelf, out, work),
+        Some(Words::Ensemble(inputs)) => do_ensemble(alloc, inputs, shelf, out, work),
         Some(
             Words::Check {
                 question,
@@ -212,13 +214,11 @@ fn decide<S: Shelf, K: Sink, L: Ledger>(
                 result,
             },
         ) => do_check(alloc, question, inputs, result, shelf, out),
-        Some(Words::Edit { inputs, script }) => do_edit(
-            alloc, inputs, script, shelf, out, searches,
-        ),
+        Some(Words::Edit { inputs, script }) => do_edit(alloc, inputs, script, shelf, out, work),
         Some(Words::Upgrade(basin)) => do_upgrade(alloc, basin, shelf, out),
-        Some(Words::Trial { number, size }) => trial_basin(alloc, number, size, out, searches),
+        Some(Words::Trial { number, size }) => trial_basin(alloc, number, size, out, work),
         Some(Words::Compare { inputs, second }) => {
-            do_compare(alloc, inputs, second, shelf, out, searches)
+            do_compare(alloc, inputs, second, shelf, out, work)
         }
         Some(
             Words::Why {
@@ -227,27 +227,29 @@ fn decide<S: Shelf, K: Sink, L: Ledger>(
                 month,
                 right,
             },
-        ) => do_why(alloc, account, inputs, month, right, shelf, out, searches),
+        ) => do_why(alloc, account, inputs, month, right, shelf, out, work),
     }
 }
 
-/// All that the program does. The words are those after the program's name, and `searches` counts the pushes of
-/// searches.
-pub fn basin_main<S: Shelf, K: Sink, E: Sink, L: Ledger>(
+/// All that the program does. The words are those after the program's name, and `work` counts the months that are
+/// solved, and the pushes of searches.
+pub fn basin_main<S: Shelf, K: Sink, E: Sink, P: Ledger, M: Ledger>(
     alloc: Global,
     words: &[String],
     shelf: &mut S,
     out: &mut K,
     err: &mut E,
-    searches: &mut Steps<L>,
+    work: &mut Work<P, M>,
 ) -> Status
     // No other name is read than that of a file of the command.
     requires { ServesFiles (S.serves shelf.old) (command_of (map string_bytes words.now)) }
 
-    // The status is that of an ending that has its cause, and err got its line, or a prefix of it where err failed.
+    // The status is that of an ending that has its cause, and err got its line, or a prefix of it where err failed. An
+    // ending at a file comes after that file was asked for, and before any later one was.
     ensures ends { Ends (command_of (map string_bytes words.now)) result (S.known shelf.old)
         (Rose (S.faults shelf.old) (S.faults shelf.new)) (Rose (K.faults out.old) (K.faults out.new))
-        (E.taken err.old) (E.taken err.new) (E.faults err.old) (E.faults err.new) }
+        (S.asked shelf.old) (S.asked shelf.new)
+        (E.output err.old) (E.output err.new) (E.faults err.old) (E.faults err.new) }
     // Where nothing is refused and nothing fails, the call is done; a result that is checked or audited is judged as
     // what it is, and a comparison answers no exactly where somebody is injured.
     ensures complete { Completes (command_of (map string_bytes words.now)) result (S.known shelf.old)
@@ -256,28 +258,47 @@ pub fn basin_main<S: Shelf, K: Sink, E: Sink, L: Ledger>(
     // The text of records that keep the priority of rights, the list of their calls, a report on them, the answer to a
     // result, the comparison of two such lists of records, or the months that a script shows; or after a fault of out a
     // prefix of it. The months of a run and of a list of calls are written as they are solved.
-    ensures writes { WritesFor (command_of (map string_bytes words.now)) result (S.known shelf.old) (K.taken out.old)
-        (K.taken out.new) searches.old searches.new }
+    ensures writes { WritesFor (command_of (map string_bytes words.now)) result (S.known shelf.old) (K.output out.old)
+        (K.output out.new) work.old work.new }
     ensures out_stays { (MayLeave (command_of (map string_bytes words.now)) result → ⊥) → out.new ≡ out.old }
     ensures err_stays { IsQuiet result → err.new ≡ err.old }
 
-    // Done and no come only where all that was put was flushed; the line on err was flushed unless err failed.
-    ensures flushed { IsQuiet result → K.flushed out.new ≡ K.taken out.new }
+    // Done and no come only where all that was put was flushed, and where memory ran out the months that a script showed
+    // were, unless out failed; the line on err was flushed unless err failed.
+    ensures flushed { IsQuiet result → (K.output out.new).flushed ≡ (K.output out.new).taken }
+    ensures shown { KeepsShown (command_of (map string_bytes words.now)) result
+        (Rose (K.faults out.old) (K.faults out.new)) (IsUntouchedOrFlushed out.old out.new (K.output out.new)) }
     ensures err_flushed { (IsQuiet result → ⊥) → (Rose (E.faults err.old) (E.faults err.new) → ⊥) →
-        E.flushed err.new ≡ E.taken err.new }
+        (E.output err.new).flushed ≡ (E.output err.new).taken }
 
     // Want of memory says nothing of a result: it was not asked for.
     ensures unread { IsUnread (command_of (map string_bytes words.now)) result (S.asked shelf.old) (S.asked shelf.new) }
 
     // Where words, a file or a script are refused or not read, nothing is solved; of a run, a report, a trial and an
-    // account want of memory comes before a month is solved, or not at all. Each month that is solved has at most as
-    // many pushes as its bound allows, and a check or an audit has none.
-    ensures idle { IsIdle (command_of (map string_bytes words.now)) result → searches.new ≡ searches.old }
-    ensures pushes { PushesFor (command_of (map string_bytes words.now)) (S.known shelf.old) searches.old searches.new }
+    // account want of memory comes before a month is solved, or not at all. No month is solved that isn't needed: of a
+    // run and a list of calls those that were written, of an account those up to the month asked for, of a comparison
+    // those of both runs, of an ensemble a run for each year, of a script as many as it costs, and of a check or an
+    // audit none. Each has at most as many pushes as its bound allows.
+    ensures idle { IsIdle (command_of (map string_bytes words.now)) result → work.new ≡ work.old }
+    ensures work { WorkFor (command_of (map string_bytes words.now)) (S.known shelf.old) work.old work.new }
 {
-    let ending = decide(alloc, words, shelf, out, searches);
+    let ending = decide(alloc, words, shelf, out, work);
     if ending.has_line_on_err() {
         print_ending(&ending, err);
     }
+    ending.status()
+}
+
+/// All that the program does where it has no memory for its words: err gets the line for that, or a prefix of it where
+/// err fails.
+pub fn without_words<E: Sink>(err: &mut E) -> Status
+    ensures status { result ≡ Status.OutOfMemory }
+    ensures writes { WritesErrLine (E.output err.old) (E.output err.new) (E.faults err.old) (E.faults err.new)
+        (line_of Ending.OutOfMemory) }
+    ensures err_flushed { (Rose (E.faults err.old) (E.faults err.new) → ⊥) →
+        (E.output err.new).flushed ≡ (E.output err.new).taken }
+{
+    let ending = Ending::OutOfMemory;
+    print_ending(&ending, err);
     ending.status()
 }

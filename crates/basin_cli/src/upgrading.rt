@@ -1,5 +1,6 @@
 //! Basin files in format 2.
-ghost use Rattle.std.specs.Prelude.{ℕ, Some};
+ghost use Rattle.std.specs.Prelude.{Some};
+ghost use Rattle.month_fold.specs.Works.{WorkDone};
 ghost use Rattle.basin_cli.specs.Command.{ServesFiles, upgrade};
 ghost use Rattle.basin_cli.specs.Serving.{Serves};
 
@@ -18,8 +19,8 @@ pub fn do_upgrade<S: Shelf, K: Sink>(
     out: &mut K,
 ) -> Ending
     requires { ServesFiles (S.serves shelf.old) (Some (upgrade name.now)) }
-    ensures { (count : ℕ) → Serves S.Shelf K.Sink (Some (upgrade name.now)) result shelf.old shelf.new out.old out.new
-        count count }
+    ensures { (done : WorkDone) → Serves S.Shelf K.Sink (Some (upgrade name.now)) result shelf.old shelf.new out.old out.new
+        done done }
 {
     let basin = match read_basin_file(alloc, shelf, name) {
         Ok(basin) => basin,

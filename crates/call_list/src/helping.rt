@@ -138,7 +138,7 @@ fn link_line(basin: &Basin, reach: &CutList, core: &CutList, right: u32, link: u
 fn put_line<K: Sink>(sink: &mut K, basin: &Basin, line: Option<Entry>) -> Result<(), SinkFailed>
     requires basin { IsValidBasin basin.now }
     requires line { IfSome line (IsOfBasin basin.now) }
-    ensures text { Puts (K.taken sink.old) (K.taken sink.new) result
+    ensures text { Puts (K.output sink.old) (K.output sink.new) result
         (flat_map (whole_line basin.now) (option_to_list line)) }
     ensures cause { HasCause (K.faults sink.old) (K.faults sink.new) (IsErr result) }
 {
@@ -157,7 +157,7 @@ fn put_nodes<K: Sink>(
 ) -> Result<(), SinkFailed>
     requires basin { IsValidBasin basin.now }
     requires core { HasCut basin.now core.now right }
-    ensures text { Puts (K.taken sink.old) (K.taken sink.new) result
+    ensures text { Puts (K.output sink.old) (K.output sink.new) result
         (flat_map (whole_line basin.now)
         (flat_map (node_lines (cut_at core.now right)) (indices_of basin.now.nodes))) }
     ensures cause { HasCause (K.faults sink.old) (K.faults sink.new) (IsErr result) }
@@ -179,7 +179,7 @@ fn put_links<K: Sink>(
     requires basin { IsValidBasin basin.now }
     requires reach { HasCut basin.now reach.now right }
     requires core { HasCut basin.now core.now right }
-    ensures text { Puts (K.taken sink.old) (K.taken sink.new) result
+    ensures text { Puts (K.output sink.old) (K.output sink.new) result
         (flat_map (whole_line basin.now)
         (flat_map (link_lines basin.now (cut_at reach.now right) (cut_at core.now right))
         (indices_of basin.now.links))) }
@@ -219,7 +219,7 @@ fn put_indices<K: Sink>(
     requires month { FitsText basin.now month.now }
     requires reach { HasCut basin.now month.now.cuts right }
     requires core { HasCut basin.now core.now right }
-    ensures text { Puts (K.taken sink.old) (K.taken sink.new) result
+    ensures text { Puts (K.output sink.old) (K.output sink.new) result
         (flat_map (whole_line basin.now)
         (helping_lines basin.now month.now right (cut_at month.now.cuts right) (cut_at core.now right))) }
     ensures cause { HasCause (K.faults sink.old) (K.faults sink.new) (IsErr result) }
@@ -253,7 +253,7 @@ pub fn put_helping<K: Sink>(
     requires right { right < length basin.now.rights }
     requires short { IsShort month.now right }
     ensures text { (text : List ℕ) × IsHelpingText basin.now month.now right text ×
-        Puts (K.taken sink.old) (K.taken sink.new) result text }
+        Puts (K.output sink.old) (K.output sink.new) result text }
     ensures cause { HasCause (K.faults sink.old) (K.faults sink.new) (IsErr result) }
     ensures finder { IsHelpFinderOf basin.now finder.new }
 {

@@ -23,7 +23,7 @@ pub(crate) fn put_entry<K: Sink>(
 ) -> Result<(), SinkFailed>
     requires basin { IsValidBasin basin.now }
     requires entry { IsOfBasin basin.now entry }
-    ensures text { Puts (K.taken sink.old) (K.taken sink.new) result (whole_line basin.now entry) }
+    ensures text { Puts (K.output sink.old) (K.output sink.new) result (whole_line basin.now entry) }
     ensures cause { HasCause (K.faults sink.old) (K.faults sink.new) (IsErr result) }
 {
     let mut line = Line::new();
@@ -39,7 +39,7 @@ fn put_line<K: Sink>(
     position: u32,
 ) -> Result<(), SinkFailed>
     requires { position < count_in part calls.now.basin }
-    ensures text { Puts (K.taken sink.old) (K.taken sink.new) result
+    ensures text { Puts (K.output sink.old) (K.output sink.new) result
         (bytes_of calls.now (lines_of calls.now part position)) }
     ensures cause { HasCause (K.faults sink.old) (K.faults sink.new) (IsErr result) }
 {
@@ -52,7 +52,7 @@ fn put_line<K: Sink>(
 /// Puts the lines of a part whose indices are those of nodes or links, in the order of the basin.
 fn put_indices<K: Sink>(sink: &mut K, calls: &MonthCalls, part: Part) -> Result<(), SinkFailed>
     requires { indices_in part calls.now.basin ≡ numbers_from 0 (count_in part calls.now.basin) }
-    ensures text { Puts (K.taken sink.old) (K.taken sink.new) result (bytes_of calls.now (part_of calls.now part)) }
+    ensures text { Puts (K.output sink.old) (K.output sink.new) result (bytes_of calls.now (part_of calls.now part)) }
     ensures cause { HasCause (K.faults sink.old) (K.faults sink.new) (IsErr result) }
 {
     let count = calls.count_in(part);
@@ -66,7 +66,7 @@ fn put_indices<K: Sink>(sink: &mut K, calls: &MonthCalls, part: Part) -> Result<
 fn put_rights<K: Sink>(sink: &mut K, calls: &MonthCalls, part: Part) -> Result<(), SinkFailed>
     requires order { indices_in part calls.now.basin ≡ seniors_first calls.now.basin }
     requires count { count_in part calls.now.basin ≡ length calls.now.basin.rights }
-    ensures text { Puts (K.taken sink.old) (K.taken sink.new) result (bytes_of calls.now (part_of calls.now part)) }
+    ensures text { Puts (K.output sink.old) (K.output sink.new) result (bytes_of calls.now (part_of calls.now part)) }
     ensures cause { HasCause (K.faults sink.old) (K.faults sink.new) (IsErr result) }
 {
     let order = calls.by_seniority();
@@ -78,7 +78,7 @@ fn put_rights<K: Sink>(sink: &mut K, calls: &MonthCalls, part: Part) -> Result<(
 
 /// Puts the lines of a part.
 fn put_part<K: Sink>(sink: &mut K, calls: &MonthCalls, part: Part) -> Result<(), SinkFailed>
-    ensures text { Puts (K.taken sink.old) (K.taken sink.new) result (bytes_of calls.now (part_of calls.now part)) }
+    ensures text { Puts (K.output sink.old) (K.output sink.new) result (bytes_of calls.now (part_of calls.now part)) }
     ensures cause { HasCause (K.faults sink.old) (K.faults sink.new) (IsErr result) }
 {
     match part {
@@ -89,7 +89,7 @@ fn put_part<K: Sink>(sink: &mut K, calls: &MonthCalls, part: Part) -> Result<(),
 
 /// Puts all lines between the first and the last of a month, part by part.
 fn put_parts<K: Sink>(sink: &mut K, calls: &MonthCalls) -> Result<(), SinkFailed>
-    ensures text { Puts (K.taken sink.old) (K.taken sink.new) result (bytes_of calls.now (parts_of calls.now)) }
+    ensures text { Puts (K.output sink.old) (K.output sink.new) result (bytes_of calls.now (parts_of calls.now)) }
     ensures cause { HasCause (K.faults sink.old) (K.faults sink.new) (IsErr result) }
 {
     for part in PARTS.iter() {
@@ -105,7 +105,7 @@ fn put_parts<K: Sink>(sink: &mut K, calls: &MonthCalls) -> Result<(), SinkFailed
 /// Each line is one `put`. `SinkFailed` comes only where the sink counted a fault; a prefix of the list was then put.
 /// The cost is linear in nodes, links and rights, and no memory is taken.
 pub fn put_month<K: Sink>(sink: &mut K, calls: &MonthCalls) -> Result<(), SinkFailed>
-    ensures text { Puts (K.taken sink.old) (K.taken sink.new) result
+    ensures text { Puts (K.output sink.old) (K.output sink.new) result
         (month_bytes calls.now.basin calls.now.month calls.now.found) }
     ensures cause { HasCause (K.faults sink.old) (K.faults sink.new) (IsErr result) }
 {
@@ -118,7 +118,7 @@ pub fn put_month<K: Sink>(sink: &mut K, calls: &MonthCalls) -> Result<(), SinkFa
 /// Puts the first line of a list.
 pub fn put_head<K: Sink>(sink: &mut K, basin: &Basin) -> Result<(), SinkFailed>
     requires { IsValidBasin basin.now }
-    ensures text { Puts (K.taken sink.old) (K.taken sink.new) result (head_bytes basin.now) }
+    ensures text { Puts (K.output sink.old) (K.output sink.new) result (head_bytes basin.now) }
     ensures cause { HasCause (K.faults sink.old) (K.faults sink.new) (IsErr result) }
 {
     let entry = Entry::Calls {
@@ -131,7 +131,7 @@ pub fn put_head<K: Sink>(sink: &mut K, basin: &Basin) -> Result<(), SinkFailed>
 /// Puts the last line of a list.
 pub fn put_tail<K: Sink>(sink: &mut K, basin: &Basin) -> Result<(), SinkFailed>
     requires { IsValidBasin basin.now }
-    ensures text { Puts (K.taken sink.old) (K.taken sink.new) result (tail_bytes basin.now) }
+    ensures text { Puts (K.output sink.old) (K.output sink.new) result (tail_bytes basin.now) }
     ensures cause { HasCause (K.faults sink.old) (K.faults sink.new) (IsErr result) }
 {
     let entry = Entry::Done {

@@ -152,6 +152,14 @@ impl<'b> Checker<'b> {
         }
     }
 
+    /// How many lines may still be accepted, at most: for each line that is due one, and for a `call` line one more for
+    /// each node. It falls by one with each accepted line.
+    pub fn lines_left(&self) -> u64
+        ensures { result ≡ lines_left self.now }
+    {
+        self.progress.reader.lines_left()
+    }
+
     /// What the lines so far are, with this rest after the last line feed, as a whole text: the number of months where
     /// they are the text of a history, or why not. It changes nothing.
     pub fn finish(&self, rest: &[u8]) -> Result<u32, Refuted>

@@ -24,7 +24,7 @@ use water_text::line::Line;
 /// Puts the line of an entry.
 fn put_entry<K: Sink>(sink: &mut K, shortage: &Shortage, entry: BookLine) -> Result<(), SinkFailed>
     requires { IsOfBasin shortage.now.basin entry }
-    ensures text { Puts (K.taken sink.old) (K.taken sink.new) result (bytes_of shortage.now (entry ∷ [])) }
+    ensures text { Puts (K.output sink.old) (K.output sink.new) result (bytes_of shortage.now (entry ∷ [])) }
     ensures cause { HasCause (K.faults sink.old) (K.faults sink.new) (IsErr result) }
 {
     let mut line = Line::new();
@@ -40,7 +40,7 @@ fn put_line<K: Sink>(
     index: u32,
 ) -> Result<(), SinkFailed>
     requires { index < count_in part shortage.now.basin }
-    ensures text { Puts (K.taken sink.old) (K.taken sink.new) result
+    ensures text { Puts (K.output sink.old) (K.output sink.new) result
         (bytes_of shortage.now (lines_of shortage.now part index)) }
     ensures cause { HasCause (K.faults sink.old) (K.faults sink.new) (IsErr result) }
 {
@@ -53,7 +53,7 @@ fn put_line<K: Sink>(
 /// Puts the lines of a part whose indices are those of nodes or links, in the order of the basin.
 fn put_indices<K: Sink>(sink: &mut K, shortage: &Shortage, part: Part) -> Result<(), SinkFailed>
     requires { indices_in part shortage.now.basin ≡ numbers_from 0 (count_in part shortage.now.basin) }
-    ensures text { Puts (K.taken sink.old) (K.taken sink.new) result
+    ensures text { Puts (K.output sink.old) (K.output sink.new) result
         (bytes_of shortage.now (part_of shortage.now part)) }
     ensures cause { HasCause (K.faults sink.old) (K.faults sink.new) (IsErr result) }
 {
@@ -66,7 +66,7 @@ fn put_indices<K: Sink>(sink: &mut K, shortage: &Shortage, part: Part) -> Result
 
 /// Puts the lines of takes, seniors first.
 fn put_takes<K: Sink>(sink: &mut K, shortage: &Shortage) -> Result<(), SinkFailed>
-    ensures text { Puts (K.taken sink.old) (K.taken sink.new) result
+    ensures text { Puts (K.output sink.old) (K.output sink.new) result
         (bytes_of shortage.now (part_of shortage.now Part.Takes)) }
     ensures cause { HasCause (K.faults sink.old) (K.faults sink.new) (IsErr result) }
 {
@@ -79,7 +79,7 @@ fn put_takes<K: Sink>(sink: &mut K, shortage: &Shortage) -> Result<(), SinkFaile
 
 /// Puts the lines of a part.
 fn put_part<K: Sink>(sink: &mut K, shortage: &Shortage, part: Part) -> Result<(), SinkFailed>
-    ensures text { Puts (K.taken sink.old) (K.taken sink.new) result
+    ensures text { Puts (K.output sink.old) (K.output sink.new) result
         (bytes_of shortage.now (part_of shortage.now part)) }
     ensures cause { HasCause (K.faults sink.old) (K.faults sink.new) (IsErr result) }
 {
@@ -91,7 +91,7 @@ fn put_part<K: Sink>(sink: &mut K, shortage: &Shortage, part: Part) -> Result<()
 
 /// Puts all terms of the bound of a right's set, part by part.
 fn put_terms<K: Sink>(sink: &mut K, shortage: &Shortage) -> Result<(), SinkFailed>
-    ensures text { Puts (K.taken sink.old) (K.taken sink.new) result
+    ensures text { Puts (K.output sink.old) (K.output sink.new) result
         (bytes_of shortage.now (terms_of shortage.now)) }
     ensures cause { HasCause (K.faults sink.old) (K.faults sink.new) (IsErr result) }
 {
@@ -121,7 +121,7 @@ pub fn put_account<K: Sink>(
     requires cut { HasCut basin.now cuts.now right }
     requires tight { IsTight basin.now month.now.month month.now.supply month.now.delivered right
         (cut_at cuts.now right) }
-    ensures text { Puts (K.taken sink.old) (K.taken sink.new) result
+    ensures text { Puts (K.output sink.old) (K.output sink.new) result
         (account_bytes basin.now month.now right (cut_at cuts.now right)) }
     ensures cause { HasCause (K.faults sink.old) (K.faults sink.new) (IsErr result) }
 {
@@ -155,7 +155,7 @@ pub fn put_book<K: Sink>(
     requires cut { HasCut basin.now month.now.cuts right }
     requires tight { IsTight basin.now month.now.month month.now.supply month.now.delivered right
         (cut_at month.now.cuts right) }
-    ensures text { Puts (K.taken sink.old) (K.taken sink.new) result
+    ensures text { Puts (K.output sink.old) (K.output sink.new) result
         (book_bytes basin.now month.now right (cut_at month.now.cuts right)) }
     ensures cause { HasCause (K.faults sink.old) (K.faults sink.new) (IsErr result) }
 {

@@ -1,5 +1,5 @@
 //! A whole script.
-ghost use Rattle.std.specs.Prelude.{◌≡◌, ◌≤◌, All, length, Ok, Err, MatchResult, IfOk};
+ghost use Rattle.std.specs.Prelude.{◌≡◌, All, Ok, Err, MatchResult, IfOk};
 ghost use Rattle.water_model.specs.Valid.{IsValidBasin, IsSeriesOf};
 ghost use Rattle.edit_script.specs.Edits.{IsValidEdit};
 ghost use Rattle.edit_script.specs.Lines.{edit_of};
@@ -58,7 +58,6 @@ fn read_edits(
 ) -> Result<Vec<Edit>, ScriptRefused>
     requires basin { IsValidBasin names.now.basin.now }
     requires series { IsSeriesOf names.now.basin.now series.now }
-    requires small { length text.now ≤ 67108864 }
     ensures reads { MatchResult result
         (λ edits. edits_from names.now.basin.now series.now 2 (lines_of text.now) ≡ Ok edits.items)
         (IsRefusalOf (edits_from names.now.basin.now series.now 2 (lines_of text.now))) }
@@ -93,7 +92,6 @@ pub fn read_script(
 ) -> Result<Vec<Edit>, ScriptRefused>
     requires basin { IsValidBasin basin.now }
     requires series { IsSeriesOf basin.now series.now }
-    requires small { length text.now ≤ 67108864 }
     ensures reads { MatchResult result (λ edits. script_of basin.now series.now text.now ≡ Ok edits.items)
         (IsRefusalOf (script_of basin.now series.now text.now)) }
     ensures placed { IfOk result (λ edits. All (IsValidEdit basin.now series.now) edits.items) }

@@ -5,15 +5,15 @@ ghost use Rattle.rights_roll.specs.Rolls.{IsRollOf};
 ghost use Rattle.water_model.specs.Valid.{IsValidBasin, IsSeriesOf};
 ghost use Rattle.edit_script.specs.Edits.{with_inflow, with_want};
 ghost use Rattle.edit_session.specs.Sessions.{HasKeptMonths, records_of};
-ghost use Rattle.senior_hold.specs.MonthNetwork.{month_pushes};
+ghost use Rattle.month_fold.specs.Works.{Solves};
 
 use crate::solving::solve_months;
 use month_fold::engine::Engine;
+use month_fold::work::Work;
 use rights_roll::roll::Roll;
 use std::alloc::{AllocError, Global};
 use std::marker::Model;
 use std::sync::ledger::Ledger;
-use steps::Steps;
 use water_model::rows::Rows;
 use water_model::types::{Basin, Inflows, MonthRecord};
 
@@ -157,14 +157,14 @@ impl<'b> Session<'b> {
     }
 
     /// Solves the months up to this one that are not kept yet. The records that were kept stay as they are, and no
-    /// month of theirs is solved again. Each search that finds a walk ticks `searches` once.
+    /// month of theirs is solved again: `work` counts the months that are.
     ///
     /// AllocError comes only where memory is lacking. Some months more may be kept then, and the session can go on.
-    pub fn solve<L: Ledger>(
+    pub fn solve<P: Ledger, M: Ledger>(
         &mut self,
         alloc: Global,
         index: u32,
-        searches: &mut Steps<L>,
+        work: &mut Work<P, M>,
     ) -> Result<(), AllocError>
         requires { index < self.old.basin.months }
         ensures basin { self.new.basin ≡ self.old.basin }
@@ -173,8 +173,7 @@ impl<'b> Session<'b> {
         ensures solved { OnOk result (length self.new.kept ≡ max (length self.old.kept) (index + 1)) }
         ensures bounded { length self.new.kept ≤ max (length self.old.kept) (index + 1) }
         ensures history { HasKeptMonths self.new }
-        ensures pushes { searches.new ≤ searches.old + (index + 1 - length self.old.kept) * month_pushes
-            self.old.basin }
+        ensures work { Solves (index + 1 - length self.old.kept) self.old.basin work.old work.new }
     {
         if index < self.solved() {
             return Ok(());
@@ -185,7 +184,7 @@ impl<'b> Session<'b> {
             &self.series,
             index + 1,
             &mut self.kept,
-            searches,
+            work,
         )
     }
 }

@@ -1,25 +1,25 @@
 //! Months solved and kept.
-ghost use Rattle.std.specs.Prelude.{◌≡◌, ◌+◌, ◌-◌, ◌*◌, ◌<◌, ◌≤◌, take, vec_len, OnOk, OnErr};
+ghost use Rattle.std.specs.Prelude.{◌≡◌, ◌+◌, ◌-◌, ◌<◌, ◌≤◌, take, vec_len, OnOk, OnErr};
 ghost use Rattle.water_model.specs.Valid.{IsValidBasin, IsSeriesOf};
 ghost use Rattle.month_fold.specs.Runs.{RunStandsFor, run_with};
+ghost use Rattle.month_fold.specs.Works.{Solves};
 ghost use Rattle.edit_session.specs.Sessions.{HasKeptMonths, records_of};
-ghost use Rattle.senior_hold.specs.MonthNetwork.{month_pushes};
 
 use month_fold::engine::Engine;
+use month_fold::work::Work;
 use std::alloc::{AllocError, Global};
 use std::sync::ledger::Ledger;
-use steps::Steps;
 use water_model::types::{Inflows, MonthRecord};
 
 /// Solves the month of this index, after those that are kept, and keeps its record too. After an AllocError those
 /// before are kept.
-fn add_month<L: Ledger>(
+fn add_month<P: Ledger, M: Ledger>(
     alloc: Global,
     engine: &mut Engine,
     series: &Inflows,
     index: u32,
     kept: &mut Vec<Box<MonthRecord>>,
-    searches: &mut Steps<L>,
+    work: &mut Work<P, M>,
 ) -> Result<(), AllocError>
     requires left { index < engine.old.basin.months }
     requires stands { RunStandsFor (run_with engine.old series.now index) (records_of kept.old.items) }
@@ -28,22 +28,22 @@ fn add_month<L: Ledger>(
     ensures stay { take (vec_len kept.old) kept.new.items ≡ kept.old.items }
     ensures count { OnOk result (vec_len kept.new ≡ vec_len kept.old + 1) }
     ensures same { OnErr result (kept.new.items ≡ kept.old.items) }
-    ensures pushes { searches.new ≤ searches.old + month_pushes engine.old.basin }
+    ensures work { Solves 1 engine.old.basin work.old work.new }
 {
-    engine.step(series, index, searches);
+    engine.step(series, index, work);
     kept.push(engine.month().copy(alloc)?)?;
     Ok(())
 }
 
 /// Solves the months after those that are kept until `count` are kept. After an AllocError some months more may be
 /// kept.
-pub fn solve_months<L: Ledger>(
+pub fn solve_months<P: Ledger, M: Ledger>(
     alloc: Global,
     engine: &mut Engine,
     series: &Inflows,
     count: u32,
     kept: &mut Vec<Box<MonthRecord>>,
-    searches: &mut Steps<L>,
+    work: &mut Work<P, M>,
 ) -> Result<(), AllocError>
     requires basin { IsValidBasin engine.old.basin }
     requires series { IsSeriesOf engine.old.basin series.now }
@@ -63,11 +63,11 @@ pub fn solve_months<L: Ledger>(
     ensures stay { take (vec_len kept.old) kept.new.items ≡ kept.old.items }
     ensures solved { OnOk result (vec_len kept.new ≡ count) }
     ensures bounded { vec_len kept.new ≤ count }
-    ensures pushes { searches.new ≤ searches.old + (count - vec_len kept.old) * month_pushes engine.old.basin }
+    ensures work { Solves (count - vec_len kept.old) engine.old.basin work.old work.new }
 {
     engine.start_after(kept.as_slice());
     for index in kept.len() as u32..count {
-        add_month(alloc, engine, series, index, kept, searches)?;
+        add_month(alloc, engine, series, index, kept, work)?;
     }
     Ok(())
 }

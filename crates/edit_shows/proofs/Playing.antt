@@ -1,13 +1,13 @@
 -- A script answered line by line.
 use Rattle.std.proofs.Common.{◌≡◌, ℕ, zero, suc, ◌+◌, ◌*◌, ◌<◌, ◌≤◌, refl, sym, ap, subst, ◌∙◌, arith, List, [], ◌∷◌}
 use Rattle.std.proofs.Common.{◌++◌, length, take, drop, get_or, append-nil, add-one, drop-cons, inr}
-use Rattle.std.specs.Prelude.{Option, Some, Ok, Err, All, slice_get}
-use Rattle.std.specs.Io.KnownBytes.{Appends}
+use Rattle.std.specs.Prelude.{Some, Ok, Err, All, slice_get}
 use Rattle.std.specs.List.{flat_map}
 use Rattle.std.proofs.lemmas.Grind.{flat_map-append}
 use Rattle.std.proofs.lemmas.List.{take_more, length-take}
 use Rattle.std.proofs.Math.Nat.{add-mul}
-use Rattle.std.proofs.KnownBytes.{Appends-nil, Appends-trans}
+use Rattle.water_edge.specs.Edge.{Extends, Output}
+use Rattle.water_edge.proofs.Outputs.{Extends-nil, Extends-trans}
 use Rattle.water_model.specs.Spelling.{whole_line}
 use Rattle.water_model.specs.Text.{items_of_month}
 use Rattle.water_model.specs.Valid.{IsValidBasin}
@@ -21,6 +21,8 @@ use Rattle.edit_script.specs.Edits.{IsValidEdit, cost_from, edited, edited_by, k
 use Rattle.edit_script.specs.declared.edit.Edit.{Edit}
 use Rattle.edit_script.specs.declared.edit.Edit.TheVariants.{Inflow, Want, Show}
 use Rattle.edit_session.specs.Sessions.{HasKeptMonths, SessionView}
+use Rattle.month_fold.specs.Works.{Solves, WorkDone}
+use Rattle.senior_hold.specs.MonthNetwork.{month_pushes}
 use Rattle.edit_shows.proofs.Agreeing.{runs_agree}
 use Rattle.edit_shows.specs.Shown.{Answers, AnswersWhole, AreShown, HaveShown, IsMonthOf, PutsPrefix, done_bytes}
 use Rattle.edit_shows.specs.Shown.{months_bytes, shows_in}
@@ -64,20 +66,20 @@ placed_after b series [] e h = h
 placed_after b series (d ∷ ds) e h = placed_after b (edited_by series d) ds e (placed_by b series d e h)
 
 -- the first lines were answered
-pub record IsPlayed (b : Basin) (series now : Inflows) (edits : List Edit) (old new : Option (List ℕ)) (i : ℕ) : Type 0
+pub record IsPlayed (b : Basin) (series now : Inflows) (edits : List Edit) (old new : Output) (i : ℕ) : Type 0
   where
     pub shown : List MonthRecord
     pub are : AreShown b series (take i edits) shown
     pub edited : now ≡ edited series (take i edits)
-    pub put : Appends old new (months_bytes b shown)
+    pub put : Extends old new (months_bytes b shown)
 
-pub played_none : (b : Basin) (series : Inflows) (edits : List Edit) (old : Option (List ℕ)) →
+pub played_none : (b : Basin) (series : Inflows) (edits : List Edit) (old : Output) →
     IsPlayed b series series edits old old 0
 played_none b series edits old = record {
   shown = [];
   are = none edits;
   edited = same edits;
-  put = Appends-nil old;
+  put = Extends-nil old;
 }
   where
     none : (es : List Edit) → AreShown b series (take 0 es) []
@@ -88,7 +90,7 @@ played_none b series edits old = record {
     same [] = refl
     same (e ∷ es) = refl
 
-pub next_placed : (b : Basin) (series now : Inflows) (edits : List Edit) (old new : Option (List ℕ)) (i : ℕ)
+pub next_placed : (b : Basin) (series now : Inflows) (edits : List Edit) (old new : Output) (i : ℕ)
     (e : Edit) → IsPlayed b series now edits old new i →
     All (IsValidEdit b series) edits → i < length edits → e ≡ get_or edits i e → IsValidEdit b now e
 next_placed b series now edits old new i e played placed l is =
@@ -99,7 +101,7 @@ one_more : (edits : List Edit) (i : ℕ) (e : Edit) → i < length edits → e �
     take (i + 1) edits ≡ take i edits ++ e ∷ []
 one_more edits i e l is = take_more edits i e l ∙ ap (λ x. take i edits ++ x ∷ []) (sym is)
 
-pub played_more : (b c : Basin) (series now then' : Inflows) (edits : List Edit) (old mid new : Option (List ℕ)) (i : ℕ)
+pub played_more : (b c : Basin) (series now then' : Inflows) (edits : List Edit) (old mid new : Output) (i : ℕ)
     (e : Edit) (u : Unit {0}) → c ≡ b →
     IsPlayed b series now edits old mid i → i < length edits → e ≡ get_or edits i e →
     Answers c now (e ∷ []) (Ok u) mid new → then' ≡ edited_by now e →
@@ -112,15 +114,15 @@ played_more b c series now then' edits old mid new i e u same played l is shows 
   edited = next
       ∙ (ap (λ s. edited_by s e) played.edited
       ∙ (sym (edited_after series (take i edits) (e ∷ [])) ∙ ap (edited series) (sym (one_more edits i e l is))));
-  put = subst (λ (bytes : List ℕ). Appends old new bytes) (sym (bytes_after b played.shown answers.0))
-      (Appends-trans old mid new _ _ played.put answers.2);
+  put = subst (λ (bytes : List ℕ). Extends old new bytes) (sym (bytes_after b played.shown answers.0))
+      (Extends-trans old mid new _ _ played.put answers.2);
 }
   where
     answers : Answers b now (e ∷ []) (Ok u) mid new
     answers = subst (λ (x : Basin). Answers x now (e ∷ []) (Ok u) mid new) same shows
 
 -- months shown by the line at i, and those before it
-have_more : (b : Basin) (series now : Inflows) (edits : List Edit) (old mid : Option (List ℕ)) (i : ℕ) (e : Edit)
+have_more : (b : Basin) (series now : Inflows) (edits : List Edit) (old mid : Output) (i : ℕ) (e : Edit)
     (ys : List MonthRecord) →
     (played : IsPlayed b series now edits old mid i) → i < length edits → e ≡ get_or edits i e →
     HaveShown b now (e ∷ []) ys → HaveShown b series edits (played.shown ++ ys)
@@ -151,7 +153,7 @@ have_more b series now edits old mid i e ys played l is have =
               (shown_after b series (take i edits) (e ∷ []) played.shown ys played.are h);
         }
 
-stops_at : (b : Basin) (series now : Inflows) (edits : List Edit) (old mid new : Option (List ℕ)) (i : ℕ)
+stops_at : (b : Basin) (series now : Inflows) (edits : List Edit) (old mid new : Output) (i : ℕ)
     (e : Edit) (why : EditStop) →
     IsPlayed b series now edits old mid i → i < length edits → e ≡ get_or edits i e →
     Answers b now (e ∷ []) (Err why) mid new → Answers b series edits (Err why) old new
@@ -164,12 +166,12 @@ stops_at b series now edits old mid new i e stop.SinkFailed played l is answers 
 stops_at b series now edits old mid new i e stop.OutOfMemory played l is answers = (
   played.shown ++ answers.0,
   have_more b series now edits old mid i e answers.0 played l is answers.1,
-  subst (λ (bytes : List ℕ). Appends old new bytes) (sym (bytes_after b played.shown answers.0))
-      (Appends-trans old mid new _ _ played.put answers.2),
+  subst (λ (bytes : List ℕ). Extends old new bytes) (sym (bytes_after b played.shown answers.0))
+      (Extends-trans old mid new _ _ played.put answers.2),
 )
 
 -- of a session whose basin is still the same
-pub played_stops : (b c : Basin) (series now : Inflows) (edits : List Edit) (old mid new : Option (List ℕ)) (i : ℕ)
+pub played_stops : (b c : Basin) (series now : Inflows) (edits : List Edit) (old mid new : Output) (i : ℕ)
     (e : Edit) (why : EditStop) → c ≡ b →
     IsPlayed b series now edits old mid i → i < length edits → e ≡ get_or edits i e →
     Answers c now (e ∷ []) (Err why) mid new → Answers b series edits (Err why) old new
@@ -177,8 +179,8 @@ played_stops b c series now edits old mid new i e why same played l is answers =
     stops_at b series now edits old mid new i e why played l is
     (subst (λ (x : Basin). Answers x now (e ∷ []) (Err why) mid new) same answers)
 
--- the pushes, by the cost of the lines to come
-pub costs_more : (edits : List Edit) (i : ℕ) (e : Edit) (kept kept_then p start before after whole : ℕ) →
+-- what is left of some steps, by the cost of the lines to come
+costs_more : (edits : List Edit) (i : ℕ) (e : Edit) (kept kept_then p start before after whole : ℕ) →
     i < length edits → e ≡ get_or edits i e →
     before + cost_from kept (drop i edits) * p ≤ start + whole * p → after ≤ before + solved_by kept e * p →
     kept_then ≡ kept_by kept e + solved_by kept e →
@@ -196,14 +198,31 @@ costs_more edits i e kept kept_then p start before after whole l is so_far pushe
     here : cost_from kept (drop i edits) ≡ solved_by kept e + cost_from kept_then (drop (i + 1) edits)
     here = ap (cost_from kept) rest ∙ ap (λ k. solved_by kept e + cost_from k (drop (i + 1) edits)) (sym then')
 
-pub costs_stop : (edits : List Edit) (i : ℕ) (e : Edit) (kept p start before after whole : ℕ) → i < length edits →
-    e ≡ get_or edits i e →
-    before + cost_from kept (drop i edits) * p ≤ start + whole * p → after ≤ before + solved_by kept e * p →
-    after ≤ start + whole * p
-costs_stop edits i e kept p start before after whole l is so_far pushed =
-    let most =
-    costs_more edits i e kept (kept_by kept e + solved_by kept e) p start before after whole l is so_far pushed
-    refl in omega arith
+-- `left` months are left of all that may be solved
+pub record IsWithin (whole left : ℕ) (b : Basin) (first now : WorkDone) : Type 0 where
+  pub months : now.months + left * 1 ≤ first.months + whole * 1
+  pub pushes : now.pushes + left * month_pushes b ≤ first.pushes + whole * month_pushes b
+
+pub works_more : (b : Basin) (edits : List Edit) (i : ℕ) (e : Edit) (kept kept_then whole : ℕ)
+    (first before after : WorkDone) → i < length edits → e ≡ get_or edits i e →
+    IsWithin whole (cost_from kept (drop i edits)) b first before → Solves (solved_by kept e) b before after →
+    kept_then ≡ kept_by kept e + solved_by kept e →
+    IsWithin whole (cost_from kept_then (drop (i + 1) edits)) b first after
+works_more b edits i e kept kept_then whole first before after l is so_far solves then' = record {
+  months = costs_more edits i e kept kept_then 1 first.months before.months after.months whole l is so_far.months
+      (omega (arith, solves.months)) then';
+  pushes = costs_more edits i e kept kept_then (month_pushes b) first.pushes before.pushes after.pushes whole l is
+      so_far.pushes solves.pushes then';
+}
+
+pub works_stop : (b : Basin) (edits : List Edit) (i : ℕ) (e : Edit) (kept whole : ℕ) (first before after : WorkDone) →
+    i < length edits → e ≡ get_or edits i e →
+    IsWithin whole (cost_from kept (drop i edits)) b first before → Solves (solved_by kept e) b before after →
+    Solves whole b first after
+works_stop b edits i e kept whole first before after l is so_far solves =
+    let all =
+    works_more b edits i e kept (kept_by kept e + solved_by kept e) whole first before after l is so_far solves refl in
+    record { months = omega (arith, all.months); pushes = omega (arith, all.pushes) }
 
 -- a month that a session keeps
 pub month_kept : (b : Basin) (s : SessionView) (series : Inflows) (index : ℕ) (m : MonthRecord) → IsValidBasin b →
@@ -221,17 +240,17 @@ month_fits b series index m valid l is =
     (omega (arith, length-take index is.months))
 
 -- it is shown
-pub show_put : (b : Basin) (series : Inflows) (index : ℕ) (m : MonthRecord) (old new : Option (List ℕ)) (u : Unit {0}) →
+pub show_put : (b : Basin) (series : Inflows) (index : ℕ) (m : MonthRecord) (old new : Output) (u : Unit {0}) →
     IsMonthOf b series index m →
-    Appends old new (flat_map (whole_line b) (items_of_month b m)) → Answers b series (Show index ∷ []) (Ok u) old new
+    Extends old new (flat_map (whole_line b) (items_of_month b m)) → Answers b series (Show index ∷ []) (Ok u) old new
 show_put b series index m old new u is put = (
   m ∷ [],
   (is, refl),
-  subst (λ (bytes : List ℕ). Appends old new bytes)
+  subst (λ (bytes : List ℕ). Extends old new bytes)
       (sym (append-nil (flat_map (whole_line b) (items_of_month b m)))) put,
 )
 
-pub show_failed : (b : Basin) (series : Inflows) (index : ℕ) (m : MonthRecord) (old new : Option (List ℕ)) →
+pub show_failed : (b : Basin) (series : Inflows) (index : ℕ) (m : MonthRecord) (old new : Output) →
     IsMonthOf b series index m →
     PutsPrefix old new (flat_map (whole_line b) (items_of_month b m)) →
     Answers b series (Show index ∷ []) (Err stop.SinkFailed) old new
@@ -242,15 +261,15 @@ show_failed b series index m old new is put = (
       (sym (append-nil (flat_map (whole_line b) (items_of_month b m)))) put,
 )
 
-pub nothing_shown : (b : Basin) (series : Inflows) (edits : List Edit) (old : Option (List ℕ)) →
+pub nothing_shown : (b : Basin) (series : Inflows) (edits : List Edit) (old : Output) →
     Answers b series edits (Err stop.OutOfMemory) old old
-nothing_shown b series edits old = ([], record { count = 0; are = none edits }, Appends-nil old)
+nothing_shown b series edits old = ([], record { count = 0; are = none edits }, Extends-nil old)
   where
     none : (es : List Edit) → AreShown b series (take 0 es) []
     none [] = refl
     none (e ∷ es) = refl
 
-pub whole_failed : (b : Basin) (series : Inflows) (edits : List Edit) (old mid new : Option (List ℕ)) (u : Unit {0}) →
+pub whole_failed : (b : Basin) (series : Inflows) (edits : List Edit) (old mid new : Output) (u : Unit {0}) →
     Answers b series edits (Ok u) old mid →
     PutsPrefix mid new (done_bytes (shows_in edits)) → AnswersWhole b series edits (Err stop.SinkFailed) old new
 whole_failed b series edits old mid new u answers put =

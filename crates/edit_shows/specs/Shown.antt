@@ -1,10 +1,10 @@
 -- The months that a script shows, and their text.
-use Rattle.std.specs.Prelude.{◌≡◌, ℕ, ◌≤◌, ◌⊎◌, List, [], ◌∷◌, ◌++◌, length, take, codes, Bool, true, false, Option}
+use Rattle.std.specs.Prelude.{◌≡◌, ℕ, ◌≤◌, ◌⊎◌, List, [], ◌∷◌, ◌++◌, length, take, codes, Bool, true, false}
 use Rattle.std.specs.Prelude.{Result, Ok, Err, slice_get, Some}
 use Rattle.std.specs.Fmt.{decimal}
-use Rattle.std.specs.Io.KnownBytes.{Appends}
 use Rattle.std.specs.List.{flat_map}
 use Rattle.std.specs.Prelude.{count_by}
+use Rattle.water_edge.specs.Edge.{Extends, Output}
 use Rattle.water_model.specs.Laws.{HaveSameOutcome}
 use Rattle.water_model.specs.Spelling.{whole_line}
 use Rattle.water_model.specs.Text.{items_of_month}
@@ -65,27 +65,27 @@ abbrev pub done_bytes : ℕ → List ℕ
 done_bytes shows = codes "done " ++ decimal shows ++ codes "\n"
 
 -- a prefix of a piece is appended
-abbrev pub PutsPrefix : Option (List ℕ) → Option (List ℕ) → List ℕ → Type 0
-PutsPrefix old new piece = (count : ℕ) × (count ≤ length piece) × Appends old new (take count piece)
+abbrev pub PutsPrefix : Output → Output → List ℕ → Type 0
+PutsPrefix old new piece = (count : ℕ) × (count ≤ length piece) × Extends old new (take count piece)
 
 -- The lines of the months that are shown are appended. After a failure of the sink a prefix of those shown so far is,
 -- and where memory is lacking the whole lines of those shown so far.
-abbrev pub Answers : Basin → Inflows → List Edit → Result (Unit {0}) EditStop → Option (List ℕ) → Option (List ℕ) →
+abbrev pub Answers : Basin → Inflows → List Edit → Result (Unit {0}) EditStop → Output → Output →
     Type 0
 Answers b series edits (Ok _) old new =
-    (shown : List MonthRecord) × AreShown b series edits shown × Appends old new (months_bytes b shown)
+    (shown : List MonthRecord) × AreShown b series edits shown × Extends old new (months_bytes b shown)
 Answers b series edits (Err stop.SinkFailed) old new =
     (shown : List MonthRecord) × HaveShown b series edits shown × PutsPrefix old new (months_bytes b shown)
 Answers b series edits (Err stop.OutOfMemory) old new =
-    (shown : List MonthRecord) × HaveShown b series edits shown × Appends old new (months_bytes b shown)
+    (shown : List MonthRecord) × HaveShown b series edits shown × Extends old new (months_bytes b shown)
 
 -- The same with the last line after all months: after a failure of the sink a prefix of the months shown so far is
 -- there, or of the whole text.
-abbrev pub AnswersWhole : Basin → Inflows → List Edit → Result (Unit {0}) EditStop → Option (List ℕ) → Option (List ℕ) →
+abbrev pub AnswersWhole : Basin → Inflows → List Edit → Result (Unit {0}) EditStop → Output → Output →
     Type 0
 AnswersWhole b series edits (Ok _) old new =
     (shown : List MonthRecord) × AreShown b series edits shown ×
-    Appends old new (months_bytes b shown ++ done_bytes (shows_in edits))
+    Extends old new (months_bytes b shown ++ done_bytes (shows_in edits))
 AnswersWhole b series edits (Err stop.SinkFailed) old new =
     Answers b series edits (Err stop.SinkFailed) old new
     ⊎ ((shown : List MonthRecord) × AreShown b series edits shown ×

@@ -1,8 +1,9 @@
 -- The lines of sums that were put in order.
-use Rattle.std.proofs.Common.{◌≡◌, ℕ, sym, ap, subst, ◌∙◌, List, [], ◌∷◌, ◌++◌, length, Option}
+use Rattle.std.proofs.Common.{◌≡◌, ℕ, sym, ap, subst, ◌∙◌, List, [], ◌∷◌, ◌++◌, length}
 use Rattle.std.specs.Prelude.{slice_index_or}
 use Rattle.std.specs.List.{flat_map}
 use Rattle.std.specs.List.Sorted.{IsNonDecreasingBy, IsPermutation}
+use Rattle.water_edge.specs.Edge.{Output}
 use Rattle.water_model.specs.Indices.{seniors_first}
 use Rattle.water_model.specs.declared.types.Basin.{Basin}
 use Rattle.water_model.specs.declared.types.Inflows.{Inflows}
@@ -37,7 +38,7 @@ sorted_lines b series sums amounts h count moved sorted = record {
 }
 
 -- a prefix of these lines is a prefix of the text of the traces
-pub text_cut : (b : Basin) (series : Inflows) (amounts : List (List ℕ)) (old new : Option (List ℕ)) →
+pub text_cut : (b : Basin) (series : Inflows) (amounts : List (List ℕ)) (old new : Output) →
     HaveLines b series amounts →
     PutsPrefix old new (flat_map (whole_line b) (ensemble_lines b (λ r. slice_index_or amounts r []))) →
     (traces : List (List MonthRecord)) × AreTraces b series traces × PutsPrefix old new (ensemble_text b traces)

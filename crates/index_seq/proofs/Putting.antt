@@ -1,12 +1,12 @@
 -- The lines of different amounts, put one after another.
 use Rattle.std.proofs.Common.{◌≡◌, ℕ, ◌<◌, ◌≤◌, List, [], ◌∷◌, ◌++◌, length, drop, sym, ap, subst, ◌∙◌}
-use Rattle.std.proofs.Common.{arith, append_assoc, append-nil, Option, Result}
+use Rattle.std.proofs.Common.{arith, append_assoc, append-nil, Result}
 use Rattle.std.specs.Prelude.{slice_index, IsErr, ◌==◌}
 use Rattle.std.specs.List.{flat_map, prefix_len}
 use Rattle.std.specs.List.Sorted.{IsNonDecreasingBy}
-use Rattle.std.specs.Io.KnownBytes.{Appends}
 use Rattle.std.proofs.lemmas.List.Sorted.{IsNonDecreasingBy-drop}
-use Rattle.water_edge.specs.Edge.{Puts}
+use Rattle.water_edge.specs.Edge.{Extends, Output, Puts}
+use Rattle.water_edge.proofs.Outputs.{Extends-trans}
 use Rattle.water_model.specs.declared.types.Basin.{Basin}
 use Rattle.water_edge.proofs.Puts.{PutsPrefix, PutsPrefix-fails, PutsPrefix-then, PutsPrefix-cut}
 use Rattle.index_seq.specs.Entries.{whole_line}
@@ -14,15 +14,14 @@ use Rattle.index_seq.specs.Text.{yearly_lines, right_lines, ensemble_lines}
 use Rattle.index_seq.specs.Traces.{years_of}
 use Rattle.index_seq.specs.declared.entry.EnsembleLine.{EnsembleLine}
 use Rattle.std.proofs.lemmas.Grind.{flat_map-append}
-use Rattle.std.proofs.KnownBytes.{Appends-trans}
 use Rattle.water_model.specs.Indices.{seniors_first}
 use Rattle.index_seq.specs.declared.entry.EnsembleLine.TheVariants as line
 use Rattle.index_seq.proofs.Counting.{first_of_rest}
 
 -- the lines of the lower amounts were put, and those of the rest are still to come
-pub record IsPutSoFar (b : Basin) (amounts rest : List ℕ) (old now : Option (List ℕ)) (before after : ℕ) : Type 0 where
+pub record IsPutSoFar (b : Basin) (amounts rest : List ℕ) (old now : Output) (before after : ℕ) : Type 0 where
   pub done : List ℕ
-  pub put : Appends old now done
+  pub put : Extends old now done
   pub whole : flat_map (whole_line b) (yearly_lines amounts) ≡ done ++ flat_map (whole_line b) (yearly_lines rest)
   pub sorted : IsNonDecreasingBy (λ x. x) rest
   pub later : before ≤ after
@@ -38,14 +37,14 @@ rest_lines b rest count sorted l is =
     ∙ ap (λ t. t ++ flat_map (whole_line b) (yearly_lines (drop count rest)))
     (sym (append-nil (whole_line b (line.Yearly (slice_index rest 0) count))))
 
-pub put_next : (b : Basin) (amounts rest : List ℕ) (count : ℕ) (old mid new : Option (List ℕ))
+pub put_next : (b : Basin) (amounts rest : List ℕ) (count : ℕ) (old mid new : Output)
     (before between after : ℕ) → IsPutSoFar b amounts rest old mid before between →
     0 < length rest → count ≡ prefix_len (λ x. x == slice_index rest 0) rest →
-    Appends mid new (flat_map (whole_line b) (line.Yearly (slice_index rest 0) count ∷ [])) → between ≤ after →
+    Extends mid new (flat_map (whole_line b) (line.Yearly (slice_index rest 0) count ∷ [])) → between ≤ after →
     IsPutSoFar b amounts (drop count rest) old new before after
 put_next b amounts rest count old mid new before between after s l is here later = record {
   done = s.done ++ piece;
-  put = Appends-trans old mid new s.done piece s.put here;
+  put = Extends-trans old mid new s.done piece s.put here;
   whole = s.whole
       ∙ (ap (λ t. s.done ++ t) (rest_lines b rest count s.sorted l is)
       ∙ sym (append_assoc s.done piece (flat_map (whole_line b) (yearly_lines (drop count rest)))));
@@ -56,7 +55,7 @@ put_next b amounts rest count old mid new before between after s l is here later
     piece : List ℕ
     piece = flat_map (whole_line b) (line.Yearly (slice_index rest 0) count ∷ [])
 
-pub put_fails : {E : Type 0} (b : Basin) (amounts rest : List ℕ) (count : ℕ) (old mid new : Option (List ℕ))
+pub put_fails : {E : Type 0} (b : Basin) (amounts rest : List ℕ) (count : ℕ) (old mid new : Output)
     (before between : ℕ) (r : Result (Unit {0}) E) →
     IsPutSoFar b amounts rest old mid before between → 0 < length rest →
     count ≡ prefix_len (λ x. x == slice_index rest 0) rest →

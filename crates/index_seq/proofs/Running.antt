@@ -3,11 +3,13 @@ use Rattle.std.proofs.Common.{◌≡◌, ℕ, zero, suc, ◌+◌, ◌*◌, ◌<�
 use Rattle.std.proofs.Common.{[], ◌∷◌, ◌++◌, length, take, drop, map, inl, inr, append-nil, append_assoc, length-append}
 use Rattle.std.proofs.Common.{take_all, add-one}
 use Rattle.std.specs.Prelude.{slice_index, slice_index_or, slice_get, sum_by, Some}
-use Rattle.std.proofs.Math.Nat.{mul-le-mul_right, add-mul, mul_assoc}
+use Rattle.std.proofs.Math.Nat.{mul-le-mul_right, add-mul}
 use Rattle.std.proofs.lemmas.Grind.{flat_map-append}
 use Rattle.std.proofs.lemmas.List.{drop-append-le, take-append-le, length-drop, drop_all}
 use Rattle.std.proofs.lemmas.List.Sums.{sum_by-take-drop, sum_by_push}
-use Rattle.month_fold.specs.Runs.{RunView, RunStandsFor, run_pushes}
+use Rattle.month_fold.specs.Runs.{RunView, RunStandsFor}
+use Rattle.month_fold.specs.Works.{Solves, WorkDone}
+use Rattle.month_fold.proofs.Works.{Solves-then, Solves-within}
 use Rattle.reports.proofs.Room.{delivered_small}
 use Rattle.water_model.specs.History.{IsPartialHistory, IsHistory}
 use Rattle.water_model.specs.Indices.{numbers_from}
@@ -18,7 +20,6 @@ use Rattle.water_model.specs.declared.types.MonthRecord.{MonthRecord}
 use Rattle.index_seq.specs.Sums.{IsEmptyYear, IsWithinTrace, HaveSums}
 use Rattle.index_seq.specs.Traces.{begun_after, delivered_in_year, yearly_deliveries, years_of, HasWholeYears}
 use Rattle.index_seq.specs.Traces.{AreTraces}
-use Rattle.senior_hold.specs.MonthNetwork.{month_pushes}
 use Rattle.water_model.proofs.Histories.{at_end}
 
 -- what a right was delivered in a year that is over does not change
@@ -262,22 +263,22 @@ pub sums_whole : (b : Basin) (series : Inflows) (all : List (List ℕ)) → (h :
 sums_whole b series all h r l =
     h.sums.each r l ∙ sym (no_years (delivered_in_year [] r) (yearly_deliveries b h.traces r))
 
--- the pushes of some steps and of one more are within those of all
-pub within_steps : (most first before later i n : ℕ) → before ≤ first + i * most → later ≤ before + most → i < n →
-    later ≤ first + n * most
-within_steps most first before later i n sofar more l = let all : (i + 1) * most ≤ n * most =
-    mul-le-mul_right most (omega arith) in omega (arith, add-mul i 1 most)
+-- some parts of as many months each, and one more
+pub one_part : (part i : ℕ) (b : Basin) (first before later : WorkDone) → Solves (i * part) b first before →
+    Solves part b before later → Solves ((i + 1) * part) b first later
+one_part part i b first before later so_far more =
+    let count : i * part + part ≡ (i + 1) * part = omega (arith, add-mul i 1 part) in
+    subst (λ (n : ℕ). Solves n b first later) count (Solves-then (i * part) part b first before later so_far more)
 
-pub one_step : (most first before later i : ℕ) → before ≤ first + i * most → later ≤ before + most →
-    later ≤ first + (i + 1) * most
-one_step most first before later i sofar more = omega (arith, add-mul i 1 most)
+-- they are within all parts
+pub within_parts : (part i n : ℕ) (b : Basin) (first before later : WorkDone) → Solves (i * part) b first before →
+    Solves part b before later → i < n → Solves (n * part) b first later
+within_parts part i n b first before later so_far more l =
+    let most : (i + 1) * part ≤ n * part = mul-le-mul_right part (omega arith) in
+    Solves-within ((i + 1) * part) (n * part) b first later most (one_part part i b first before later so_far more)
 
 -- the months of all years are those of the run
-pub year_pushes : (b : Basin) → HasWholeYears b → years_of b * (12 * month_pushes b) ≡ run_pushes b
-year_pushes b whole =
-    sym (mul_assoc (years_of b) 12 (month_pushes b))
-    ∙ ap (λ m. m * month_pushes b) (let is : years_of b * 12 ≡ b.months = omega arith in is)
-
-pub pushes_of_run : (b : Basin) (first later : ℕ) → HasWholeYears b →
-    later ≤ first + years_of b * (12 * month_pushes b) → later ≤ first + run_pushes b
-pushes_of_run b first later whole h = subst (λ (n : ℕ). later ≤ first + n) (year_pushes b whole) h
+pub solves_run : (b : Basin) (first later : WorkDone) → HasWholeYears b → Solves (years_of b * 12) b first later →
+    Solves b.months b first later
+solves_run b first later whole solves =
+    subst (λ (n : ℕ). Solves n b first later) (let is : years_of b * 12 ≡ b.months = omega arith in is) solves

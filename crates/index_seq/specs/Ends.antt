@@ -1,7 +1,7 @@
 -- How an ensemble may end.
-use Rattle.std.specs.Prelude.{◌≡◌, ℕ, ◌≤◌, List, [], length, take, ⊤, slice_index_or, Option, Result, Ok, Err}
+use Rattle.std.specs.Prelude.{◌≡◌, ℕ, ◌≤◌, List, [], length, take, ⊤, slice_index_or, Result, Ok, Err}
 use Rattle.std.specs.List.Sorted.{IsNonDecreasingBy}
-use Rattle.std.specs.Io.KnownBytes.{Appends}
+use Rattle.water_edge.specs.Edge.{Extends, Output}
 use Rattle.water_model.specs.declared.types.Basin.{Basin}
 use Rattle.water_model.specs.declared.types.Inflows.{Inflows}
 use Rattle.water_model.specs.declared.types.MonthRecord.{MonthRecord}
@@ -19,10 +19,10 @@ pub record HaveLines (b : Basin) (series : Inflows) (amounts : List (List ℕ)) 
   pub lines : ensemble_lines b (λ r. slice_index_or amounts r []) ≡ ensemble_lines b (yearly_deliveries b traces)
 
 -- the text of the traces is appended, or after a failure of the sink a prefix of it
-abbrev pub WritesTraces : Basin → Inflows → Result (Unit {0}) EnsembleStop → Option (List ℕ) → Option (List ℕ) → Type 0
+abbrev pub WritesTraces : Basin → Inflows → Result (Unit {0}) EnsembleStop → Output → Output → Type 0
 WritesTraces b series (Ok _) old new = (traces : List (List MonthRecord)) × AreTraces b series traces ×
-    Appends old new (ensemble_text b traces)
+    Extends old new (ensemble_text b traces)
 WritesTraces b series (Err stop.SinkFailed) old new =
     (traces : List (List MonthRecord)) × AreTraces b series traces
-    × ((count : ℕ) × (count ≤ length (ensemble_text b traces)) × Appends old new (take count (ensemble_text b traces)))
+    × ((count : ℕ) × (count ≤ length (ensemble_text b traces)) × Extends old new (take count (ensemble_text b traces)))
 WritesTraces b series (Err stop.OutOfMemory) old new = ⊤

@@ -1,21 +1,21 @@
 //! All traces of a record, and their text.
-ghost use Rattle.std.specs.Prelude.{◌≡◌, ◌+◌, ◌*◌, ◌≤◌, Err, IfOk};
+ghost use Rattle.std.specs.Prelude.{◌≡◌, ◌*◌, Err, IfOk};
 ghost use Rattle.water_edge.specs.Edge.{HasCause};
 ghost use Rattle.water_model.specs.Valid.{IsValidBasin, IsSeriesOf};
 ghost use Rattle.index_seq.specs.Ends.{HaveLines, WritesTraces};
 ghost use Rattle.index_seq.specs.Sums.{HaveSums};
 ghost use Rattle.index_seq.specs.Traces.{HasWholeYears, years_of};
 ghost use Rattle.index_seq.specs.declared.stop.EnsembleStop.TheVariants.{SinkFailed, OutOfMemory};
-ghost use Rattle.month_fold.specs.Runs.{run_pushes};
+ghost use Rattle.month_fold.specs.Works.{Solves};
 
 use crate::months::{EnsembleState, run_traces};
 use crate::stop::EnsembleStop;
 use crate::sums::sort_sums;
 use crate::writer::put_ensemble;
 use month_fold::engine::Engine;
+use month_fold::work::Work;
 use std::alloc::{AllocError, Global};
 use std::sync::ledger::Ledger;
-use steps::Steps;
 use water_edge::Sink;
 use water_model::rows::Rows;
 use water_model::types::{Basin, Inflows};
@@ -30,21 +30,21 @@ fn put_in_order(basin: &Basin, series: &Inflows, sums: &mut [Rows<u64>])
 
 /// What each right was delivered in the years of all traces, in order, and the engine that ran them. AllocError comes
 /// where memory is lacking.
-fn sorted_amounts<'b, L: Ledger>(
+fn sorted_amounts<'b, P: Ledger, M: Ledger>(
     alloc: Global,
     basin: &'b Basin,
     series: &Inflows,
-    searches: &mut Steps<L>,
+    work: &mut Work<P, M>,
 ) -> Result<EnsembleState<'b>, AllocError>
     requires basin { IsValidBasin basin.now }
     requires whole { HasWholeYears basin.now }
     requires series { IsSeriesOf basin.now series.now }
     ensures engine { IfOk result (λ all. all.engine.basin ≡ basin.now) }
     ensures lines { IfOk result (λ all. HaveLines basin.now series.now all.amounts) }
-    ensures pushes { searches.new ≤ searches.old + years_of basin.now * run_pushes basin.now }
+    ensures work { Solves (years_of basin.now * basin.now.months) basin.now work.old work.new }
 {
     let engine = Engine::open(alloc, basin)?;
-    let mut all = run_traces(alloc, basin, series, engine, searches)?;
+    let mut all = run_traces(alloc, basin, series, engine, work)?;
     put_in_order(basin, series, all.amounts.as_mut_slice());
     Ok(all)
 }
@@ -54,22 +54,22 @@ fn sorted_amounts<'b, L: Ledger>(
 ///
 /// A run and the yearly deliveries of all traces take memory. OutOfMemory comes where that is lacking, and nothing was
 /// put then; SinkFailed comes only where the sink counted a fault, and a prefix of the text stands.
-pub fn ensemble_report<K: Sink, L: Ledger>(
+pub fn ensemble_report<K: Sink, P: Ledger, M: Ledger>(
     alloc: Global,
     basin: &Basin,
     series: &Inflows,
     sink: &mut K,
-    searches: &mut Steps<L>,
+    work: &mut Work<P, M>,
 ) -> Result<(), EnsembleStop>
     requires basin { IsValidBasin basin.now }
     requires whole { HasWholeYears basin.now }
     requires series { IsSeriesOf basin.now series.now }
-    ensures text { WritesTraces basin.now series.now result (K.taken sink.old) (K.taken sink.new) }
+    ensures text { WritesTraces basin.now series.now result (K.output sink.old) (K.output sink.new) }
     ensures cause { HasCause (K.faults sink.old) (K.faults sink.new) (result ≡ Err SinkFailed) }
     ensures stays { result ≡ Err OutOfMemory → sink.new ≡ sink.old }
-    ensures pushes { searches.new ≤ searches.old + years_of basin.now * run_pushes basin.now }
+    ensures work { Solves (years_of basin.now * basin.now.months) basin.now work.old work.new }
 {
-    let all = match sorted_amounts(alloc, basin, series, searches) {
+    let all = match sorted_amounts(alloc, basin, series, work) {
         Ok(all) => all,
         Err(_) => return Err(EnsembleStop::OutOfMemory),
     };

@@ -3,16 +3,15 @@ ghost use Rattle.std.specs.Prelude.{ℕ, ◌≡◌, ◌+◌, ◌*◌, ◌<◌, �
 ghost use Rattle.water_model.specs.Valid.{IsValidBasin, IsSeriesOf};
 ghost use Rattle.index_seq.specs.Sums.{IsWithinTrace, IsEmptyYear, HaveSums};
 ghost use Rattle.index_seq.specs.Traces.{HasWholeYears, IsRotationOf, years_of};
-ghost use Rattle.senior_hold.specs.MonthNetwork.{month_pushes};
-ghost use Rattle.month_fold.specs.Runs.{run_pushes};
+ghost use Rattle.month_fold.specs.Works.{Solves, SolvesRun};
 
 use crate::begun::rotate_series;
 use crate::sums::{add_month, empty_sums, end_year};
 use month_fold::engine::Engine;
 use month_fold::run::Run;
+use month_fold::work::Work;
 use std::alloc::{AllocError, Global};
 use std::sync::ledger::Ledger;
-use steps::Steps;
 use water_model::blank::zeros;
 use water_model::rows::Rows;
 use water_model::types::{Basin, Inflows};
@@ -26,27 +25,27 @@ struct Position {
 }
 
 /// Solves the next month of a trace and adds it to the year.
-fn run_month<L: Ledger>(
+fn run_month<P: Ledger, M: Ledger>(
     basin: &Basin,
     series: &Inflows,
     at: Position,
     run: &mut Run,
     sums: &[Rows<u64>],
     year: &mut [u64],
-    searches: &mut Steps<L>,
+    work: &mut Work<P, M>,
 )
     requires left { run.old.done < basin.now.months }
     requires under_way { IsWithinTrace basin.now series.now at.trace at.years at.months run.old sums.now year.old }
     ensures done { run.new.done ≡ run.old.done + 1 }
     ensures under_way { IsWithinTrace basin.now series.now at.trace at.years (at.months + 1) run.new sums.now year.new }
-    ensures pushes { searches.new ≤ searches.old + month_pushes basin.now }
+    ensures work { Solves 1 basin.now work.old work.new }
 {
-    run.step(searches);
+    run.step(work);
     add_month(year, run.month());
 }
 
 /// Solves the months of the next year of a trace and sums them up.
-fn run_year<L: Ledger>(
+fn run_year<P: Ledger, M: Ledger>(
     basin: &Basin,
     series: &Inflows,
     trace: u32,
@@ -54,13 +53,13 @@ fn run_year<L: Ledger>(
     run: &mut Run,
     sums: &[Rows<u64>],
     year: &mut [u64],
-    searches: &mut Steps<L>,
+    work: &mut Work<P, M>,
 )
     requires left { run.old.done + 12 ≤ basin.now.months }
     requires under_way { IsWithinTrace basin.now series.now trace years 0 run.old sums.now year.old }
     ensures done { run.new.done ≡ run.old.done + 12 }
     ensures under_way { IsWithinTrace basin.now series.now trace years 12 run.new sums.now year.new }
-    ensures pushes { searches.new ≤ searches.old + 12 * month_pushes basin.now }
+    ensures work { Solves 12 basin.now work.old work.new }
 {
     for months in 0..12u32 {
         let at = Position {
@@ -68,12 +67,12 @@ fn run_year<L: Ledger>(
             years,
             months,
         };
-        run_month(basin, series, at, run, sums, year, searches);
+        run_month(basin, series, at, run, sums, year, work);
     }
 }
 
 /// Solves the next year of a trace and adds it to the sums. AllocError comes where memory is lacking.
-fn next_year<L: Ledger>(
+fn next_year<P: Ledger, M: Ledger>(
     basin: &Basin,
     series: &Inflows,
     trace: u32,
@@ -81,47 +80,47 @@ fn next_year<L: Ledger>(
     run: &mut Run,
     sums: &mut [Rows<u64>],
     year: &mut [u64],
-    searches: &mut Steps<L>,
+    work: &mut Work<P, M>,
 ) -> Result<(), AllocError>
     requires left { run.old.done + 12 ≤ basin.now.months }
     requires under_way { IsWithinTrace basin.now series.now trace years 0 run.old sums.old year.old }
     ensures done { OnOk result (run.new.done ≡ run.old.done + 12) }
     ensures under_way { OnOk result (IsWithinTrace basin.now series.now trace (years + 1) 0 run.new sums.new year.new) }
     ensures zeros { OnOk result ((r : ℕ) → r < length basin.now.rights → slice_index year.new r ≡ 0) }
-    ensures pushes { searches.new ≤ searches.old + 12 * month_pushes basin.now }
+    ensures work { Solves 12 basin.now work.old work.new }
 {
-    run_year(basin, series, trace, years, run, sums, year, searches);
+    run_year(basin, series, trace, years, run, sums, year, work);
     end_year(sums, year)?;
     Ok(())
 }
 
 /// Solves all years of a trace that had none yet. AllocError comes where memory is lacking.
-fn run_years<L: Ledger>(
+fn run_years<P: Ledger, M: Ledger>(
     basin: &Basin,
     series: &Inflows,
     trace: u32,
     run: &mut Run,
     sums: &mut [Rows<u64>],
     year: &mut [u64],
-    searches: &mut Steps<L>,
+    work: &mut Work<P, M>,
 ) -> Result<(), AllocError>
     requires whole { HasWholeYears basin.now }
     requires first { run.old.done ≡ 0 }
     requires under_way { IsWithinTrace basin.now series.now trace 0 0 run.old sums.old year.old }
     ensures under_way { OnOk result
         (IsWithinTrace basin.now series.now trace (years_of basin.now) 0 run.new sums.new year.new) }
-    ensures pushes { searches.new ≤ searches.old + run_pushes basin.now }
+    ensures work { SolvesRun basin.now work.old work.new }
 {
     let count = basin.months / 12;
     for years in 0..count {
-        next_year(basin, series, trace, years, run, sums, year, searches)?;
+        next_year(basin, series, trace, years, run, sums, year, work)?;
     }
     Ok(())
 }
 
 /// Runs the record from one more of its years, and adds the years of this trace to the sums. `begun` is written over
 /// with the trace's series. AllocError comes where memory is lacking.
-fn run_trace<'b, L: Ledger>(
+fn run_trace<'b, P: Ledger, M: Ledger>(
     basin: &Basin,
     series: &Inflows,
     trace: u32,
@@ -129,7 +128,7 @@ fn run_trace<'b, L: Ledger>(
     begun: &mut Inflows,
     sums: &mut [Rows<u64>],
     year: &mut [u64],
-    searches: &mut Steps<L>,
+    work: &mut Work<P, M>,
 ) -> Result<Engine<'b>, AllocError>
     requires basin { IsValidBasin basin.now }
     requires whole { HasWholeYears basin.now }
@@ -143,11 +142,11 @@ fn run_trace<'b, L: Ledger>(
     ensures begun { IsRotationOf series.now begun.new }
     ensures sums { OnOk result (HaveSums basin.now series.now (trace + 1) sums.new) }
     ensures year { OnOk result (IsEmptyYear basin.now year.new) }
-    ensures pushes { searches.new ≤ searches.old + run_pushes basin.now }
+    ensures work { SolvesRun basin.now work.old work.new }
 {
     rotate_series(basin, series, trace, begun);
     let mut run = Run::begin(engine, begun);
-    run_years(basin, series, trace, &mut run, sums, year, searches)?;
+    run_years(basin, series, trace, &mut run, sums, year, work)?;
     Ok(run.close())
 }
 
@@ -160,12 +159,12 @@ pub struct EnsembleState<'b> {
 
 /// Runs all traces in one engine, trace by trace. AllocError comes where memory is lacking: it is taken once for all
 /// traces.
-pub fn run_traces<'b, L: Ledger>(
+pub fn run_traces<'b, P: Ledger, M: Ledger>(
     alloc: Global,
     basin: &Basin,
     series: &Inflows,
     mut engine: Engine<'b>,
-    searches: &mut Steps<L>,
+    work: &mut Work<P, M>,
 ) -> Result<EnsembleState<'b>, AllocError>
     requires basin { IsValidBasin basin.now }
     requires whole { HasWholeYears basin.now }
@@ -173,7 +172,7 @@ pub fn run_traces<'b, L: Ledger>(
     requires engine { engine.basin ≡ basin.now }
     ensures engine { IfOk result (λ all. all.engine.basin ≡ basin.now) }
     ensures sums { IfOk result (λ all. HaveSums basin.now series.now (years_of basin.now) all.amounts) }
-    ensures pushes { searches.new ≤ searches.old + years_of basin.now * run_pushes basin.now }
+    ensures work { Solves (years_of basin.now * basin.now.months) basin.now work.old work.new }
 {
     let count = basin.months / 12;
     let mut sums = empty_sums(alloc, basin.rights.len(), (count * count) as usize)?;
@@ -189,7 +188,7 @@ pub fn run_traces<'b, L: Ledger>(
             &mut begun,
             sums.as_mut_slice(),
             year.as_mut_slice(),
-            searches,
+            work,
         )?;
     }
     Ok(EnsembleState {

@@ -22,7 +22,7 @@ use water_text::line::Line;
 fn put_entry<K: Sink>(sink: &mut K, basin: &Basin, entry: EnsembleLine) -> Result<(), SinkFailed>
     requires basin { IsValidBasin basin.now }
     requires entry { IsOfBasin basin.now entry }
-    ensures text { Puts (K.taken sink.old) (K.taken sink.new) result
+    ensures text { Puts (K.output sink.old) (K.output sink.new) result
         (flat_map (whole_line basin.now) (entry ∷ [])) }
     ensures cause { HasCause (K.faults sink.old) (K.faults sink.new) (IsErr result) }
 {
@@ -58,7 +58,7 @@ fn after(amounts: &[u64], count: usize) -> &[u64]
 pub fn put_yearly<K: Sink>(sink: &mut K, basin: &Basin, amounts: &[u64]) -> Result<(), SinkFailed>
     requires basin { IsValidBasin basin.now }
     requires sorted { IsNonDecreasingBy (λ x. x) amounts.now }
-    ensures text { Puts (K.taken sink.old) (K.taken sink.new) result
+    ensures text { Puts (K.output sink.old) (K.output sink.new) result
         (flat_map (whole_line basin.now) (yearly_lines amounts.now)) }
     ensures cause { HasCause (K.faults sink.old) (K.faults sink.new) (IsErr result) }
 {
@@ -85,7 +85,7 @@ fn put_right<K: Sink>(
     requires basin { IsValidBasin basin.now }
     requires right { right < length basin.now.rights }
     requires sorted { IsNonDecreasingBy (λ x. x) amounts.now }
-    ensures text { Puts (K.taken sink.old) (K.taken sink.new) result
+    ensures text { Puts (K.output sink.old) (K.output sink.new) result
         (flat_map (whole_line basin.now) (EnsembleLine.Right right ∷ yearly_lines amounts.now)) }
     ensures cause { HasCause (K.faults sink.old) (K.faults sink.new) (IsErr result) }
 {
@@ -112,7 +112,7 @@ fn put_rights<K: Sink>(
     requires roll { IsRollOf basin.now.rights roll.now }
     requires count { length amounts.now ≡ length basin.now.rights }
     requires sorted { (r : ℕ) → IsNonDecreasingBy (λ x. x) (slice_index_or amounts.now r []) }
-    ensures text { Puts (K.taken sink.old) (K.taken sink.new) result
+    ensures text { Puts (K.output sink.old) (K.output sink.new) result
         (flat_map (whole_line basin.now)
         (flat_map (right_lines (λ r. slice_index_or amounts.now r [])) (seniors_first basin.now))) }
     ensures cause { HasCause (K.faults sink.old) (K.faults sink.new) (IsErr result) }
@@ -139,7 +139,7 @@ pub fn put_ensemble<K: Sink>(
     requires roll { IsRollOf basin.now.rights roll.now }
     requires count { length amounts.now ≡ length basin.now.rights }
     requires sorted { (r : ℕ) → IsNonDecreasingBy (λ x. x) (slice_index_or amounts.now r []) }
-    ensures text { Puts (K.taken sink.old) (K.taken sink.new) result
+    ensures text { Puts (K.output sink.old) (K.output sink.new) result
         (flat_map (whole_line basin.now) (ensemble_lines basin.now (λ r. slice_index_or amounts.now r []))) }
     ensures cause { HasCause (K.faults sink.old) (K.faults sink.new) (IsErr result) }
 {

@@ -5,9 +5,9 @@ use Rattle.std.proofs.lemmas.List.{map-append, take_all, take_more, take-append-
 use Rattle.std.proofs.lemmas.List.Elements.{filter-append}
 use Rattle.std.proofs.lemmas.Option.{get_or_from_slice_get, slice_get_within}
 use Rattle.std.specs.Prelude.{slice_get, filter, flat_map, Option, Some, Result, Ok, Err, IsErr}
-use Rattle.std.specs.Io.KnownBytes.{Appends}
 use Rattle.std.proofs.lemmas.Grind.{flat_map-append}
-use Rattle.std.proofs.KnownBytes.{Appends-nil, Appends-trans}
+use Rattle.water_edge.specs.Edge.{Extends, Output}
+use Rattle.water_edge.proofs.Outputs.{Extends-nil, Extends-trans}
 use Rattle.water_model.specs.declared.types.Basin.{Basin}
 use Rattle.water_model.specs.declared.types.MonthRecord.{MonthRecord}
 use Rattle.water_edge.proofs.Puts.{PutsPrefix, PutsPrefix-then, PutsPrefix-cut}
@@ -21,9 +21,9 @@ injuries-append ps qs m n = ap (map (injury_of m n)) (filter-append (is_injured 
     ∙ map-append (injury_of m n) (filter (is_injured m n) ps) (filter (is_injured m n) qs)
 
 -- the rows of the first i pairs were put and counted, and the count of faults did not fall
-pub record SoFar (b : Basin) (m n : MonthRecord) (pairs : List Pair) (i : ℕ) (old now : Option (List ℕ))
+pub record SoFar (b : Basin) (m n : MonthRecord) (pairs : List Pair) (i : ℕ) (old now : Output)
     (before after count : ℕ) : Type 0 where
-  pub put : Appends old now (flat_map (injured_row b) (injuries_of (take i pairs) m n))
+  pub put : Extends old now (flat_map (injured_row b) (injuries_of (take i pairs) m n))
   pub later : before ≤ after
   pub number : count ≡ length (injuries_of (take i pairs) m n)
 
@@ -45,14 +45,14 @@ module _ (b : Basin) (m n : MonthRecord) (pairs : List Pair) (i : ℕ) (p : Pair
       ∙ ap (λ q. take i pairs ++ q ∷ []) (get_or_from_slice_get pairs i p p at))
       ∙ injuries-append (take i pairs) (p ∷ []) m n
 
-  pub more : (old mid new : Option (List ℕ)) (before between after count k : ℕ) →
+  pub more : (old mid new : Output) (before between after count k : ℕ) →
       SoFar b m n pairs i old mid before between count →
-      (k ≡ length (injuries_of (p ∷ []) m n)) × Appends mid new (flat_map (injured_row b) (injuries_of (p ∷ []) m n)) →
+      (k ≡ length (injuries_of (p ∷ []) m n)) × Extends mid new (flat_map (injured_row b) (injuries_of (p ∷ []) m n)) →
       between ≤ after →
       SoFar b m n pairs (i + 1) old new before after (count + k)
   more old mid new before between after count k s here later = record {
     put = rw (one_more, flat_map-append (injured_row b) (injuries_of (take i pairs) m n) (injuries_of (p ∷ []) m n))
-        (Appends-trans old mid new (flat_map (injured_row b) (injuries_of (take i pairs) m n))
+        (Extends-trans old mid new (flat_map (injured_row b) (injuries_of (take i pairs) m n))
         (flat_map (injured_row b) (injuries_of (p ∷ []) m n)) s.put here.1);
     later = omega (arith, s.later);
     number = omega (
@@ -64,7 +64,7 @@ module _ (b : Basin) (m n : MonthRecord) (pairs : List Pair) (i : ℕ) (p : Pair
     );
   }
 
-  pub fails : {E : Type 0} (old mid new : Option (List ℕ)) (before between count : ℕ) (r : Result ℕ E) →
+  pub fails : {E : Type 0} (old mid new : Output) (before between count : ℕ) (r : Result ℕ E) →
       SoFar b m n pairs i old mid before between count →
       PutsPrefix mid new (flat_map (injured_row b) (injuries_of (p ∷ []) m n)) → IsErr r →
       PutsInjuries b (injuries_of pairs m n) old new r
@@ -93,7 +93,7 @@ module _ (b : Basin) (m n : MonthRecord) (pairs : List Pair) (i : ℕ) (p : Pair
           (injuries_of (drop (i + 1) pairs) m n))
 
   -- the number of rows is at most that of pairs
-  pub fits : (old mid : Option (List ℕ)) (before between count k : ℕ) →
+  pub fits : (old mid : Output) (before between count k : ℕ) →
       SoFar b m n pairs i old mid before between count →
       k ≡ length (injuries_of (p ∷ []) m n) → count + k ≤ length pairs
   fits old mid before between count k s e =
@@ -107,17 +107,17 @@ module _ (b : Basin) (m n : MonthRecord) (pairs : List Pair) (i : ℕ) (p : Pair
       )
 
 -- nothing yet
-pub none : (b : Basin) (m n : MonthRecord) (pairs : List Pair) (old : Option (List ℕ)) (before : ℕ) →
+pub none : (b : Basin) (m n : MonthRecord) (pairs : List Pair) (old : Output) (before : ℕ) →
     SoFar b m n pairs 0 old old before before 0
-none b m n pairs old before = record { put = Appends-nil old; later = omega arith; number = refl }
+none b m n pairs old before = record { put = Extends-nil old; later = omega arith; number = refl }
 
 -- all pairs
-pub whole : (b : Basin) (m n : MonthRecord) (pairs : List Pair) (i : ℕ) (old now : Option (List ℕ))
+pub whole : (b : Basin) (m n : MonthRecord) (pairs : List Pair) (i : ℕ) (old now : Output)
     (before after count : ℕ) →
     SoFar b m n pairs i old now before after count → length pairs ≤ i →
-    (count ≡ length (injuries_of pairs m n)) × Appends old now (flat_map (injured_row b) (injuries_of pairs m n))
+    (count ≡ length (injuries_of pairs m n)) × Extends old now (flat_map (injured_row b) (injuries_of pairs m n))
 whole b m n pairs i old now before after count s l = (
   s.number ∙ ap (λ ps. length (injuries_of ps m n)) (take_all i pairs l),
-  subst (λ (ps : List Pair). Appends old now (flat_map (injured_row b) (injuries_of ps m n))) (take_all i pairs l)
+  subst (λ (ps : List Pair). Extends old now (flat_map (injured_row b) (injuries_of ps m n))) (take_all i pairs l)
       s.put,
 )

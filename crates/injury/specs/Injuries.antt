@@ -1,9 +1,9 @@
 -- Who is delivered less in the second of two runs.
 use Rattle.std.specs.Prelude.{◌≡◌, ℕ, ◌<◌, ◌≤◌, Bool, List, [], ◌∷◌, ◌++◌, length, take, map, filter, zip, flat_map}
-use Rattle.std.specs.Prelude.{slice_get, slice_index, nat_lt, codes, Option, Some, Result, Ok, Err}
+use Rattle.std.specs.Prelude.{slice_get, slice_index, nat_lt, codes, Some, Result, Ok, Err}
 use Rattle.std.specs.Fmt.{decimal}
-use Rattle.std.specs.Io.KnownBytes.{Appends}
 use Rattle.std.specs.List.{join_with_byte}
+use Rattle.water_edge.specs.Edge.{Extends, Output}
 use Rattle.water_text.specs.Months.{month_digits}
 use Rattle.water_model.specs.Basin.{right_name}
 use Rattle.water_model.specs.declared.types.Basin.{Basin}
@@ -67,8 +67,8 @@ comparison_text first second records others =
     ++ compared_row (length (common_rights first second)) (length (injuries first second records others))
 
 -- a row for each injury was put, and they were counted; or after a failure of the sink a prefix of the rows was put
-abbrev pub PutsInjuries : {E : Type 0} → Basin → List Injury → Option (List ℕ) → Option (List ℕ) → Result ℕ E → Type 0
-PutsInjuries b all old new (Ok count) = (count ≡ length all) × Appends old new (flat_map (injured_row b) all)
+abbrev pub PutsInjuries : {E : Type 0} → Basin → List Injury → Output → Output → Result ℕ E → Type 0
+PutsInjuries b all old new (Ok count) = (count ≡ length all) × Extends old new (flat_map (injured_row b) all)
 PutsInjuries b all old new (Err _) =
     (count : ℕ) × (count ≤ length (flat_map (injured_row b) all)) ×
-    Appends old new (take count (flat_map (injured_row b) all))
+    Extends old new (take count (flat_map (injured_row b) all))

@@ -66,7 +66,7 @@ fn put_row<K: Sink>(sink: &mut K, basin: &Basin, injury: Injury) -> Result<(), S
     requires basin { IsValidBasin basin.now }
     requires month { IsMonth injury.month }
     requires right { injury.right < length basin.now.rights }
-    ensures text { Puts (K.taken sink.old) (K.taken sink.new) result (injured_row basin.now injury) }
+    ensures text { Puts (K.output sink.old) (K.output sink.new) result (injured_row basin.now injury) }
     ensures cause { HasCause (K.faults sink.old) (K.faults sink.new) (IsErr result) }
 {
     let mut line = Line::new();
@@ -86,8 +86,8 @@ pub fn put_injury<K: Sink>(
     requires month { IsMonth first.now.month }
     requires right { pair.first < length basin.now.rights }
     requires records { HaveDeliveries (pair ∷ []) first.now second.now }
-    ensures text { PutsInjuries basin.now (injuries_of (pair ∷ []) first.now second.now) (K.taken sink.old)
-        (K.taken sink.new) result }
+    ensures text { PutsInjuries basin.now (injuries_of (pair ∷ []) first.now second.now) (K.output sink.old)
+        (K.output sink.new) result }
     ensures cause { HasCause (K.faults sink.old) (K.faults sink.new) (IsErr result) }
 {
     if !is_injured(pair, first, second) {
@@ -111,7 +111,7 @@ fn spell_compared(line: &mut Line, common: u32, injured: u32)
 
 /// Puts the row of the counts of common rights and of injuries, with which a comparison ends.
 pub fn put_compared<K: Sink>(sink: &mut K, common: u32, injured: u32) -> Result<(), SinkFailed>
-    ensures text { Puts (K.taken sink.old) (K.taken sink.new) result (compared_row common injured) }
+    ensures text { Puts (K.output sink.old) (K.output sink.new) result (compared_row common injured) }
     ensures cause { HasCause (K.faults sink.old) (K.faults sink.new) (IsErr result) }
 {
     let mut line = Line::new();

@@ -111,8 +111,8 @@ impl Pairing {
         requires month { IsMonth first.now.month }
         requires fits { length first.now.delivered ≡ length basin.now.rights }
         requires records { HaveDeliveries self.now first.now second.now }
-        ensures text { PutsInjuries basin.now (injuries_of self.now first.now second.now) (K.taken sink.old)
-            (K.taken sink.new) result }
+        ensures text { PutsInjuries basin.now (injuries_of self.now first.now second.now) (K.output sink.old)
+            (K.output sink.new) result }
         ensures cause { HasCause (K.faults sink.old) (K.faults sink.new) (IsErr result) }
     {
         let pairs = self.common();

@@ -1,7 +1,7 @@
 -- The rows of what is on its way, and the indices of nodes.
 use Rattle.std.proofs.Common.{◌≡◌, ◌∙◌, ℕ, ◌+◌, ◌-◌, ◌*◌, ◌%◌, ◌^◌, ◌<◌, ◌≤◌, List, [], ◌∷◌, length, get_or, set, map}
 use Rattle.std.proofs.Common.{refl, sym, ap, subst, arith}
-use Rattle.std.specs.Prelude.{All, if◌then◌else◌, ◌==◌, option_map, unwrap_or, slice_get, Some}
+use Rattle.std.specs.Prelude.{All, min, if◌then◌else◌, ◌==◌, option_map, unwrap_or, slice_get, Some}
 use Rattle.std.proofs.lemmas.Bool.Decides.{nat_tests}
 use Rattle.std.proofs.lemmas.Grind.{common_steps}
 use Rattle.std.proofs.lemmas.List.{length-map, get_or-map}
@@ -9,12 +9,12 @@ use Rattle.std.proofs.lemmas.List.Elements.{All-map}
 use Rattle.std.proofs.lemmas.Option.{slice_get_read, slice_get-map}
 use Rattle.std.proofs.Math.Seq.{drop-nil}
 use Rattle.finite_sums.specs.Sums.{total}
-use Rattle.finite_sums.proofs.Totals.{total_same, total_zero, total_more}
+use Rattle.finite_sums.proofs.Totals.{total_grows, total_more, total_same, total_zero}
 use Rattle.water_model.specs.Hydrology.{delivered_before, delivered_in, returned_by}
 use Rattle.water_model.specs.Lookups.{of_entry}
 use Rattle.water_model.specs.declared.types.ReturnRow.{ReturnRow}
 use Rattle.water_model.proofs.Balance.{entry_holds}
-use Rattle.lag_returns.specs.ReturnFlows.{fresh, arriving, brought, brought_to}
+use Rattle.lag_returns.specs.ReturnFlows.{HasRoomFor, arriving, brought, brought_to, fresh}
 use Rattle.lag_returns.specs.Lags.{InTransit, IsInTransit, LagsStandFor, IsLagged, return_rows, arrivals_at}
 use Rattle.lag_returns.proofs.Arrivals.{arriving_is}
 
@@ -79,6 +79,27 @@ one_row_little w into n node little =
   where
     at_most : (k n a x y : ℕ) → a ≤ 10 ^ 9 → x ≡ y + (if k == n then a else 0) → x ≤ y + 10 ^ 9
     at_most k n a x y l e = grind (arith, nat_tests)
+
+-- a row has room at its node while the rows before it have brought what they bring, at most 10^9 each
+pub room_at : (lags : List InTransit) (i : ℕ) (w : InTransit) (into now : List ℕ) → i < length lags →
+    w ≡ get_or lags i w → w.row.node < length into → HasRoomFor lags into →
+    get_or now w.row.node 0 ≡ get_or into w.row.node 0 + total i (λ k. of_entry lags k (brought_to w.row.node) 0) →
+    get_or now w.row.node 0 ≤ get_or into w.row.node 0 + 10 ^ 9 * i →
+    get_or now w.row.node 0 + min (arriving w) (10 ^ 9) < 2 ^ 64
+room_at lags i w into now l read node room added little =
+    omega (
+      arith,
+      room w.row.node node,
+      added,
+      little,
+      total_more i (λ k. of_entry lags k (brought_to w.row.node) 0),
+      total_grows (i + 1) (length lags) (λ k. of_entry lags k (brought_to w.row.node) 0) (omega arith),
+      ap (λ o. unwrap_or (option_map (brought_to w.row.node) o) 0) (slice_get_read lags _ i w refl l read),
+      own w.row.node (arriving w),
+    )
+  where
+    own : (n a : ℕ) → (if n == n then a else 0) ≡ a
+    own n a = grind (arith, nat_tests)
 
 -- what the rows bring is what the sums over all months say
 pub arrivals : (lags : List InTransit) (rows : List ReturnRow) (deliveries : List (List ℕ)) (node : ℕ) →

@@ -1,6 +1,6 @@
 -- One row's deliveries on their way, from month to month.
 use Rattle.std.specs.Prelude.{◌≡◌, ℕ, ◌+◌, ◌*◌, ◌/◌, ◌%◌, ◌^◌, ◌<◌, ◌≤◌, List, [], ◌∷◌, ◌++◌, length, slice_index, All}
-use Rattle.std.specs.Prelude.{nat_lt, ◌==◌, if◌then◌else◌}
+use Rattle.std.specs.Prelude.{min, nat_lt, ◌==◌, if◌then◌else◌}
 use Rattle.circular_buffer.specs.Buffer.{Buffer, keep_last}
 use Rattle.finite_sums.specs.Sums.{total}
 use Rattle.water_model.specs.Lookups.{of_entry}
@@ -47,3 +47,9 @@ brought_to node w = if w.row.node == node then arriving w else 0
 
 abbrev pub brought : List InTransit → ℕ → ℕ
 brought lags node = total (length lags) (λ k. of_entry lags k (brought_to node) 0)
+
+-- each amount has room for what the rows bring to its node, of which no row brings more than 10^9
+abbrev pub HasRoomFor : List InTransit → List ℕ → Type 0
+HasRoomFor lags into =
+    (node : ℕ) → node < length into →
+    slice_index into node + min (brought lags node) (10 ^ 9 * length lags) < 2 ^ 64

@@ -1,9 +1,10 @@
 //! What comes back to the river, months later, of what diversions take.
 #![tactic(auto)]
 
-ghost use Rattle.std.specs.Prelude.{◌≡◌, ℕ, ◌+◌, ◌*◌, ◌^◌, ◌<◌, ◌≤◌, ◌++◌, ◌∷◌, [], List, length, slice_index};
+ghost use Rattle.std.specs.Prelude.{◌≡◌, ℕ, ◌+◌, ◌*◌, ◌^◌, ◌<◌, ◌≤◌, ◌++◌, ◌∷◌, [], List, length, min, slice_index};
 ghost use Rattle.std.specs.Prelude.{slice_set, map, All, IfOk};
-ghost use Rattle.lag_returns.specs.ReturnFlows.{after_month, arriving, brought, due, emptied, fresh, with_delivery};
+ghost use Rattle.lag_returns.specs.ReturnFlows.{HasRoomFor, after_month, arriving, brought, due, emptied};
+ghost use Rattle.lag_returns.specs.ReturnFlows.{fresh, with_delivery};
 ghost use Rattle.lag_returns.specs.Lags.{HasReturned, IsLagged, LagsStandFor, return_rows, arrivals_at};
 ghost use Rattle.water_model.specs.Valid.{IsValidBasin};
 ghost use Rattle.water_model.specs.declared.types.ReturnRow.{ReturnRow};
@@ -68,7 +69,7 @@ impl ReturnFlow {
     /// Adds what the row brings this month to its node's amount.
     fn arrive(&self, into: &mut [u64])
         requires node { self.now.row.node < length into.old }
-        requires room { slice_index into.old self.now.row.node + 10 ^ 9 ≤ 10 ^ 15 }
+        requires room { slice_index into.old self.now.row.node + min (arriving self.now) (10 ^ 9) < 2 ^ 64 }
         ensures adds { into.new ≡ slice_set into.old self.now.row.node
             (slice_index into.old self.now.row.node + arriving self.now) }
         ensures small { arriving self.now ≤ 10 ^ 9 }
@@ -97,7 +98,7 @@ impl ReturnFlow {
 /// Adds what each row brings to its node's amount.
 fn arrive_each(flows: &[ReturnFlow], into: &mut [u64])
     requires nodes { All (λ row. row.node < length into.old) (return_rows flows.now) }
-    requires room { All (λ n. n + 10 ^ 9 * length (return_rows flows.now) ≤ 10 ^ 15) into.old }
+    requires room { HasRoomFor flows.now into.old }
     ensures length { length into.new ≡ length into.old }
     ensures adds { (node : ℕ) → node < length into.old →
         slice_index into.new node ≡ slice_index into.old node + brought flows.now node }
@@ -164,10 +165,10 @@ impl Lags {
     }
 
     /// Adds what each row brings this month to the amount of its node, in units of 1,000 cubic metres. The list is
-    /// indexed by node, and each amount has room for 10^9 from each row. The cost is linear in the rows.
+    /// indexed by node, and each amount has room for what is added to it. The cost is linear in the rows.
     pub fn arrive(&self, into: &mut [u64])
         requires nodes { All (λ row. row.node < length into.old) (return_rows self.now) }
-        requires room { All (λ n. n + 10 ^ 9 * length (return_rows self.now) ≤ 10 ^ 15) into.old }
+        requires room { HasRoomFor self.now into.old }
         ensures length { length into.new ≡ length into.old }
         ensures adds { (rows : List ReturnRow) (deliveries : List (List ℕ)) → LagsStandFor self.now rows deliveries →
             (node : ℕ) → node < length into.old →

@@ -21,7 +21,7 @@ use Rattle.water_model.proofs.Wants.{want_most, want_carried}
 use Rattle.month_terms.proofs.Amounts.{supply_small, follows_small}
 use Rattle.senior_hold.specs.Solved.{IsGiven, IsSolved, AreSupplies, AreWants, FitsCuts}
 use Rattle.senior_hold.specs.Solved as sweep
-use Rattle.month_fold.specs.Runs.{RunView, RunStandsFor, IsNext}
+use Rattle.month_fold.specs.Runs.{RunView, WentThrough, IsNext}
 use Rattle.std.proofs.lemmas.List.{length-map}
 use Rattle.lag_returns.specs.Lags.{HasReturned}
 use Rattle.water_model.proofs.SetEntries.{emptied}
@@ -309,15 +309,15 @@ pub next_small : (b : Basin) (series : Inflows) (records : List MonthRecord) (m 
 next_small b series records m valid fits next = deliveries_small b series records m valid fits next.follows
 
 -- the record in which a run's next month begins, with what comes back
-pub run_begun : (run : RunView) (records : List MonthRecord) (m : MonthRecord) → RunStandsFor run records →
+pub run_begun : (run : RunView) (records : List MonthRecord) (m : MonthRecord) → WentThrough run records →
     m ≡ record run.last { returned = m.returned; used = m.used } →
     HasReturned run.basin (map (λ k. k.delivered) records) m.returned →
     m.used ≡ run.used → IsBegun run.basin run.series records m
-run_begun run records m stands is returned used = record {
-  partial = stands.partial;
-  stored = ap (λ k. k.closing) is ∙ stands.stored;
+run_begun run records m went is returned used = record {
+  partial = went.partial;
+  stored = ap (λ k. k.closing) is ∙ went.stored;
   returned = returned;
-  used = subst (HasUsed run.basin (map (λ k. k.delivered) records)) (sym used) stands.used;
+  used = subst (HasUsed run.basin (map (λ k. k.delivered) records)) (sym used) went.used;
 }
 
 pub begun_fits : (b : Basin) (m begun : MonthRecord) → FitsRecord b m →

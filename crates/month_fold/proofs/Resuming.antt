@@ -16,7 +16,7 @@ use Rattle.water_model.specs.declared.types.MonthRecord.{MonthRecord}
 use Rattle.month_terms.specs.Terms.{HasUsed}
 use Rattle.month_fold.specs.Uses.{HasDeliveries, StateUse, StatesUse}
 use Rattle.water_model.specs.History.{HaveReaches}
-use Rattle.month_fold.specs.Runs.{EngineView, RunView, RunStandsFor, run_with}
+use Rattle.month_fold.specs.Runs.{EngineView, RunView, WentThrough, run_with}
 use Rattle.month_terms.proofs.Amounts.{deliveries_small as all_small}
 use Rattle.month_terms.proofs.WaterYears.{nothing_used, used_most}
 use Rattle.month_fold.proofs.Following.{deliveries_small}
@@ -129,17 +129,17 @@ used_by_zeros f b xs used none zeros =
     (λ r. ap (λ ys. slice_index ys r) zeros ∙ no_numbers (length b.rights) r)
 
 -- what a run keeps is little
-pub used_little : (run : RunView) (records : List MonthRecord) → RunStandsFor run records →
+pub used_little : (run : RunView) (records : List MonthRecord) → WentThrough run records →
     (r : ℕ) → r < length run.basin.rights → slice_index run.used r ≤ 10 ^ 15
-used_little run records stands r l = omega (
+used_little run records went r l = omega (
   arith,
-  stands.used.each r l,
+  went.used.each r l,
   used_most run.basin (map (λ k. k.delivered) records) r (length (map (λ (k : MonthRecord). k.delivered) records))
       (10 ^ 9)
-      (all_small run.basin run.series records stands.valid stands.fits stands.partial r),
+      (all_small run.basin run.series records went.valid went.fits went.partial r),
   length-map records (λ (k : MonthRecord). k.delivered),
-  stands.partial.within,
-  stands.valid.run.months.1,
+  went.partial.within,
+  went.valid.run.months.1,
 )
 
 -- what is stored
@@ -184,19 +184,18 @@ none_state b i m at = let none : None ≡ Some m = at in cc
 pub none_reach : (b : Basin) → HaveReaches b []
 none_reach b i m at = let none : None ≡ Some m = at in cc
 
--- an engine after some months makes a run that stands for them
+-- an engine after some months makes a run that went through them
 pub starts_after : (engine : EngineView) (series : Inflows) (records : List MonthRecord) (done : ℕ) →
     IsValidBasin engine.basin → IsSeriesOf engine.basin series → IsPartialHistory engine.basin series records →
-    HaveReaches engine.basin records → done ≡ length records →
+    done ≡ length records →
     engine.last.closing ≡ opening_after engine.basin records →
     lag.LagsStandFor engine.lags engine.basin.returns (map (λ m. m.delivered) records) →
-    HasUsed engine.basin (map (λ m. m.delivered) records) engine.used → RunStandsFor (run_with engine series done)
+    HasUsed engine.basin (map (λ m. m.delivered) records) engine.used → WentThrough (run_with engine series done)
     records
-starts_after engine series records done valid fits partial reaches count stored lags used = record {
+starts_after engine series records done valid fits partial count stored lags used = record {
   valid = valid;
   fits = fits;
   partial = partial;
-  reaches = reaches;
   done = count;
   stored = stored;
   lags = lags;

@@ -1,21 +1,62 @@
--- A run stands for one more month.
-use Rattle.std.proofs.Common.{◌≡◌, ℕ, ◌+◌, ◌<◌, sym, subst, arith, List, [], ◌∷◌, ◌++◌, map, inl, inr}
+-- A run goes through one month more.
+use Rattle.std.proofs.Common.{◌≡◌, ◌∙◌, ℕ, ◌+◌, ◌<◌, sym, ap, subst, arith, List, [], ◌∷◌, ◌++◌, map, inl, inr}
 use Rattle.std.proofs.Common.{length-append}
 use Rattle.std.proofs.lemmas.List.{map-append}
 use Rattle.lag_returns.specs.Lags.{InTransit}
 use Rattle.lag_returns.specs.Lags as lag
+use Rattle.water_model.specs.declared.types.Basin.{Basin}
+use Rattle.water_model.specs.declared.types.Inflows.{Inflows}
 use Rattle.water_model.specs.declared.types.MonthRecord.{MonthRecord}
 use Rattle.water_model.proofs.Histories.{at_end, one_month_more, opens_with_last}
 use Rattle.month_terms.specs.Terms.{HasUsed}
-use Rattle.water_model.specs.History.{HasReaches}
-use Rattle.month_fold.specs.Runs.{RunView, RunStandsFor, IsNext}
+use Rattle.water_model.specs.History.{Follows, HasReaches, HaveReaches}
+use Rattle.month_fold.specs.Runs.{EngineView, RunView, RunStandsFor, WentThrough, run_with}
 
-pub stands_next : (run : RunView) (records : List MonthRecord) (m : MonthRecord) (lags : List InTransit)
-    (used : List ℕ) → RunStandsFor run records →
-    run.done < run.basin.months → IsNext run.basin run.series records m →
+-- a run stands for the months that it went through where their sets are the reaches
+pub stands_for : (run : RunView) (records : List MonthRecord) → WentThrough run records →
+    HaveReaches run.basin records → RunStandsFor run records
+stands_for run records went reaches = record {
+  valid = went.valid;
+  fits = went.fits;
+  partial = went.partial;
+  reaches = reaches;
+  done = went.done;
+  stored = went.stored;
+  lags = went.lags;
+  used = went.used;
+}
+
+pub went_through : (run : RunView) (records : List MonthRecord) → RunStandsFor run records → WentThrough run records
+went_through run records stands = record {
+  valid = stands.valid;
+  fits = stands.fits;
+  partial = stands.partial;
+  done = stands.done;
+  stored = stands.stored;
+  lags = stands.lags;
+  used = stands.used;
+}
+
+-- what is lent of an engine is what the engine keeps
+pub went_lent : (engine : EngineView) (series : Inflows) (done : ℕ) (records : List MonthRecord) (last : MonthRecord)
+    (used : List ℕ) → last ≡ engine.last → used ≡ engine.used → WentThrough (run_with engine series done) records →
+    WentThrough (run_with (record engine { last = last; used = used }) series done) records
+went_lent engine series done records last used same_last same_used went = record {
+  valid = went.valid;
+  fits = went.fits;
+  partial = went.partial;
+  done = went.done;
+  stored = ap (λ m. m.closing) same_last ∙ went.stored;
+  lags = went.lags;
+  used = subst (HasUsed engine.basin (map (λ m. m.delivered) records)) (sym same_used) went.used;
+}
+
+pub went_next : (run : RunView) (records : List MonthRecord) (m : MonthRecord) (lags : List InTransit)
+    (used : List ℕ) → WentThrough run records →
+    run.done < run.basin.months → Follows run.basin run.series records m →
     lag.LagsStandFor lags run.basin.returns (map (λ k. k.delivered) records ++ m.delivered ∷ []) →
     HasUsed run.basin (map (λ k. k.delivered) records ++ m.delivered ∷ []) used →
-    RunStandsFor (record {
+    WentThrough (record {
       basin = run.basin;
       series = run.series;
       done = run.done + 1;
@@ -24,17 +65,11 @@ pub stands_next : (run : RunView) (records : List MonthRecord) (m : MonthRecord)
       used =
           used;
     }) (records ++ m ∷ [])
-stands_next run records m lags used stands left next way spent = record {
-  valid = stands.valid;
-  fits = stands.fits;
-  partial = one_month_more run.basin run.series records m stands.partial (omega (arith, stands.done)) next.follows;
-  reaches =
-      λ i k at. elim (at_end records m k i at) [
-        | inl within ↦ stands.reaches i k within
-        | inr last ↦
-            subst (HasReaches run.basin) last.1 next.reaches
-      ];
-  done = omega (arith, stands.done, length-append records (m ∷ []));
+went_next run records m lags used went left follows way spent = record {
+  valid = went.valid;
+  fits = went.fits;
+  partial = one_month_more run.basin run.series records m went.partial (omega (arith, went.done)) follows;
+  done = omega (arith, went.done, length-append records (m ∷ []));
   stored = sym (opens_with_last run.basin records m);
   lags = subst (lag.LagsStandFor lags run.basin.returns) (sym delivered) way;
   used = subst (λ ds. HasUsed run.basin ds used) (sym delivered) spent;
@@ -42,3 +77,10 @@ stands_next run records m lags used stands left next way spent = record {
   where
     delivered : map (λ k. k.delivered) (records ++ m ∷ []) ≡ map (λ k. k.delivered) records ++ m.delivered ∷ []
     delivered = map-append (λ (k : MonthRecord). k.delivered) records (m ∷ [])
+
+pub reaches_next : (b : Basin) (records : List MonthRecord) (m : MonthRecord) → HaveReaches b records →
+    HasReaches b m → HaveReaches b (records ++ m ∷ [])
+reaches_next b records m reaches next i k at = elim (at_end records m k i at) [
+  | inl within ↦ reaches i k within
+  | inr last ↦ subst (HasReaches b) last.1 next
+]

@@ -3,7 +3,7 @@ use Rattle.std.specs.Prelude.{◌≡◌, length, map}
 use Rattle.lag_returns.specs.Lags.{return_rows}
 use Rattle.water_model.specs.Valid.{IsValidBasin}
 use Rattle.month_terms.specs.Terms.{FitsRecord}
-use Rattle.month_fold.specs.Runs.{EngineView, RunView, HasMonths, run_with}
+use Rattle.month_fold.specs.Runs.{EngineView, RunView, HasRecords, run_with}
 use Rattle.month_fold.specs.declared.engine.Engine.TheInside.{Inside as EngineInside}
 use Rattle.month_fold.specs.declared.run.Run.TheInside.{Inside}
 
@@ -24,4 +24,4 @@ view_of i = run_with i.engine i.series.now i.done
 
 -- the run went through some months
 abbrev pub IsValidState : Inside → Type 0
-IsValidState i = HasMonths (view_of i)
+IsValidState i = HasRecords (view_of i)

@@ -1,11 +1,10 @@
 -- Runs, and the months that they went through.
-use Rattle.std.specs.Prelude.{◌≡◌, ℕ, ◌*◌, List, map, length}
+use Rattle.std.specs.Prelude.{◌≡◌, ℕ, List, map, length}
 use Rattle.lag_returns.specs.Lags.{InTransit}
 use Rattle.lag_returns.specs.Lags as lag
 use Rattle.water_model.specs.History.{IsPartialHistory, Follows, opening_after}
 use Rattle.month_terms.specs.Terms.{HasUsed}
 use Rattle.water_model.specs.History.{HaveReaches, HasReaches}
-use Rattle.senior_hold.specs.MonthNetwork.{month_pushes}
 use Rattle.water_model.specs.Valid.{IsValidBasin, IsSeriesOf}
 use Rattle.water_model.specs.declared.types.Basin.{Basin}
 use Rattle.water_model.specs.declared.types.Inflows.{Inflows}
@@ -40,8 +39,18 @@ run_with engine series done = record {
   used = engine.used;
 }
 
--- the run of a valid basin and a series of it went through these months: they are a partial history, with the reaches
+-- the run of a valid basin and a series of it went through these months: they are a partial history, with any tight cuts
 -- as the sets of short rights, after which the next month opens with what is stored, on its way and used
+pub record WentThrough (run : RunView) (records : List MonthRecord) : Type 0 where
+  pub valid : IsValidBasin run.basin
+  pub fits : IsSeriesOf run.basin run.series
+  pub partial : IsPartialHistory run.basin run.series records
+  pub done : run.done ≡ length records
+  pub stored : run.last.closing ≡ opening_after run.basin records
+  pub lags : lag.LagsStandFor run.lags run.basin.returns (map (λ m. m.delivered) records)
+  pub used : HasUsed run.basin (map (λ m. m.delivered) records) run.used
+
+-- and the sets are the reaches
 pub record RunStandsFor (run : RunView) (records : List MonthRecord) : Type 0 where
   pub valid : IsValidBasin run.basin
   pub fits : IsSeriesOf run.basin run.series
@@ -53,6 +62,11 @@ pub record RunStandsFor (run : RunView) (records : List MonthRecord) : Type 0 wh
   pub used : HasUsed run.basin (map (λ m. m.delivered) records) run.used
 
 -- the run went through some months
+pub record HasRecords (run : RunView) : Type 0 where
+  pub records : List MonthRecord
+  pub went : WentThrough run records
+
+-- and their sets are the reaches
 pub record HasMonths (run : RunView) : Type 0 where
   pub records : List MonthRecord
   pub stands : RunStandsFor run records
@@ -66,7 +80,3 @@ pub record IsNext (b : Basin) (series : Inflows) (records : List MonthRecord) (m
 pub record GoesOn (run later : RunView) : Type 0 where
   pub basin : later.basin ≡ run.basin
   pub series : later.series ≡ run.series
-
--- how often the searches of a whole run push at most
-abbrev pub run_pushes : Basin → ℕ
-run_pushes b = b.months * month_pushes b

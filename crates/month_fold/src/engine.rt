@@ -1,17 +1,18 @@
 //! What runs of a basin are made with.
 ghost use Rattle.std.specs.Prelude.{List, ◌≡◌, ◌+◌, ◌*◌, ◌<◌, ◌≤◌, ◌++◌, ◌∷◌, [], All, length, map, IfOk};
 ghost use Rattle.rights_roll.specs.Rolls.{IsRollOf};
-ghost use Rattle.senior_hold.specs.MonthNetwork.{month_pushes};
 ghost use Rattle.water_model.specs.History.{IsPartialHistory, opening_after};
 ghost use Rattle.water_model.specs.Valid.{IsValidBasin, IsSeriesOf};
 ghost use Rattle.water_model.specs.declared.types.Inflows.{Inflows};
 ghost use Rattle.water_model.specs.declared.types.MonthRecord.{MonthRecord};
 ghost use Rattle.month_fold.specs.Uses.{HasDeliveries, StateUse};
-ghost use Rattle.water_model.specs.History.{HaveReaches};
-ghost use Rattle.month_fold.specs.Runs.{RunStandsFor, HasMonths, run_with};
+ghost use Rattle.water_model.specs.History.{HaveReaches, HasReaches};
+ghost use Rattle.month_fold.specs.Runs.{RunStandsFor, WentThrough, HasRecords, run_with};
+ghost use Rattle.month_fold.specs.Works.{Solves};
 
 use crate::next::{next_month, use_volumes};
 use crate::resume::{replay_returns, store_after, use_after};
+use crate::work::Work;
 use lag_returns::Lags;
 use month_terms::evaporation::tables_of;
 use month_terms::opening::blank_month;
@@ -21,7 +22,6 @@ use senior_hold::Solver;
 use std::alloc::{AllocError, Global};
 use std::marker::Model;
 use std::sync::ledger::Ledger;
-use steps::Steps;
 use water_model::blank::zeros;
 use water_model::rows::Rows;
 use water_model::types::{Basin, Inflows, MonthRecord};
@@ -91,6 +91,9 @@ impl<'b> Engine<'b> {
         requires stored { length (opening_after self.old.basin (map (λ m. m.value) months.now))
             ≡ length self.old.basin.reservoirs }
         ensures basin { self.new.basin ≡ self.old.basin }
+        ensures went { (series : Inflows) → IsSeriesOf self.new.basin series →
+            IsPartialHistory self.new.basin series (map (λ m. m.value) months.now) →
+            WentThrough (run_with self.new series (length months.now)) (map (λ m. m.value) months.now) }
         ensures stands { (series : Inflows) → IsSeriesOf self.new.basin series →
             IsPartialHistory self.new.basin series (map (λ m. m.value) months.now) →
             HaveReaches self.new.basin (map (λ m. m.value) months.now) →
@@ -124,15 +127,19 @@ impl<'b> Engine<'b> {
         &self.month
     }
 
-    /// Solves the month after the first `done` of a series; `month` then gives its record. Each search that finds a
-    /// walk ticks `searches` once.
-    pub fn step<L: Ledger>(&mut self, series: &Inflows, done: u32, searches: &mut Steps<L>)
+    /// Solves the month after the first `done` of a series; `month` then gives its record. `work` counts each search
+    /// that finds a walk, and the month.
+    pub fn step<P: Ledger, M: Ledger>(&mut self, series: &Inflows, done: u32, work: &mut Work<P, M>)
         requires left { done < self.old.basin.months }
-        requires months { HasMonths (run_with self.old series.now done) }
+        requires months { HasRecords (run_with self.old series.now done) }
         ensures basin { self.new.basin ≡ self.old.basin }
+        ensures went { (records : List MonthRecord) → WentThrough (run_with self.old series.now done) records →
+            WentThrough (run_with self.new series.now (done + 1)) (records ++ self.new.last ∷ []) }
+        ensures reaches { HasReaches self.old.basin self.new.last }
         ensures month { (records : List MonthRecord) → RunStandsFor (run_with self.old series.now done) records →
             RunStandsFor (run_with self.new series.now (done + 1)) (records ++ self.new.last ∷ []) }
-        ensures pushes { searches.new ≤ searches.old + month_pushes self.old.basin }
+        ensures counted { work.new.months ≡ work.old.months + 1 }
+        ensures work { Solves 1 self.old.basin work.old work.new }
     {
         next_month(
             self.basin,
@@ -143,9 +150,10 @@ impl<'b> Engine<'b> {
             &mut *self.solver,
             done,
             &mut *self.month,
-            searches,
+            &mut work.pushes,
         );
         self.lags.month_done(self.month.delivered.as_slice());
         use_volumes(self.basin, done, &self.month, &mut self.used);
+        work.months.tick();
     }
 }

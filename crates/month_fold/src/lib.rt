@@ -6,3 +6,4 @@ pub mod laws;
 mod next;
 mod resume;
 pub mod run;
+pub mod work;

@@ -8,7 +8,7 @@ ghost use Rattle.senior_hold.specs.MonthNetwork.{month_pushes};
 ghost use Rattle.water_model.specs.Valid.{IsValidBasin};
 ghost use Rattle.water_model.specs.declared.types.MonthRecord.{MonthRecord};
 ghost use Rattle.month_fold.specs.Uses.{HasDeliveries};
-ghost use Rattle.month_fold.specs.Runs.{RunStandsFor, HasMonths, IsNext};
+ghost use Rattle.month_fold.specs.Runs.{WentThrough, HasRecords, IsNext};
 
 use lag_returns::Lags;
 use month_terms::month::{conclude, settle};
@@ -73,7 +73,7 @@ pub fn next_month<L: Ledger>(
     requires solver { solver.old ≡ basin.now }
     requires index { index < basin.now.months }
     requires month { FitsRecord basin.now month.old }
-    requires months { HasMonths (record {
+    requires months { HasRecords (record {
       basin = basin.now;
       series = series.now;
       done = index;
@@ -85,7 +85,7 @@ pub fn next_month<L: Ledger>(
     ensures fits { FitsRecord basin.now month.new }
     ensures small { All (λ n. n ≤ 10 ^ 9) month.new.delivered }
     ensures next { (records : List MonthRecord) →
-        RunStandsFor
+        WentThrough
         (record {
           basin = basin.now;
           series = series.now;

@@ -1,19 +1,19 @@
 //! A run of a basin, month by month.
 ghost use Rattle.std.specs.Prelude.{List, ◌≡◌, ◌+◌, ◌-◌, ◌<◌, ◌≤◌, ◌++◌, ◌∷◌, [], map, IfOk};
 ghost use Rattle.rights_roll.specs.Rolls.{IsRollOf};
-ghost use Rattle.senior_hold.specs.MonthNetwork.{month_pushes};
 ghost use Rattle.water_model.specs.Valid.{IsValidBasin, IsSeriesOf};
 ghost use Rattle.water_model.specs.declared.types.MonthRecord.{MonthRecord};
 ghost use Rattle.water_model.specs.History.{IsPartialHistory};
-ghost use Rattle.water_model.specs.History.{HaveReaches};
-ghost use Rattle.month_fold.specs.Runs.{RunStandsFor};
+ghost use Rattle.water_model.specs.History.{HaveReaches, HasReaches};
+ghost use Rattle.month_fold.specs.Runs.{RunStandsFor, WentThrough};
+ghost use Rattle.month_fold.specs.Works.{Solves};
 
 use crate::engine::Engine;
+use crate::work::Work;
 use rights_roll::roll::Roll;
 use std::alloc::{AllocError, Global};
 use std::marker::Model;
 use std::sync::ledger::Ledger;
-use steps::Steps;
 use water_model::types::{Basin, Inflows, MonthRecord};
 
 /// A run of a basin with a series of inflows.
@@ -83,9 +83,9 @@ impl<'b, 's> Run<'b, 's> {
         engine
     }
 
-    /// A run that went through these months, which may have been solved by another run. AllocError comes where memory
-    /// is lacking. No month is solved: the cost is that of opening a run, and linear in the return rows times the
-    /// months.
+    /// A run that went through these months, which may have been solved by another run, or in another way: any partial
+    /// history will do. AllocError comes where memory is lacking. No month is solved: the cost is that of opening a
+    /// run, and linear in the return rows times the months.
     pub fn resume(
         alloc: Global,
         basin: &'b Basin,
@@ -95,10 +95,11 @@ impl<'b, 's> Run<'b, 's> {
         requires basin { IsValidBasin basin.now }
         requires series { IsSeriesOf basin.now series.now }
         requires months { IsPartialHistory basin.now series.now (map (λ m. m.value) months.now) }
-        requires reaches { HaveReaches basin.now (map (λ m. m.value) months.now) }
         ensures basin { IfOk result (λ run. run.basin ≡ basin.now) }
         ensures series { IfOk result (λ run. run.series ≡ series.now) }
-        ensures stands { IfOk result (λ run. RunStandsFor run (map (λ m. m.value) months.now)) }
+        ensures went { IfOk result (λ run. WentThrough run (map (λ m. m.value) months.now)) }
+        ensures stands { IfOk result (λ run. HaveReaches basin.now (map (λ m. m.value) months.now) →
+            RunStandsFor run (map (λ m. m.value) months.now)) }
     {
         let mut engine = Engine::open(alloc, basin)?;
         engine.start_after(months);
@@ -148,17 +149,21 @@ impl<'b, 's> Run<'b, 's> {
     }
 
     /// Solves the next month; `month` then gives its record: it follows the records before it, and the set of each
-    /// short right is its reach. Each search that finds a walk ticks `searches` once. It refuses nothing and takes no
-    /// memory: once a run is open, each of its months has its record.
-    pub fn step<L: Ledger>(&mut self, searches: &mut Steps<L>)
+    /// short right is its reach. `work` counts each search that finds a walk, and the month. It refuses nothing and takes
+    /// no memory: once a run is open, each of its months has its record.
+    pub fn step<P: Ledger, M: Ledger>(&mut self, work: &mut Work<P, M>)
         requires left { self.old.done < self.old.basin.months }
         ensures basin { self.new.basin ≡ self.old.basin }
         ensures series { self.new.series ≡ self.old.series }
+        ensures went { (records : List MonthRecord) → WentThrough self.old records →
+            WentThrough self.new (records ++ self.new.last ∷ []) }
+        ensures reaches { HasReaches self.old.basin self.new.last }
         ensures month { (records : List MonthRecord) → RunStandsFor self.old records →
             RunStandsFor self.new (records ++ self.new.last ∷ []) }
-        ensures pushes { searches.new ≤ searches.old + month_pushes self.old.basin }
+        ensures counted { work.new.months ≡ work.old.months + 1 }
+        ensures work { Solves 1 self.old.basin work.old work.new }
     {
-        self.engine.step(self.series, self.done, searches);
+        self.engine.step(self.series, self.done, work);
         self.done += 1;
     }
 }

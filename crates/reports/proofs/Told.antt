@@ -5,11 +5,11 @@ use Rattle.std.proofs.Common.{Err}
 use Rattle.std.specs.Prelude.{All, find, sum_by, Option, Some, None, option_map, IfSome, slice_index, nat_lt}
 use Rattle.std.specs.List.{flat_map}
 use Rattle.std.specs.Fmt.{decimal}
-use Rattle.std.specs.Io.KnownBytes.{Appends}
 use Rattle.std.proofs.lemmas.List.{length-take-le}
 use Rattle.std.proofs.lemmas.List.Sums.{sum_by-cons, sum_by-le, count_by-le-length}
 use Rattle.std.proofs.lemmas.List.Elements.{All-tail}
 use Rattle.std.proofs.lemmas.Option.{slice_get-get_or}
+use Rattle.water_edge.specs.Edge.{Extends, Output}
 use Rattle.water_text.specs.Months.{IsMonth}
 use Rattle.water_model.specs.History.{IsPartialHistory}
 use Rattle.water_model.specs.Indices.{indices_of, seniors_first}
@@ -96,13 +96,13 @@ pub entries_told : (b : Basin) (series : Inflows) (records : List MonthRecord) (
 entries_told b series records t is = entries_count (figures_of records) b.rights t.rights is.rights
 
 -- the report of a run, or a prefix of it
-pub report_put : (b : Basin) (series : Inflows) (records : List MonthRecord) (t : Tally) (old new : Option (List ℕ)) →
+pub report_put : (b : Basin) (series : Inflows) (records : List MonthRecord) (t : Tally) (old new : Output) →
     IsRun b series records → IsTally b series records t →
-    Appends old new (tally_text b t) → Reports (λ k. report_text b series k) b series (Ok tt) old new
+    Extends old new (tally_text b t) → Reports (λ k. report_text b series k) b series (Ok tt) old new
 report_put b series records t old new run is put =
-    (records, run, subst (λ (text : List ℕ). Appends old new text) (report_told b series records t is) put)
+    (records, run, subst (λ (text : List ℕ). Extends old new text) (report_told b series records t is) put)
 
-pub report_cut : (b : Basin) (series : Inflows) (records : List MonthRecord) (t : Tally) (old new : Option (List ℕ)) →
+pub report_cut : (b : Basin) (series : Inflows) (records : List MonthRecord) (t : Tally) (old new : Output) →
     IsRun b series records → IsTally b series records t →
     PutsPrefix old new (tally_text b t) → Reports (λ k. report_text b series k) b series (Err stop.SinkFailed) old new
 report_cut b series records t old new run is put =
@@ -207,14 +207,14 @@ summary_told number size b series records t totals called is c s w d = rw (short
 
 -- the summary of a run, or a prefix of it
 pub summary_put : (number size : ℕ) (b : Basin) (series : Inflows) (records : List MonthRecord) (text : List ℕ)
-    (old new : Option (List ℕ)) → IsRun b series records →
-    text ≡ trial_text number size b series records → Appends old new text →
+    (old new : Output) → IsRun b series records →
+    text ≡ trial_text number size b series records → Extends old new text →
     Reports (λ k. trial_text number size b series k) b series (Ok tt) old new
 summary_put number size b series records text old new run told put =
-    (records, run, subst (λ (t : List ℕ). Appends old new t) told put)
+    (records, run, subst (λ (t : List ℕ). Extends old new t) told put)
 
 pub summary_cut : (number size : ℕ) (b : Basin) (series : Inflows) (records : List MonthRecord) (text : List ℕ)
-    (old new : Option (List ℕ)) → IsRun b series records →
+    (old new : Output) → IsRun b series records →
     text ≡ trial_text number size b series records → PutsPrefix old new text →
     Reports (λ k. trial_text number size b series k) b series (Err stop.SinkFailed) old new
 summary_cut number size b series records text old new run told put =

@@ -1,6 +1,6 @@
 -- How a report may end.
-use Rattle.std.specs.Prelude.{ℕ, ◌≤◌, List, length, take, ⊤, Option, Result, Ok, Err}
-use Rattle.std.specs.Io.KnownBytes.{Appends}
+use Rattle.std.specs.Prelude.{ℕ, ◌≤◌, List, length, take, ⊤, Result, Ok, Err}
+use Rattle.water_edge.specs.Edge.{Extends, Output}
 use Rattle.water_model.specs.History.{HaveReaches}
 use Rattle.water_model.specs.History.{IsHistory}
 use Rattle.water_model.specs.declared.types.Basin.{Basin}
@@ -17,11 +17,11 @@ pub record IsRun (b : Basin) (series : Inflows) (records : List MonthRecord) : T
   pub balanced : AreBalanced (waters_of b series records)
 
 -- the text of a run is appended, or after a failure of the sink a prefix of it
-abbrev pub Reports : (List MonthRecord → List ℕ) → Basin → Inflows → Result (Unit {0}) ReportStop → Option (List ℕ) →
-    Option (List ℕ) → Type 0
+abbrev pub Reports : (List MonthRecord → List ℕ) → Basin → Inflows → Result (Unit {0}) ReportStop → Output →
+    Output → Type 0
 Reports text b series (Ok _) old new =
-    (records : List MonthRecord) × IsRun b series records × Appends old new (text records)
+    (records : List MonthRecord) × IsRun b series records × Extends old new (text records)
 Reports text b series (Err stop.SinkFailed) old new =
     (records : List MonthRecord) × IsRun b series records
-    × ((count : ℕ) × (count ≤ length (text records)) × Appends old new (take count (text records)))
+    × ((count : ℕ) × (count ≤ length (text records)) × Extends old new (take count (text records)))
 Reports text b series (Err stop.OutOfMemory) old new = ⊤

@@ -44,7 +44,7 @@ fn spell_number(line: &mut Line, word: &[u8], value: u64)
 /// Puts a row of a word and a number.
 pub fn put_number<K: Sink>(sink: &mut K, word: &[u8], value: u64) -> Result<(), SinkFailed>
     requires { length word.now ≤ 16 }
-    ensures text { Puts (K.taken sink.old) (K.taken sink.new) result (row (word.now ∷ decimal value ∷ [])) }
+    ensures text { Puts (K.output sink.old) (K.output sink.new) result (row (word.now ∷ decimal value ∷ [])) }
     ensures cause { HasCause (K.faults sink.old) (K.faults sink.new) (IsErr result) }
 {
     let mut line = Line::new();
@@ -68,7 +68,7 @@ fn spell_run(line: &mut Line, basin: &Basin)
 /// Puts the row of the run.
 pub fn put_run<K: Sink>(sink: &mut K, basin: &Basin) -> Result<(), SinkFailed>
     requires { IsValidBasin basin.now }
-    ensures text { Puts (K.taken sink.old) (K.taken sink.new) result (run_row basin.now) }
+    ensures text { Puts (K.output sink.old) (K.output sink.new) result (run_row basin.now) }
     ensures cause { HasCause (K.faults sink.old) (K.faults sink.new) (IsErr result) }
 {
     let mut line = Line::new();
@@ -104,7 +104,7 @@ pub fn put_right<K: Sink>(
     requires basin { IsValidBasin basin.now }
     requires right { right < length basin.now.rights }
     requires worst { IfSome figures.now.worst IsMonth }
-    ensures text { Puts (K.taken sink.old) (K.taken sink.new) result (figures_row basin.now right figures.now) }
+    ensures text { Puts (K.output sink.old) (K.output sink.new) result (figures_row basin.now right figures.now) }
     ensures cause { HasCause (K.faults sink.old) (K.faults sink.new) (IsErr result) }
 {
     let mut line = Line::new();
@@ -140,7 +140,7 @@ fn spell_size(line: &mut Line, basin: &Basin)
 
 /// Puts the row of what a trial is made from.
 pub fn put_trial<K: Sink>(sink: &mut K, number: u32, size: u32) -> Result<(), SinkFailed>
-    ensures text { Puts (K.taken sink.old) (K.taken sink.new) result (trial_row number size) }
+    ensures text { Puts (K.output sink.old) (K.output sink.new) result (trial_row number size) }
     ensures cause { HasCause (K.faults sink.old) (K.faults sink.new) (IsErr result) }
 {
     let mut line = Line::new();
@@ -150,7 +150,7 @@ pub fn put_trial<K: Sink>(sink: &mut K, number: u32, size: u32) -> Result<(), Si
 
 /// Puts the row of a basin's size.
 pub fn put_size<K: Sink>(sink: &mut K, basin: &Basin) -> Result<(), SinkFailed>
-    ensures text { Puts (K.taken sink.old) (K.taken sink.new) result (size_row basin.now) }
+    ensures text { Puts (K.output sink.old) (K.output sink.new) result (size_row basin.now) }
     ensures cause { HasCause (K.faults sink.old) (K.faults sink.new) (IsErr result) }
 {
     let mut line = Line::new();
@@ -173,7 +173,7 @@ fn spell_prefix(line: &mut Line, waters: &Waters)
 
 /// Puts the first piece of the balance.
 fn put_prefix<K: Sink>(sink: &mut K, waters: &Waters) -> Result<(), SinkFailed>
-    ensures text { Puts (K.taken sink.old) (K.taken sink.new) result (balance_prefix waters.now) }
+    ensures text { Puts (K.output sink.old) (K.output sink.new) result (balance_prefix waters.now) }
     ensures cause { HasCause (K.faults sink.old) (K.faults sink.new) (IsErr result) }
 {
     let mut line = Line::new();
@@ -195,7 +195,7 @@ fn spell_rest(line: &mut Line, waters: &Waters)
 
 /// Puts the second piece of the balance.
 fn put_rest<K: Sink>(sink: &mut K, waters: &Waters) -> Result<(), SinkFailed>
-    ensures text { Puts (K.taken sink.old) (K.taken sink.new) result (balance_rest waters.now) }
+    ensures text { Puts (K.output sink.old) (K.output sink.new) result (balance_rest waters.now) }
     ensures cause { HasCause (K.faults sink.old) (K.faults sink.new) (IsErr result) }
 {
     let mut line = Line::new();
@@ -205,7 +205,7 @@ fn put_rest<K: Sink>(sink: &mut K, waters: &Waters) -> Result<(), SinkFailed>
 
 /// Puts the row of the balance, in two pieces, since it may be longer than a line.
 fn put_balance<K: Sink>(sink: &mut K, waters: &Waters) -> Result<(), SinkFailed>
-    ensures text { Puts (K.taken sink.old) (K.taken sink.new) result (balance_row waters.now) }
+    ensures text { Puts (K.output sink.old) (K.output sink.new) result (balance_row waters.now) }
     ensures cause { HasCause (K.faults sink.old) (K.faults sink.new) (IsErr result) }
 {
     put_prefix(sink, waters)?;
@@ -214,7 +214,7 @@ fn put_balance<K: Sink>(sink: &mut K, waters: &Waters) -> Result<(), SinkFailed>
 
 /// Puts the rows of the balance and of the end.
 pub fn put_end<K: Sink>(sink: &mut K, basin: &Basin, waters: &Waters) -> Result<(), SinkFailed>
-    ensures text { Puts (K.taken sink.old) (K.taken sink.new) result (balance_row waters.now ++ done_row basin.now) }
+    ensures text { Puts (K.output sink.old) (K.output sink.new) result (balance_row waters.now ++ done_row basin.now) }
     ensures cause { HasCause (K.faults sink.old) (K.faults sink.new) (IsErr result) }
 {
     put_balance(sink, waters)?;

@@ -29,7 +29,7 @@ fn put_listed<K: Sink>(
     requires right { right < length basin.now.rights }
     requires count { length rights.now ≡ length basin.now.rights }
     requires worst { All (λ f. IfSome f.worst IsMonth) rights.now }
-    ensures text { Puts (K.taken sink.old) (K.taken sink.new) result (row_in basin.now rights.now right) }
+    ensures text { Puts (K.output sink.old) (K.output sink.new) result (row_in basin.now rights.now right) }
     ensures cause { HasCause (K.faults sink.old) (K.faults sink.new) (IsErr result) }
 {
     put_right(sink, basin, right, &rights[right as usize])
@@ -46,7 +46,7 @@ fn put_rights<K: Sink>(
     requires roll { IsRollOf basin.now.rights roll.now }
     requires count { length rights.now ≡ length basin.now.rights }
     requires worst { All (λ f. IfSome f.worst IsMonth) rights.now }
-    ensures text { Puts (K.taken sink.old) (K.taken sink.new) result
+    ensures text { Puts (K.output sink.old) (K.output sink.new) result
         (flat_map (row_in basin.now rights.now) (seniors_first basin.now)) }
     ensures cause { HasCause (K.faults sink.old) (K.faults sink.new) (IsErr result) }
 {
@@ -68,7 +68,7 @@ pub fn put_report<K: Sink>(
     requires roll { IsRollOf basin.now.rights roll.now }
     requires count { length tally.now.rights ≡ length basin.now.rights }
     requires worst { All (λ f. IfSome f.worst IsMonth) tally.now.rights }
-    ensures text { Puts (K.taken sink.old) (K.taken sink.new) result (tally_text basin.now tally.now) }
+    ensures text { Puts (K.output sink.old) (K.output sink.new) result (tally_text basin.now tally.now) }
     ensures cause { HasCause (K.faults sink.old) (K.faults sink.new) (IsErr result) }
 {
     put_run(sink, basin)?;
@@ -78,7 +78,7 @@ pub fn put_report<K: Sink>(
 
 /// Puts the rows of what a trial made.
 fn put_made<K: Sink>(sink: &mut K, number: u32, size: u32, basin: &Basin) -> Result<(), SinkFailed>
-    ensures text { Puts (K.taken sink.old) (K.taken sink.new) result (made_rows number size basin.now) }
+    ensures text { Puts (K.output sink.old) (K.output sink.new) result (made_rows number size basin.now) }
     ensures cause { HasCause (K.faults sink.old) (K.faults sink.new) (IsErr result) }
 {
     put_trial(sink, number, size)?;
@@ -87,7 +87,7 @@ fn put_made<K: Sink>(sink: &mut K, number: u32, size: u32, basin: &Basin) -> Res
 
 /// Puts the rows of amounts over all rights.
 fn put_amounts<K: Sink>(sink: &mut K, totals: &Totals) -> Result<(), SinkFailed>
-    ensures text { Puts (K.taken sink.old) (K.taken sink.new) result (amount_rows totals.now) }
+    ensures text { Puts (K.output sink.old) (K.output sink.new) result (amount_rows totals.now) }
     ensures cause { HasCause (K.faults sink.old) (K.faults sink.new) (IsErr result) }
 {
     put_number(sink, b"wanted", totals.wanted)?;
@@ -96,7 +96,7 @@ fn put_amounts<K: Sink>(sink: &mut K, totals: &Totals) -> Result<(), SinkFailed>
 
 /// Puts the rows of counts of right-months.
 fn put_counts<K: Sink>(sink: &mut K, totals: &Totals, called: u64) -> Result<(), SinkFailed>
-    ensures text { Puts (K.taken sink.old) (K.taken sink.new) result (count_rows totals.now called) }
+    ensures text { Puts (K.output sink.old) (K.output sink.new) result (count_rows totals.now called) }
     ensures cause { HasCause (K.faults sink.old) (K.faults sink.new) (IsErr result) }
 {
     put_number(sink, b"short", totals.short_months)?;
@@ -105,7 +105,7 @@ fn put_counts<K: Sink>(sink: &mut K, totals: &Totals, called: u64) -> Result<(),
 
 /// Puts the rows of the sums over all rights.
 fn put_totals<K: Sink>(sink: &mut K, totals: &Totals, called: u64) -> Result<(), SinkFailed>
-    ensures text { Puts (K.taken sink.old) (K.taken sink.new) result
+    ensures text { Puts (K.output sink.old) (K.output sink.new) result
         (amount_rows totals.now ++ count_rows totals.now called) }
     ensures cause { HasCause (K.faults sink.old) (K.faults sink.new) (IsErr result) }
 {
@@ -123,7 +123,7 @@ pub fn put_summary<K: Sink>(
     called: u64,
     waters: &Waters,
 ) -> Result<(), SinkFailed>
-    ensures text { Puts (K.taken sink.old) (K.taken sink.new) result
+    ensures text { Puts (K.output sink.old) (K.output sink.new) result
         (summary_text number size basin.now totals.now called waters.now) }
     ensures cause { HasCause (K.faults sink.old) (K.faults sink.new) (IsErr result) }
 {

@@ -3,8 +3,8 @@ use Rattle.std.proofs.Common.{◌≡◌, ℕ, zero, suc, ◌+◌, ◌-◌, ◌<�
 use Rattle.std.proofs.Common.{sym, ap, ◌∙◌, arith, map, Option, Some, ◌&&◌, subst}
 use Rattle.std.specs.Prelude.{if◌then◌else◌}
 use Rattle.std.specs.List.{flat_map}
-use Rattle.std.specs.Io.KnownBytes.{Appends}
-use Rattle.std.proofs.KnownBytes.{Appends-nil}
+use Rattle.water_edge.specs.Edge.{Extends, Output}
+use Rattle.water_edge.proofs.Outputs.{Extends-nil}
 use Rattle.bit_words.specs.Marks.{is_marked, in_both, marks, IsNextInBoth}
 use Rattle.bit_words.proofs.Marks.{get_or-marks, length-marks}
 use Rattle.water_model.specs.Lookups.{has}
@@ -67,7 +67,7 @@ unmarked words n h = by_mark (is_marked words n) h
     by_mark false h = refl
 
 -- nodes that aren't marked have no lines
-skip : (b : Basin) (words : List ℕ) (nodes from count : ℕ) {old now : Option (List ℕ)} {before after : ℕ} →
+skip : (b : Basin) (words : List ℕ) (nodes from count : ℕ) {old now : Output} {before after : ℕ} →
     SoFar (whole_line b) (member_at words) (numbers_from 0 nodes) from old now before after → from + count ≤ nodes →
     ((n : ℕ) → from ≤ n → n < from + count → in_both words words n ≡ false) →
     SoFar (whole_line b) (member_at words) (numbers_from 0 nodes) (from + count) old now before after
@@ -80,12 +80,12 @@ skip b words nodes from (suc count) {old} {now} {before} {after} s l h =
     (SoFar-next (from + count)
     (skip b words nodes from count s (omega (arith, l)) (λ n above below. h n above (omega (arith, below))))
     (numbers_from-get 0 nodes (from + count) (from + count) (omega (arith, l)) (omega arith))
-    (subst (λ (items : List Item). Appends now now (flat_map (whole_line b) items))
-    (sym (unmarked words (from + count) (h (from + count) (omega arith) (omega arith)))) (Appends-nil now))
+    (subst (λ (items : List Item). Extends now now (flat_map (whole_line b) items))
+    (sym (unmarked words (from + count) (h (from + count) (omega arith) (omega arith)))) (Extends-nil now))
     (omega arith))
 
 -- all lines before the next node that is marked
-pub SoFar-at : (b : Basin) (words : List ℕ) (nodes from node : ℕ) {old now : Option (List ℕ)} {before after : ℕ} →
+pub SoFar-at : (b : Basin) (words : List ℕ) (nodes from node : ℕ) {old now : Output} {before after : ℕ} →
     SoFar (whole_line b) (member_at words) (numbers_from 0 nodes) from old now before after →
     IsNextInBoth words words from nodes node →
     SoFar (whole_line b) (member_at words) (numbers_from 0 nodes) node old now before after
@@ -105,10 +105,10 @@ line_of_next words from nodes node next = by_mark (is_marked words node) next.ma
     by_mark false h = cc
 
 -- where no further node is marked these are all lines
-pub SoFar-rest : (b : Basin) (words : List ℕ) (nodes from : ℕ) {old now : Option (List ℕ)} {before after : ℕ} →
+pub SoFar-rest : (b : Basin) (words : List ℕ) (nodes from : ℕ) {old now : Output} {before after : ℕ} →
     SoFar (whole_line b) (member_at words) (numbers_from 0 nodes) from old now before after → from ≤ nodes →
     ((n : ℕ) → from ≤ n → n < nodes → in_both words words n ≡ false) →
-    Appends old now (flat_map (whole_line b) (members_of nodes words))
+    Extends old now (flat_map (whole_line b) (members_of nodes words))
 SoFar-rest b words nodes from s l h =
     SoFar-whole
     (skip b words nodes from (nodes - from) s (omega (arith, l)) (λ n above below. h n above (omega (arith, below, l))))

@@ -5,9 +5,8 @@ use Rattle.std.specs.Prelude.{IfSome, slice_index, unwrap_or, option_map, ◌⊎
 use Rattle.std.proofs.lemmas.Bool.{cases_lt}
 use Rattle.std.proofs.lemmas.Option.{slice_get_past}
 use Rattle.std.specs.List.{flat_map}
-use Rattle.std.specs.Io.KnownBytes.{Appends}
 use Rattle.std.proofs.lemmas.Grind.{flat_map-append}
-use Rattle.water_edge.specs.Edge.{Puts}
+use Rattle.water_edge.specs.Edge.{Extends, Output, Puts}
 use Rattle.water_text.specs.Months.{IsMonth}
 use Rattle.water_model.specs.History.{Follows, IsShort, cut_of}
 use Rattle.water_model.specs.Spelling.{whole_line}
@@ -44,23 +43,23 @@ text-begun b records =
     ∙ flat_map-append (whole_line b) (items_of_head b ++ flat_map (items_of_month b) records) (items_of_tail b)
 
 -- a head that was put
-pub Puts-head : {E : Type 0} (b : Basin) (old new : Option (List ℕ)) (r : Result (Unit {0}) E) →
+pub Puts-head : {E : Type 0} (b : Basin) (old new : Output) (r : Result (Unit {0}) E) →
     Puts old new r (flat_map (whole_line b) (items_of_head b)) → Puts old new r (begun_bytes b [])
 Puts-head b old new r h = rw (begun-head b) h
 
 -- one month more
-pub Puts-month : {E : Type 0} (b : Basin) (records : List MonthRecord) (m : MonthRecord) (old mid new : Option (List ℕ))
+pub Puts-month : {E : Type 0} (b : Basin) (records : List MonthRecord) (m : MonthRecord) (old mid new : Output)
     (r : Result (Unit {0}) E) →
-    Appends old mid (begun_bytes b records) → Puts mid new r (flat_map (whole_line b) (items_of_month b m)) →
+    Extends old mid (begun_bytes b records) → Puts mid new r (flat_map (whole_line b) (items_of_month b m)) →
     Puts old new r (begun_bytes b (records ++ m ∷ []))
 Puts-month b records m old mid new r begun h =
     subst (λ (bytes : List ℕ). Puts old new r bytes) (sym (begun-more b records m))
     (Puts-then old mid new r (begun_bytes b records) (flat_map (whole_line b) (items_of_month b m)) begun h)
 
 -- the tail after all months makes the text
-pub Puts-tail : {E : Type 0} (b : Basin) (records : List MonthRecord) (old mid new : Option (List ℕ))
+pub Puts-tail : {E : Type 0} (b : Basin) (records : List MonthRecord) (old mid new : Output)
     (r : Result (Unit {0}) E) →
-    Appends old mid (begun_bytes b records) → Puts mid new r (flat_map (whole_line b) (items_of_tail b)) →
+    Extends old mid (begun_bytes b records) → Puts mid new r (flat_map (whole_line b) (items_of_tail b)) →
     Puts old new r (text_bytes b records)
 Puts-tail b records old mid new r begun h =
     subst (λ (bytes : List ℕ). Puts old new r bytes) (sym (text-begun b records))

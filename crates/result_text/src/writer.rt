@@ -32,7 +32,7 @@ use water_text::line::Line;
 fn put_item<K: Sink>(sink: &mut K, basin: &Basin, item: Item) -> Result<(), SinkFailed>
     requires basin { IsValidBasin basin.now }
     requires item { IsOfBasin basin.now item }
-    ensures text { Puts (K.taken sink.old) (K.taken sink.new) result
+    ensures text { Puts (K.output sink.old) (K.output sink.new) result
         (flat_map (whole_line basin.now) (item ∷ [])) }
     ensures cause { HasCause (K.faults sink.old) (K.faults sink.new) (IsErr result) }
 {
@@ -57,7 +57,7 @@ fn put_line<K: Sink>(
     requires callers { AreCallers basin.now month.now callers.now }
     requires single { section ≢ Section.Calls }
     requires entry { entry < count_in (section_space section) basin.now }
-    ensures text { Puts (K.taken sink.old) (K.taken sink.new) result
+    ensures text { Puts (K.output sink.old) (K.output sink.new) result
         (flat_map (whole_line basin.now)
         (lines_at section basin.now month.now (calling_right basin.now month.now) entry)) }
     ensures cause { HasCause (K.faults sink.old) (K.faults sink.new) (IsErr result) }
@@ -79,7 +79,7 @@ fn put_members<K: Sink>(
     requires basin { IsValidBasin basin.now }
     requires nodes { nodes ≡ length basin.now.nodes }
     requires words { nodes ≤ 64 * length words.now }
-    ensures text { Puts (K.taken sink.old) (K.taken sink.new) result
+    ensures text { Puts (K.output sink.old) (K.output sink.new) result
         (flat_map (whole_line basin.now) (members_of nodes words.now)) }
     ensures cause { HasCause (K.faults sink.old) (K.faults sink.new) (IsErr result) }
 {
@@ -107,7 +107,7 @@ fn put_call<K: Sink>(
     requires basin { IsValidBasin basin.now }
     requires month { FitsText basin.now month.now }
     requires right { right < length basin.now.rights }
-    ensures text { Puts (K.taken sink.old) (K.taken sink.new) result
+    ensures text { Puts (K.output sink.old) (K.output sink.new) result
         (flat_map (whole_line basin.now) (call_items right (cut_of month.now right))) }
     ensures cause { HasCause (K.faults sink.old) (K.faults sink.new) (IsErr result) }
 {
@@ -136,7 +136,7 @@ fn put_entry<K: Sink>(
     requires returned { AreReturnedTo basin.now returned.now }
     requires callers { AreCallers basin.now month.now callers.now }
     requires entry { entry < count_in (section_space section) basin.now }
-    ensures text { Puts (K.taken sink.old) (K.taken sink.new) result
+    ensures text { Puts (K.output sink.old) (K.output sink.new) result
         (flat_map (whole_line basin.now)
         (lines_at section basin.now month.now (calling_right basin.now month.now) entry)) }
     ensures cause { HasCause (K.faults sink.old) (K.faults sink.new) (IsErr result) }
@@ -162,7 +162,7 @@ fn put_section<K: Sink>(
     requires month { FitsText basin.now month.now }
     requires returned { AreReturnedTo basin.now returned.now }
     requires callers { AreCallers basin.now month.now callers.now }
-    ensures text { Puts (K.taken sink.old) (K.taken sink.new) result
+    ensures text { Puts (K.output sink.old) (K.output sink.new) result
         (flat_map (whole_line basin.now)
         (lines_in section basin.now month.now (calling_right basin.now month.now))) }
     ensures cause { HasCause (K.faults sink.old) (K.faults sink.new) (IsErr result) }
@@ -186,7 +186,7 @@ fn put_sections<K: Sink>(
     requires basin { IsValidBasin basin.now }
     requires roll { IsRollOf basin.now.rights roll.now }
     requires month { FitsText basin.now month.now }
-    ensures text { Puts (K.taken sink.old) (K.taken sink.new) result
+    ensures text { Puts (K.output sink.old) (K.output sink.new) result
         (flat_map (whole_line basin.now)
         (flat_map (λ section. lines_in section basin.now month.now (calling_right basin.now month.now)) SECTIONS)) }
     ensures cause { HasCause (K.faults sink.old) (K.faults sink.new) (IsErr result) }
@@ -215,7 +215,7 @@ pub fn put_month<K: Sink>(
     requires basin { IsValidBasin basin.now }
     requires roll { IsRollOf basin.now.rights roll.now }
     requires month { FitsText basin.now month.now }
-    ensures text { Puts (K.taken sink.old) (K.taken sink.new) result
+    ensures text { Puts (K.output sink.old) (K.output sink.new) result
         (flat_map (whole_line basin.now) (items_of_month basin.now month.now)) }
     ensures cause { HasCause (K.faults sink.old) (K.faults sink.new) (IsErr result) }
 {
@@ -229,7 +229,7 @@ pub fn put_month<K: Sink>(
 /// Each line is one `put`. `SinkFailed` comes only where the sink counted a fault; a prefix of the lines was then put.
 pub fn put_head<K: Sink>(sink: &mut K, basin: &Basin) -> Result<(), SinkFailed>
     requires { IsValidBasin basin.now }
-    ensures text { Puts (K.taken sink.old) (K.taken sink.new) result
+    ensures text { Puts (K.output sink.old) (K.output sink.new) result
         (flat_map (whole_line basin.now) (items_of_head basin.now)) }
     ensures cause { HasCause (K.faults sink.old) (K.faults sink.new) (IsErr result) }
 {
@@ -246,7 +246,7 @@ pub fn put_head<K: Sink>(sink: &mut K, basin: &Basin) -> Result<(), SinkFailed>
 /// The line is one `put`. `SinkFailed` comes only where the sink counted a fault; a prefix of the line was then put.
 pub fn put_tail<K: Sink>(sink: &mut K, basin: &Basin) -> Result<(), SinkFailed>
     requires { IsValidBasin basin.now }
-    ensures text { Puts (K.taken sink.old) (K.taken sink.new) result
+    ensures text { Puts (K.output sink.old) (K.output sink.new) result
         (flat_map (whole_line basin.now) (items_of_tail basin.now)) }
     ensures cause { HasCause (K.faults sink.old) (K.faults sink.new) (IsErr result) }
 {

@@ -7,11 +7,11 @@ pub mod basins;
 pub mod ordinary;
 
 use basin_cli::{Status, basin_main};
+use month_fold::work::Work;
 use std::alloc::Global;
 use std::marker::Brand;
 use std::sync::ledger::{Blank, Ledger};
 use std::test::Fail;
-use steps::Steps;
 use water_edge::{MemoryShelf, MemorySink};
 
 /// The bytes of the files BASIN, BASIN2, SERIES, RESULT and SCRIPT, how many bytes a part of a file has at most, where
@@ -64,21 +64,25 @@ fn set_up(alloc: Global, words: &[&str], set: Set) -> Result<(Vec<String>, Memor
     Ok((list, shelf))
 }
 
-fn call_over<L: Ledger>(
+fn call_over<P: Ledger, M: Ledger>(
     alloc: Global,
-    blank: Blank,
+    pushes: Blank,
+    months: Blank,
     words: &[&str],
     set: Set,
 ) -> Result<(Status, MemorySink, MemorySink), Fail>
-    requires name { blank.name ≡ L.name }
-    requires parts { blank.parts ≡ L.parts }
-    requires some { 0 < L.parts }
+    requires pushes_name { pushes.name ≡ P.name }
+    requires pushes_parts { pushes.parts ≡ P.parts }
+    requires pushes_some { 0 < P.parts }
+    requires months_name { months.name ≡ M.name }
+    requires months_parts { months.parts ≡ M.parts }
+    requires months_some { 0 < M.parts }
 {
-    let mut searches = Steps::<L>::new(blank);
+    let mut work = Work::<P, M>::new(pushes, months);
     let mut out = MemorySink::new(alloc, 131_072, vec![in alloc; set.out_fails; 1]?)?;
     let mut err = MemorySink::new(alloc, 4096, vec![in alloc; set.err_fails; 1]?)?;
     let (words, mut shelf) = set_up(alloc, words, set)?;
-    let status = basin_main(alloc, &words, &mut shelf, &mut out, &mut err, &mut searches);
+    let status = basin_main(alloc, &words, &mut shelf, &mut out, &mut err, &mut work);
     Ok((status, out, err))
 }
 
@@ -88,7 +92,9 @@ pub fn call(
     words: &[&str],
     set: Set,
 ) -> Result<(Status, MemorySink, MemorySink), Fail> {
-    call_over::<Brand>(alloc, Blank::new(1), words, set)
+    let pushes = Blank::new(1);
+    let months = Blank::new(1);
+    call_over::<Brand, Brand>(alloc, pushes, months, words, set)
 }
 
 /// Fails where a text is another than is wanted, and prints it.

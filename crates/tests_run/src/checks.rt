@@ -356,6 +356,19 @@ fn refutes_sets_of_nodes(rt: HostRuntime) -> Result<(), Fail> {
     Ok(())
 }
 
+/// A short right without its set: the `end` line stands where its `call` line and the nodes after it are due.
+#[test]
+fn refutes_a_shortage_without_a_set(rt: HostRuntime) -> Result<(), Fail> {
+    let left_out = [(9, ""), (10, ""), (11, ""), (12, "")];
+    let text = with_lines(rt.alloc(), JUNIOR_SHORT.1, &left_out)?;
+    for command in ["check", "audit"] {
+        let no = (Status::No, "refuted 9 CutMissing\n");
+        let files = (JUNIOR_SHORT.0, "");
+        asks(rt.alloc(), command, 65_536, files, text.as_str(), no)?;
+    }
+    Ok(())
+}
+
 /// Callers, and what a month begins with.
 pub const OPENINGS: [Refuting; 12] = [
     // Callers.

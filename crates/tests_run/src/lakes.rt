@@ -126,3 +126,69 @@ end
 done 2
 "#,
 );
+
+/// A lake without zones, which loses more than half of what it opens with and lets out the rest.
+pub const HALF_LOST: (&str, &str) = (
+    r#"format = 1
+first_month = "1900-01"
+months = 1
+[[node]]
+name = "lake"
+[[node]]
+name = "mouth"
+outlet = true
+[[link]]
+name = "ab"
+from = "lake"
+to = "mouth"
+[[reservoir]]
+node = "lake"
+opening = 60
+area = [[0, 0], [100, 50]]
+rate = 120
+"#,
+    r#"river-result 1
+run 1900-01 1
+month 1900-01
+open lake 60
+evap lake 36
+flow ab 24
+out mouth 24
+close lake 0
+end
+done 1
+"#,
+);
+
+/// A wide and shallow lake under a hot sun: more would evaporate than there is, and nothing is left.
+pub const ALL_LOST: (&str, &str) = (
+    r#"format = 1
+first_month = "1900-01"
+months = 1
+[[node]]
+name = "lake"
+[[node]]
+name = "mouth"
+outlet = true
+[[link]]
+name = "ab"
+from = "lake"
+to = "mouth"
+[[reservoir]]
+node = "lake"
+opening = 3
+area = [[0, 0], [3, 1000]]
+rate = 10000
+"#,
+    r#"river-result 1
+run 1900-01 1
+month 1900-01
+open lake 3
+evap lake 3
+flow ab 0
+out mouth 0
+close lake 0
+end
+done 1
+"#,
+);

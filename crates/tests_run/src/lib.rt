@@ -10,6 +10,8 @@ mod checks;
 #[cfg(test)]
 mod failing;
 #[cfg(test)]
+mod finding;
+#[cfg(test)]
 mod gauging;
 #[cfg(test)]
 mod lakes;

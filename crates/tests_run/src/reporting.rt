@@ -86,15 +86,19 @@ fn sums_up_a_trial(rt: HostRuntime) -> Result<(), Fail> {
     Ok(())
 }
 
-/// A trial of the greatest size: as many rivers, canals, rights and zones as the rules of the generator make.
+/// A trial of the greatest size: as many rivers, canals, rights and zones as the rules of the generator make. Run again
+/// it has the same summary.
 #[test]
-fn tries_the_greatest_size(rt: HostRuntime) -> Result<(), Fail> {
+fn tries_the_greatest_size_twice(rt: HostRuntime) -> Result<(), Fail> {
+    let words = ["trial", "7", "2000"];
     let set = files(rt.alloc(), "", "")?;
-    let (status, out, _err) = call(rt.alloc(), &["trial", "7", "2000"], set)?;
+    let (status, out, _err) = call(rt.alloc(), &words, set)?;
     assert_eq!(&rt; status, Status::Done);
     assert!(&rt;
         out.bytes()
             .starts_with(b"trial 7 2000\nsize 2000 2499 200 60\n")
     );
-    Ok(())
+    let text = std::str::from_utf8(out.bytes()).expect(&rt, "a text");
+    let set = files(rt.alloc(), "", "")?;
+    expect(rt.alloc(), &words, set, (Status::Done, text, ""))
 }

@@ -303,3 +303,35 @@ end
 done 1
 "#,
 );
+
+/// The greatest inflow and the greatest want that there can be: the one right gets all.
+pub const GREATEST_WANT: (&str, &str) = (
+    r#"format = 1
+first_month = "1900-01"
+months = 1
+[[node]]
+name = "big"
+inflow = 1000000000
+[[node]]
+name = "mouth"
+outlet = true
+[[link]]
+name = "a"
+from = "big"
+to = "mouth"
+[[diversion]]
+name = "user"
+node = "big"
+date = "1900-01-01"
+want = 1000000000
+"#,
+    r#"river-result 1
+run 1900-01 1
+month 1900-01
+flow a 0
+deliver user 1000000000 1000000000
+out mouth 0
+end
+done 1
+"#,
+);

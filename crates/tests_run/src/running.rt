@@ -1,8 +1,10 @@
 //! Runs, and the whole texts that they write.
 use crate::canals::{CANAL_1900, CANAL_2000, CANAL_2001, CANAL_INSTREAM, TWO_CANALS};
-use crate::lakes::{EVAPORATING, POOL};
+use crate::lakes::{ALL_LOST, EVAPORATING, HALF_LOST, POOL};
 use crate::returning::{RETURNS, TWO_LAGS};
-use crate::rivers::{ALL_DRY, JUNIOR_DRY, ONE_DATE, OWN_BRANCHES, TROUT, TWO_INSTREAM};
+use crate::rivers::{
+    ALL_DRY, GREATEST_WANT, JUNIOR_DRY, ONE_DATE, OWN_BRANCHES, TROUT, TWO_INSTREAM,
+};
 use crate::volumes::{DRY_FARM, MARCH, NO_VOLUME, OCTOBER, PLAIN, TWO_VOLUMES};
 use basin_cli::Status;
 use std::alloc::Global;
@@ -49,7 +51,7 @@ fn writes_the_run_of_the_river(rt: HostRuntime) -> Result<(), Fail> {
 }
 
 /// Basins of diversions, instream rights, lakes, returns and volumes, and their whole texts.
-pub const SERVED: [(&str, &str); 24] = [
+pub const SERVED: [(&str, &str); 27] = [
     JUNIOR_SHORT,
     JUNIOR_DRY,
     ALL_DRY,
@@ -67,6 +69,9 @@ pub const SERVED: [(&str, &str); 24] = [
     ONE_DATE,
     NOTHING_WANTED,
     EVAPORATING,
+    HALF_LOST,
+    ALL_LOST,
+    GREATEST_WANT,
     TWO_LAGS,
     OCTOBER,
     MARCH,

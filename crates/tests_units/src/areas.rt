@@ -1,6 +1,6 @@
 ghost use Rattle.std.specs.Prelude.{◌≤◌, ◌^◌, All, IsTrue};
 
-use reservoirs::{AreaTable, close};
+use reservoirs::{AreaTable, TableRefused, close};
 use std::alloc::{AllocError, Global};
 use std::process::Abort;
 use std::test::Fail;
@@ -84,6 +84,32 @@ fn areas_and_evaporation(rt: HostRuntime) -> Result<(), Fail> {
     for (rows, storage, area, rate, lost) in &ROWS {
         let table = table_of(&rt, rt.alloc(), rows)?;
         compare(&rt, &table, *storage, *area, *rate, *lost);
+    }
+    Ok(())
+}
+
+// The points of no table, and their first fault.
+static FAULTS: [(&[(u64, u64)], TableRefused); 6] = [
+    (&[], TableRefused::Empty),
+    (&[(1, 0), (1, 0)], TableRefused::FirstNotZero),
+    (&[(0, 0), (5, 1), (5, 2)], TableRefused::NotRising(2)),
+    (&[(0, 3), (5, 1)], TableRefused::AreaFalls(1)),
+    // at one point the storage is looked at first, and an earlier point before both
+    (&[(0, 3), (5, 3), (4, 1)], TableRefused::NotRising(2)),
+    (&[(0, 3), (5, 2), (5, 2)], TableRefused::AreaFalls(1)),
+];
+
+// What a table of these points is refused for.
+fn refusal(rt: &impl Abort, alloc: Global, points: &[AreaPoint]) -> Option<TableRefused> {
+    assert!(rt; points.len() <= 64);
+    AreaTable::build(alloc, points).err()
+}
+
+#[test]
+fn refuses_the_first_point_at_fault(rt: HostRuntime) -> Result<(), AllocError> {
+    for (rows, refused) in &FAULTS {
+        let points = points_of(rt.alloc(), rows)?;
+        assert_eq!(rt; refusal(&rt, rt.alloc(), &points), Some(*refused));
     }
     Ok(())
 }

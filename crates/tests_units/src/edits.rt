@@ -1,15 +1,15 @@
 //! Scripts answered over a basin with a gauge and a return.
-ghost use Rattle.std.specs.Prelude.{◌≡◌, ◌<◌, ◌≤◌, length};
+ghost use Rattle.std.specs.Prelude.{◌≡◌, ◌<◌};
 
 use crate::basins::basin_of;
 use edit_script::{ScriptFault, ScriptRefused, read_script};
 use edit_shows::put_shows;
 use inflow_file::read_inflows;
+use month_fold::work::Work;
 use std::alloc::Global;
 use std::marker::Brand;
 use std::sync::ledger::{Blank, Ledger};
 use std::test::Fail;
-use steps::Steps;
 use water_edge::MemorySink;
 
 const BASIN: &str = r#"
@@ -25,15 +25,18 @@ return = [{ diversion = "farm", node = "mouth", part = 5000, lag = 1 }]
 const SERIES: &[u8] = b"month,node,amount\n1900-01,head,10\n1900-02,head,10\n1900-03,head,10\n";
 
 /// What a script is answered.
-fn answered<L: Ledger>(
+fn answered<P: Ledger, M: Ledger>(
     alloc: Global,
-    blank: Blank,
+    pushes: Blank,
+    months: Blank,
     script: &[u8],
 ) -> Result<Result<MemorySink, ScriptRefused>, Fail>
-    requires name { blank.name ≡ L.name }
-    requires parts { blank.parts ≡ L.parts }
-    requires some { 0 < L.parts }
-    requires small { length script.now ≤ 67108864 }
+    requires pushes_name { pushes.name ≡ P.name }
+    requires pushes_parts { pushes.parts ≡ P.parts }
+    requires pushes_some { 0 < P.parts }
+    requires months_name { months.name ≡ M.name }
+    requires months_parts { months.parts ≡ M.parts }
+    requires months_some { 0 < M.parts }
 {
     let basin = basin_of(alloc, BASIN)?;
     let series = read_inflows(alloc, &basin, SERIES)?;
@@ -41,9 +44,9 @@ fn answered<L: Ledger>(
         Ok(edits) => edits,
         Err(refused) => return Ok(Err(refused)),
     };
-    let mut searches = Steps::<L>::new(blank);
+    let mut work = Work::<P, M>::new(pushes, months);
     let mut out = MemorySink::new(alloc, 4096, Vec::new(alloc))?;
-    put_shows(alloc, &basin, &series, &edits, &mut out, &mut searches)?;
+    put_shows(alloc, &basin, &series, &edits, &mut out, &mut work)?;
     Ok(Ok(out))
 }
 
@@ -92,7 +95,7 @@ done 4
 
 #[test]
 fn shows_months_of_the_changed_series(rt: HostRuntime) -> Result<(), Fail> {
-    match answered::<Brand>(rt.alloc(), Blank::new(1), SCRIPT)? {
+    match answered::<Brand, Brand>(rt.alloc(), Blank::new(1), Blank::new(1), SCRIPT)? {
         Ok(out) => assert_eq!(rt; out.bytes(), ANSWER.as_bytes()),
         Err(_) => assert!(rt; false, "refused"),
     }
@@ -128,7 +131,7 @@ static REFUSED: [(&[u8], ScriptFault, u64); 7] = [
 #[test]
 fn refuses_the_first_line_at_fault(rt: HostRuntime) -> Result<(), Fail> {
     for (script, fault, line) in REFUSED {
-        match answered::<Brand>(rt.alloc(), Blank::new(1), script)? {
+        match answered::<Brand, Brand>(rt.alloc(), Blank::new(1), Blank::new(1), script)? {
             Ok(_) => assert!(rt; false, "not refused"),
             Err(refused) => assert_eq!(rt; refused, ScriptRefused::Refused { fault, line }),
         }

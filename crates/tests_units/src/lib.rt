@@ -21,9 +21,13 @@ mod pieced;
 #[cfg(test)]
 mod raises;
 #[cfg(test)]
+mod regions;
+#[cfg(test)]
 mod reported;
 #[cfg(test)]
 mod results;
+#[cfg(test)]
+mod resumed;
 #[cfg(test)]
 mod rolls;
 #[cfg(test)]

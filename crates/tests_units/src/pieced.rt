@@ -133,3 +133,29 @@ fn answers_the_same_in_pieces(rt: HostRuntime) -> Result<(), Fail> {
     }
     Ok(())
 }
+
+/// Gives a new checker a whole text, and compares how many lines are left before it and after it.
+fn count_lines<R: Abort>(
+    rt: &R,
+    alloc: Global,
+    basin: &Basin,
+    series: &Inflows,
+) -> Result<(), AllocError>
+    requires basin { IsValidBasin basin.now }
+    requires series { IsSeriesOf basin.now series.now }
+{
+    let mut checker = Checker::open(alloc, basin, series)?;
+    assert!(rt; checker.lines_left() == 7);
+    assert_eq!(rt; check_text(&mut checker, ACCEPTED.as_bytes()), Ok(1));
+    assert!(rt; checker.lines_left() == 0);
+    Ok(())
+}
+
+#[test]
+fn counts_the_lines_that_are_left(rt: HostRuntime) -> Result<(), Fail> {
+    let alloc = rt.alloc();
+    let basin = basin_of(alloc, BASIN)?;
+    let series = read_inflows(alloc, &basin, HEADER)?;
+    count_lines(&rt, alloc, &basin, &series)?;
+    Ok(())
+}

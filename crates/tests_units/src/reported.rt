@@ -2,32 +2,36 @@
 ghost use Rattle.std.specs.Prelude.{◌≡◌, ◌<◌, ◌≤◌};
 
 use basin_gen::make;
+use month_fold::work::Work;
 use reports::{period_report, trial_report};
 use std::alloc::Global;
 use std::marker::Brand;
 use std::sync::ledger::{Blank, Ledger};
 use std::test::Fail;
-use steps::Steps;
 use water_edge::MemorySink;
 
 /// The report and the summary of a generated basin.
-fn texts_of<L: Ledger>(
+fn texts_of<P: Ledger, M: Ledger>(
     alloc: Global,
-    blank: Blank,
+    pushes: Blank,
+    months: Blank,
     number: u32,
     size: u32,
 ) -> Result<(MemorySink, MemorySink), Fail>
-    requires name { blank.name ≡ L.name }
-    requires parts { blank.parts ≡ L.parts }
-    requires some { 0 < L.parts }
+    requires pushes_name { pushes.name ≡ P.name }
+    requires pushes_parts { pushes.parts ≡ P.parts }
+    requires pushes_some { 0 < P.parts }
+    requires months_name { months.name ≡ M.name }
+    requires months_parts { months.parts ≡ M.parts }
+    requires months_some { 0 < M.parts }
     requires least { 2 ≤ size }
     requires most { size ≤ 2000 }
 {
     let (basin, series) = make(alloc, number, size)?;
-    let mut searches = Steps::<L>::new(blank);
+    let mut work = Work::<P, M>::new(pushes, months);
     let mut report = MemorySink::new(alloc, 4096, Vec::new(alloc))?;
     let mut summary = MemorySink::new(alloc, 4096, Vec::new(alloc))?;
-    period_report(alloc, &basin, &series, &mut report, &mut searches)?;
+    period_report(alloc, &basin, &series, &mut report, &mut work)?;
     trial_report(
         alloc,
         number,
@@ -35,7 +39,7 @@ fn texts_of<L: Ledger>(
         &basin,
         &series,
         &mut summary,
-        &mut searches,
+        &mut work,
     )?;
     Ok((report, summary))
 }
@@ -72,7 +76,13 @@ const BASIN: (&str, &str) = (
 #[test]
 fn reports_generated_basins(rt: HostRuntime) -> Result<(), Fail> {
     for (size, want) in [(2, RIVER), (85, BASIN)] {
-        let (report, summary) = texts_of::<Brand>(rt.alloc(), Blank::new(1), 7, size)?;
+        let (report, summary) = texts_of::<Brand, Brand>(
+            rt.alloc(),
+            Blank::new(1),
+            Blank::new(1),
+            7,
+            size,
+        )?;
         assert_eq!(rt; report.bytes(), want.0.as_bytes(), "report of {size}");
         assert_eq!(rt; summary.bytes(), want.1.as_bytes(), "summary of {size}");
     }

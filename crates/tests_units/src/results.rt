@@ -1,4 +1,4 @@
-//! The lines of a text of a small basin, accepted and refused.
+//! The lines of texts of small basins, accepted and refused.
 ghost use Rattle.rights_roll.specs.Rolls.{IsRollOf};
 ghost use Rattle.water_model.specs.Valid.{IsValidBasin};
 
@@ -17,13 +17,13 @@ const JANUARY: Month = Month {
 };
 
 /// A spring above an outlet, and a river between them.
-const BASIN: &str = "\
+const SPRING: &str = "\
     format = 1\nfirst_month = \"1900-01\"\nmonths = 1\n\
     [[node]]\nname = \"top\"\ninflow = 60\n\
     [[node]]\nname = \"sea\"\noutlet = true\n\
     [[link]]\nname = \"a\"\nfrom = \"top\"\nto = \"sea\"\n";
 
-/// The lines that a reader of the basin's text is given one after the other, with the answer to each.
+/// The lines that a reader of its text is given one after the other, with the answer to each.
 const LINES: &[(&str, Result<Item, BadLine>)] = &[
     ("run 1900-01 1", Err(BadLine::OutOfPlace)),
     ("river-result 2", Err(BadLine::BadField)),
@@ -71,6 +71,66 @@ const LINES: &[(&str, Result<Item, BadLine>)] = &[
     ("river-result 1", Err(BadLine::OutOfPlace)),
 ];
 
+/// Two links, and two rights of which the junior stands at the spring.
+const RIGHTS: &str = "\
+    format = 1\nfirst_month = \"1900-01\"\nmonths = 1\n\
+    [[node]]\nname = \"top\"\ninflow = 80\n\
+    [[node]]\nname = \"mid\"\n\
+    [[node]]\nname = \"mouth\"\noutlet = true\n\
+    [[link]]\nname = \"a\"\nfrom = \"top\"\nto = \"mid\"\n\
+    [[link]]\nname = \"b\"\nfrom = \"mid\"\nto = \"mouth\"\n\
+    [[diversion]]\nname = \"old\"\nnode = \"mid\"\ndate = \"1890-01-01\"\nwant = 60\n\
+    [[diversion]]\nname = \"new\"\nnode = \"top\"\ndate = \"1920-01-01\"\nwant = 50\n";
+
+/// What a reader of its text answers. A line that is refused leaves it as it was: the `month` line comes after four of
+/// them.
+const LINES_OF_RIGHTS: &[(&str, Result<Item, BadLine>)] = &[
+    ("river-result 1", Ok(Item::Title)),
+    (
+        "run 1900-01 1",
+        Ok(Item::Run {
+            first: JANUARY,
+            months: 1,
+        }),
+    ),
+    (
+        "xxxxxxxxxxxxxxxxxxxxxxxxxxxxxxxxxxxxxxxxxxxxxxxxxxxxxxxxxxxxxxxxxxxxxxxxxxxxxxxxxxxxxxxxxxxxxxxxxxxx\
+         xxxxxxxxxxxxxxxxxxxxxxxxxxxxx",
+        Err(BadLine::OverLong),
+    ),
+    ("months 1900-01", Err(BadLine::UnknownWord)),
+    ("month 1900-1", Err(BadLine::BadField)),
+    ("month 1900-02", Err(BadLine::OutOfPlace)),
+    ("month 1900-01", Ok(Item::Month { month: JANUARY })),
+    ("flow a 060", Err(BadLine::BadField)),
+    ("flow b 0", Err(BadLine::OutOfPlace)),
+    (
+        "flow a 60",
+        Ok(Item::Amount {
+            quantity: Quantity::Flow,
+            entry: 0,
+            amount: 60,
+        }),
+    ),
+    (
+        "flow b 0",
+        Ok(Item::Amount {
+            quantity: Quantity::Flow,
+            entry: 1,
+            amount: 0,
+        }),
+    ),
+    ("deliver new 20 50", Err(BadLine::OutOfPlace)),
+    (
+        "deliver old 60 60",
+        Ok(Item::Deliver {
+            right: 0,
+            amount: 60,
+            want: 60,
+        }),
+    ),
+];
+
 /// Gives a reader a line, and compares its answer.
 fn read_line<R: Abort>(
     rt: &R,
@@ -93,26 +153,40 @@ fn read_lines<R: Abort>(
     }
 }
 
-/// Gives a new reader all the lines.
-fn read_all<R: Abort>(rt: &R, reader: &mut ResultReader) {
-    assert!(rt; reader.lines_left() == 7);
-    read_lines(rt, reader, LINES);
-    assert!(rt; reader.lines_left() == 0);
-}
-
-/// Opens a reader for a basin with a roll, and reads the lines.
-fn read_with<R: Abort>(rt: &R, alloc: Global, basin: &Basin, roll: &Roll) -> Result<(), AllocError>
+/// Gives a new reader for a basin with a roll these lines, and compares how many may be left before and after.
+fn read_with<R: Abort>(
+    rt: &R,
+    alloc: Global,
+    basin: &Basin,
+    roll: &Roll,
+    lines: &[(&str, Result<Item, BadLine>)],
+    left: (u64, u64),
+) -> Result<(), AllocError>
     requires basin { IsValidBasin basin.now }
     requires roll { IsRollOf basin.now.rights roll.now }
 {
     let mut reader = ResultReader::open(alloc, basin, roll)?;
-    read_all(rt, &mut reader);
+    assert!(rt; reader.lines_left() == left.0);
+    read_lines(rt, &mut reader, lines);
+    assert!(rt; reader.lines_left() == left.1);
     Ok(())
+}
+
+/// Gives a new reader for a basin these lines.
+fn read_all<R: Abort>(
+    rt: &R,
+    alloc: Global,
+    text: &str,
+    lines: &[(&str, Result<Item, BadLine>)],
+    left: (u64, u64),
+) -> Result<(), AllocError> {
+    let basin = basin_of(alloc, text)?;
+    let roll = Roll::of_basin(alloc, &basin)?;
+    read_with(rt, alloc, &basin, &roll, lines, left)
 }
 
 #[test]
 fn accepts_what_may_come(rt: HostRuntime) -> Result<(), AllocError> {
-    let basin = basin_of(rt.alloc(), BASIN)?;
-    let roll = Roll::of_basin(rt.alloc(), &basin)?;
-    read_with(&rt, rt.alloc(), &basin, &roll)
+    read_all(&rt, rt.alloc(), SPRING, LINES, (7, 0))?;
+    read_all(&rt, rt.alloc(), RIGHTS, LINES_OF_RIGHTS, (20, 14))
 }

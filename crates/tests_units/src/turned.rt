@@ -48,6 +48,44 @@ fn expect_month<R: Abort>(rt: &R, series: &Inflows, month: usize, place: u64) {
     );
 }
 
+/// A gauge and its user, over two calendar years.
+const USER: &str = r#"format = 1
+first_month = "1900-01"
+months = 24
+node = [{ name = "top", inflow = "gauged" }, { name = "mouth", outlet = true }]
+link = [{ name = "a", from = "top", to = "mouth" }]
+diversion = [{ name = "user", node = "top", date = "1900-01-01", want = 10 }]
+"#;
+
+/// A dry year and a wet one: 4 in each month of 1900, and 12 in each of 1901.
+fn dry_and_wet(alloc: Global) -> Result<String, Fail> {
+    let mut text = String::from_str(alloc, "month,node,amount\n")?;
+    for month in 1..13u32 {
+        let zero = if month < 10 { "0" } else { "" };
+        let lines = format!(in alloc; "1900-{zero}{month},top,4\n1901-{zero}{month},top,12\n")?;
+        text.push_str(lines.as_str())?;
+    }
+    Ok(text)
+}
+
+/// Begun in its second year the record has the wet year first and the dry one after it.
+#[test]
+fn begins_with_the_wet_year(rt: HostRuntime) -> Result<(), Fail> {
+    let basin = basin_of(rt.alloc(), USER)?;
+    assert_eq!(&rt; basin.months, 24);
+    let text = dry_and_wet(rt.alloc())?;
+    let Ok(series) = read_inflows(rt.alloc(), &basin, text.as_bytes()) else {
+        panic!(&rt; "the record is refused");
+    };
+    let begun = rotate(rt.alloc(), &basin, &series, 1)?;
+    assert_eq!(&rt; begun.amount.len(), 24);
+    for month in 0..12usize {
+        assert_eq!(&rt; begun.amount.as_slice().get(month), Some(&12));
+        assert_eq!(&rt; begun.amount.as_slice().get(month + 12), Some(&4));
+    }
+    Ok(())
+}
+
 /// The run goes from index 9 to index 32. Begun one year later it has the indices 21 to 32, and then 9 to 20.
 #[test]
 fn begins_in_the_second_year(rt: HostRuntime) -> Result<(), Fail> {

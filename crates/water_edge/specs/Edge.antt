@@ -2,7 +2,7 @@
 use Rattle.std.specs.Prelude.{◌≡◌, ◌≢◌, ℕ, ◌+◌, ◌-◌, ◌^◌, ◌<◌, ◌≤◌, min, List, length, take, drop, ⊤, Option, None}
 use Rattle.std.specs.Prelude.{Some, IfSome, Result, Ok, Err, Vec}
 use Rattle.std.specs.declared.alloc.Global.{Global}
-use Rattle.std.specs.Io.KnownBytes.{Appends}
+use Rattle.std.specs.Io.KnownBytes.{Appends, Keeps}
 use Rattle.water_edge.specs.declared.shelf.ShelfRefused.{ShelfRefused}
 use Rattle.water_edge.specs.declared.shelf.ShelfRefused.TheVariants.{Failed, TooLong, OutOfMemory}
 
@@ -51,7 +51,35 @@ abbrev pub ReadsPart : Option (List ℕ) → ℕ → List ℕ → List ℕ → R
 ReadsPart known from old new (Ok count) = (count ≤ length old) × IfSome known (λ whole. IsPart whole from old new count)
 ReadsPart known from old new (Err _) = ⊤
 
--- the known bytes grow by the whole piece, or after a failure by a prefix of it
-abbrev pub Puts : {E : Type 0} → Option (List ℕ) → Option (List ℕ) → Result (Unit {0}) E → List ℕ → Type 0
-Puts old new (Ok _) piece = Appends old new piece
-Puts old new (Err _) piece = (count : ℕ) × (count ≤ length piece) × Appends old new (take count piece)
+-- what a sink took, and what of that it flushed, as far as they are known
+pub record Output : Type 0 where
+  pub taken : Option (List ℕ)
+  pub flushed : Option (List ℕ)
+
+-- the first bytes are a prefix of the second, as far as both are known
+abbrev pub IsKnownPrefix : Option (List ℕ) → Option (List ℕ) → Type 0
+IsKnownPrefix a b = (rest : List ℕ) × Appends a b rest
+
+-- what was flushed stays so, and if it was a prefix of what was taken, it still is
+pub record Passes (old new : Output) : Type 0 where
+  pub later : IsKnownPrefix old.flushed new.flushed
+  pub within : IsKnownPrefix old.flushed old.taken → IsKnownPrefix new.flushed new.taken
+
+-- the bytes taken grow by a piece, and any of them may be flushed
+pub record Extends (old new : Output) (piece : List ℕ) : Type 0 where
+  pub taken : Appends old.taken new.taken piece
+  pub passes : Passes old new
+
+-- the bytes taken stay, and more of them may be flushed
+pub record Stays (old new : Output) : Type 0 where
+  pub taken : Keeps old.taken new.taken
+  pub passes : Passes old new
+
+-- these bytes were taken after those that an earlier state took, and all up to their end is flushed now
+abbrev pub HasFlushed : Output → Output → List ℕ → Type 0
+HasFlushed old now bytes = (mid : Option (List ℕ)) × Appends old.taken mid bytes × IsKnownPrefix mid now.flushed
+
+-- the bytes taken grow by the whole piece, or after a failure by a prefix of it
+abbrev pub Puts : {E : Type 0} → Output → Output → Result (Unit {0}) E → List ℕ → Type 0
+Puts old new (Ok _) piece = Extends old new piece
+Puts old new (Err _) piece = (count : ℕ) × (count ≤ length piece) × Extends old new (take count piece)

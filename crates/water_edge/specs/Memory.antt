@@ -5,7 +5,7 @@ use Rattle.std.specs.Str.{bytes_eq}
 use Rattle.std.specs.declared.alloc.Global.{Global}
 use Rattle.water_edge.specs.declared.shelf.ShelfRefused.{ShelfRefused}
 use Rattle.water_edge.specs.declared.shelf.ShelfRefused.TheVariants.{Failed}
-use Rattle.water_edge.specs.Edge.{next_count}
+use Rattle.water_edge.specs.Edge.{next_count, Output}
 
 -- a file and its name
 pub record NamedFile : Type 0 where
@@ -51,6 +51,10 @@ pub record SinkState : Type 0 where
   pub failing : List ℕ
   pub calls : ℕ
   pub faults : ℕ
+
+-- a sink in memory keeps nothing back
+abbrev pub memory_output : SinkState → Output
+memory_output sink = record { taken = Some sink.bytes; flushed = Some sink.bytes }
 
 -- the number of the next call is listed, or the piece is longer than the free room
 abbrev pub FailsToPut : SinkState → List ℕ → Type 0

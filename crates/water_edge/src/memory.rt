@@ -1,11 +1,11 @@
 //! A shelf and a sink in memory, of which listed calls fail.
 ghost use Rattle.std.specs.Prelude.{◌≡◌, ◌-◌, ◌^◌, ◌<◌, ◌≤◌, ◌↔◌, min, [], None, Some, ⊤, Contains, IfOk, IfSome};
 ghost use Rattle.std.specs.Prelude.{IsErr, IsErrOf, IsOk, IsTrue, OnOk, option_map, map, length, vec_len};
-ghost use Rattle.std.specs.Io.KnownBytes.{Keeps};
 ghost use Rattle.water_edge.specs.declared.shelf.ShelfRefused.TheVariants.{Failed, OutOfMemory};
-ghost use Rattle.water_edge.specs.Edge.{next_count, AsksFor, HasCause, IsPart, SameShelf, ReadsPart, ReadsWhole, Puts};
+ghost use Rattle.water_edge.specs.Edge.{next_count, AsksFor, HasCause, IsKnownPrefix, IsPart, SameShelf, ReadsPart};
+ghost use Rattle.water_edge.specs.Edge.{ReadsWhole, Puts, Stays};
 ghost use Rattle.water_edge.specs.Memory.{plain_file, file_of, part_length, after_read, after_put, FailsToRead};
-ghost use Rattle.water_edge.specs.Memory.{FailsToPut};
+ghost use Rattle.water_edge.specs.Memory.{FailsToPut, memory_output};
 
 use crate::{Shelf, ShelfRefused, Sink, SinkFailed};
 use std::alloc::{AllocError, Global};
@@ -269,16 +269,15 @@ impl MemorySink {
 }
 
 impl Sink for MemorySink {
-    ghost taken = { λ sink. Some sink.bytes };
-
-    ghost flushed = { λ sink. Some sink.bytes };
+    ghost output = { memory_output };
 
     ghost faults = { λ sink. sink.faults };
 
     /// Fails exactly where the number of the call is listed or the piece is longer than the free room, and then
     /// appends nothing.
     fn put(&mut self, bytes: &[u8]) -> Result<(), SinkFailed>
-        ensures bytes { Puts (Some self.old.bytes) (Some self.new.bytes) result bytes.now }
+        ensures bytes { Puts (memory_output self.old) (memory_output self.new) result bytes.now }
+        ensures first { IsKnownPrefix (Some self.new.bytes) (Some self.new.bytes) }
         ensures cause { HasCause self.old.faults self.new.faults (IsErr result) }
 
         // Beyond what each sink promises.
@@ -299,7 +298,8 @@ impl Sink for MemorySink {
 
     /// Never fails, and isn't counted as a call, since nothing is kept back.
     fn flush(&mut self) -> Result<(), SinkFailed>
-        ensures bytes { Keeps (Some self.old.bytes) (Some self.new.bytes) }
+        ensures bytes { Stays (memory_output self.old) (memory_output self.new) }
+        ensures first { IsKnownPrefix (Some self.new.bytes) (Some self.new.bytes) }
         ensures all { OnOk result (Some self.new.bytes ≡ Some self.new.bytes) }
         ensures cause { HasCause self.old.faults self.new.faults (IsErr result) }
 

@@ -1,9 +1,9 @@
 //! The edge to the system's streams: a sink over a writer of std.
 ghost use Rattle.std.specs.Prelude.{◌≡◌, ◌+◌, ◌<◌, ◌≤◌, [], ◌++◌, length, take, drop, IsErr, IsOk, IsTrue, OnOk};
-ghost use Rattle.std.specs.Io.KnownBytes.{Appends, Keeps};
+ghost use Rattle.std.specs.Io.KnownBytes.{Appends};
 ghost use Rattle.arrayvec.specs.ArrayVec.{array_vec_len};
-ghost use Rattle.water_edge.specs.Edge.{HasCause, Puts};
-ghost use Rattle.water_edge.specs.Stream.{taken_bytes, Flushes};
+ghost use Rattle.water_edge.specs.Edge.{HasCause, IsKnownPrefix, Puts, Stays};
+ghost use Rattle.water_edge.specs.Stream.{taken_bytes, writer_output, Flushes};
 
 use crate::{Sink, SinkFailed};
 use arrayvec::ArrayVec;
@@ -89,7 +89,7 @@ impl<W: Write + Drop> StdSink<W> {
     #[cold]
     #[inline(never)]
     fn put_beyond(&mut self, piece: &[u8]) -> Result<(), SinkFailed>
-        ensures bytes { Puts (taken_bytes self.old) (taken_bytes self.new) result piece.now }
+        ensures bytes { Puts (writer_output self.old) (writer_output self.new) result piece.now }
         ensures faults { self.new.faults ≡ self.old.faults }
     {
         if !self.write_kept() {
@@ -120,9 +120,7 @@ impl<W: Write + Drop> StdSink<W> {
 }
 
 impl<W: Write + Drop> Sink for StdSink<W> {
-    ghost taken = { taken_bytes };
-
-    ghost flushed = { λ s. s.bytes };
+    ghost output = { writer_output };
 
     ghost faults = { λ s. s.faults };
 
@@ -131,7 +129,8 @@ impl<W: Write + Drop> Sink for StdSink<W> {
     ///
     /// Fails where std's `write` fails, or takes nothing of what is left. What was written is no longer kept.
     fn put(&mut self, bytes: &[u8]) -> Result<(), SinkFailed>
-        ensures bytes { Puts (taken_bytes self.old) (taken_bytes self.new) result bytes.now }
+        ensures bytes { Puts (writer_output self.old) (writer_output self.new) result bytes.now }
+        ensures first { IsKnownPrefix self.new.bytes (taken_bytes self.new) }
         ensures cause { HasCause self.old.faults self.new.faults (IsErr result) }
 
         // Beyond what each sink promises.
@@ -152,7 +151,8 @@ impl<W: Write + Drop> Sink for StdSink<W> {
     /// Writes what is kept and calls std's `flush`. Fails where one of them fails, or a write takes nothing of what is
     /// left.
     fn flush(&mut self) -> Result<(), SinkFailed>
-        ensures bytes { Keeps (taken_bytes self.old) (taken_bytes self.new) }
+        ensures bytes { Stays (writer_output self.old) (writer_output self.new) }
+        ensures first { IsKnownPrefix self.new.bytes (taken_bytes self.new) }
         ensures all { OnOk result (self.new.bytes ≡ taken_bytes self.new) }
         ensures cause { HasCause self.old.faults self.new.faults (IsErr result) }
 

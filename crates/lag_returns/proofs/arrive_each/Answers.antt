@@ -2,7 +2,7 @@ use Rattle.std.proofs.Common.{◌∙◌, ◌<◌, length, get_or, ap, refl, arit
 use Rattle.finite_sums.proofs.Totals.{total_start}
 use Rattle.water_model.specs.Lookups.{of_entry}
 use Rattle.lag_returns.specs.ReturnFlows.{brought_to}
-use Rattle.lag_returns.proofs.Indices.{row_at, one_row_more, one_row_little}
+use Rattle.lag_returns.proofs.Indices.{one_row_little, one_row_more, room_at, row_at}
 use Rattle.lag_returns.proofs.arrive_each.Goals as goal
 
 pub loop-flow-init : goal.loop-flow-init
@@ -17,6 +17,17 @@ arrive-requires-clause-node c =
     let n = row_at (λ row. row.node < length c.args.into.now) c.args.flows.now c.loop-flow.flow-index c.flow-item.result
     c.requires.nodes c.loop-flow-test.true c.flow-item.is in
     omega arith
+
+pub arrive-requires-clause-room : goal.arrive-requires-clause-room
+arrive-requires-clause-room c =
+    room_at c.args.flows.now c.loop-flow.flow-index c.flow-item.result c.args.into.now c.loop-flow.into
+    c.loop-flow-test.true c.flow-item.is node c.requires.room
+    (c.loop-flow.invariant.added c.flow-item.result.row.node (omega (arith, node, c.loop-flow.invariant.indices)))
+    (c.loop-flow.invariant.small c.flow-item.result.row.node (omega (arith, node, c.loop-flow.invariant.indices)))
+  where
+    node : c.flow-item.result.row.node < length c.args.into.now
+    node = row_at (λ row. row.node < length c.args.into.now) c.args.flows.now c.loop-flow.flow-index
+        c.flow-item.result c.requires.nodes c.loop-flow-test.true c.flow-item.is
 
 pub loop-flow-preserved : goal.loop-flow-preserved
 loop-flow-preserved c = record {

@@ -1,6 +1,7 @@
-use Rattle.std.proofs.Common.{◌∙◌, subst, arith, ℕ, List, Option, length, length-take}
+use Rattle.std.proofs.Common.{◌∙◌, subst, inr, arith, ℕ, List, Option, length, length-take}
 use Rattle.std.specs.Prelude.{IfSome}
 use Rattle.water_edge.specs.Edge.{IsPart}
+use Rattle.basin_cli.proofs.Failing.{asks_again}
 use Rattle.basin_cli.proofs.Parts.{finished_whole, next_fed, refused_whole, still_can}
 use Rattle.basin_cli.proofs.checking.answer_parts.Goals as goal
 
@@ -30,6 +31,21 @@ returns-in-Err-feed-clause-answer g c =
     (i.same.known c.args.name.now) c.in-Ok.ensures.part.1)
     c.in-Err-feed.ensures.refused)
 
+pub returns-then-count-eq0-clause-reads : goal.returns-then-count-eq0-clause-reads
+returns-then-count-eq0-clause-reads g c =
+    asks_again (g.S.Shelf.asked c.args.shelf.now) (g.S.Shelf.asked c.loop-count.shelf)
+    (g.S.Shelf.asked c.read_part.new.shelf) c.args.name.now c.loop-count.invariant.asked c.read_part.ensures.asked
+
+pub returns-in-Err-feed-clause-reads : goal.returns-in-Err-feed-clause-reads
+returns-in-Err-feed-clause-reads g c =
+    asks_again (g.S.Shelf.asked c.args.shelf.now) (g.S.Shelf.asked c.loop-count.shelf)
+    (g.S.Shelf.asked c.read_part.new.shelf) c.args.name.now c.loop-count.invariant.asked c.read_part.ensures.asked
+
+pub returns-in-Err-clause-reads : goal.returns-in-Err-clause-reads
+returns-in-Err-clause-reads g c =
+    asks_again (g.S.Shelf.asked c.args.shelf.now) (g.S.Shelf.asked c.loop-count.shelf)
+    (g.S.Shelf.asked c.read_part.new.shelf) c.args.name.now c.loop-count.invariant.asked c.read_part.ensures.asked
+
 pub loop-count-preserved : goal.loop-count-preserved
 loop-count-preserved g c =
     let i = c.loop-count.invariant in
@@ -41,6 +57,9 @@ loop-count-preserved g c =
         served = λ name served. read.same.served name (i.same.served name served);
       };
       later = omega (arith, i.later, read.cause.later);
+      asked =
+          inr (asks_again (g.S.Shelf.asked c.args.shelf.now) (g.S.Shelf.asked c.loop-count.shelf)
+          (g.S.Shelf.asked c.read_part.new.shelf) c.args.name.now i.asked read.asked);
       part = read.length ∙ i.part;
       fed = next_fed (g.S.Shelf.known c.args.shelf.now c.args.name.now) c.loop-count.checker c.feed.new.self
           c.loop-count.from

@@ -17,8 +17,8 @@ returns-in-Ok-answer_parts-clause-leaves g c =
     let opened = c.in-Ok.ensures in
     answer_leaves c.args.question c.args.basin.now c.args.series.now
     (g.S.Shelf.known c.args.shelf.now c.args.name.now)
-    c.in-Ok-answer_parts.answer c.print_answer.result (g.K.Sink.taken c.args.out.now)
-    (g.K.Sink.taken c.print_answer.new.out)
+    c.in-Ok-answer_parts.answer c.print_answer.result (g.K.Sink.output c.args.out.now)
+    (g.K.Sink.output c.print_answer.new.out)
     (rw (opened.basin, opened.series) at c.in-Ok-answer_parts.ensures.answer) c.print_answer.ensures.leaves
 
 pub returns-in-Ok-answer_parts-clause-out_stays : goal.returns-in-Ok-answer_parts-clause-out_stays
@@ -33,5 +33,5 @@ returns-in-Ok-answer_parts-clause-unread g c = λ lacking.
 pub returns-clause-leaves : goal.returns-clause-leaves
 returns-clause-leaves g c =
     unread_leaves c.args.question c.args.basin.now c.args.series.now
-    (g.S.Shelf.known c.args.shelf.now c.args.name.now) c.in-Err-answer_parts.ending (g.K.Sink.taken c.args.out.now)
-    (g.K.Sink.taken c.args.out.now) c.in-Err-answer_parts.ensures.fault.0
+    (g.S.Shelf.known c.args.shelf.now c.args.name.now) c.in-Err-answer_parts.ending (g.K.Sink.output c.args.out.now)
+    (g.K.Sink.output c.args.out.now) c.in-Err-answer_parts.ensures.fault.0

@@ -1,17 +1,35 @@
-use Rattle.std.proofs.Common.{rules}
+use Rattle.std.proofs.Common.{arith, refl, rules, Some}
+use Rattle.std.proofs.lemmas.Grind.{common_steps}
 use Rattle.water_edge.specs.Edge.{Rose}
-use Rattle.basin_cli.specs.Command.{named}
-use Rattle.basin_cli.proofs.Injured.{cause, writes, pushes}
+use Rattle.basin_cli.specs.Command.{compare, named}
+use Rattle.basin_cli.specs.Failed.{files_to}
+use Rattle.basin_cli.proofs.Failing.{comparing_stops}
+use Rattle.basin_cli.proofs.Idle.{unsolved}
+use Rattle.basin_cli.proofs.Injured.{cause, work, writes}
 use Rattle.basin_cli.proofs.Stops.{refused_writes}
 use Rattle.basin_cli.proofs.compare.do_compare.Goals as goal
 
 pub returns-in-Err : goal.returns-in-Err
-returns-in-Err g c = search (
-  rules,
-  refused_writes (g.S.Shelf.known c.args.shelf.now) (named c.args.inputs) c.args.second.now c.in-Err.ending
-      (Rose (g.S.Shelf.faults c.args.shelf.now) (g.S.Shelf.faults c.read_pair.new.shelf))
-      (g.K.Sink.taken c.args.out.now) (g.K.Sink.taken c.args.out.now) c.in-Err.ensures.stops,
-)
+returns-in-Err g c =
+    let known = g.S.Shelf.known c.args.shelf.now in
+    let files = named c.args.inputs in
+    let second = c.args.second.now in
+    let out = g.K.Sink.output c.args.out.now in
+    record {
+      cause = first_of (search rules, grind (arith, common_steps));
+      asked = c.in-Err.ensures.up_to;
+      can_be_printed = c.in-Err.ensures.printable;
+      writes =
+          refused_writes known files second c.in-Err.ending
+          (Rose (g.S.Shelf.faults c.args.shelf.now) (g.S.Shelf.faults c.read_pair.new.shelf)) out out
+          c.in-Err.ensures.stops;
+      out_stays = λ _. refl;
+      flushed = first_of (search rules, grind (arith, common_steps));
+      shown = tt;
+      unread = tt;
+      idle = λ _. refl;
+      work = unsolved (Some (compare files second)) known c.args.work.now;
+    }
 
 pub returns : goal.returns
 returns g c =
@@ -23,14 +41,18 @@ returns g c =
       cause =
           cause known files second c.in-Ok.pair c.in-Ok.ensures.paired how _ _ _ _ c.compare_basins.ensures.compares
           c.compare_basins.ensures.memory;
+      asked =
+          comparing_stops (files_to (compare files second)) (g.S.Shelf.asked c.args.shelf.now)
+          (g.S.Shelf.asked c.read_pair.new.shelf) how c.compare_basins.ensures.idle;
       can_be_printed = search rules;
       writes =
           writes known files second c.in-Ok.pair c.in-Ok.ensures.paired how _ _ _ c.compare_basins.ensures.compares;
       out_stays = c.compare_basins.ensures.out_stays;
       flushed = c.compare_basins.ensures.flushed;
+      shown = tt;
       unread = tt;
       idle = λ refused. absurd (c.compare_basins.ensures.idle refused);
-      pushes =
-          pushes known files second c.in-Ok.pair c.in-Ok.ensures.paired c.args.searches.now
-          c.compare_basins.new.searches c.compare_basins.ensures.pushes;
+      work =
+          work known files second c.in-Ok.pair c.in-Ok.ensures.paired c.args.work.now
+          c.compare_basins.new.work c.compare_basins.ensures.work;
     }

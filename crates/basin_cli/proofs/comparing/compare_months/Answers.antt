@@ -1,14 +1,15 @@
-use Rattle.std.proofs.Common.{arith}
-use Rattle.basin_cli.proofs.Compared.{within_runs, all_within_runs}
+use Rattle.std.proofs.Common.{◌+◌, arith}
+use Rattle.month_fold.proofs.Works.{SolvesBoth-then, SolvesBoth-within}
 use Rattle.basin_cli.proofs.comparing.compare_months.Goals as goal
 
-pub returns-in_err-injured-clause-pushes : goal.returns-in_err-injured-clause-pushes
-returns-in_err-injured-clause-pushes g c =
-    within_runs c.args.basin.now c.args.other.now c.args.searches.now c.loop-month.searches c.compare_month.new.searches
-    c.loop-month._month
-    c.requires.months c.loop-month.invariant.pushes c.in_err-injured.ensures.pushes c.loop-month-test.true
+pub returns-in_err-injured-clause-work : goal.returns-in_err-injured-clause-work
+returns-in_err-injured-clause-work g c =
+    SolvesBoth-within (c.loop-month._month + 1) c.args.basin.now.months c.args.basin.now c.args.other.now
+    c.args.work.now c.compare_month.new.work (omega (arith, c.loop-month-test.true))
+    (SolvesBoth-then c.loop-month._month c.args.basin.now c.args.other.now c.args.work.now c.loop-month.work
+    c.compare_month.new.work c.loop-month.invariant.work c.in_err-injured.ensures.work)
 
-pub returns-clause-pushes : goal.returns-clause-pushes
-returns-clause-pushes g c =
-    all_within_runs c.args.basin.now c.args.other.now c.args.searches.now c.loop-month.searches c.loop-month._month
-    c.requires.months c.loop-month.invariant.pushes (omega (arith, c.loop-month.auto._month-end))
+pub returns-clause-work : goal.returns-clause-work
+returns-clause-work g c =
+    SolvesBoth-within c.loop-month._month c.args.basin.now.months c.args.basin.now c.args.other.now c.args.work.now
+    c.loop-month.work (omega (arith, c.loop-month.auto._month-end)) c.loop-month.invariant.work

@@ -1,7 +1,7 @@
-use Rattle.std.proofs.Common.{◌≡◌, ◌+◌, ◌*◌, ◌≤◌}
+use Rattle.std.proofs.Common.{◌≡◌}
 use Rattle.basin_cli.specs.Compared.{AreCompared}
 use Rattle.basin_cli.proofs.comparing.compare_months.Given as goal
-use Rattle.senior_hold.specs.MonthNetwork.{month_pushes}
+use Rattle.month_fold.specs.Works.{SolvesBoth}
 
 abbrev pub invariant-loop-month : goal.invariant-loop-month
 invariant-loop-month g l = record {
@@ -10,5 +10,5 @@ invariant-loop-month g l = record {
   done : l.first.done ≡ l._month;
   abreast : l.second.done ≡ l.first.done;
   compared : AreCompared l.basin l.other l.first l.second l.draft.bytes l.injured;
-  pushes : l.searches ≤ l.fn.searches + l._month * (month_pushes l.basin + month_pushes l.other);
+  work : SolvesBoth l._month l.basin l.other l.fn.work l.work;
 }

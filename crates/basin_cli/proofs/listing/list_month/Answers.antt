@@ -6,21 +6,21 @@ use Rattle.basin_cli.proofs.listing.list_month.Goals as goal
 
 pub find-requires-clause-plan : goal.find-requires-clause-plan
 find-requires-clause-plan g c =
-    let w = c.requires.1.1.1.1 in
+    let w = c.requires.1.1.1.1.1 in
     rw (c.basin.ensures.value, c.step.ensures.basin, c.month.ensures)
     (last_found c.args.run.now.basin c.step.new.self w.months c.step.new.self.last c.step.ensures.basin
     (c.step.ensures.month (records_of w.months) w.stands)).plan
 
 pub find-requires-clause-reaches : goal.find-requires-clause-reaches
 find-requires-clause-reaches g c =
-    let w = c.requires.1.1.1.1 in
+    let w = c.requires.1.1.1.1.1 in
     rw (c.basin.ensures.value, c.step.ensures.basin, c.month.ensures)
     (last_found c.args.run.now.basin c.step.new.self w.months c.step.new.self.last c.step.ensures.basin
     (c.step.ensures.month (records_of w.months) w.stands)).reaches
 
 pub find-requires-clause-room : goal.find-requires-clause-room
 find-requires-clause-room g c =
-    let w = c.requires.1.1.1.1 in
+    let w = c.requires.1.1.1.1.1 in
     rw (c.basin.ensures.value, c.step.ensures.basin, c.month.ensures)
     (last_found c.args.run.now.basin c.step.new.self w.months c.step.new.self.last c.step.ensures.basin
     (c.step.ensures.month (records_of w.months) w.stands)).room
@@ -29,11 +29,11 @@ pub find-requires-clause-roll : goal.find-requires-clause-roll
 find-requires-clause-roll g c = rw c.basin.ensures.value c.roll.ensures
 
 pub find-requires-clause-finder : goal.find-requires-clause-finder
-find-requires-clause-finder g c = rw (c.basin.ensures.value, c.step.ensures.basin) c.requires.1.1.1.0
+find-requires-clause-finder g c = rw (c.basin.ensures.value, c.step.ensures.basin) c.requires.1.1.1.1.0
 
 pub put_found-requires-clause-fits : goal.put_found-requires-clause-fits
 put_found-requires-clause-fits g c =
-    let w = c.requires.1.1.1.1 in
+    let w = c.requires.1.1.1.1.1 in
     rw c.step.ensures.basin
     (last_found c.args.run.now.basin c.step.new.self w.months c.step.new.self.last c.step.ensures.basin
     (c.step.ensures.month (records_of w.months) w.stands)).fits
@@ -44,58 +44,60 @@ put_found-requires-clause-found g c =
 
 pub returns-in_err-put_found-clause-stops : goal.returns-in_err-put_found-clause-stops
 returns-in_err-put_found-clause-stops g c =
-    let w = c.requires.1.1.1.1 in
+    let w = c.requires.1.1.1.1.1 in
     stopped c.from_residual.result _
     (month_stopped c.args.run.now.basin c.args.run.now.series c.step.new.self w.months
     (record { month = c.step.new.self.last; found = c.find.new.self.found }) g.start
-    (g.K.Sink.taken c.args.out.now) (g.K.Sink.taken c.put_found.new.out) c.args.run.now.done c.args.searches.now
-    c.step.new.searches c.step.ensures.basin c.step.ensures.series w.found
+    (g.K.Sink.output c.args.out.now) (g.K.Sink.output c.put_found.new.out) c.args.run.now.done c.args.work.now
+    c.step.new.work c.step.ensures.basin c.step.ensures.series w.found
     (rw (c.basin.ensures.value, c.step.ensures.basin, c.month.ensures) at c.find.ensures.found)
-    (c.step.ensures.month (records_of w.months) w.stands) w.text
+    (c.step.ensures.month (records_of w.months) w.stands) w.text w.flushed
     (prefix_moved c.step.new.self.basin c.args.run.now.basin c.step.new.self.last c.find.new.self.found
-    (g.K.Sink.taken c.args.out.now) (g.K.Sink.taken c.put_found.new.out) c.step.ensures.basin
+    (g.K.Sink.output c.args.out.now) (g.K.Sink.output c.put_found.new.out) c.step.ensures.basin
     c.in_err-put_found.ensures.text)
     (stood_done c.args.run.now c.step.new.self (records_of w.months) c.step.new.self.last w.stands
     (c.step.ensures.month (records_of w.months) w.stands))
-    c.step.ensures.pushes)
+    c.step.ensures.work)
 
 pub returns-clause-listed : goal.returns-clause-listed
 returns-clause-listed g c =
-    let w = c.requires.1.1.1.1 in
+    let w = c.requires.1.1.1.1.1 in
     (month_put c.args.run.now.basin c.args.run.now.series c.step.new.self w.months
     (record { month = c.step.new.self.last; found = c.find.new.self.found }) g.start
-    (g.K.Sink.taken c.args.out.now) (g.K.Sink.taken c.flush.new.self) c.flush.result c.args.run.now.done
-    c.args.searches.now c.step.new.searches c.step.ensures.basin c.step.ensures.series w.found
+    (g.K.Sink.output c.args.out.now) (g.K.Sink.output c.flush.new.self) c.flush.result c.args.run.now.done
+    c.args.work.now c.step.new.work c.step.ensures.basin c.step.ensures.series w.found
     (rw (c.basin.ensures.value, c.step.ensures.basin, c.month.ensures) at c.find.ensures.found)
-    (c.step.ensures.month (records_of w.months) w.stands) w.text
-    (puts_kept (g.K.Sink.taken c.args.out.now) (g.K.Sink.taken c.put_found.new.out)
-    (g.K.Sink.taken c.flush.new.self) c.flush.result _
+    (c.step.ensures.month (records_of w.months) w.stands) w.text w.flushed
+    (puts_kept (g.K.Sink.output c.args.out.now) (g.K.Sink.output c.put_found.new.out)
+    (g.K.Sink.output c.flush.new.self) c.flush.result _
     (month_moved c.step.new.self.basin c.args.run.now.basin c.step.new.self.last c.find.new.self.found
-    (g.K.Sink.taken c.args.out.now) (g.K.Sink.taken c.put_found.new.out) c.step.ensures.basin
+    (g.K.Sink.output c.args.out.now) (g.K.Sink.output c.put_found.new.out) c.step.ensures.basin
     c.in_ok-put_found.ensures.text)
     c.flush.ensures.bytes)
+    c.flush.ensures.all
     (stood_done c.args.run.now c.step.new.self (records_of w.months) c.step.new.self.last w.stands
     (c.step.ensures.month (records_of w.months) w.stands))
-    c.step.ensures.pushes).0
+    c.step.ensures.work).0
 
 pub returns-clause-stops : goal.returns-clause-stops
 returns-clause-stops g c =
-    let w = c.requires.1.1.1.1 in
+    let w = c.requires.1.1.1.1.1 in
     (month_put c.args.run.now.basin c.args.run.now.series c.step.new.self w.months
     (record { month = c.step.new.self.last; found = c.find.new.self.found }) g.start
-    (g.K.Sink.taken c.args.out.now) (g.K.Sink.taken c.flush.new.self) c.flush.result c.args.run.now.done
-    c.args.searches.now c.step.new.searches c.step.ensures.basin c.step.ensures.series w.found
+    (g.K.Sink.output c.args.out.now) (g.K.Sink.output c.flush.new.self) c.flush.result c.args.run.now.done
+    c.args.work.now c.step.new.work c.step.ensures.basin c.step.ensures.series w.found
     (rw (c.basin.ensures.value, c.step.ensures.basin, c.month.ensures) at c.find.ensures.found)
-    (c.step.ensures.month (records_of w.months) w.stands) w.text
-    (puts_kept (g.K.Sink.taken c.args.out.now) (g.K.Sink.taken c.put_found.new.out)
-    (g.K.Sink.taken c.flush.new.self) c.flush.result _
+    (c.step.ensures.month (records_of w.months) w.stands) w.text w.flushed
+    (puts_kept (g.K.Sink.output c.args.out.now) (g.K.Sink.output c.put_found.new.out)
+    (g.K.Sink.output c.flush.new.self) c.flush.result _
     (month_moved c.step.new.self.basin c.args.run.now.basin c.step.new.self.last c.find.new.self.found
-    (g.K.Sink.taken c.args.out.now) (g.K.Sink.taken c.put_found.new.out) c.step.ensures.basin
+    (g.K.Sink.output c.args.out.now) (g.K.Sink.output c.put_found.new.out) c.step.ensures.basin
     c.in_ok-put_found.ensures.text)
     c.flush.ensures.bytes)
+    c.flush.ensures.all
     (stood_done c.args.run.now c.step.new.self (records_of w.months) c.step.new.self.last w.stands
     (c.step.ensures.month (records_of w.months) w.stands))
-    c.step.ensures.pushes).1
+    c.step.ensures.work).1
 
 pub returns-clause-finder : goal.returns-clause-finder
 returns-clause-finder g c = rw (c.basin.ensures.value, c.step.ensures.basin) at c.find.ensures.finder

@@ -1,6 +1,6 @@
 use Rattle.std.proofs.Common.{ap, arith}
 use Rattle.water_model.specs.declared.types.Basin.{Basin}
-use Rattle.month_fold.proofs.Whole.{within_run}
+use Rattle.month_fold.proofs.Works.{within_run}
 use Rattle.basin_cli.proofs.Written.{stopped}
 use Rattle.basin_cli.proofs.listing.list_months.Goals as goal
 
@@ -8,12 +8,12 @@ pub returns-in_err-list_month-clause-stops : goal.returns-in_err-list_month-clau
 returns-in_err-list_month-clause-stops g c =
     stopped c.from_residual.result _
     (rw (← c.loop-month.invariant.listed.basin, ← c.loop-month.invariant.series)
-    (c.in_err-list_month.ensures.stops c.args.searches.now
-    (rw (c.loop-month.invariant.done, c.loop-month.invariant.listed.basin) c.loop-month.invariant.pushes)))
+    (c.in_err-list_month.ensures.stops c.args.work.now
+    (rw (c.loop-month.invariant.done, c.loop-month.invariant.listed.basin) c.loop-month.invariant.work)))
 
-pub returns-in_err-list_month-clause-pushes : goal.returns-in_err-list_month-clause-pushes
-returns-in_err-list_month-clause-pushes g c =
-    within_run c.args.run.now.basin c.args.searches.now c.loop-month.searches c.list_month.new.searches
+pub returns-in_err-list_month-clause-work : goal.returns-in_err-list_month-clause-work
+returns-in_err-list_month-clause-work g c =
+    within_run c.args.run.now.basin c.args.work.now c.loop-month.work c.list_month.new.work
     c.loop-month._month
-    c.loop-month.invariant.pushes (rw c.loop-month.invariant.listed.basin at c.in_err-list_month.ensures.pushes)
+    c.loop-month.invariant.work (rw c.loop-month.invariant.listed.basin at c.in_err-list_month.ensures.work)
     (omega (arith, c.loop-month-test.true, ap (λ (b : Basin). b.months) c.basin.ensures.value))

@@ -7,23 +7,26 @@ use Rattle.basin_cli.proofs.listing.list_run.Goals as goal
 pub returns-in_err-put_head-clause-stops : goal.returns-in_err-put_head-clause-stops
 returns-in_err-put_head-clause-stops g c =
     stopped c.from_residual.result _
-    (rw c.requires.1.1.1.1
-    (head_stops c.args.run.now.basin c.args.run.now.series c.args.run.now (g.K.Sink.taken c.args.out.now)
-    (g.K.Sink.taken c.put_head.new.sink) c.args.searches.now refl refl c.requires.1.1.0
+    (rw c.requires.1.1.1.1.1
+    (head_stops c.args.run.now.basin c.args.run.now.series c.args.run.now (g.K.Sink.output c.args.out.now)
+    (g.K.Sink.output c.put_head.new.sink) c.args.work.now refl refl c.requires.1.1.1.0
     (rw c.basin.ensures.value at c.in_err-put_head.ensures.text)))
 
 pub list_months-requires : goal.list_months-requires
 list_months-requires g c = λ lifetimes lives. (
   lives.0,
   (
-    lives.1,
+    lives.1.0,
     (
-      c.requires.1.1.0.done,
+      lives.1.1,
       (
-        c.requires.1.1.1.0,
-        rw c.requires.1.1.1.1 (head_listed c.args.run.now.basin c.args.run.now (g.K.Sink.taken c.args.out.now)
-            (g.K.Sink.taken c.put_head.new.sink) refl c.requires.1.1.0
-            (rw c.basin.ensures.value at c.in_ok-put_head.ensures.text)),
+        c.requires.1.1.1.0.done,
+        (
+          c.requires.1.1.1.1.0,
+          rw c.requires.1.1.1.1.1 (head_listed c.args.run.now.basin c.args.run.now (g.K.Sink.output c.args.out.now)
+              (g.K.Sink.output c.put_head.new.sink) refl c.requires.1.1.1.0
+              (rw c.basin.ensures.value at c.in_ok-put_head.ensures.text)),
+        ),
       ),
     ),
   ),
@@ -33,32 +36,32 @@ pub returns-in_err-put_tail-clause-stops : goal.returns-in_err-put_tail-clause-s
 returns-in_err-put_tail-clause-stops g c =
     stopped c.from_residual-in_err-put_tail.result _
     (tail_stops c.args.run.now.basin c.args.run.now.series c.list_months.new.run g.start
-    (g.K.Sink.taken c.list_months.new.out) (g.K.Sink.taken c.put_tail.new.sink) c.args.searches.now
-    c.list_months.new.searches c.in_ok-list_months.ensures.series c.in_ok-list_months.ensures.done
+    (g.K.Sink.output c.list_months.new.out) (g.K.Sink.output c.put_tail.new.sink) c.args.work.now
+    c.list_months.new.work c.in_ok-list_months.ensures.series c.in_ok-list_months.ensures.done
     c.in_ok-list_months.ensures.listed
     (rw (c.basin-2.ensures.value, c.in_ok-list_months.ensures.listed.basin) at c.in_err-put_tail.ensures.text)
-    c.in_ok-list_months.ensures.pushes)
+    c.in_ok-list_months.ensures.work)
 
 pub returns-clause-listed : goal.returns-clause-listed
 returns-clause-listed g c =
     (tail_put c.args.run.now.basin c.args.run.now.series c.list_months.new.run g.start
-    (g.K.Sink.taken c.list_months.new.out) (g.K.Sink.taken c.flush.new.self) c.flush.result c.args.searches.now
-    c.list_months.new.searches c.in_ok-list_months.ensures.series c.in_ok-list_months.ensures.done
+    (g.K.Sink.output c.list_months.new.out) (g.K.Sink.output c.flush.new.self) c.flush.result c.args.work.now
+    c.list_months.new.work c.in_ok-list_months.ensures.series c.in_ok-list_months.ensures.done
     c.in_ok-list_months.ensures.listed
-    (puts_kept (g.K.Sink.taken c.list_months.new.out) (g.K.Sink.taken c.put_tail.new.sink)
-    (g.K.Sink.taken c.flush.new.self) c.flush.result _
+    (puts_kept (g.K.Sink.output c.list_months.new.out) (g.K.Sink.output c.put_tail.new.sink)
+    (g.K.Sink.output c.flush.new.self) c.flush.result _
     (rw (c.basin-2.ensures.value, c.in_ok-list_months.ensures.listed.basin) at c.in_ok-put_tail.ensures.text)
     c.flush.ensures.bytes)
-    c.in_ok-list_months.ensures.pushes).0
+    c.in_ok-list_months.ensures.work).0
 
 pub returns-clause-stops : goal.returns-clause-stops
 returns-clause-stops g c =
     (tail_put c.args.run.now.basin c.args.run.now.series c.list_months.new.run g.start
-    (g.K.Sink.taken c.list_months.new.out) (g.K.Sink.taken c.flush.new.self) c.flush.result c.args.searches.now
-    c.list_months.new.searches c.in_ok-list_months.ensures.series c.in_ok-list_months.ensures.done
+    (g.K.Sink.output c.list_months.new.out) (g.K.Sink.output c.flush.new.self) c.flush.result c.args.work.now
+    c.list_months.new.work c.in_ok-list_months.ensures.series c.in_ok-list_months.ensures.done
     c.in_ok-list_months.ensures.listed
-    (puts_kept (g.K.Sink.taken c.list_months.new.out) (g.K.Sink.taken c.put_tail.new.sink)
-    (g.K.Sink.taken c.flush.new.self) c.flush.result _
+    (puts_kept (g.K.Sink.output c.list_months.new.out) (g.K.Sink.output c.put_tail.new.sink)
+    (g.K.Sink.output c.flush.new.self) c.flush.result _
     (rw (c.basin-2.ensures.value, c.in_ok-list_months.ensures.listed.basin) at c.in_ok-put_tail.ensures.text)
     c.flush.ensures.bytes)
-    c.in_ok-list_months.ensures.pushes).1
+    c.in_ok-list_months.ensures.work).1

@@ -1,4 +1,7 @@
+use Rattle.std.proofs.Common.{[], ◌∷◌}
 use Rattle.basin_cli.specs.Command.{named}
+use Rattle.basin_cli.specs.Failed.{pair_to, series_file}
+use Rattle.basin_cli.proofs.Failing.{asks_then, both_stop}
 use Rattle.basin_cli.proofs.Stops.{rose_since, series_stops_later}
 use Rattle.basin_cli.proofs.pairs.read_pair.Goals as goal
 
@@ -11,3 +14,15 @@ returns-in-Err-clause-stops g c =
     (rose_since (g.S.Shelf.faults c.args.shelf.now) (g.S.Shelf.faults c.read_basins.new.shelf)
     (g.S.Shelf.faults c.read_for_both.new.shelf) c.in_ok-basin.ensures.later)
     c.in_ok-basin.ensures.months c.in-Err.ensures.ends
+
+pub returns-in-Err-clause-up_to : goal.returns-in-Err-clause-up_to
+returns-in-Err-clause-up_to g c =
+    let files = named c.args.inputs in
+    let second = c.args.second.now in
+    let old = g.S.Shelf.asked c.args.shelf.now in
+    let mid = g.S.Shelf.asked c.read_basins.new.shelf in
+    let new = g.S.Shelf.asked c.read_for_both.new.shelf in
+    both_stop (pair_to files second) old new c.in_ok-basin.basin c.in_ok-basin.other _ _ _ c.in-Err.ending
+    c.in-Err.ensures.ends
+    (asks_then (files.basin ∷ second ∷ []) (series_file files.series) old mid new c.in_ok-basin.ensures.reads
+    c.read_for_both.ensures.reads)

@@ -7,11 +7,12 @@ returns-clause-ends g c = record {
   how = c.decide-ending.result;
   status_is = c.status.ensures;
   cause = c.decide-ending.ensures.cause;
+  asked = c.decide-ending.ensures.asked;
   tells = elim c.if-has_line_on_err.branch [
     | then-has_line_on_err w ↦ rw w.err-is w.print_ending.ensures.tells
     | else-has_line_on_err w ↦
         rw w.err-is
-        (quiet c.decide-ending.result (g.E.Sink.taken c.args.err.now) (g.E.Sink.faults c.args.err.now)
+        (quiet c.decide-ending.result (g.E.Sink.output c.args.err.now) (g.E.Sink.faults c.args.err.now)
         (λ known. told_not w.if-has_line_on_err.false (c.has_line_on_err.ensures.1 known)))
   ];
 }
@@ -26,6 +27,9 @@ returns-clause-out_stays g c = rw c.status.ensures c.decide-ending.ensures.out_s
 
 pub returns-clause-flushed : goal.returns-clause-flushed
 returns-clause-flushed g c = rw c.status.ensures c.decide-ending.ensures.flushed
+
+pub returns-clause-shown : goal.returns-clause-shown
+returns-clause-shown g c = rw c.status.ensures c.decide-ending.ensures.shown
 
 pub returns-clause-err_flushed : goal.returns-clause-err_flushed
 returns-clause-err_flushed g c = λ known sound. elim c.if-has_line_on_err.branch [

@@ -1,25 +1,39 @@
-use Rattle.std.proofs.Common.{rules, subst, ap, ◌∙◌, List, Option, ℕ}
+use Rattle.std.proofs.Common.{arith, refl, rules, subst, ap, ◌∙◌, List, Option, ℕ}
+use Rattle.std.proofs.lemmas.Grind.{common_steps}
 use Rattle.std.specs.Prelude.{IfSome}
 use Rattle.water_edge.specs.Edge.{Rose}
 use Rattle.basin_cli.specs.Actions.{EndsChecking}
 use Rattle.basin_cli.specs.Answer.{LeavesAnswer}
-use Rattle.basin_cli.specs.Command.{named}
+use Rattle.basin_cli.specs.Command.{check, named}
 use Rattle.basin_cli.specs.Ending.{status_of}
+use Rattle.basin_cli.specs.Failed.{files_to}
 use Rattle.basin_cli.specs.Out.{AsksNot, MayWrite}
+use Rattle.basin_cli.proofs.Failing.{checking_asks, inputs_stop}
 use Rattle.basin_cli.proofs.Judged.{checking_cause, checking_writes, ends_later}
 use Rattle.basin_cli.proofs.Stops.{rose_since}
 use Rattle.basin_cli.proofs.Unread.{unread}
 use Rattle.basin_cli.proofs.top.do_check.Goals as goal
 
 pub returns-in-Err : goal.returns-in-Err
-returns-in-Err g c = λ count. search (
-  rules,
-  unread
-      (AsksNot (named c.args.inputs) c.args.result_name.now (g.S.Shelf.asked c.args.shelf.now)
-      (g.S.Shelf.asked c.read_inputs.new.shelf))
-      c.in-Err.ending
-      (λ _. c.read_inputs.ensures.asked c.args.result_name.now),
-)
+returns-in-Err g c = λ count.
+    (let files = named c.args.inputs in
+    let result = c.args.result_name.now in
+    let old = g.S.Shelf.asked c.args.shelf.now in
+    let new = g.S.Shelf.asked c.read_inputs.new.shelf in
+    record {
+      cause = first_of (search rules, grind (arith, common_steps));
+      asked =
+          inputs_stop (files_to (check c.args.question files result)) old new files _ _ c.in-Err.ending
+          (λ asks. asks) (λ asks. asks) c.in-Err.ensures.stops c.in-Err.ensures.up_to;
+      can_be_printed = first_of (search rules, grind (arith, common_steps));
+      writes = first_of (search rules, grind (arith, common_steps));
+      out_stays = λ _. refl;
+      flushed = first_of (search rules, grind (arith, common_steps));
+      shown = tt;
+      unread = unread (AsksNot files result old new) c.in-Err.ending (λ _. c.read_inputs.ensures.asked result);
+      idle = λ _. refl;
+      work = refl;
+    })
 
 pub returns : goal.returns
 returns g c = λ count.
@@ -32,8 +46,8 @@ returns g c = λ count.
     let mid = Rose (g.S.Shelf.faults c.read_inputs.new.shelf) (g.S.Shelf.faults c.check_file.new.shelf) in
     let read = Rose (g.S.Shelf.faults c.args.shelf.now) (g.S.Shelf.faults c.check_file.new.shelf) in
     let write = Rose (g.K.Sink.faults c.args.out.now) (g.K.Sink.faults c.check_file.new.out) in
-    let old = g.K.Sink.taken c.args.out.now in
-    let new = g.K.Sink.taken c.check_file.new.out in
+    let old = g.K.Sink.output c.args.out.now in
+    let new = g.K.Sink.output c.check_file.new.out in
     record {
       cause =
           checking_cause c.args.question known files result b series how read write c.in-Ok.ensures.valid
@@ -44,6 +58,10 @@ returns g c = λ count.
           (subst (λ (o : Option (List ℕ)). EndsChecking c.args.question b series o how mid write)
           (c.in-Ok.ensures.same.known result)
           c.check_file.ensures.ends));
+      asked =
+          checking_asks c.args.question files result b series _ how mid write (g.S.Shelf.asked c.args.shelf.now)
+          (g.S.Shelf.asked c.read_inputs.new.shelf) (g.S.Shelf.asked c.check_file.new.shelf) c.check_file.ensures.ends
+          c.in-Ok.ensures.reads c.check_file.ensures.reads;
       can_be_printed = search rules;
       writes =
           checking_writes c.args.question known files result b series how old new c.in-Ok.ensures.fits
@@ -53,11 +71,12 @@ returns g c = λ count.
           (c.in-Ok.ensures.same.known result) c.check_file.ensures.leaves);
       out_stays = c.check_file.ensures.out_stays;
       flushed = c.check_file.ensures.flushed;
+      shown = tt;
       unread =
           unread
           (AsksNot files result (g.S.Shelf.asked c.args.shelf.now) (g.S.Shelf.asked c.check_file.new.shelf)) how
           (λ e not_basin not_series. ap (λ s. g.S.Shelf.asked s result) (c.check_file.ensures.unread e)
           ∙ c.read_inputs.ensures.asked result not_basin not_series);
       idle = search rules;
-      pushes = search rules;
+      work = search rules;
     })

@@ -1,9 +1,13 @@
-use Rattle.std.proofs.Common.{arith, rules, refl, subst, ◌≡◌, ℕ, List, Option}
+use Rattle.std.proofs.Common.{arith, rules, refl, subst, inl, ◌≡◌, ℕ, List, Option, Some}
 use Rattle.std.proofs.lemmas.Grind.{common_steps}
 use Rattle.std.specs.Prelude.{IfSome}
-use Rattle.basin_cli.specs.Command.{named}
+use Rattle.basin_cli.specs.Command.{edit, named}
 use Rattle.basin_cli.specs.Ending.{status_of}
-use Rattle.basin_cli.proofs.Edited.{editing_cause, editing_pushes, editing_writes}
+use Rattle.basin_cli.specs.Failed.{files_to}
+use Rattle.basin_cli.proofs.Edited.{editing_cause, editing_solves, editing_writes}
+use Rattle.basin_cli.proofs.Failing.{editing_stops, inputs_stop, script_asks}
+use Rattle.basin_cli.proofs.Idle.{unsolved}
+use Rattle.basin_cli.proofs.Unread.{unread}
 use Rattle.basin_cli.proofs.top.do_edit.Goals as goal
 
 pub returns : goal.returns
@@ -23,27 +27,64 @@ returns g c =
       cause =
           editing_cause known files script text b series how _ _ c.in-Ok.ensures.fits c.in-Ok.ensures.loaded
           (rw c.deref.ensures.value c.in-Ok-read_file.ensures.within) is c.edit_basin.ensures.ends;
+      asked =
+          editing_stops (files_to (edit files script)) (g.S.Shelf.asked c.args.shelf.now)
+          (g.S.Shelf.asked c.read_file.new.shelf) b series text how _ c.edit_basin.ensures.ends;
       can_be_printed = search rules;
       writes =
           editing_writes known files script text b series (status_of how) _ _ c.in-Ok.ensures.fits
           c.in-Ok.ensures.loaded is c.edit_basin.ensures.leaves;
       out_stays = c.edit_basin.ensures.out_stays;
       flushed = c.edit_basin.ensures.flushed;
+      shown = c.edit_basin.ensures.shown;
       unread = tt;
       idle = c.edit_basin.ensures.idle;
-      pushes =
-          editing_pushes known files script text b series c.args.searches.now c.edit_basin.new.searches
-          c.in-Ok.ensures.fits c.in-Ok.ensures.loaded is c.edit_basin.ensures.pushes;
+      work =
+          editing_solves known files script text b series c.args.work.now c.edit_basin.new.work
+          c.in-Ok.ensures.fits c.in-Ok.ensures.loaded is c.edit_basin.ensures.work;
     }
 
 pub returns-in-Err-read_file : goal.returns-in-Err-read_file
-returns-in-Err-read_file g c = record {
-  cause = first_of (search rules, grind (arith, common_steps));
-  can_be_printed = first_of (search rules, grind (arith, common_steps));
-  writes = first_of (search rules, grind (arith, common_steps));
-  out_stays = λ _. refl;
-  flushed = first_of (search rules, grind (arith, common_steps));
-  unread = tt;
-  idle = λ _. refl;
-  pushes = first_of (search rules, grind (arith, common_steps));
-}
+returns-in-Err-read_file g c =
+    let files = named c.args.inputs in
+    let script = c.args.script.now in
+    let known = g.S.Shelf.known c.args.shelf.now in
+    let ending = c.in-Err-read_file.ending in
+    record {
+      cause = first_of (search rules, grind (arith, common_steps));
+      asked =
+          script_asks files script _ _ ending
+          (g.S.Shelf.asked c.args.shelf.now) (g.S.Shelf.asked c.read_inputs.new.shelf)
+          (g.S.Shelf.asked c.read_file.new.shelf)
+          c.in-Err-read_file.ensures.ends c.in-Ok.ensures.reads c.read_file.ensures.asked;
+      can_be_printed = first_of (search rules, grind (arith, common_steps));
+      writes = first_of (search rules, grind (arith, common_steps));
+      out_stays = λ _. refl;
+      flushed = first_of (search rules, grind (arith, common_steps));
+      shown = unread _ ending (λ _ _. inl refl);
+      unread = tt;
+      idle = λ _. refl;
+      work = unsolved (Some (edit files script)) known c.args.work.now;
+    }
+
+pub returns-in-Err : goal.returns-in-Err
+returns-in-Err g c =
+    let files = named c.args.inputs in
+    let script = c.args.script.now in
+    let known = g.S.Shelf.known c.args.shelf.now in
+    let ending = c.in-Err.ending in
+    record {
+      cause = first_of (search rules, grind (arith, common_steps));
+      asked =
+          inputs_stop (files_to (edit files script)) (g.S.Shelf.asked c.args.shelf.now)
+          (g.S.Shelf.asked c.read_inputs.new.shelf) files _ _ ending (λ asks. asks) (λ asks. asks)
+          c.in-Err.ensures.stops c.in-Err.ensures.up_to;
+      can_be_printed = first_of (search rules, grind (arith, common_steps));
+      writes = first_of (search rules, grind (arith, common_steps));
+      out_stays = λ _. refl;
+      flushed = first_of (search rules, grind (arith, common_steps));
+      shown = unread _ ending (λ _ _. inl refl);
+      unread = tt;
+      idle = λ _. refl;
+      work = unsolved (Some (edit files script)) known c.args.work.now;
+    }

@@ -1,6 +1,8 @@
 use Rattle.std.proofs.Common.{rules}
-use Rattle.basin_cli.specs.Command.{named}
-use Rattle.basin_cli.proofs.Gathering.{gathering_cause, gathering_pushes, gathering_writes}
+use Rattle.basin_cli.specs.Command.{ensemble, named}
+use Rattle.basin_cli.specs.Failed.{files_to}
+use Rattle.basin_cli.proofs.Failing.{solving_stops}
+use Rattle.basin_cli.proofs.Gathering.{gathering_cause, gathering_solves, gathering_writes}
 use Rattle.basin_cli.proofs.top.do_ensemble.Goals as goal
 
 pub returns : goal.returns
@@ -14,15 +16,19 @@ returns g c =
       cause =
           gathering_cause known files b series how _ _ c.in-Ok.ensures.whole c.in-Ok.ensures.loaded
           c.ensemble_basin.ensures.ends;
+      asked =
+          solving_stops (files_to (ensemble files)) (g.S.Shelf.asked c.args.shelf.now)
+          (g.S.Shelf.asked c.read_record.new.shelf) how _ c.ensemble_basin.ensures.ends;
       can_be_printed = search rules;
       writes =
           gathering_writes known files b series how _ _ c.in-Ok.ensures.fits c.in-Ok.ensures.loaded
           c.ensemble_basin.ensures.leaves;
       out_stays = c.ensemble_basin.ensures.out_stays;
       flushed = c.ensemble_basin.ensures.flushed;
+      shown = tt;
       unread = tt;
       idle = λ refused. absurd (c.ensemble_basin.ensures.idle refused);
-      pushes =
-          gathering_pushes (known files.basin) b c.args.searches.now c.ensemble_basin.new.searches
-          c.in-Ok.ensures.loaded.from_basin c.ensemble_basin.ensures.pushes;
+      work =
+          gathering_solves (known files.basin) b c.args.work.now c.ensemble_basin.new.work
+          c.in-Ok.ensures.loaded.from_basin c.ensemble_basin.ensures.work;
     }

@@ -1,17 +1,24 @@
 use Rattle.std.proofs.Common.{arith, rules}
 use Rattle.std.proofs.lemmas.Grind.{common_steps}
+use Rattle.basin_cli.specs.Command.{named, report}
 use Rattle.basin_cli.specs.Ending.{status_of}
+use Rattle.basin_cli.specs.Failed.{files_to}
+use Rattle.basin_cli.proofs.Failing.{solving_stops}
 use Rattle.basin_cli.proofs.Idle.{stopped_writes}
 use Rattle.basin_cli.proofs.top.do_report.Goals as goal
 
 pub returns : goal.returns
 returns g c = record {
   cause = first_of (search rules, grind (arith, common_steps));
+  asked =
+      solving_stops (files_to (report (named c.args.inputs))) (g.S.Shelf.asked c.args.shelf.now)
+      (g.S.Shelf.asked c.read_inputs.new.shelf) c.report_basin.result _ c.report_basin.ensures.ends;
   can_be_printed = first_of (search rules, grind (arith, common_steps));
   writes = first_of (search rules, grind (arith, common_steps));
   out_stays = c.report_basin.ensures.out_stays;
   flushed = c.report_basin.ensures.flushed;
+  shown = tt;
   unread = tt;
   idle = λ stopped. c.report_basin.ensures.idle (stopped_writes (status_of c.report_basin.result) stopped);
-  pushes = first_of (search rules, grind (arith, common_steps));
+  work = first_of (search rules, grind (arith, common_steps));
 }

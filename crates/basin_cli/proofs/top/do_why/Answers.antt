@@ -1,7 +1,9 @@
 use Rattle.std.proofs.Common.{rules}
-use Rattle.basin_cli.specs.Command.{named}
+use Rattle.basin_cli.specs.Command.{named, why}
 use Rattle.basin_cli.specs.Ending.{status_of}
+use Rattle.basin_cli.specs.Failed.{files_to}
 use Rattle.basin_cli.proofs.Idle.{stopped_writes}
+use Rattle.basin_cli.proofs.Failing.{asking_stops}
 use Rattle.basin_cli.proofs.Accounts.{asking_cause, asking_solves, asking_writes}
 use Rattle.basin_cli.proofs.top.do_why.Goals as goal
 
@@ -18,6 +20,10 @@ returns g c =
           asking_cause known files c.args.month right b series how _ _ c.in-Ok.ensures.valid c.in-Ok.ensures.fits
           c.in-Ok.ensures.loaded
           (rw c.as_bytes.ensures.value at c.explain_right.ensures.ends);
+      asked =
+          asking_stops (files_to (why c.args.account files c.args.month right)) (g.S.Shelf.asked c.args.shelf.now)
+          (g.S.Shelf.asked c.read_inputs.new.shelf) b series c.args.month right how _
+          (rw c.as_bytes.ensures.value at c.explain_right.ensures.ends);
       can_be_printed = search rules;
       writes =
           asking_writes c.args.account known files c.args.month right b series how _ _ c.in-Ok.ensures.fits
@@ -25,9 +31,10 @@ returns g c =
           (rw c.as_bytes.ensures.value at c.explain_right.ensures.answers);
       out_stays = c.explain_right.ensures.out_stays;
       flushed = c.explain_right.ensures.flushed;
+      shown = tt;
       unread = tt;
       idle = λ stopped. c.explain_right.ensures.idle (stopped_writes (status_of how) stopped);
-      pushes =
-          asking_solves known files c.args.month b series c.args.searches.now c.explain_right.new.searches
-          c.in-Ok.ensures.loaded c.explain_right.ensures.pushes;
+      work =
+          asking_solves known files c.args.month b series c.args.work.now c.explain_right.new.work
+          c.in-Ok.ensures.loaded c.explain_right.ensures.work;
     }

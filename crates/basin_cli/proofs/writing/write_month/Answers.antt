@@ -4,7 +4,7 @@ use Rattle.basin_cli.proofs.writing.write_month.Goals as goal
 
 pub put_month-requires-clause-month : goal.put_month-requires-clause-month
 put_month-requires-clause-month g c =
-    let w = c.requires.1.1.1 in
+    let w = c.requires.1.1.1.1 in
     rw (c.basin.ensures.value, c.step.ensures.basin, c.month.ensures)
     (last_fits c.args.run.now.basin c.step.new.self w.records c.step.new.self.last c.step.ensures.basin
     (c.step.ensures.month w.records w.stands))
@@ -14,45 +14,47 @@ put_month-requires-clause-roll g c = rw c.basin.ensures.value c.roll.ensures
 
 pub returns-in_err-put_month-clause-stops : goal.returns-in_err-put_month-clause-stops
 returns-in_err-put_month-clause-stops g c =
-    let w = c.requires.1.1.1 in
+    let w = c.requires.1.1.1.1 in
     stopped c.from_residual.result _
     (month_stopped c.args.run.now.basin c.args.run.now.series c.step.new.self w.records c.step.new.self.last g.start
-    (g.K.Sink.taken c.args.out.now) (g.K.Sink.taken c.put_month.new.sink) c.args.run.now.done c.args.searches.now
-    c.step.new.searches c.step.ensures.basin c.step.ensures.series (c.step.ensures.month w.records w.stands)
-    w.text
+    (g.K.Sink.output c.args.out.now) (g.K.Sink.output c.put_month.new.sink) c.args.run.now.done c.args.work.now
+    c.step.new.work c.step.ensures.basin c.step.ensures.series (c.step.ensures.month w.records w.stands)
+    w.text w.flushed
     (rw (c.basin.ensures.value, c.step.ensures.basin, c.month.ensures) at c.in_err-put_month.ensures.text)
     (stood_done c.args.run.now c.step.new.self w.records c.step.new.self.last w.stands
     (c.step.ensures.month w.records w.stands))
-    c.step.ensures.pushes)
+    c.step.ensures.work)
 
 pub returns-clause-written : goal.returns-clause-written
 returns-clause-written g c =
-    let w = c.requires.1.1.1 in
+    let w = c.requires.1.1.1.1 in
     (month_put c.args.run.now.basin c.args.run.now.series c.step.new.self w.records c.step.new.self.last g.start
-    (g.K.Sink.taken c.args.out.now) (g.K.Sink.taken c.flush.new.self) c.flush.result c.args.run.now.done
-    c.args.searches.now
-    c.step.new.searches c.step.ensures.basin c.step.ensures.series (c.step.ensures.month w.records w.stands)
-    w.text (puts_kept (g.K.Sink.taken c.args.out.now) (g.K.Sink.taken c.put_month.new.sink)
-    (g.K.Sink.taken c.flush.new.self)
+    (g.K.Sink.output c.args.out.now) (g.K.Sink.output c.flush.new.self) c.flush.result c.args.run.now.done
+    c.args.work.now
+    c.step.new.work c.step.ensures.basin c.step.ensures.series (c.step.ensures.month w.records w.stands)
+    w.text w.flushed (puts_kept (g.K.Sink.output c.args.out.now) (g.K.Sink.output c.put_month.new.sink)
+    (g.K.Sink.output c.flush.new.self)
     c.flush.result _
     (rw (c.basin.ensures.value, c.step.ensures.basin, c.month.ensures) at c.in_ok-put_month.ensures.text)
     c.flush.ensures.bytes)
+    c.flush.ensures.all
     (stood_done c.args.run.now c.step.new.self w.records c.step.new.self.last w.stands
     (c.step.ensures.month w.records w.stands))
-    c.step.ensures.pushes).0
+    c.step.ensures.work).0
 
 pub returns-clause-stops : goal.returns-clause-stops
 returns-clause-stops g c =
-    let w = c.requires.1.1.1 in
+    let w = c.requires.1.1.1.1 in
     (month_put c.args.run.now.basin c.args.run.now.series c.step.new.self w.records c.step.new.self.last g.start
-    (g.K.Sink.taken c.args.out.now) (g.K.Sink.taken c.flush.new.self) c.flush.result c.args.run.now.done
-    c.args.searches.now
-    c.step.new.searches c.step.ensures.basin c.step.ensures.series (c.step.ensures.month w.records w.stands)
-    w.text (puts_kept (g.K.Sink.taken c.args.out.now) (g.K.Sink.taken c.put_month.new.sink)
-    (g.K.Sink.taken c.flush.new.self)
+    (g.K.Sink.output c.args.out.now) (g.K.Sink.output c.flush.new.self) c.flush.result c.args.run.now.done
+    c.args.work.now
+    c.step.new.work c.step.ensures.basin c.step.ensures.series (c.step.ensures.month w.records w.stands)
+    w.text w.flushed (puts_kept (g.K.Sink.output c.args.out.now) (g.K.Sink.output c.put_month.new.sink)
+    (g.K.Sink.output c.flush.new.self)
     c.flush.result _
     (rw (c.basin.ensures.value, c.step.ensures.basin, c.month.ensures) at c.in_ok-put_month.ensures.text)
     c.flush.ensures.bytes)
+    c.flush.ensures.all
     (stood_done c.args.run.now c.step.new.self w.records c.step.new.self.last w.stands
     (c.step.ensures.month w.records w.stands))
-    c.step.ensures.pushes).1
+    c.step.ensures.work).1

@@ -44,7 +44,7 @@ returns-in_err-put_indices-clause-text g c =
     subst (λ (x : CutSets). HoldsCore b m r x) (sym c.cuts-core.ensures) c.find_core.ensures.core in (
       helping_bytes b m r reach core,
       helping_text b m r core c.requires.plan c.requires.reaches c.requires.right c.requires.short held.is_core,
-      Puts-cut (g.K.Sink.taken c.args.sink.now) (g.K.Sink.taken c.put_indices.new.sink) c.from_residual.result
+      Puts-cut (g.K.Sink.output c.args.sink.now) (g.K.Sink.output c.put_indices.new.sink) c.from_residual.result
           (flat_map (whole_line b) (helping_lines b m r reach core)) (account_bytes b m r core) c.from_residual.ensures.0
           c.in_err-put_indices.ensures.text,
     )
@@ -60,8 +60,8 @@ returns-clause-text g c =
     subst (λ (x : CutSets). HoldsCore b m r x) (sym c.cuts-core.ensures) c.find_core.ensures.core in (
       helping_bytes b m r reach core,
       helping_text b m r core c.requires.plan c.requires.reaches c.requires.right c.requires.short held.is_core,
-      Puts-then (g.K.Sink.taken c.args.sink.now) (g.K.Sink.taken c.put_indices.new.sink)
-          (g.K.Sink.taken c.put_account.new.sink) c.put_account.result
+      Puts-then (g.K.Sink.output c.args.sink.now) (g.K.Sink.output c.put_indices.new.sink)
+          (g.K.Sink.output c.put_account.new.sink) c.put_account.result
           (flat_map (whole_line b) (helping_lines b m r reach core)) (account_bytes b m r core)
           c.in_ok-put_indices.ensures.text c.put_account.ensures.text,
     )

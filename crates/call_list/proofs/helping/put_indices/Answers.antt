@@ -1,9 +1,8 @@
 use Rattle.std.proofs.Common.{List, ℕ, arith, subst, sym}
-use Rattle.std.specs.Io.KnownBytes.{Appends}
 use Rattle.std.specs.Prelude.{slice_index}
 use Rattle.std.specs.List.{flat_map}
 use Rattle.cut_cert.specs.Sets.{cut_at}
-use Rattle.water_edge.specs.Edge.{Puts}
+use Rattle.water_edge.specs.Edge.{Extends, Puts}
 use Rattle.water_edge.proofs.Puts.{Puts-second, Puts-third}
 use Rattle.water_model.specs.Indices.{indices_of}
 use Rattle.call_list.specs.Entries.{IsOfBasin, whole_line}
@@ -32,16 +31,16 @@ returns-in_err-put_nodes-clause-text g c =
     let reach = cut_at m.cuts r in
     let core = cut_at c.args.core.now r in
     let first : Entry = line.Where m.month r (slice_index m.delivered r) (slice_index m.want r) in
-    let old = g.K.Sink.taken c.args.sink.now in
-    let mid = g.K.Sink.taken c.put_entry.new.sink in
-    let new = g.K.Sink.taken c.put_nodes.new.sink in
+    let old = g.K.Sink.output c.args.sink.now in
+    let mid = g.K.Sink.output c.put_entry.new.sink in
+    let new = g.K.Sink.output c.put_nodes.new.sink in
     subst (λ (bytes : List ℕ). Puts old new c.from_residual-in_err-put_nodes.result bytes)
     (index_pieces b m r reach core)
     (Puts-second old mid new c.from_residual-in_err-put_nodes.result (whole_line b first)
     (flat_map (whole_line b) (flat_map (node_lines core) (indices_of b.nodes)))
     (flat_map (whole_line b) (flat_map (link_lines b reach core) (indices_of b.links)))
     c.from_residual-in_err-put_nodes.ensures.0
-    (subst (λ (e : Entry). Appends old mid (whole_line b e)) c.first_line.ensures c.in_ok-put_entry.ensures.text)
+    (subst (λ (e : Entry). Extends old mid (whole_line b e)) c.first_line.ensures c.in_ok-put_entry.ensures.text)
     c.in_err-put_nodes.ensures.text)
 
 pub returns-clause-text : goal.returns-clause-text
@@ -52,12 +51,12 @@ returns-clause-text g c =
     let reach = cut_at m.cuts r in
     let core = cut_at c.args.core.now r in
     let first : Entry = line.Where m.month r (slice_index m.delivered r) (slice_index m.want r) in
-    let old = g.K.Sink.taken c.args.sink.now in
-    let mid = g.K.Sink.taken c.put_entry.new.sink in
-    let new = g.K.Sink.taken c.put_links.new.sink in
+    let old = g.K.Sink.output c.args.sink.now in
+    let mid = g.K.Sink.output c.put_entry.new.sink in
+    let new = g.K.Sink.output c.put_links.new.sink in
     subst (λ (bytes : List ℕ). Puts old new c.put_links.result bytes) (index_pieces b m r reach core)
-    (Puts-third old mid (g.K.Sink.taken c.put_nodes.new.sink) new c.put_links.result (whole_line b first)
+    (Puts-third old mid (g.K.Sink.output c.put_nodes.new.sink) new c.put_links.result (whole_line b first)
     (flat_map (whole_line b) (flat_map (node_lines core) (indices_of b.nodes)))
     (flat_map (whole_line b) (flat_map (link_lines b reach core) (indices_of b.links)))
-    (subst (λ (e : Entry). Appends old mid (whole_line b e)) c.first_line.ensures c.in_ok-put_entry.ensures.text)
+    (subst (λ (e : Entry). Extends old mid (whole_line b e)) c.first_line.ensures c.in_ok-put_entry.ensures.text)
     c.in_ok-put_nodes.ensures.text c.put_links.ensures.text)

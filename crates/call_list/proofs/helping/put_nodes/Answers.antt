@@ -1,6 +1,6 @@
 use Rattle.std.proofs.Common.{List, arith, length, refl, subst}
 use Rattle.std.specs.List.{flat_map}
-use Rattle.std.specs.Io.KnownBytes.{Appends}
+use Rattle.water_edge.specs.Edge.{Extends}
 use Rattle.cut_cert.specs.Sets.{cut_at}
 use Rattle.result_text.proofs.Entries.{index_at, indices_end}
 use Rattle.water_edge.proofs.Puts.{PutsPrefix, SoFar-none, SoFar-next, SoFar-fails, SoFar-whole}
@@ -13,13 +13,13 @@ use Rattle.call_list.proofs.helping.put_nodes.Goals as goal
 pub loop-node-init : goal.loop-node-init
 loop-node-init g c =
     SoFar-none (whole_line c.args.basin.now) (node_lines (cut_at c.args.core.now c.args.right))
-    (indices_of c.args.basin.now.nodes) (g.K.Sink.taken c.args.sink.now) (g.K.Sink.faults c.args.sink.now)
+    (indices_of c.args.basin.now.nodes) (g.K.Sink.output c.args.sink.now) (g.K.Sink.faults c.args.sink.now)
 
 pub returns-in_err-put_line-clause-text : goal.returns-in_err-put_line-clause-text
 returns-in_err-put_line-clause-text g c =
     let b = c.args.basin.now in
-    let mid = g.K.Sink.taken c.loop-node.sink in
-    let new = g.K.Sink.taken c.put_line.new.sink in
+    let mid = g.K.Sink.output c.loop-node.sink in
+    let new = g.K.Sink.output c.put_line.new.sink in
     SoFar-fails c.loop-node.node new c.from_residual.result c.loop-node.invariant
     (index_at (indices_of b.nodes) (length b.nodes) c.loop-node.node refl (omega arith))
     (subst (λ (lines : List Entry). PutsPrefix mid new (flat_map (whole_line b) lines)) c.node_line.ensures.lines
@@ -29,11 +29,11 @@ returns-in_err-put_line-clause-text g c =
 pub loop-node-preserved : goal.loop-node-preserved
 loop-node-preserved g c =
     let b = c.args.basin.now in
-    let mid = g.K.Sink.taken c.loop-node.sink in
-    let new = g.K.Sink.taken c.put_line.new.sink in
+    let mid = g.K.Sink.output c.loop-node.sink in
+    let new = g.K.Sink.output c.put_line.new.sink in
     SoFar-next c.loop-node.node c.loop-node.invariant
     (index_at (indices_of b.nodes) (length b.nodes) c.loop-node.node refl (omega arith))
-    (subst (λ (lines : List Entry). Appends mid new (flat_map (whole_line b) lines)) c.node_line.ensures.lines
+    (subst (λ (lines : List Entry). Extends mid new (flat_map (whole_line b) lines)) c.node_line.ensures.lines
     c.in_ok-put_line.ensures.text)
     c.in_ok-put_line.ensures.cause.later
 

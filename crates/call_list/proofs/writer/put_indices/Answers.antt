@@ -9,12 +9,12 @@ use Rattle.call_list.proofs.writer.put_indices.Goals as goal
 pub loop-position-init : goal.loop-position-init
 loop-position-init g c =
     SoFar-none (whole_line c.args.calls.now.basin) (lines_of c.args.calls.now c.args.part)
-    (indices_in c.args.part c.args.calls.now.basin) (g.K.Sink.taken c.args.sink.now) (g.K.Sink.faults c.args.sink.now)
+    (indices_in c.args.part c.args.calls.now.basin) (g.K.Sink.output c.args.sink.now) (g.K.Sink.faults c.args.sink.now)
 
 pub returns-in_err-put_line-clause-text : goal.returns-in_err-put_line-clause-text
 returns-in_err-put_line-clause-text g c =
     let b = c.args.calls.now.basin in
-    SoFar-fails c.loop-position.position (g.K.Sink.taken c.put_line.new.sink) c.from_residual.result
+    SoFar-fails c.loop-position.position (g.K.Sink.output c.put_line.new.sink) c.from_residual.result
     c.loop-position.invariant
     (index_at (indices_in c.args.part b) (count_in c.args.part b) c.loop-position.position c.requires
     (omega (arith, c.count_in-count.ensures)))

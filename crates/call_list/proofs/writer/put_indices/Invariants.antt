@@ -7,4 +7,4 @@ use Rattle.call_list.proofs.writer.put_indices.Given as goal
 abbrev pub invariant-loop-position : goal.invariant-loop-position
 invariant-loop-position g l =
     SoFar (whole_line l.calls.basin) (lines_of l.calls l.part) (indices_in l.part l.calls.basin) l.position
-    (g.K.Sink.taken l.fn.sink) (g.K.Sink.taken l.sink) (g.K.Sink.faults l.fn.sink) (g.K.Sink.faults l.sink)
+    (g.K.Sink.output l.fn.sink) (g.K.Sink.output l.sink) (g.K.Sink.faults l.fn.sink) (g.K.Sink.faults l.sink)

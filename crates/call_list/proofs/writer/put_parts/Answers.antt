@@ -8,11 +8,11 @@ use Rattle.call_list.proofs.writer.put_parts.Goals as goal
 pub loop-part-init : goal.loop-part-init
 loop-part-init g c =
     SoFar-none (whole_line c.args.calls.now.basin) (part_of c.args.calls.now) PARTS
-    (g.K.Sink.taken c.args.sink.now) (g.K.Sink.faults c.args.sink.now)
+    (g.K.Sink.output c.args.sink.now) (g.K.Sink.faults c.args.sink.now)
 
 pub returns-in_err-put_part-clause-text : goal.returns-in_err-put_part-clause-text
 returns-in_err-put_part-clause-text g c =
-    SoFar-fails _ (g.K.Sink.taken c.put_part.new.sink) c.from_residual.result c.loop-part.invariant
+    SoFar-fails _ (g.K.Sink.output c.put_part.new.sink) c.from_residual.result c.loop-part.invariant
     (slice_get-get_or PARTS c.loop-part.part-index _ c.loop-part-test.true)
     c.in_err-put_part.ensures.text c.from_residual.ensures.0
 

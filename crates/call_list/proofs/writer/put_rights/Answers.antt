@@ -10,7 +10,7 @@ use Rattle.call_list.proofs.writer.put_rights.Goals as goal
 pub loop-right-init : goal.loop-right-init
 loop-right-init g c =
     SoFar-none (whole_line c.args.calls.now.basin) (lines_of c.args.calls.now c.args.part)
-    (indices_in c.args.part c.args.calls.now.basin) (g.K.Sink.taken c.args.sink.now) (g.K.Sink.faults c.args.sink.now)
+    (indices_in c.args.part c.args.calls.now.basin) (g.K.Sink.output c.args.sink.now) (g.K.Sink.faults c.args.sink.now)
 
 pub put_line-requires : goal.put_line-requires
 put_line-requires g c =
@@ -19,7 +19,8 @@ put_line-requires g c =
 
 pub returns-in_err-put_line-clause-text : goal.returns-in_err-put_line-clause-text
 returns-in_err-put_line-clause-text g c =
-    SoFar-fails (get_or c.by_seniority-order.result.now c.loop-right.right-index 0) (g.K.Sink.taken c.put_line.new.sink)
+    SoFar-fails (get_or c.by_seniority-order.result.now c.loop-right.right-index 0)
+    (g.K.Sink.output c.put_line.new.sink)
     c.from_residual.result c.loop-right.invariant
     (right_at (indices_in c.args.part c.args.calls.now.basin) c.by_seniority-order.result.now c.loop-right.right-index
     (c.requires.order ∙ sym c.by_seniority-order.ensures) c.loop-right-test.true)

@@ -9,13 +9,13 @@ use Rattle.cut_book.proofs.writer.put_indices.Goals as goal
 pub loop-index-init : goal.loop-index-init
 loop-index-init g c =
     SoFar-none (whole_line c.args.shortage.now.basin) (lines_of c.args.shortage.now c.args.part)
-    (indices_in c.args.part c.args.shortage.now.basin) (g.K.Sink.taken c.args.sink.now)
+    (indices_in c.args.part c.args.shortage.now.basin) (g.K.Sink.output c.args.sink.now)
     (g.K.Sink.faults c.args.sink.now)
 
 pub returns-in_err-put_line-clause-text : goal.returns-in_err-put_line-clause-text
 returns-in_err-put_line-clause-text g c =
     let b = c.args.shortage.now.basin in
-    SoFar-fails c.loop-index.index (g.K.Sink.taken c.put_line.new.sink) c.from_residual.result c.loop-index.invariant
+    SoFar-fails c.loop-index.index (g.K.Sink.output c.put_line.new.sink) c.from_residual.result c.loop-index.invariant
     (index_at (indices_in c.args.part b) (count_in c.args.part b) c.loop-index.index c.requires
     (omega (arith, c.count_in-count.ensures)))
     c.in_err-put_line.ensures.text c.from_residual.ensures.0

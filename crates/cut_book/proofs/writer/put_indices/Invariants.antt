@@ -7,4 +7,4 @@ use Rattle.cut_book.proofs.writer.put_indices.Given as goal
 abbrev pub invariant-loop-index : goal.invariant-loop-index
 invariant-loop-index g l =
     SoFar (whole_line l.shortage.basin) (lines_of l.shortage l.part) (indices_in l.part l.shortage.basin) l.index
-    (g.K.Sink.taken l.fn.sink) (g.K.Sink.taken l.sink) (g.K.Sink.faults l.fn.sink) (g.K.Sink.faults l.sink)
+    (g.K.Sink.output l.fn.sink) (g.K.Sink.output l.sink) (g.K.Sink.faults l.fn.sink) (g.K.Sink.faults l.sink)

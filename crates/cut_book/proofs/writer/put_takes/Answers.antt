@@ -11,7 +11,7 @@ use Rattle.cut_book.proofs.writer.put_takes.Goals as goal
 pub loop-taker-init : goal.loop-taker-init
 loop-taker-init g c =
     SoFar-none (whole_line c.args.shortage.now.basin) (lines_of c.args.shortage.now part.Takes)
-    (seniors_first c.args.shortage.now.basin) (g.K.Sink.taken c.args.sink.now) (g.K.Sink.faults c.args.sink.now)
+    (seniors_first c.args.shortage.now.basin) (g.K.Sink.output c.args.sink.now) (g.K.Sink.faults c.args.sink.now)
 
 pub put_line-requires : goal.put_line-requires
 put_line-requires g c =
@@ -20,7 +20,8 @@ put_line-requires g c =
 
 pub returns-in_err-put_line-clause-text : goal.returns-in_err-put_line-clause-text
 returns-in_err-put_line-clause-text g c =
-    SoFar-fails (get_or c.by_seniority-order.result.now c.loop-taker.taker-index 0) (g.K.Sink.taken c.put_line.new.sink)
+    SoFar-fails (get_or c.by_seniority-order.result.now c.loop-taker.taker-index 0)
+    (g.K.Sink.output c.put_line.new.sink)
     c.from_residual.result c.loop-taker.invariant
     (right_at (seniors_first c.args.shortage.now.basin) c.by_seniority-order.result.now c.loop-taker.taker-index
     (sym c.by_seniority-order.ensures) c.loop-taker-test.true)

@@ -8,4 +8,4 @@ use Rattle.cut_book.proofs.writer.put_takes.Given as goal
 abbrev pub invariant-loop-taker : goal.invariant-loop-taker
 invariant-loop-taker g l =
     SoFar (whole_line l.shortage.basin) (lines_of l.shortage part.Takes) (seniors_first l.shortage.basin) l.taker-index
-    (g.K.Sink.taken l.fn.sink) (g.K.Sink.taken l.sink) (g.K.Sink.faults l.fn.sink) (g.K.Sink.faults l.sink)
+    (g.K.Sink.output l.fn.sink) (g.K.Sink.output l.sink) (g.K.Sink.faults l.fn.sink) (g.K.Sink.faults l.sink)

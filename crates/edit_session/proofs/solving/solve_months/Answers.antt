@@ -1,27 +1,28 @@
-use Rattle.std.proofs.Common.{◌≡◌, ℕ, ◌∙◌, ◌+◌, ◌-◌, ◌*◌, ◌≤◌, sym, ap, arith, length, subst, take, List}
+use Rattle.std.proofs.Common.{◌≡◌, ℕ, ◌∙◌, ◌+◌, ◌-◌, ◌≤◌, sym, ap, arith, length, subst, take, List}
 use Rattle.std.proofs.Math.Seq.{take-length}
-use Rattle.std.proofs.Math.Nat.{mul-le-mul_right, add-mul}
 use Rattle.water_model.specs.declared.types.Basin.{Basin}
 use Rattle.water_model.specs.declared.types.Inflows.{Inflows}
 use Rattle.water_model.specs.declared.types.MonthRecord.{MonthRecord}
 use Rattle.month_fold.specs.Runs.{EngineView, RunStandsFor, run_with}
+use Rattle.month_fold.specs.Works.{Solves, WorkDone}
+use Rattle.month_fold.proofs.Works.{Solves-none, Solves-then, Solves-within}
 use Rattle.month_fold.proofs.Resuming.{have_deliveries, stored_count, state_use}
 use Rattle.edit_session.specs.Sessions.{HasKeptMonths, records_of}
 use Rattle.water_model.proofs.Lists.{take_prefix}
 use Rattle.edit_session.proofs.solving.solve_months.Goals as goal
-use Rattle.senior_hold.specs.MonthNetwork.{month_pushes}
 
--- the pushes of one month more are within the bound
-pushes_more : (start before after i kept p : ℕ) → kept ≤ i → before ≤ start + (i - kept) * p → after ≤ before + p →
-    after ≤ start + (i + 1 - kept) * p
-pushes_more start before after i kept p l many more =
+-- one month more
+solves_more : (b : Basin) (start before after : WorkDone) (i kept : ℕ) → kept ≤ i → Solves (i - kept) b start before →
+    Solves 1 b before after → Solves (i + 1 - kept) b start after
+solves_more b start before after i kept l so_far more =
     let next : i + 1 - kept ≡ (i - kept) + 1 = omega arith in
-    rw next (omega (arith, add-mul (i - kept) 1 p))
+    rw next (Solves-then (i - kept) 1 b start before after so_far more)
 
-pushes_within : (start after i kept count p : ℕ) → i ≤ count → after ≤ start + (i - kept) * p →
-    after ≤ start + (count - kept) * p
-pushes_within start after i kept count p l many =
-    let most : (i - kept) * p ≤ (count - kept) * p = mul-le-mul_right p (omega arith) in omega arith
+-- the months up to one are within those up to a later one
+solves_within : (b : Basin) (start after : WorkDone) (i kept count : ℕ) → i ≤ count →
+    Solves (i - kept) b start after → Solves (count - kept) b start after
+solves_within b start after i kept count l so_far =
+    Solves-within (i - kept) (count - kept) b start after (omega (arith, l)) so_far
 
 -- the months of a run may be kept
 kept_of_run : (engine : EngineView) (b : Basin) (series : Inflows) (records : List MonthRecord) (done : ℕ) →
@@ -62,16 +63,17 @@ loop-index-init g c =
       count = sym c.len-index.ensures;
       stay = ap (λ n. take n c.args.kept.now.items) (sym c.as_slice.ensures.len ∙ ap length c.as_slice.ensures.value)
           ∙ take-length c.args.kept.now.items;
-      pushes = omega arith;
+      work = subst (λ (n : ℕ). Solves n c.args.engine.now.basin c.args.work.now c.args.work.now)
+          (let none : 0 ≡ c.len-index.result - c.args.kept.now.len = omega arith in none)
+          (Solves-none c.args.engine.now.basin c.args.work.now);
     }
 
-pub returns-in_err-add_month-clause-pushes : goal.returns-in_err-add_month-clause-pushes
-returns-in_err-add_month-clause-pushes g c =
-    pushes_within c.args.searches.now c.add_month.new.searches (c.loop-index.index + 1) c.args.kept.now.len
-    c.args.count (month_pushes c.args.engine.now.basin) (omega arith)
-    (pushes_more c.args.searches.now c.loop-index.searches c.add_month.new.searches c.loop-index.index
-    c.args.kept.now.len (month_pushes c.args.engine.now.basin)
-    (omega arith) c.loop-index.invariant.pushes (rw (← c.loop-index.invariant.basin) c.add_month.ensures.pushes))
+pub returns-in_err-add_month-clause-work : goal.returns-in_err-add_month-clause-work
+returns-in_err-add_month-clause-work g c =
+    solves_within c.args.engine.now.basin c.args.work.now c.add_month.new.work (c.loop-index.index + 1)
+    c.args.kept.now.len c.args.count (omega arith)
+    (solves_more c.args.engine.now.basin c.args.work.now c.loop-index.work c.add_month.new.work c.loop-index.index
+    c.args.kept.now.len (omega arith) c.loop-index.invariant.work (rw (← c.loop-index.invariant.basin) c.add_month.ensures.work))
 
 pub loop-index-preserved : goal.loop-index-preserved
 loop-index-preserved g c = record {
@@ -81,11 +83,10 @@ loop-index-preserved g c = record {
   stay =
       sym (take_prefix c.add_month.new.kept.items c.loop-index.kept.len c.args.kept.now.len (omega arith))
       ∙ ap (take c.args.kept.now.len) c.in_ok-add_month.ensures.stay ∙ c.loop-index.invariant.stay;
-  pushes =
-      pushes_more c.args.searches.now c.loop-index.searches c.add_month.new.searches c.loop-index.index
-      c.args.kept.now.len (month_pushes c.args.engine.now.basin)
-      (omega arith) c.loop-index.invariant.pushes
-      (rw (← c.loop-index.invariant.basin) c.in_ok-add_month.ensures.pushes);
+  work =
+      solves_more c.args.engine.now.basin c.args.work.now c.loop-index.work c.add_month.new.work c.loop-index.index
+      c.args.kept.now.len (omega arith) c.loop-index.invariant.work
+      (rw (← c.loop-index.invariant.basin) c.in_ok-add_month.ensures.work);
 }
 
 pub returns-clause-kept : goal.returns-clause-kept
@@ -99,8 +100,7 @@ returns-in_err-add_month-clause-kept g c =
     (kept_of_run c.loop-index.engine c.args.engine.now.basin c.args.series.now _ c.loop-index.index
     c.loop-index.invariant.basin c.loop-index.invariant.stands)
 
-pub returns-clause-pushes : goal.returns-clause-pushes
-returns-clause-pushes g c =
-    pushes_within c.args.searches.now c.loop-index.searches c.loop-index.index c.args.kept.now.len c.args.count
-    (month_pushes c.args.engine.now.basin)
-    (omega arith) c.loop-index.invariant.pushes
+pub returns-clause-work : goal.returns-clause-work
+returns-clause-work g c =
+    solves_within c.args.engine.now.basin c.args.work.now c.loop-index.work c.loop-index.index c.args.kept.now.len
+    c.args.count (omega (arith, c.loop-index.auto.index-end, c.requires.more)) c.loop-index.invariant.work

@@ -1,8 +1,8 @@
-use Rattle.std.proofs.Common.{◌≡◌, ◌+◌, ◌-◌, ◌*◌, ◌≤◌, take, vec_len}
+use Rattle.std.proofs.Common.{◌≡◌, ◌-◌, take, vec_len}
 use Rattle.month_fold.specs.Runs.{RunStandsFor, run_with}
+use Rattle.month_fold.specs.Works.{Solves}
 use Rattle.edit_session.specs.Sessions.{records_of}
 use Rattle.edit_session.proofs.solving.solve_months.Given as goal
-use Rattle.senior_hold.specs.MonthNetwork.{month_pushes}
 
 abbrev pub invariant-loop-index : goal.invariant-loop-index
 invariant-loop-index g l = record {
@@ -10,5 +10,5 @@ invariant-loop-index g l = record {
   stands : RunStandsFor (run_with l.engine l.series l.index) (records_of l.kept.items);
   count : vec_len l.kept ≡ l.index;
   stay : take (vec_len l.initial.kept) l.kept.items ≡ l.initial.kept.items;
-  pushes : l.searches ≤ l.initial.searches + (l.index - vec_len l.initial.kept) * month_pushes l.fn.engine.basin;
+  work : Solves (l.index - vec_len l.initial.kept) l.fn.engine.basin l.initial.work l.work;
 }

@@ -1,4 +1,7 @@
-use Rattle.edit_shows.proofs.Playing.{month_fits, month_kept, show_failed, show_put}
+use Rattle.std.proofs.Common.{[], ◌∷◌}
+use Rattle.std.proofs.lemmas.Result.{err_from_is_err_and}
+use Rattle.edit_script.specs.declared.edit.Edit.TheVariants.{Show}
+use Rattle.edit_shows.proofs.Playing.{month_fits, month_kept, nothing_shown, show_failed, show_put}
 use Rattle.edit_shows.proofs.answer.show.Goals as goal
 
 pub put_month-requires-clause-roll : goal.put_month-requires-clause-roll
@@ -27,3 +30,8 @@ returns-in-Err-clause-answers g c =
     (month_kept c.args.session.now.basin c.solve.new.self c.args.session.now.series c.args.index c.month.result.now
     valid c.in_ok-solve.ensures.basin c.in_ok-solve.ensures.series c.in_ok-solve.ensures.history c.month.ensures)
     (rw (c.basin.ensures.value, c.in_ok-solve.ensures.basin) at c.in-Err.ensures.text)
+
+pub returns-in_err-solve-clause-answers : goal.returns-in_err-solve-clause-answers
+returns-in_err-solve-clause-answers g c =
+    let p = err_from_is_err_and c.from_residual.result c.from_residual.ensures.1 in
+    rw (p.1, p.2) (nothing_shown c.args.session.now.basin c.args.session.now.series (Show c.args.index ∷ []) _)

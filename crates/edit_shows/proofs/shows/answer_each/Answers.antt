@@ -3,9 +3,9 @@ use Rattle.std.proofs.lemmas.Result.{err_from_is_err_and}
 use Rattle.edit_script.specs.Edits.{cost_from}
 use Rattle.edit_script.specs.declared.edit.Edit.{Edit}
 use Rattle.edit_script.specs.declared.edit.Edit.TheVariants.{Inflow}
-use Rattle.edit_shows.proofs.Playing.{costs_more, costs_stop, next_placed, played_more, played_none, played_stops}
+use Rattle.edit_shows.proofs.Playing.{next_placed, played_more, played_none, played_stops, works_more}
+use Rattle.edit_shows.proofs.Playing.{works_stop}
 use Rattle.edit_shows.proofs.shows.answer_each.Goals as goal
-use Rattle.senior_hold.specs.MonthNetwork.{month_pushes}
 
 from_start : (es : List Edit) → drop 0 es ≡ es
 from_start [] = refl
@@ -16,11 +16,7 @@ loop-edit-init g c = record {
   basin = refl;
   played = played_none c.args.session.now.basin c.args.session.now.series c.args.edits.now _;
   later = omega arith;
-  cost = omega (
-    arith,
-    ap (λ es. cost_from (length c.args.session.now.kept) es * month_pushes c.args.session.now.basin)
-        (from_start c.args.edits.now),
-  );
+  work = rw (from_start c.args.edits.now) (record { months = omega arith; pushes = omega arith });
 }
 
 -- the line at an index
@@ -52,12 +48,12 @@ loop-edit-preserved g c =
           (read_again c.args.edits.now c.loop-edit.edit-index _ _ l)
           c.in_ok-answer.ensures.answers c.in_ok-answer.ensures.series;
       later = omega (arith, c.loop-edit.invariant.later, c.in_ok-answer.ensures.cause.later);
-      cost = costs_more c.args.edits.now c.loop-edit.edit-index (line_at c.args.edits.now c.loop-edit.edit-index)
-          (length c.loop-edit.session.kept) (length c.answer.new.session.kept)
-          (month_pushes c.args.session.now.basin) c.args.searches.now c.loop-edit.searches c.answer.new.searches
-          (cost_from (length c.args.session.now.kept) c.args.edits.now) l
-          (read_again c.args.edits.now c.loop-edit.edit-index _ _ l) c.loop-edit.invariant.cost
-          (rw c.loop-edit.invariant.basin at c.in_ok-answer.ensures.pushes) c.in_ok-answer.ensures.kept;
+      work = works_more c.args.session.now.basin c.args.edits.now c.loop-edit.edit-index
+          (line_at c.args.edits.now c.loop-edit.edit-index) (length c.loop-edit.session.kept)
+          (length c.answer.new.session.kept) (cost_from (length c.args.session.now.kept) c.args.edits.now)
+          c.args.work.now c.loop-edit.work c.answer.new.work l
+          (read_again c.args.edits.now c.loop-edit.edit-index _ _ l) c.loop-edit.invariant.work
+          (rw c.loop-edit.invariant.basin at c.in_ok-answer.ensures.work) c.in_ok-answer.ensures.kept;
     }
 
 pub returns-in_err-answer-clause-answers : goal.returns-in_err-answer-clause-answers
@@ -72,12 +68,11 @@ returns-in_err-answer-clause-answers g c =
     (read_again c.args.edits.now c.loop-edit.edit-index _ _ l)
     c.in_err-answer.ensures.answers)
 
-pub returns-in_err-answer-clause-pushes : goal.returns-in_err-answer-clause-pushes
-returns-in_err-answer-clause-pushes g c =
+pub returns-in_err-answer-clause-work : goal.returns-in_err-answer-clause-work
+returns-in_err-answer-clause-work g c =
     let l : c.loop-edit.edit-index < length c.args.edits.now = omega arith in
-    costs_stop c.args.edits.now c.loop-edit.edit-index (line_at c.args.edits.now c.loop-edit.edit-index)
-    (length c.loop-edit.session.kept) (month_pushes c.args.session.now.basin)
-    c.args.searches.now c.loop-edit.searches c.answer.new.searches
-    (cost_from (length c.args.session.now.kept) c.args.edits.now) l
-    (read_again c.args.edits.now c.loop-edit.edit-index _ _ l) c.loop-edit.invariant.cost
-    (rw c.loop-edit.invariant.basin at c.in_err-answer.ensures.pushes)
+    works_stop c.args.session.now.basin c.args.edits.now c.loop-edit.edit-index
+    (line_at c.args.edits.now c.loop-edit.edit-index) (length c.loop-edit.session.kept)
+    (cost_from (length c.args.session.now.kept) c.args.edits.now) c.args.work.now c.loop-edit.work c.answer.new.work l
+    (read_again c.args.edits.now c.loop-edit.edit-index _ _ l) c.loop-edit.invariant.work
+    (rw c.loop-edit.invariant.basin at c.in_err-answer.ensures.work)

@@ -9,8 +9,9 @@ use Rattle.index_seq.proofs.ensemble.ensemble_report.Goals as goal
 
 pub returns-clause-text : goal.returns-clause-text
 returns-clause-text g c =
-    text_cut c.args.basin.now c.args.series.now c.in-Ok.all.amounts (g.K.Sink.taken c.args.sink.now)
-    (g.K.Sink.taken c.put_ensemble.new.sink) c.in-Ok.ensures.lines
-    (subst (λ (xs : List (List ℕ)). PutsPrefix (g.K.Sink.taken c.args.sink.now) (g.K.Sink.taken c.put_ensemble.new.sink)
+    text_cut c.args.basin.now c.args.series.now c.in-Ok.all.amounts (g.K.Sink.output c.args.sink.now)
+    (g.K.Sink.output c.put_ensemble.new.sink) c.in-Ok.ensures.lines
+    (subst (λ (xs : List (List ℕ)). PutsPrefix (g.K.Sink.output c.args.sink.now)
+    (g.K.Sink.output c.put_ensemble.new.sink)
     (flat_map (whole_line c.args.basin.now) (ensemble_lines c.args.basin.now (λ r. slice_index_or xs r []))))
     c.as_slice.ensures c.in-Err-put_ensemble.ensures.text)

@@ -1,18 +1,19 @@
-use Rattle.std.proofs.Common.{◌≡◌, ◌∙◌, ◌+◌, ℕ, List, ap, arith, length, slice_index, sym, subst}
+use Rattle.std.proofs.Common.{◌≡◌, ◌∙◌, ◌+◌, ◌*◌, ℕ, List, ap, arith, length, slice_index, sym, subst}
 use Rattle.std.proofs.lemmas.List.{length-replicate}
 use Rattle.index_seq.specs.Sums.{HaveSums, IsEmptyYear}
 use Rattle.index_seq.specs.Traces.{years_of}
-use Rattle.index_seq.proofs.Running.{within_steps, one_step, sums_start}
+use Rattle.index_seq.proofs.Running.{one_part, sums_start, within_parts}
 use Rattle.index_seq.proofs.Rotation.{turn_of_same}
 use Rattle.index_seq.proofs.months.run_traces.Goals as goal
-use Rattle.month_fold.specs.Runs.{run_pushes}
+use Rattle.month_fold.specs.Works.{Solves}
+use Rattle.month_fold.proofs.Works.{Solves-none}
 use Rattle.water_model.proofs.Lists.{no_numbers, whole_rows}
 
-pub returns-in_err-engine-clause-pushes : goal.returns-in_err-engine-clause-pushes
-returns-in_err-engine-clause-pushes g c =
-    within_steps (run_pushes c.args.basin.now) c.args.searches.now c.loop-trace.searches c.run_trace.new.searches
-    c.loop-trace.trace (years_of c.args.basin.now)
-    c.loop-trace.invariant.pushes c.in_err-engine.ensures.pushes c.loop-trace-test.true
+pub returns-in_err-engine-clause-work : goal.returns-in_err-engine-clause-work
+returns-in_err-engine-clause-work g c =
+    within_parts c.args.basin.now.months c.loop-trace.trace (years_of c.args.basin.now) c.args.basin.now
+    c.args.work.now c.loop-trace.work c.run_trace.new.work
+    c.loop-trace.invariant.work c.in_err-engine.ensures.work c.loop-trace-test.true
 
 pub returns-clause-sums : goal.returns-clause-sums
 returns-clause-sums g c =
@@ -29,7 +30,9 @@ loop-trace-init g c = record {
     count = ap length c.in_ok-year.ensures ∙ (length-replicate c.len-2.result 0 ∙ c.len-2.ensures);
     zeros = λ r l. ap (λ (xs : List ℕ). slice_index xs r) c.in_ok-year.ensures ∙ no_numbers c.len-2.result r;
   };
-  pushes = omega arith;
+  work = subst (λ (n : ℕ). Solves n c.args.basin.now c.args.work.now c.args.work.now)
+      (let none : 0 ≡ 0 * c.args.basin.now.months = omega arith in none)
+      (Solves-none c.args.basin.now c.args.work.now);
 }
 
 pub loop-trace-preserved : goal.loop-trace-preserved
@@ -46,6 +49,6 @@ loop-trace-preserved g c =
           (sym (whole_rows c.loop-trace.year c.run_trace.new.year
           (told.year.count ∙ sym c.loop-trace.invariant.year.count)))
           told.year;
-      pushes = one_step (run_pushes c.args.basin.now) c.args.searches.now c.loop-trace.searches c.run_trace.new.searches
-          c.loop-trace.trace c.loop-trace.invariant.pushes told.pushes;
+      work = one_part c.args.basin.now.months c.loop-trace.trace c.args.basin.now c.args.work.now c.loop-trace.work
+          c.run_trace.new.work c.loop-trace.invariant.work told.work;
     }

@@ -1,8 +1,8 @@
-use Rattle.std.proofs.Common.{◌≡◌, ◌+◌, ◌*◌, ◌≤◌}
+use Rattle.std.proofs.Common.{◌≡◌, ◌*◌}
 use Rattle.index_seq.specs.Sums.{HaveSums, IsEmptyYear}
 use Rattle.index_seq.specs.Traces.{IsRotationOf}
 use Rattle.index_seq.proofs.months.run_traces.Given as goal
-use Rattle.month_fold.specs.Runs.{run_pushes}
+use Rattle.month_fold.specs.Works.{Solves}
 
 abbrev pub invariant-loop-trace : goal.invariant-loop-trace
 invariant-loop-trace g l = record {
@@ -10,5 +10,5 @@ invariant-loop-trace g l = record {
   begun : IsRotationOf l.series l.begun;
   sums : HaveSums l.basin l.series l.trace l.sums;
   year : IsEmptyYear l.basin l.year;
-  pushes : l.searches ≤ l.fn.searches + l.trace * run_pushes l.basin;
+  work : Solves (l.trace * l.basin.months) l.basin l.fn.work l.work;
 }

@@ -1,11 +1,11 @@
-use Rattle.std.proofs.Common.{◌≡◌, ◌+◌, ◌*◌, ◌≤◌}
+use Rattle.std.proofs.Common.{◌≡◌, ◌+◌}
 use Rattle.index_seq.specs.Sums.{IsWithinTrace}
 use Rattle.index_seq.proofs.months.run_year.Given as goal
-use Rattle.senior_hold.specs.MonthNetwork.{month_pushes}
+use Rattle.month_fold.specs.Works.{Solves}
 
 abbrev pub invariant-loop-months : goal.invariant-loop-months
 invariant-loop-months g l = record {
   done : l.run.done ≡ l.fn.run.done + l.months;
   under_way : IsWithinTrace l.basin l.series l.trace l.years l.months l.run l.sums l.year;
-  pushes : l.searches ≤ l.fn.searches + l.months * month_pushes l.basin;
+  work : Solves l.months l.basin l.fn.work l.work;
 }

@@ -1,11 +1,11 @@
-use Rattle.std.proofs.Common.{◌≡◌, ◌+◌, ◌*◌, ◌≤◌}
+use Rattle.std.proofs.Common.{◌≡◌, ◌*◌}
 use Rattle.index_seq.specs.Sums.{IsWithinTrace}
 use Rattle.index_seq.proofs.months.run_years.Given as goal
-use Rattle.senior_hold.specs.MonthNetwork.{month_pushes}
+use Rattle.month_fold.specs.Works.{Solves}
 
 abbrev pub invariant-loop-years : goal.invariant-loop-years
 invariant-loop-years g l = record {
   done : l.run.done ≡ 12 * l.years;
   under_way : IsWithinTrace l.basin l.series l.trace l.years 0 l.run l.sums l.year;
-  pushes : l.searches ≤ l.fn.searches + l.years * (12 * month_pushes l.basin);
+  work : Solves (l.years * 12) l.basin l.fn.work l.work;
 }

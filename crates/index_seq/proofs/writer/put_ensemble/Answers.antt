@@ -19,15 +19,15 @@ returns-in_err-put_rights-clause-text g c =
     flat_map h
     (flat_map (right_lines (λ r. slice_index_or c.args.amounts.now r [])) (seniors_first c.args.basin.now)) in
     let last : List ℕ = flat_map h (line.Done (years_of c.args.basin.now) ∷ []) in
-    subst (λ (bytes : List ℕ). Puts (g.K.Sink.taken c.args.sink.now) (g.K.Sink.taken c.put_rights.new.sink)
+    subst (λ (bytes : List ℕ). Puts (g.K.Sink.output c.args.sink.now) (g.K.Sink.output c.put_rights.new.sink)
     c.from_residual-in_err-put_rights.result bytes)
     (text_pieces c.args.basin.now (λ r. slice_index_or c.args.amounts.now r []))
-    (PutsPrefix-fails (g.K.Sink.taken c.args.sink.now) (g.K.Sink.taken c.put_rights.new.sink)
+    (PutsPrefix-fails (g.K.Sink.output c.args.sink.now) (g.K.Sink.output c.put_rights.new.sink)
     c.from_residual-in_err-put_rights.result (first ++ (middle ++ last))
     c.from_residual-in_err-put_rights.ensures.0
-    (PutsPrefix-then (g.K.Sink.taken c.args.sink.now) (g.K.Sink.taken c.put_entry.new.sink)
-    (g.K.Sink.taken c.put_rights.new.sink) first (middle ++ last) c.in_ok-put_entry.ensures.text
-    (PutsPrefix-cut (g.K.Sink.taken c.put_entry.new.sink) (g.K.Sink.taken c.put_rights.new.sink) middle last
+    (PutsPrefix-then (g.K.Sink.output c.args.sink.now) (g.K.Sink.output c.put_entry.new.sink)
+    (g.K.Sink.output c.put_rights.new.sink) first (middle ++ last) c.in_ok-put_entry.ensures.text
+    (PutsPrefix-cut (g.K.Sink.output c.put_entry.new.sink) (g.K.Sink.output c.put_rights.new.sink) middle last
     c.in_err-put_rights.ensures.text)))
 
 pub returns-clause-text : goal.returns-clause-text
@@ -38,12 +38,12 @@ returns-clause-text g c =
     flat_map h
     (flat_map (right_lines (λ r. slice_index_or c.args.amounts.now r [])) (seniors_first c.args.basin.now)) in
     let last : List ℕ = flat_map h (line.Done (years_of c.args.basin.now) ∷ []) in
-    subst (λ (bytes : List ℕ). Puts (g.K.Sink.taken c.args.sink.now) (g.K.Sink.taken c.put_entry-2.new.sink)
+    subst (λ (bytes : List ℕ). Puts (g.K.Sink.output c.args.sink.now) (g.K.Sink.output c.put_entry-2.new.sink)
     c.put_entry-2.result bytes)
     (text_pieces c.args.basin.now (λ r. slice_index_or c.args.amounts.now r []))
-    (Puts-then (g.K.Sink.taken c.args.sink.now) (g.K.Sink.taken c.put_entry.new.sink)
-    (g.K.Sink.taken c.put_entry-2.new.sink) c.put_entry-2.result first (middle ++ last)
+    (Puts-then (g.K.Sink.output c.args.sink.now) (g.K.Sink.output c.put_entry.new.sink)
+    (g.K.Sink.output c.put_entry-2.new.sink) c.put_entry-2.result first (middle ++ last)
     c.in_ok-put_entry.ensures.text
-    (Puts-then (g.K.Sink.taken c.put_entry.new.sink) (g.K.Sink.taken c.put_rights.new.sink)
-    (g.K.Sink.taken c.put_entry-2.new.sink) c.put_entry-2.result middle last c.in_ok-put_rights.ensures.text
+    (Puts-then (g.K.Sink.output c.put_entry.new.sink) (g.K.Sink.output c.put_rights.new.sink)
+    (g.K.Sink.output c.put_entry-2.new.sink) c.put_entry-2.result middle last c.in_ok-put_rights.ensures.text
     c.put_entry-2.ensures.text))

@@ -2,7 +2,7 @@ use Rattle.std.proofs.Common.{◌≡◌, ◌<◌, ℕ, List, [], ◌∷◌, arit
 use Rattle.std.specs.Prelude.{slice_index_or}
 use Rattle.std.specs.List.{flat_map}
 use Rattle.std.specs.List.Sorted.{IsNonDecreasingBy}
-use Rattle.std.specs.Io.KnownBytes.{Appends}
+use Rattle.water_edge.specs.Edge.{Extends}
 use Rattle.calls.proofs.Search.{order_in_range}
 use Rattle.result_text.proofs.Entries.{right_at}
 use Rattle.water_edge.proofs.Puts.{SoFar-none, SoFar-next, SoFar-fails, SoFar-whole, PutsPrefix}
@@ -16,7 +16,7 @@ pub loop-right-init : goal.loop-right-init
 loop-right-init g c =
     SoFar-none (whole_line c.args.basin.now) (right_lines (λ r. slice_index_or c.args.amounts.now r []))
     (seniors_first c.args.basin.now)
-    (g.K.Sink.taken c.args.sink.now) (g.K.Sink.faults c.args.sink.now)
+    (g.K.Sink.output c.args.sink.now) (g.K.Sink.faults c.args.sink.now)
 
 pub amounts_of-requires : goal.amounts_of-requires
 amounts_of-requires g c =
@@ -40,10 +40,10 @@ returns-in_err-put_right-clause-text g c =
     let order : seniors_first c.args.basin.now ≡ c.by_seniority-order.result.now =
     sym (c.by_seniority-order.ensures ∙ c.requires.roll.order) in
     let right : ℕ = get_or c.by_seniority-order.result.now c.loop-right.right-index 0 in
-    SoFar-fails right (g.K.Sink.taken c.put_right.new.sink) c.from_residual.result c.loop-right.invariant
+    SoFar-fails right (g.K.Sink.output c.put_right.new.sink) c.from_residual.result c.loop-right.invariant
     (right_at (seniors_first c.args.basin.now) c.by_seniority-order.result.now c.loop-right.right-index order
     c.loop-right-test.true)
-    (subst (λ (xs : List ℕ). PutsPrefix (g.K.Sink.taken c.loop-right.sink) (g.K.Sink.taken c.put_right.new.sink)
+    (subst (λ (xs : List ℕ). PutsPrefix (g.K.Sink.output c.loop-right.sink) (g.K.Sink.output c.put_right.new.sink)
     (flat_map (whole_line c.args.basin.now) (line.Right right ∷ yearly_lines xs)))
     c.amounts_of.ensures c.in_err-put_right.ensures.text)
     c.from_residual.ensures.0
@@ -56,7 +56,7 @@ loop-right-preserved g c =
     SoFar-next right c.loop-right.invariant
     (right_at (seniors_first c.args.basin.now) c.by_seniority-order.result.now c.loop-right.right-index order
     c.loop-right-test.true)
-    (subst (λ (xs : List ℕ). Appends (g.K.Sink.taken c.loop-right.sink) (g.K.Sink.taken c.put_right.new.sink)
+    (subst (λ (xs : List ℕ). Extends (g.K.Sink.output c.loop-right.sink) (g.K.Sink.output c.put_right.new.sink)
     (flat_map (whole_line c.args.basin.now) (line.Right right ∷ yearly_lines xs)))
     c.amounts_of.ensures c.in_ok-put_right.ensures.text)
     c.in_ok-put_right.ensures.cause.later

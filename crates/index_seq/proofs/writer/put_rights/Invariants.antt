@@ -9,4 +9,4 @@ use Rattle.index_seq.proofs.writer.put_rights.Given as goal
 abbrev pub invariant-loop-right : goal.invariant-loop-right
 invariant-loop-right g l =
     SoFar (whole_line l.basin) (right_lines (λ r. slice_index_or l.amounts r [])) (seniors_first l.basin) l.right-index
-    (g.K.Sink.taken l.fn.sink) (g.K.Sink.taken l.sink) (g.K.Sink.faults l.fn.sink) (g.K.Sink.faults l.sink)
+    (g.K.Sink.output l.fn.sink) (g.K.Sink.output l.sink) (g.K.Sink.faults l.fn.sink) (g.K.Sink.faults l.sink)

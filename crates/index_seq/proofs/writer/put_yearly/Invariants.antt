@@ -4,7 +4,7 @@ use Rattle.index_seq.proofs.writer.put_yearly.Given as goal
 
 abbrev pub invariant-loop-rest : goal.invariant-loop-rest
 invariant-loop-rest g l =
-    IsPutSoFar l.basin l.amounts l.rest (g.K.Sink.taken l.fn.sink) (g.K.Sink.taken l.sink) (g.K.Sink.faults l.fn.sink)
+    IsPutSoFar l.basin l.amounts l.rest (g.K.Sink.output l.fn.sink) (g.K.Sink.output l.sink) (g.K.Sink.faults l.fn.sink)
     (g.K.Sink.faults l.sink)
 
 abbrev pub decreases-loop-rest : goal.decreases-loop-rest

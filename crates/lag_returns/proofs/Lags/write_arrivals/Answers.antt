@@ -1,16 +1,18 @@
-use Rattle.std.proofs.Common.{◌≡◌, ◌∙◌, ap, arith, length, get_or}
+use Rattle.std.proofs.Common.{◌≡◌, ◌∙◌, ap, arith, length, sym}
 use Rattle.std.specs.Prelude.{slice_index}
-use Rattle.std.proofs.lemmas.List.{get_or-replicate}
+use Rattle.std.proofs.lemmas.List.{length-map}
 use Rattle.water_model.proofs.Lists.{no_numbers}
 use Rattle.lag_returns.proofs.ValidRows.{valid_rows, arrivals_are_returns}
 use Rattle.lag_returns.proofs.Lags.write_arrivals.Goals as goal
 
 pub arrive-requires-clause-room : goal.arrive-requires-clause-room
-arrive-requires-clause-room c = λ k d l.
-    let none : get_or c.fill.new.self k d ≡ 0 =
-    ap (λ xs. get_or xs k d) (c.fill.ensures.after (λ y h. h))
-    ∙ get_or-replicate (length c.args.returned.now) k 0 d (omega (arith, c.fill.ensures.len)) in
-    omega (arith, none, ap length c.requires.rows, (valid_rows c.args.basin.now c.requires.basin).bounded)
+arrive-requires-clause-room c = λ node l.
+    let none : slice_index c.fill.new.self node ≡ 0 =
+    ap (λ xs. slice_index xs node) (c.fill.ensures.after (λ y h. h))
+    ∙ no_numbers (length c.args.returned.now) node in
+    let rows : length c.args.self.now ≡ length c.args.basin.now.returns =
+    sym (length-map c.args.self.now (λ w. w.row)) ∙ ap length c.requires.rows in
+    omega (arith, none, rows, (valid_rows c.args.basin.now c.requires.basin).bounded)
 
 pub returns-clause-each : goal.returns-clause-each
 returns-clause-each c = λ deliveries stands. record {

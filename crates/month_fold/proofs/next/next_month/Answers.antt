@@ -5,28 +5,28 @@ use Rattle.month_fold.proofs.Following.{run_begun}
 use Rattle.month_fold.proofs.next.next_month.Goals as goal
 
 pub write_returns-requires-clause-used : goal.write_returns-requires-clause-used
-write_returns-requires-clause-used g c = c.requires.month.fits.used ∙ sym c.requires.months.stands.used.count
+write_returns-requires-clause-used g c = c.requires.month.fits.used ∙ sym c.requires.months.went.used.count
 
 pub settle-requires-clause-small : goal.settle-requires-clause-small
 settle-requires-clause-small g c = λ evaporated n l.
     let months = c.requires.months in
     node_small c.args.basin.now c.args.series.now months.records c.write_returns.new.month c.args.index evaporated n
-    months.stands.valid months.stands.fits
-    (run_begun _ months.records c.write_returns.new.month months.stands c.write_returns.ensures.rest
-    (c.write_returns.ensures.each _ months.stands.lags) c.write_returns.ensures.used)
-    months.stands.done l
+    months.went.valid months.went.fits
+    (run_begun _ months.records c.write_returns.new.month months.went c.write_returns.ensures.rest
+    (c.write_returns.ensures.each _ months.went.lags) c.write_returns.ensures.used)
+    months.went.done l
 
 pub solve_month-requires-clause-given : goal.solve_month-requires-clause-given
 solve_month-requires-clause-given g c =
     let months = c.requires.months in
     let uses : length c.write_returns.new.month.used ≡ length c.args.month.now.used =
-    ap length c.write_returns.ensures.used ∙ (months.stands.used.count ∙ sym c.requires.month.fits.used) in
+    ap length c.write_returns.ensures.used ∙ (months.went.used.count ∙ sym c.requires.month.fits.used) in
     rw (c.requires.solver, c.as_slice.ensures, c.as_slice-2.ensures)
     (settled_given c.args.basin.now c.args.series.now months.records c.args.index
-    c.write_returns.new.month c.settle.new.month c.clear.new.self months.stands.valid months.stands.fits
-    (run_begun _ months.records c.write_returns.new.month months.stands c.write_returns.ensures.rest
-    (c.write_returns.ensures.each _ months.stands.lags) c.write_returns.ensures.used)
-    months.stands.done
+    c.write_returns.new.month c.settle.new.month c.clear.new.self months.went.valid months.went.fits
+    (run_begun _ months.records c.write_returns.new.month months.went c.write_returns.ensures.rest
+    (c.write_returns.ensures.each _ months.went.lags) c.write_returns.ensures.used)
+    months.went.done
     (begun_fits c.args.basin.now c.args.month.now c.write_returns.new.month c.requires.month
     c.write_returns.ensures.rest
     c.write_returns.ensures.length uses)
@@ -39,21 +39,21 @@ conclude-requires-clause-small g c =
     rw (c.requires.solver, c.as_slice.ensures, c.as_slice-2.ensures) at c.solve_month.ensures.solved in
     planned_small c.args.basin.now c.args.series.now c.args.index c.write_returns.new.month c.settle.new.month
     c.solve_month.new.plan c.solve_month.new.cuts
-    c.requires.months.stands.valid c.requires.months.stands.fits c.settle.ensures solved
+    c.requires.months.went.valid c.requires.months.went.fits c.settle.ensures solved
 
 pub returns-clause-next : goal.returns-clause-next
-returns-clause-next g c = λ records stands.
+returns-clause-next g c = λ records went.
     let uses : length c.write_returns.new.month.used ≡ length c.args.month.now.used =
-    ap length c.write_returns.ensures.used ∙ (stands.used.count ∙ sym c.requires.month.fits.used) in
+    ap length c.write_returns.ensures.used ∙ (went.used.count ∙ sym c.requires.month.fits.used) in
     let solved : IsSolved c.args.basin.now c.settle.new.month.month c.settle.new.month.supply c.settle.new.month.want
     c.solve_month.new.plan c.solve_month.new.cuts =
     rw (c.requires.solver, c.as_slice.ensures, c.as_slice-2.ensures) at c.solve_month.ensures.solved in
     let cuts : FitsCuts c.args.basin.now c.solve_month.new.cuts = rw c.requires.solver at c.solve_month.ensures.cuts in
     made_follows c.args.basin.now c.args.series.now records c.args.index c.write_returns.new.month c.settle.new.month
     (record c.settle.new.month { plan = c.solve_month.new.plan; cuts = c.solve_month.new.cuts }) c.conclude.new.month
-    stands.valid stands.fits
-    (run_begun _ records c.write_returns.new.month stands c.write_returns.ensures.rest
-    (c.write_returns.ensures.each _ stands.lags) c.write_returns.ensures.used) stands.done (record {
+    went.valid went.fits
+    (run_begun _ records c.write_returns.new.month went c.write_returns.ensures.rest
+    (c.write_returns.ensures.each _ went.lags) c.write_returns.ensures.used) went.done (record {
       fits = begun_fits c.args.basin.now c.args.month.now c.write_returns.new.month c.requires.month
           c.write_returns.ensures.rest c.write_returns.ensures.length uses;
       is_settled = c.settle.ensures;
@@ -66,5 +66,5 @@ returns-clause-next g c = λ records stands.
 pub returns-clause-small : goal.returns-clause-small
 returns-clause-small g c =
     next_small c.args.basin.now c.args.series.now c.requires.months.records c.conclude.new.month
-    c.requires.months.stands.valid c.requires.months.stands.fits
-    (returns-clause-next g c c.requires.months.records c.requires.months.stands)
+    c.requires.months.went.valid c.requires.months.went.fits
+    (returns-clause-next g c c.requires.months.records c.requires.months.went)

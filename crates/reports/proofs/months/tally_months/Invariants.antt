@@ -1,6 +1,6 @@
-use Rattle.std.proofs.Common.{◌≡◌, ◌+◌, ◌*◌, ◌≤◌}
+use Rattle.std.proofs.Common.{◌≡◌}
 use Rattle.month_fold.specs.Runs.{GoesOn}
-use Rattle.senior_hold.specs.MonthNetwork.{month_pushes}
+use Rattle.month_fold.specs.Works.{Solves}
 use Rattle.reports.specs.Tallies.{IsKeptOf, IsTally}
 use Rattle.reports.proofs.months.tally_months.Given as goal
 
@@ -9,5 +9,5 @@ invariant-loop-month g l = record {
   goes_on : GoesOn l.fn.run l.run;
   done : l.run.done ≡ l._month;
   tally : IsKeptOf IsTally l.run l.tally;
-  pushes : l.searches ≤ l.fn.searches + l._month * month_pushes l.fn.run.basin;
+  work : Solves l._month l.fn.run.basin l.fn.work l.work;
 }

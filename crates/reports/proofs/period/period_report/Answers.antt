@@ -15,13 +15,13 @@ put_report-requires-clause-worst g c =
 pub returns-in-Ok-put_report-clause-text : goal.returns-in-Ok-put_report-clause-text
 returns-in-Ok-put_report-clause-text g c =
     let all = rw (c.in-Ok.ensures.basin, c.in-Ok.ensures.series) at c.in-Ok-tally_of.ensures.tally in
-    report_put c.args.basin.now c.args.series.now all.records c.in-Ok-tally_of.tally (g.K.Sink.taken c.args.sink.now)
-    (g.K.Sink.taken c.put_report.new.sink)
+    report_put c.args.basin.now c.args.series.now all.records c.in-Ok-tally_of.tally (g.K.Sink.output c.args.sink.now)
+    (g.K.Sink.output c.put_report.new.sink)
     all.run all.is c.in-Ok-put_report.ensures.text
 
 pub returns-clause-text : goal.returns-clause-text
 returns-clause-text g c =
     let all = rw (c.in-Ok.ensures.basin, c.in-Ok.ensures.series) at c.in-Ok-tally_of.ensures.tally in
-    report_cut c.args.basin.now c.args.series.now all.records c.in-Ok-tally_of.tally (g.K.Sink.taken c.args.sink.now)
-    (g.K.Sink.taken c.put_report.new.sink)
+    report_cut c.args.basin.now c.args.series.now all.records c.in-Ok-tally_of.tally (g.K.Sink.output c.args.sink.now)
+    (g.K.Sink.output c.put_report.new.sink)
     all.run all.is c.in-Err-put_report.ensures.text

@@ -6,7 +6,7 @@ use Rattle.reports.proofs.texts.put_counts.Goals as goal
 
 pub returns-clause-text : goal.returns-clause-text
 returns-clause-text g c =
-    Puts-then (g.K.Sink.taken c.args.sink.now) (g.K.Sink.taken c.put_number.new.sink)
-    (g.K.Sink.taken c.put_number-2.new.sink) c.put_number-2.result
+    Puts-then (g.K.Sink.output c.args.sink.now) (g.K.Sink.output c.put_number.new.sink)
+    (g.K.Sink.output c.put_number-2.new.sink) c.put_number-2.result
     (row (codes "short" ∷ decimal c.args.totals.now.short_months ∷ []))
     (row (codes "called" ∷ decimal c.args.called ∷ [])) c.in_ok-put_number.ensures.text c.put_number-2.ensures.text

@@ -6,4 +6,4 @@ use Rattle.reports.proofs.texts.put_rights.Given as goal
 abbrev pub invariant-loop-right : goal.invariant-loop-right
 invariant-loop-right g l =
     SoFar (row_in l.basin l.rights) (λ right. right ∷ []) l.order l.right-index
-    (g.K.Sink.taken l.fn.sink) (g.K.Sink.taken l.sink) (g.K.Sink.faults l.fn.sink) (g.K.Sink.faults l.sink)
+    (g.K.Sink.output l.fn.sink) (g.K.Sink.output l.sink) (g.K.Sink.faults l.fn.sink) (g.K.Sink.faults l.sink)

@@ -11,7 +11,7 @@ pub returns-in-Ok-put_summary-clause-text : goal.returns-in-Ok-put_summary-claus
 returns-in-Ok-put_summary-clause-text g c =
     let all = rw (c.in-Ok.ensures.basin, c.in-Ok.ensures.series) at c.in-Ok-trial_of.ensures.trial in
     summary_put c.args.number c.args.size c.args.basin.now c.args.series.now all.records _
-    (g.K.Sink.taken c.args.sink.now) (g.K.Sink.taken c.put_summary.new.sink) all.run
+    (g.K.Sink.output c.args.sink.now) (g.K.Sink.output c.put_summary.new.sink) all.run
     (summary_told c.args.number c.args.size c.args.basin.now c.args.series.now all.records c.in-Ok-trial_of.trial.tally
     c.totals_of-totals.result c.in-Ok-trial_of.trial.called
     all.is.tally all.is.called c.totals_of-totals.ensures.short_months c.totals_of-totals.ensures.wanted
@@ -22,7 +22,7 @@ pub returns-clause-text : goal.returns-clause-text
 returns-clause-text g c =
     let all = rw (c.in-Ok.ensures.basin, c.in-Ok.ensures.series) at c.in-Ok-trial_of.ensures.trial in
     summary_cut c.args.number c.args.size c.args.basin.now c.args.series.now all.records _
-    (g.K.Sink.taken c.args.sink.now) (g.K.Sink.taken c.put_summary.new.sink) all.run
+    (g.K.Sink.output c.args.sink.now) (g.K.Sink.output c.put_summary.new.sink) all.run
     (summary_told c.args.number c.args.size c.args.basin.now c.args.series.now all.records c.in-Ok-trial_of.trial.tally
     c.totals_of-totals.result c.in-Ok-trial_of.trial.called
     all.is.tally all.is.called c.totals_of-totals.ensures.short_months c.totals_of-totals.ensures.wanted

@@ -1,6 +1,6 @@
 use Rattle.std.proofs.Common.{arith, sym, subst, List}
-use Rattle.std.specs.Io.KnownBytes.{Appends}
 use Rattle.std.specs.List.{flat_map}
+use Rattle.water_edge.specs.Edge.{Extends}
 use Rattle.water_model.specs.Indices.{numbers_from}
 use Rattle.water_model.specs.Spelling.{whole_line}
 use Rattle.water_model.specs.declared.item.Item.{Item}
@@ -15,7 +15,7 @@ loop-turn-init g c = record {
   turns = omega arith;
   within = omega arith;
   put = SoFar-none (whole_line c.args.basin.now) (member_at c.args.words.now) (numbers_from 0 c.args.nodes)
-      (g.K.Sink.taken c.args.sink.now) (g.K.Sink.faults c.args.sink.now);
+      (g.K.Sink.output c.args.sink.now) (g.K.Sink.faults c.args.sink.now);
 }
 
 pub loop-turn-preserved : goal.loop-turn-preserved
@@ -28,7 +28,8 @@ loop-turn-preserved g c =
           (SoFar-at c.args.basin.now c.args.words.now c.args.nodes c.loop-turn.from c.in-Some.node
           c.loop-turn.invariant.put next)
           (numbers_from-get 0 c.args.nodes c.in-Some.node c.in-Some.node (omega (arith, next.below)) (omega arith))
-          (subst (λ (items : List Item). Appends (g.K.Sink.taken c.loop-turn.sink) (g.K.Sink.taken c.put_item.new.sink)
+          (subst (λ (items : List Item). Extends (g.K.Sink.output c.loop-turn.sink)
+          (g.K.Sink.output c.put_item.new.sink)
           (flat_map (whole_line c.args.basin.now) items))
           (sym (line_of_next c.args.words.now c.loop-turn.from c.args.nodes c.in-Some.node next))
           c.in_ok-put_item-in-Some.ensures.text)
@@ -38,11 +39,11 @@ loop-turn-preserved g c =
 pub returns-in_err-put_item-in-Some-clause-text : goal.returns-in_err-put_item-in-Some-clause-text
 returns-in_err-put_item-in-Some-clause-text g c =
     let next = c.in-Some.ensures.some in
-    SoFar-fails c.in-Some.node (g.K.Sink.taken c.put_item.new.sink) c.from_residual.result
+    SoFar-fails c.in-Some.node (g.K.Sink.output c.put_item.new.sink) c.from_residual.result
     (SoFar-at c.args.basin.now c.args.words.now c.args.nodes c.loop-turn.from c.in-Some.node
     c.loop-turn.invariant.put next)
     (numbers_from-get 0 c.args.nodes c.in-Some.node c.in-Some.node (omega (arith, next.below)) (omega arith))
-    (subst (λ (items : List Item). PutsPrefix (g.K.Sink.taken c.loop-turn.sink) (g.K.Sink.taken c.put_item.new.sink)
+    (subst (λ (items : List Item). PutsPrefix (g.K.Sink.output c.loop-turn.sink) (g.K.Sink.output c.put_item.new.sink)
     (flat_map (whole_line c.args.basin.now) items))
     (sym (line_of_next c.args.words.now c.loop-turn.from c.args.nodes c.in-Some.node next))
     c.in_err-put_item-in-Some.ensures.text)

@@ -10,5 +10,5 @@ invariant-loop-turn g l = record {
   turns : l._turn ≤ l.from;
   within : l.from ≤ l.nodes;
   put : SoFar (whole_line l.basin) (member_at l.words) (numbers_from 0 l.nodes) l.from
-      (g.K.Sink.taken l.fn.sink) (g.K.Sink.taken l.sink) (g.K.Sink.faults l.fn.sink) (g.K.Sink.faults l.sink);
+      (g.K.Sink.output l.fn.sink) (g.K.Sink.output l.sink) (g.K.Sink.faults l.fn.sink) (g.K.Sink.faults l.sink);
 }

@@ -11,12 +11,12 @@ pub loop-index-init : goal.loop-index-init
 loop-index-init g c =
     SoFar-none (whole_line c.args.basin.now)
     (lines_at c.args.section c.args.basin.now c.args.month.now (calling_right c.args.basin.now c.args.month.now))
-    (in_order (section_space c.args.section) c.args.basin.now) (g.K.Sink.taken c.args.sink.now)
+    (in_order (section_space c.args.section) c.args.basin.now) (g.K.Sink.output c.args.sink.now)
     (g.K.Sink.faults c.args.sink.now)
 
 pub returns-in_err-put_entry-clause-text : goal.returns-in_err-put_entry-clause-text
 returns-in_err-put_entry-clause-text g c =
-    SoFar-fails c.entry_at-entry.result (g.K.Sink.taken c.put_entry.new.sink) c.from_residual.result
+    SoFar-fails c.entry_at-entry.result (g.K.Sink.output c.put_entry.new.sink) c.from_residual.result
     c.loop-index.invariant
     (ap (λ space. slice_get (in_order space c.args.basin.now) c.loop-index.index) (sym c.space-space.ensures)
     ∙ c.entry_at-entry.ensures.position)

@@ -9,11 +9,11 @@ pub loop-section-init : goal.loop-section-init
 loop-section-init g c =
     SoFar-none (whole_line c.args.basin.now)
     (λ section. lines_in section c.args.basin.now c.args.month.now (calling_right c.args.basin.now c.args.month.now))
-    SECTIONS (g.K.Sink.taken c.args.sink.now) (g.K.Sink.faults c.args.sink.now)
+    SECTIONS (g.K.Sink.output c.args.sink.now) (g.K.Sink.faults c.args.sink.now)
 
 pub returns-in_err-put_section-clause-text : goal.returns-in_err-put_section-clause-text
 returns-in_err-put_section-clause-text g c =
-    SoFar-fails _ (g.K.Sink.taken c.put_section.new.sink) c.from_residual.result c.loop-section.invariant
+    SoFar-fails _ (g.K.Sink.output c.put_section.new.sink) c.from_residual.result c.loop-section.invariant
     (slice_get-get_or SECTIONS c.loop-section.section-index _ c.loop-section-test.true)
     c.in_err-put_section.ensures.text c.from_residual.ensures.0
 

@@ -7,4 +7,4 @@ abbrev pub invariant-loop-section : goal.invariant-loop-section
 invariant-loop-section g l =
     SoFar (whole_line l.basin) (λ section. lines_in section l.basin l.month (calling_right l.basin l.month))
     l.section-items l.section-index
-    (g.K.Sink.taken l.fn.sink) (g.K.Sink.taken l.sink) (g.K.Sink.faults l.fn.sink) (g.K.Sink.faults l.sink)
+    (g.K.Sink.output l.fn.sink) (g.K.Sink.output l.sink) (g.K.Sink.faults l.fn.sink) (g.K.Sink.faults l.sink)

@@ -8,6 +8,7 @@ use Rattle.water_model.specs.declared.types.MonthRecord.{MonthRecord}
 use Rattle.month_fold.specs.Uses.{HasDeliveries, StateUse}
 use Rattle.month_fold.specs.Runs.{EngineView}
 use Rattle.month_fold.proofs.Resuming.{starts_after}
+use Rattle.month_fold.proofs.Standing.{stands_for}
 use Rattle.month_fold.proofs.engine.Engine.start_after.Goals as goal
 
 pub replay_returns-requires-clause-deliveries : goal.replay_returns-requires-clause-deliveries
@@ -40,8 +41,12 @@ invariant_of-self c = record {
   used = c.use_after.ensures.count;
 }
 
+pub returns-clause-went : goal.returns-clause-went
+returns-clause-went c = λ series fits partial.
+    starts_after _ series (map (λ m. m.value) c.args.months.now) (length c.args.months.now) c.self.invariant.valid fits
+    partial (sym (length-map c.args.months.now (λ m. m.value)))
+    (ap (λ (m : MonthRecord). m.closing) c.store_after.ensures) c.replay_returns.ensures c.use_after.ensures
+
 pub returns-clause-stands : goal.returns-clause-stands
 returns-clause-stands c = λ series fits partial reaches.
-    starts_after _ series (map (λ m. m.value) c.args.months.now) (length c.args.months.now) c.self.invariant.valid fits
-    partial reaches (sym (length-map c.args.months.now (λ m. m.value)))
-    (ap (λ (m : MonthRecord). m.closing) c.store_after.ensures) c.replay_returns.ensures c.use_after.ensures
+    stands_for _ (map (λ m. m.value) c.args.months.now) (returns-clause-went c series fits partial) reaches

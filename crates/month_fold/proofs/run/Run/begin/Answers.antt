@@ -12,4 +12,8 @@ returns-clause-stands c =
     (nothing_is_partial c.start_after.new.self.basin c.args.series.now) (none_reach c.start_after.new.self.basin)
 
 pub invariant_of-result : goal.invariant_of-result
-invariant_of-result c = record { records = []; stands = returns-clause-stands c }
+invariant_of-result c = record {
+  records = [];
+  went = c.start_after.ensures.went c.args.series.now (rw c.start_after.ensures.basin c.requires)
+      (nothing_is_partial c.start_after.new.self.basin c.args.series.now);
+}

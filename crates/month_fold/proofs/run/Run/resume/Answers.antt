@@ -17,15 +17,21 @@ start_after-requires-clause-stored c =
     rw c.in_ok-engine.ensures (stored_count c.args.basin.now c.args.series.now (map (λ m. m.value) c.args.months.now)
     c.requires.months)
 
+pub returns-clause-went : goal.returns-clause-went
+returns-clause-went c =
+    c.start_after.ensures.went c.args.series.now
+    (rw (c.start_after.ensures.basin, c.in_ok-engine.ensures) c.requires.series)
+    (rw (c.start_after.ensures.basin, c.in_ok-engine.ensures) c.requires.months)
+
 pub returns-clause-stands : goal.returns-clause-stands
-returns-clause-stands c =
+returns-clause-stands c = λ reaches.
     c.start_after.ensures.stands c.args.series.now
     (rw (c.start_after.ensures.basin, c.in_ok-engine.ensures) c.requires.series)
     (rw (c.start_after.ensures.basin, c.in_ok-engine.ensures) c.requires.months)
-    (rw (c.start_after.ensures.basin, c.in_ok-engine.ensures) c.requires.reaches)
+    (rw (c.start_after.ensures.basin, c.in_ok-engine.ensures) reaches)
 
 pub invariant_of-result : goal.invariant_of-result
 invariant_of-result c = record {
   records = map (λ m. m.value) c.args.months.now;
-  stands = returns-clause-stands c;
+  went = returns-clause-went c;
 }
