@@ -177,10 +177,10 @@ pub asking_solves : (known : KnownFiles) (files : Files) (month : Month) (b : Ba
     (before now : WorkDone) →
     AreLoaded known files b series → WorkUpTo b month before now →
     IfSome (known files.basin) (λ bytes. (c : Basin) → Spells bytes c → WorkUpTo c month before now)
-asking_solves known files month b series before now loaded solves = of_told (known files.basin) loaded.from_basin
+asking_solves known files month b series before now loaded solves = of_known (known files.basin) loaded.from_basin
   where
-    of_told : (t : Option (List ℕ)) → IfSome t (IsBasinText b) →
+    of_known : (t : Option (List ℕ)) → IfSome t (IsBasinText b) →
         IfSome t (λ bytes. (c : Basin) → Spells bytes c → WorkUpTo c month before now)
-    of_told None text = tt
-    of_told (Some bytes) text =
+    of_known None text = tt
+    of_known (Some bytes) text =
         λ c spelled. subst (λ d. WorkUpTo d month before now) (one_basin bytes b c text.spelled spelled) solves

@@ -106,13 +106,13 @@ editing_cause known files script text b series ending.OutOfMemory read write fit
 editing_cause known files script text b series other read write fits loaded within is ends = absurd ends
 
 -- what is left on out
-leaves_told : (status : Status) (bytes s : List ℕ) (b : Basin) (series : Inflows) (text : List ℕ)
+leaves_by_status : (status : Status) (bytes s : List ℕ) (b : Basin) (series : Inflows) (text : List ℕ)
     (old new : Output) → AreSpelled bytes s b series →
     LeavesScript status b series text old new → EditLeaves status bytes s text old new
-leaves_told status.OutOfMemory bytes s b series text old new spelled (inl same) = inl same
-leaves_told status.OutOfMemory bytes s b series text old new spelled (inr shows) =
+leaves_by_status status.OutOfMemory bytes s b series text old new spelled (inl same) = inl same
+leaves_by_status status.OutOfMemory bytes s b series text old new spelled (inr shows) =
     inr (record { basin = b; series = series; spelled = spelled; shows = shows })
-leaves_told other bytes s b series text old new spelled left =
+leaves_by_status other bytes s b series text old new spelled left =
     λ may. record { basin = b; series = series; spelled = spelled; shows = left may }
 
 pub editing_writes : (known : KnownFiles) (files : Files) (script text : List ℕ) (b : Basin) (series : Inflows)
@@ -124,7 +124,7 @@ editing_writes known files script text b series status old new fits loaded is le
     of_both (known files.basin) (known_series known files.series) (known script) b series text
     (λ bytes s t. EditLeaves status bytes s t old new) fits
     loaded.from_basin loaded.from_series is
-    (λ bytes s spelled. leaves_told status bytes s b series text old new spelled left)
+    (λ bytes s spelled. leaves_by_status status bytes s b series text old new spelled left)
 
 -- and the months that were solved
 work_same : (bytes s text : List ℕ) (b : Basin) (series : Inflows) (before now : WorkDone) → AreSpelled bytes s b series →

@@ -23,7 +23,7 @@ use Rattle.water_model.specs.declared.types.Basin.{Basin}
 use Rattle.water_model.specs.declared.types.Inflows.{Inflows}
 use Rattle.water_model.specs.declared.types.MonthRecord.{MonthRecord}
 use Rattle.water_model.proofs.Outcome.{one_outcome}
-use Rattle.basin_cli.specs.Explained.{Explains, HasLast, IsAbout, IsRecordOf, TellsShort}
+use Rattle.basin_cli.specs.Explained.{Explains, HasLast, IsAbout, IsRecordOf, ExplainsShort}
 use Rattle.basin_cli.specs.declared.explaining.Account.{Account}
 use Rattle.basin_cli.specs.declared.explaining.Account.TheVariants as account
 use Rattle.basin_cli.proofs.Asked.{one_index, one_right}
@@ -75,14 +75,14 @@ reach_at b m right reaches l short =
 
 -- the account of a short right is its answer
 pub short_explained : (asked : Account) (b : Basin) (m : MonthRecord) (right : ℕ) (text : List ℕ) → IsShort m right →
-    TellsShort asked b m right text → Explains asked b m right text
-short_explained asked b m right text is tells = record { short = λ _. tells; met = λ h. absurd (omega arith) }
+    ExplainsShort asked b m right text → Explains asked b m right text
+short_explained asked b m right text is writes_line = record { short = λ _. writes_line; met = λ h. absurd (omega arith) }
 
 -- the book of its reach
-pub reach_told : (b : Basin) (m : MonthRecord) (right : ℕ) → HasReaches b m → right < length b.rights →
+pub reach_explained : (b : Basin) (m : MonthRecord) (right : ℕ) → HasReaches b m → right < length b.rights →
     IsShort m right →
-    TellsShort account.Reach b m right (book_bytes b m right (cut_at m.cuts right))
-reach_told b m right reaches l is = (
+    ExplainsShort account.Reach b m right (book_bytes b m right (cut_at m.cuts right))
+reach_explained b m right reaches l is = (
   cut_at m.cuts right,
   record {
     is_reach = reach;

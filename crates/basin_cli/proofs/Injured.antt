@@ -239,20 +239,20 @@ module _ (known : KnownFiles) (files : Files) (second : List ℕ) (pair : BasinP
       Compares pair.first.basin pair.second.basin pair.first.series pair.second.series how write old new) →
       ComparisonWrites known files second (status_of how) old new
   writes how write old new compares =
-      by_told (known files.basin) (known second) (known_series known files.series) paired.loaded.from_basin
+      by_known (known files.basin) (known second) (known_series known files.series) paired.loaded.from_basin
       paired.second_loaded.from_basin
       paired.loaded.from_series paired.second_loaded.from_series
     where
-      by_told : (t o s : Option (List ℕ)) → IfSome t (IsBasinText pair.first.basin) →
+      by_known : (t o s : Option (List ℕ)) → IfSome t (IsBasinText pair.first.basin) →
           IfSome o (IsBasinText pair.second.basin) →
           IfSome s (IsSeriesText pair.first.basin pair.first.series) →
           IfSome s (IsSeriesText pair.second.basin pair.second.series) →
           IfSome t (λ x. IfSome o
           (λ y. IfSome s (λ z. MayWrite (status_of how) → WritesComparison (status_of how) x y z old new)))
-      by_told None o s first other series other_series = tt
-      by_told (Some x) None s first other series other_series = tt
-      by_told (Some x) (Some y) None first other series other_series = tt
-      by_told (Some x) (Some y) (Some z) first other series other_series = λ may.
+      by_known None o s first other series other_series = tt
+      by_known (Some x) None s first other series other_series = tt
+      by_known (Some x) (Some y) None first other series other_series = tt
+      by_known (Some x) (Some y) (Some z) first other series other_series = λ may.
           let all = compares may in
           record {
             first = pair.first.basin;
@@ -277,15 +277,15 @@ module _ (known : KnownFiles) (files : Files) (second : List ℕ) (pair : BasinP
       SolvesBoth pair.first.basin.months pair.first.basin pair.second.basin before now →
       ComparisonWork known files second before now
   work before now solves =
-      by_told (known files.basin) (known second) paired.loaded.from_basin paired.second_loaded.from_basin
+      by_known (known files.basin) (known second) paired.loaded.from_basin paired.second_loaded.from_basin
     where
-      by_told : (t o : Option (List ℕ)) → IfSome t (IsBasinText pair.first.basin) →
+      by_known : (t o : Option (List ℕ)) → IfSome t (IsBasinText pair.first.basin) →
           IfSome o (IsBasinText pair.second.basin) →
           IfSome t (λ x. IfSome o (λ y. (first second : Basin) → Spells x first → Spells y second →
           SolvesBoth first.months first second before now))
-      by_told None o first other = tt
-      by_told (Some x) None first other = tt
-      by_told (Some x) (Some y) first other = λ b c spelled second_spelled.
+      by_known None o first other = tt
+      by_known (Some x) None first other = tt
+      by_known (Some x) (Some y) first other = λ b c spelled second_spelled.
           let same : pair.first.basin ≡ b = one_basin x pair.first.basin b first.spelled spelled in
           let same_second : pair.second.basin ≡ c = one_basin y pair.second.basin c other.spelled second_spelled in
           rw (← same, ← same_second) solves

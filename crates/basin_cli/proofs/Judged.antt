@@ -155,16 +155,16 @@ good_series bytes s b series basin_text series_text =
     record { basin = b; spelled = basin_text.spelled; within = series_text.within; sound = series_text.sound }
 
 -- what follows for known bytes from what is known of them holds as far as they are known
-pub after_told : (t o r : Option (List ℕ)) (b : Basin) (series : Inflows) (Q : List ℕ → Type 0) (P : List ℕ → List ℕ →
+pub after_known : (t o r : Option (List ℕ)) (b : Basin) (series : Inflows) (Q : List ℕ → Type 0) (P : List ℕ → List ℕ →
     List ℕ → Type 0) →
     IsSeriesOf b series → IfSome t (IsBasinText b) → IfSome o (IsSeriesText b series) → IfSome r Q →
     ((bytes s text : List ℕ) → AreSpelled bytes s b series → Q text → P bytes s text) →
     IfSome t (λ bytes. IsGoodBasin bytes × IfSome o (λ s. IsGoodSeries bytes s × IfSome r (P bytes s)))
-after_told None o r b series Q P fits from_basin from_series is_known holds = tt
-after_told (Some bytes) None r b series Q P fits from_basin from_series is_known holds = (from_basin.good, tt)
-after_told (Some bytes) (Some s) None b series Q P fits from_basin from_series is_known holds =
+after_known None o r b series Q P fits from_basin from_series is_known holds = tt
+after_known (Some bytes) None r b series Q P fits from_basin from_series is_known holds = (from_basin.good, tt)
+after_known (Some bytes) (Some s) None b series Q P fits from_basin from_series is_known holds =
     (from_basin.good, (good_series bytes s b series from_basin from_series, tt))
-after_told (Some bytes) (Some s) (Some text) b series Q P fits from_basin from_series is_known holds = (
+after_known (Some bytes) (Some s) (Some text) b series Q P fits from_basin from_series is_known holds = (
   from_basin.good,
   (
     good_series bytes s b series from_basin from_series,
@@ -179,7 +179,7 @@ pub after : (t o r : Option (List ℕ)) (b : Basin) (series : Inflows) (text : L
     ((bytes s : List ℕ) → AreSpelled bytes s b series → P bytes s text) →
     IfSome t (λ bytes. IsGoodBasin bytes × IfSome o (λ s. IsGoodSeries bytes s × IfSome r (P bytes s)))
 after t o r b series text P fits from_basin from_series is holds =
-    after_told t o r b series (λ bytes. text ≡ bytes) P fits from_basin from_series is
+    after_known t o r b series (λ bytes. text ≡ bytes) P fits from_basin from_series is
     (λ bytes s known spelled same. subst (P bytes s) same (holds bytes s spelled))
 
 pub accepted : (t o : Option (List ℕ)) (b : Basin) (series : Inflows) → IfSome t (IsBasinText b) →
@@ -255,12 +255,12 @@ pub checking_cause : (asked : Question) (known : KnownFiles) (files : Files) (re
     EndsChecking asked b series (known result) how read write →
     HasCheckingCause asked files result how known read write
 checking_cause asked known files result b series ending.Done read write valid fits loaded ends =
-    after_told (known files.basin) (known_series known files.series) (known result) b series
+    after_known (known files.basin) (known_series known files.series) (known result) b series
     (λ text. IsAnswerFor asked b series text (Ok ends.0)) (IsYes asked)
     fits loaded.from_basin loaded.from_series ends.1
     (λ bytes s text spelled good. is_yes asked bytes s text b series ends.0 valid spelled good)
 checking_cause asked known files result b series (ending.Refuted refuted) read write valid fits loaded ends =
-    after_told (known files.basin) (known_series known files.series) (known result) b series
+    after_known (known files.basin) (known_series known files.series) (known result) b series
     (λ text. IsAnswerFor asked b series text (Err refuted)) (IsRefuted asked refuted)
     fits loaded.from_basin loaded.from_series ends
     (λ bytes s text spelled bad. is_no asked bytes s text b series refuted valid spelled bad)
@@ -272,15 +272,15 @@ checking_cause asked known files result b series ending.OutOfMemory read write v
 checking_cause asked known files result b series other read write valid fits loaded ends = absurd ends
 
 -- what a check leaves on out
-pub of_told : (t o r : Option (List ℕ)) (b : Basin) (series : Inflows) (Q : List ℕ → Type 0) (P : List ℕ → List ℕ →
+pub of_known : (t o r : Option (List ℕ)) (b : Basin) (series : Inflows) (Q : List ℕ → Type 0) (P : List ℕ → List ℕ →
     List ℕ → Type 0) →
     IsSeriesOf b series → IfSome t (IsBasinText b) → IfSome o (IsSeriesText b series) → IfSome r Q →
     ((bytes s text : List ℕ) → AreSpelled bytes s b series → Q text → P bytes s text) →
     IfSome t (λ bytes. IfSome o (λ s. IfSome r (P bytes s)))
-of_told None o r b series Q P fits from_basin from_series is_known holds = tt
-of_told (Some bytes) None r b series Q P fits from_basin from_series is_known holds = tt
-of_told (Some bytes) (Some s) None b series Q P fits from_basin from_series is_known holds = tt
-of_told (Some bytes) (Some s) (Some text) b series Q P fits from_basin from_series is_known holds =
+of_known None o r b series Q P fits from_basin from_series is_known holds = tt
+of_known (Some bytes) None r b series Q P fits from_basin from_series is_known holds = tt
+of_known (Some bytes) (Some s) None b series Q P fits from_basin from_series is_known holds = tt
+of_known (Some bytes) (Some s) (Some text) b series Q P fits from_basin from_series is_known holds =
     holds bytes s text (spelled_by bytes s b series fits from_basin from_series) is_known
 
 pub of_both : (t o r : Option (List ℕ)) (b : Basin) (series : Inflows) (text : List ℕ) (P : List ℕ → List ℕ → List ℕ →
@@ -289,7 +289,7 @@ pub of_both : (t o r : Option (List ℕ)) (b : Basin) (series : Inflows) (text :
     ((bytes s : List ℕ) → AreSpelled bytes s b series → P bytes s text) →
     IfSome t (λ bytes. IfSome o (λ s. IfSome r (P bytes s)))
 of_both t o r b series text P fits from_basin from_series is holds =
-    of_told t o r b series (λ bytes. text ≡ bytes) P fits from_basin from_series is
+    of_known t o r b series (λ bytes. text ≡ bytes) P fits from_basin from_series is
     (λ bytes s known spelled same. subst (P bytes s) same (holds bytes s spelled))
 
 pub checking_writes : (asked : Question) (known : KnownFiles) (files : Files) (result : List ℕ) (b : Basin)
@@ -302,7 +302,7 @@ pub checking_writes : (asked : Question) (known : KnownFiles) (files : Files) (r
     (λ bytes s. IfSome (known result) (λ r. MayWrite (status_of how) →
     WritesAnswer asked (status_of how) bytes s r old new))
 checking_writes asked known files result b series how old new fits loaded leaves =
-    of_told (known files.basin) (known_series known files.series) (known result) b series
+    of_known (known files.basin) (known_series known files.series) (known result) b series
     (λ text. MayWrite (status_of how) → LeavesAnswer asked b series text (status_of how) old new)
     (λ bytes s r. MayWrite (status_of how) → WritesAnswer asked (status_of how) bytes s r old new) fits
     loaded.from_basin loaded.from_series leaves

@@ -30,11 +30,11 @@ use Rattle.inflow_file.proofs.DueLaws.{due_at, split, length-due, width}
 use Rattle.water_model.proofs.Histories.{IsMonth-run_month}
 
 -- the month of what is missing is one of the calendar, and the node or the right one of the basin
-abbrev pub IsTold : Basin → SeriesRefused → Type 0
-IsTold b (refused.Record fault number) = ⊤
-IsTold b (refused.Missing month node) = IsMonth month × (node < length b.nodes)
-IsTold b (refused.MissingWant month right) = IsMonth month × (right < length b.rights)
-IsTold b refused.OutOfMemory = ⊤
+abbrev pub IsNameable : Basin → SeriesRefused → Type 0
+IsNameable b (refused.Record fault number) = ⊤
+IsNameable b (refused.Missing month node) = IsMonth month × (node < length b.nodes)
+IsNameable b (refused.MissingWant month right) = IsMonth month × (right < length b.rights)
+IsNameable b refused.OutOfMemory = ⊤
 
 passing_below : (p : ℕ → Bool) (from count bound g : ℕ) → from + count ≤ bound →
     g < length (filter p (numbers_from from count)) →
@@ -90,69 +90,69 @@ found_within b p (x ∷ xs) d h e = by_test (p x) e (λ f. found_within b p xs d
     by_test true f rest = let same : x ≡ d = cc in subst (λ (c : Month × ℕ). IsDue b c) same (h 0 x (omega arith))
     by_test false f rest = rest f
 
-missing_is_told : (b : Basin) (month : Month) (n : ℕ) → IsMonth month → n < count_of_both b →
-    IsTold b (missing_of b month n)
-missing_is_told b month n calendar inside = by_test (nat_lt n (length b.nodes)) refl
+missing_is_nameable : (b : Basin) (month : Month) (n : ℕ) → IsMonth month → n < count_of_both b →
+    IsNameable b (missing_of b month n)
+missing_is_nameable b month n calendar inside = by_test (nat_lt n (length b.nodes)) refl
   where
     after : (n m k : ℕ) → nat_lt n m ≡ false → n < m + k → n - m < k
     after n m k e l = grind (arith, nat_tests)
 
     by_test : (t : Bool) → nat_lt n (length b.nodes) ≡ t →
-        IsTold b (if t then refused.Missing month n else refused.MissingWant month (n - length b.nodes))
+        IsNameable b (if t then refused.Missing month n else refused.MissingWant month (n - length b.nodes))
     by_test true e = (calendar, ltb-true n (length b.nodes) e)
     by_test false e = (calendar, after n (length b.nodes) (length b.rights) e inside)
 
-missing_told : (b : Basin) (rows : List (List (List ℕ))) (e : SeriesRefused) → IsValidBasin b →
-    missing b (entries_of b rows) ≡ Some e → IsTold b e
-missing_told b rows e valid h =
+missing_nameable : (b : Basin) (rows : List (List (List ℕ))) (e : SeriesRefused) → IsValidBasin b →
+    missing b (entries_of b rows) ≡ Some e → IsNameable b e
+missing_nameable b rows e valid h =
     by_found (find (λ d. not (is_some (amount_for (entries_of b rows) d.0 d.1))) (due b)) refl h
   where
     by_found : (o : Option (Month × ℕ)) →
         find (λ d. not (is_some (amount_for (entries_of b rows) d.0 d.1))) (due b) ≡ o →
-        option_map (λ (d : Month × ℕ). missing_of b d.0 d.1) o ≡ Some e → IsTold b e
+        option_map (λ (d : Month × ℕ). missing_of b d.0 d.1) o ≡ Some e → IsNameable b e
     by_found None f h = cc
     by_found (Some d) f h =
         let within =
         found_within b (λ c. not (is_some (amount_for (entries_of b rows) c.0 c.1))) (due b) d (due_within b valid)
         f in
         let same : missing_of b d.0 d.1 ≡ e = cc in
-        subst (λ (x : SeriesRefused). IsTold b x) same (missing_is_told b d.0 d.1 within.calendar within.inside)
+        subst (λ (x : SeriesRefused). IsNameable b x) same (missing_is_nameable b d.0 d.1 within.calendar within.inside)
 
-record_told : (b : Basin) (before : List (List (List ℕ))) (number : ℕ) (rows : List (List (List ℕ)))
+record_nameable : (b : Basin) (before : List (List (List ℕ))) (number : ℕ) (rows : List (List (List ℕ)))
     (e : SeriesRefused) →
-    first_fault b before number rows ≡ Some e → IsTold b e
+    first_fault b before number rows ≡ Some e → IsNameable b e
 unfolding first_fault
-record_told b before number [] e h = cc
-record_told b before number (row ∷ rows) e h =
-    by_fault (record_fault b before row) h (λ f. record_told b (before ++ row ∷ []) (number + 1) rows e f)
+record_nameable b before number [] e h = cc
+record_nameable b before number (row ∷ rows) e h =
+    by_fault (record_fault b before row) h (λ f. record_nameable b (before ++ row ∷ []) (number + 1) rows e f)
   where
     by_fault : (o : Option SeriesFault) →
         option_or (option_map (λ fault. refused.Record fault number) o)
         (first_fault b (before ++ row ∷ []) (number + 1) rows) ≡ Some e →
-        (first_fault b (before ++ row ∷ []) (number + 1) rows ≡ Some e → IsTold b e) → IsTold b e
+        (first_fault b (before ++ row ∷ []) (number + 1) rows ≡ Some e → IsNameable b e) → IsNameable b e
     by_fault None h rest = rest h
     by_fault (Some f) h rest = let same : refused.Record f number ≡ e = cc in
-        subst (λ (x : SeriesRefused). IsTold b x) same tt
+        subst (λ (x : SeriesRefused). IsNameable b x) same tt
 
-pub refusal_told : (b : Basin) (text : List ℕ) (e : SeriesRefused) → IsValidBasin b → series_fault b text ≡ Some e →
-    IsTold b e
-refusal_told b text e valid h = by_rows (records_of text) h
+pub refusal_nameable : (b : Basin) (text : List ℕ) (e : SeriesRefused) → IsValidBasin b → series_fault b text ≡ Some e →
+    IsNameable b e
+refusal_nameable b text e valid h = by_rows (records_of text) h
   where
-    by_first : (o : Option SeriesRefused) (rows : List (List (List ℕ))) → (o ≡ Some e → IsTold b e) →
-        option_or o (missing b (entries_of b rows)) ≡ Some e → IsTold b e
-    by_first None rows first h = missing_told b rows e valid h
+    by_first : (o : Option SeriesRefused) (rows : List (List (List ℕ))) → (o ≡ Some e → IsNameable b e) →
+        option_or o (missing b (entries_of b rows)) ≡ Some e → IsNameable b e
+    by_first None rows first h = missing_nameable b rows e valid h
     by_first (Some f) rows first h = first h
 
     by_header : (t : Bool) (rows : List (List (List ℕ))) →
         (if t then option_or (first_fault b [] 2 rows) (missing b (entries_of b rows)) else Some
-        (refused.Record fault.Header 1)) ≡ Some e → IsTold b e
-    by_header true rows h = by_first (first_fault b [] 2 rows) rows (record_told b [] 2 rows e) h
+        (refused.Record fault.Header 1)) ≡ Some e → IsNameable b e
+    by_header true rows h = by_first (first_fault b [] 2 rows) rows (record_nameable b [] 2 rows e) h
     by_header false rows h = let same : refused.Record fault.Header 1 ≡ e = cc in
-        subst (λ (x : SeriesRefused). IsTold b x) same tt
+        subst (λ (x : SeriesRefused). IsNameable b x) same tt
 
-    by_rows : (rows : List (List (List ℕ))) → table_fault b rows ≡ Some e → IsTold b e
+    by_rows : (rows : List (List (List ℕ))) → table_fault b rows ≡ Some e → IsNameable b e
     by_rows [] h = let same : refused.Record fault.Header 1 ≡ e = cc in
-        subst (λ (x : SeriesRefused). IsTold b x) same tt
+        subst (λ (x : SeriesRefused). IsNameable b x) same tt
     by_rows (header ∷ rows) h = by_header (is_header header || has_kinds b header) (body_of b (header ∷ rows)) h
 
 -- a node of a valid basin has a name, and so has a right

@@ -445,10 +445,10 @@ tells_nothing old before =
     record { count = 0; within = omega arith; appended = Extends-nil old; cut = λ l. absurd (omega (arith, l)) }
 
 -- a refusal of the second basin has a line
-pub second_told : (finding : SecondFinding) → IsQuiet (status_of_second finding) → ⊥
-second_told (of_second.Basin finding) q = q
-second_told of_second.OtherRun q = q
-second_told (of_second.Series finding) q = q
+pub second_not_quiet : (finding : SecondFinding) → IsQuiet (status_of_second finding) → ⊥
+second_not_quiet (of_second.Basin finding) q = q
+second_not_quiet of_second.OtherRun q = q
+second_not_quiet (of_second.Series finding) q = q
 
 -- a quiet ending has no line
 pub quiet : (how : Ending) (old : Output) (before : ℕ) → ((IsQuiet (status_of how) → ⊥) → ⊥) →
@@ -462,12 +462,12 @@ quiet ending.Usage old before h = absurd (h (λ q. q))
 quiet (ending.BasinRefused finding) old before h = absurd (h (λ q. q))
 quiet ending.PartYear old before h = absurd (h (λ q. q))
 quiet (ending.SeriesRefused finding) old before h = absurd (h (λ q. q))
-quiet (ending.SecondRefused finding) old before h = absurd (h (second_told finding))
+quiet (ending.SecondRefused finding) old before h = absurd (h (second_not_quiet finding))
 quiet (ending.ReadFault file) old before h = absurd (h (λ q. q))
 quiet ending.WriteFault old before h = absurd (h (λ q. q))
 quiet ending.OutOfMemory old before h = absurd (h (λ q. q))
 quiet (ending.InputTooLong file) old before h = absurd (h (λ q. q))
 quiet (ending.ScriptRefused fault line) old before h = absurd (h (λ q. q))
 
-pub told_not : {known : Bool} → known ≡ false → IsTrue known → ⊥
-told_not e h = let clash : false ≡ true = sym e ∙ h in cc
+pub not_known : {known : Bool} → known ≡ false → IsTrue known → ⊥
+not_known e h = let clash : false ≡ true = sym e ∙ h in cc

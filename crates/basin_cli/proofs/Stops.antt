@@ -59,17 +59,17 @@ rose_since start mid now l rose = omega arith
 module _ (files : Files) (second : List ℕ) (known : KnownFiles) (read : Type 0) where
   module _ (b c : Basin) (first_text : IfSome (known files.basin) (IsBasinText b))
       (second_text : IfSome (known second) (IsBasinText c)) where
-    both_told : (G : List ℕ → List ℕ → Type 0) →
+    both_known : (G : List ℕ → List ℕ → Type 0) →
         ((bytes other : List ℕ) → IsBasinText b bytes → IsBasinText c other → G bytes other) →
         AfterFirst known files second G
-    both_told G f =
+    both_known G f =
         joined (known files.basin) (IsBasinText b) (λ bytes. IsGoodBasin bytes × IfSome (known second) (G bytes))
         (λ bytes is.
         (is.good, joined (known second) (IsBasinText c) (G bytes) (λ other also. f bytes other is also) second_text))
         first_text
 
     good_second : HaveSameMonths b c → AfterFirst known files second IsGoodSecond
-    good_second same = both_told IsGoodSecond (λ bytes other text other_text. record {
+    good_second same = both_known IsGoodSecond (λ bytes other text other_text. record {
       good = other_text.good;
       one_run = record {
         first = b;
@@ -83,7 +83,7 @@ module _ (files : Files) (second : List ℕ) (known : KnownFiles) (read : Type 0
     pub other_run : (how : Ending) → IsOtherRun b c how → StopsComparing files second how known read
     other_run how is =
         subst (λ how. StopsComparing files second how known read) (sym is.0)
-        (both_told _ (λ bytes other text other_text. (
+        (both_known _ (λ bytes other text other_text. (
           other_text.good,
           record {
             first = b;
@@ -99,7 +99,7 @@ module _ (files : Files) (second : List ℕ) (known : KnownFiles) (read : Type 0
         ((bytes other series : List ℕ) → IsBasinText b bytes → IsBasinText c other → S series → Q bytes other series) →
         AfterBoth known files second Q
     after_both Q S same h f =
-        both_told _ (λ bytes other text other_text. (
+        both_known _ (λ bytes other text other_text. (
           record {
             good = other_text.good;
             one_run = record {
@@ -140,11 +140,11 @@ module _ (files : Files) (second : List ℕ) (known : KnownFiles) (read : Type 0
         (since → read) → HaveSameMonths b c →
         BothSeriesReadEnd b c files.series (known_series later files.series) since how →
         StopsComparing files second how known read
-    series_stops_later later since how same_told rose same h =
+    series_stops_later later since how same_known rose same h =
         series_stops how same
         (both_since b c files.series (known_series known files.series) since read how rose
         (subst (λ (o : Option (List ℕ)). BothSeriesReadEnd b c files.series o since how)
-        (same_series known later files.series same_told) h))
+        (same_series known later files.series same_known) h))
 
 -- where a file is refused, nothing may be written
 never_writes : (known : KnownFiles) (files : Files) (second : List ℕ) (how : Ending) (read : Type 0) →
@@ -163,13 +163,13 @@ pub refused_writes : (known : KnownFiles) (files : Files) (second : List ℕ) (h
     (old new : Output) →
     StopsComparing files second how known read → ComparisonWrites known files second (status_of how) old new
 refused_writes known files second how read old new h =
-    by_told (known files.basin) (known second) (known_series known files.series)
+    by_known (known files.basin) (known second) (known_series known files.series)
   where
-    by_told : (t o s : Option (List ℕ)) →
+    by_known : (t o s : Option (List ℕ)) →
         IfSome t (λ bytes. IfSome o
         (λ other. IfSome s (λ series. MayWrite (status_of how) →
         WritesComparison (status_of how) bytes other series old new)))
-    by_told None o s = tt
-    by_told (Some bytes) None s = tt
-    by_told (Some bytes) (Some other) None = tt
-    by_told (Some bytes) (Some other) (Some series) = λ may. absurd (never_writes known files second how read h may)
+    by_known None o s = tt
+    by_known (Some bytes) None s = tt
+    by_known (Some bytes) (Some other) None = tt
+    by_known (Some bytes) (Some other) (Some series) = λ may. absurd (never_writes known files second how read h may)

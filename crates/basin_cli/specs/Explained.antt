@@ -68,15 +68,15 @@ met_line month name = codes "met " ++ month_digits month ++ codes " " ++ name ++
 
 -- the text that answers a short right: the book of its reach, or where one more unit would help it, with the account of
 -- its core
-abbrev pub TellsShort : Account → Basin → MonthRecord → ℕ → List ℕ → Type 0
-TellsShort account.Reach b m right text =
+abbrev pub ExplainsShort : Account → Basin → MonthRecord → ℕ → List ℕ → Type 0
+ExplainsShort account.Reach b m right text =
     (reach : List Bool) × IsBookOfReach b m right reach × (text ≡ book_bytes b m right reach)
-TellsShort account.Core b m right text = IsHelpingText b m right text
+ExplainsShort account.Core b m right text = IsHelpingText b m right text
 
 -- the text that answers why a right got no more in a month, or where one more unit would help it: that text, where it
 -- is short, and otherwise that it is met
 pub record Explains (asked : Account) (b : Basin) (m : MonthRecord) (right : ℕ) (text : List ℕ) : Type 0 where
-  pub short : IsShort m right → TellsShort asked b m right text
+  pub short : IsShort m right → ExplainsShort asked b m right text
   pub met : slice_index m.want right ≤ slice_index m.delivered right → text ≡ met_line m.month (right_name b right)
 
 -- a run whose last record is of its last month

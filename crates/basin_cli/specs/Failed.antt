@@ -9,11 +9,11 @@ use Rattle.basin_cli.specs.declared.ending.File.{File}
 use Rattle.basin_cli.specs.declared.ending.File.TheVariants as file
 use Rattle.basin_cli.specs.declared.ending.SecondFinding.TheVariants as of_second
 
--- how many calls asked for the file of each name, where a shelf tells that
+-- how many calls asked for the file of each name, where a shelf writes_line that
 abbrev pub AskedCounts : Type 0
 AskedCounts = List ℕ → Option ℕ
 
--- a file was asked for: the count of the calls for it rose, where it is told
+-- a file was asked for: the count of the calls for it rose, where it is known
 abbrev pub IsAskedFor : Option ℕ → Option ℕ → Type 0
 IsAskedFor old new = IfSome old (λ before. (now : ℕ) × (new ≡ Some now) × Rose before now)
 

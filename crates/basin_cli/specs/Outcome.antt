@@ -205,7 +205,7 @@ pub record Ends (command : Option Command) (status : Status) (known : KnownFiles
   pub status_is : status ≡ status_of how
   pub cause : EndingHasCause command how known read write
   pub asked : HaveAsked command how asked_old asked_new
-  pub tells : WritesErrLine err_old err_new err_before err_now (line_of how)
+  pub writes_line : WritesErrLine err_old err_new err_before err_now (line_of how)
 
 abbrev pub Completes : Option Command → Status → KnownFiles → Type 0 → Type 0 → Type 0
 Completes None status known read write = ⊤

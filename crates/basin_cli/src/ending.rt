@@ -285,7 +285,7 @@ fn put_line(line: &mut Line, ending: &Ending)
 /// Puts the line of an ending to err. If err fails, a prefix of it stands there. It takes no memory.
 pub fn print_ending<E: Sink>(ending: &Ending, err: &mut E)
     requires { CanBePrinted ending.now }
-    ensures tells { WritesErrLine (E.output err.old) (E.output err.new) (E.faults err.old) (E.faults err.new)
+    ensures writes_line { WritesErrLine (E.output err.old) (E.output err.new) (E.faults err.old) (E.faults err.new)
         (line_of ending.now) }
     ensures flushed { (Rose (E.faults err.old) (E.faults err.new) → ⊥) →
         (E.output err.new).flushed ≡ (E.output err.new).taken }

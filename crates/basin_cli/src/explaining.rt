@@ -13,7 +13,7 @@ ghost use Rattle.water_edge.specs.Edge.{HasCause, Puts, Rose};
 ghost use Rattle.basin_cli.specs.Actions.{AnswersAt, EndsAsking, IsAnswered};
 ghost use Rattle.basin_cli.specs.Ending.{status_of};
 ghost use Rattle.basin_cli.specs.Explained.{EndsExplaining, Explains, HasLast, HasMonth, HasRight, IsMonthAt};
-ghost use Rattle.basin_cli.specs.Explained.{IsRightNamed, WorkUpTo, TellsShort, met_line};
+ghost use Rattle.basin_cli.specs.Explained.{IsRightNamed, WorkUpTo, ExplainsShort, met_line};
 ghost use Rattle.call_list.specs.Helpers.{IsHelpFinderOf};
 ghost use Rattle.plan_residual.specs.Residual.{HasPlan};
 ghost use Rattle.basin_cli.specs.Out.{IsRefusal, Leaves, MayWrite};
@@ -149,7 +149,7 @@ fn put_account<K: Sink>(
     requires reaches { HasReaches basin.now month.now }
     requires right { right < length basin.now.rights }
     requires short { IsShort month.now right }
-    ensures text { (text : List ℕ) × TellsShort account basin.now month.now right text ×
+    ensures text { (text : List ℕ) × ExplainsShort account basin.now month.now right text ×
         Puts (K.output sink.old) (K.output sink.new) result text }
     ensures cause { HasCause (K.faults sink.old) (K.faults sink.new) (IsErr result) }
 {

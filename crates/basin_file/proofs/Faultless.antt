@@ -51,33 +51,33 @@ net_none nodes links e =
     (first_on_cycle nodes links) e
 
 -- a fault of a roll is reported
-abbrev IsTold : Option RollRefused → Type 0
-IsTold o = o ≢ Some roll.OutOfMemory
+abbrev IsNotMemory : Option RollRefused → Type 0
+IsNotMemory o = o ≢ Some roll.OutOfMemory
 
-same_told : (keys : List (List ℕ)) (n : ℕ) (rest : List (List ℕ)) → IsTold (same_from keys n rest)
-same_told keys n [] e = cc
-same_told keys n (key ∷ rest) e = by (nat_lt (position_or_len (bytes_eq key) keys) n) refl (same_told keys (n + 1) rest)
+same_not_memory : (keys : List (List ℕ)) (n : ℕ) (rest : List (List ℕ)) → IsNotMemory (same_from keys n rest)
+same_not_memory keys n [] e = cc
+same_not_memory keys n (key ∷ rest) e = by (nat_lt (position_or_len (bytes_eq key) keys) n) refl (same_not_memory keys (n + 1) rest)
   where
     by : (t : Bool) → nat_lt (position_or_len (bytes_eq key) keys) n ≡ t →
         (same_from keys (n + 1) rest ≡ Some roll.OutOfMemory → ⊥) → ⊥
     by true low after = (let h = rw low at e in cc)
     by false high after = after (rw high at e)
 
-map_told : (f : ℕ → RollRefused) → ((k : ℕ) → f k ≢ roll.OutOfMemory) → (o : Option ℕ) → IsTold (option_map f o)
-map_told f other None e = cc
-map_told f other (Some k) e = other k (cc)
+map_not_memory : (f : ℕ → RollRefused) → ((k : ℕ) → f k ≢ roll.OutOfMemory) → (o : Option ℕ) → IsNotMemory (option_map f o)
+map_not_memory f other None e = cc
+map_not_memory f other (Some k) e = other k (cc)
 
-or_told : (a b : Option RollRefused) → IsTold a → IsTold b → IsTold (option_or a b)
-or_told None b x y e = y e
-or_told (Some f) b x y e = x e
+or_not_memory : (a b : Option RollRefused) → IsNotMemory a → IsNotMemory b → IsNotMemory (option_or a b)
+or_not_memory None b x y e = y e
+or_not_memory (Some f) b x y e = x e
 
-roll_told : (rights : List Right) (returns : List ReturnRow) → IsTold (roll_fault rights returns)
-roll_told rights returns e =
-    or_told (date_fault rights) _ (map_told roll.BadDate (λ k same. cc) (position has_bad_date rights))
-    (or_told (same_seniority rights) _ (same_told (map priority rights) 0 (map priority rights))
-    (or_told (zone_fault rights) (parts_fault rights returns)
-    (map_told roll.ZoneOrder (λ k same. cc) (find (has_zone_fault rights) (range_with_len 0 (length rights))))
-    (map_told roll.ReturnParts (λ k same. cc) (find (has_many_parts returns) (range_with_len 0 (length rights))))))
+roll_not_memory : (rights : List Right) (returns : List ReturnRow) → IsNotMemory (roll_fault rights returns)
+roll_not_memory rights returns e =
+    or_not_memory (date_fault rights) _ (map_not_memory roll.BadDate (λ k same. cc) (position has_bad_date rights))
+    (or_not_memory (same_seniority rights) _ (same_not_memory (map priority rights) 0 (map priority rights))
+    (or_not_memory (zone_fault rights) (parts_fault rights returns)
+    (map_not_memory roll.ZoneOrder (λ k same. cc) (find (has_zone_fault rights) (range_with_len 0 (length rights))))
+    (map_not_memory roll.ReturnParts (λ k same. cc) (find (has_many_parts returns) (range_with_len 0 (length rights))))))
     (sym (roll_fault-is rights returns) ∙ e)
 
 roll_none : (rights : List Right) (returns : List ReturnRow) →
@@ -92,7 +92,7 @@ roll_none rights returns e = by (roll_fault rights returns) refl e
     by (Some (roll.SameSeniority first later)) same e = cc
     by (Some (roll.ZoneOrder right)) same e = cc
     by (Some (roll.ReturnParts right)) same e = cc
-    by (Some roll.OutOfMemory) same e = absurd (roll_told rights returns same)
+    by (Some roll.OutOfMemory) same e = absurd (roll_not_memory rights returns same)
 
 basin_valid : (tree : Members) → tree_fault tree ≡ None → basin_fault (basin_of tree) ≡ None →
     IsValidBasin (basin_of tree)

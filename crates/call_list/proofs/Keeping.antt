@@ -21,7 +21,7 @@ prefix_none c r set sized is = record {
   prefix = replicate c.nodes false;
   holds = record { rights = refl; nodes = refl; is = is };
   sized = length-replicate c.nodes false ∙ sym sized;
-  told = λ n l. absurd (omega arith);
+  settled = λ n l. absurd (omega arith);
   rest = λ n l. nowhere c.nodes n;
 }
 
@@ -32,9 +32,9 @@ prefix_skip before now r set k none so = record {
   prefix = so.prefix;
   holds = so.holds;
   sized = so.sized;
-  told = λ n l. elim (cases_eq n k) [
+  settled = λ n l. elim (cases_eq n k) [
     | inl same ↦ ap (has so.prefix) same ∙ (so.rest k (omega arith) ∙ (sym none ∙ ap (has set) (sym same)))
-    | inr other ↦ so.told n (omega arith)
+    | inr other ↦ so.settled n (omega arith)
   ];
   rest = λ n l. so.rest n (omega arith);
 }
@@ -52,11 +52,11 @@ prefix_more before now next r set k l below on so added = record {
     is = rw done (set_of_with now r (Some (slice_set so.prefix k true)) (omega (arith, so.holds.rights)));
   };
   sized = length-set so.prefix k true ∙ so.sized;
-  told = λ n m. elim (cases_eq n k) [
+  settled = λ n m. elim (cases_eq n k) [
     | inl same ↦
         ap (has (slice_set so.prefix k true)) same
         ∙ (get_or-set_same so.prefix k true false (omega (arith, so.sized)) ∙ (sym on ∙ ap (has set) (sym same)))
-    | inr other ↦ get_or-set_other so.prefix k n true false other ∙ so.told n (omega arith)
+    | inr other ↦ get_or-set_other so.prefix k n true false other ∙ so.settled n (omega arith)
   ];
   rest = λ n m.
       get_or-set_other so.prefix k n true false (λ same. absurd (omega arith)) ∙ so.rest n (omega arith);
@@ -72,7 +72,7 @@ pub prefix_whole : (before now : CutSets) (r : ℕ) (set : List Bool) (k : ℕ) 
 prefix_whole before now r set k all so = subst (λ (xs : List Bool). HoldsSet before now r xs) same so.holds
   where
     same : so.prefix ≡ set
-    same = ext_get_or false so.prefix set so.sized (λ i l. so.told i (omega (arith, so.sized)))
+    same = ext_get_or false so.prefix set so.sized (λ i l. so.settled i (omega (arith, so.sized)))
 
 -- there are as many rights where all sets were given up
 pub cleared_size : (c d : CutSets) → d ≡ without_sets c → length d.sets ≡ length c.sets

@@ -35,5 +35,5 @@ pub record HoldsPrefix (before now : CutSets) (right : ℕ) (set : List Bool) (d
   pub prefix : List Bool
   pub holds : HoldsSet before now right prefix
   pub sized : length prefix ≡ length set
-  pub told : (n : ℕ) → n < done → has prefix n ≡ has set n
+  pub settled : (n : ℕ) → n < done → has prefix n ≡ has set n
   pub rest : (n : ℕ) → done ≤ n → has prefix n ≡ false

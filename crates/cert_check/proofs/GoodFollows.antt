@@ -41,9 +41,9 @@ use Rattle.water_model.proofs.Lists.{no_numbers}
 read_len : (xs : List ℕ) (a : ℕ → ℕ) (n : ℕ) (ys : List ℕ) → set_all xs a (replicate n 0) ≡ ys → length ys ≡ n
 read_len xs a n ys is = sym (ap length is) ∙ (length-set_all xs a (replicate n 0) ∙ length-replicate n 0)
 
-untold : (xs : List ℕ) (a : ℕ → ℕ) (n : ℕ) (ys : List ℕ) (k : ℕ) → set_all xs a (replicate n 0) ≡ ys → (Has xs k → ⊥) →
+not_listed : (xs : List ℕ) (a : ℕ → ℕ) (n : ℕ) (ys : List ℕ) (k : ℕ) → set_all xs a (replicate n 0) ≡ ys → (Has xs k → ⊥) →
     slice_index ys k ≡ 0
-untold xs a n ys k is none =
+not_listed xs a n ys k is none =
     sym (ap (λ zs. slice_index zs k) is) ∙ (set_all-other xs a (replicate n 0) k none ∙ no_numbers n k)
 
 read_at : (xs : List ℕ) (a : ℕ → ℕ) (n : ℕ) (ys : List ℕ) (k : ℕ) → set_all xs a (replicate n 0) ≡ ys → k < n →
@@ -187,7 +187,7 @@ good_follows b series before m valid a g index month opens = record {
     opening_len = listed_len quantity.Opening
 
     unlisted : (q : Quantity) (k : ℕ) → (Has (entries_with_line b q) k → ⊥) → slice_index (amounts_of q m) k ≡ 0
-    unlisted q k h = untold (entries_with_line b q) _ (count_in (space_of q) b) (amounts_of q m) k (a.listed q) h
+    unlisted q k h = not_listed (entries_with_line b q) _ (count_in (space_of q) b) (amounts_of q m) k (a.listed q) h
 
     right : (r : ℕ) → r < length b.rights → IsServed b m r
     right r l = served b m r (taking_node b r) (instream_link b r) refl refl (takes_or_stays b r valid l)

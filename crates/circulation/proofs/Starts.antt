@@ -44,12 +44,12 @@ month-words circ c kept old new supply upper start w count s is =
     )
 
 -- are known from the words
-told_frame : (circ : Circulation) (c : Contents) (kept s l u f x : List ℕ) → AreFixedOf circ c kept →
+frame_holds : (circ : Circulation) (c : Contents) (kept s l u f x : List ℕ) → AreFixedOf circ c kept →
     let after = drop circ.arcs kept in let last = drop (2 * circ.arcs) after in
     contents_of c.nodes c.from c.to s l u f x c.rows.first c.rows.step c.rows.end
     ≡ contents_of circ.nodes (map tail_of (take circ.arcs kept)) (map head_of (take circ.arcs kept)) s l u f x
     (drop (2 * circ.arcs) last) (take (2 * circ.arcs) after) (take (2 * circ.arcs) last)
-told_frame circ c kept s l u f x w =
+frame_holds circ c kept s l u f x w =
     let n = circ.arcs in
     let pairs : take n kept ≡ w.pairs = ap (take n) w.fixed ∙ take_at w.pairs _ n w.arcs in
     let after : drop n kept ≡ c.rows.step ++ (c.rows.end ++ c.rows.first) = ap (drop n) w.fixed
@@ -74,7 +74,7 @@ told_frame circ c kept s l u f x w =
 pub frame_same : (circ : Circulation) (c d : Contents) (kept s l u f x : List ℕ) → AreFixedOf circ c kept →
     AreFixedOf circ d kept → contents_of c.nodes c.from c.to s l u f x c.rows.first c.rows.step c.rows.end
     ≡ contents_of d.nodes d.from d.to s l u f x d.rows.first d.rows.step d.rows.end
-frame_same circ c d kept s l u f x w v = told_frame circ c kept s l u f x w ∙ sym (told_frame circ d kept s l u f x v)
+frame_same circ c d kept s l u f x w v = frame_holds circ c kept s l u f x w ∙ sym (frame_holds circ d kept s l u f x v)
 
 -- a month starts with the same contents, whichever contents its words were of
 pub month_same : (circ : Circulation) (c d m : Contents) (kept supply upper start scratch : List ℕ) →

@@ -319,13 +319,13 @@ complete_series b rows amounts series is parts = (
         index_in (rights_in_series b) right < length (rights_in_series b)
     want_within right l w = (index_holds (λ r. is_in_series b r) 0 (length b.rights) right right l (omega arith) w).0
 
-pub missing_told : (b : Basin) (rows : List (List (List ℕ))) (amounts : List (Option ℕ)) (k : ℕ) (e : SeriesRefused) →
+pub missing_found : (b : Basin) (rows : List (List (List ℕ))) (amounts : List (Option ℕ)) (k : ℕ) (e : SeriesRefused) →
     amounts ≡ given_by b rows → k < length amounts →
     ((j : ℕ) → j < k → is_some (get_or amounts j None) ≡ true) → is_some (get_or amounts k None) ≡ false →
     e ≡ missing_of b (run_month b (k / width b)) (get_or (column_numbers b) (k % width b) 0) →
     IsRefusalOf (missing b (entries_of b rows)) e
-missing_told b rows amounts k e is l before here told =
-    by_kind e (told ∙ refl) (first_missing b (entries_of b rows) amounts k is l before here)
+missing_found b rows amounts k e is l before here found =
+    by_kind e (found ∙ refl) (first_missing b (entries_of b rows) amounts k is l before here)
   where
     by_kind : (e : SeriesRefused) →
         e ≡ missing_of b (run_month b (k / width b)) (get_or (column_numbers b) (k % width b) 0) →

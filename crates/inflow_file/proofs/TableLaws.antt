@@ -72,15 +72,15 @@ pub table_taken : (b : Basin) (header : List (List ℕ)) (rows table : List (Lis
     (new : List (Option ℕ)) (result : Result (Unit {0}) SeriesRefused) →
     table ≡ header ∷ rows → kinds ≡ has_kinds b header → (is_header header || kinds) ≡ true →
     TakesAll b (map (with_kind kinds) rows) new result → TakesTable b table new result
-table_taken b header rows table kinds new (Ok done) is tells good took = record {
-  fault = rw (is, ← tells, good, took.0) refl;
-  given = rw (is, ← tells) took.1;
+table_taken b header rows table kinds new (Ok done) is says good took = record {
+  fault = rw (is, ← says, good, took.0) refl;
+  given = rw (is, ← says) took.1;
 }
-table_taken b header rows table kinds new (Err e) is tells good took = by_kind e took
+table_taken b header rows table kinds new (Err e) is says good took = by_kind e took
   where
     first : (e : SeriesRefused) → first_fault b [] 2 (map (with_kind kinds) rows) ≡ Some e →
         table_fault b table ≡ Some e
-    first e h = rw (is, ← tells, good, h) refl
+    first e h = rw (is, ← says, good, h) refl
 
     by_kind : (e : SeriesRefused) → IsRefusalOf (first_fault b [] 2 (map (with_kind kinds) rows)) e →
         IsRefusalOf (table_fault b table) e
@@ -93,4 +93,4 @@ table_taken b header rows table kinds new (Err e) is tells good took = by_kind e
 pub no_header : (b : Basin) (header : List (List ℕ)) (rows table : List (List (List ℕ))) (kinds : Bool) →
     table ≡ header ∷ rows → kinds ≡ has_kinds b header → (is_header header || kinds) ≡ false →
     table_fault b table ≡ Some (refused.Record fault.Header 1)
-no_header b header rows table kinds is tells bad = rw (is, ← tells, bad) refl
+no_header b header rows table kinds is says bad = rw (is, ← says, bad) refl

@@ -113,10 +113,10 @@ used_by_none b (m ∷ ms) used none count zeros =
     let never : None ≡ Some there.0 = none ∙ there.1 in absurd (cc)
 
 -- what the record of the last of some months says
-pub last_tells : {X : Type 0} (f : X → MonthRecord) (b : Basin) (xs : List X) (x : X) (m : MonthRecord) →
+pub last_holds : {X : Type 0} (f : X → MonthRecord) (b : Basin) (xs : List X) (x : X) (m : MonthRecord) →
     StateUse b (map f xs) → m ≡ f x → Some x ≡ slice_get xs (length xs - 1) →
     StatesUse b (take (length (map f xs) - 1) (map f xs)) m
-last_tells f b xs x m tell same at = tell (length (map f xs) - 1) m (last_at f xs x m same at)
+last_holds f b xs x m tell same at = tell (length (map f xs) - 1) m (last_at f xs x m same at)
 
 pub used_by_zeros : {X : Type 0} (f : X → MonthRecord) (b : Basin) (xs : List X) (used : List ℕ) →
     None ≡ slice_get xs (length xs - 1) → used ≡ replicate (length b.rights) 0 →

@@ -77,9 +77,9 @@ pub nothing_yet : (p : ℕ → Bool) (f : ℕ → ℕ) (x : ℕ) → x ≡ x + t
 nothing_yet p f x = omega (arith, total_where_start p f)
 
 -- whether a right is a zone of a reservoir, by its entry's kind
-pub zone_told : (b : Basin) (r v : ℕ) (right : Right) → slice_get b.rights r ≡ Some right →
+pub zone_by_kind : (b : Basin) (r v : ℕ) (right : Right) → slice_get b.rights r ≡ Some right →
     is_zone_of b r v ≡ is_zone_of_kind right.kind v
-zone_told b r v right e = ap (λ o. unwrap_or (option_map (λ x. is_zone_of_kind x.kind v) o) false) e
+zone_by_kind b r v right e = ap (λ o. unwrap_or (option_map (λ x. is_zone_of_kind x.kind v) o) false) e
 
 pub index_valid : (b : Basin) (r : ℕ) (right : Right) → IsValidBasin b → slice_get b.rights r ≡ Some right →
     HasValidSite b right.kind
@@ -101,7 +101,7 @@ pub zone_more : (b : Basin) (take closing : List ℕ) (r v at level sum : ℕ) (
     sum + when (at == v) (slice_index take r) ≡ total_where (r + 1) (λ k. is_zone_of b k v) (λ k. slice_index take k)
 zone_more b take closing r v at level sum right e kind h =
     let more = total_more r (λ k. if is_zone_of b k v then slice_index take k else 0) in
-    let here : is_zone_of b r v ≡ (at == v) = zone_told b r v right e ∙ ap (λ k. is_zone_of_kind k v) kind in
+    let here : is_zone_of b r v ≡ (at == v) = zone_by_kind b r v right e ∙ ap (λ k. is_zone_of_kind k v) kind in
     let same : (if is_zone_of b r v then slice_index take r else 0) ≡ when (at == v) (slice_index take r) =
     ap (λ t. if t then slice_index take r else 0) here in
     omega (arith, more, same, h)
@@ -113,7 +113,7 @@ pub no_zone_more : (b : Basin) (take : List ℕ) (r v sum : ℕ) (right : Right)
     sum ≡ total_where (r + 1) (λ k. is_zone_of b k v) (λ k. slice_index take k)
 no_zone_more b take r v sum right e other h =
     let more = total_more r (λ k. if is_zone_of b k v then slice_index take k else 0) in
-    let none : is_zone_of b r v ≡ false = zone_told b r v right e ∙ of_kind right.kind other in
+    let none : is_zone_of b r v ≡ false = zone_by_kind b r v right e ∙ of_kind right.kind other in
     let same : (if is_zone_of b r v then slice_index take r else 0) ≡ 0 =
     ap (λ t. if t then slice_index take r else 0) none in
     omega (arith, more, same, h)

@@ -99,24 +99,24 @@ decided_to b m position link None below none = record {
 decided_to b m position link (Some r) below now = now
 
 -- all undecided links were gone over for a right
-pub all_told : (b : Basin) (m : MonthRecord) (position : ℕ) (helped : List (Option ℕ)) (undecided : List ℕ)
+pub all_gone_over : (b : Basin) (m : MonthRecord) (position : ℕ) (helped : List (Option ℕ)) (undecided : List ℕ)
     (count done : ℕ) → IsSeniorityOrder b.rights (seniors_first b) → position < length b.rights → count ≤ done →
     AreUndecided b m helped undecided count → AreBeingHelped b m position helped undecided done →
     AreHelpedTo b m (position + 1) helped
-all_told b m position helped undecided count done o l all lists now = record {
+all_gone_over b m position helped undecided count done o l all lists now = record {
   count = now.each.count;
   each = λ e k. elim (lists.each e k) [
     | inl decided ↦ decided_to b m (position + 1) e (slice_index_or helped e None)
         (λ i below. o.below i (omega arith)) decided
     | inr at ↦ subst (λ (f : ℕ). IsHelpedTo b m (position + 1) f (slice_index_or helped f None)) at.2
-        (now.told at.0 (let below = at.1 in omega arith))
+        (now.gone_over at.0 (let below = at.1 in omega arith))
   ];
 }
 
 -- before the first of them
-pub none_told : (b : Basin) (m : MonthRecord) (position : ℕ) (helped : List (Option ℕ)) (undecided : List ℕ) →
+pub none_gone_over : (b : Basin) (m : MonthRecord) (position : ℕ) (helped : List (Option ℕ)) (undecided : List ℕ) →
     AreHelpedTo b m position helped → AreBeingHelped b m position helped undecided 0
-none_told b m position helped undecided now = record { each = now; told = λ j l. absurd (omega arith) }
+none_gone_over b m position helped undecided now = record { each = now; gone_over = λ j l. absurd (omega arith) }
 
 -- one of them more
 module _ (b : Basin) (m : MonthRecord) (position : ℕ) (helped : List (Option ℕ)) (undecided : List ℕ) (count j : ℕ)
@@ -146,9 +146,9 @@ module _ (b : Basin) (m : MonthRecord) (position : ℕ) (helped : List (Option �
     ];
   }
 
-  pub one_told : AreBeingHelped b m position helped undecided j → IsHelpedTo b m (position + 1) link answer →
+  pub one_gone_over : AreBeingHelped b m position helped undecided j → IsHelpedTo b m (position + 1) link answer →
       AreBeingHelped b m position (slice_set helped link answer) undecided (j + 1)
-  one_told now here = record {
+  one_gone_over now here = record {
     each = record {
       count = length-set helped link answer ∙ now.each.count;
       each = λ e k. elim (cases_eq e link) [
@@ -158,12 +158,12 @@ module _ (b : Basin) (m : MonthRecord) (position : ℕ) (helped : List (Option �
             (now.each.each e k)
       ];
     };
-    told = λ i k. elim (cases_eq (slice_index undecided i) link) [
+    gone_over = λ i k. elim (cases_eq (slice_index undecided i) link) [
       | inl same ↦ subst (λ (o : Option ℕ). IsHelpedTo b m (position + 1) (slice_index undecided i) o)
           (sym (at (slice_index undecided i) same))
           (subst (λ f. IsHelpedTo b m (position + 1) f answer) (sym same) here)
       | inr other ↦ subst (λ (o : Option ℕ). IsHelpedTo b m (position + 1) (slice_index undecided i) o)
-          (sym (elsewhere (slice_index undecided i) other)) (now.told i (before i k other))
+          (sym (elsewhere (slice_index undecided i) other)) (now.gone_over i (before i k other))
     ];
   }
     where

@@ -12,4 +12,4 @@ pub mod Down
 pub mod Next
 pub mod InHistories
 pub mod Helping
-pub mod Told
+pub mod Decided

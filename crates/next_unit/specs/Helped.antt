@@ -65,7 +65,7 @@ abbrev pub HelpNot : Basin → MonthRecord → List ℕ → ℕ → ℕ → Type
 HelpNot b m links count right = (j : ℕ) → j < count → CarryHelpsRight b m (slice_index links j) right → ⊥
 
 -- the first links are decided before any search for a core, or are listed
-pub record AreToldOf (b : Basin) (m : MonthRecord) (helped : List (Option ℕ)) (undecided : List ℕ) (count links : ℕ) :
+pub record AreDecided (b : Basin) (m : MonthRecord) (helped : List (Option ℕ)) (undecided : List ℕ) (count links : ℕ) :
     Type 0
   where
     pub for_helped : length helped ≡ length b.links
@@ -80,7 +80,7 @@ pub record AreToldOf (b : Basin) (m : MonthRecord) (helped : List (Option ℕ)) 
 pub record AreBeingHelped (b : Basin) (m : MonthRecord) (position : ℕ) (helped : List (Option ℕ)) (undecided : List ℕ)
     (done : ℕ) : Type 0 where
   pub each : AreHelpedTo b m position helped
-  pub told : (j : ℕ) → j < done →
+  pub gone_over : (j : ℕ) → j < done →
       IsHelpedTo b m (position + 1) (slice_index undecided j) (slice_index_or helped (slice_index undecided j) None)
 
 -- for each short right there is room for one more unit down the rivers

@@ -26,7 +26,7 @@ use water_model::types::{Basin, MonthRecord, RightKind};
 
 /// The right to which one more unit at a link's head would go, if its reach does not hold the link's tail. Else carry
 /// on the link would help no diversion or zone.
-fn told_by_right(basin: &Basin, month: &MonthRecord, right: u32, link: u32) -> Option<u32>
+fn decided_by_right(basin: &Basin, month: &MonthRecord, right: u32, link: u32) -> Option<u32>
     requires plan { HasPlan basin.now month.now }
     requires reaches { HasReaches basin.now month.now }
     requires room { HasRoomForAll basin.now month.now }
@@ -55,7 +55,7 @@ fn at_head(basin: &Basin, next: &[Option<u32>], link: u32) -> Option<u32>
 
 /// The most senior right that one more unit of carry on a link would help, as far as the right to which one more unit
 /// at its head would go says it. Where it says none, only an instream right could be helped.
-fn told_by_next(basin: &Basin, month: &MonthRecord, next: &[Option<u32>], link: u32) -> Option<u32>
+fn decided_by_next(basin: &Basin, month: &MonthRecord, next: &[Option<u32>], link: u32) -> Option<u32>
     requires plan { HasPlan basin.now month.now }
     requires reaches { HasReaches basin.now month.now }
     requires room { HasRoomForAll basin.now month.now }
@@ -64,7 +64,7 @@ fn told_by_next(basin: &Basin, month: &MonthRecord, next: &[Option<u32>], link: 
     ensures { IsHelpedTo basin.now month.now 0 link result }
 {
     match at_head(basin, next, link) {
-        Some(right) => told_by_right(basin, month, right, link),
+        Some(right) => decided_by_right(basin, month, right, link),
         None => None,
     }
 }
@@ -75,7 +75,7 @@ fn is_undecided(
     basin: &Basin,
     month: &MonthRecord,
     next: &[Option<u32>],
-    told: Option<u32>,
+    answer: Option<u32>,
     link: u32,
 ) -> bool
     requires plan { HasPlan basin.now month.now }
@@ -83,10 +83,10 @@ fn is_undecided(
     requires room { HasRoomForAll basin.now month.now }
     requires next { AreNext basin.now month.now next.now }
     requires link { link < length basin.now.links }
-    requires told { IsHelpedTo basin.now month.now 0 link told }
-    ensures { OnFalse result (IsHelped basin.now month.now link told) }
+    requires answer { IsHelpedTo basin.now month.now 0 link answer }
+    ensures { OnFalse result (IsHelped basin.now month.now link answer) }
 {
-    if told.is_some() {
+    if answer.is_some() {
         return false;
     }
     match at_head(basin, next, link) {
@@ -116,9 +116,9 @@ fn begin(
 {
     let mut count = 0;
     for link in 0..basin.links.len() as u32 {
-        let told = told_by_next(basin, month, next, link);
-        helped[link as usize] = told;
-        if is_undecided(basin, month, next, told, link) {
+        let answer = decided_by_next(basin, month, next, link);
+        helped[link as usize] = answer;
+        if is_undecided(basin, month, next, answer, link) {
             undecided[count] = link;
             count += 1;
         }

@@ -24,20 +24,20 @@ pub judged_more : (b : Basin) (m : MonthRecord) (position right : ℕ) (other : 
     OnTrue other (IsShort m (right_at b position) × (HasReach b m (right_at b position) → ⊥)) →
     OnFalse other (IsShort m (right_at b position) → HasReach b m (right_at b position)) →
     IsFirstFrom b m (position + 1) answer → IsFirstFrom b m position (if other then Some right else answer)
-judged_more b m position right true answer l at told fine now = (
+judged_more b m position right true answer l at judged fine now = (
   position,
   omega arith,
   l,
   at,
-  subst (λ (r : ℕ). IsShort m r) at told.0,
-  subst (λ (r : ℕ). HasReach b m r → ⊥) at told.1,
+  subst (λ (r : ℕ). IsShort m r) at judged.0,
+  subst (λ (r : ℕ). HasReach b m r → ⊥) at judged.1,
   λ i a c. absurd (omega arith),
 )
-judged_more b m position right false None l at told fine now = λ i a c. elim (cases_eq i position) [
+judged_more b m position right false None l at judged fine now = λ i a c. elim (cases_eq i position) [
   | inl same ↦ subst (λ k. IsShort m (right_at b k) → HasReach b m (right_at b k)) (sym same) fine
   | inr other ↦ now i (omega arith) c
 ]
-judged_more b m position right false (Some r) l at told fine now = (
+judged_more b m position right false (Some r) l at judged fine now = (
   now.0,
   (let a = now.1 in omega arith),
   now.2,

@@ -130,11 +130,11 @@ figures_more records m right f short want' delivered' greatest lacking worst is 
           sum_by_push (λ k. cond (nat_lt (slice_index k.delivered right) (slice_index k.want right)) 1 0) records m,
         )
 
-    told : (t : Bool) (found : Option MonthRecord) →
+    by_test : (t : Bool) (found : Option MonthRecord) →
         option_map (λ k. k.month)
         (if t then Some m else found) ≡ (if t then Some m.month else option_map (λ k. k.month) found)
-    told true found = refl
-    told false found = refl
+    by_test true found = refl
+    by_test false found = refl
 
     latest : (if nat_lt f.greatest lacking then Some m.month else f.worst) ≡ worst_month (records ++ m ∷ []) right
     latest =
@@ -142,5 +142,5 @@ figures_more records m right f short want' delivered' greatest lacking worst is 
         ∙ (ap (λ n. if nat_lt (greatest_of (λ k. shortage k right) records) n then Some m.month else f.worst) lacks
         ∙ (ap (λ v. if nat_lt (greatest_of (λ k. shortage k right) records) (shortage m right) then Some m.month
         else v.worst) is
-        ∙ (sym (told (nat_lt (greatest_of (λ k. shortage k right) records) (shortage m right)) _)
+        ∙ (sym (by_test (nat_lt (greatest_of (λ k. shortage k right) records) (shortage m right)) _)
         ∙ sym (ap (option_map (λ k. k.month)) (worst_more (λ k. shortage k right) records m)))))

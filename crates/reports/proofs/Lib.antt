@@ -5,6 +5,6 @@ pub mod Loops
 pub mod Room
 pub mod Rights
 pub mod Sums
-pub mod Told
+pub mod Texts
 pub mod Worst
 pub mod Written

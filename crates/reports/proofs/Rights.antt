@@ -23,10 +23,10 @@ entries_count f ys xs is = ap length is ∙ (mapped (indices_of ys) ∙ length-n
     mapped [] = refl
     mapped (n ∷ ns) = omega (arith, mapped ns)
 
-pub entry_told : {X Y : Type 0} (f : ℕ → X) (ys : List Y) (xs : List X) (k : ℕ) (x : X) → xs ≡ map f (indices_of ys) →
+pub entry_at : {X Y : Type 0} (f : ℕ → X) (ys : List Y) (xs : List X) (k : ℕ) (x : X) → xs ≡ map f (indices_of ys) →
     slice_get xs k ≡ Some x →
     (k < length ys) × (x ≡ f k)
-entry_told f ys xs k x is at =
+entry_at f ys xs k x is at =
     let l : k < length ys = omega (arith, slice_get_within xs k x at, entries_count f ys xs is) in
     let same : Some x ≡ Some (f k) = sym at ∙ entry_is f ys xs k is l in
     (l, cc)

@@ -175,18 +175,18 @@ amounts_sized b series before m t quantity.Outflow = t.plan.out_len
 amounts_sized b series before m t quantity.Closing = t.fits.closing
 
 -- where a month has no line, the amount is 0
-none_untold : (b : Basin) (series : Inflows) (before : List MonthRecord) (m : MonthRecord) →
+none_unlisted : (b : Basin) (series : Inflows) (before : List MonthRecord) (m : MonthRecord) →
     IsNextMonth b series before m → (q : Quantity) (k : ℕ) → k < count_in (space_of q) b → has_line b q k ≡ false →
     slice_index (amounts_of q m) k ≡ 0
-none_untold b series before m t quantity.Opening k l h = cc
-none_untold b series before m t quantity.Evaporated k l h = cc
-none_untold b series before m t quantity.Returned k l h =
+none_unlisted b series before m t quantity.Opening k l h = cc
+none_unlisted b series before m t quantity.Evaporated k l h = cc
+none_unlisted b series before m t quantity.Returned k l h =
     t.returned k l ∙ nothing_returns b (map (λ j. j.delivered) before) k m.index h
-none_untold b series before m t quantity.Used k l h =
+none_unlisted b series before m t quantity.Used k l h =
     t.used k l ∙ nothing_used b (map (λ j. j.delivered) before) k m.index h
-none_untold b series before m t quantity.Flow k l h = cc
-none_untold b series before m t quantity.Outflow k l h = t.plan.outlets k l h
-none_untold b series before m t quantity.Closing k l h = cc
+none_unlisted b series before m t quantity.Flow k l h = cc
+none_unlisted b series before m t quantity.Outflow k l h = t.plan.outlets k l h
+none_unlisted b series before m t quantity.Closing k l h = cc
 
 all_read : (b : Basin) (series : Inflows) (before : List MonthRecord) (m : MonthRecord) →
     IsTextMonth b series before m → IsAllRead b series m
@@ -194,7 +194,7 @@ all_read b series before m t = record {
   listed = λ q. read_list (entries_with_line b q) (amounts_of q m) (count_in (space_of q) b)
       (amounts_sized b series before m t.month q)
       (λ k l. by_filter (λ entry. has_line b q entry) (in_order (space_of q) b) (amounts_of q m) k
-      (in_order-has (space_of q) b k l) (none_untold b series before m t.month q k l));
+      (in_order-has (space_of q) b k l) (none_unlisted b series before m t.month q k l));
   delivered =
       read_list (seniors_first b) m.delivered (length b.rights) t.month.fits.delivered
       (λ k l. inl (seniors_have b.rights k l));

@@ -68,11 +68,11 @@ pub fault-lacks : (rights : List Right) (i : ℕ) (r : Right) (at its : ℕ) (zo
     r ≡ get_or rights i r → r.kind ≡ Zone at its → AreSeniorZones rights zones → AreClear rights seen i →
     key ≡ priority r →
     lacks ≡ nat_lt 1 its && not (has_senior zones at (its - 1) key) → lacks ≡ true → has_zone_fault rights i ≡ true
-fault-lacks rights i r at its zones seen key lacks below is kind seniors so_far same_key told so =
+fault-lacks rights i r at its zones seen key lacks below is kind seniors so_far same_key known so =
     by_test (has_zone_fault rights i) (contains same_zone seen (at, its))
     (nat_lt 1 its && not (has_senior zones at (its - 1) (priority r)))
     (has_zone_fault-is rights i r at its zones seen below is kind seniors so_far)
-    (ap (λ q. nat_lt 1 its && not (has_senior zones at (its - 1) q)) (sym same_key) ∙ (sym told ∙ so))
+    (ap (λ q. nat_lt 1 its && not (has_senior zones at (its - 1) q)) (sym same_key) ∙ (sym known ∙ so))
   where
     by_test : (f c l : Bool) → f ≡ c || l → l ≡ true → f ≡ true
     by_test f true l e n = e
@@ -85,11 +85,11 @@ pub no_fault : (rights : List Right) (i : ℕ) (r : Right) (at its : ℕ) (zones
     key ≡ priority r →
     is_new ≡ not (contains same_zone seen (at, its)) → is_new ≡ true →
     lacks ≡ nat_lt 1 its && not (has_senior zones at (its - 1) key) → lacks ≡ false → has_zone_fault rights i ≡ false
-no_fault rights i r at its zones seen key is_new lacks below is kind seniors so_far same_key added fresh told neither =
+no_fault rights i r at its zones seen key is_new lacks below is kind seniors so_far same_key added fresh known neither =
     by_test (has_zone_fault rights i) (contains same_zone seen (at, its))
     (nat_lt 1 its && not (has_senior zones at (its - 1) (priority r)))
     (has_zone_fault-is rights i r at its zones seen below is kind seniors so_far) (sym added ∙ fresh)
-    (ap (λ q. nat_lt 1 its && not (has_senior zones at (its - 1) q)) (sym same_key) ∙ (sym told ∙ neither))
+    (ap (λ q. nat_lt 1 its && not (has_senior zones at (its - 1) q)) (sym same_key) ∙ (sym known ∙ neither))
   where
     by_test : (f c l : Bool) → f ≡ c || l → not c ≡ true → l ≡ false → f ≡ false
     by_test f true l e n o = cc

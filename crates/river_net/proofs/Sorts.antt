@@ -70,12 +70,12 @@ sorting_index g order waits position handled bound v within placing count waitin
     ]
 
     all_handled : (e : ℕ) → e < length g.links → head_in g.links e ≡ v → handled e ≡ true
-    all_handled e l at = tells (head_in g.links e) v (handled e) at
+    all_handled e l at = says (head_in g.links e) v (handled e) at
         (none_passes (length g.links) (λ e. head_in g.links e == v && not (handled e)) (sym (waiting v inside) ∙ none) e
         l)
       where
-        tells : (x v : ℕ) (h : Bool) → x ≡ v → (x == v && not h) ≡ false → h ≡ true
-        tells x v h same fails = grind (arith, nat_tests)
+        says : (x v : ℕ) (h : Bool) → x ≡ v → (x == v && not h) ≡ false → h ≡ true
+        says x v h same fails = grind (arith, nat_tests)
 
 -- at the start no link is handled
 pub sources_start : (g : GraphView) (order waits : List ℕ) → order ≡ [] → AreEntering g (length g.links) waits →

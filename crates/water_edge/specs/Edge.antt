@@ -20,9 +20,9 @@ pub record HasCause (before now : ℕ) (fault : Type 0) : Type 0 where
   pub rose : fault → Rose before now
 
 -- the bytes that are known under each name stay, and each name that was served still is
-pub record SameShelf (told_old told_new : List ℕ → Option (List ℕ)) (serves_old serves_new : List ℕ →
+pub record SameShelf (known_old known_new : List ℕ → Option (List ℕ)) (serves_old serves_new : List ℕ →
     Type 0) : Type 0 where
-  pub known : (name : List ℕ) → told_new name ≡ told_old name
+  pub known : (name : List ℕ) → known_new name ≡ known_old name
   pub served : (name : List ℕ) → serves_old name → serves_new name
 
 -- a call asked for this file, where that is known, and for no other

@@ -51,11 +51,11 @@ called_in_record : (b : Basin) (series : Inflows) (before : List MonthRecord) (m
     slice_index m.delivered r ≡ 0
 unfolding calls
 called_in_record b series before m follows r caller l k is_called =
-    by_set (cut_of m caller) (λ cut is. record_leaves_nothing b series before m follows caller k cut is) told.1
+    by_set (cut_of m caller) (λ cut is. record_leaves_nothing b series before m follows caller k cut is) found.1
   where
     -- the caller is senior, and its set holds the right's node
-    told : (is_senior b caller r ≡ true) × (option_map_or (λ cut. takes_within b cut r) (cut_of m caller) false ≡ true)
-    told = parts (nat_lt (slice_index m.delivered caller) (slice_index m.want caller)) (is_senior b caller r)
+    found : (is_senior b caller r ≡ true) × (option_map_or (λ cut. takes_within b cut r) (cut_of m caller) false ≡ true)
+    found = parts (nat_lt (slice_index m.delivered caller) (slice_index m.want caller)) (is_senior b caller r)
         (nat_lt 0 (slice_index m.want r)) (option_map_or (λ cut. takes_within b cut r) (cut_of m caller) false)
         is_called
       where
@@ -74,7 +74,7 @@ called_in_record b series before m follows r caller l k is_called =
     by_set : (o : Option (List Bool)) → ((cut : List Bool) → o ≡ Some cut → LeavesNothing b m.plan caller cut) →
         option_map_or (λ cut. takes_within b cut r) o false ≡ true → slice_index m.delivered r ≡ 0
     by_set None leaves h = cc
-    by_set (Some cut) leaves h = taken cut h ((leaves cut refl).juniors r l h told.0)
+    by_set (Some cut) leaves h = taken cut h ((leaves cut refl).juniors r l h found.0)
 
 pub called_rights_get_nothing : CalledRightsGetNothing
 called_rights_get_nothing b series records history i m at =

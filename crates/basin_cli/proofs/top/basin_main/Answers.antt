@@ -1,4 +1,4 @@
-use Rattle.basin_cli.proofs.Outcomes.{quiet, told_not, completes}
+use Rattle.basin_cli.proofs.Outcomes.{quiet, not_known, completes}
 use Rattle.basin_cli.proofs.top.basin_main.Goals as goal
 use Rattle.basin_cli.proofs.top.basin_main.Goals.{then-has_line_on_err, else-has_line_on_err}
 
@@ -8,12 +8,12 @@ returns-clause-ends g c = record {
   status_is = c.status.ensures;
   cause = c.decide-ending.ensures.cause;
   asked = c.decide-ending.ensures.asked;
-  tells = elim c.if-has_line_on_err.branch [
-    | then-has_line_on_err w ↦ rw w.err-is w.print_ending.ensures.tells
+  writes_line = elim c.if-has_line_on_err.branch [
+    | then-has_line_on_err w ↦ rw w.err-is w.print_ending.ensures.writes_line
     | else-has_line_on_err w ↦
         rw w.err-is
         (quiet c.decide-ending.result (g.E.Sink.output c.args.err.now) (g.E.Sink.faults c.args.err.now)
-        (λ known. told_not w.if-has_line_on_err.false (c.has_line_on_err.ensures.1 known)))
+        (λ known. not_known w.if-has_line_on_err.false (c.has_line_on_err.ensures.1 known)))
   ];
 }
 
@@ -35,5 +35,5 @@ pub returns-clause-err_flushed : goal.returns-clause-err_flushed
 returns-clause-err_flushed g c = λ known sound. elim c.if-has_line_on_err.branch [
   | then-has_line_on_err w ↦ rw w.err-is (w.print_ending.ensures.flushed (λ rose. sound (rw w.err-is rose)))
   | else-has_line_on_err w ↦ absurd
-      (told_not w.if-has_line_on_err.false (c.has_line_on_err.ensures.1 (rw (← c.status.ensures) known)))
+      (not_known w.if-has_line_on_err.false (c.has_line_on_err.ensures.1 (rw (← c.status.ensures) known)))
 ]

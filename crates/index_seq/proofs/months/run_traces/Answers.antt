@@ -37,18 +37,18 @@ loop-trace-init g c = record {
 
 pub loop-trace-preserved : goal.loop-trace-preserved
 loop-trace-preserved g c =
-    let told = c.in_ok-engine.ensures in
+    let traced = c.in_ok-engine.ensures in
     record {
-      engine = told.engine;
-      begun = told.begun;
+      engine = traced.engine;
+      begun = traced.begun;
       sums = subst (λ (sums : List (List ℕ)). HaveSums c.args.basin.now c.args.series.now (c.loop-trace.trace + 1) sums)
           (sym (whole_rows c.loop-trace.sums c.run_trace.new.sums
-          (told.sums.sums.count ∙ sym c.loop-trace.invariant.sums.sums.count)))
-          told.sums;
+          (traced.sums.sums.count ∙ sym c.loop-trace.invariant.sums.sums.count)))
+          traced.sums;
       year = subst (λ (year : List ℕ). IsEmptyYear c.args.basin.now year)
           (sym (whole_rows c.loop-trace.year c.run_trace.new.year
-          (told.year.count ∙ sym c.loop-trace.invariant.year.count)))
-          told.year;
+          (traced.year.count ∙ sym c.loop-trace.invariant.year.count)))
+          traced.year;
       work = one_part c.args.basin.now.months c.loop-trace.trace c.args.basin.now c.args.work.now c.loop-trace.work
-          c.run_trace.new.work c.loop-trace.invariant.work told.work;
+          c.run_trace.new.work c.loop-trace.invariant.work traced.work;
     }

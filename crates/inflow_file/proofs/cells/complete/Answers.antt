@@ -3,12 +3,12 @@ use Rattle.water_model.specs.Valid.{rights_in_series}
 use Rattle.inflow_file.specs.Cells.{IsPart}
 use Rattle.inflow_file.proofs.ColumnLaws.{count_of_columns}
 use Rattle.inflow_file.proofs.DueLaws.{width}
-use Rattle.inflow_file.proofs.GapLaws.{complete_series, missing_told}
+use Rattle.inflow_file.proofs.GapLaws.{complete_series, missing_found}
 use Rattle.inflow_file.proofs.cells.complete.Goals as goal
 
 pub returns-then-gap-amounts : goal.returns-then-gap-amounts
 returns-then-gap-amounts c = λ rows is.
-    missing_told c.args.columns.now.basin.now rows c.args.amounts.now c.first_gap-gap.result c.missing_at.result is
+    missing_found c.args.columns.now.basin.now rows c.args.amounts.now c.first_gap-gap.result c.missing_at.result is
     c.if-gap-amounts.true
     c.first_gap-gap.ensures.before (c.first_gap-gap.ensures.here c.if-gap-amounts.true) c.missing_at.ensures
 

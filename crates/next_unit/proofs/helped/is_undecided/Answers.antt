@@ -6,18 +6,18 @@ use Rattle.water_model.proofs.Balance.{ends}
 use Rattle.plan_residual.specs.Next.{IsNextOrFree}
 use Rattle.plan_residual.specs.Residual.{can_rise}
 use Rattle.next_unit.specs.Helped.{IsHelped}
-use Rattle.next_unit.proofs.Told.{free_link, not_full, told_some, told_none}
+use Rattle.next_unit.proofs.Decided.{free_link, not_full, decided_some, decided_none}
 use Rattle.next_unit.proofs.helped.is_undecided.Goals as goal
 
 pub returns-then-is_some : goal.returns-then-is_some
 returns-then-is_some c =
-    told_some c.args.basin.now c.args.month.now c.args.link c.args.told (sym c.is_some.ensures ∙ c.if-is_some.true)
-    c.requires.told
+    decided_some c.args.basin.now c.args.month.now c.args.link c.args.answer (sym c.is_some.ensures ∙ c.if-is_some.true)
+    c.requires.answer
 
 pub returns-in-Some : goal.returns-in-Some
 returns-in-Some c =
-    OnFalse_from (not c.can_rise.result) (IsHelped c.args.basin.now c.args.month.now c.args.link c.args.told)
-    (λ rises. told_none c.args.basin.now c.args.month.now c.args.link c.args.told
+    OnFalse_from (not c.can_rise.result) (IsHelped c.args.basin.now c.args.month.now c.args.link c.args.answer)
+    (λ rises. decided_none c.args.basin.now c.args.month.now c.args.link c.args.answer
     (sym c.is_some.ensures ∙ c.if-is_some.false)
     (not_full c.args.basin.now c.args.month.now c.args.link c.requires.plan c.requires.reaches c.requires.room
     c.requires.link (sym c.can_rise.ensures ∙ not-false c.can_rise.result rises)))
@@ -29,7 +29,7 @@ returns-in-Some c =
 pub returns-in-None : goal.returns-in-None
 returns-in-None c =
     let b = c.args.basin.now in
-    told_none b c.args.month.now c.args.link c.args.told (sym c.is_some.ensures ∙ c.if-is_some.false)
+    decided_none b c.args.month.now c.args.link c.args.answer (sym c.is_some.ensures ∙ c.if-is_some.false)
     (free_link b c.args.month.now c.args.link c.requires.plan c.requires.reaches c.requires.room c.requires.link
     (subst (λ (o : Option ℕ). IsNextOrFree b c.args.month.now (head_of b c.args.link) o)
     (sym c.at_head.ensures ∙ c.in-None.is)

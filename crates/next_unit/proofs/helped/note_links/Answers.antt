@@ -1,12 +1,12 @@
 use Rattle.std.proofs.Common.{arith}
 use Rattle.rights_roll.proofs.Seniors.{by_seniority_order}
-use Rattle.next_unit.proofs.Helping.{all_told, none_told, one_told, still_undecided}
+use Rattle.next_unit.proofs.Helping.{all_gone_over, none_gone_over, one_gone_over, still_undecided}
 use Rattle.next_unit.proofs.helped.note_links.Goals as goal
 
 pub loop-j-init : goal.loop-j-init
 loop-j-init c = record {
   undecided = c.requires.undecided;
-  helped = none_told c.args.basin.now c.args.month.now c.args.position c.args.helped.now c.args.undecided.now
+  helped = none_gone_over c.args.basin.now c.args.month.now c.args.position c.args.helped.now c.args.undecided.now
       c.requires.helped;
 }
 
@@ -15,13 +15,13 @@ loop-j-preserved c = record {
   undecided = still_undecided c.args.basin.now c.args.month.now c.args.position c.loop-j.helped c.args.undecided.now
       c.args.count c.loop-j.j c.helped_with.result (omega arith) c.loop-j.invariant.undecided
       c.loop-j.invariant.helped.each.count;
-  helped = one_told c.args.basin.now c.args.month.now c.args.position c.loop-j.helped c.args.undecided.now c.args.count
+  helped = one_gone_over c.args.basin.now c.args.month.now c.args.position c.loop-j.helped c.args.undecided.now c.args.count
       c.loop-j.j c.helped_with.result (omega arith) c.loop-j.invariant.undecided
       c.loop-j.invariant.helped.each.count c.loop-j.invariant.helped c.helped_with.ensures;
 }
 
 pub returns-clause-helped : goal.returns-clause-helped
 returns-clause-helped c =
-    all_told c.args.basin.now c.args.month.now c.args.position c.loop-j.helped c.args.undecided.now c.args.count
+    all_gone_over c.args.basin.now c.args.month.now c.args.position c.loop-j.helped c.args.undecided.now c.args.count
     c.loop-j.j (by_seniority_order c.args.basin.now.rights c.requires.plan.valid.roll.strict) c.requires.position
     (omega arith) c.loop-j.invariant.undecided c.loop-j.invariant.helped

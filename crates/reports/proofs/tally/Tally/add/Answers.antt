@@ -1,7 +1,7 @@
 use Rattle.std.proofs.Common.{◌∙◌, sym, arith, length-append, [], ◌∷◌, ◌++◌}
 use Rattle.water_model.proofs.Histories.{last_follows}
 use Rattle.reports.specs.Tallies.{figures_of}
-use Rattle.reports.proofs.Rights.{entry_is, entry_told, entries_count, list_is}
+use Rattle.reports.proofs.Rights.{entry_is, entry_at, entries_count, list_is}
 use Rattle.reports.proofs.Room.{right_room, month_room}
 use Rattle.reports.proofs.tally.Tally.add.Goals as goal
 
@@ -22,11 +22,11 @@ add_rights-requires-clause-delivered c =
 pub add_rights-requires-clause-room : goal.add_rights-requires-clause-room
 add_rights-requires-clause-room c = λ right figures at.
     let next = c.requires.next in
-    let told =
-    entry_told (figures_of next.records) c.args.basin.now.rights c.args.self.now.rights right figures
+    let at_row =
+    entry_at (figures_of next.records) c.args.basin.now.rights c.args.self.now.rights right figures
     next.is.rights at in
     right_room c.args.basin.now c.args.series.now next.records c.args.month.now right figures c.requires.basin
-    c.requires.series next.partial told.0 told.1
+    c.requires.series next.partial at_row.0 at_row.1
 
 pub with_month-self-requires-clause-index : goal.with_month-self-requires-clause-index
 with_month-self-requires-clause-index c =

@@ -22,7 +22,7 @@ use Rattle.plan_residual.proofs.Closed.{in_others, not_in_set, tight_cuts_hold_n
 use Rattle.plan_residual.proofs.Closed.{closed_sets_leave_tight_cuts}
 use Rattle.plan_residual.proofs.Sweeping.{closed_for_junior}
 use Rattle.plan_residual.proofs.Terms.{length-others}
-use Rattle.next_unit.specs.Helped.{AreHelpedTo, AreToldOf, AreUndecided, HasRoomForAll, HelpsNoneTo, IsFirstHelped}
+use Rattle.next_unit.specs.Helped.{AreHelpedTo, AreDecided, AreUndecided, HasRoomForAll, HelpsNoneTo, IsFirstHelped}
 use Rattle.next_unit.specs.Helped.{IsHelped, IsHelpedTo}
 use Rattle.next_unit.specs.Laws.{CarryHelpsRight}
 use Rattle.next_unit.proofs.Exact.{rights_have_cores, carry_helps_exactly_into_core}
@@ -215,21 +215,21 @@ module _ (b : Basin) (m : MonthRecord) (link : ℕ) (given : HasPlan b m) (reach
           ]
 
 -- a right that is known decides it
-pub told_some : (b : Basin) (m : MonthRecord) (link : ℕ) (told : Option ℕ) → is_some told ≡ true →
-    IsHelpedTo b m 0 link told → IsHelped b m link told
-told_some b m link None h now = cc
-told_some b m link (Some r) h now = now
+pub decided_some : (b : Basin) (m : MonthRecord) (link : ℕ) (answer : Option ℕ) → is_some answer ≡ true →
+    IsHelpedTo b m 0 link answer → IsHelped b m link answer
+decided_some b m link None h now = cc
+decided_some b m link (Some r) h now = now
 
 -- and that there is none
-pub told_none : (b : Basin) (m : MonthRecord) (link : ℕ) (told : Option ℕ) → is_some told ≡ false →
-    IsHelped b m link None → IsHelped b m link told
-told_none b m link None h none = none
-told_none b m link (Some r) h none = cc
+pub decided_none : (b : Basin) (m : MonthRecord) (link : ℕ) (answer : Option ℕ) → is_some answer ≡ false →
+    IsHelped b m link None → IsHelped b m link answer
+decided_none b m link None h none = none
+decided_none b m link (Some r) h none = cc
 
 -- before the first link
-pub none_told_of : (b : Basin) (m : MonthRecord) (helped : List (Option ℕ)) (undecided : List ℕ) →
-    length helped ≡ length b.links → length undecided ≡ length b.links → AreToldOf b m helped undecided 0 0
-none_told_of b m helped undecided one other = record {
+pub none_decided_yet : (b : Basin) (m : MonthRecord) (helped : List (Option ℕ)) (undecided : List ℕ) →
+    length helped ≡ length b.links → length undecided ≡ length b.links → AreDecided b m helped undecided 0 0
+none_decided_yet b m helped undecided one other = record {
   for_helped = one;
   for_list = other;
   bounded = omega arith;
@@ -240,7 +240,7 @@ none_told_of b m helped undecided one other = record {
 
 -- one more link
 module _ (b : Basin) (m : MonthRecord) (helped : List (Option ℕ)) (undecided : List ℕ) (count link : ℕ)
-    (answer : Option ℕ) (l : link < length b.links) (now : AreToldOf b m helped undecided count link) where
+    (answer : Option ℕ) (l : link < length b.links) (now : AreDecided b m helped undecided count link) where
   at : (e : ℕ) → e ≡ link → slice_index_or (slice_set helped link answer) e None ≡ answer
   at e same =
       ap (λ i. slice_index_or (slice_set helped link answer) i None) same
@@ -250,9 +250,9 @@ module _ (b : Basin) (m : MonthRecord) (helped : List (Option ℕ)) (undecided :
       slice_index_or helped e None ≡ slice_index_or (slice_set helped link answer) e None
   elsewhere e other = sym (get_or-set_other helped link e answer None other)
 
-  told : IsHelpedTo b m 0 link answer → (e : ℕ) → e < link + 1 →
+  at_first : IsHelpedTo b m 0 link answer → (e : ℕ) → e < link + 1 →
       IsHelpedTo b m 0 e (slice_index_or (slice_set helped link answer) e None)
-  told here e k = elim (cases_eq e link) [
+  at_first here e k = elim (cases_eq e link) [
     | inl same ↦ subst (λ (o : Option ℕ). IsHelpedTo b m 0 e o) (sym (at e same))
         (subst (λ f. IsHelpedTo b m 0 f answer) (sym same) here)
     | inr other ↦ subst (λ (o : Option ℕ). IsHelpedTo b m 0 e o) (elsewhere e other) (now.each e (omega arith))
@@ -260,13 +260,13 @@ module _ (b : Basin) (m : MonthRecord) (helped : List (Option ℕ)) (undecided :
 
   -- which is decided
   pub one_decided : IsHelpedTo b m 0 link answer → IsHelped b m link answer →
-      AreToldOf b m (slice_set helped link answer) undecided count (link + 1)
+      AreDecided b m (slice_set helped link answer) undecided count (link + 1)
   one_decided here is = record {
     for_helped = length-set helped link answer ∙ now.for_helped;
     for_list = now.for_list;
     bounded = let bounded = now.bounded in omega arith;
     listed = now.listed;
-    each = told here;
+    each = at_first here;
     decided = λ e k. elim (cases_eq e link) [
       | inl same ↦ inl (subst (λ (o : Option ℕ). IsHelped b m e o) (sym (at e same))
           (subst (λ f. IsHelped b m f answer) (sym same) is))
@@ -279,7 +279,7 @@ module _ (b : Basin) (m : MonthRecord) (helped : List (Option ℕ)) (undecided :
 
   -- which is listed
   pub one_listed : IsHelpedTo b m 0 link answer →
-      AreToldOf b m (slice_set helped link answer) (slice_set undecided count link) (count + 1) (link + 1)
+      AreDecided b m (slice_set helped link answer) (slice_set undecided count link) (count + 1) (link + 1)
   one_listed here = record {
     for_helped = length-set helped link answer ∙ now.for_helped;
     for_list = length-set undecided count link ∙ now.for_list;
@@ -289,7 +289,7 @@ module _ (b : Basin) (m : MonthRecord) (helped : List (Option ℕ)) (undecided :
           ∙ last)) l
       | inr other ↦ subst (λ (f : ℕ). f < length b.links) (sym (before j other)) (now.listed j (omega arith))
     ];
-    each = told here;
+    each = at_first here;
     decided = λ e k. elim (cases_eq e link) [
       | inl same ↦ inr (count, omega arith, last ∙ sym same)
       | inr other ↦ elim (now.decided e (omega arith)) [
@@ -310,22 +310,22 @@ module _ (b : Basin) (m : MonthRecord) (helped : List (Option ℕ)) (undecided :
       before j other = get_or-set_other undecided count j link 0 other
 
 -- the same list and count
-pub told_as : (b : Basin) (m : MonthRecord) (helped : List (Option ℕ)) (undecided list : List ℕ)
-    (count number links : ℕ) → list ≡ undecided → number ≡ count → AreToldOf b m helped undecided count links →
-    AreToldOf b m helped list number links
-told_as b m helped undecided list count number links same equal now = rw (same, equal) now
+pub decided_as : (b : Basin) (m : MonthRecord) (helped : List (Option ℕ)) (undecided list : List ℕ)
+    (count number links : ℕ) → list ≡ undecided → number ≡ count → AreDecided b m helped undecided count links →
+    AreDecided b m helped list number links
+decided_as b m helped undecided list count number links same equal now = rw (same, equal) now
 
 -- all links are decided
-pub all_told_of : (b : Basin) (m : MonthRecord) (helped : List (Option ℕ)) (undecided : List ℕ) (count links : ℕ) →
-    length b.links ≤ links → AreToldOf b m helped undecided count links → AreHelpedTo b m 0 helped
-all_told_of b m helped undecided count links all now = record {
+pub all_helped_to : (b : Basin) (m : MonthRecord) (helped : List (Option ℕ)) (undecided : List ℕ) (count links : ℕ) →
+    length b.links ≤ links → AreDecided b m helped undecided count links → AreHelpedTo b m 0 helped
+all_helped_to b m helped undecided count links all now = record {
   count = now.for_helped;
   each = λ e l. now.each e (omega arith);
 }
 
 -- or are listed as undecided
 pub all_decided_of : (b : Basin) (m : MonthRecord) (helped : List (Option ℕ)) (undecided : List ℕ) (count links : ℕ) →
-    length b.links ≤ links → links ≤ length b.links → AreToldOf b m helped undecided count links →
+    length b.links ≤ links → links ≤ length b.links → AreDecided b m helped undecided count links →
     AreUndecided b m helped undecided count
 all_decided_of b m helped undecided count links all most now = record {
   links = (omega (arith, now.bounded, now.for_list), now.listed);

@@ -30,7 +30,7 @@ use Rattle.reports.specs.declared.figures.RightFigures.{RightFigures}
 use Rattle.reports.specs.declared.stop.ReportStop.TheVariants as stop
 use Rattle.reports.specs.declared.tally.Tally.{Tally}
 use Rattle.reports.specs.declared.totals.Totals.{Totals}
-use Rattle.reports.proofs.Rights.{entry_is, entry_told, entries_count}
+use Rattle.reports.proofs.Rights.{entry_is, entry_at, entries_count}
 use Rattle.reports.proofs.Room.{wanted_small, delivered_small}
 use Rattle.reports.proofs.Written.{row_listed}
 
@@ -42,24 +42,24 @@ same_rows g h (r ∷ rights) same =
     ap (λ t. t ++ flat_map g rights) (same r (inl refl))
     ∙ ap (λ t. h r ++ t) (same_rows g h rights (λ k has. same k (inr has)))
 
-row_told : (b : Basin) (records : List MonthRecord) (rights : List RightFigures) (r : ℕ) →
+row_is : (b : Basin) (records : List MonthRecord) (rights : List RightFigures) (r : ℕ) →
     rights ≡ map (figures_of records) (indices_of b.rights) → r < length b.rights →
     row_in b rights r ≡ right_row b records r
 unfolding figures_of
-row_told b records rights r is l =
+row_is b records rights r is l =
     sym (row_listed b rights r (figures_of records r) (entry_is (figures_of records) b.rights rights r is l))
 
-pub report_told : (b : Basin) (series : Inflows) (records : List MonthRecord) (t : Tally) → IsTally b series records t →
+pub report_is : (b : Basin) (series : Inflows) (records : List MonthRecord) (t : Tally) → IsTally b series records t →
     tally_text b t ≡ report_text b series records
 unfolding report_text
-report_told b series records t is =
+report_is b series records t is =
     sym (append_assoc (run_row b ++ flat_map (row_in b t.rights) (seniors_first b)) (balance_row t.waters) (done_row b))
     ∙ (ap (λ rows. run_row b ++ rows ++ balance_row t.waters ++ done_row b) rights
     ∙ ap (λ w. run_row b ++ flat_map (right_row b records) (seniors_first b) ++ balance_row w ++ done_row b) is.waters)
   where
     rights : flat_map (row_in b t.rights) (seniors_first b) ≡ flat_map (right_row b records) (seniors_first b)
     rights = same_rows (row_in b t.rights) (right_row b records) (seniors_first b)
-        (λ r has. row_told b records t.rights r is.rights (seniors_below b.rights r has))
+        (λ r has. row_is b records t.rights r is.rights (seniors_below b.rights r has))
 
 -- what is kept of a run can be spelled
 find_holds : {X : Type 0} (P : X → Type 0) (p : X → Bool) (xs : List X) → All P xs → IfSome (find p xs) P
@@ -70,15 +70,15 @@ find_holds P p (x ∷ xs) all = by_test (p x) (find_holds P p xs (All-tail P x x
     by_test true further = all 0 x (omega arith)
     by_test false further = further
 
-pub months_told : (b : Basin) (series : Inflows) (records : List MonthRecord) (t : Tally) → IsValidBasin b →
+pub months_are : (b : Basin) (series : Inflows) (records : List MonthRecord) (t : Tally) → IsValidBasin b →
     IsPartialHistory b series records → IsTally b series records t →
     All (λ f. IfSome f.worst IsMonth) t.rights
 unfolding figures_of
-months_told b series records t valid partial is = λ k d l.
-    (let told =
-    entry_told (figures_of records) b.rights t.rights k (get_or t.rights k d) is.rights
+months_are b series records t valid partial is = λ k d l.
+    (let at_row =
+    entry_at (figures_of records) b.rights t.rights k (get_or t.rights k d) is.rights
     (slice_get-get_or t.rights k d l) in
-    subst (λ (f : RightFigures). IfSome f.worst IsMonth) (sym told.1)
+    subst (λ (f : RightFigures). IfSome f.worst IsMonth) (sym at_row.1)
     (of_found (find _ records) (find_holds (λ m. IsMonth m.month) _ records calendar)))
   where
     calendar : All (λ m. IsMonth m.month) records
@@ -91,22 +91,22 @@ months_told b series records t valid partial is = λ k d l.
     of_found None h = tt
     of_found (Some m) h = h
 
-pub entries_told : (b : Basin) (series : Inflows) (records : List MonthRecord) (t : Tally) →
+pub entries_number : (b : Basin) (series : Inflows) (records : List MonthRecord) (t : Tally) →
     IsTally b series records t → length t.rights ≡ length b.rights
-entries_told b series records t is = entries_count (figures_of records) b.rights t.rights is.rights
+entries_number b series records t is = entries_count (figures_of records) b.rights t.rights is.rights
 
 -- the report of a run, or a prefix of it
 pub report_put : (b : Basin) (series : Inflows) (records : List MonthRecord) (t : Tally) (old new : Output) →
     IsRun b series records → IsTally b series records t →
     Extends old new (tally_text b t) → Reports (λ k. report_text b series k) b series (Ok tt) old new
 report_put b series records t old new run is put =
-    (records, run, subst (λ (text : List ℕ). Extends old new text) (report_told b series records t is) put)
+    (records, run, subst (λ (text : List ℕ). Extends old new text) (report_is b series records t is) put)
 
 pub report_cut : (b : Basin) (series : Inflows) (records : List MonthRecord) (t : Tally) (old new : Output) →
     IsRun b series records → IsTally b series records t →
     PutsPrefix old new (tally_text b t) → Reports (λ k. report_text b series k) b series (Err stop.SinkFailed) old new
 report_cut b series records t old new run is put =
-    (records, run, subst (λ (text : List ℕ). PutsPrefix old new text) (report_told b series records t is) put)
+    (records, run, subst (λ (text : List ℕ). PutsPrefix old new text) (report_is b series records t is) put)
 
 -- sums over the figures of all rights
 sum_mapped : {X : Type 0} (f : X → ℕ) (g : ℕ → X) (ns : List ℕ) → sum_by f (map g ns) ≡ sum_by (λ n. f (g n)) ns
@@ -144,7 +144,7 @@ totals_room b series records t valid fits partial is = record {
 }
   where
     count : length t.rights ≡ length b.rights
-    count = entries_told b series records t is
+    count = entries_number b series records t is
 
     months : length records ≤ 1200
     months = omega (arith, partial.within, valid.run.months.1)
@@ -152,10 +152,10 @@ totals_room b series records t valid fits partial is = record {
     each : (most : ℕ) (h : RightFigures → ℕ) → ((r : ℕ) → r < length b.rights → h (figures_of records r) ≤ most) →
         All (λ f. h f ≤ most) t.rights
     each most h small = λ k d l.
-        (let told =
-        entry_told (figures_of records) b.rights t.rights k (get_or t.rights k d) is.rights
+        (let at_row =
+        entry_at (figures_of records) b.rights t.rights k (get_or t.rights k d) is.rights
         (slice_get-get_or t.rights k d l) in
-        subst (λ (f : RightFigures). h f ≤ most) (sym told.1) (small k told.0))
+        subst (λ (f : RightFigures). h f ≤ most) (sym at_row.1) (small k at_row.0))
 
     short : (r : ℕ) → r < length b.rights → short_months records r ≤ 1200
     short r l =
@@ -177,14 +177,14 @@ regroup : (a b c d e f g h : List ℕ) →
     a ++ b ++ ((c ++ d) ++ (e ++ f)) ++ (g ++ h) ≡ a ++ b ++ c ++ d ++ e ++ f ++ g ++ h
 regroup a b c d e f g h = simp append_assoc
 
-pub summary_told : (number size : ℕ) (b : Basin) (series : Inflows) (records : List MonthRecord) (t : Tally)
+pub summary_is : (number size : ℕ) (b : Basin) (series : Inflows) (records : List MonthRecord) (t : Tally)
     (totals : Totals) (called : ℕ) → IsTally b series records t →
     called ≡ called_count b records → totals.short_months ≡ sum_by (λ f. f.short_months) t.rights →
     totals.wanted ≡ sum_by (λ f. f.wanted) t.rights →
     totals.delivered ≡ sum_by (λ f. f.delivered) t.rights →
     summary_text number size b totals called t.waters ≡ trial_text number size b series records
 unfolding trial_text figures_of
-summary_told number size b series records t totals called is c s w d = rw (short, want, given, c, is.waters) (regroup
+summary_is number size b series records t totals called is c s w d = rw (short, want, given, c, is.waters) (regroup
     (trial_row number size) (size_row b) (row (codes "wanted" ∷ decimal (all_wanted b records) ∷ []))
     (row (codes "delivered" ∷ decimal (all_delivered b records) ∷ []))
     (row (codes "short" ∷ decimal (short_count b records) ∷ []))
@@ -210,12 +210,12 @@ pub summary_put : (number size : ℕ) (b : Basin) (series : Inflows) (records : 
     (old new : Output) → IsRun b series records →
     text ≡ trial_text number size b series records → Extends old new text →
     Reports (λ k. trial_text number size b series k) b series (Ok tt) old new
-summary_put number size b series records text old new run told put =
-    (records, run, subst (λ (t : List ℕ). Extends old new t) told put)
+summary_put number size b series records text old new run is_text put =
+    (records, run, subst (λ (t : List ℕ). Extends old new t) is_text put)
 
 pub summary_cut : (number size : ℕ) (b : Basin) (series : Inflows) (records : List MonthRecord) (text : List ℕ)
     (old new : Output) → IsRun b series records →
     text ≡ trial_text number size b series records → PutsPrefix old new text →
     Reports (λ k. trial_text number size b series k) b series (Err stop.SinkFailed) old new
-summary_cut number size b series records text old new run told put =
-    (records, run, subst (λ (t : List ℕ). PutsPrefix old new t) told put)
+summary_cut number size b series records text old new run is_text put =
+    (records, run, subst (λ (t : List ℕ). PutsPrefix old new t) is_text put)

@@ -2,11 +2,11 @@ use Rattle.std.proofs.Common.{ℕ, Option, subst, sym, ◌∙◌}
 use Rattle.water_model.specs.Basin.{head_of}
 use Rattle.water_model.proofs.Balance.{ends}
 use Rattle.plan_residual.specs.Next.{IsNextOrFree}
-use Rattle.next_unit.proofs.Told.{free_head}
-use Rattle.next_unit.proofs.helped.told_by_next.Goals as goal
+use Rattle.next_unit.proofs.Decided.{free_head}
+use Rattle.next_unit.proofs.helped.decided_by_next.Goals as goal
 
-pub told_by_right-requires-clause-next : goal.told_by_right-requires-clause-next
-told_by_right-requires-clause-next c =
+pub decided_by_right-requires-clause-next : goal.decided_by_right-requires-clause-next
+decided_by_right-requires-clause-next c =
     let b = c.args.basin.now in
     subst (λ (o : Option ℕ). IsNextOrFree b c.args.month.now (head_of b c.args.link) o)
     (sym c.at_head.ensures ∙ c.in-Some.is)

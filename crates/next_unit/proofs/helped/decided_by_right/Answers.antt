@@ -4,8 +4,8 @@ use Rattle.cut_cert.specs.Sets.{cut_at}
 use Rattle.water_model.specs.Lookups.{has}
 use Rattle.water_model.specs.declared.types.Link.{Link}
 use Rattle.water_model.proofs.Balance.{ends}
-use Rattle.next_unit.proofs.Told.{outside_reach, within_reach}
-use Rattle.next_unit.proofs.helped.told_by_right.Goals as goal
+use Rattle.next_unit.proofs.Decided.{outside_reach, within_reach}
+use Rattle.next_unit.proofs.helped.decided_by_right.Goals as goal
 
 pub holds-requires-clause-right : goal.holds-requires-clause-right
 holds-requires-clause-right c = omega (arith, c.requires.next.uses.in_range, c.requires.plan.fits.cuts)
