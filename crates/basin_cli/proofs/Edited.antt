@@ -127,7 +127,8 @@ editing_writes known files script text b series status old new fits loaded is le
     (λ bytes s spelled. leaves_by_status status bytes s b series text old new spelled left)
 
 -- and the months that were solved
-work_same : (bytes s text : List ℕ) (b : Basin) (series : Inflows) (before now : WorkDone) → AreSpelled bytes s b series →
+work_same : (bytes s text : List ℕ) (b : Basin) (series : Inflows) (before now : WorkDone) →
+    AreSpelled bytes s b series →
     WorkOfScript b series text before now →
     (c : Basin) (other : Inflows) → AreSpelled bytes s c other → WorkOfScript c other text before now
 work_same bytes s text b series before now spelled solves c other also =

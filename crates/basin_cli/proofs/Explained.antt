@@ -76,7 +76,7 @@ reach_at b m right reaches l short =
 -- the account of a short right is its answer
 pub short_explained : (asked : Account) (b : Basin) (m : MonthRecord) (right : ℕ) (text : List ℕ) → IsShort m right →
     ExplainsShort asked b m right text → Explains asked b m right text
-short_explained asked b m right text is writes_line = record { short = λ _. writes_line; met = λ h. absurd (omega arith) }
+short_explained asked b m right text is explains = record { short = λ _. explains; met = λ h. absurd (omega arith) }
 
 -- the book of its reach
 pub reach_explained : (b : Basin) (m : MonthRecord) (right : ℕ) → HasReaches b m → right < length b.rights →

@@ -12,8 +12,8 @@ use Rattle.basin_cli.specs.Out.{IsIdle, IsUnread, IsUntouchedOrFlushed, KeepsSho
 use Rattle.basin_cli.specs.Outcome.{EndingHasCause, IsQuiet, WorkFor, WritesFor}
 
 -- The ending has its cause and a line, and what is left on out, what was read and which months were solved are as the
--- ending says. `shelf` and `sink` tell what a state of the shelf and of out is seen as, and `before` and `after` are the
--- work done.
+-- ending says. `shelf` and `sink` tell what a state of the shelf and of out is seen as, and `before` and `after` are
+-- the work done.
 pub record Serves {S K : Type 0} (shelf : Shelf.Ghosts S) (sink : Sink.Ghosts K) (command : Option Command)
     (how : Ending) (shelf_old shelf_new : S) (old new : K) (before after : WorkDone) : Type 0 where
   pub cause : EndingHasCause command how (shelf.known shelf_old)

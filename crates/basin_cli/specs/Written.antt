@@ -30,8 +30,8 @@ pub record IsWrittenRun (b : Basin) (series : Inflows) (old now : Output) : Type
   pub text : Extends old now (text_bytes b records)
 
 -- Where writing stopped: of the first months of a run all but the last stand after what out had taken, and of the last
--- one a prefix; no line of the tail stands before all months do. All but the last are flushed, with the head. No month is
--- solved but these.
+-- one a prefix; no line of the tail stands before all months do. All but the last are flushed, with the head. No month
+-- is solved but these.
 pub record StopsWriting (b : Basin) (series : Inflows) (old now : Output) (before after : WorkDone) : Type 0 where
   pub records : List MonthRecord
   pub partial : IsPartialHistory b series records

@@ -209,9 +209,10 @@ pub fn read_inputs<S: Shelf>(alloc: Global, shelf: &mut S, inputs: Inputs) -> Re
         (λ e. AskUpTo (inputs_to (named inputs.entry)) e (S.asked shelf.old) (S.asked shelf.new)) }
     ensures valid { IfOk result (λ files. IsValidBasin files.basin) }
     ensures fits { IfOk result (λ files. IsSeriesOf files.basin files.series) }
-    ensures loaded { IfOk result (λ files. AreLoaded (S.known shelf.old) (named inputs.entry) files.basin files.series) }
-    ensures stops { IfErr result
-        (λ e. StopsReading (named inputs.entry) e (S.known shelf.old) (Rose (S.faults shelf.old) (S.faults shelf.new))) }
+    ensures loaded { IfOk result
+        (λ files. AreLoaded (S.known shelf.old) (named inputs.entry) files.basin files.series) }
+    ensures stops { IfErr result (λ e. StopsReading (named inputs.entry) e (S.known shelf.old)
+        (Rose (S.faults shelf.old) (S.faults shelf.new))) }
     ensures printable { IfErr result CanBePrinted }
 {
     let basin = read_basin_file(alloc, shelf, inputs.basin)?;
@@ -250,7 +251,8 @@ pub fn read_record<S: Shelf>(alloc: Global, shelf: &mut S, inputs: Inputs) -> Re
     ensures valid { IfOk result (λ files. IsValidBasin files.basin) }
     ensures whole { IfOk result (λ files. HasWholeYears files.basin) }
     ensures fits { IfOk result (λ files. IsSeriesOf files.basin files.series) }
-    ensures loaded { IfOk result (λ files. AreLoaded (S.known shelf.old) (named inputs.entry) files.basin files.series) }
+    ensures loaded { IfOk result
+        (λ files. AreLoaded (S.known shelf.old) (named inputs.entry) files.basin files.series) }
     ensures stops { IfErr result
         (λ e. StopsReadingYears (named inputs.entry) e (S.known shelf.old)
         (Rose (S.faults shelf.old) (S.faults shelf.new))) }

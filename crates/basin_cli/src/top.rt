@@ -94,8 +94,8 @@ fn do_check<S: Shelf, K: Sink>(
     out: &mut K,
 ) -> Ending
     requires { ServesFiles (S.serves shelf.old) (Some (check question (named inputs) result_name.now)) }
-    ensures { (done : WorkDone) → Serves S.Shelf K.Sink (Some (check question (named inputs.entry) result_name.now)) result
-        shelf.old shelf.new out.old out.new done done }
+    ensures { (done : WorkDone) → Serves S.Shelf K.Sink (Some (check question (named inputs.entry) result_name.now))
+        result shelf.old shelf.new out.old out.new done done }
 {
     let files = match read_inputs(alloc, shelf, inputs) {
         Ok(files) => files,
@@ -263,8 +263,8 @@ pub fn basin_main<S: Shelf, K: Sink, E: Sink, P: Ledger, M: Ledger>(
     ensures out_stays { (MayLeave (command_of (map string_bytes words.now)) result → ⊥) → out.new ≡ out.old }
     ensures err_stays { IsQuiet result → err.new ≡ err.old }
 
-    // Done and no come only where all that was put was flushed, and where memory ran out the months that a script showed
-    // were, unless out failed; the line on err was flushed unless err failed.
+    // Done and no come only where all that was put was flushed, and where memory ran out the months that a script
+    // showed were, unless out failed; the line on err was flushed unless err failed.
     ensures flushed { IsQuiet result → (K.output out.new).flushed ≡ (K.output out.new).taken }
     ensures shown { KeepsShown (command_of (map string_bytes words.now)) result
         (Rose (K.faults out.old) (K.faults out.new)) (IsUntouchedOrFlushed out.old out.new (K.output out.new)) }

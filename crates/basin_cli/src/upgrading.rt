@@ -19,8 +19,8 @@ pub fn do_upgrade<S: Shelf, K: Sink>(
     out: &mut K,
 ) -> Ending
     requires { ServesFiles (S.serves shelf.old) (Some (upgrade name.now)) }
-    ensures { (done : WorkDone) → Serves S.Shelf K.Sink (Some (upgrade name.now)) result shelf.old shelf.new out.old out.new
-        done done }
+    ensures { (done : WorkDone) → Serves S.Shelf K.Sink (Some (upgrade name.now)) result shelf.old shelf.new out.old
+        out.new done done }
 {
     let basin = match read_basin_file(alloc, shelf, name) {
         Ok(basin) => basin,

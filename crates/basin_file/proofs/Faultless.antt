@@ -56,14 +56,16 @@ IsNotMemory o = o ≢ Some roll.OutOfMemory
 
 same_not_memory : (keys : List (List ℕ)) (n : ℕ) (rest : List (List ℕ)) → IsNotMemory (same_from keys n rest)
 same_not_memory keys n [] e = cc
-same_not_memory keys n (key ∷ rest) e = by (nat_lt (position_or_len (bytes_eq key) keys) n) refl (same_not_memory keys (n + 1) rest)
+same_not_memory keys n (key ∷ rest) e =
+    by (nat_lt (position_or_len (bytes_eq key) keys) n) refl (same_not_memory keys (n + 1) rest)
   where
     by : (t : Bool) → nat_lt (position_or_len (bytes_eq key) keys) n ≡ t →
         (same_from keys (n + 1) rest ≡ Some roll.OutOfMemory → ⊥) → ⊥
     by true low after = (let h = rw low at e in cc)
     by false high after = after (rw high at e)
 
-map_not_memory : (f : ℕ → RollRefused) → ((k : ℕ) → f k ≢ roll.OutOfMemory) → (o : Option ℕ) → IsNotMemory (option_map f o)
+map_not_memory : (f : ℕ → RollRefused) → ((k : ℕ) → f k ≢ roll.OutOfMemory) → (o : Option ℕ) →
+    IsNotMemory (option_map f o)
 map_not_memory f other None e = cc
 map_not_memory f other (Some k) e = other k (cc)
 
@@ -77,7 +79,8 @@ roll_not_memory rights returns e =
     (or_not_memory (same_seniority rights) _ (same_not_memory (map priority rights) 0 (map priority rights))
     (or_not_memory (zone_fault rights) (parts_fault rights returns)
     (map_not_memory roll.ZoneOrder (λ k same. cc) (find (has_zone_fault rights) (range_with_len 0 (length rights))))
-    (map_not_memory roll.ReturnParts (λ k same. cc) (find (has_many_parts returns) (range_with_len 0 (length rights))))))
+    (map_not_memory roll.ReturnParts (λ k same. cc)
+    (find (has_many_parts returns) (range_with_len 0 (length rights))))))
     (sym (roll_fault-is rights returns) ∙ e)
 
 roll_none : (rights : List Right) (returns : List ReturnRow) →

@@ -157,7 +157,8 @@ instream_of tree row = right_of (kind.Instream (number_at tree Links (codes "lin
 
 abbrev pub zone_of : Members → Members → Right
 zone_of tree row =
-    right_of (kind.Zone (number_at tree Reservoirs (codes "reservoir") row) (integer_at (codes "level") 1 16 1 row)) None
+    right_of (kind.Zone (number_at tree Reservoirs (codes "reservoir") row) (integer_at (codes "level") 1 16 1 row))
+    None
     row
 
 -- diversions are the first rights, so the index of a diversion is that of its right

@@ -52,7 +52,8 @@ keys_of Top =
     required (codes "format") (Integer 1 2) ∷ required (codes "first_month") MonthText
     ∷ required (codes "months") (Integer 1 1200) ∷ required (codes "node") Tables ∷ optional (codes "link") Tables
     ∷ optional (codes "reservoir") Tables ∷ optional (codes "diversion") Tables ∷ optional (codes "instream") Tables
-    ∷ optional (codes "zone") Tables ∷ optional (codes "return") Tables ∷ second (codes "year_start") (Integer 1 12) ∷ []
+    ∷ optional (codes "zone") Tables ∷ optional (codes "return") Tables ∷ second (codes "year_start") (Integer 1 12)
+    ∷ []
 keys_of Node =
     required (codes "name") Name ∷ optional (codes "outlet") Truth ∷ optional (codes "inflow") Inflow ∷ []
 keys_of Link =

@@ -61,8 +61,9 @@ impl CallFinder {
     }
 
     /// Finds what one more unit of water at each node, and one more unit of carry on each link, would do in a month
-    /// whose sets are the reaches. It replaces what was found before. The cost is linear in nodes, links and rights, but
-    /// for the short instream rights whose reach a full link enters that could help them: for each a core is searched.
+    /// whose sets are the reaches. It replaces what was found before. The cost is linear in nodes, links and rights,
+    /// but for the short instream rights whose reach a full link enters that could help them: for each a core is
+    /// searched.
     pub fn find(&mut self, basin: &Basin, roll: &Roll, month: &MonthRecord)
         requires finder { IsFinderOf basin.now self.old }
         requires plan { HasPlan basin.now month.now }

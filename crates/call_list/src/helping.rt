@@ -1,5 +1,6 @@
 //! Where one more unit would help a short right, one `put` for each line.
-ghost use Rattle.std.specs.Prelude.{◌≡◌, ℕ, ◌<◌, ◌≤◌, Some, List, IfOk, IfSome, IsErr, false, length, replicate, slice_index};
+ghost use Rattle.std.specs.Prelude.{◌≡◌, ℕ, ◌<◌, ◌≤◌, Some, List, IfOk, IfSome, IsErr, false, length, replicate};
+ghost use Rattle.std.specs.Prelude.{slice_index};
 ghost use Rattle.std.specs.List.{flat_map};
 ghost use Rattle.std.specs.Option.{option_to_list};
 ghost use Rattle.cut_cert.specs.Sets.{HasCut, cut_at};

@@ -11,7 +11,8 @@ use Rattle.water_model.specs.declared.types.Inflows.{Inflows}
 use Rattle.result_reader.specs.Reading.{read_line}
 use Rattle.result_reader.specs.ReadSoFar.{ReadSoFar, read_so_far}
 use Rattle.result_reader.specs.declared.bad_line.BadLine.{BadLine}
-use Rattle.cert_check.specs.Checking.{Row, first_row, is_whole, judge, judge_read, judge_row, kind_of, ok_then, own_rows}
+use Rattle.cert_check.specs.Checking.{Row, first_row, is_whole, judge, judge_read, judge_row, kind_of, ok_then}
+use Rattle.cert_check.specs.Checking.{own_rows}
 use Rattle.cert_check.specs.Checking.{rows, verdict, verdict_at_end, verdict_from}
 use Rattle.cert_check.specs.Laws.{NotReachNamesOtherSets}
 use Rattle.cert_check.specs.Whole.{lines_of_pieces, rest_of_pieces, pieces_of}

@@ -1,5 +1,6 @@
 -- An audit says yes exactly for reaches, and has one answer.
-use Rattle.std.proofs.Common.{◌≡◌, ℕ, ◌<◌, Bool, true, false, refl, sym, ap, subst, ◌∙◌, arith, inl, inr, List, [], ◌∷◌, take}
+use Rattle.std.proofs.Common.{◌≡◌, ℕ, ◌<◌, Bool, true, false, refl, sym, ap, subst, ◌∙◌, arith, inl, inr, List, []}
+use Rattle.std.proofs.Common.{◌∷◌, take}
 use Rattle.std.proofs.Common.{zero, suc}
 use Rattle.std.specs.Prelude.{Option, Some, Ok, Err, IsOk, is_ok, slice_get, unwrap_or}
 use Rattle.std.proofs.lemmas.Bool.{cases_eq, cases_lt}
@@ -43,8 +44,8 @@ not_reaches b m r first reaches =
     (sym (ap (λ (o : Option (List Bool)). unwrap_or o []) cut.1)) cut.2))
 
 -- a text of a history is not refuted by the verdict
-never_refuted : {X : Type 0} (b : Basin) (series : Inflows) (bytes : List ℕ) (records : List MonthRecord) (e : Refuted) →
-    IsValidBasin b → IsSeriesOf b series → IsHistory b series records → bytes ≡ text_bytes b records →
+never_refuted : {X : Type 0} (b : Basin) (series : Inflows) (bytes : List ℕ) (records : List MonthRecord)
+    (e : Refuted) → IsValidBasin b → IsSeriesOf b series → IsHistory b series records → bytes ≡ text_bytes b records →
     text_verdict b series bytes ≡ Err e → X
 never_refuted b series bytes records e valid fits h text refuted =
     let accepts : IsOk (text_verdict b series bytes) =

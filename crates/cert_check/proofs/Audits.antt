@@ -229,7 +229,8 @@ end_more b series t items old new index follows asks h = record {
   };
   months = ended-append items (line.End ∷ [])
       ∙ omega (arith, h.months, length-append t.months (with_supply b series t.now ∷ []));
-  lines = λ later r some. absurd (omega (arith, later, index, length-append t.months (with_supply b series t.now ∷ [])));
+  lines = λ later r some. absurd
+      (omega (arith, later, index, length-append t.months (with_supply b series t.now ∷ [])));
   found = end_found b series t items old.call_lines old.other new.other index h.lines h.found follows asks.other;
 }
 

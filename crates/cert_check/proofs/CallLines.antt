@@ -133,7 +133,8 @@ one_index b valid [] r [] ys us vs e f same = cc
 one_index b valid [] r (x ∷ []) ys us vs e f same = cc
 one_index b valid [] r (x ∷ y ∷ xs) ys us vs e f same = cc
 one_index b valid (m ∷ records) r xs ys us vs e f same =
-    by_sides (stands_in M others xs (line.Call r) ys (sym split ∙ e)) (stands_in M others us (line.Call r) vs (sym split ∙ f))
+    by_sides (stands_in M others xs (line.Call r) ys (sym split ∙ e))
+    (stands_in M others us (line.Call r) vs (sym split ∙ f))
     (λ ws zs k l h. one_index b valid records r ws ys zs vs k l h)
   where
     M : List Item

@@ -41,7 +41,8 @@ use Rattle.water_model.proofs.Lists.{no_numbers}
 read_len : (xs : List ℕ) (a : ℕ → ℕ) (n : ℕ) (ys : List ℕ) → set_all xs a (replicate n 0) ≡ ys → length ys ≡ n
 read_len xs a n ys is = sym (ap length is) ∙ (length-set_all xs a (replicate n 0) ∙ length-replicate n 0)
 
-not_listed : (xs : List ℕ) (a : ℕ → ℕ) (n : ℕ) (ys : List ℕ) (k : ℕ) → set_all xs a (replicate n 0) ≡ ys → (Has xs k → ⊥) →
+not_listed : (xs : List ℕ) (a : ℕ → ℕ) (n : ℕ) (ys : List ℕ) (k : ℕ) → set_all xs a (replicate n 0) ≡ ys →
+    (Has xs k → ⊥) →
     slice_index ys k ≡ 0
 not_listed xs a n ys k is none =
     sym (ap (λ zs. slice_index zs k) is) ∙ (set_all-other xs a (replicate n 0) k none ∙ no_numbers n k)

@@ -110,7 +110,8 @@ fn is_not_due(context: &Context, state: &CheckState, right: u32, by: u32) -> boo
     requires keeps { HasRead context.now.basin.now context.now.series.now state.now }
     requires callers { state.now.has_callers ≡ true }
     ensures { (t : ReadSoFar) → Keeps context.now.basin.now context.now.series.now state.now t →
-        result ≡ not (checking.is_due right by (slice_get (checking.callers_due context.now.basin.now t.now) t.called)) }
+        result ≡ not (checking.is_due right by
+        (slice_get (checking.callers_due context.now.basin.now t.now) t.called)) }
 {
     match next_due(
         context.basin,

@@ -26,8 +26,8 @@ pub record ShortageView : Type 0 where
 abbrev pub shortage : Basin → RollView → MonthRecord → CutSets → ℕ → ShortageView
 shortage b roll m cuts right = record { basin = b; roll = roll; month = m; cuts = cuts; right = right }
 
--- what each keeps: the basin is valid, the roll is that of its rights, the record is one of the basin whose lines can be
--- written, and the cuts have a set of the right
+-- what each keeps: the basin is valid, the roll is that of its rights, the record is one of the basin whose lines can
+-- be written, and the cuts have a set of the right
 pub record IsShortage (s : ShortageView) : Type 0 where
   pub valid : IsValidBasin s.basin
   pub rolled : IsRollOf s.basin.rights s.roll

@@ -24,7 +24,8 @@ fn add_month<P: Ledger, M: Ledger>(
     requires left { index < engine.old.basin.months }
     requires stands { RunStandsFor (run_with engine.old series.now index) (records_of kept.old.items) }
     ensures basin { engine.new.basin ≡ engine.old.basin }
-    ensures stands { OnOk result (RunStandsFor (run_with engine.new series.now (index + 1)) (records_of kept.new.items)) }
+    ensures stands { OnOk result
+        (RunStandsFor (run_with engine.new series.now (index + 1)) (records_of kept.new.items)) }
     ensures stay { take (vec_len kept.old) kept.new.items ≡ kept.old.items }
     ensures count { OnOk result (vec_len kept.new ≡ vec_len kept.old + 1) }
     ensures same { OnErr result (kept.new.items ≡ kept.old.items) }

@@ -39,8 +39,8 @@ run_with engine series done = record {
   used = engine.used;
 }
 
--- the run of a valid basin and a series of it went through these months: they are a partial history, with any tight cuts
--- as the sets of short rights, after which the next month opens with what is stored, on its way and used
+-- the run of a valid basin and a series of it went through these months: they are a partial history, with any tight
+-- cuts as the sets of short rights, after which the next month opens with what is stored, on its way and used
 pub record WentThrough (run : RunView) (records : List MonthRecord) : Type 0 where
   pub valid : IsValidBasin run.basin
   pub fits : IsSeriesOf run.basin run.series

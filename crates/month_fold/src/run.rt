@@ -149,8 +149,8 @@ impl<'b, 's> Run<'b, 's> {
     }
 
     /// Solves the next month; `month` then gives its record: it follows the records before it, and the set of each
-    /// short right is its reach. `work` counts each search that finds a walk, and the month. It refuses nothing and takes
-    /// no memory: once a run is open, each of its months has its record.
+    /// short right is its reach. `work` counts each search that finds a walk, and the month. It refuses nothing and
+    /// takes no memory: once a run is open, each of its months has its record.
     pub fn step<P: Ledger, M: Ledger>(&mut self, work: &mut Work<P, M>)
         requires left { self.old.done < self.old.basin.months }
         ensures basin { self.new.basin ≡ self.old.basin }

@@ -55,7 +55,12 @@ fn at_head(basin: &Basin, next: &[Option<u32>], link: u32) -> Option<u32>
 
 /// The most senior right that one more unit of carry on a link would help, as far as the right to which one more unit
 /// at its head would go says it. Where it says none, only an instream right could be helped.
-fn decided_by_next(basin: &Basin, month: &MonthRecord, next: &[Option<u32>], link: u32) -> Option<u32>
+fn decided_by_next(
+    basin: &Basin,
+    month: &MonthRecord,
+    next: &[Option<u32>],
+    link: u32,
+) -> Option<u32>
     requires plan { HasPlan basin.now month.now }
     requires reaches { HasReaches basin.now month.now }
     requires room { HasRoomForAll basin.now month.now }

@@ -59,7 +59,8 @@ fn find_ways(
     requires within { (k : ℕ) → k < count → slice_index freed.now k < circ.now.nodes }
     requires words { length labels.now ≡ circ.now.nodes + 1 }
     requires kept { IsCirculation circ.now }
-    ensures { (k : ℕ) → k < count → IsFoundLabel circ.now labels.now (slice_index freed.now k) (slice_index found.new k) }
+    ensures { (k : ℕ) → k < count →
+        IsFoundLabel circ.now labels.now (slice_index freed.now k) (slice_index found.new k) }
 {
     for at in 0..count {
         found[at] = find_way(circ, labels, freed[at] as u32);

@@ -122,7 +122,8 @@ placing_next g order position v within now inside unplaced tails = record {
         omega (arith, here)
     runs e l below (inr other) =
         let h = there (head_in g.links e) other in
-        let old : position (head_in g.links e) < length order = elim (now.each (head_in g.links e) (within.ends e l).1) [
+        let each = now.each (head_in g.links e) (within.ends e l).1 in
+        let old : position (head_in g.links e) < length order = elim each [
           | inl none ↦ absurd (omega (arith, full, count))
           | inr placed ↦ placed.0
         ] in

@@ -12,8 +12,8 @@ pub struct SinkFailed;
 /// bytes are known, and their answers say nothing of bytes. A sink may keep back what it took until it is flushed, and
 /// loses none of it by a later failure of its own.
 pub trait Sink {
-    /// The bytes that it took, and those that it flushed, so that others can read them: a prefix of those taken. The sink
-    /// keeps the rest back until it is full or flushed. Each is None where it isn't known.
+    /// The bytes that it took, and those that it flushed, so that others can read them: a prefix of those taken. The
+    /// sink keeps the rest back until it is full or flushed. Each is None where it isn't known.
     ghost output: { Self → Output };
 
     /// How many calls have failed. The count never falls, and stands still at 2^64 - 1.

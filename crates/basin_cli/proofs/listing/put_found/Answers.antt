@@ -17,5 +17,6 @@ returns-clause-text g c =
     same_text month_bytes c.calls-calls.result.basin c.args.run.now.basin c.calls-calls.result.month c.args.run.now.last
     c.calls-calls.result.found c.args.finder.now.found (g.K.Sink.output c.args.out.now)
     (g.K.Sink.output c.put_month.new.sink)
-    c.put_month.result (c.calls-calls.ensures.basin ∙ c.basin.ensures.value) (c.calls-calls.ensures.month ∙ c.month.ensures)
+    c.put_month.result (c.calls-calls.ensures.basin ∙ c.basin.ensures.value)
+    (c.calls-calls.ensures.month ∙ c.month.ensures)
     c.calls-calls.ensures.found c.put_month.ensures.text

@@ -45,7 +45,8 @@ returns-in_err-put_indices-clause-text g c =
       helping_bytes b m r reach core,
       helping_text b m r core c.requires.plan c.requires.reaches c.requires.right c.requires.short held.is_core,
       Puts-cut (g.K.Sink.output c.args.sink.now) (g.K.Sink.output c.put_indices.new.sink) c.from_residual.result
-          (flat_map (whole_line b) (helping_lines b m r reach core)) (account_bytes b m r core) c.from_residual.ensures.0
+          (flat_map (whole_line b) (helping_lines b m r reach core)) (account_bytes b m r core)
+          c.from_residual.ensures.0
           c.in_err-put_indices.ensures.text,
     )
 

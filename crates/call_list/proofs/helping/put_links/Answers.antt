@@ -12,7 +12,8 @@ use Rattle.call_list.proofs.helping.put_links.Goals as goal
 
 pub loop-link-init : goal.loop-link-init
 loop-link-init g c =
-    SoFar-none (whole_line c.args.basin.now) (link_lines c.args.basin.now (cut_at c.args.reach.now c.args.right) (cut_at c.args.core.now c.args.right))
+    SoFar-none (whole_line c.args.basin.now)
+    (link_lines c.args.basin.now (cut_at c.args.reach.now c.args.right) (cut_at c.args.core.now c.args.right))
     (indices_of c.args.basin.now.links) (g.K.Sink.output c.args.sink.now) (g.K.Sink.faults c.args.sink.now)
 
 pub returns-in_err-put_line-clause-text : goal.returns-in_err-put_line-clause-text

@@ -73,7 +73,8 @@ returns-in_err-add_month-clause-work g c =
     solves_within c.args.engine.now.basin c.args.work.now c.add_month.new.work (c.loop-index.index + 1)
     c.args.kept.now.len c.args.count (omega arith)
     (solves_more c.args.engine.now.basin c.args.work.now c.loop-index.work c.add_month.new.work c.loop-index.index
-    c.args.kept.now.len (omega arith) c.loop-index.invariant.work (rw (← c.loop-index.invariant.basin) c.add_month.ensures.work))
+    c.args.kept.now.len (omega arith) c.loop-index.invariant.work
+    (rw (← c.loop-index.invariant.basin) c.add_month.ensures.work))
 
 pub loop-index-preserved : goal.loop-index-preserved
 loop-index-preserved g c = record {

@@ -1,6 +1,7 @@
 use Rattle.std.proofs.Common.{arith}
 use Rattle.std.proofs.lemmas.Bool.{OnFalse_at}
-use Rattle.next_unit.proofs.Decided.{all_decided_of, all_helped_to, none_decided_yet, one_decided, one_listed, decided_as}
+use Rattle.next_unit.proofs.Decided.{all_decided_of, all_helped_to, none_decided_yet, one_decided, one_listed}
+use Rattle.next_unit.proofs.Decided.{decided_as}
 use Rattle.next_unit.proofs.helped.begin.Goals as goal
 use Rattle.next_unit.proofs.helped.begin.Goals.{then-is_undecided, else-is_undecided}
 
@@ -14,11 +15,13 @@ loop-link-preserved c = elim c.if-is_undecided.branch [
   | then-is_undecided w ↦
       decided_as _ _ _ _ _ _ _ _ w.undecided-is w.count-is
       (one_listed c.args.basin.now c.args.month.now c.loop-link.helped c.loop-link.undecided c.loop-link.count
-      c.loop-link.link c.decided_by_next-answer.result (omega arith) c.loop-link.invariant c.decided_by_next-answer.ensures)
+      c.loop-link.link c.decided_by_next-answer.result (omega arith) c.loop-link.invariant
+      c.decided_by_next-answer.ensures)
   | else-is_undecided w ↦
       decided_as _ _ _ _ _ _ _ _ w.undecided-is w.count-is
       (one_decided c.args.basin.now c.args.month.now c.loop-link.helped c.loop-link.undecided c.loop-link.count
-      c.loop-link.link c.decided_by_next-answer.result (omega arith) c.loop-link.invariant c.decided_by_next-answer.ensures
+      c.loop-link.link c.decided_by_next-answer.result (omega arith) c.loop-link.invariant
+      c.decided_by_next-answer.ensures
       (OnFalse_at w.if-is_undecided.false c.is_undecided.ensures))
 ]
 

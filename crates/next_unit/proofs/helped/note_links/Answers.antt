@@ -15,13 +15,15 @@ loop-j-preserved c = record {
   undecided = still_undecided c.args.basin.now c.args.month.now c.args.position c.loop-j.helped c.args.undecided.now
       c.args.count c.loop-j.j c.helped_with.result (omega arith) c.loop-j.invariant.undecided
       c.loop-j.invariant.helped.each.count;
-  helped = one_gone_over c.args.basin.now c.args.month.now c.args.position c.loop-j.helped c.args.undecided.now c.args.count
+  helped = one_gone_over c.args.basin.now c.args.month.now c.args.position c.loop-j.helped c.args.undecided.now
+      c.args.count
       c.loop-j.j c.helped_with.result (omega arith) c.loop-j.invariant.undecided
       c.loop-j.invariant.helped.each.count c.loop-j.invariant.helped c.helped_with.ensures;
 }
 
 pub returns-clause-helped : goal.returns-clause-helped
 returns-clause-helped c =
-    all_gone_over c.args.basin.now c.args.month.now c.args.position c.loop-j.helped c.args.undecided.now c.args.count
+    all_gone_over c.args.basin.now c.args.month.now c.args.position c.loop-j.helped c.args.undecided.now
+    c.args.count
     c.loop-j.j (by_seniority_order c.args.basin.now.rights c.requires.plan.valid.roll.strict) c.requires.position
     (omega arith) c.loop-j.invariant.undecided c.loop-j.invariant.helped

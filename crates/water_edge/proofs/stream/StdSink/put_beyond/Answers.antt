@@ -1,12 +1,17 @@
 use Rattle.std.proofs.Common.{rules, arith, refl, subst, take_all}
 use Rattle.water_edge.specs.Edge.{Extends}
 use Rattle.water_edge.specs.Stream.{writer_output}
-use Rattle.water_edge.proofs.Outputs.{Extends-kept, Extends-nil, writer_first, writer_keeps, writer_stays, writer_writes}
+use Rattle.water_edge.proofs.Outputs.{Extends-kept, Extends-nil, writer_first, writer_keeps, writer_stays}
+use Rattle.water_edge.proofs.Outputs.{writer_writes}
 use Rattle.water_edge.proofs.stream.StdSink.put_beyond.Goals as goal
 
 pub returns-then-not-write_kept-clause-bytes : goal.returns-then-not-write_kept-clause-bytes
-returns-then-not-write_kept-clause-bytes g c =
-    (0, search rules, Extends-kept _ _ _ _ (Extends-nil _) (writer_stays _ _ _ _ c.write_kept.ensures.written refl refl))
+returns-then-not-write_kept-clause-bytes g c = (
+  0,
+  search rules,
+  Extends-kept _ _ _ _ (Extends-nil _)
+      (writer_stays _ _ _ _ c.write_kept.ensures.written refl refl),
+)
 
 pub returns-then-piece-lt-ROOM-clause-bytes : goal.returns-then-piece-lt-ROOM-clause-bytes
 returns-then-piece-lt-ROOM-clause-bytes g c =
