@@ -9,7 +9,7 @@ use Rattle.basin_cli.specs.declared.ending.File.{File}
 use Rattle.basin_cli.specs.declared.ending.File.TheVariants as file
 use Rattle.basin_cli.specs.declared.ending.SecondFinding.TheVariants as of_second
 
--- how many calls asked for the file of each name, where a shelf writes_line that
+-- how many calls asked for the file of each name, where a shelf says that
 abbrev pub AskedCounts : Type 0
 AskedCounts = List ℕ → Option ℕ
 
