@@ -11,17 +11,17 @@ pub record WorkDone : Type 0 where
 abbrev pub no_work : WorkDone
 no_work = record { pushes = 0; months = 0 }
 
--- from one to the other `count` months of a basin were solved and no more, and searches pushed at most as often as the
--- bound of a month allows for each of them
+-- from one to the other at most `count` months of a basin were solved, and searches pushed at most as often as the bound
+-- of a month allows for each of them
 pub record Solves (count : ℕ) (b : Basin) (before after : WorkDone) : Type 0 where
   pub months : after.months ≤ before.months + count
   pub pushes : after.pushes ≤ before.pushes + count * month_pushes b
 
--- the months of a whole run were, and no more
+-- at most the months of a whole run were
 abbrev pub SolvesRun : Basin → WorkDone → WorkDone → Type 0
 SolvesRun b before after = Solves b.months b before after
 
--- `count` months of each of two basins were, and no more
+-- at most `count` months of each of two basins were
 pub record SolvesBoth (count : ℕ) (b c : Basin) (before after : WorkDone) : Type 0 where
   pub months : after.months ≤ before.months + 2 * count
   pub pushes : after.pushes ≤ before.pushes + count * (month_pushes b + month_pushes c)
