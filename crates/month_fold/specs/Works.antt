@@ -11,8 +11,8 @@ pub record WorkDone : Type 0 where
 abbrev pub no_work : WorkDone
 no_work = record { pushes = 0; months = 0 }
 
--- from one to the other at most `count` months of a basin were solved, and searches pushed at most as often as the bound
--- of a month allows for each of them
+-- from one to the other at most `count` months of a basin were solved, and searches pushed at most as often as the
+-- bound of a month allows for each of them
 pub record Solves (count : ℕ) (b : Basin) (before after : WorkDone) : Type 0 where
   pub months : after.months ≤ before.months + count
   pub pushes : after.pushes ≤ before.pushes + count * month_pushes b
