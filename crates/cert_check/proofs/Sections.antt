@@ -3,6 +3,7 @@ use Rattle.std.proofs.Common.{◌≡◌, ℕ, Bool, true, false, refl, sym, ap, 
 use Rattle.std.specs.Prelude.{None, ◌&&◌, not, ◌==◌, nat_lt, slice_index}
 use Rattle.std.proofs.lemmas.Bool.Decides.{nat_tests}
 use Rattle.std.proofs.lemmas.Bool.{eqb-true, or_from, or_parts}
+use Rattle.water_text.specs.Months.{is_same_month}
 use Rattle.water_text.specs.declared.month.Month.{Month}
 use Rattle.water_model.specs.Basin.{instream_link}
 use Rattle.water_model.specs.History.{opening_after}
@@ -15,7 +16,7 @@ use Rattle.water_model.specs.declared.types.Basin.{Basin}
 use Rattle.water_model.specs.declared.types.Inflows.{Inflows}
 use Rattle.water_model.specs.declared.types.MonthRecord.{MonthRecord}
 use Rattle.result_reader.specs.ReadSoFar.{ReadSoFar}
-use Rattle.cert_check.specs.Checking.{rows, amount_wrong, is_same_month}
+use Rattle.cert_check.specs.Checking.{rows, amount_wrong}
 use Rattle.cert_check.proofs.Rows.{NoneHolds, Section, early_good, is_same, same_is}
 use Rattle.water_text.proofs.MonthLaws.{same_month}
 

@@ -5,6 +5,7 @@ use Rattle.std.specs.Prelude.{◌==◌, if◌then◌else◌, slice_index, slice_
 use Rattle.std.specs.List.{list_all, list_any, flat_map}
 use Rattle.std.specs.Option.{option_map_or}
 use Rattle.finite_sums.specs.Sums.{total_where}
+use Rattle.water_text.specs.Months.{is_same_month}
 use Rattle.water_text.specs.declared.month.Month.{Month}
 use Rattle.water_model.specs.Basin.{is_senior, taking_node, instream_link}
 use Rattle.water_model.specs.Cuts.{cut_capacity, cut_kept, separates}
@@ -85,9 +86,6 @@ is_due r caller (Some due) = due.0 == r && due.1 == caller
 abbrev pub called_wrong : Basin → ReadSoFar → Item → Bool
 called_wrong b t (line.Called r caller) = not (is_due r caller (slice_get (callers_due b t.now) t.called))
 called_wrong b t other = is_after_calls other && nat_lt t.called (length (callers_due b t.now))
-
-abbrev pub is_same_month : Month → Month → Bool
-is_same_month m n = m.year == n.year && m.month == n.month
 
 -- The rows of the amounts. An amount is wrong by what the lines before it say, and that of the last `out` line by what
 -- they say with it.

@@ -5,7 +5,7 @@ ghost use Rattle.std.specs.Prelude.{◌≡◌, ◌<◌, ◌==◌, length, map, n
 ghost use Rattle.water_model.specs.OfBasin.{IsOfBasin};
 ghost use Rattle.result_reader.specs.Due.{is_member};
 ghost use Rattle.result_reader.specs.ReadSoFar.{ReadSoFar};
-ghost use Rattle.water_text.specs.Months.{IsMonth};
+ghost use Rattle.water_text.specs.Months.{IsMonth, is_same_month};
 ghost use Rattle.water_model.specs.Basin.{instream_link};
 ghost use Rattle.water_model.specs.History.{FitsBasin};
 ghost use Rattle.water_model.specs.Hydrology.{evaporation, run_month};
@@ -64,7 +64,7 @@ pub fn is_after_calls(item: &Item) -> bool
 }
 
 fn is_same_month(one: Month, other: Month) -> bool
-    ensures { result ≡ checking.is_same_month one other }
+    ensures { result ≡ is_same_month one other }
 {
     one.year == other.year && one.month == other.month
 }

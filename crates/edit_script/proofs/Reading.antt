@@ -13,7 +13,7 @@ use Rattle.edit_script.specs.declared.edit.Edit.{Edit}
 use Rattle.edit_script.specs.declared.refused.ScriptRefused.{ScriptRefused}
 use Rattle.edit_script.specs.declared.refused.ScriptRefused.TheVariants as refused
 use Rattle.edit_script.specs.declared.refused.ScriptFault.TheVariants as fault
-use Rattle.edit_script.proofs.Pieces.{some_piece}
+use Rattle.water_text.proofs.Splits.{some_piece}
 
 -- what was read, and after it the answer to the lines to come
 abbrev pub after : List Edit → Reading → Reading

@@ -1,9 +1,8 @@
 -- What one line of a script asks for.
-use Rattle.std.specs.Prelude.{ℕ, ◌^◌, List, [], ◌∷◌, codes, Option, Some, None, Result, Ok, Err, ◌==◌, if◌then◌else◌}
-use Rattle.std.specs.Borrow.{Bor}
-use Rattle.std.specs.List.{slice_split}
+use Rattle.std.specs.Prelude.{ℕ, ◌^◌, List, [], ◌∷◌, codes, Option, Some, None, Result, Ok, Err, if◌then◌else◌}
 use Rattle.std.specs.Str.{bytes_eq}
 use Rattle.water_text.specs.Amounts.{read_plain}
+use Rattle.water_text.specs.Fields.{pieces_of}
 use Rattle.water_text.specs.Months.{read_month}
 use Rattle.water_text.specs.Names.{is_name}
 use Rattle.water_model.specs.Hydrology.{index_in}
@@ -16,14 +15,6 @@ use Rattle.edit_script.specs.declared.edit.Edit.{Edit}
 use Rattle.edit_script.specs.declared.edit.Edit.TheVariants as edit
 use Rattle.edit_script.specs.declared.refused.ScriptFault.{ScriptFault}
 use Rattle.edit_script.specs.declared.refused.ScriptFault.TheVariants as fault
-
--- the fields of a line, between its spaces, and those after a space, if there is one
-abbrev pub fields_of : List ℕ → List (List ℕ)
-fields_of bytes = slice_split (λ byte. byte == 32) bytes
-
-abbrev pub fields_after : Option (Bor (List ℕ)) → List (List ℕ)
-fields_after None = []
-fields_after (Some rest) = fields_of rest.now
 
 -- what is made of a value, or the fault where there is none
 abbrev pub need : {X Y : Type 0} → ScriptFault → Option X → (X → Result Y ScriptFault) → Result Y ScriptFault
@@ -75,4 +66,4 @@ edit_in b series (word ∷ month ∷ name ∷ amount ∷ []) =
 edit_in b series _ = Err fault.BadLine
 
 unfoldable pub edit_of : Basin → Inflows → List ℕ → Result Edit ScriptFault
-edit_of b series line = edit_in b series (fields_of line)
+edit_of b series line = edit_in b series (pieces_of line)

@@ -2,7 +2,7 @@
 #![tactic(auto)]
 
 pub mod edit;
-mod fields;
+mod feeds;
 pub mod laws;
 mod lines;
 mod names;

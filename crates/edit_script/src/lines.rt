@@ -1,16 +1,17 @@
 //! What one line of a script asks for.
 ghost use Rattle.std.specs.Prelude.{◌≡◌, ◌<◌, ◌≤◌, ◌^◌, ◌∷◌, IfOk};
+ghost use Rattle.water_text.specs.Fields.{pieces_of};
 ghost use Rattle.water_model.specs.Valid.{IsValidBasin, IsSeriesOf};
 ghost use Rattle.water_model.specs.declared.types.Inflows.{Inflows};
 ghost use Rattle.edit_script.specs.Edits.{IsValidEdit};
-ghost use Rattle.edit_script.specs.Lines.{edit_in, edit_of, fields_of, inflow_of, numbers_of, show_of, want_of};
+ghost use Rattle.edit_script.specs.Lines.{edit_in, edit_of, inflow_of, numbers_of, show_of, want_of};
 
 use crate::edit::Edit;
-use crate::fields::cut;
 use crate::names::{Names, index_in_run, is_gauged, is_in_series, place_of};
 use crate::refused::ScriptFault;
 use water_model::types::{Basin, Inflows};
 use water_text::amount::read_plain;
+use water_text::fields::cut;
 use water_text::month::Month;
 use water_text::name::is_name;
 
@@ -126,7 +127,7 @@ fn read_change(
 ) -> Result<Edit, ScriptFault>
     requires basin { IsValidBasin names.now.basin.now }
     requires series { IsSeriesOf names.now.basin.now series.now }
-    ensures reads { result ≡ edit_in names.now.basin.now series.now (word.now ∷ month.now ∷ fields_of after.now) }
+    ensures reads { result ≡ edit_in names.now.basin.now series.now (word.now ∷ month.now ∷ pieces_of after.now) }
     ensures placed { IfOk result (IsValidEdit names.now.basin.now series.now) }
 {
     let (name, after) = cut(after);

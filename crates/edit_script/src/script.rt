@@ -6,7 +6,7 @@ ghost use Rattle.edit_script.specs.Lines.{edit_of};
 ghost use Rattle.edit_script.specs.Scripts.{IsRefusalOf, edits_from, ended, lines_of, numbered, script_of};
 
 use crate::edit::Edit;
-use crate::fields::first_line;
+use crate::feeds::first_line;
 use crate::lines::read_edit;
 use crate::names::Names;
 use crate::refused::{ScriptFault, ScriptRefused};

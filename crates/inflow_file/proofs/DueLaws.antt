@@ -9,7 +9,7 @@ use Rattle.std.proofs.lemmas.Bool.{cases_Bool, cases_eq, false≢true, eqb-true,
 use Rattle.std.proofs.lemmas.List.{ext_get_or, length-map, length-append, length-set, get_or_append_left}
 use Rattle.std.proofs.lemmas.List.{get_or-append-add, get_or-map, get_or-set_same, get_or-set_other}
 use Rattle.std.proofs.lemmas.Nat.{div-add-mod', div_below, mod_below, mul-le}
-use Rattle.water_text.specs.Months.{IsMonth}
+use Rattle.water_text.specs.Months.{IsMonth, is_same_month}
 use Rattle.water_text.specs.declared.month.Month.{Month}
 use Rattle.water_model.specs.Hydrology.{run_month, index_in}
 use Rattle.water_model.specs.Valid.{HasBoundedEntries}
@@ -18,7 +18,7 @@ use Rattle.water_model.proofs.Gauges.{cell_within}
 use Rattle.inflow_file.specs.Columns.{IsColumn, column_numbers, count_of_both, is_column}
 use Rattle.inflow_file.specs.Entries.{IsEntry}
 use Rattle.inflow_file.specs.Given.{given}
-use Rattle.inflow_file.specs.SeriesFaults.{amount_for, due, is_same_month, months_of, repeats, is_in_run}
+use Rattle.inflow_file.specs.SeriesFaults.{amount_for, due, months_of, repeats, is_in_run}
 use Rattle.inflow_file.specs.declared.entry.SeriesRecord.{SeriesRecord}
 use Rattle.inflow_file.proofs.ColumnLaws.{passed_most, index_holds, index_of_passing}
 use Rattle.inflow_file.proofs.RunLaws.{same_itself, length-months, month_there, month_in_run}

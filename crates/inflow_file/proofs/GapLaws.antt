@@ -11,7 +11,7 @@ use Rattle.std.proofs.lemmas.List.Elements.{All-from_get_or}
 use Rattle.std.proofs.lemmas.Nat.{div-mul-add, mod-mul-add, div_below, mod_below}
 use Rattle.std.proofs.lemmas.Option.{same_Some}
 use Rattle.water_text.specs.Amounts.{read_amount}
-use Rattle.water_text.specs.Months.{read_month}
+use Rattle.water_text.specs.Months.{is_same_month, read_month}
 use Rattle.water_text.specs.declared.month.Month.{Month}
 use Rattle.water_model.specs.Hydrology.{run_month, index_in, inflow_at, inflow_of_kind, table_at}
 use Rattle.water_model.specs.Valid.{IsSeriesOf, gauged_nodes, is_gauged, is_gauged_kind, is_in_series, rights_in_series}
@@ -28,7 +28,7 @@ use Rattle.inflow_file.specs.Entries.{column_of, go_on, need, read_record}
 use Rattle.inflow_file.specs.CsvRecords.{records_of}
 use Rattle.inflow_file.specs.Given.{Completes, TookTable, given, given_by}
 use Rattle.inflow_file.specs.SeriesFaults.{IsRefusalOf, IsSeriesRefusal, SpellsAmounts, SpellsSeries, amount_for}
-use Rattle.inflow_file.specs.SeriesFaults.{body_of, series_fault, due, entries_of, is_same_month, missing, missing_of}
+use Rattle.inflow_file.specs.SeriesFaults.{body_of, series_fault, due, entries_of, missing, missing_of}
 use Rattle.inflow_file.specs.declared.entry.SeriesRecord.{SeriesRecord}
 use Rattle.inflow_file.specs.declared.refused.SeriesFault.{SeriesFault}
 use Rattle.inflow_file.specs.declared.refused.SeriesFault.TheVariants as fault

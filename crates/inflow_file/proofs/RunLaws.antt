@@ -6,11 +6,11 @@ use Rattle.std.specs.List.{list_any, range_with_len}
 use Rattle.std.proofs.lemmas.Bool.{cases_Bool, and_parts, eqb-true}
 use Rattle.std.proofs.lemmas.Bool.Decides.{nat_tests}
 use Rattle.std.proofs.lemmas.List.{length-map}
-use Rattle.water_text.specs.Months.{IsMonth, month_after}
+use Rattle.water_text.specs.Months.{IsMonth, is_same_month, month_after}
 use Rattle.water_text.specs.declared.month.Month.{Month}
 use Rattle.water_model.specs.Hydrology.{run_month}
 use Rattle.water_model.specs.declared.types.Basin.{Basin}
-use Rattle.inflow_file.specs.SeriesFaults.{is_same_month, is_in_run, months_of}
+use Rattle.inflow_file.specs.SeriesFaults.{is_in_run, months_of}
 use Rattle.water_text.proofs.MonthLaws.{same_month}
 
 pub same_itself : (n : ℕ) → n == n ≡ true

@@ -4,6 +4,7 @@ use Rattle.std.specs.Prelude.{Bool, true, Option, Some, None, is_some, option_ma
 use Rattle.std.specs.List.{find, filter_map, flat_map, list_any, range_with_len}
 use Rattle.std.specs.Option.{option_or}
 use Rattle.std.specs.Result.{result_ok}
+use Rattle.water_text.specs.Months.{is_same_month}
 use Rattle.water_text.specs.declared.month.Month.{Month}
 use Rattle.water_model.specs.Hydrology.{run_month, inflow_at, table_at}
 use Rattle.water_model.specs.Valid.{is_gauged, is_in_series}
@@ -17,10 +18,6 @@ use Rattle.inflow_file.specs.declared.refused.SeriesFault.{SeriesFault}
 use Rattle.inflow_file.specs.declared.refused.SeriesFault.TheVariants as fault
 use Rattle.inflow_file.specs.declared.refused.SeriesRefused.{SeriesRefused}
 use Rattle.inflow_file.specs.declared.refused.SeriesRefused.TheVariants as refused
-
--- months are distinguished by year and month
-abbrev pub is_same_month : Month → Month → Bool
-is_same_month m n = m.year == n.year && m.month == n.month
 
 -- the months of the run, in order
 abbrev pub months_of : Basin → List Month

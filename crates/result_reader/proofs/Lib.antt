@@ -5,7 +5,6 @@ pub mod Placing
 pub mod Members
 pub mod Growing
 pub mod NameLaws
-pub mod Pieces
 pub mod WordLaws
 pub mod Sayings
 pub mod StandingLaws

@@ -12,6 +12,7 @@ use Rattle.std.proofs.lemmas.Slice.Eq.{bytes_eq-Decides}
 use Rattle.water_text.proofs.AmountLaws.{plain_is_read}
 use Rattle.water_text.proofs.MonthLaws.{month_is_read}
 use Rattle.water_text.specs.Amounts.{read_plain}
+use Rattle.water_text.specs.Fields.{pieces_of}
 use Rattle.water_text.specs.Months.{IsMonth, month_digits}
 use Rattle.water_text.specs.Names.{is_name}
 use Rattle.water_text.specs.declared.month.Month.{Month}
@@ -26,7 +27,7 @@ use Rattle.water_model.specs.declared.types.Basin.{Basin}
 use Rattle.basin_names.specs.Named.{named}
 use Rattle.basin_names.proofs.Names.{named_is}
 use Rattle.result_reader.specs.OfText.{IsOfText}
-use Rattle.result_reader.specs.Reading.{pieces_of, and_then, no_field, one_field, two_fields, three_fields, name_field}
+use Rattle.result_reader.specs.Reading.{and_then, no_field, one_field, two_fields, three_fields, name_field}
 use Rattle.result_reader.specs.Reading.{month_field, amount_field, count_field, entry_named, item_with, item_in}
 use Rattle.result_reader.specs.Reading.{item_of}
 use Rattle.result_reader.specs.Words.{spelling_of, word_of}

@@ -11,6 +11,7 @@ use Rattle.std.proofs.lemmas.Bool.{and_parts}
 use Rattle.water_text.proofs.AmountLaws.{read_plain-decimal, decimal_short}
 use Rattle.water_text.proofs.MonthLaws.{read_month-month_digits, length-month_digits}
 use Rattle.water_text.specs.Amounts.{read_plain}
+use Rattle.water_text.specs.Fields.{pieces_of}
 use Rattle.water_text.specs.Months.{IsMonth, month_digits}
 use Rattle.water_text.specs.Names.{is_name, is_name_byte}
 use Rattle.water_text.specs.declared.month.Month.{Month}
@@ -26,7 +27,7 @@ use Rattle.water_model.specs.declared.space.Space.{Space}
 use Rattle.water_model.specs.declared.space.Space.TheVariants as space
 use Rattle.water_model.specs.declared.types.Basin.{Basin}
 use Rattle.result_reader.specs.OfText.{IsOfText}
-use Rattle.result_reader.specs.Reading.{pieces_of, count_field, item_with, item_in, item_of}
+use Rattle.result_reader.specs.Reading.{count_field, item_with, item_in, item_of}
 use Rattle.result_reader.specs.Words.{word_of}
 use Rattle.result_reader.specs.declared.words.Word.TheVariants as word
 use Rattle.basin_names.proofs.Names.{named-at}

@@ -1,11 +1,10 @@
 -- What a line says.
-use Rattle.std.specs.Prelude.{ℕ, ◌^◌, List, [], ◌∷◌, ◌++◌, length, codes, Option, Some, None, Result, Ok, Err, is_some}
-use Rattle.std.specs.Prelude.{nat_le, nat_lt, ◌==◌, if◌then◌else◌}
-use Rattle.std.specs.Borrow.{Bor}
-use Rattle.std.specs.List.{slice_split}
+use Rattle.std.specs.Prelude.{ℕ, ◌^◌, List, [], ◌∷◌, ◌++◌, length, codes, Result, Ok, Err, is_some}
+use Rattle.std.specs.Prelude.{nat_le, nat_lt, if◌then◌else◌}
 use Rattle.std.specs.Option.{ok_or}
 use Rattle.std.specs.Str.{bytes_eq}
 use Rattle.water_text.specs.Amounts.{read_plain}
+use Rattle.water_text.specs.Fields.{pieces_of}
 use Rattle.water_text.specs.Months.{read_month}
 use Rattle.water_text.specs.Names.{is_name}
 use Rattle.water_text.specs.declared.month.Month.{Month}
@@ -22,15 +21,6 @@ use Rattle.result_reader.specs.declared.bad_line.BadLine.{BadLine}
 use Rattle.result_reader.specs.declared.bad_line.BadLine.TheVariants as bad
 use Rattle.result_reader.specs.declared.words.Word.{Word}
 use Rattle.result_reader.specs.declared.words.Word.TheVariants as word
-
--- what stands between the spaces of a line
-abbrev pub pieces_of : List ℕ → List (List ℕ)
-pieces_of bytes = slice_split (λ byte. byte == 32) bytes
-
--- and in what stands after a space, if there is one
-abbrev pub pieces_after : Option (Bor (List ℕ)) → List (List ℕ)
-pieces_after None = []
-pieces_after (Some rest) = pieces_of rest.now
 
 -- what f makes of a good answer
 abbrev pub and_then : {X Y : Type 0} → Result X BadLine → (X → Result Y BadLine) → Result Y BadLine

@@ -1,34 +1,18 @@
 //! The fields of a line.
-ghost use Rattle.std.specs.Prelude.{◌≡◌, ◌∷◌, ◌==◌};
-ghost use Rattle.std.specs.List.{position};
+ghost use Rattle.std.specs.Prelude.{◌≡◌};
 ghost use Rattle.std.specs.Result.{result_map_both};
+ghost use Rattle.water_text.specs.Fields.{pieces_after};
 ghost use Rattle.result_reader.specs.Reading as reading;
 
 use crate::bad_line::BadLine;
 use water_text::amount::read_plain;
+use water_text::fields::cut;
 use water_text::month::Month;
 use water_text::name::is_name;
 
-/// The index of the first space.
-fn first_space(text: &[u8]) -> Option<usize>
-    ensures { result ≡ position (λ byte. byte == 32) text.now }
-{
-    text.iter().position(|byte| *byte == b' ')
-}
-
-/// The bytes up to the first space, and those after it, if there is one.
-pub fn cut(text: &[u8]) -> (&[u8], Option<&[u8]>)
-    ensures { reading.pieces_of text.now ≡ result.0.now ∷ reading.pieces_after result.1 }
-{
-    match first_space(text) {
-        Some(at) => (&text[..at], Some(&text[at + 1..])),
-        None => (text, None),
-    }
-}
-
 /// Makes sure that there is no field.
 pub fn no_field(rest: Option<&[u8]>) -> Result<(), BadLine>
-    ensures { result ≡ reading.no_field (reading.pieces_after rest.entry) }
+    ensures { result ≡ reading.no_field (pieces_after rest.entry) }
 {
     match rest {
         None => Ok(()),
@@ -39,7 +23,7 @@ pub fn no_field(rest: Option<&[u8]>) -> Result<(), BadLine>
 /// The only field.
 pub fn one_field(rest: Option<&[u8]>) -> Result<&[u8], BadLine>
     ensures { result_map_both (λ field. field.now) (λ e. e) result
-        ≡ reading.one_field (reading.pieces_after rest.entry) }
+        ≡ reading.one_field (pieces_after rest.entry) }
 {
     let Some(text) = rest else {
         return Err(BadLine::BadField);
@@ -52,7 +36,7 @@ pub fn one_field(rest: Option<&[u8]>) -> Result<&[u8], BadLine>
 /// The two fields.
 pub fn two_fields(rest: Option<&[u8]>) -> Result<(&[u8], &[u8]), BadLine>
     ensures { result_map_both (λ fields. (fields.0.now, fields.1.now)) (λ e. e) result
-        ≡ reading.two_fields (reading.pieces_after rest.entry) }
+        ≡ reading.two_fields (pieces_after rest.entry) }
 {
     let Some(text) = rest else {
         return Err(BadLine::BadField);
@@ -65,7 +49,7 @@ pub fn two_fields(rest: Option<&[u8]>) -> Result<(&[u8], &[u8]), BadLine>
 /// The three fields.
 pub fn three_fields(rest: Option<&[u8]>) -> Result<(&[u8], &[u8], &[u8]), BadLine>
     ensures { result_map_both (λ fields. (fields.0.now, fields.1.now, fields.2.now)) (λ e. e) result
-        ≡ reading.three_fields (reading.pieces_after rest.entry) }
+        ≡ reading.three_fields (pieces_after rest.entry) }
 {
     let Some(text) = rest else {
         return Err(BadLine::BadField);

@@ -1,12 +1,13 @@
 //! What a line says.
 ghost use Rattle.std.specs.Prelude.{◌≡◌};
+ghost use Rattle.water_text.specs.Fields.{pieces_after};
 ghost use Rattle.water_model.specs.Valid.{IsValidBasin};
 ghost use Rattle.result_reader.specs.Reading as reading;
 ghost use Rattle.result_reader.specs.declared.words.Word.TheVariants as word;
 
 use crate::bad_line::BadLine;
 use crate::fields::{
-    amount_field, count_field, cut, month_field, name_field, no_field, one_field, three_fields,
+    amount_field, count_field, month_field, name_field, no_field, one_field, three_fields,
     two_fields,
 };
 use crate::likely::Likely;
@@ -15,6 +16,7 @@ use crate::words::Word;
 use water_model::item::Item;
 use water_model::quantity::Quantity;
 use water_model::space::Space;
+use water_text::fields::cut;
 
 /// The entry that has the name, which is likely this one. Where none has it, no such line may come.
 fn entry_named(names: &Names, space: Space, likely: u32, name: &[u8]) -> Result<u32, BadLine>
@@ -26,7 +28,7 @@ fn entry_named(names: &Names, space: Space, likely: u32, name: &[u8]) -> Result<
 
 #[tactic(auto, unfolding(crate::specs::Reading::item_with))]
 fn title(names: &Names, rest: Option<&[u8]>) -> Result<Item, BadLine>
-    ensures { result ≡ reading.item_with names.now.basin.now word.Title (reading.pieces_after rest.entry) }
+    ensures { result ≡ reading.item_with names.now.basin.now word.Title (pieces_after rest.entry) }
 {
     if one_field(rest)? == b"1".as_slice() {
         Ok(Item::Title)
@@ -37,7 +39,7 @@ fn title(names: &Names, rest: Option<&[u8]>) -> Result<Item, BadLine>
 
 #[tactic(auto, unfolding(crate::specs::Reading::item_with))]
 fn run(names: &Names, rest: Option<&[u8]>) -> Result<Item, BadLine>
-    ensures { result ≡ reading.item_with names.now.basin.now word.Run (reading.pieces_after rest.entry) }
+    ensures { result ≡ reading.item_with names.now.basin.now word.Run (pieces_after rest.entry) }
 {
     let (first, months) = two_fields(rest)?;
     let first = month_field(first)?;
@@ -47,7 +49,7 @@ fn run(names: &Names, rest: Option<&[u8]>) -> Result<Item, BadLine>
 
 #[tactic(auto, unfolding(crate::specs::Reading::item_with))]
 fn month(names: &Names, rest: Option<&[u8]>) -> Result<Item, BadLine>
-    ensures { result ≡ reading.item_with names.now.basin.now word.Month (reading.pieces_after rest.entry) }
+    ensures { result ≡ reading.item_with names.now.basin.now word.Month (pieces_after rest.entry) }
 {
     let month = month_field(one_field(rest)?)?;
     Ok(Item::Month { month })
@@ -61,7 +63,7 @@ fn amount(
     rest: Option<&[u8]>,
 ) -> Result<Item, BadLine>
     requires { IsValidBasin names.now.basin.now }
-    ensures { result ≡ reading.item_with names.now.basin.now (word.Amount quantity) (reading.pieces_after rest.entry) }
+    ensures { result ≡ reading.item_with names.now.basin.now (word.Amount quantity) (pieces_after rest.entry) }
 {
     let (name, amount) = two_fields(rest)?;
     let name = name_field(name)?;
@@ -77,7 +79,7 @@ fn amount(
 #[tactic(auto, unfolding(crate::specs::Reading::item_with))]
 fn delivery(names: &Names, likely: Likely, rest: Option<&[u8]>) -> Result<Item, BadLine>
     requires { IsValidBasin names.now.basin.now }
-    ensures { result ≡ reading.item_with names.now.basin.now word.Deliver (reading.pieces_after rest.entry) }
+    ensures { result ≡ reading.item_with names.now.basin.now word.Deliver (pieces_after rest.entry) }
 {
     let (name, amount, want) = three_fields(rest)?;
     let name = name_field(name)?;
@@ -94,7 +96,7 @@ fn delivery(names: &Names, likely: Likely, rest: Option<&[u8]>) -> Result<Item, 
 #[tactic(auto, unfolding(crate::specs::Reading::item_with))]
 fn call(names: &Names, likely: Likely, rest: Option<&[u8]>) -> Result<Item, BadLine>
     requires { IsValidBasin names.now.basin.now }
-    ensures { result ≡ reading.item_with names.now.basin.now word.Call (reading.pieces_after rest.entry) }
+    ensures { result ≡ reading.item_with names.now.basin.now word.Call (pieces_after rest.entry) }
 {
     let name = name_field(one_field(rest)?)?;
     let right = entry_named(names, Space::Rights, likely.entry, name)?;
@@ -104,7 +106,7 @@ fn call(names: &Names, likely: Likely, rest: Option<&[u8]>) -> Result<Item, BadL
 #[tactic(auto, unfolding(crate::specs::Reading::item_with))]
 fn member(names: &Names, likely: Likely, rest: Option<&[u8]>) -> Result<Item, BadLine>
     requires { IsValidBasin names.now.basin.now }
-    ensures { result ≡ reading.item_with names.now.basin.now word.Member (reading.pieces_after rest.entry) }
+    ensures { result ≡ reading.item_with names.now.basin.now word.Member (pieces_after rest.entry) }
 {
     let name = name_field(one_field(rest)?)?;
     let node = entry_named(names, Space::Nodes, likely.member, name)?;
@@ -114,7 +116,7 @@ fn member(names: &Names, likely: Likely, rest: Option<&[u8]>) -> Result<Item, Ba
 #[tactic(auto, unfolding(crate::specs::Reading::item_with))]
 fn called(names: &Names, likely: Likely, rest: Option<&[u8]>) -> Result<Item, BadLine>
     requires { IsValidBasin names.now.basin.now }
-    ensures { result ≡ reading.item_with names.now.basin.now word.Called (reading.pieces_after rest.entry) }
+    ensures { result ≡ reading.item_with names.now.basin.now word.Called (pieces_after rest.entry) }
 {
     let (name, other) = two_fields(rest)?;
     let name = name_field(name)?;
@@ -126,7 +128,7 @@ fn called(names: &Names, likely: Likely, rest: Option<&[u8]>) -> Result<Item, Ba
 
 #[tactic(auto, unfolding(crate::specs::Reading::item_with))]
 fn done(names: &Names, rest: Option<&[u8]>) -> Result<Item, BadLine>
-    ensures { result ≡ reading.item_with names.now.basin.now word.Done (reading.pieces_after rest.entry) }
+    ensures { result ≡ reading.item_with names.now.basin.now word.Done (pieces_after rest.entry) }
 {
     let months = count_field(one_field(rest)?)?;
     Ok(Item::Done { months })
@@ -134,7 +136,7 @@ fn done(names: &Names, rest: Option<&[u8]>) -> Result<Item, BadLine>
 
 #[tactic(auto, unfolding(crate::specs::Reading::item_with))]
 fn end(names: &Names, rest: Option<&[u8]>) -> Result<Item, BadLine>
-    ensures { result ≡ reading.item_with names.now.basin.now word.End (reading.pieces_after rest.entry) }
+    ensures { result ≡ reading.item_with names.now.basin.now word.End (pieces_after rest.entry) }
 {
     no_field(rest)?;
     Ok(Item::End)
@@ -148,7 +150,7 @@ fn item_with(
     rest: Option<&[u8]>,
 ) -> Result<Item, BadLine>
     requires { IsValidBasin names.now.basin.now }
-    ensures { result ≡ reading.item_with names.now.basin.now word (reading.pieces_after rest.entry) }
+    ensures { result ≡ reading.item_with names.now.basin.now word (pieces_after rest.entry) }
 {
     match word {
         Word::Title => title(names, rest),

@@ -2,10 +2,22 @@
 use Rattle.std.proofs.Common.{◌≡◌, ℕ, ◌+◌, ◌-◌, ◌≤◌, Bool, true, false, refl, sym, ap, ◌∙◌, arith, List, [], ◌∷◌}
 use Rattle.std.proofs.Common.{length, take, drop, Some, None, cond}
 use Rattle.std.specs.Prelude.{nat_lt}
-use Rattle.std.specs.List.{slice_split, position, position_or_len}
+use Rattle.std.specs.List.{slice_split, onto_first, position, position_or_len}
 use Rattle.std.proofs.lemmas.Bool.{ltb-false, ltb-true}
 use Rattle.std.proofs.lemmas.List.{take_rest}
 use Rattle.std.proofs.lemmas.List.Splits.{slice_split_first}
+
+-- a list has a piece
+pub some_piece : (p : ℕ → Bool) (bytes : List ℕ) → (piece : List ℕ) × (pieces : List (List ℕ)) ×
+    (slice_split p bytes ≡ piece ∷ pieces)
+some_piece p [] = ([], [], refl)
+some_piece p (c ∷ cs) = by_test (p c) (slice_split p cs)
+  where
+    by_test : (t : Bool) (parts : List (List ℕ)) → (piece : List ℕ) × (pieces : List (List ℕ)) ×
+        (cond t ([] ∷ parts) (onto_first c parts) ≡ piece ∷ pieces)
+    by_test true parts = ([], parts, refl)
+    by_test false [] = (c ∷ [], [], refl)
+    by_test false (part ∷ parts) = (c ∷ part, parts, refl)
 
 -- without an element at which it is cut, a list is the one piece
 uncut : {X : Type 0} (p : X → Bool) (xs : List X) → length xs ≤ position_or_len p xs → slice_split p xs ≡ xs ∷ []

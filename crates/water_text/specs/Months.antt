@@ -1,6 +1,6 @@
 -- Months from 1800-01 to 2999-12, their spelling and their days.
 use Rattle.std.specs.Prelude.{ℕ, ◌+◌, ◌-◌, ◌/◌, ◌%◌, ◌≤◌, nat_le, Bool, ◌&&◌, List, ◌∷◌, [], ◌++◌, slice_range, codes}
-use Rattle.std.specs.Prelude.{Option, Some, None, if◌then◌else◌, ℤ, pos, ◌-ℤ◌, unsigned_abs}
+use Rattle.std.specs.Prelude.{◌==◌, Option, Some, None, if◌then◌else◌, ℤ, pos, ◌-ℤ◌, unsigned_abs}
 use Rattle.std.specs.Fmt.{decimal}
 use Rattle.std.specs.Str.Parse.{digits_value}
 use Rattle.jiff_core.specs.Calendar.{days_from_civil}
@@ -15,6 +15,10 @@ pub record IsMonth (m : Month) : Type 0 where
 -- the test of it
 abbrev pub is_month : Month → Bool
 is_month m = (nat_le 1800 m.year && nat_le m.year 2999) && (nat_le 1 m.month && nat_le m.month 12)
+
+-- whether two months are the same: months are distinguished by year and month
+abbrev pub is_same_month : Month → Month → Bool
+is_same_month m n = m.year == n.year && m.month == n.month
 
 -- the month that a text YYYY-MM spells
 unfoldable pub read_month : List ℕ → Option Month

@@ -1,25 +1,7 @@
-//! The parts of a text between line feeds, and those of a line between spaces.
+//! The parts of a text between line feeds.
 ghost use Rattle.std.specs.Prelude.{◌≡◌, ◌∷◌, [], ◌==◌, ◌<◌, length, IfNone, IfSome};
 ghost use Rattle.std.specs.List.{position};
-ghost use Rattle.edit_script.specs.Lines.{fields_of, fields_after};
 ghost use Rattle.edit_script.specs.Scripts.{lines_of};
-
-/// The index of the first space.
-fn first_space(text: &[u8]) -> Option<usize>
-    ensures { result ≡ position (λ byte. byte == 32) text.now }
-{
-    text.iter().position(|byte| *byte == b' ')
-}
-
-/// The bytes up to the first space, and those after it, if there is one.
-pub fn cut(text: &[u8]) -> (&[u8], Option<&[u8]>)
-    ensures { fields_of text.now ≡ result.0.now ∷ fields_after result.1 }
-{
-    match first_space(text) {
-        Some(at) => (&text[..at], Some(&text[at + 1..])),
-        None => (text, None),
-    }
-}
 
 /// The index of the first line feed.
 fn first_feed(text: &[u8]) -> Option<usize>

@@ -1,7 +1,7 @@
 use Rattle.std.proofs.Common.{sym, ◌∙◌}
 use Rattle.std.specs.Prelude.{◌==◌}
 use Rattle.water_text.proofs.Splits.{split-cut, split-whole}
-use Rattle.edit_script.proofs.fields.cut.Goals as goal
+use Rattle.water_text.proofs.fields.cut.Goals as goal
 
 pub returns-in-Some : goal.returns-in-Some
 returns-in-Some c =
