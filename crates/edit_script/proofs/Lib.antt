@@ -1,4 +1,3 @@
 pub mod Pieces
 pub mod Reading
 pub mod Columns
-pub mod Months
