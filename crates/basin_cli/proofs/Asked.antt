@@ -3,13 +3,12 @@ use Rattle.std.proofs.Common.{◌≡◌, ℕ, sym, ◌∙◌, ap, arith, List, S
 use Rattle.std.proofs.lemmas.Bool.{cases_order}
 use Rattle.basin_names.specs.Named.{right_named}
 use Rattle.basin_names.proofs.Names.{named_is, named_none}
-use Rattle.edit_script.specs.Names.{month_number}
-use Rattle.edit_script.proofs.Months.{number_after}
 use Rattle.water_text.specs.declared.month.Month.{Month}
-use Rattle.water_model.specs.Hydrology.{run_month}
+use Rattle.water_model.specs.Hydrology.{month_number, run_month}
 use Rattle.water_model.specs.Valid.{IsValidBasin}
 use Rattle.water_model.specs.declared.space.Space.TheVariants.{Rights}
 use Rattle.water_model.specs.declared.types.Basin.{Basin}
+use Rattle.water_model.proofs.RunMonths.{number_after}
 use Rattle.basin_cli.specs.Explained.{HasRight, IsRightNamed}
 
 -- a month has one index

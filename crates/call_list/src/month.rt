@@ -9,7 +9,7 @@ ghost use Rattle.call_list.specs.MonthsCalls.{lines_of};
 
 use crate::entry::Entry;
 use crate::part::Part;
-use cut_cert::is_senior_to;
+use rights_roll::priority::is_senior_to;
 use rights_roll::roll::Roll;
 use std::marker::Model;
 use water_model::calls::taking_node;

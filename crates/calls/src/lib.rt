@@ -5,7 +5,6 @@ ghost use Rattle.std.specs.Prelude.{◌≡◌, ℕ, ◌*◌, ◌<◌, ◌≤◌,
 ghost use Rattle.std.specs.Prelude.{None};
 ghost use Rattle.std.specs.Option.{option_or};
 ghost use Rattle.bit_words.specs.Marks.{in_both, is_marked};
-ghost use Rattle.water_model.specs.Basin.{is_senior};
 ghost use Rattle.water_model.specs.History.{FitsBasin, IsCallingRight};
 ghost use Rattle.water_model.specs.Text.{calling_right};
 ghost use Rattle.water_model.specs.Valid.{IsValidBasin};
@@ -13,7 +12,7 @@ ghost use Rattle.rights_roll.specs.Rolls.{IsRollOf};
 ghost use Rattle.calls.specs.Callers.{AreCallers, AreFree, caller_at, is_short, is_short_at};
 
 use bit_words::{next_marked_in_both, unmark};
-use rights_roll::priority::is_senior;
+use rights_roll::priority::is_senior_to;
 use rights_roll::roll::Roll;
 use water_model::calls::taking_node;
 use water_model::types::{Basin, MAX_NODES, MonthRecord};
@@ -113,15 +112,6 @@ fn is_wanted(month: &MonthRecord, right: u32) -> bool
     ensures { result ≡ nat_lt 0 (slice_index month.now.want right) }
 {
     month.want[right as usize] > 0
-}
-
-/// Whether the one right is senior to the other.
-fn is_senior_to(basin: &Basin, one: u32, other: u32) -> bool
-    requires one { one < length basin.now.rights }
-    requires other { other < length basin.now.rights }
-    ensures { result ≡ is_senior basin.now one other }
-{
-    is_senior(&basin.rights[one as usize], &basin.rights[other as usize])
 }
 
 /// The calling right of a diversion or zone that wants water in the month: the most senior right that is short, is

@@ -11,7 +11,7 @@ ghost use Rattle.cert_check.specs.Walks.{IsPassed};
 
 use crate::compare::is_after_calls;
 use calls::is_short;
-use rights_roll::priority::is_senior;
+use rights_roll::priority::is_senior_to;
 use water_model::item::Item;
 use water_model::types::{Basin, MonthRecord};
 
@@ -32,10 +32,7 @@ fn passes(basin: &Basin, item: &Item, right: u32) -> bool
     ensures { result ≡ checking.passes basin.now item.now right }
 {
     match *item {
-        Item::Call { right: own } => is_senior(
-            &basin.rights[right as usize],
-            &basin.rights[own as usize],
-        ),
+        Item::Call { right: own } => is_senior_to(basin, right, own),
         _ => is_after_calls(item),
     }
 }

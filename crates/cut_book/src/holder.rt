@@ -3,7 +3,7 @@ ghost use Rattle.std.specs.Prelude.{◌≡◌, ◌<◌, ◌==◌, length, slice_
 ghost use Rattle.cut_book.specs.Holders.{holder_of, more_senior};
 
 use crate::shortage::Shortage;
-use cut_cert::is_senior_to;
+use rights_roll::priority::is_senior_to;
 use water_model::types::Basin;
 
 /// The more senior of a right and the one before, if there is one.

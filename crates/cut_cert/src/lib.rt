@@ -20,7 +20,7 @@ ghost use Rattle.cut_cert.specs.Sets.{cut_at, marked_nodes, HasCut, AreAmounts};
 mod marked;
 
 use crate::marked::{is_in, words_of};
-use rights_roll::priority::is_senior;
+use rights_roll::priority::is_senior_to;
 use rights_roll::roll::Roll;
 use water_model::cut_list::CutList;
 use water_model::types::{Basin, Carry, RightKind};
@@ -75,15 +75,6 @@ pub fn takes_within(basin: &Basin, cuts: &CutList, right: u32, taker: u32) -> bo
     ensures { result ≡ takes_within basin.now (cut_at cuts.now right) taker }
 {
     marked::takes_within(basin, words_of(cuts, right), taker)
-}
-
-/// Whether one right of the basin is senior to another.
-pub fn is_senior_to(basin: &Basin, one: u32, other: u32) -> bool
-    requires one { one < length basin.now.rights }
-    requires other { other < length basin.now.rights }
-    ensures { result ≡ is_senior basin.now one other }
-{
-    is_senior(&basin.rights[one as usize], &basin.rights[other as usize])
 }
 
 /// A sum, with the supplies of the marked nodes from one node on and before another added.

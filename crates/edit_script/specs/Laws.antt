@@ -2,10 +2,9 @@
 use Rattle.std.specs.Prelude.{◌≡◌, ℕ, ◌<◌, Some, ◌↔◌}
 use Rattle.water_text.specs.Months.{IsMonth}
 use Rattle.water_text.specs.declared.month.Month.{Month}
-use Rattle.water_model.specs.Hydrology.{run_month}
+use Rattle.water_model.specs.Hydrology.{index_in_run, run_month}
 use Rattle.water_model.specs.Valid.{IsValidBasin}
 use Rattle.water_model.specs.declared.types.Basin.{Basin}
-use Rattle.edit_script.specs.Names.{index_in_run}
 
 -- Months have their index. A month has an index exactly where the run has it, and the month with that index is this
 -- one.

@@ -5,12 +5,11 @@ use Rattle.water_text.specs.Amounts.{read_plain}
 use Rattle.water_text.specs.Fields.{pieces_of}
 use Rattle.water_text.specs.Months.{read_month}
 use Rattle.water_text.specs.Names.{is_name}
-use Rattle.water_model.specs.Hydrology.{index_in}
+use Rattle.water_model.specs.Hydrology.{index_in, index_in_run}
 use Rattle.water_model.specs.Valid.{is_gauged, is_in_series}
 use Rattle.water_model.specs.declared.types.Basin.{Basin}
 use Rattle.water_model.specs.declared.types.Inflows.{Inflows}
 use Rattle.basin_names.specs.Named.{node_named, right_named}
-use Rattle.edit_script.specs.Names.{index_in_run}
 use Rattle.edit_script.specs.declared.edit.Edit.{Edit}
 use Rattle.edit_script.specs.declared.edit.Edit.TheVariants as edit
 use Rattle.edit_script.specs.declared.refused.ScriptFault.{ScriptFault}

@@ -9,6 +9,5 @@ mod names;
 mod refused;
 mod script;
 
-pub use names::index_in_run;
 pub use refused::{ScriptFault, ScriptRefused};
 pub use script::read_script;

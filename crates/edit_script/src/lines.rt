@@ -7,8 +7,9 @@ ghost use Rattle.edit_script.specs.Edits.{IsValidEdit};
 ghost use Rattle.edit_script.specs.Lines.{edit_in, edit_of, inflow_of, numbers_of, show_of, want_of};
 
 use crate::edit::Edit;
-use crate::names::{Names, index_in_run, is_gauged, is_in_series, place_of};
+use crate::names::Names;
 use crate::refused::ScriptFault;
+use water_model::calls::{index_in_run, index_of, is_gauged, is_in_series};
 use water_model::types::{Basin, Inflows};
 use water_text::amount::read_plain;
 use water_text::fields::cut;
@@ -80,7 +81,7 @@ fn read_inflow(
     if !is_gauged(names.basin, node) {
         return Err(ScriptFault::NotSeries);
     }
-    let gauge = place_of(series.gauged.as_slice(), node);
+    let gauge = index_of(series.gauged.as_slice(), node) as u32;
     Ok(Edit::Inflow {
         index,
         gauge,
@@ -109,7 +110,7 @@ fn read_want(
     if !is_in_series(names.basin, right) {
         return Err(ScriptFault::NotSeries);
     }
-    let place = place_of(series.wanted.as_slice(), right);
+    let place = index_of(series.wanted.as_slice(), right) as u32;
     Ok(Edit::Want {
         index,
         place,

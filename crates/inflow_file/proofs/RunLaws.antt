@@ -1,15 +1,17 @@
 -- The months of a run.
-use Rattle.std.proofs.Common.{◌≡◌, ℕ, zero, suc, ◌+◌, ◌*◌, ◌<◌, ◌≤◌, Bool, true, false, refl, sym, ap, ◌∙◌, arith}
-use Rattle.std.proofs.Common.{length, get_or, map, inl, inr}
+use Rattle.std.proofs.Common.{◌≡◌, ℕ, zero, suc, ◌+◌, ◌<◌, ◌≤◌, Bool, true, false, refl, sym, ap, ◌∙◌, arith}
+use Rattle.std.proofs.Common.{length, get_or, map, inl, inr, Some, None}
 use Rattle.std.specs.Prelude.{◌==◌, ◌||◌}
 use Rattle.std.specs.List.{list_any, range_with_len}
 use Rattle.std.proofs.lemmas.Bool.{cases_Bool, and_parts, eqb-true}
 use Rattle.std.proofs.lemmas.Bool.Decides.{nat_tests}
 use Rattle.std.proofs.lemmas.List.{length-map}
-use Rattle.water_text.specs.Months.{IsMonth, is_same_month, month_after}
+use Rattle.water_text.specs.Months.{IsMonth, is_same_month}
 use Rattle.water_text.specs.declared.month.Month.{Month}
-use Rattle.water_model.specs.Hydrology.{run_month}
+use Rattle.water_model.specs.Hydrology.{index_in_run, month_number, run_month}
+use Rattle.water_model.specs.Valid.{IsValidBasin}
 use Rattle.water_model.specs.declared.types.Basin.{Basin}
+use Rattle.water_model.proofs.RunMonths.{months_have_their_index, number_after}
 use Rattle.inflow_file.specs.SeriesFaults.{is_in_run, months_of}
 use Rattle.water_text.proofs.MonthLaws.{same_month}
 
@@ -25,16 +27,10 @@ same_month_is m n h =
 pub same_month_itself : (m : Month) → is_same_month m m ≡ true
 same_month_itself m = rw (same_itself m.year, same_itself m.month) refl
 
-pub number_after : (first : Month) (i : ℕ) → IsMonth first →
-    12 * (month_after first i).year + (month_after first i).month ≡ 12 * first.year + first.month + i
-number_after first i h = omega (arith, h.month)
-
 -- the months of a run differ
 pub same_index : (b : Basin) (i k : ℕ) → IsMonth b.first → run_month b i ≡ run_month b k → i ≡ k
 same_index b i k h e =
-    let numbers : 12 * (run_month b i).year + (run_month b i).month ≡ 12 * (run_month b k).year + (run_month b k).month
-    = ap (λ (m : Month). 12 * m.year + m.month) e in
-    omega (arith, number_after b.first i h, number_after b.first k h, numbers)
+    omega (arith, number_after b.first i h, number_after b.first k h, ap month_number e)
 
 length-range : (from n : ℕ) → length (range_with_len from n) ≡ n
 length-range from zero = refl
@@ -84,16 +80,19 @@ month_in_run b i l =
     some_from b (run_month b i) 0 b.months i l (sym (ap (λ k. is_same_month (run_month b i) (run_month b k)) same)
     ∙ same_month_itself (run_month b i))
 
--- a month before the run or after it
-pub month_outside : (b : Basin) (m : Month) → IsMonth b.first →
-    ((i : ℕ) → i < b.months → 12 * m.year + m.month ≡ 12 * b.first.year + b.first.month + i → ⊥) → is_in_run b m ≡ false
-month_outside b m h outside = none_from b m 0 b.months (λ i l k. differs i (outside i (omega arith)))
+-- a month without an index is before the run or after it
+pub month_outside : (b : Basin) (m : Month) → IsValidBasin b → IsMonth m → index_in_run b m ≡ None →
+    is_in_run b m ≡ false
+month_outside b m valid month none = none_from b m 0 b.months (λ i l k. differs i (omega arith))
   where
-    differs : (i : ℕ) → (12 * m.year + m.month ≡ 12 * b.first.year + b.first.month + i → ⊥) →
-        is_same_month m (run_month b i) ≡ false
-    differs i other_number = elim (cases_Bool (is_same_month m (run_month b i))) [
+    differs : (i : ℕ) → i < b.months → is_same_month m (run_month b i) ≡ false
+    differs i l = elim (cases_Bool (is_same_month m (run_month b i))) [
       | inl same ↦
-          absurd (other_number (ap (λ (n : Month). 12 * n.year + n.month) (same_month_is m (run_month b i) same)
-          ∙ number_after b.first i h))
+          let found = (months_have_their_index b m i valid month).1 (l, same_month_is m (run_month b i) same) in cc
       | inr other ↦ other
     ]
+
+-- and the month of an index is one of the run
+pub month_inside : (b : Basin) (m : Month) (i : ℕ) → IsValidBasin b → IsMonth m → index_in_run b m ≡ Some i →
+    (i < b.months) × (m ≡ run_month b i)
+month_inside b m i valid month found = (months_have_their_index b m i valid month).0 found

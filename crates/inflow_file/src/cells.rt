@@ -1,46 +1,27 @@
 //! The amounts that records give, column by column in each month of the run.
 ghost use Rattle.std.specs.Prelude.{◌≡◌, ◌++◌, ◌∷◌, [], ◌<◌, ◌≤◌, ◌+◌, ◌*◌, ◌/◌, ◌%◌, List, ℕ, length};
-ghost use Rattle.std.specs.Prelude.{slice_index, slice_index_or, is_some, unwrap_or, Some, None, MatchOption};
+ghost use Rattle.std.specs.Prelude.{slice_index, slice_index_or, is_some, unwrap_or, Some, None};
 ghost use Rattle.std.specs.Prelude.{MatchResult, IfOk, true, false};
-ghost use Rattle.water_text.specs.Months.{IsMonth};
 ghost use Rattle.water_model.specs.Hydrology.{run_month, index_in};
 ghost use Rattle.water_model.specs.Valid.{IsValidBasin};
 ghost use Rattle.inflow_file.specs.Entries.{IsEntry};
 ghost use Rattle.inflow_file.specs.Given.{given, given_by, Completes};
 ghost use Rattle.inflow_file.specs.Cells.{IsPart, cell_in};
 ghost use Rattle.inflow_file.specs.Columns.{IsColumn, column_numbers};
-ghost use Rattle.inflow_file.specs.SeriesFaults.{is_in_run, missing_of, repeats};
+ghost use Rattle.inflow_file.specs.SeriesFaults.{missing_of, repeats};
 ghost use Rattle.inflow_file.specs.declared.entry.SeriesRecord.{SeriesRecord};
 
 use crate::columns::{Columns, gauged_of, wanted_of};
 use crate::entry::SeriesRecord;
 use crate::refused::{SeriesFault, SeriesRefused};
 use std::alloc::{AllocError, Global};
-use water_model::calls::month_at;
+use water_model::calls::{index_in_run, month_at};
 use water_model::rows::Rows;
 use water_model::types::{Basin, Inflows};
 use water_text::month::Month;
 
-/// The index of a month in the run, or `None` where the run hasn't it.
-fn index_in_run(basin: &Basin, month: Month) -> Option<u32>
-    requires basin { IsValidBasin basin.now }
-    requires month { IsMonth month }
-    ensures { MatchOption result (is_in_run basin.now month ≡ false) (λ i. (i < basin.now.months) ×
-        (month ≡ run_month basin.now i)) }
-{
-    let first = 12 * u32::from(basin.first.year) + u32::from(basin.first.month);
-    let number = 12 * u32::from(month.year) + u32::from(month.month);
-    if number < first {
-        return None;
-    }
-    if first + basin.months <= number {
-        return None;
-    }
-    Some(number - first)
-}
-
 /// The cell of a column's amount in the month with this index.
-fn index_of(columns: &Columns, index: u32, number: u32) -> usize
+fn cell_of(columns: &Columns, index: u32, number: u32) -> usize
     requires basin { IsValidBasin columns.now.basin.now }
     requires index { index < columns.now.basin.now.months }
     requires column { IsColumn columns.now.basin.now number }
@@ -69,7 +50,7 @@ pub(crate) fn enter(
     let Some(index) = index_in_run(columns.basin, entry.month) else {
         return Ok(());
     };
-    let cell = index_of(columns, index, entry.column);
+    let cell = cell_of(columns, index, entry.column);
     if amounts[cell].is_some() {
         return Err(SeriesFault::Repeated);
     }

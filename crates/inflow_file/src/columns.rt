@@ -16,8 +16,9 @@ use crate::refused::SeriesFault;
 use basin_names::SpaceNames;
 use csv::ByteRecord;
 use std::alloc::{AllocError, Global};
+use water_model::calls::{is_gauged, is_in_series};
 use water_model::space::Space;
-use water_model::types::{Basin, Inflow};
+use water_model::types::Basin;
 use water_text::amount::read_amount;
 use water_text::month::Month;
 
@@ -44,25 +45,6 @@ pub(crate) struct Columns<'a> {
     ghost count: { length indices.items ≡ count_of_both basin.now },
     ghost placed: { (n : ℕ) → n < count_of_both basin.now → is_column basin.now n ≡ true →
         slice_index indices.items n ≡ index_in numbers.items n },
-}
-
-/// Whether a node is gauged.
-fn is_gauged(basin: &Basin, node: u32) -> bool
-    requires { node < length basin.now.nodes }
-    ensures { result ≡ is_gauged basin.now node }
-{
-    match basin.nodes[node as usize].inflow {
-        Inflow::Gauged => true,
-        Inflow::Monthly(_) => false,
-    }
-}
-
-/// Whether a right's wants stand in the series.
-fn is_in_series(basin: &Basin, right: u32) -> bool
-    requires { right < length basin.now.rights }
-    ensures { result ≡ is_in_series basin.now right }
-{
-    basin.rights[right as usize].series
 }
 
 fn is_column(basin: &Basin, number: u32) -> bool

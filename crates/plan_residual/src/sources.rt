@@ -14,7 +14,7 @@ use crate::rows::StepRows;
 use crate::spread::spread_on;
 use crate::steps::Direction;
 use crate::visits::visit;
-use cut_cert::is_senior_to;
+use rights_roll::priority::is_senior_to;
 use rights_roll::roll::Roll;
 use water_model::calls::taking_node;
 use water_model::types::{Basin, MonthRecord, RightKind};

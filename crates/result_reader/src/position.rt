@@ -6,7 +6,7 @@ ghost use Rattle.result_reader.specs.Form as form;
 ghost use Rattle.result_reader.specs.Progress.{IsDueSearch, months_due, due_at, IsNextPosition, IsPositionOf};
 
 use crate::shape::{Shape, is_optional, is_same_shape, shape_of};
-use rights_roll::priority::is_senior;
+use rights_roll::priority::is_senior_to;
 use water_model::calls::month_at;
 use water_model::item::Item;
 use water_model::types::Basin;
@@ -34,10 +34,7 @@ fn is_allowed(basin: &Basin, item: &Item) -> bool
     ensures { result ≡ form.is_allowed basin.now item.now }
 {
     match *item {
-        Item::Called { right, by } => is_senior(
-            &basin.rights[by as usize],
-            &basin.rights[right as usize],
-        ),
+        Item::Called { right, by } => is_senior_to(basin, by, right),
         _ => true,
     }
 }

@@ -1,9 +1,10 @@
 //! What the order of rights goes by.
-ghost use Rattle.std.specs.Prelude.{◌≡◌};
+ghost use Rattle.std.specs.Prelude.{◌≡◌, ◌<◌, length};
+ghost use Rattle.water_model.specs.Basin.{is_senior};
 ghost use Rattle.water_model.specs.Rights.{priority, is_lower};
 ghost use Rattle.rights_roll.specs.Priorities.{numbers_of};
 
-use water_model::types::Right;
+use water_model::types::{Basin, Right};
 
 /// The date of a right, and its order among the rights of that date. The lower is senior.
 #[derive(Clone, Copy, PartialEq, Eq, PartialOrd, Ord)]
@@ -36,8 +37,17 @@ impl Priority {
 }
 
 /// Whether the one right is senior to the other: its date is earlier, or the dates are equal and its order is lower.
-pub fn is_senior(one: &Right, other: &Right) -> bool
+fn is_senior(one: &Right, other: &Right) -> bool
     ensures { result ≡ is_lower (priority one.now) (priority other.now) }
 {
     Priority::of(one).is_senior_to(&Priority::of(other))
+}
+
+/// Whether one right of the basin is senior to another.
+pub fn is_senior_to(basin: &Basin, one: u32, other: u32) -> bool
+    requires one { one < length basin.now.rights }
+    requires other { other < length basin.now.rights }
+    ensures { result ≡ is_senior basin.now one other }
+{
+    is_senior(&basin.rights[one as usize], &basin.rights[other as usize])
 }

@@ -11,6 +11,7 @@ pub mod CutLemmas
 pub mod CutSteps
 pub mod Balance
 pub mod Gauges
+pub mod RunMonths
 pub mod Wants
 pub mod Carries
 pub mod SetEntries

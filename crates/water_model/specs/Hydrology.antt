@@ -23,6 +23,17 @@ run_month b i = month_after b.first i
 abbrev pub in_year : Basin → ℕ → ℕ
 in_year b i = (run_month b i).month - 1
 
+-- months in a row have numbers in a row
+abbrev pub month_number : Month → ℕ
+month_number m = 12 * m.year + m.month
+
+-- the index of a month in the run, if it is one of its months
+abbrev pub index_in_run : Basin → Month → Option ℕ
+index_in_run b m =
+    if nat_lt (month_number m) (month_number b.first) then None
+    else (if nat_lt (month_number m - month_number b.first) b.months then Some (month_number m - month_number b.first)
+    else None)
+
 -- the index of a number in a list of numbers
 abbrev pub index_in : List ℕ → ℕ → ℕ
 index_in xs n = position_or_len (λ x. x == n) xs

@@ -4,10 +4,10 @@ ghost use Rattle.std.specs.List.Sorted.{IsStrictlyIncreasing};
 ghost use Rattle.water_text.specs.Months.{IsMonth};
 ghost use Rattle.water_model.specs.Basin.{taking_node};
 ghost use Rattle.water_model.specs.Plans.{carry_of, carry_of_kind};
-ghost use Rattle.water_model.specs.Hydrology.{begins_year, inflow_at, in_year, number_of, index_in, run_month};
-ghost use Rattle.water_model.specs.Hydrology.{target_of, want_of};
+ghost use Rattle.water_model.specs.Hydrology.{begins_year, inflow_at, in_year, number_of, index_in, index_in_run};
+ghost use Rattle.water_model.specs.Hydrology.{run_month, target_of, want_of};
 ghost use Rattle.water_model.specs.Lookups.{of_entry};
-ghost use Rattle.water_model.specs.Valid.{IsValidBasin, IsValidCarry, IsSeriesOf};
+ghost use Rattle.water_model.specs.Valid.{IsValidBasin, IsValidCarry, IsSeriesOf, is_gauged, is_in_series};
 
 use crate::types::{Basin, Carry, Inflow, Inflows, RightKind};
 use water_text::month::Month;
@@ -68,6 +68,25 @@ pub fn month_at(basin: &Basin, index: u32) -> Month
     }
 }
 
+/// The index of a month in the run, or `None` where the run hasn't it.
+pub fn index_in_run(basin: &Basin, month: Month) -> Option<u32>
+    requires basin { IsValidBasin basin.now }
+    requires month { IsMonth month }
+    ensures value { result ≡ index_in_run basin.now month }
+    ensures within { IfSome result (λ index. index < basin.now.months) }
+{
+    let first = 12 * u32::from(basin.first.year) + u32::from(basin.first.month);
+    let number = 12 * u32::from(month.year) + u32::from(month.month);
+    if number < first {
+        return None;
+    }
+    if number - first < basin.months {
+        Some(number - first)
+    } else {
+        None
+    }
+}
+
 /// The index, in a list of twelve, of the calendar month of the month with this index.
 fn index_in_year(basin: &Basin, index: u32) -> usize
     requires basin { IsValidBasin basin.now }
@@ -85,8 +104,27 @@ pub fn begins_year(basin: &Basin, index: u32) -> bool
     index_in_year(basin, index) + 1 == usize::from(basin.year_start)
 }
 
+/// Whether a node is gauged.
+pub fn is_gauged(basin: &Basin, node: u32) -> bool
+    requires { node < length basin.now.nodes }
+    ensures { result ≡ is_gauged basin.now node }
+{
+    match basin.nodes[node as usize].inflow {
+        Inflow::Gauged => true,
+        Inflow::Monthly(_) => false,
+    }
+}
+
+/// Whether a right's wants stand in the series.
+pub fn is_in_series(basin: &Basin, right: u32) -> bool
+    requires { right < length basin.now.rights }
+    ensures { result ≡ is_in_series basin.now right }
+{
+    basin.rights[right as usize].series
+}
+
 /// The index of a number in a rising list, or the list's length where it isn't there.
-fn index_of(numbers: &[u32], number: u32) -> usize
+pub fn index_of(numbers: &[u32], number: u32) -> usize
     requires { IsStrictlyIncreasing numbers.now }
     ensures { result ≡ index_in numbers.now number }
 {

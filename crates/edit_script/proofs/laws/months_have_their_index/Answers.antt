@@ -1,4 +1,4 @@
-use Rattle.edit_script.proofs.Months.{months_have_their_index}
+use Rattle.water_model.proofs.RunMonths.{months_have_their_index}
 use Rattle.edit_script.proofs.laws.months_have_their_index.Goals as goal
 
 pub returns : goal.returns

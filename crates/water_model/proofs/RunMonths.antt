@@ -1,12 +1,13 @@
 -- A month has an index exactly where the run has it.
 use Rattle.std.proofs.Common.{◌≡◌, ℕ, ◌+◌, ◌-◌, ◌<◌, ◌≤◌, Bool, true, false, ap, refl, ◌∙◌, arith}
-use Rattle.std.specs.Prelude.{Option, Some, None, nat_lt, if◌then◌else◌}
+use Rattle.std.specs.Prelude.{Option, Some, None, nat_lt, if◌then◌else◌, ◌↔◌}
 use Rattle.std.proofs.lemmas.Bool.Decides.{nat_tests}
 use Rattle.water_text.specs.Months.{IsMonth, month_after}
 use Rattle.water_text.specs.declared.month.Month.{Month}
-use Rattle.edit_script.specs.Laws.{MonthsHaveTheirIndex}
-use Rattle.edit_script.specs.Names.{month_number}
 use Rattle.water_text.proofs.MonthLaws.{same_month}
+use Rattle.water_model.specs.Hydrology.{index_in_run, month_number, run_month}
+use Rattle.water_model.specs.Valid.{IsValidBasin}
+use Rattle.water_model.specs.declared.types.Basin.{Basin}
 
 index : ℕ → ℕ → ℕ → Option ℕ
 index x first n = if nat_lt x first then None else (if nat_lt (x - first) n then Some (x - first) else None)
@@ -52,7 +53,8 @@ later_month first m i h k e =
 pub number_after : (first : Month) (i : ℕ) → IsMonth first → month_number (month_after first i) ≡ month_number first + i
 number_after first i h = omega (arith, h.month)
 
-pub months_have_their_index : MonthsHaveTheirIndex
+pub months_have_their_index : (b : Basin) (m : Month) (i : ℕ) → IsValidBasin b → IsMonth m →
+    (index_in_run b m ≡ Some i) ↔ ((i < b.months) × (m ≡ run_month b i))
 unfolding index
 months_have_their_index b m i valid month = (
   (λ h. let found = to_place (month_number m) (month_number b.first) b.months i h in

@@ -1,6 +1,6 @@
 use Rattle.std.proofs.Common.{arith}
 use Rattle.inflow_file.proofs.DueLaws.{small_index, small_table}
-use Rattle.inflow_file.proofs.cells.index_of.Goals as goal
+use Rattle.inflow_file.proofs.cells.cell_of.Goals as goal
 
 pub overflow_mul-result : goal.overflow_mul-result
 overflow_mul-result c =
