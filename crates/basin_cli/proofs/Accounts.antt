@@ -1,6 +1,5 @@
 -- After the files of `why`: the cause of how it ends, what it leaves on out, and the months that it solves.
-use Rattle.std.proofs.Common.{◌≡◌, ℕ, ◌≤◌, sym, ◌∙◌, subst, arith, List, [], ◌∷◌, Option, Some, None}
-use Rattle.std.proofs.Common.{length-append}
+use Rattle.std.proofs.Common.{◌≡◌, ℕ, ◌≤◌, sym, ◌∙◌, subst, arith, List, [], ◌∷◌, Option, Some, None, length-append}
 use Rattle.std.specs.Prelude.{IfSome, slice_index}
 use Rattle.water_edge.specs.Edge.{Output}
 use Rattle.basin_file.specs.BasinFaults.{Spells}

@@ -7,7 +7,7 @@ use Rattle.cut_book.proofs.Adding.{lines_make_bound, tight_books_sum_to_delivery
 use Rattle.cut_cert.specs.Sets.{cut_at}
 use Rattle.call_list.proofs.Months.{last_can_be_found}
 use Rattle.plan_residual.specs.Residual.{HasPlan}
-use Rattle.water_model.specs.History.{HasReaches}
+use Rattle.water_model.specs.History.{HasReaches, Follows, IsPartialHistory, IsShort}
 use Rattle.month_fold.specs.Runs.{RunView}
 use Rattle.result_text.specs.Range.{FitsText}
 use Rattle.result_text.proofs.Whole.{FitsText-follows}
@@ -15,14 +15,13 @@ use Rattle.water_text.specs.declared.month.Month.{Month}
 use Rattle.water_model.proofs.Histories.{last_follows}
 use Rattle.water_model.proofs.Lists.{get_after}
 use Rattle.water_model.specs.Cuts.{IsReach}
-use Rattle.water_model.specs.History.{Follows, IsPartialHistory, IsShort}
 use Rattle.water_model.specs.Hydrology.{run_month}
-use Rattle.water_model.specs.Laws.{HaveSameOutcome}
+use Rattle.duality.specs.Laws.{HaveSameOutcome}
 use Rattle.water_model.specs.Valid.{IsSeriesOf, IsValidBasin}
 use Rattle.water_model.specs.declared.types.Basin.{Basin}
 use Rattle.water_model.specs.declared.types.Inflows.{Inflows}
 use Rattle.water_model.specs.declared.types.MonthRecord.{MonthRecord}
-use Rattle.water_model.proofs.Outcome.{one_outcome}
+use Rattle.duality.proofs.Outcome.{one_outcome}
 use Rattle.basin_cli.specs.Explained.{Explains, HasLast, IsAbout, IsRecordOf, ExplainsShort}
 use Rattle.basin_cli.specs.declared.explaining.Account.{Account}
 use Rattle.basin_cli.specs.declared.explaining.Account.TheVariants as account

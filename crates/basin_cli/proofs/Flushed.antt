@@ -9,8 +9,8 @@ use Rattle.water_model.specs.declared.types.Inflows.{Inflows}
 use Rattle.water_model.specs.declared.types.MonthRecord.{MonthRecord}
 use Rattle.basin_gen.specs.Generator.{generated}
 use Rattle.edit_script.specs.declared.edit.Edit.{Edit}
-use Rattle.edit_shows.specs.Shown.{AreShown, AnswersWhole, done_bytes, months_bytes, shows_in}
-use Rattle.edit_shows.specs.declared.stop.EditStop.TheVariants.{SinkFailed}
+use Rattle.edit_session.specs.Shown.{AreShown, AnswersWhole, done_bytes, months_bytes, shows_in}
+use Rattle.edit_session.specs.declared.stop.EditStop.TheVariants.{SinkFailed}
 use Rattle.reports.specs.Ends.{IsRun}
 use Rattle.reports.specs.Reports.{trial_text}
 use Rattle.basin_cli.specs.Outcome.{WritesTrial}

@@ -9,13 +9,13 @@ use Rattle.cert_check.specs.Audit.{IsAuditAnswer, IsAuditedText}
 use Rattle.cert_check.specs.Whole.{text_verdict}
 use Rattle.cert_check.specs.declared.refuted.Refuted.{Refuted}
 use Rattle.water_model.specs.History.{HaveReaches, IsHistory}
-use Rattle.water_model.specs.Text.{text_bytes}
+use Rattle.result_lines.specs.Text.{text_bytes}
 use Rattle.water_model.specs.Valid.{IsValidBasin, IsSeriesOf}
-use Rattle.water_model.specs.declared.item.Item.{Item}
+use Rattle.result_lines.specs.declared.item.Item.{Item}
 use Rattle.water_model.specs.declared.types.Basin.{Basin}
 use Rattle.water_model.specs.declared.types.Inflows.{Inflows}
-use Rattle.water_model.proofs.Greatest.{cuts_make_greatest}
-use Rattle.water_model.proofs.Parts.{whole_units_are_greatest}
+use Rattle.duality.proofs.Greatest.{cuts_make_greatest}
+use Rattle.duality.proofs.Parts.{whole_units_are_greatest}
 use Rattle.basin_cli.specs.declared.checking.Question.{Question}
 use Rattle.basin_cli.specs.declared.checking.Question.TheVariants as question
 use Rattle.basin_cli.specs.declared.ending.Ending.{Ending}

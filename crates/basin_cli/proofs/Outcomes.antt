@@ -1,6 +1,5 @@
 -- From the cause of an ending: where nothing is refused and nothing fails, the call is done.
-use Rattle.std.proofs.Common.{◌≡◌, inl, inr, refl, ℕ, List, [], Option, Some, None, arith, sym, ◌∙◌}
-use Rattle.std.proofs.Common.{ap, subst}
+use Rattle.std.proofs.Common.{◌≡◌, inl, inr, refl, ℕ, List, [], Option, Some, None, arith, sym, ◌∙◌, ap, subst}
 use Rattle.std.specs.Prelude.{IfSome, IsTrue, Bool, true, false}
 use Rattle.std.specs.Option.{option_and_then}
 use Rattle.water_edge.specs.Edge.{Output}

@@ -6,20 +6,19 @@ use Rattle.std.proofs.lemmas.List.{take-append-drop, take-append-le}
 use Rattle.std.proofs.lemmas.Grind.{flat_map-append}
 use Rattle.std.proofs.Math.Seq.{take-append-add, take-length}
 use Rattle.water_model.specs.History.{HaveReaches, IsPartialHistory}
-use Rattle.water_model.specs.Spelling.{whole_line}
-use Rattle.water_model.specs.Text.{items_of_month, items_of_head, items_of_tail}
+use Rattle.result_lines.specs.Spelling.{whole_line}
+use Rattle.result_lines.specs.Text.{items_of_month, items_of_head, items_of_tail}
 use Rattle.water_model.specs.Valid.{IsValidBasin}
 use Rattle.water_model.specs.declared.types.Basin.{Basin}
 use Rattle.water_model.specs.declared.types.Inflows.{Inflows}
 use Rattle.water_model.specs.declared.types.MonthRecord.{MonthRecord}
 use Rattle.water_model.proofs.Histories.{last_follows}
 use Rattle.month_fold.proofs.Whole.{whole_history}
-use Rattle.water_model.proofs.Balance.{balanced}
-use Rattle.water_model.proofs.Returns.{covered}
-use Rattle.water_model.proofs.Greatest.{cuts_make_greatest, cuts_let_nobody_get_more}
-use Rattle.water_model.proofs.Parts.{no_fraction_helps, whole_units_are_greatest}
-use Rattle.water_model.proofs.Sheltered.{histories_leave_nothing, called_rights_get_nothing}
-use Rattle.water_model.proofs.Sheltered.{cuts_let_nothing_outside_help}
+use Rattle.duality.proofs.Balance.{balanced}
+use Rattle.duality.proofs.Returns.{covered}
+use Rattle.duality.proofs.Greatest.{cuts_make_greatest, cuts_let_nobody_get_more}
+use Rattle.duality.proofs.Parts.{no_fraction_helps, whole_units_are_greatest}
+use Rattle.duality.proofs.Sheltered.{histories_leave_nothing, called_rights_get_nothing, cuts_let_nothing_outside_help}
 use Rattle.month_fold.specs.Runs.{RunView, RunStandsFor}
 use Rattle.month_fold.specs.Works.{Solves, WorkDone}
 use Rattle.month_fold.proofs.Works.{Solves-none, Solves-then}

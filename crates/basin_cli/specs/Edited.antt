@@ -6,8 +6,8 @@ use Rattle.edit_script.specs.Scripts.{script_of}
 use Rattle.edit_script.specs.declared.edit.Edit.{Edit}
 use Rattle.edit_script.specs.declared.refused.ScriptFault.{ScriptFault}
 use Rattle.edit_script.specs.declared.refused.ScriptRefused.TheVariants as refused
-use Rattle.edit_shows.specs.Shown.{AnswersWhole}
-use Rattle.edit_shows.specs.declared.stop.EditStop.TheVariants as stop
+use Rattle.edit_session.specs.Shown.{AnswersWhole}
+use Rattle.edit_session.specs.declared.stop.EditStop.TheVariants as stop
 use Rattle.month_fold.specs.Works.{Solves, WorkDone}
 use Rattle.water_model.specs.declared.types.Basin.{Basin}
 use Rattle.water_model.specs.declared.types.Inflows.{Inflows}

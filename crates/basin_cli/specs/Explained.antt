@@ -5,12 +5,11 @@ use Rattle.std.specs.Prelude.{slice_index, sum_by}
 use Rattle.call_list.specs.Helping.{IsHelpingText}
 use Rattle.cut_book.specs.Book.{book_bytes, terms}
 use Rattle.cut_book.specs.Entries.{balance_of, brought, kept}
-use Rattle.water_model.specs.History.{HaveReaches}
+use Rattle.water_model.specs.History.{HaveReaches, IsPartialHistory, IsShort}
 use Rattle.month_fold.specs.Runs.{RunView, RunStandsFor}
 use Rattle.month_fold.specs.Works.{Solves, WorkDone}
 use Rattle.water_model.specs.Basin.{right_name}
 use Rattle.water_model.specs.Cuts.{IsReach, cut_bound}
-use Rattle.water_model.specs.History.{IsPartialHistory, IsShort}
 use Rattle.water_model.specs.Hydrology.{run_month}
 use Rattle.water_model.specs.declared.types.Basin.{Basin}
 use Rattle.water_model.specs.declared.types.Inflows.{Inflows}

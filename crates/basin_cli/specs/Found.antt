@@ -5,7 +5,7 @@ use Rattle.basin_file.specs.BasinFaults.{Spells, file_fault}
 use Rattle.basin_tree.specs.declared.walk.Finding.{Finding}
 use Rattle.inflow_file.specs.SeriesFaults.{series_fault}
 use Rattle.inflow_file.specs.declared.refused.SeriesRefused.{SeriesRefused}
-use Rattle.water_model.specs.Text.{text_bytes}
+use Rattle.result_lines.specs.Text.{text_bytes}
 use Rattle.water_model.specs.declared.types.Basin.{Basin}
 use Rattle.water_model.specs.declared.types.Inflows.{Inflows}
 use Rattle.water_model.specs.declared.types.MonthRecord.{MonthRecord}

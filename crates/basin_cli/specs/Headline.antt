@@ -1,10 +1,10 @@
 -- What the records of a run are: the theorem of the program.
 use Rattle.std.specs.Prelude.{◌≡◌, ℕ, ◌+◌, ◌*◌, ◌<◌, ◌≤◌, Bool, IsTrue, List, map, length, slice_index, slice_get, Some}
-use Rattle.water_model.specs.Balance.{IsBalanced, returned_before}
+use Rattle.duality.specs.Balance.{IsBalanced, returned_before}
 use Rattle.water_model.specs.History.{HaveReaches, IsHistory, calls, cut_of}
 use Rattle.water_model.specs.Hydrology.{delivered_before}
-use Rattle.water_model.specs.Laws.{ServesSeniors, AgreesOn, LeavesNothing}
-use Rattle.water_model.specs.Parts.{IsGreatestInParts, IsPlanInParts, in_parts, times}
+use Rattle.duality.specs.Laws.{ServesSeniors, AgreesOn, LeavesNothing}
+use Rattle.duality.specs.Parts.{IsGreatestInParts, IsPlanInParts, in_parts, times}
 use Rattle.water_model.specs.Plans.{IsPlan, IsGreatest, delivery}
 use Rattle.water_model.specs.declared.types.Basin.{Basin}
 use Rattle.water_model.specs.declared.types.Inflows.{Inflows}

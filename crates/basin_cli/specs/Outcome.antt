@@ -11,9 +11,9 @@ use Rattle.index_seq.specs.Traces.{AreTraces, HasWholeYears, years_of}
 use Rattle.reports.specs.Ends.{IsRun}
 use Rattle.reports.specs.Reports.{report_text, trial_text}
 use Rattle.water_model.specs.History.{HaveReaches, IsHistory, IsShort}
-use Rattle.water_model.specs.Text.{text_bytes}
+use Rattle.result_lines.specs.Text.{text_bytes}
 use Rattle.water_model.specs.Valid.{IsSeriesOf}
-use Rattle.water_model.specs.declared.item.Item.{Item}
+use Rattle.result_lines.specs.declared.item.Item.{Item}
 use Rattle.water_model.specs.declared.types.Basin.{Basin}
 use Rattle.water_model.specs.declared.types.Inflows.{Inflows}
 use Rattle.water_model.specs.declared.types.MonthRecord.{MonthRecord}

@@ -1,12 +1,11 @@
 -- How far the text of a run was written.
 use Rattle.std.specs.Prelude.{◌≡◌, ◌⊎◌, ℕ, ◌-◌, ◌<◌, ◌≤◌, List, length, take, ⊤}
 use Rattle.water_edge.specs.Edge.{Extends, HasFlushed, Output}
-use Rattle.water_model.specs.History.{HaveReaches}
+use Rattle.water_model.specs.History.{HaveReaches, IsPartialHistory}
 use Rattle.month_fold.specs.Runs.{RunView, RunStandsFor}
 use Rattle.month_fold.specs.Works.{Solves, WorkDone}
 use Rattle.result_text.specs.Begun.{begun_bytes}
-use Rattle.water_model.specs.History.{IsPartialHistory}
-use Rattle.water_model.specs.Text.{text_bytes}
+use Rattle.result_lines.specs.Text.{text_bytes}
 use Rattle.water_model.specs.declared.types.Basin.{Basin}
 use Rattle.water_model.specs.declared.types.Inflows.{Inflows}
 use Rattle.water_model.specs.declared.types.MonthRecord.{MonthRecord}

@@ -13,7 +13,7 @@ ghost use Rattle.month_fold.specs.Works.{Solves};
 use crate::ending::Ending;
 use edit_script::edit::Edit;
 use edit_script::{ScriptRefused, read_script};
-use edit_shows::{EditStop, put_shows};
+use edit_session::{EditStop, put_shows};
 use month_fold::work::Work;
 use std::alloc::Global;
 use std::sync::ledger::Ledger;

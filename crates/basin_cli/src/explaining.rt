@@ -1,7 +1,6 @@
 //! Why a right got no more in a month: the account book of its reach, or where one more unit of water would help it and
 //! the account of its core; or that it is met.
-ghost use Rattle.std.specs.Prelude.{ℕ, List, [], ◌≡◌, ◌+◌, ◌<◌, ◌≤◌, length, IsErr};
-ghost use Rattle.std.specs.Prelude.{IfNone, IfSome, bytes_eq, position};
+ghost use Rattle.std.specs.Prelude.{ℕ, List, [], ◌≡◌, ◌+◌, ◌<◌, ◌≤◌, length, IsErr, IfNone, IfSome, bytes_eq, position};
 ghost use Rattle.water_text.specs.Months.{IsMonth};
 ghost use Rattle.water_model.specs.Valid.{IsValidBasin, IsSeriesOf};
 ghost use Rattle.rights_roll.specs.Rolls.{IsRollOf};
@@ -22,8 +21,8 @@ ghost use Rattle.basin_cli.specs.declared.ending.Ending.TheVariants.{OutOfMemory
 
 use crate::ending::Ending;
 use call_list::{HelpFinder, put_helping};
-use calls::is_short;
 use cut_book::put_book;
+use cut_cert::calls::is_short;
 use edit_script::ScriptFault;
 use month_fold::run::Run;
 use month_fold::work::Work;

@@ -48,8 +48,7 @@ use Rattle.basin_file.specs.Spelled.{basin_of}
 use Rattle.basin_file.specs.Upgraded.{basin_table, link_row, listed, node_row, number, reservoir_row, return_row}
 use Rattle.basin_file.specs.Upgraded.{right_row, row_of_kind, want_data}
 use Rattle.basin_file.proofs.CleanTables.{all_rights, before_less, d, bounded_rights, fits_at, format, i, keys}
-use Rattle.basin_file.proofs.CleanTables.{len_listed}
-use Rattle.basin_file.proofs.CleanTables.{link_clean, map_same, node_clean, owns, reservoir_clean}
+use Rattle.basin_file.proofs.CleanTables.{len_listed, link_clean, map_same, node_clean, owns, reservoir_clean}
 use Rattle.basin_file.proofs.CleanTables.{right_named, sound_at, there_right, top_known, z}
 use Rattle.basin_file.proofs.Counts.{count_where-entries, counts_within}
 use Rattle.basin_file.proofs.Fitting.{Fits, IsClean, clean_by, fits_date, fits_month, fits_name, fits_none, fits_number}

@@ -15,7 +15,7 @@ use Rattle.toml_tree.specs.Texts.{is_the_text}
 use Rattle.toml_tree.specs.Values.{text_at}
 use Rattle.water_text.specs.Names.{is_name}
 use Rattle.water_model.specs.Lookups.{of_entry}
-use Rattle.water_model.proofs.Balance.{entry_at}
+use Rattle.water_model.proofs.Valid.{entry_at}
 use Rattle.basin_tree.specs.Entries.{items_at}
 use Rattle.basin_tree.specs.declared.tables.BasinTable.{BasinTable}
 use Rattle.basin_tree.specs.declared.tables.BasinTable.TheVariants.{Diversion, Instream, Zone}

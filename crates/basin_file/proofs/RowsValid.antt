@@ -15,8 +15,7 @@ use Rattle.toml_tree.specs.Values.{text_at, integer_at}
 use Rattle.water_text.specs.Names.{is_name}
 use Rattle.water_model.specs.Basin.{is_outlet}
 use Rattle.water_model.specs.Lookups.{of_entry}
-use Rattle.water_model.specs.Valid.{IsValidNode, IsValidLink, IsValidRight, IsValidReturn}
-use Rattle.water_model.specs.Valid.{is_diversion_kind}
+use Rattle.water_model.specs.Valid.{IsValidNode, IsValidLink, IsValidRight, IsValidReturn, is_diversion_kind}
 use Rattle.water_model.specs.declared.types.Right.{Right}
 use Rattle.water_model.specs.declared.types.RightKind.TheVariants as kind
 use Rattle.basin_tree.specs.declared.tables.BasinTable.{BasinTable}
@@ -26,8 +25,7 @@ use Rattle.basin_tree.specs.declared.tables.Kind.TheVariants.{Name, Refers, Tabl
 use Rattle.basin_tree.specs.declared.tables.Space.{Space}
 use Rattle.basin_tree.specs.declared.tables.Space.TheVariants.{Nodes, Links, Reservoirs, Diversions}
 use Rattle.basin_tree.specs.Entries.{items_at}
-use Rattle.basin_tree.specs.KeyFaults.{format_of, missing_key, wrong_kind, lacks_key}
-use Rattle.basin_tree.specs.KeyFaults.{has_no_nodes, shuts_no_canal}
+use Rattle.basin_tree.specs.KeyFaults.{format_of, missing_key, wrong_kind, lacks_key, has_no_nodes, shuts_no_canal}
 use Rattle.basin_tree.specs.Kinds.{has_kind}
 use Rattle.basin_tree.specs.NameFaults.{is_outlet_at, rights_before}
 use Rattle.basin_tree.specs.Indices.{own_key, texts_in, texts_of}
@@ -36,8 +34,7 @@ use Rattle.basin_file.specs.Sound.{IsSoundReservoir}
 use Rattle.basin_file.specs.Spelled.{name_at, rows_in, number_at, node_of, link_of, reservoir_of}
 use Rattle.basin_file.specs.Spelled.{diversion_of, instream_of, zone_of, return_of, rights_of, basin_of}
 use Rattle.basin_file.proofs.Lists.{EachFrom, from_at, from_then}
-use Rattle.basin_file.proofs.Passed.{IsListed, HasNoFault, IsFine, all_tables, any_none}
-use Rattle.basin_file.proofs.Passed.{fine_rows, top_passes}
+use Rattle.basin_file.proofs.Passed.{IsListed, HasNoFault, IsFine, all_tables, any_none, fine_rows, top_passes}
 use Rattle.basin_file.proofs.Months.{series_wants}
 use Rattle.basin_file.proofs.Refers.{name_there, refers_there, texts_in-rows}
 use Rattle.basin_file.proofs.Refers.{length-rows_in, get_item-rows, number_within, number_is}

@@ -27,7 +27,7 @@ use Rattle.water_model.specs.declared.types.ReturnRow.{ReturnRow}
 use Rattle.water_model.specs.declared.types.Right.{Right}
 use Rattle.water_model.specs.declared.types.RightKind.{RightKind}
 use Rattle.water_model.specs.declared.types.RightKind.TheVariants as kind
-use Rattle.water_model.proofs.Balance.{entry_at}
+use Rattle.water_model.proofs.Valid.{entry_at}
 use Rattle.water_model.proofs.Entries.{bounded_reservoirs}
 use Rattle.basin_tree.specs.Indices.{named_at, texts_of}
 use Rattle.basin_tree.specs.declared.tables.BasinTable.{BasinTable}

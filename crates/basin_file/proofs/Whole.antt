@@ -1,8 +1,7 @@
 -- What a document without faults spells is sound.
 use Rattle.std.proofs.Common.{◌≡◌, ◌≢◌, ℕ, ◌+◌, ◌-◌, ◌<◌, ◌≤◌, ◌==◌, List, [], ◌∷◌, ◌++◌, length}
 use Rattle.std.proofs.Common.{map, take, Bool, true, false, Option, Some, None}
-use Rattle.std.proofs.Common.{slice_get, count_by, refl, sym, ap, ◌∙◌, arith, nat_le, codes}
-use Rattle.std.proofs.Common.{append_assoc, subst, not}
+use Rattle.std.proofs.Common.{slice_get, count_by, refl, sym, ap, ◌∙◌, arith, nat_le, codes, append_assoc, subst, not}
 use Rattle.std.proofs.lemmas.Bool.Decides.{nat_tests}
 use Rattle.std.proofs.lemmas.List.{length-map, append-nil, map-append}
 use Rattle.std.proofs.lemmas.Option.{slice_get-map, slice_get_within}
@@ -13,19 +12,17 @@ use Rattle.toml_tree.specs.Texts.{texts_after, is_the_text, earlier_like}
 use Rattle.toml_tree.specs.Values.{text_at, text_or_empty, integer_at, integer_of}
 use Rattle.water_model.specs.Basin.{node_name, link_name, right_name, node_of_reservoir}
 use Rattle.water_model.specs.Valid.{HasValidFormat, IsValidNode, IsValidLink, IsValidRight, IsValidReturn, IsValidRun}
-use Rattle.water_model.specs.Valid.{HasBoundedEntries, HasOwnNames, AreRanked, rank_of_kind, rows_of}
-use Rattle.water_model.specs.Valid.{IsAlwaysOpen}
+use Rattle.water_model.specs.Valid.{HasBoundedEntries, HasOwnNames, AreRanked, rank_of_kind, rows_of, IsAlwaysOpen}
 use Rattle.water_model.specs.declared.types.ReturnRow.{ReturnRow}
 use Rattle.water_model.specs.declared.types.Right.{Right}
-use Rattle.water_model.proofs.Balance.{entry_at}
+use Rattle.water_model.proofs.Valid.{entry_at}
 use Rattle.basin_tree.specs.declared.tables.BasinTable.{BasinTable}
 use Rattle.basin_tree.specs.declared.tables.BasinTable.TheVariants.{Top, Node, Link, Reservoir, Diversion, Instream}
 use Rattle.basin_tree.specs.declared.tables.BasinTable.TheVariants.{Zone, Return}
 use Rattle.basin_tree.specs.declared.tables.Kind.TheVariants.{Want}
 use Rattle.basin_tree.specs.declared.tables.Space.TheVariants.{Nodes, Links, Reservoirs, Diversions, Rights}
 use Rattle.basin_tree.specs.Entries.{items_at}
-use Rattle.basin_tree.specs.KeyFaults.{format_of, unknown_key, out_of_range}
-use Rattle.basin_tree.specs.KeyFaults.{any_value}
+use Rattle.basin_tree.specs.KeyFaults.{format_of, unknown_key, out_of_range, any_value}
 use Rattle.basin_tree.specs.Indices.{texts_in, texts_of, named_at}
 use Rattle.basin_tree.specs.Ranges.{in_range, ends_late}
 use Rattle.basin_tree.specs.Tables.{keys_of}
@@ -33,14 +30,11 @@ use Rattle.basin_file.specs.Sound.{IsSoundReservoir, IsSoundBasin}
 use Rattle.basin_file.specs.Spelled.{rows_in, node_of, link_of, reservoir_of, volume_of, is_series}
 use Rattle.basin_file.specs.Spelled.{diversion_of, instream_of, zone_of, return_of, rights_of, basin_of}
 use Rattle.basin_file.proofs.Lists.{Each, EachFrom, each_all, each_append, each_from, each_map}
-use Rattle.basin_file.proofs.Passed.{IsListed, HasNoFault, IsFine, absent, all_tables}
-use Rattle.basin_file.proofs.Passed.{top_passes}
+use Rattle.basin_file.proofs.Passed.{IsListed, HasNoFault, IsFine, absent, all_tables, top_passes}
 use Rattle.basin_file.proofs.Months.{always_open, no_text}
-use Rattle.basin_file.proofs.Refers.{there_at, refers_there, texts_after-rows, texts_in-rows}
-use Rattle.basin_file.proofs.Refers.{number_is}
+use Rattle.basin_file.proofs.Refers.{there_at, refers_there, texts_after-rows, texts_in-rows, number_is}
 use Rattle.basin_file.proofs.OwnNames.{own_texts, own_names, names_of_rows, same_text, table_own, rights_own}
-use Rattle.basin_file.proofs.Ranges.{whole_in}
-use Rattle.basin_file.proofs.Ranges.{first_valid, run_ends}
+use Rattle.basin_file.proofs.Ranges.{whole_in, first_valid, run_ends}
 use Rattle.basin_file.proofs.Counts.{count_where-entries, bounded_pass, counts_within}
 use Rattle.basin_file.proofs.RowsValid.{fine, fine_at, length_texts, bounded_nodes, bounded_links, bounded_diversions}
 use Rattle.basin_file.proofs.RowsValid.{bounded_rights}

@@ -1,7 +1,6 @@
 -- A generated roll of rights is sound.
 use Rattle.std.proofs.Common.{◌≡◌, ◌≢◌, ℕ, ◌+◌, ◌-◌, ◌*◌, ◌/◌, ◌%◌, ◌^◌, ◌<◌, ◌≤◌, Bool, true, false, refl, sym}
-use Rattle.std.proofs.Common.{ap, subst, ◌∙◌, arith, List, [], ◌∷◌, ◌++◌, length, length-append, take, inl}
-use Rattle.std.proofs.Common.{inr}
+use Rattle.std.proofs.Common.{ap, subst, ◌∙◌, arith, List, [], ◌∷◌, ◌++◌, length, length-append, take, inl, inr}
 use Rattle.std.specs.Prelude.{Option, Some, None, slice_get, nat_lt, if◌then◌else◌, ◌==◌, ◌||◌, ◌&&◌, not, ◌⊎◌}
 use Rattle.std.specs.Prelude.{nat_le, unwrap_or, option_map}
 use Rattle.std.specs.Fmt.{decimal}
@@ -25,8 +24,7 @@ use Rattle.water_model.specs.declared.types.RightKind.TheVariants.{Zone}
 use Rattle.basin_gen.specs.Draws.{next, drawn}
 use Rattle.basin_gen.specs.Entries.{return_at, lower_zone_at, upper_zone_at, zone_at}
 use Rattle.basin_gen.proofs.DrawLaws.{drawn_below}
-use Rattle.basin_gen.proofs.Places.{joined_left, joined_right, entry_is, own_names, none_before, some_entry}
-use Rattle.basin_gen.proofs.Places.{one_term}
+use Rattle.basin_gen.proofs.Places.{joined_left, joined_right, entry_is, own_names, none_before, some_entry, one_term}
 use Rattle.basin_gen.proofs.Lists.{IsMade, States, joined_each, joined_pairs, diversion_count, instream_count}
 use Rattle.basin_gen.proofs.Lists.{zone_count, return_count, diversion_made, instream_made, zone_made, other_made}
 use Rattle.basin_gen.proofs.Lists.{right_made}

@@ -13,8 +13,7 @@ use Rattle.basin_gen.specs.Generator.{draws_of_turns, turn_of_diversion}
 use Rattle.basin_gen.proofs.DrawLaws.{drawn_below}
 use Rattle.basin_gen.proofs.NameLaws.{numbered_is_name, zone_is_name}
 use Rattle.basin_gen.proofs.NetworkLaws.{same_for_months}
-use Rattle.basin_gen.proofs.Places.{entry_is, all_of}
-use Rattle.basin_gen.proofs.Places.{listed}
+use Rattle.basin_gen.proofs.Places.{entry_is, all_of, listed}
 use Rattle.basin_gen.proofs.Lists.{IsMade, States, joined_each, diversion_count, instream_count}
 use Rattle.basin_gen.proofs.Lists.{zone_count, return_count, diversion_made, instream_made, zone_made, other_made}
 use Rattle.basin_gen.proofs.Lists.{right_made}

@@ -10,9 +10,8 @@ use Rattle.basin_gen.proofs.Lists.{states_of, generated_made, right_made, divers
 use Rattle.basin_gen.proofs.Places.{entry_is}
 use Rattle.basin_gen.proofs.NetworkLaws.{nodes_valid, links_valid, open_canals, reservoirs_valid, nodes_own, links_own}
 use Rattle.basin_gen.proofs.NetworkLaws.{reservoirs_own, network_sound}
-use Rattle.basin_gen.proofs.RightsLaws.{rights_own, roll_sound}
+use Rattle.basin_gen.proofs.RightsLaws.{rights_own, roll_sound, bounded_rows}
 use Rattle.basin_gen.proofs.RightsValid.{rights_valid, no_volumes, not_in_series, returns_valid}
-use Rattle.basin_gen.proofs.RightsLaws.{bounded_rows}
 use Rattle.basin_gen.proofs.RightsValid.{rights_ranked, right_has_wants}
 
 pub generated_valid : (number size : ℕ) → 2 ≤ size → size ≤ 2000 → IsValidBasin (generated number size)

@@ -1,7 +1,6 @@
 -- Names, and the entries that they name.
 use Rattle.std.proofs.Common.{◌≡◌, ◌≢◌, ℕ, zero, suc, ◌+◌, ◌<◌, ◌≤◌, List, [], ◌∷◌, ◌++◌, length, Bool, true, false}
-use Rattle.std.proofs.Common.{Option, Some, None, if◌then◌else◌, refl, sym, ap, ◌∙◌, inl, inr, arith, position}
-use Rattle.std.proofs.Common.{add-one}
+use Rattle.std.proofs.Common.{Option, Some, None, if◌then◌else◌, refl, sym, ap, ◌∙◌, inl, inr, arith, position, add-one}
 use Rattle.std.specs.Prelude.{find, slice_get, IfSome, option_map, unwrap_or}
 use Rattle.std.proofs.lemmas.Bool.{cases_Bool, cases_lt}
 use Rattle.std.proofs.lemmas.List.Folds.{find-append}
@@ -12,7 +11,7 @@ use Rattle.std.specs.Option.{option_or}
 use Rattle.indexmap.specs.IndexMap.{IndexMap}
 use Rattle.first_index.specs.Indices.{first_from, index_at}
 use Rattle.first_index.proofs.First.{first_is_position}
-use Rattle.water_model.proofs.Balance.{entry_at}
+use Rattle.water_model.proofs.Valid.{entry_at}
 use Rattle.water_model.proofs.Lists.{all_at, numbers_more, once}
 use Rattle.water_model.proofs.Order.{find-passes, numbers_from-below}
 use Rattle.water_model.specs.Basin.{node_name, reservoir_name}

@@ -7,14 +7,14 @@ use Rattle.std.specs.List.{flat_map}
 use Rattle.std.proofs.lemmas.Option.{slice_get_within, slice_get-map}
 use Rattle.water_model.specs.Basin.{taking_node}
 use Rattle.water_model.specs.History.{IsPartialHistory, IsShort}
-use Rattle.water_model.specs.Laws.{HaveSameOutcome}
+use Rattle.duality.specs.Laws.{HaveSameOutcome}
 use Rattle.water_model.specs.Valid.{IsValidBasin, IsSeriesOf}
 use Rattle.water_model.specs.declared.types.Basin.{Basin}
 use Rattle.water_model.specs.declared.types.Inflows.{Inflows}
 use Rattle.water_model.specs.declared.types.MonthRecord.{MonthRecord}
 use Rattle.water_model.proofs.Lists.{prefix_partial}
 use Rattle.water_model.proofs.Order.{flat_same}
-use Rattle.water_model.proofs.Outcome.{one_outcome}
+use Rattle.duality.proofs.Outcome.{one_outcome}
 use Rattle.plan_residual.specs.Core.{IsCore}
 use Rattle.plan_residual.specs.Next.{CouldUseAt, IsNextOrFree}
 use Rattle.next_unit.specs.Core.{one_more}

@@ -5,8 +5,7 @@ use Rattle.std.specs.Prelude.{Option, Some, None, option_map, unwrap_or, slice_g
 use Rattle.std.proofs.lemmas.List.Elements.{All-from_get_or}
 use Rattle.std.proofs.lemmas.Option.{get_or_from_slice_get}
 use Rattle.finite_sums.specs.Sums.{total}
-use Rattle.finite_sums.proofs.Totals.{term_le_total, total_same}
-use Rattle.finite_sums.proofs.Totals.{total_where_most}
+use Rattle.finite_sums.proofs.Totals.{term_le_total, total_same, total_where_most}
 use Rattle.water_model.proofs.Carries.{carry_most}
 use Rattle.water_model.proofs.Wants.{want_most}
 use Rattle.month_terms.proofs.Amounts.{follows_small, deliveries_small, supply_small}
@@ -17,14 +16,15 @@ use Rattle.water_text.specs.Months.{IsMonth}
 use Rattle.water_model.specs.History.{IsPartialHistory, Follows, opening_after, is_zone_of}
 use Rattle.water_model.specs.Hydrology.{inflow_at, returned_at, stored_at, evaporation, in_year}
 use Rattle.water_model.specs.Valid.{IsValidBasin, IsValidReservoir, IsSeriesOf}
-use Rattle.water_model.specs.Quantities.{amounts_of}
-use Rattle.water_model.specs.declared.quantity.Quantity.{Quantity}
-use Rattle.water_model.specs.declared.quantity.Quantity.TheVariants as quantity
+use Rattle.result_lines.specs.Quantities.{amounts_of}
+use Rattle.result_lines.specs.declared.quantity.Quantity.{Quantity}
+use Rattle.result_lines.specs.declared.quantity.Quantity.TheVariants as quantity
 use Rattle.water_model.specs.declared.types.Basin.{Basin}
 use Rattle.water_model.specs.declared.types.Inflows.{Inflows}
 use Rattle.water_model.specs.declared.types.MonthRecord.{MonthRecord}
 use Rattle.water_model.specs.declared.types.Reservoir as reservoir
-use Rattle.water_model.proofs.Balance.{entry_holds, entry_at, plan_balance}
+use Rattle.duality.proofs.Balance.{plan_balance}
+use Rattle.water_model.proofs.Valid.{entry_holds, entry_at}
 use Rattle.water_model.proofs.Lists.{prefix_partial}
 use Rattle.result_reader.specs.Records.{AreTextAmounts, HasTextAmounts, AreTextMonths}
 use Rattle.result_reader.proofs.Histories.{IsTextMonth-Follows}

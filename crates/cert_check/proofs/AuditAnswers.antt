@@ -2,10 +2,10 @@
 use Rattle.std.proofs.Common.{◌≡◌, ℕ, refl, sym, ap, subst, ◌∙◌, inr, List, [], ◌∷◌, ◌++◌, map}
 use Rattle.std.specs.Prelude.{Option, Some, None, Result, Ok, Err, IfSome, IsOk}
 use Rattle.water_model.specs.History.{IsHistory}
-use Rattle.water_model.specs.Spelling.{line_of}
-use Rattle.water_model.specs.Text.{items_of, text_bytes}
+use Rattle.result_lines.specs.Spelling.{line_of}
+use Rattle.result_lines.specs.Text.{items_of, text_bytes}
 use Rattle.water_model.specs.Valid.{IsValidBasin, IsSeriesOf}
-use Rattle.water_model.specs.declared.item.Item.{Item}
+use Rattle.result_lines.specs.declared.item.Item.{Item}
 use Rattle.water_model.specs.declared.types.Basin.{Basin}
 use Rattle.water_model.specs.declared.types.Inflows.{Inflows}
 use Rattle.water_model.specs.declared.types.MonthRecord.{MonthRecord}

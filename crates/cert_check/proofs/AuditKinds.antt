@@ -1,19 +1,17 @@
 -- A verdict refutes no text for a set that isn't a reach.
-use Rattle.std.proofs.Common.{◌≡◌, ◌≢◌, ℕ, ◌+◌, Bool, true, false, refl, ap, ◌∙◌, inl, inr, List, [], ◌∷◌, ◌++◌}
-use Rattle.std.proofs.Common.{length}
+use Rattle.std.proofs.Common.{◌≡◌, ◌≢◌, ℕ, ◌+◌, Bool, true, false, refl, ap, ◌∙◌, inl, inr, List, [], ◌∷◌, ◌++◌, length}
 use Rattle.std.specs.Prelude.{Option, Some, None, Result, Ok, Err, find, option_map, if◌then◌else◌}
-use Rattle.water_model.specs.declared.item.Item.{Item}
-use Rattle.water_model.specs.declared.item.Item.TheVariants as line
-use Rattle.water_model.specs.declared.quantity.Quantity.{Quantity}
-use Rattle.water_model.specs.declared.quantity.Quantity.TheVariants as quantity
+use Rattle.result_lines.specs.declared.item.Item.{Item}
+use Rattle.result_lines.specs.declared.item.Item.TheVariants as line
+use Rattle.result_lines.specs.declared.quantity.Quantity.{Quantity}
+use Rattle.result_lines.specs.declared.quantity.Quantity.TheVariants as quantity
 use Rattle.water_model.specs.declared.types.Basin.{Basin}
 use Rattle.water_model.specs.declared.types.Inflows.{Inflows}
 use Rattle.result_reader.specs.Reading.{read_line}
 use Rattle.result_reader.specs.ReadSoFar.{ReadSoFar, read_so_far}
 use Rattle.result_reader.specs.declared.bad_line.BadLine.{BadLine}
 use Rattle.cert_check.specs.Checking.{Row, first_row, is_whole, judge, judge_read, judge_row, kind_of, ok_then}
-use Rattle.cert_check.specs.Checking.{own_rows}
-use Rattle.cert_check.specs.Checking.{rows, verdict, verdict_at_end, verdict_from}
+use Rattle.cert_check.specs.Checking.{own_rows, rows, verdict, verdict_at_end, verdict_from}
 use Rattle.cert_check.specs.Laws.{NotReachNamesOtherSets}
 use Rattle.cert_check.specs.Whole.{lines_of_pieces, rest_of_pieces, pieces_of}
 use Rattle.cert_check.specs.declared.refuted.Refuted.{Refuted}

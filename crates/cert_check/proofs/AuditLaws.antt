@@ -1,12 +1,11 @@
 -- An audit says yes exactly for reaches, and has one answer.
 use Rattle.std.proofs.Common.{◌≡◌, ℕ, ◌<◌, Bool, true, false, refl, sym, ap, subst, ◌∙◌, arith, inl, inr, List, []}
-use Rattle.std.proofs.Common.{◌∷◌, take}
-use Rattle.std.proofs.Common.{zero, suc}
+use Rattle.std.proofs.Common.{◌∷◌, take, zero, suc}
 use Rattle.std.specs.Prelude.{Option, Some, Ok, Err, IsOk, is_ok, slice_get, unwrap_or}
 use Rattle.std.proofs.lemmas.Bool.{cases_eq, cases_lt}
 use Rattle.water_model.specs.Cuts.{IsReach}
 use Rattle.water_model.specs.History.{IsHistory, HasReaches, HaveReaches}
-use Rattle.water_model.specs.Text.{items_of, text_bytes}
+use Rattle.result_lines.specs.Text.{items_of, text_bytes}
 use Rattle.water_model.specs.Valid.{IsValidBasin, IsSeriesOf}
 use Rattle.water_model.specs.declared.types.Basin.{Basin}
 use Rattle.water_model.specs.declared.types.Inflows.{Inflows}

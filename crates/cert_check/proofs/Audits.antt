@@ -11,11 +11,11 @@ use Rattle.water_model.specs.CutSets.{set_of}
 use Rattle.water_model.specs.Cuts.{IsReach}
 use Rattle.water_model.specs.History.{Follows, HasReaches, HaveReaches, cut_of}
 use Rattle.water_model.specs.Lookups.{of_entry}
-use Rattle.water_model.specs.OfBasin.{IsOfBasin}
-use Rattle.water_model.specs.declared.item.Item.{Item}
-use Rattle.water_model.specs.declared.item.Item.TheVariants as line
-use Rattle.water_model.specs.declared.quantity.Quantity.{Quantity}
-use Rattle.water_model.specs.declared.quantity.Quantity.TheVariants as quantity
+use Rattle.result_lines.specs.OfBasin.{IsOfBasin}
+use Rattle.result_lines.specs.declared.item.Item.{Item}
+use Rattle.result_lines.specs.declared.item.Item.TheVariants as line
+use Rattle.result_lines.specs.declared.quantity.Quantity.{Quantity}
+use Rattle.result_lines.specs.declared.quantity.Quantity.TheVariants as quantity
 use Rattle.water_model.specs.declared.types.Basin.{Basin}
 use Rattle.water_model.specs.declared.types.Inflows.{Inflows}
 use Rattle.water_model.specs.declared.types.MonthRecord.{MonthRecord}

@@ -6,11 +6,11 @@ use Rattle.std.specs.List.{flat_map, join_with_byte}
 use Rattle.std.proofs.lemmas.Bool.{cases_lt}
 use Rattle.std.proofs.lemmas.List.Splits.{join_with_byte-slice_split, length-slice_split}
 use Rattle.water_model.specs.History.{IsHistory}
-use Rattle.water_model.specs.Spelling.{line_of, whole_line}
-use Rattle.water_model.specs.Text.{items_of, items_of_head, items_of_month, text_bytes}
+use Rattle.result_lines.specs.Spelling.{line_of, whole_line}
+use Rattle.result_lines.specs.Text.{items_of, items_of_head, items_of_month, text_bytes}
 use Rattle.water_model.specs.Valid.{IsValidBasin, IsSeriesOf}
-use Rattle.water_model.specs.declared.item.Item.{Item}
-use Rattle.water_model.specs.declared.item.Item.TheVariants as line
+use Rattle.result_lines.specs.declared.item.Item.{Item}
+use Rattle.result_lines.specs.declared.item.Item.TheVariants as line
 use Rattle.water_model.specs.declared.types.Basin.{Basin}
 use Rattle.water_model.specs.declared.types.Inflows.{Inflows}
 use Rattle.water_model.specs.declared.types.MonthRecord.{MonthRecord}

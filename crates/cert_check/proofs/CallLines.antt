@@ -8,11 +8,11 @@ use Rattle.std.proofs.lemmas.Bool.Decides.{nat_tests}
 use Rattle.std.proofs.lemmas.List.{length-take-le}
 use Rattle.std.proofs.lemmas.Option.{slice_get_within}
 use Rattle.water_model.specs.History.{cut_of}
-use Rattle.water_model.specs.Quantities.{amounts_of}
-use Rattle.water_model.specs.Text.{items_of, items_of_month, items_of_tail}
+use Rattle.result_lines.specs.Quantities.{amounts_of}
+use Rattle.result_lines.specs.Text.{items_of, items_of_month, items_of_tail}
 use Rattle.water_model.specs.Valid.{IsValidBasin}
-use Rattle.water_model.specs.declared.item.Item.{Item}
-use Rattle.water_model.specs.declared.item.Item.TheVariants as line
+use Rattle.result_lines.specs.declared.item.Item.{Item}
+use Rattle.result_lines.specs.declared.item.Item.TheVariants as line
 use Rattle.water_model.specs.declared.types.Basin.{Basin}
 use Rattle.water_model.specs.declared.types.MonthRecord.{MonthRecord}
 use Rattle.cert_check.specs.Audit.{ended_months, is_end, IsCallLine}

@@ -6,17 +6,16 @@ use Rattle.std.specs.List.{flat_map}
 use Rattle.std.proofs.lemmas.Bool.Decides.{nat_tests}
 use Rattle.std.proofs.lemmas.Bool.{eqb-true}
 use Rattle.finite_sums.specs.Sums.{total_where}
-use Rattle.water_model.specs.History.{cut_of, is_zone_of}
-use Rattle.water_model.specs.History.{calls}
-use Rattle.water_model.specs.Text.{calling_right, called_items}
-use Rattle.water_model.specs.declared.item.Item.{Item}
-use Rattle.water_model.specs.declared.item.Item.TheVariants as line
-use Rattle.water_model.specs.declared.quantity.Quantity.TheVariants as quantity
+use Rattle.water_model.specs.History.{cut_of, is_zone_of, calls, calling_right}
+use Rattle.result_lines.specs.Text.{called_items}
+use Rattle.result_lines.specs.declared.item.Item.{Item}
+use Rattle.result_lines.specs.declared.item.Item.TheVariants as line
+use Rattle.result_lines.specs.declared.quantity.Quantity.TheVariants as quantity
 use Rattle.water_model.specs.declared.types.Basin.{Basin}
 use Rattle.water_model.specs.declared.types.Inflows.{Inflows}
 use Rattle.water_model.specs.declared.types.MonthRecord.{MonthRecord}
 use Rattle.result_reader.specs.ReadSoFar.{ReadSoFar, read_item}
-use Rattle.calls.specs.Callers.{is_short}
+use Rattle.cut_cert.specs.Callers.{is_short}
 use Rattle.cert_check.specs.Checking.{rows, caller_due, callers_due, is_due}
 use Rattle.cert_check.proofs.Rows.{NoneHolds, AreGood, Section, is_same, same_is}
 use Rattle.cert_check.proofs.Calls.{IsSettled, loose_fails, settled, missing_fails, none_missing}

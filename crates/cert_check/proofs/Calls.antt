@@ -9,20 +9,19 @@ use Rattle.std.proofs.Math.ListN.{length-set}
 use Rattle.water_model.specs.Basin.{is_senior}
 use Rattle.water_model.specs.History.{cut_of}
 use Rattle.water_model.specs.Indices.{indices_of, members_from}
-use Rattle.water_model.specs.Text.{call_items}
-use Rattle.water_model.specs.declared.item.Item.{Item}
-use Rattle.water_model.specs.declared.item.Item.TheVariants as line
+use Rattle.result_lines.specs.Text.{call_items}
+use Rattle.result_lines.specs.declared.item.Item.{Item}
+use Rattle.result_lines.specs.declared.item.Item.TheVariants as line
 use Rattle.water_model.specs.declared.types.Basin.{Basin}
 use Rattle.water_model.specs.declared.types.Inflows.{Inflows}
 use Rattle.water_model.specs.declared.types.MonthRecord.{MonthRecord}
-use Rattle.water_model.proofs.Duality.{not_senior_to_itself}
+use Rattle.water_model.proofs.Seniority.{not_senior_to_itself, senior_trans}
 use Rattle.water_model.proofs.Order.{Has, IsOrdered, numbers_from-has, numbers_from-below}
-use Rattle.water_model.proofs.Seniority.{senior_trans}
 use Rattle.result_reader.specs.Due.{is_member}
 use Rattle.result_reader.specs.ReadSoFar.{ReadSoFar, read_item, with_supply}
 use Rattle.water_model.proofs.SetEntries.{set_of_with, set_of_other}
 use Rattle.result_reader.proofs.Telling.{tell_call, put_cut, fold-both}
-use Rattle.calls.specs.Callers.{is_short}
+use Rattle.cut_cert.specs.Callers.{is_short}
 use Rattle.cert_check.specs.Checking.{rows, has_tight, is_tight, passes, cut_missing}
 use Rattle.cert_check.proofs.Rows.{NoneHolds, AreGood, members_good, good_both, good_rest}
 

@@ -8,7 +8,7 @@ use Rattle.std.proofs.lemmas.List.{take_all}
 use Rattle.std.proofs.lemmas.Option.{slice_get_past}
 use Rattle.water_model.proofs.Order.{length-by_seniority}
 use Rattle.water_model.specs.Indices.{seniors_first}
-use Rattle.water_model.specs.Text.{calling_right}
+use Rattle.water_model.specs.History.{calling_right}
 use Rattle.water_model.specs.declared.types.Basin.{Basin}
 use Rattle.water_model.specs.declared.types.Inflows.{Inflows}
 use Rattle.water_model.specs.declared.types.MonthRecord.{MonthRecord}

@@ -13,9 +13,9 @@ use Rattle.month_terms.specs.Terms.{HasUsed}
 use Rattle.water_model.specs.Basin.{taking_node}
 use Rattle.water_model.specs.CutSets.{without_sets}
 use Rattle.water_model.specs.Indices.{seniors_first}
-use Rattle.water_model.specs.declared.item.Item.{Item}
-use Rattle.water_model.specs.declared.item.Item.TheVariants as line
-use Rattle.water_model.specs.declared.quantity.Quantity.{Quantity}
+use Rattle.result_lines.specs.declared.item.Item.{Item}
+use Rattle.result_lines.specs.declared.item.Item.TheVariants as line
+use Rattle.result_lines.specs.declared.quantity.Quantity.{Quantity}
 use Rattle.water_model.specs.declared.types.Basin.{Basin}
 use Rattle.water_model.specs.declared.types.Inflows.{Inflows}
 use Rattle.result_reader.specs.ReadSoFar.{ReadSoFar, read_item, with_supply}

@@ -8,10 +8,10 @@ use Rattle.water_text.specs.Months.{read_month}
 use Rattle.water_text.specs.Names.{is_name}
 use Rattle.water_text.specs.Shapes.{has_shape}
 use Rattle.water_model.specs.Indices.{numbers_from, members_from, by_seniority}
-use Rattle.water_model.specs.Spelling.{line_of, fields_of}
-use Rattle.water_model.specs.History.{calls}
-use Rattle.water_model.specs.Text.{month_lines, calling_right}
-use Rattle.water_model.specs.declared.item.Item.{Item}
+use Rattle.result_lines.specs.Spelling.{line_of, fields_of}
+use Rattle.water_model.specs.History.{calls, calling_right}
+use Rattle.result_lines.specs.Text.{month_lines}
+use Rattle.result_lines.specs.declared.item.Item.{Item}
 use Rattle.water_model.specs.declared.types.Basin.{Basin}
 use Rattle.water_model.specs.declared.types.Inflows.{Inflows}
 use Rattle.water_model.proofs.Worked.{stream, old, new, no_series}

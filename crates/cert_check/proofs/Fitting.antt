@@ -2,16 +2,15 @@
 use Rattle.std.proofs.Common.{◌≡◌, ℕ, Bool, true, false, refl, sym, ap, ◌∙◌, arith, List, length, take}
 use Rattle.std.specs.Prelude.{Option, Some, None, ◌&&◌, not, slice_set}
 use Rattle.std.proofs.Math.ListN.{length-set}
-use Rattle.calls.specs.Callers.{AreCallers}
+use Rattle.cut_cert.specs.Callers.{AreCallers}
 use Rattle.month_terms.specs.Terms.{FitsRecord}
 use Rattle.water_model.specs.CutSets.{CutSets}
 use Rattle.water_model.specs.Entries.{count_in}
-use Rattle.water_model.specs.Quantities.{amounts_of, space_of, with_amounts}
-use Rattle.water_model.specs.History.{calls}
+use Rattle.result_lines.specs.Quantities.{amounts_of, space_of, with_amounts}
+use Rattle.water_model.specs.History.{calls, calling_right}
 use Rattle.water_model.specs.Indices.{seniors_first}
-use Rattle.water_model.specs.Text.{calling_right}
-use Rattle.water_model.specs.declared.quantity.Quantity.{Quantity}
-use Rattle.water_model.specs.declared.quantity.Quantity.TheVariants as quantity
+use Rattle.result_lines.specs.declared.quantity.Quantity.{Quantity}
+use Rattle.result_lines.specs.declared.quantity.Quantity.TheVariants as quantity
 use Rattle.water_model.specs.declared.types.Basin.{Basin}
 use Rattle.water_model.specs.declared.types.Inflows.{Inflows}
 use Rattle.water_model.specs.declared.types.MonthRecord.{MonthRecord}

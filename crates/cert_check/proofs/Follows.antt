@@ -6,12 +6,12 @@ use Rattle.water_model.specs.Basin.{taking_node, instream_link}
 use Rattle.water_model.specs.Cuts.{separates, IsTight, cut_capacity, cut_kept}
 use Rattle.water_model.specs.History.{Follows}
 use Rattle.water_model.specs.Plans.{carry_of, delivery_by_link, inflow_to, outflow_from, taken_at}
-use Rattle.water_model.specs.declared.quantity.Quantity.TheVariants as quantity
+use Rattle.result_lines.specs.declared.quantity.Quantity.TheVariants as quantity
 use Rattle.water_model.specs.declared.types.Basin.{Basin}
 use Rattle.water_model.specs.declared.types.Inflows.{Inflows}
 use Rattle.water_model.specs.declared.types.MonthRecord.{MonthRecord}
 use Rattle.water_model.proofs.Order.{seniors_below}
-use Rattle.water_model.proofs.Quantities.{has-with_line}
+use Rattle.result_lines.proofs.Quantities.{has-with_line}
 use Rattle.result_reader.specs.Records.{IsTextMonth}
 use Rattle.result_reader.proofs.AllRead.{has_set}
 use Rattle.cert_check.specs.Checking.{is_tight, amount_wrong}

@@ -1,8 +1,7 @@
 -- A good month follows those before it.
 use Rattle.std.proofs.Common.{◌≡◌, ℕ, zero, suc, ◌+◌, ◌<◌, ◌≤◌, Bool, true, false, refl, sym, ap, ◌∙◌, arith, inl, inr}
 use Rattle.std.proofs.Common.{List, length, map, replicate}
-use Rattle.std.specs.Prelude.{Option, Some, None, ◌⊎◌, min, is_some, slice_index, filter}
-use Rattle.std.specs.Prelude.{if◌then◌else◌}
+use Rattle.std.specs.Prelude.{Option, Some, None, ◌⊎◌, min, is_some, slice_index, filter, if◌then◌else◌}
 use Rattle.std.proofs.lemmas.Bool.{cases_Bool, eqb-true, le-ltb, lt-ltb, ltb-false}
 use Rattle.std.proofs.lemmas.Grind.{same_number_lists}
 use Rattle.std.proofs.lemmas.List.{length-replicate, length-map}
@@ -12,20 +11,20 @@ use Rattle.water_model.specs.History.{Follows, cut_of, opening_after}
 use Rattle.water_model.specs.Hydrology.{run_month, inflow_at, stored_at, returned_at, used_of}
 use Rattle.water_model.specs.Entries.{count_in, in_order}
 use Rattle.water_model.specs.Indices.{numbers_from, indices_of, seniors_first}
-use Rattle.water_model.specs.Quantities.{amounts_of, entries_with_line, has_line, space_of}
+use Rattle.result_lines.specs.Quantities.{amounts_of, entries_with_line, has_line, space_of}
 use Rattle.water_model.specs.Plans.{carry_of, delivery_by_link, inflow_to, outflow_from, taken_at}
 use Rattle.water_model.specs.Valid.{IsValidBasin, HasValidSite}
-use Rattle.water_model.specs.declared.quantity.Quantity.{Quantity}
-use Rattle.water_model.specs.declared.quantity.Quantity.TheVariants as quantity
+use Rattle.result_lines.specs.declared.quantity.Quantity.{Quantity}
+use Rattle.result_lines.specs.declared.quantity.Quantity.TheVariants as quantity
 use Rattle.water_model.specs.declared.types.Basin.{Basin}
 use Rattle.water_model.specs.declared.types.Inflows.{Inflows}
 use Rattle.water_model.specs.declared.types.MonthRecord.{MonthRecord}
 use Rattle.water_model.specs.declared.types.RightKind.{RightKind}
 use Rattle.water_model.specs.declared.types.RightKind.TheVariants as kind
-use Rattle.water_model.proofs.Balance.{entry_at, kind_is}
+use Rattle.water_model.proofs.Valid.{entry_at, kind_is}
 use Rattle.water_model.proofs.Entries.{in_order-has}
 use Rattle.water_model.proofs.Order.{Has, filter-has, has-filter, length-numbers_from, seniors_have}
-use Rattle.water_model.proofs.Quantities.{has-with_line, with_line-has}
+use Rattle.result_lines.proofs.Quantities.{has-with_line, with_line-has}
 use Rattle.result_reader.proofs.MonthRead.{take_of}
 use Rattle.result_reader.proofs.Telling.{set_all, length-set_all, set_all-has, set_all-other}
 use Rattle.result_reader.proofs.WholeMonth.{IsAllRead}

@@ -4,16 +4,16 @@ use Rattle.std.proofs.Common.{◌++◌, length, map, fold, append-nil, length-ap
 use Rattle.std.specs.Prelude.{Option, Some, None, slice_index}
 use Rattle.water_model.specs.History.{cut_of}
 use Rattle.water_model.specs.Indices.{seniors_first, outlets}
-use Rattle.water_model.specs.Quantities.{entries_with_line}
-use Rattle.water_model.specs.declared.item.Item.TheVariants as line
-use Rattle.water_model.specs.declared.quantity.Quantity.TheVariants as quantity
+use Rattle.result_lines.specs.Quantities.{entries_with_line}
+use Rattle.result_lines.specs.declared.item.Item.TheVariants as line
+use Rattle.result_lines.specs.declared.quantity.Quantity.TheVariants as quantity
 use Rattle.water_model.specs.declared.types.Basin.{Basin}
 use Rattle.water_model.specs.declared.types.Inflows.{Inflows}
 use Rattle.water_model.specs.declared.types.MonthRecord.{MonthRecord}
 use Rattle.water_model.proofs.Order.{seniors_have, seniors_below}
 use Rattle.result_reader.specs.ReadSoFar.{ReadSoFar, read_item}
 use Rattle.result_reader.proofs.WholeMonth.{IsAllRead}
-use Rattle.calls.specs.Callers.{is_short}
+use Rattle.cut_cert.specs.Callers.{is_short}
 use Rattle.cert_check.specs.Checking.{is_tight, balances, callers_due}
 use Rattle.cert_check.proofs.Rows.{AreGood, good_section, good_parts}
 use Rattle.cert_check.proofs.Sections as section

@@ -7,9 +7,9 @@ use Rattle.std.proofs.lemmas.Bool.{cases_eq, eqb-true}
 use Rattle.std.proofs.lemmas.Bool.Decides.{nat_tests}
 use Rattle.water_text.specs.declared.month.Month.{Month}
 use Rattle.water_model.specs.Indices.{members_from}
-use Rattle.water_model.specs.Text.{call_items}
-use Rattle.water_model.specs.declared.item.Item.{Item}
-use Rattle.water_model.specs.declared.item.Item.TheVariants as line
+use Rattle.result_lines.specs.Text.{call_items}
+use Rattle.result_lines.specs.declared.item.Item.{Item}
+use Rattle.result_lines.specs.declared.item.Item.TheVariants as line
 use Rattle.water_model.specs.declared.types.Basin.{Basin}
 use Rattle.water_model.proofs.Order.{Has, flat_same, map_same}
 use Rattle.result_reader.specs.Form.{shape_of, is_optional, fits, IsFollowedBy, Fills}

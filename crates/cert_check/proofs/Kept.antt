@@ -1,7 +1,7 @@
 -- A check state keeps what was read where only what follows from it is added.
 use Rattle.std.proofs.Common.{◌≡◌, ℕ, true, refl, List, length}
 use Rattle.std.specs.Prelude.{Option}
-use Rattle.calls.specs.Callers.{AreCallers}
+use Rattle.cut_cert.specs.Callers.{AreCallers}
 use Rattle.water_model.specs.declared.types.Basin.{Basin}
 use Rattle.water_model.specs.declared.types.Inflows.{Inflows}
 use Rattle.water_model.specs.declared.types.MonthRecord.{MonthRecord}

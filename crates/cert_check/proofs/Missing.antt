@@ -8,14 +8,14 @@ use Rattle.water_model.specs.Basin.{is_senior}
 use Rattle.water_model.specs.History.{cut_of}
 use Rattle.water_model.specs.Indices.{seniors_first}
 use Rattle.water_model.specs.Valid.{IsValidBasin}
-use Rattle.water_model.specs.declared.item.Item.{Item}
-use Rattle.water_model.specs.declared.item.Item.TheVariants as line
+use Rattle.result_lines.specs.declared.item.Item.{Item}
+use Rattle.result_lines.specs.declared.item.Item.TheVariants as line
 use Rattle.water_model.specs.declared.types.Basin.{Basin}
 use Rattle.water_model.specs.declared.types.Inflows.{Inflows}
 use Rattle.water_model.proofs.Order.{Has, IsOrdered, seniors_have, seniors_below, seniors_ordered}
 use Rattle.water_model.proofs.Seniority.{senior_trans}
 use Rattle.result_reader.specs.ReadSoFar.{ReadSoFar}
-use Rattle.calls.specs.Callers.{is_short}
+use Rattle.cut_cert.specs.Callers.{is_short}
 use Rattle.cert_check.specs.Checking.{passes, cut_missing}
 use Rattle.cert_check.specs.Keeping.{Keeps, lacks_call}
 use Rattle.cert_check.specs.Walks.{ArePassed, IsMissed}

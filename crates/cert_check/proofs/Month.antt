@@ -12,21 +12,21 @@ use Rattle.water_model.specs.Hydrology.{in_year, evaporation, returned_at, used_
 use Rattle.water_model.specs.Lookups.{of_entry}
 use Rattle.water_model.specs.Entries.{count_in}
 use Rattle.water_model.specs.Indices.{seniors_first}
-use Rattle.water_model.specs.Quantities.{amounts_of, entries_with_line, space_of, with_amounts}
+use Rattle.result_lines.specs.Quantities.{amounts_of, entries_with_line, space_of, with_amounts}
 use Rattle.water_model.specs.Plans.{carry_of}
-use Rattle.water_model.specs.Text.{call_items, lines_in, month_lines}
-use Rattle.water_model.specs.declared.item.Item.{Item}
-use Rattle.water_model.specs.declared.item.Item.TheVariants as line
-use Rattle.water_model.specs.declared.item.Section.{Section}
-use Rattle.water_model.specs.declared.item.Section.TheVariants as section
-use Rattle.water_model.specs.declared.item.TheConstants.{SECTIONS}
-use Rattle.water_model.specs.declared.quantity.Quantity.{Quantity}
-use Rattle.water_model.specs.declared.quantity.Quantity.TheVariants as quantity
+use Rattle.result_lines.specs.Text.{call_items, lines_in, month_lines}
+use Rattle.result_lines.specs.declared.item.Item.{Item}
+use Rattle.result_lines.specs.declared.item.Item.TheVariants as line
+use Rattle.result_lines.specs.declared.item.Section.{Section}
+use Rattle.result_lines.specs.declared.item.Section.TheVariants as section
+use Rattle.result_lines.specs.declared.item.TheConstants.{SECTIONS}
+use Rattle.result_lines.specs.declared.quantity.Quantity.{Quantity}
+use Rattle.result_lines.specs.declared.quantity.Quantity.TheVariants as quantity
 use Rattle.water_model.specs.declared.types.Basin.{Basin}
 use Rattle.water_model.specs.declared.types.Inflows.{Inflows}
 use Rattle.water_model.specs.declared.types.MonthRecord.{MonthRecord}
 use Rattle.water_model.proofs.Order.{Has, seniors_below}
-use Rattle.water_model.proofs.Quantities.{amount_lines, flat_map_one}
+use Rattle.result_lines.proofs.Quantities.{amount_lines, flat_map_one}
 use Rattle.result_reader.specs.ReadSoFar.{ReadSoFar, read_item, with_supply}
 use Rattle.result_reader.proofs.MonthRead.{Makes, makes_amounts, makes_deliveries, reads_calls, with_sets}
 use Rattle.result_reader.proofs.Sets.{put_sets}

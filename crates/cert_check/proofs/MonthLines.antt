@@ -5,18 +5,18 @@ use Rattle.std.specs.List.{flat_map}
 use Rattle.water_model.specs.Basin.{taking_node}
 use Rattle.water_model.specs.Entries.{in_order}
 use Rattle.water_model.specs.Indices.{seniors_first}
-use Rattle.water_model.specs.Quantities.{entries_with_line, has_line, space_of}
-use Rattle.water_model.specs.Text.{call_items}
+use Rattle.result_lines.specs.Quantities.{entries_with_line, has_line, space_of}
+use Rattle.result_lines.specs.Text.{call_items}
 use Rattle.water_model.specs.Valid.{IsValidBasin}
-use Rattle.water_model.specs.declared.item.Item.{Item}
-use Rattle.water_model.specs.declared.item.Item.TheVariants as line
-use Rattle.water_model.specs.declared.item.Section.{Section}
-use Rattle.water_model.specs.declared.item.Section.TheVariants as section
-use Rattle.water_model.specs.declared.item.TheConstants.{SECTIONS}
-use Rattle.water_model.specs.declared.quantity.Quantity.{Quantity}
-use Rattle.water_model.specs.declared.quantity.Quantity.TheVariants as quantity
+use Rattle.result_lines.specs.declared.item.Item.{Item}
+use Rattle.result_lines.specs.declared.item.Item.TheVariants as line
+use Rattle.result_lines.specs.declared.item.Section.{Section}
+use Rattle.result_lines.specs.declared.item.Section.TheVariants as section
+use Rattle.result_lines.specs.declared.item.TheConstants.{SECTIONS}
+use Rattle.result_lines.specs.declared.quantity.Quantity.{Quantity}
+use Rattle.result_lines.specs.declared.quantity.Quantity.TheVariants as quantity
 use Rattle.water_model.specs.declared.types.Basin.{Basin}
-use Rattle.water_model.proofs.Quantities.{flat_map_if, flat_map_one}
+use Rattle.result_lines.proofs.Quantities.{flat_map_if, flat_map_one}
 use Rattle.result_reader.specs.Form.{Fills, due_in_month, shapes_in}
 use Rattle.result_reader.specs.declared.shape.Shape.{Shape}
 use Rattle.result_reader.specs.declared.shape.Shape.TheVariants as shape

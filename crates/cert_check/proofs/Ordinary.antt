@@ -10,9 +10,9 @@ use Rattle.water_text.specs.Months.{read_month, days_of}
 use Rattle.water_text.specs.Names.{is_name}
 use Rattle.water_text.specs.Shapes.{has_shape}
 use Rattle.water_model.specs.Indices.{numbers_from, members_from, by_seniority}
-use Rattle.water_model.specs.Spelling.{line_of, fields_of}
-use Rattle.water_model.specs.History.{calls}
-use Rattle.water_model.specs.Text.{month_lines, calling_right}
+use Rattle.result_lines.specs.Spelling.{line_of, fields_of}
+use Rattle.water_model.specs.History.{calls, calling_right}
+use Rattle.result_lines.specs.Text.{month_lines}
 use Rattle.water_model.proofs.Worked.{ordinary, ordinary_series}
 use Rattle.result_reader.specs.Form.{is_same_shape, fits, due_in_month, due}
 use Rattle.result_reader.specs.Reading.{item_with, item_of, read_line}

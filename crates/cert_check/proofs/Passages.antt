@@ -4,9 +4,9 @@ use Rattle.std.specs.Prelude.{Option, Some, None, ◌⊎◌}
 use Rattle.std.specs.List.{list_all, flat_map}
 use Rattle.std.proofs.lemmas.Bool.{and_parts}
 use Rattle.water_model.specs.Indices.{members_from}
-use Rattle.water_model.specs.Text.{call_items}
-use Rattle.water_model.specs.declared.item.Item.{Item}
-use Rattle.water_model.specs.declared.item.Item.TheVariants as line
+use Rattle.result_lines.specs.Text.{call_items}
+use Rattle.result_lines.specs.declared.item.Item.{Item}
+use Rattle.result_lines.specs.declared.item.Item.TheVariants as line
 
 -- a line of two lists, one after the other, stands in the first or in the second
 abbrev pub InFirst : List Item → List Item → Item → Type 0

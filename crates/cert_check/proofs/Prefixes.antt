@@ -8,14 +8,14 @@ use Rattle.std.proofs.lemmas.List.{length-map}
 use Rattle.water_model.specs.History.{IsPartialHistory}
 use Rattle.water_model.specs.Hydrology.{run_month}
 use Rattle.water_model.specs.Indices.{numbers_from, members_from, seniors_first}
-use Rattle.water_model.specs.Quantities.{entries_with_line}
-use Rattle.water_model.specs.Text.{call_items, items_of_month}
+use Rattle.result_lines.specs.Quantities.{entries_with_line}
+use Rattle.result_lines.specs.Text.{call_items, items_of_month}
 use Rattle.water_model.specs.Valid.{IsValidBasin, IsSeriesOf}
 use Rattle.water_text.specs.declared.month.Month.{Month}
-use Rattle.water_model.specs.declared.item.Item.{Item}
-use Rattle.water_model.specs.declared.item.Item.TheVariants as line
-use Rattle.water_model.specs.declared.quantity.Quantity.{Quantity}
-use Rattle.water_model.specs.declared.quantity.Quantity.TheVariants as quantity
+use Rattle.result_lines.specs.declared.item.Item.{Item}
+use Rattle.result_lines.specs.declared.item.Item.TheVariants as line
+use Rattle.result_lines.specs.declared.quantity.Quantity.{Quantity}
+use Rattle.result_lines.specs.declared.quantity.Quantity.TheVariants as quantity
 use Rattle.water_model.specs.declared.types.Basin.{Basin}
 use Rattle.water_model.specs.declared.types.Inflows.{Inflows}
 use Rattle.water_model.specs.declared.types.MonthRecord.{MonthRecord}

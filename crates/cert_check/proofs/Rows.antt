@@ -5,14 +5,14 @@ use Rattle.std.specs.List.{list_any}
 use Rattle.std.proofs.lemmas.Bool.Decides.{nat_tests}
 use Rattle.water_model.specs.History.{cut_of}
 use Rattle.water_model.specs.Indices.{indices_of}
-use Rattle.water_model.specs.declared.item.Item.{Item}
-use Rattle.water_model.specs.declared.item.Item.TheVariants as line
+use Rattle.result_lines.specs.declared.item.Item.{Item}
+use Rattle.result_lines.specs.declared.item.Item.TheVariants as line
 use Rattle.water_model.specs.declared.types.Basin.{Basin}
 use Rattle.water_model.specs.declared.types.Inflows.{Inflows}
 use Rattle.water_model.proofs.Order.{Has}
 use Rattle.result_reader.specs.Due.{is_member}
 use Rattle.result_reader.specs.ReadSoFar.{ReadSoFar, read_item}
-use Rattle.calls.specs.Callers.{is_short}
+use Rattle.cut_cert.specs.Callers.{is_short}
 use Rattle.cert_check.specs.Checking.{Row, rows, own_rows, first_row, passes, cut_needless, called_wrong}
 
 -- no row of the list holds

@@ -8,17 +8,17 @@ use Rattle.std.proofs.Math.Seq.{take-append_seam}
 use Rattle.std.proofs.lemmas.Bool.{or_from, or_parts}
 use Rattle.water_model.proofs.Lists.{get_after}
 use Rattle.water_model.specs.Blank.{blank_month}
-use Rattle.water_model.specs.History.{IsPartialHistory, IsHistory, Follows, cut_of}
+use Rattle.water_model.specs.History.{IsPartialHistory, IsHistory, Follows, cut_of, calling_right}
 use Rattle.water_model.specs.Indices.{members_from, seniors_first}
-use Rattle.water_model.specs.Quantities.{amounts_of, entries_with_line}
-use Rattle.water_model.specs.Spelling.{line_of}
-use Rattle.water_model.specs.Text.{call_items, calling_right, items_of_month, items_of_head, items_of}
+use Rattle.result_lines.specs.Quantities.{amounts_of, entries_with_line}
+use Rattle.result_lines.specs.Spelling.{line_of}
+use Rattle.result_lines.specs.Text.{call_items, items_of_month, items_of_head, items_of}
 use Rattle.water_model.specs.Valid.{IsValidBasin}
-use Rattle.water_model.specs.declared.item.Item.{Item}
-use Rattle.water_model.specs.declared.item.Item.TheVariants as line
-use Rattle.water_model.specs.declared.item.Section.{Section}
-use Rattle.water_model.specs.declared.item.Section.TheVariants as section
-use Rattle.water_model.specs.declared.item.TheConstants.{SECTIONS}
+use Rattle.result_lines.specs.declared.item.Item.{Item}
+use Rattle.result_lines.specs.declared.item.Item.TheVariants as line
+use Rattle.result_lines.specs.declared.item.Section.{Section}
+use Rattle.result_lines.specs.declared.item.Section.TheVariants as section
+use Rattle.result_lines.specs.declared.item.TheConstants.{SECTIONS}
 use Rattle.water_model.specs.declared.types.Basin.{Basin}
 use Rattle.water_model.specs.declared.types.Inflows.{Inflows}
 use Rattle.water_model.specs.declared.types.MonthRecord.{MonthRecord}

@@ -6,14 +6,14 @@ use Rattle.std.specs.List.{flat_map}
 use Rattle.std.proofs.lemmas.List.{length-map}
 use Rattle.std.proofs.lemmas.Bool.{or_parts}
 use Rattle.water_model.specs.Blank.{blank_month}
-use Rattle.water_model.specs.History.{IsPartialHistory, IsHistory, Follows, opening_after}
+use Rattle.water_model.specs.History.{IsPartialHistory, IsHistory, Follows, opening_after, calling_right}
 use Rattle.water_model.specs.Hydrology.{run_month}
 use Rattle.water_model.specs.Indices.{numbers_from}
-use Rattle.water_model.specs.Spelling.{line_of}
-use Rattle.water_model.specs.Text.{calling_right, items_of_month, items_of}
+use Rattle.result_lines.specs.Spelling.{line_of}
+use Rattle.result_lines.specs.Text.{items_of_month, items_of}
 use Rattle.water_model.specs.Valid.{IsValidBasin}
-use Rattle.water_model.specs.declared.item.Item.{Item}
-use Rattle.water_model.specs.declared.item.Item.TheVariants as line
+use Rattle.result_lines.specs.declared.item.Item.{Item}
+use Rattle.result_lines.specs.declared.item.Item.TheVariants as line
 use Rattle.water_model.specs.declared.types.Basin.{Basin}
 use Rattle.water_model.specs.declared.types.Inflows.{Inflows}
 use Rattle.water_model.specs.declared.types.MonthRecord.{MonthRecord}

@@ -7,12 +7,12 @@ use Rattle.std.proofs.lemmas.Bool.{cases_eq, or_parts}
 use Rattle.water_model.specs.CutSets.{CutSets, set_of, with_set}
 use Rattle.water_model.specs.History.{cut_of}
 use Rattle.water_model.specs.Indices.{seniors_first}
-use Rattle.water_model.specs.declared.item.Item.TheVariants as line
+use Rattle.result_lines.specs.declared.item.Item.TheVariants as line
 use Rattle.water_model.specs.declared.types.Basin.{Basin}
 use Rattle.water_model.specs.declared.types.Inflows.{Inflows}
 use Rattle.water_model.specs.declared.types.MonthRecord.{MonthRecord}
 use Rattle.result_reader.specs.ReadSoFar.{ReadSoFar, read_item, with_member}
-use Rattle.calls.specs.Callers.{AreCallers, is_short}
+use Rattle.cut_cert.specs.Callers.{AreCallers, is_short}
 use Rattle.cert_check.specs.Keeping.{IsCalling, Keeps, lacks_call}
 use Rattle.cert_check.specs.declared.state.CheckState.{CheckState}
 use Rattle.water_model.proofs.SetEntries.{set_of_with, set_of_other}

@@ -11,25 +11,24 @@ use Rattle.water_model.specs.History.{cut_of}
 use Rattle.water_model.specs.Hydrology.{run_month, inflow_at, stored_at}
 use Rattle.water_model.specs.Entries.{count_in, in_order}
 use Rattle.water_model.specs.Indices.{numbers_from, indices_of, seniors_first}
-use Rattle.water_model.specs.Quantities.{amounts_of, entries_with_line, space_of}
-use Rattle.water_model.specs.Text.{call_items}
+use Rattle.result_lines.specs.Quantities.{amounts_of, entries_with_line, space_of}
+use Rattle.result_lines.specs.Text.{call_items}
 use Rattle.water_model.specs.Valid.{IsValidBasin}
-use Rattle.water_model.specs.declared.item.Item.{Item}
-use Rattle.water_model.specs.declared.item.Item.TheVariants as line
-use Rattle.water_model.specs.declared.item.Section.{Section}
-use Rattle.water_model.specs.declared.item.Section.TheVariants as section
-use Rattle.water_model.specs.declared.item.TheConstants.{SECTIONS}
-use Rattle.water_model.specs.declared.quantity.Quantity.{Quantity}
-use Rattle.water_model.specs.declared.quantity.Quantity.TheVariants as quantity
+use Rattle.result_lines.specs.declared.item.Item.{Item}
+use Rattle.result_lines.specs.declared.item.Item.TheVariants as line
+use Rattle.result_lines.specs.declared.item.Section.{Section}
+use Rattle.result_lines.specs.declared.item.Section.TheVariants as section
+use Rattle.result_lines.specs.declared.item.TheConstants.{SECTIONS}
+use Rattle.result_lines.specs.declared.quantity.Quantity.{Quantity}
+use Rattle.result_lines.specs.declared.quantity.Quantity.TheVariants as quantity
 use Rattle.water_model.specs.declared.space.Space.{Space}
 use Rattle.water_model.specs.declared.space.Space.TheVariants as space
 use Rattle.water_model.specs.declared.types.Basin.{Basin}
 use Rattle.water_model.specs.declared.types.Inflows.{Inflows}
 use Rattle.water_model.specs.declared.types.MonthRecord.{MonthRecord}
 use Rattle.water_model.proofs.Order.{Has, IsOrdered, filter-has, numbers_from-below, seniors_have, seniors_below}
-use Rattle.water_model.proofs.Order.{flat_same, map_same}
-use Rattle.water_model.proofs.Order.{seniors_ordered}
-use Rattle.water_model.proofs.Quantities.{has-with_line}
+use Rattle.water_model.proofs.Order.{flat_same, map_same, seniors_ordered}
+use Rattle.result_lines.proofs.Quantities.{has-with_line}
 use Rattle.result_reader.proofs.MonthRead.{take_of}
 use Rattle.result_reader.proofs.Telling.{set_all, set_all-has}
 use Rattle.result_reader.proofs.WholeMonth.{IsAllRead}

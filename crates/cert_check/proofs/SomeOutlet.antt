@@ -9,7 +9,7 @@ use Rattle.water_model.specs.Network.{head_in}
 use Rattle.water_model.specs.Indices.{indices_of, outlets}
 use Rattle.water_model.specs.Valid.{IsValidBasin}
 use Rattle.water_model.specs.declared.types.Basin.{Basin}
-use Rattle.water_model.proofs.Balance.{ends}
+use Rattle.water_model.proofs.Valid.{ends}
 use Rattle.water_model.proofs.Order.{Has, has-filter, numbers_from-has}
 use Rattle.cert_check.proofs.GoodMonth.{HasOutlet}
 

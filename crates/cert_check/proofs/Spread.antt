@@ -1,7 +1,7 @@
 -- The lines of sections, one section after another.
 use Rattle.std.proofs.Common.{◌≡◌, refl, ap, ◌∙◌, List, [], ◌∷◌, ◌++◌, append_assoc}
 use Rattle.std.specs.List.{flat_map}
-use Rattle.water_model.specs.declared.item.Section.{Section}
+use Rattle.result_lines.specs.declared.item.Section.{Section}
 
 -- and others after them
 abbrev pub onto : {A : Type 0} → (Section → List A) → List Section → List A → List A

@@ -13,12 +13,12 @@ use Rattle.water_model.specs.Hydrology.{run_month, in_year, evaporation, returne
 use Rattle.water_model.specs.Lookups.{of_entry}
 use Rattle.water_model.specs.Plans.{carry_of}
 use Rattle.water_model.specs.CutSets.{set_of}
-use Rattle.water_model.specs.Quantities.{amounts_of}
+use Rattle.result_lines.specs.Quantities.{amounts_of}
 use Rattle.water_model.specs.Valid.{IsValidBasin, IsSeriesOf}
-use Rattle.water_model.proofs.Quantities.{cuts_with}
-use Rattle.water_model.specs.declared.item.Item.{Item}
-use Rattle.water_model.specs.declared.item.Item.TheVariants as line
-use Rattle.water_model.specs.declared.quantity.Quantity.TheVariants as quantity
+use Rattle.result_lines.proofs.Quantities.{cuts_with}
+use Rattle.result_lines.specs.declared.item.Item.{Item}
+use Rattle.result_lines.specs.declared.item.Item.TheVariants as line
+use Rattle.result_lines.specs.declared.quantity.Quantity.TheVariants as quantity
 use Rattle.water_model.specs.declared.types.Basin.{Basin}
 use Rattle.water_model.specs.declared.types.Inflows.{Inflows}
 use Rattle.water_model.specs.declared.types.MonthRecord.{MonthRecord}

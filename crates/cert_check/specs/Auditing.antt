@@ -2,8 +2,8 @@
 use Rattle.std.specs.Prelude.{◌≡◌, ℕ, List, length, slice_index, slice_set, Option, Some, None, IsSome}
 use Rattle.std.specs.Prelude.{option_map, Result, Ok, Err}
 use Rattle.water_model.specs.History.{Follows, HaveReaches, IsPartialHistory, cut_of}
-use Rattle.water_model.specs.declared.item.Item.{Item}
-use Rattle.water_model.specs.declared.item.Item.TheVariants as line
+use Rattle.result_lines.specs.declared.item.Item.{Item}
+use Rattle.result_lines.specs.declared.item.Item.TheVariants as line
 use Rattle.water_model.specs.declared.types.Basin.{Basin}
 use Rattle.water_model.specs.declared.types.Inflows.{Inflows}
 use Rattle.water_model.specs.declared.types.MonthRecord.{MonthRecord}

@@ -9,20 +9,19 @@ use Rattle.water_text.specs.Months.{is_same_month}
 use Rattle.water_text.specs.declared.month.Month.{Month}
 use Rattle.water_model.specs.Basin.{is_senior, taking_node, instream_link}
 use Rattle.water_model.specs.Cuts.{cut_capacity, cut_kept, separates}
-use Rattle.water_model.specs.History.{cut_of, opening_after, is_zone_of}
+use Rattle.water_model.specs.History.{cut_of, opening_after, is_zone_of, calling_right}
 use Rattle.water_model.specs.Hydrology.{in_year, evaporation, returned_at, used_of, want_of}
 use Rattle.water_model.specs.Lookups.{of_entry}
 use Rattle.water_model.specs.Indices.{indices_of, seniors_first, outlets}
 use Rattle.water_model.specs.Plans.{carry_of, inflow_to, outflow_from, taken_at}
-use Rattle.water_model.specs.Text.{calling_right}
-use Rattle.water_model.specs.declared.item.Item.{Item}
-use Rattle.water_model.specs.declared.item.Item.TheVariants as line
-use Rattle.water_model.specs.declared.quantity.Quantity.{Quantity}
-use Rattle.water_model.specs.declared.quantity.Quantity.TheVariants as quantity
+use Rattle.result_lines.specs.declared.item.Item.{Item}
+use Rattle.result_lines.specs.declared.item.Item.TheVariants as line
+use Rattle.result_lines.specs.declared.quantity.Quantity.{Quantity}
+use Rattle.result_lines.specs.declared.quantity.Quantity.TheVariants as quantity
 use Rattle.water_model.specs.declared.types.Basin.{Basin}
 use Rattle.water_model.specs.declared.types.Inflows.{Inflows}
 use Rattle.water_model.specs.declared.types.MonthRecord.{MonthRecord}
-use Rattle.calls.specs.Callers.{is_short}
+use Rattle.cut_cert.specs.Callers.{is_short}
 use Rattle.result_reader.specs.Due.{is_member}
 use Rattle.result_reader.specs.Reading.{read_line}
 use Rattle.result_reader.specs.ReadSoFar.{ReadSoFar, read_item, read_so_far, with_supply}

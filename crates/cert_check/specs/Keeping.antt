@@ -4,15 +4,14 @@ use Rattle.std.specs.Prelude.{slice_set, Option, Some, IsSome, is_none}
 use Rattle.std.specs.List.{list_any, flat_map}
 use Rattle.finite_sums.specs.Sums.{total_where}
 use Rattle.water_model.specs.CutSets.{CutSets, set_of}
-use Rattle.water_model.specs.History.{cut_of, opening_after, is_zone_of}
+use Rattle.water_model.specs.History.{cut_of, opening_after, is_zone_of, calling_right}
 use Rattle.water_model.specs.Indices.{seniors_first}
-use Rattle.water_model.specs.Text.{calling_right}
-use Rattle.water_model.specs.declared.quantity.Quantity.{Quantity}
-use Rattle.water_model.specs.declared.quantity.Quantity.TheVariants as quantity
+use Rattle.result_lines.specs.declared.quantity.Quantity.{Quantity}
+use Rattle.result_lines.specs.declared.quantity.Quantity.TheVariants as quantity
 use Rattle.water_model.specs.declared.types.Basin.{Basin}
 use Rattle.water_model.specs.declared.types.Inflows.{Inflows}
 use Rattle.water_model.specs.declared.types.MonthRecord.{MonthRecord}
-use Rattle.calls.specs.Callers.{AreCallers, is_short}
+use Rattle.cut_cert.specs.Callers.{AreCallers, is_short}
 use Rattle.lag_returns.specs.Lags as lag
 use Rattle.lag_returns.specs.Lags.{InTransit, HasReturned}
 use Rattle.month_terms.specs.Terms.{HasUsed}

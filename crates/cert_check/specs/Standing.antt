@@ -1,7 +1,6 @@
 -- What a checker stands for, and what its answers say.
-use Rattle.std.specs.Prelude.{◌≡◌, ℕ, ◌-◌, List, [], length, reverse, Option, Some, None, Result, Ok, Err, IsOk}
-use Rattle.std.specs.Prelude.{IsSome}
-use Rattle.water_model.specs.declared.item.Item.{Item}
+use Rattle.std.specs.Prelude.{◌≡◌, ℕ, ◌-◌, List, [], length, reverse, Option, Some, None, Result, Ok, Err, IsOk, IsSome}
+use Rattle.result_lines.specs.declared.item.Item.{Item}
 use Rattle.water_model.specs.declared.types.Basin.{Basin}
 use Rattle.water_model.specs.declared.types.Inflows.{Inflows}
 use Rattle.result_reader.specs.Standing as reader

@@ -1,7 +1,7 @@
 -- The verdict on the bytes of a text.
 use Rattle.std.specs.Prelude.{ℕ, ◌-◌, ◌==◌, Bool, List, [], length, take, slice_index_or, nat_lt, Result, if◌then◌else◌}
 use Rattle.std.specs.List.{slice_split}
-use Rattle.water_model.specs.declared.item.Item.{Item}
+use Rattle.result_lines.specs.declared.item.Item.{Item}
 use Rattle.water_model.specs.declared.types.Basin.{Basin}
 use Rattle.water_model.specs.declared.types.Inflows.{Inflows}
 use Rattle.cert_check.specs.Checking.{verdict}

@@ -1,12 +1,12 @@
 //! Rights that answer to a caller: each has its `called` line, in the order of seniority.
 ghost use Rattle.std.specs.Prelude.{◌≤◌, length};
-ghost use Rattle.calls.specs.Callers.{AreCallers};
+ghost use Rattle.cut_cert.specs.Callers.{AreCallers};
 ghost use Rattle.rights_roll.specs.Rolls.{IsRollOf};
 ghost use Rattle.water_model.specs.History.{FitsBasin};
 ghost use Rattle.water_model.specs.Valid.{IsValidBasin};
 ghost use Rattle.cert_check.specs.Walks.{IsDueFrom};
 
-use calls::calling_right;
+use cut_cert::calls::calling_right;
 use rights_roll::roll::Roll;
 use water_model::types::{Basin, MonthRecord};
 

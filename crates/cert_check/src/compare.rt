@@ -2,7 +2,7 @@
 //!
 //! `month` is a record that shows what was read of the current month. A row answers whether it holds of the line.
 ghost use Rattle.std.specs.Prelude.{◌≡◌, ◌<◌, ◌==◌, length, map, not, slice_index};
-ghost use Rattle.water_model.specs.OfBasin.{IsOfBasin};
+ghost use Rattle.result_lines.specs.OfBasin.{IsOfBasin};
 ghost use Rattle.result_reader.specs.Due.{is_member};
 ghost use Rattle.result_reader.specs.ReadSoFar.{ReadSoFar};
 ghost use Rattle.water_text.specs.Months.{IsMonth, is_same_month};
@@ -15,11 +15,11 @@ ghost use Rattle.water_model.specs.Valid.{IsValidBasin, IsSeriesOf};
 ghost use Rattle.cert_check.specs.Checking as checking;
 ghost use Rattle.cert_check.specs.Shows.{Shows};
 
-use calls::is_short;
+use cut_cert::calls::is_short;
 use reservoirs::AreaTable;
+use result_lines::item::Item;
+use result_lines::quantity::Quantity;
 use water_model::calls::{carry_of, want_of};
-use water_model::item::Item;
-use water_model::quantity::Quantity;
 use water_model::types::{Basin, Inflows, MonthRecord, RightKind};
 use water_text::month::Month;
 

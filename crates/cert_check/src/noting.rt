@@ -1,15 +1,15 @@
 //! What a line says of the current month.
 ghost use Rattle.std.specs.Prelude.{◌≡◌, ◌<◌, length, slice_set, is_some, if◌then◌else◌};
 ghost use Rattle.water_model.specs.Basin.{taking_node};
-ghost use Rattle.water_model.specs.Quantities.{amounts_of, with_amounts};
+ghost use Rattle.result_lines.specs.Quantities.{amounts_of, with_amounts};
 ghost use Rattle.water_model.specs.Valid.{IsValidBasin};
 ghost use Rattle.result_reader.specs.ReadSoFar.{ReadSoFar, read_item};
-ghost use Rattle.water_model.specs.declared.item.Item.TheVariants as line;
+ghost use Rattle.result_lines.specs.declared.item.Item.TheVariants as line;
 ghost use Rattle.water_model.specs.declared.types.Basin.{Basin};
 ghost use Rattle.water_model.specs.declared.types.Inflows.{Inflows};
 ghost use Rattle.cert_check.specs.Shows.{Shows};
 
-use water_model::quantity::Quantity;
+use result_lines::quantity::Quantity;
 use water_model::types::{Basin, MonthRecord, RightKind};
 
 /// Writes an amount at an index of a list.

@@ -1,7 +1,7 @@
 //! Rights that a line passes over: each has to be met, or to have its `call`.
 ghost use Rattle.std.specs.Prelude.{◌≡◌, ◌<◌, ◌≤◌, false, length, take, is_none};
 ghost use Rattle.std.specs.List.{list_any};
-ghost use Rattle.water_model.specs.OfBasin.{IsOfBasin};
+ghost use Rattle.result_lines.specs.OfBasin.{IsOfBasin};
 ghost use Rattle.water_model.specs.History.{FitsBasin};
 ghost use Rattle.water_model.specs.Indices.{seniors_first};
 ghost use Rattle.water_model.specs.Valid.{IsValidBasin};
@@ -10,9 +10,9 @@ ghost use Rattle.cert_check.specs.Keeping.{lacks_call};
 ghost use Rattle.cert_check.specs.Walks.{IsPassed};
 
 use crate::compare::is_after_calls;
-use calls::is_short;
+use cut_cert::calls::is_short;
+use result_lines::item::Item;
 use rights_roll::priority::is_senior_to;
-use water_model::item::Item;
 use water_model::types::{Basin, MonthRecord};
 
 /// Whether a right is short and has no set.

@@ -1,8 +1,8 @@
 //! What a checker keeps of lines that are good, and how it takes the next.
 ghost use Rattle.std.specs.Prelude.{ℕ, ◌≡◌, ◌+◌, ◌^◌, ◌<◌, ◌++◌, ◌∷◌, [], List, None, OnOk, is_some};
 ghost use Rattle.result_reader.specs.ReadSoFar.{ReadSoFar, read_so_far};
-ghost use Rattle.water_model.specs.OfBasin.{IsOfBasin};
-ghost use Rattle.water_model.specs.declared.item.Item.{Item};
+ghost use Rattle.result_lines.specs.OfBasin.{IsOfBasin};
+ghost use Rattle.result_lines.specs.declared.item.Item.{Item};
 ghost use Rattle.cert_check.specs.Auditing.{IsAuditIfAny};
 ghost use Rattle.cert_check.specs.Checking.{first_row, named_line};
 ghost use Rattle.cert_check.specs.Coming.{MayCome};
@@ -18,8 +18,8 @@ use crate::ready::make_ready;
 use crate::refusing::first_row;
 use crate::refuted::{Refuted, RefutedKind};
 use crate::state::{CheckState, Context};
+use result_lines::item::Item;
 use result_reader::ResultReader;
-use water_model::item::Item;
 
 /// What is kept of lines none of which is at fault.
 #[derive(Drop)]

@@ -1,7 +1,7 @@
 //! What the tests of a line look at. It is made before them, so that a test only reads.
 ghost use Rattle.std.specs.Prelude.{◌≡◌, ◌≤◌, true};
 ghost use Rattle.result_reader.specs.ReadSoFar.{ReadSoFar};
-ghost use Rattle.water_model.specs.OfBasin.{IsOfBasin};
+ghost use Rattle.result_lines.specs.OfBasin.{IsOfBasin};
 ghost use Rattle.cert_check.specs.Coming.{Awaits, HasMonth, HasRead};
 ghost use Rattle.cert_check.specs.Keeping.{Keeps};
 ghost use Rattle.cert_check.specs.Context.{IsContext};
@@ -13,10 +13,10 @@ use crate::compare::{is_after_calls, is_member};
 use crate::passing::pass_over;
 use crate::state::{CheckState, Context};
 use crate::supplying::make_supply;
-use calls::callers_by_node;
+use cut_cert::calls::callers_by_node;
 use month_terms::closing::close_zones;
-use water_model::item::Item;
-use water_model::quantity::Quantity;
+use result_lines::item::Item;
+use result_lines::quantity::Quantity;
 
 /// Makes the supply that was read, unless the record has it.
 pub fn know_supply(context: &Context, state: &mut CheckState)

@@ -1,11 +1,11 @@
 //! The first row of the verdict that holds of a line, by what was read before it.
 ghost use Rattle.std.specs.Prelude.{◌≡◌, ◌<◌, ◌==◌, ◌&&◌, ◌∷◌, [], true, not, length, nat_lt, slice_get, Some};
 ghost use Rattle.std.specs.List.{list_any};
-ghost use Rattle.water_model.specs.OfBasin.{IsOfBasin};
+ghost use Rattle.result_lines.specs.OfBasin.{IsOfBasin};
 ghost use Rattle.result_reader.specs.ReadSoFar.{ReadSoFar, with_supply};
 ghost use Rattle.water_model.specs.Entries.{count_in};
 ghost use Rattle.water_model.specs.Indices.{indices_of};
-ghost use Rattle.water_model.specs.Quantities.{space_of};
+ghost use Rattle.result_lines.specs.Quantities.{space_of};
 ghost use Rattle.cert_check.specs.Checking as checking;
 ghost use Rattle.cert_check.specs.Checking.{call_rows, own_rows};
 ghost use Rattle.cert_check.specs.Coming.{Awaits, HasMonth, HasRead, IsWithinMonth, MayCome};
@@ -22,8 +22,8 @@ use crate::passing::pass_over;
 use crate::refuted::RefutedKind;
 use crate::state::{CheckState, Context};
 use cut_cert::tight;
-use water_model::item::Item;
-use water_model::quantity::Quantity;
+use result_lines::item::Item;
+use result_lines::quantity::Quantity;
 
 /// Whether the set of the right whose nodes came is no tight cut of it.
 fn is_loose(context: &Context, state: &CheckState, right: u32) -> bool

@@ -1,6 +1,5 @@
 -- The words of a circulation at the start of a month.
-use Rattle.std.proofs.Common.{ℕ, ◌≡◌, ◌+◌, ◌-◌, ◌*◌, List, ◌++◌, length, take, drop, map, replicate}
-use Rattle.std.proofs.Common.{arith, ap}
+use Rattle.std.proofs.Common.{ℕ, ◌≡◌, ◌+◌, ◌-◌, ◌*◌, List, ◌++◌, length, take, drop, map, replicate, arith, ap}
 use Rattle.std.proofs.Common.{refl, sym, ◌∙◌, take-append-drop, length-drop, length-take-le}
 use Rattle.std.proofs.lemmas.List.{take_at, drop_at, length-map}
 use Rattle.circulation.specs.declared.Circulation.{Circulation}

@@ -10,8 +10,7 @@
 #![tactic(auto)]
 
 ghost use Rattle.std.specs.Prelude.{IsTrue, ◌↔◌, ◌≡◌, ◌+◌, ◌-◌, ◌*◌, ◌^◌, ◌<◌, ◌≤◌, ◌≢◌, length};
-ghost use Rattle.std.specs.Prelude.{IfOk, OnOk, OnErr, All};
-ghost use Rattle.std.specs.Prelude.{◌++◌, drop, replicate};
+ghost use Rattle.std.specs.Prelude.{IfOk, OnOk, OnErr, All, ◌++◌, drop, replicate};
 ghost use Rattle.circulation.specs.Contents.{Contents, empty_contents, month_contents, on_last, IsStart};
 ghost use Rattle.circulation.specs.Rows.{Rows};
 ghost use Rattle.circulation.specs.Places.{word_count, fixed_count, tails, heads, AreFixedOf, AreWordsOf, Holds};

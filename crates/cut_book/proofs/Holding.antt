@@ -8,10 +8,9 @@ use Rattle.water_model.specs.Basin.{is_senior, is_at, instream_link}
 use Rattle.water_model.specs.Indices.{seniors_first}
 use Rattle.water_model.specs.Rights.{AreStrict}
 use Rattle.water_model.specs.declared.types.Basin.{Basin}
-use Rattle.water_model.proofs.Duality.{not_senior_to_itself}
+use Rattle.water_model.proofs.Seniority.{not_senior_to_itself, senior_trans, senior_total}
 use Rattle.water_model.proofs.Order.{Has, seniors_have, seniors_below, seniors_ordered, find-passes, find-first}
 use Rattle.water_model.proofs.Order.{find-none}
-use Rattle.water_model.proofs.Seniority.{senior_trans, senior_total}
 use Rattle.rights_roll.specs.Rolls.{IsNextOn, link_in}
 use Rattle.cut_book.specs.Holders.{holder_of, holds_amount, more_senior}
 

@@ -1,3 +1,6 @@
 pub mod Bounds
 pub mod Chain
 pub mod Supplies
+pub mod Callers
+pub mod Claims
+pub mod Search

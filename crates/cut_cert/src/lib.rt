@@ -17,6 +17,7 @@ ghost use Rattle.water_model.specs.Valid.{IsValidBasin, IsValidCarry};
 ghost use Rattle.rights_roll.specs.Rolls.{IsRollOf};
 ghost use Rattle.cut_cert.specs.Sets.{cut_at, marked_nodes, HasCut, AreAmounts};
 
+pub mod calls;
 mod marked;
 
 use crate::marked::{is_in, words_of};

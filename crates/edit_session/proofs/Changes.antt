@@ -6,8 +6,7 @@ use Rattle.std.proofs.lemmas.List.{length-set, take_min}
 use Rattle.std.proofs.lemmas.List.Elements.{All-set}
 use Rattle.water_model.specs.Basin.{instream_link}
 use Rattle.water_model.specs.Lookups.{of_entry}
-use Rattle.water_model.specs.Hydrology.{inflow_of_kind, want_by_volume, cap_by_link, number_of, run_month}
-use Rattle.water_model.specs.Hydrology.{table_at}
+use Rattle.water_model.specs.Hydrology.{inflow_of_kind, want_by_volume, cap_by_link, number_of, run_month, table_at}
 use Rattle.water_model.specs.Valid.{IsSeriesOf, is_gauged, is_gauged_kind, is_in_series}
 use Rattle.water_model.specs.declared.types.Basin.{Basin}
 use Rattle.water_model.specs.declared.types.Inflow.TheVariants.{Monthly, Gauged}

@@ -1,3 +1,5 @@
 pub mod Prefixes
 pub mod Columns
 pub mod Changes
+pub mod Agreeing
+pub mod Playing

@@ -1,15 +1,13 @@
 -- The prefix of a partial history is one, also of a series that agrees with its own up to there.
-use Rattle.std.proofs.Common.{ℕ, ◌<◌, sym, subst, arith, List, length}
-use Rattle.std.proofs.Common.{take}
+use Rattle.std.proofs.Common.{ℕ, ◌<◌, sym, subst, arith, List, length, take}
 use Rattle.std.proofs.lemmas.List.{length-take}
 use Rattle.std.proofs.lemmas.Option.{slice_get_within}
 use Rattle.water_model.proofs.Histories.{follows_alike}
 use Rattle.water_model.proofs.Lists.{get_prefix, take_prefix}
-use Rattle.water_model.specs.History.{IsPartialHistory, Follows}
+use Rattle.water_model.specs.History.{IsPartialHistory, Follows, HaveReaches}
 use Rattle.water_model.specs.declared.types.Basin.{Basin}
 use Rattle.water_model.specs.declared.types.Inflows.{Inflows}
 use Rattle.water_model.specs.declared.types.MonthRecord.{MonthRecord}
-use Rattle.water_model.specs.History.{HaveReaches}
 use Rattle.edit_session.specs.Laws.{AgreeBefore}
 
 pub prefix_partial : (b : Basin) (series other : Inflows) (records : List MonthRecord) (month : ℕ) →

@@ -1,3 +1,4 @@
 pub mod Sessions
 pub mod SessionInside
 pub mod Laws
+pub mod Shown

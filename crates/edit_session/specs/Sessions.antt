@@ -1,8 +1,7 @@
 -- Sessions, and the months that they keep.
 use Rattle.std.specs.Prelude.{List, map, Box}
 use Rattle.std.specs.Global.{Global}
-use Rattle.water_model.specs.History.{IsPartialHistory}
-use Rattle.water_model.specs.History.{HaveReaches}
+use Rattle.water_model.specs.History.{IsPartialHistory, HaveReaches}
 use Rattle.water_model.specs.declared.types.Basin.{Basin}
 use Rattle.water_model.specs.declared.types.Inflows.{Inflows}
 use Rattle.water_model.specs.declared.types.MonthRecord.{MonthRecord}

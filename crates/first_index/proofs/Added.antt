@@ -1,6 +1,5 @@
 -- What a map has at a text, before and after a text is added.
-use Rattle.std.proofs.Common.{◌≡◌, ℕ, List, false, Option, Some, None, is_some}
-use Rattle.std.proofs.Common.{refl, sym, ◌∙◌, inl, inr}
+use Rattle.std.proofs.Common.{◌≡◌, ℕ, List, false, Option, Some, None, is_some, refl, sym, ◌∙◌, inl, inr}
 use Rattle.std.specs.Borrow.{Bor}
 use Rattle.std.specs.Option.{option_or}
 use Rattle.std.specs.Str.{bytes_eq}

@@ -7,7 +7,7 @@ use Rattle.std.proofs.lemmas.List.Sums.{sum_by-cons}
 use Rattle.water_model.specs.History.{IsHistory}
 use Rattle.water_model.specs.Indices.{numbers_from}
 use Rattle.water_model.specs.declared.types.MonthRecord.{MonthRecord}
-use Rattle.water_model.proofs.Outcome.{one_outcome}
+use Rattle.duality.proofs.Outcome.{one_outcome}
 use Rattle.index_seq.specs.Laws.{TracesHaveOneResult}
 use Rattle.index_seq.specs.Traces.{begun_after, delivered_in_year, years_of}
 

@@ -1,6 +1,5 @@
 //! The text of an ensemble, one `put` for each line.
-ghost use Rattle.std.specs.Prelude.{ℕ, ◌≡◌, ◌<◌, ◌≤◌, ◌∷◌, [], drop, length, slice_index, slice_index_or};
-ghost use Rattle.std.specs.Prelude.{◌==◌, IsErr};
+ghost use Rattle.std.specs.Prelude.{ℕ, ◌≡◌, ◌<◌, ◌≤◌, ◌∷◌, [], drop, length, slice_index, slice_index_or, ◌==◌, IsErr};
 ghost use Rattle.std.specs.List.{flat_map, prefix_len};
 ghost use Rattle.std.specs.List.Sorted.{IsNonDecreasingBy};
 ghost use Rattle.water_edge.specs.Edge.{HasCause, Puts};

@@ -1,6 +1,5 @@
 //! Reads a series.
-ghost use Rattle.std.specs.Prelude.{◌≡◌, [], ◌||◌, ◌<◌, ◌+◌, ◌*◌, ◌^◌, List, ℕ, length, map, None};
-ghost use Rattle.std.specs.Prelude.{IfOk, IfErr, OnOk};
+ghost use Rattle.std.specs.Prelude.{◌≡◌, [], ◌||◌, ◌<◌, ◌+◌, ◌*◌, ◌^◌, List, ℕ, length, map, None, IfOk, IfErr, OnOk};
 ghost use Rattle.csv.specs.Records.{fields_of};
 ghost use Rattle.water_model.specs.Valid.{IsValidBasin, IsSeriesOf};
 ghost use Rattle.inflow_file.specs.Columns.{column_numbers};

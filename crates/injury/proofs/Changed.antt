@@ -2,12 +2,11 @@
 use Rattle.std.proofs.Common.{◌≡◌, ℕ, ◌<◌, Bool, true, false, refl, sym, ◌∙◌, ap, subst, arith, List, length, inl}
 use Rattle.std.proofs.Common.{inr, take}
 use Rattle.std.proofs.lemmas.Bool.{or_left, or_right}
-use Rattle.std.specs.Prelude.{if◌then◌else◌, slice_index, slice_get, Option, Some, None, unwrap_or, option_map}
-use Rattle.std.specs.Prelude.{IsTrue}
+use Rattle.std.specs.Prelude.{if◌then◌else◌, slice_index, slice_get, Option, Some, None, unwrap_or, option_map, IsTrue}
 use Rattle.finite_sums.specs.Sums.{total_where}
 use Rattle.finite_sums.proofs.Totals.{total_same}
 use Rattle.water_model.specs.Basin.{instream_link, link_of_kind, is_senior, HasStrictPriority}
-use Rattle.water_model.specs.Alike.{IsUpTo, HasSameSeniors}
+use Rattle.duality.specs.Alike.{IsUpTo, HasSameSeniors}
 use Rattle.water_model.specs.History.{IsPartialHistory, Follows, is_zone_of, is_zone_of_kind}
 use Rattle.water_model.specs.declared.types.Basin.{Basin}
 use Rattle.water_model.specs.declared.types.Inflows.{Inflows}
@@ -15,10 +14,10 @@ use Rattle.water_model.specs.declared.types.MonthRecord.{MonthRecord}
 use Rattle.water_model.specs.declared.types.Right.{Right}
 use Rattle.water_model.specs.declared.types.RightKind.{RightKind}
 use Rattle.water_model.specs.declared.types.RightKind.TheVariants.{Diversion, Instream, Zone}
-use Rattle.water_model.proofs.Alike.{IsSame, of_same, same_senior}
-use Rattle.water_model.proofs.Duality.{delivery_by_take, not_senior_to_itself}
-use Rattle.water_model.proofs.Outcome.{same_lists}
-use Rattle.water_model.proofs.Seniority.{senior_trans}
+use Rattle.duality.proofs.Alike.{IsSame, of_same, same_senior}
+use Rattle.duality.proofs.Duality.{delivery_by_take}
+use Rattle.water_model.proofs.Seniority.{not_senior_to_itself, senior_trans}
+use Rattle.duality.proofs.Outcome.{same_lists}
 use Rattle.injury.specs.Changed.{HasChanged, IsSeniorToChange, GiveUnchanged, LeaveSame, SparesCarryover}
 use Rattle.injury.specs.Laws.{ChangeInjuresJuniorsAlone, ChangeInjuresNoSenior}
 use Rattle.injury.proofs.Months.{with_rights, AreRetained, GiveAlike, months_alike}

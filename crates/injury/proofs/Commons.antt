@@ -2,8 +2,7 @@
 use Rattle.std.proofs.Common.{◌≡◌, ℕ, zero, suc, ◌<◌, refl, sym, ◌∙◌, ap, subst, arith, List, [], ◌∷◌}
 use Rattle.std.proofs.Common.{length, get_or, inl, inr}
 use Rattle.std.specs.List.{cons_option}
-use Rattle.std.specs.Prelude.{Option, Some, None, option_map, filter_map}
-use Rattle.std.specs.Prelude.{Contains}
+use Rattle.std.specs.Prelude.{Option, Some, None, option_map, filter_map, Contains}
 use Rattle.water_model.specs.Basin.{right_name}
 use Rattle.water_model.specs.Indices.{seniors_first}
 use Rattle.water_model.specs.Valid.{IsValidBasin}

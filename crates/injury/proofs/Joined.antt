@@ -5,17 +5,15 @@ use Rattle.std.proofs.lemmas.Bool.{cases_lt}
 use Rattle.std.specs.Prelude.{slice_get, drop, None, unwrap_or, option_map, All}
 use Rattle.water_model.specs.Lookups.{of_entry}
 use Rattle.water_model.specs.Rights.{is_lower, priority}
-use Rattle.water_model.specs.Basin.{instream_link, link_of_kind, is_senior}
-use Rattle.water_model.specs.Basin.{priority_of}
+use Rattle.water_model.specs.Basin.{instream_link, link_of_kind, is_senior, priority_of}
 use Rattle.water_model.specs.History.{is_zone_of, is_zone_of_kind}
 use Rattle.water_model.specs.Valid.{is_diversion, is_diversion_kind, rank_of_kind}
 use Rattle.water_model.specs.declared.types.Basin.{Basin}
 use Rattle.water_model.specs.declared.types.Right.{Right}
 use Rattle.water_model.specs.declared.types.RightKind.{RightKind}
 use Rattle.water_model.specs.declared.types.RightKind.TheVariants.{Diversion, Instream, Zone}
-use Rattle.water_model.proofs.Balance.{entry_holds}
-use Rattle.water_model.proofs.Duality.{not_lower}
-use Rattle.water_model.proofs.Seniority.{lower_trans}
+use Rattle.water_model.proofs.Valid.{entry_holds}
+use Rattle.water_model.proofs.Seniority.{not_lower, lower_trans}
 use Rattle.injury.specs.OneMore.{with_right, moved, HasOneMore}
 use Rattle.injury.proofs.Moves.{entry_at_moved, entry_at_new, one_longer}
 

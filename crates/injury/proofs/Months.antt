@@ -6,7 +6,7 @@ use Rattle.std.specs.Prelude.{if◌then◌else◌, ◌==◌, slice_index, slice_
 use Rattle.finite_sums.proofs.Totals.{total_same}
 use Rattle.water_model.specs.Lookups.{of_entry}
 use Rattle.water_model.specs.Basin.{instream_link, link_of_kind, is_senior, HasStrictPriority}
-use Rattle.water_model.specs.Alike.{IsUpTo, HasSameSeniors, IsCertified}
+use Rattle.duality.specs.Alike.{IsUpTo, HasSameSeniors, IsCertified}
 use Rattle.water_model.specs.Hydrology.{run_month, in_year, inflow_at, inflow_of_kind}
 use Rattle.water_model.specs.Hydrology.{delivered_in, delivered_before, returned_by, returned_at, table_at, number_of}
 use Rattle.water_model.specs.Hydrology.{cap_by_link, target_of, water_year, used_in_year, used_by_volume, used_of}
@@ -21,9 +21,10 @@ use Rattle.water_model.specs.declared.types.MonthRecord.{MonthRecord}
 use Rattle.water_model.specs.declared.types.Node.{Node}
 use Rattle.water_model.specs.declared.types.ReturnRow.{ReturnRow}
 use Rattle.water_model.specs.declared.types.Right.{Right}
-use Rattle.water_model.proofs.Alike.{IsSame, of_same, same_there, juniors_change_nothing, record_is_certified}
-use Rattle.water_model.proofs.Balance.{entry_at, opening_after_more}
-use Rattle.water_model.proofs.Outcome.{BeginAlike, begin_alike}
+use Rattle.duality.proofs.Alike.{IsSame, of_same, same_there, juniors_change_nothing, record_is_certified}
+use Rattle.duality.proofs.Balance.{opening_after_more}
+use Rattle.water_model.proofs.Valid.{entry_at}
+use Rattle.duality.proofs.Outcome.{BeginAlike, begin_alike}
 use Rattle.water_model.proofs.Sets.{total_where_same}
 use Rattle.injury.specs.Changed.{LeaveSame}
 

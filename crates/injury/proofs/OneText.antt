@@ -2,12 +2,12 @@
 use Rattle.std.proofs.Common.{◌≡◌, ℕ, suc, refl, sym, ◌∙◌, ap, ap₂, arith, List, [], ◌∷◌, ◌++◌, length}
 use Rattle.std.specs.Prelude.{slice_get, Some, flat_map}
 use Rattle.water_model.specs.History.{IsHistory}
-use Rattle.water_model.specs.Laws.{HaveSameOutcome}
+use Rattle.duality.specs.Laws.{HaveSameOutcome}
 use Rattle.water_model.specs.Valid.{IsValidBasin}
 use Rattle.water_model.specs.declared.types.Basin.{Basin}
 use Rattle.water_model.specs.declared.types.Inflows.{Inflows}
 use Rattle.water_model.specs.declared.types.MonthRecord.{MonthRecord}
-use Rattle.water_model.proofs.Outcome.{one_outcome}
+use Rattle.duality.proofs.Outcome.{one_outcome}
 use Rattle.injury.specs.Common.{common_rights}
 use Rattle.injury.specs.Injuries.{injuries_of, injuries, injured_row, compared_row, comparison_text}
 use Rattle.injury.specs.Laws.{ComparisonsHaveOneText}

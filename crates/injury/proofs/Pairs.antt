@@ -5,8 +5,7 @@ use Rattle.std.proofs.lemmas.List.{take_all, take_more}
 use Rattle.std.proofs.lemmas.List.Elements.{filter_map-append}
 use Rattle.std.proofs.lemmas.Bool.Decides.{nat_tests}
 use Rattle.std.specs.List.{cons_option}
-use Rattle.std.specs.Prelude.{slice_index, slice_get, option_to_list, Option, Some, None, filter}
-use Rattle.std.specs.Prelude.{filter_map, nat_lt}
+use Rattle.std.specs.Prelude.{slice_index, slice_get, option_to_list, Option, Some, None, filter, filter_map, nat_lt}
 use Rattle.water_model.specs.Basin.{right_name}
 use Rattle.water_model.specs.Indices.{seniors_first}
 use Rattle.water_model.specs.declared.space.Space.TheVariants.{Rights}

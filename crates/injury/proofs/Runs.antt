@@ -1,6 +1,5 @@
 -- With one more right, and that a most junior one, the others are delivered the same.
-use Rattle.std.proofs.Common.{◌≡◌, ℕ, ◌<◌, true, false, sym, ◌∙◌, ap, subst, arith, List, []}
-use Rattle.std.proofs.Common.{length, inl, inr, take}
+use Rattle.std.proofs.Common.{◌≡◌, ℕ, ◌<◌, true, false, sym, ◌∙◌, ap, subst, arith, List, [], length, inl, inr, take}
 use Rattle.std.proofs.lemmas.Bool.{cases_eq, cases_order}
 use Rattle.std.specs.Prelude.{slice_index, IsTrue, insert}
 use Rattle.finite_sums.specs.Sums.{total_where}
@@ -12,9 +11,9 @@ use Rattle.water_model.specs.declared.types.Inflows.{Inflows}
 use Rattle.water_model.specs.declared.types.MonthRecord.{MonthRecord}
 use Rattle.water_model.specs.declared.types.ReturnRow.{ReturnRow}
 use Rattle.water_model.specs.declared.types.Right.{Right}
-use Rattle.water_model.proofs.Duality.{delivery_by_take}
+use Rattle.duality.proofs.Duality.{delivery_by_take}
 use Rattle.water_model.proofs.Lists.{all_at}
-use Rattle.water_model.proofs.Outcome.{same_lists}
+use Rattle.duality.proofs.Outcome.{same_lists}
 use Rattle.injury.specs.Changed.{LeaveSame}
 use Rattle.injury.specs.Common.{HaveOneName}
 use Rattle.injury.specs.Laws.{JuniorInjuresNobody}

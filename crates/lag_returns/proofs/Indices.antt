@@ -13,7 +13,7 @@ use Rattle.finite_sums.proofs.Totals.{total_grows, total_more, total_same, total
 use Rattle.water_model.specs.Hydrology.{delivered_before, delivered_in, returned_by}
 use Rattle.water_model.specs.Lookups.{of_entry}
 use Rattle.water_model.specs.declared.types.ReturnRow.{ReturnRow}
-use Rattle.water_model.proofs.Balance.{entry_holds}
+use Rattle.water_model.proofs.Valid.{entry_holds}
 use Rattle.lag_returns.specs.ReturnFlows.{HasRoomFor, arriving, brought, brought_to, fresh}
 use Rattle.lag_returns.specs.Lags.{InTransit, IsInTransit, LagsStandFor, IsLagged, return_rows, arrivals_at}
 use Rattle.lag_returns.proofs.Arrivals.{arriving_is}

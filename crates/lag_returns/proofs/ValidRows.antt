@@ -12,7 +12,7 @@ use Rattle.water_model.specs.Lookups.{of_entry}
 use Rattle.water_model.specs.Valid.{IsValidBasin, IsValidReturn, rows_of}
 use Rattle.water_model.specs.declared.types.Basin.{Basin}
 use Rattle.water_model.specs.declared.types.ReturnRow.{ReturnRow}
-use Rattle.water_model.proofs.Balance.{entry_holds}
+use Rattle.water_model.proofs.Valid.{entry_holds}
 use Rattle.lag_returns.specs.Laws.{ArrivalsAreReturns, ValidRowsAreLagged, ReturnsAreSmall}
 
 pub arrivals_are_returns : ArrivalsAreReturns

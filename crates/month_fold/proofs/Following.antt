@@ -9,7 +9,7 @@ use Rattle.water_model.specs.History.{IsPartialHistory, Follows, IsShort, cut_of
 use Rattle.water_model.specs.Lookups.{of_entry}
 use Rattle.water_model.specs.Hydrology.{inflow_at, returned_at, stored_at, run_month, in_year, evaporation, used_of}
 use Rattle.water_model.specs.Hydrology.{want_of}
-use Rattle.water_model.specs.Laws.{AreDeliveries}
+use Rattle.duality.specs.Laws.{AreDeliveries}
 use Rattle.water_model.specs.Plans.{IsPlan, delivery}
 use Rattle.water_model.specs.Valid.{IsValidBasin, IsSeriesOf}
 use Rattle.water_model.specs.declared.types.Basin.{Basin}

@@ -4,15 +4,14 @@ use Rattle.std.proofs.Common.{inr}
 use Rattle.std.specs.Prelude.{Option, Some, None, slice_index}
 use Rattle.std.proofs.lemmas.Bool.{cases_lt}
 use Rattle.water_model.specs.Cuts.{IsReach}
-use Rattle.water_model.specs.History.{IsShort, cut_of}
-use Rattle.water_model.specs.Laws.{HaveSameOutcome}
+use Rattle.water_model.specs.History.{IsShort, cut_of, HasReaches}
+use Rattle.duality.specs.Laws.{HaveSameOutcome}
 use Rattle.water_model.specs.Lookups.{of_entry}
 use Rattle.water_model.specs.declared.types.Basin.{Basin}
 use Rattle.water_model.specs.declared.types.MonthRecord.{MonthRecord}
-use Rattle.water_model.proofs.Greatest.{reach_unique}
-use Rattle.water_model.proofs.Outcome.{one_outcome}
+use Rattle.duality.proofs.Greatest.{reach_unique}
+use Rattle.duality.proofs.Outcome.{one_outcome}
 use Rattle.month_fold.specs.Laws.{RunsHaveOneOutcome}
-use Rattle.water_model.specs.History.{HasReaches}
 
 -- two lists of as many rights that have the same set of each
 same_sets : (xs ys : List (Option (List Bool))) → length xs ≡ length ys →

@@ -1,21 +1,19 @@
 -- What the months of a partial history leave for a run to go on from.
 use Rattle.std.proofs.Common.{◌≡◌, ℕ, zero, suc, ◌+◌, ◌-◌, ◌^◌, ◌<◌, ◌≤◌, refl, sym, ◌∙◌, ap, subst, arith, List, []}
 use Rattle.std.proofs.Common.{◌∷◌, ◌++◌, length, get_or, map, take, length-take}
-use Rattle.std.specs.Prelude.{All, replicate, slice_get, slice_index, Option, Some, None}
-use Rattle.std.specs.Prelude.{option_map, unwrap_or}
+use Rattle.std.specs.Prelude.{All, replicate, slice_get, slice_index, Option, Some, None, option_map, unwrap_or}
 use Rattle.std.proofs.lemmas.List.{length-map, length-replicate, map-append, take_more}
 use Rattle.std.proofs.lemmas.Option.{slice_get-map, slice_get-get_or, slice_get_within}
 use Rattle.lag_returns.specs.Lags as lag
-use Rattle.water_model.specs.History.{IsPartialHistory, opening_after}
+use Rattle.water_model.specs.History.{IsPartialHistory, opening_after, HaveReaches}
 use Rattle.water_model.specs.Hydrology.{delivered_in, used_of}
-use Rattle.water_model.proofs.Balance.{entry_at}
+use Rattle.water_model.proofs.Valid.{entry_at}
 use Rattle.water_model.specs.Valid.{IsValidBasin, IsSeriesOf}
 use Rattle.water_model.specs.declared.types.Basin.{Basin}
 use Rattle.water_model.specs.declared.types.Inflows.{Inflows}
 use Rattle.water_model.specs.declared.types.MonthRecord.{MonthRecord}
 use Rattle.month_terms.specs.Terms.{HasUsed}
 use Rattle.month_fold.specs.Uses.{HasDeliveries, StateUse, StatesUse}
-use Rattle.water_model.specs.History.{HaveReaches}
 use Rattle.month_fold.specs.Runs.{EngineView, RunView, WentThrough, run_with}
 use Rattle.month_terms.proofs.Amounts.{deliveries_small as all_small}
 use Rattle.month_terms.proofs.WaterYears.{nothing_used, used_most}

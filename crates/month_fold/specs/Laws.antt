@@ -1,12 +1,11 @@
 -- What the months of a run leave no choice of.
 use Rattle.std.specs.Prelude.{◌≡◌, ℕ, List, length, slice_get, Some}
-use Rattle.water_model.specs.History.{IsPartialHistory}
-use Rattle.water_model.specs.Laws.{HaveSameOutcome}
+use Rattle.water_model.specs.History.{IsPartialHistory, HaveReaches}
+use Rattle.duality.specs.Laws.{HaveSameOutcome}
 use Rattle.water_model.specs.Valid.{IsValidBasin}
 use Rattle.water_model.specs.declared.types.Basin.{Basin}
 use Rattle.water_model.specs.declared.types.Inflows.{Inflows}
 use Rattle.water_model.specs.declared.types.MonthRecord.{MonthRecord}
-use Rattle.water_model.specs.History.{HaveReaches}
 
 -- One outcome, sets included. Two partial histories of one length, each with the reaches as its sets, have one outcome
 -- month by month, and the same sets.

@@ -2,9 +2,8 @@
 use Rattle.std.specs.Prelude.{◌≡◌, ℕ, List, map, length}
 use Rattle.lag_returns.specs.Lags.{InTransit}
 use Rattle.lag_returns.specs.Lags as lag
-use Rattle.water_model.specs.History.{IsPartialHistory, Follows, opening_after}
+use Rattle.water_model.specs.History.{IsPartialHistory, Follows, opening_after, HaveReaches, HasReaches}
 use Rattle.month_terms.specs.Terms.{HasUsed}
-use Rattle.water_model.specs.History.{HaveReaches, HasReaches}
 use Rattle.water_model.specs.Valid.{IsValidBasin, IsSeriesOf}
 use Rattle.water_model.specs.declared.types.Basin.{Basin}
 use Rattle.water_model.specs.declared.types.Inflows.{Inflows}

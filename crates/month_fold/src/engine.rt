@@ -1,12 +1,11 @@
 //! What runs of a basin are made with.
 ghost use Rattle.std.specs.Prelude.{List, ◌≡◌, ◌+◌, ◌*◌, ◌<◌, ◌≤◌, ◌++◌, ◌∷◌, [], All, length, map, IfOk};
 ghost use Rattle.rights_roll.specs.Rolls.{IsRollOf};
-ghost use Rattle.water_model.specs.History.{IsPartialHistory, opening_after};
+ghost use Rattle.water_model.specs.History.{IsPartialHistory, opening_after, HaveReaches, HasReaches};
 ghost use Rattle.water_model.specs.Valid.{IsValidBasin, IsSeriesOf};
 ghost use Rattle.water_model.specs.declared.types.Inflows.{Inflows};
 ghost use Rattle.water_model.specs.declared.types.MonthRecord.{MonthRecord};
 ghost use Rattle.month_fold.specs.Uses.{HasDeliveries, StateUse};
-ghost use Rattle.water_model.specs.History.{HaveReaches, HasReaches};
 ghost use Rattle.month_fold.specs.Runs.{RunStandsFor, WentThrough, HasRecords, run_with};
 ghost use Rattle.month_fold.specs.Works.{Solves};
 

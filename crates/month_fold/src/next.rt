@@ -1,6 +1,5 @@
 //! One month more.
-ghost use Rattle.std.specs.Prelude.{ℕ, List, ◌≡◌, ◌+◌, ◌^◌, ◌<◌, ◌≤◌, ◌++◌, ◌∷◌, [], All, length, map};
-ghost use Rattle.std.specs.Prelude.{slice_index};
+ghost use Rattle.std.specs.Prelude.{ℕ, List, ◌≡◌, ◌+◌, ◌^◌, ◌<◌, ◌≤◌, ◌++◌, ◌∷◌, [], All, length, map, slice_index};
 ghost use Rattle.lag_returns.specs.Lags.{HasReturned, return_rows};
 ghost use Rattle.lag_returns.specs.Lags as lag;
 ghost use Rattle.month_terms.specs.Terms.{FitsRecord, HasUsed};

@@ -3,8 +3,7 @@ ghost use Rattle.std.specs.Prelude.{List, ◌≡◌, ◌+◌, ◌-◌, ◌<◌, 
 ghost use Rattle.rights_roll.specs.Rolls.{IsRollOf};
 ghost use Rattle.water_model.specs.Valid.{IsValidBasin, IsSeriesOf};
 ghost use Rattle.water_model.specs.declared.types.MonthRecord.{MonthRecord};
-ghost use Rattle.water_model.specs.History.{IsPartialHistory};
-ghost use Rattle.water_model.specs.History.{HaveReaches, HasReaches};
+ghost use Rattle.water_model.specs.History.{IsPartialHistory, HaveReaches, HasReaches};
 ghost use Rattle.month_fold.specs.Runs.{RunStandsFor, WentThrough};
 ghost use Rattle.month_fold.specs.Works.{Solves};
 

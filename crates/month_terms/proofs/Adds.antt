@@ -15,7 +15,7 @@ use Rattle.water_model.specs.declared.types.Reservoir.{Reservoir}
 use Rattle.water_model.specs.declared.types.Right.{Right}
 use Rattle.water_model.specs.declared.types.RightKind.{RightKind}
 use Rattle.water_model.specs.declared.types.RightKind.TheVariants.{Diversion, Instream, Zone}
-use Rattle.water_model.proofs.Balance.{entry_holds}
+use Rattle.water_model.proofs.Valid.{entry_holds}
 
 same_numbers : (k j x : ℕ) → when (suc k == suc j) x ≡ when (k == j) x
 same_numbers k j x = grind (arith, nat_tests)

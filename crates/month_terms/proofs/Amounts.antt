@@ -15,7 +15,7 @@ use Rattle.water_model.specs.Valid.{IsValidBasin, IsValidReservoir, IsSeriesOf}
 use Rattle.water_model.specs.declared.types.Basin.{Basin}
 use Rattle.water_model.specs.declared.types.Inflows.{Inflows}
 use Rattle.water_model.specs.declared.types.MonthRecord.{MonthRecord}
-use Rattle.water_model.proofs.Balance.{entry_holds}
+use Rattle.water_model.proofs.Valid.{entry_holds}
 use Rattle.water_model.proofs.Wants.{want_most}
 use Rattle.month_terms.proofs.Bounds.{inflows_small, returns_small, first_stored, later_stored}
 

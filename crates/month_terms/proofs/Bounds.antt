@@ -23,7 +23,7 @@ use Rattle.water_model.specs.declared.types.Right.{Right}
 use Rattle.water_model.specs.declared.types.RightKind.{RightKind}
 use Rattle.water_model.specs.declared.types.RightKind.TheVariants.{Diversion, Instream, Zone}
 use Rattle.water_model.specs.History.{is_zone_of, is_zone_of_kind}
-use Rattle.water_model.proofs.Balance.{entry_holds}
+use Rattle.water_model.proofs.Valid.{entry_holds}
 use Rattle.water_model.proofs.Wants.{entry_most}
 
 -- no inflow is more than 10^9

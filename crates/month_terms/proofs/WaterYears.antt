@@ -5,14 +5,13 @@ use Rattle.std.specs.Prelude.{◌==◌, slice_index, slice_get, Option, Some, No
 use Rattle.std.specs.Prelude.{option_map, nat_lt}
 use Rattle.std.proofs.lemmas.Bool.Decides.{nat_tests}
 use Rattle.finite_sums.specs.Sums.{total_where}
-use Rattle.finite_sums.proofs.Totals.{total_same, total_where_more, total_where_start}
+use Rattle.finite_sums.proofs.Totals.{total_same, total_where_more, total_where_start, total_most}
 use Rattle.water_model.specs.Hydrology.{delivered_in, water_year, begins_year, used_in_year, used_by_volume, used_of}
 use Rattle.water_model.specs.Hydrology.{volume_of}
 use Rattle.water_model.specs.Valid.{IsValidBasin}
 use Rattle.water_model.specs.declared.types.Basin.{Basin}
 use Rattle.water_model.specs.declared.types.Right.{Right}
-use Rattle.water_model.proofs.Balance.{total_where_none_pass}
-use Rattle.finite_sums.proofs.Totals.{total_most}
+use Rattle.water_model.proofs.Sets.{total_where_none_pass}
 use Rattle.month_terms.specs.Terms.{HasUsed}
 
 -- what was delivered before stays, where one month more is delivered

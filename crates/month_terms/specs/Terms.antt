@@ -2,8 +2,7 @@
 use Rattle.std.specs.Prelude.{◌≡◌, ℕ, ◌+◌, ◌<◌, List, length, slice_index}
 use Rattle.water_text.specs.Months.{IsMonth}
 use Rattle.water_model.specs.Lookups.{of_entry}
-use Rattle.water_model.specs.Hydrology.{run_month, in_year, inflow_at, evaporation, stored_at, used_of}
-use Rattle.water_model.specs.Hydrology.{want_of}
+use Rattle.water_model.specs.Hydrology.{run_month, in_year, inflow_at, evaporation, stored_at, used_of, want_of}
 use Rattle.water_model.specs.History.{FitsBasin, is_zone_of}
 use Rattle.water_model.specs.Plans.{delivery}
 use Rattle.finite_sums.specs.Sums.{total_where}

@@ -1,7 +1,6 @@
 //! An amount added at an index of a list.
-ghost use Rattle.std.specs.Prelude.{ℕ, ◌≡◌, ◌+◌, ◌<◌, ◌^◌, length, slice_index};
+ghost use Rattle.std.specs.Prelude.{ℕ, ◌≡◌, ◌+◌, ◌<◌, ◌^◌, length, slice_index, ◌==◌};
 ghost use Rattle.finite_sums.specs.Sums.{when};
-ghost use Rattle.std.specs.Prelude.{◌==◌};
 
 /// Adds an amount at an index.
 #[tactic(auto, using(crate::proofs::Adds::added))]

@@ -1,12 +1,11 @@
 -- One more unit of carry on a link that does not enter a tight cut does not help.
-use Rattle.std.proofs.Common.{◌≡◌, ℕ, true, ◌∙◌, ap, arith, length, refl}
+use Rattle.std.proofs.Common.{◌≡◌, ℕ, true, ◌∙◌, ap, arith, length, refl, inl, inr}
 use Rattle.std.proofs.lemmas.Bool.{both_ways}
 use Rattle.std.proofs.lemmas.Bool.Decides.{eqb_tells}
-use Rattle.std.proofs.Common.{inl, inr}
 use Rattle.finite_sums.specs.Sums.{total_where, when}
 use Rattle.water_model.specs.Plans.{carry_of}
 use Rattle.water_model.specs.Cuts.{enters}
-use Rattle.water_model.proofs.Duality.{cut_slack}
+use Rattle.duality.proofs.Duality.{cut_slack}
 use Rattle.finite_sums.proofs.Terms.{same_where}
 use Rattle.next_unit.specs.Core.{raised_carry}
 use Rattle.next_unit.specs.Laws.{NoCarryPastTightCutsHelps}

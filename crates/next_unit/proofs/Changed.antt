@@ -11,15 +11,16 @@ use Rattle.water_model.specs.Basin.{instream_link, taking_node, takes_at, is_on_
 use Rattle.water_model.specs.Basin.{link_of_kind}
 use Rattle.water_model.specs.Plans.{IsFeasible, delivery, delivery_by_link, taken_at}
 use Rattle.water_model.specs.History.{IsShort}
-use Rattle.water_model.specs.Laws.{ServesSeniors}
+use Rattle.duality.specs.Laws.{ServesSeniors}
 use Rattle.water_model.specs.Valid.{HasValidSite}
 use Rattle.water_model.specs.declared.types.Basin.{Basin}
 use Rattle.water_model.specs.declared.types.MonthRecord.{MonthRecord}
 use Rattle.water_model.specs.declared.types.Plan.{Plan}
 use Rattle.water_model.specs.declared.types.RightKind.{RightKind}
 use Rattle.water_model.specs.declared.types.RightKind.TheVariants.{Diversion, Instream, Zone}
-use Rattle.water_model.proofs.Balance.{kind_is}
-use Rattle.water_model.proofs.Duality.{not_senior_to_itself, delivery_by_take}
+use Rattle.water_model.proofs.Valid.{kind_is}
+use Rattle.duality.proofs.Duality.{delivery_by_take}
+use Rattle.water_model.proofs.Seniority.{not_senior_to_itself}
 use Rattle.plan_residual.specs.Residual.{HasPlan}
 use Rattle.next_unit.specs.Core.{one_more}
 use Rattle.next_unit.proofs.Pushes.{IsMoved, one_less}

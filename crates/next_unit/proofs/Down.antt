@@ -11,7 +11,7 @@ use Rattle.water_model.specs.Plans.{IsPlan, carry_of, inflow_to, outflow_from, d
 use Rattle.water_model.specs.declared.types.Basin.{Basin}
 use Rattle.water_model.specs.declared.types.MonthRecord.{MonthRecord}
 use Rattle.water_model.specs.declared.types.Plan.{Plan}
-use Rattle.water_model.proofs.Balance.{ends}
+use Rattle.water_model.proofs.Valid.{ends}
 use Rattle.plan_residual.specs.Residual.{HasPlan, can_rise}
 use Rattle.next_unit.specs.Core.{one_more}
 use Rattle.next_unit.proofs.Pushes.{changed, rises}

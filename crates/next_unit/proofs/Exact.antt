@@ -1,6 +1,5 @@
 -- Where one more unit helps, exactly; and that each right has a core.
-use Rattle.std.proofs.Common.{◌≡◌, ℕ, ◌+◌, ◌<◌, ◌≤◌, Bool, true, refl, arith}
-use Rattle.std.proofs.Common.{List, length, false}
+use Rattle.std.proofs.Common.{◌≡◌, ℕ, ◌+◌, ◌<◌, ◌≤◌, Bool, true, refl, arith, List, length, false}
 use Rattle.std.proofs.lemmas.Bool.{both_ways, and_parts, not-true, true_from_ne_false}
 use Rattle.std.specs.Prelude.{◌↔◌, not}
 use Rattle.water_model.specs.Lookups.{has}

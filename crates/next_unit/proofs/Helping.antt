@@ -10,7 +10,7 @@ use Rattle.water_model.specs.History.{HasReaches, IsShort}
 use Rattle.water_model.specs.Indices.{seniors_first}
 use Rattle.water_model.specs.declared.types.Basin.{Basin}
 use Rattle.water_model.specs.declared.types.MonthRecord.{MonthRecord}
-use Rattle.water_model.proofs.Greatest.{delivery_le_want}
+use Rattle.duality.proofs.Greatest.{delivery_le_want}
 use Rattle.water_model.specs.Valid.{IsValidBasin}
 use Rattle.rights_roll.specs.SeniorityOrder.{IsSeniorityOrder}
 use Rattle.rights_roll.proofs.Seniors.{by_seniority_order}

@@ -14,7 +14,7 @@ use Rattle.water_model.specs.History.{IsShort}
 use Rattle.water_model.specs.Valid.{IsValidBasin}
 use Rattle.water_model.specs.declared.types.Basin.{Basin}
 use Rattle.water_model.specs.declared.types.MonthRecord.{MonthRecord}
-use Rattle.water_model.proofs.Balance.{ends}
+use Rattle.water_model.proofs.Valid.{ends}
 use Rattle.water_model.proofs.Sets.{has_below}
 use Rattle.river_net.proofs.Ranks.{forward_numbers}
 use Rattle.plan_residual.specs.Residual.{HasPlan}

@@ -1,6 +1,5 @@
 -- Where one more unit helps in a month of a history.
-use Rattle.std.proofs.Common.{◌≡◌, ℕ, ◌+◌, ◌<◌, ◌≤◌, ◌^◌, min, sym, ap, subst, arith, List, length}
-use Rattle.std.proofs.Common.{map, inl, inr, ◌∙◌}
+use Rattle.std.proofs.Common.{◌≡◌, ℕ, ◌+◌, ◌<◌, ◌≤◌, ◌^◌, min, sym, ap, subst, arith, List, length, map, inl, inr, ◌∙◌}
 use Rattle.std.proofs.lemmas.Bool.{cases_eq}
 use Rattle.std.proofs.Common.{take, length-take}
 use Rattle.std.proofs.lemmas.Option.{slice_get_within}
@@ -12,8 +11,7 @@ use Rattle.water_model.specs.Basin.{instream_link}
 use Rattle.water_model.specs.Plans.{IsGreatest, carry_of, delivery}
 use Rattle.water_model.specs.Cuts.{node_within}
 use Rattle.water_model.specs.History.{IsPartialHistory, IsNextMonth, Follows, IsShort, opening_after}
-use Rattle.water_model.specs.Hydrology.{inflow_at, returned_at, stored_at, want_by_volume, volume_of}
-use Rattle.water_model.specs.Hydrology.{target_of}
+use Rattle.water_model.specs.Hydrology.{inflow_at, returned_at, stored_at, want_by_volume, volume_of, target_of}
 use Rattle.water_model.specs.Hydrology.{cap_by_link, run_month, number_of}
 use Rattle.water_model.specs.Lookups.{of_entry}
 use Rattle.water_model.specs.Valid.{IsValidBasin, IsSeriesOf}
@@ -23,7 +21,7 @@ use Rattle.water_model.specs.declared.types.Inflows.{Inflows}
 use Rattle.water_model.specs.declared.types.MonthRecord.{MonthRecord}
 use Rattle.water_model.specs.declared.types.Plan.{Plan}
 use Rattle.water_model.proofs.Histories.{IsMonth-run_month}
-use Rattle.water_model.proofs.Greatest.{record_is_greatest}
+use Rattle.duality.proofs.Greatest.{record_is_greatest}
 use Rattle.water_model.proofs.Lists.{prefix_partial}
 use Rattle.water_model.proofs.Seniority.{senior_total}
 use Rattle.month_terms.proofs.Amounts.{supply_small}

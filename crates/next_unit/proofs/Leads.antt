@@ -2,8 +2,7 @@
 use Rattle.std.proofs.Common.{◌≡◌, ◌≢◌, ℕ, ◌+◌, ◌-◌, ◌<◌, ◌≤◌, Bool, true, false, sym, ◌∙◌, ap, arith, subst, List}
 use Rattle.std.proofs.Common.{length}
 use Rattle.std.proofs.lemmas.Bool.{and_from, and_parts, both_ways, eqb-true, eqb-false, false_from_ne_true, lt-ltb}
-use Rattle.std.proofs.lemmas.Bool.{ltb-true}
-use Rattle.std.proofs.lemmas.Bool.{not-true}
+use Rattle.std.proofs.lemmas.Bool.{ltb-true, not-true}
 use Rattle.std.proofs.lemmas.List.{get_or-set_same}
 use Rattle.std.specs.Prelude.{◌&&◌, ◌==◌, not, nat_lt, slice_index, Some}
 use Rattle.water_model.specs.Lookups.{has}
@@ -13,7 +12,7 @@ use Rattle.water_model.specs.Plans.{carry_of}
 use Rattle.water_model.specs.Cuts.{kept_on}
 use Rattle.water_model.specs.declared.types.Basin.{Basin}
 use Rattle.water_model.specs.declared.types.MonthRecord.{MonthRecord}
-use Rattle.water_model.proofs.Balance.{ends}
+use Rattle.water_model.proofs.Valid.{ends}
 use Rattle.plan_residual.specs.Residual.{HasPlan, can_rise}
 use Rattle.next_unit.specs.Core.{HasRoomDown, one_more}
 use Rattle.plan_residual.proofs.Upstream.{HasStep, AreRanked, room_by, start_by, end_by}

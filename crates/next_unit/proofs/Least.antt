@@ -1,9 +1,7 @@
 -- The core is the least tight cut, and supply outside a tight cut does not help.
 use Rattle.std.proofs.Common.{◌≡◌, ℕ, ◌+◌, ◌<◌, ◌≤◌, pos, ◌-ℤ◌, ◌≤ℤ◌, Bool, true, false, refl, sym, ◌∙◌, ap, arith}
-use Rattle.std.proofs.Common.{subst}
-use Rattle.std.proofs.Common.{List, [], ◌∷◌, length, ap₂}
-use Rattle.std.proofs.lemmas.Bool.{and_from, and_parts, both_ways, false_from_ne_true, true_from_ne_false}
-use Rattle.std.proofs.lemmas.Bool.{not-true}
+use Rattle.std.proofs.Common.{subst, List, [], ◌∷◌, length, ap₂}
+use Rattle.std.proofs.lemmas.Bool.{and_from, and_parts, both_ways, false_from_ne_true, true_from_ne_false, not-true}
 use Rattle.std.proofs.lemmas.Int.{ints}
 use Rattle.std.proofs.lemmas.List.{get_or-set_other}
 use Rattle.std.specs.Prelude.{slice_index, not, nat_lt, Option, Some, None}
@@ -12,11 +10,11 @@ use Rattle.water_model.specs.Basin.{head_of, tail_of, taking_node, instream_link
 use Rattle.water_model.specs.Plans.{delivery}
 use Rattle.water_model.specs.Cuts.{node_within, IsCut, IsTight, separates, leaves, cut_capacity, cut_kept}
 use Rattle.water_model.specs.History.{IsShort}
-use Rattle.water_model.specs.Laws.{AgreesOn}
+use Rattle.duality.specs.Laws.{AgreesOn}
 use Rattle.water_model.specs.declared.types.Basin.{Basin}
 use Rattle.water_model.specs.declared.types.MonthRecord.{MonthRecord}
-use Rattle.water_model.proofs.Balance.{ends}
-use Rattle.water_model.proofs.Greatest.{cut_bounds}
+use Rattle.water_model.proofs.Valid.{ends}
+use Rattle.duality.proofs.Greatest.{cut_bounds}
 use Rattle.water_model.proofs.Sets.{has_below}
 use Rattle.plan_residual.specs.Residual.{HasPlan, IsClosed}
 use Rattle.plan_residual.specs.Slack.{others}

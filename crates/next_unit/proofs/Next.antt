@@ -10,22 +10,21 @@ use Rattle.std.specs.Option.{option_map_or}
 use Rattle.finite_sums.specs.Sums.{when}
 use Rattle.finite_sums.proofs.Totals.{total_change}
 use Rattle.water_model.specs.Lookups.{has}
-use Rattle.water_model.specs.Basin.{is_senior, HasStrictPriority, instream_link}
-use Rattle.water_model.specs.Basin.{taking_node_of_kind, link_of_kind}
+use Rattle.water_model.specs.Basin.{is_senior, HasStrictPriority, instream_link, taking_node_of_kind, link_of_kind}
 use Rattle.water_model.specs.Plans.{IsPlan, IsGreatest, DeliversSame, DeliversMore, delivery, carry_of}
 use Rattle.water_model.specs.Cuts.{IsTight, takes_within, node_within}
 use Rattle.water_model.specs.History.{IsShort, calls, cut_of}
-use Rattle.water_model.specs.Laws.{AreDeliveries}
+use Rattle.duality.specs.Laws.{AreDeliveries}
 use Rattle.water_text.specs.declared.month.Month.{Month}
 use Rattle.water_model.specs.declared.types.Basin.{Basin}
 use Rattle.water_model.specs.declared.types.MonthRecord.{MonthRecord}
 use Rattle.water_model.specs.declared.types.Plan.{Plan}
 use Rattle.water_model.specs.declared.types.RightKind.{RightKind}
 use Rattle.water_model.specs.declared.types.RightKind.TheVariants.{Diversion, Instream, Zone}
-use Rattle.water_model.proofs.Balance.{kind_is}
-use Rattle.water_model.proofs.Duality.{cut_slack, delivery_by_take, not_senior_to_itself, taking_on_no_link}
-use Rattle.water_model.proofs.Greatest.{delivery_le_want, tight_leaves_nothing}
-use Rattle.water_model.proofs.Seniority.{first_where, IsFirst, senior_trans, senior_total}
+use Rattle.water_model.proofs.Valid.{kind_is}
+use Rattle.duality.proofs.Duality.{cut_slack, delivery_by_take, taking_on_no_link}
+use Rattle.water_model.proofs.Seniority.{not_senior_to_itself, first_where, IsFirst, senior_trans, senior_total}
+use Rattle.duality.proofs.Greatest.{delivery_le_want, tight_leaves_nothing}
 use Rattle.water_model.proofs.Sets.{has_below}
 use Rattle.plan_residual.specs.Residual.{HasPlan}
 use Rattle.plan_residual.specs.Core.{IsCore, node_by_link}

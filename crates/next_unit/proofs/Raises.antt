@@ -1,10 +1,8 @@
 -- One more unit of carry on a link that leads from outside the reach into the core is one more unit for the right.
 use Rattle.std.proofs.Common.{◌≡◌, ◌≢◌, ℕ, ◌+◌, ◌-◌, ◌<◌, ◌≤◌, Bool, true, false, refl, sym, ◌∙◌, ap, arith, subst}
-use Rattle.std.proofs.Common.{List}
-use Rattle.std.proofs.Common.{length, inl, inr}
+use Rattle.std.proofs.Common.{List, length, inl, inr}
 use Rattle.std.proofs.lemmas.Bool.{and_from, and_parts, and_left, both_ways, cases_Bool, eq-eqb, eqb-true}
-use Rattle.std.proofs.lemmas.Bool.{false_from_ne_true}
-use Rattle.std.proofs.lemmas.Bool.{ltb-true, not-true, not_from_false}
+use Rattle.std.proofs.lemmas.Bool.{false_from_ne_true, ltb-true, not-true, not_from_false}
 use Rattle.std.proofs.lemmas.List.{get_or-set_same, get_or-set_other, length-set}
 use Rattle.std.specs.Prelude.{◌&&◌, ◌==◌, not, if◌then◌else◌, slice_index, ◌⊎◌, Some, None, Option}
 use Rattle.finite_sums.specs.Sums.{when}
@@ -16,9 +14,8 @@ use Rattle.water_model.specs.History.{IsShort}
 use Rattle.water_text.specs.declared.month.Month.{Month}
 use Rattle.water_model.specs.declared.types.Basin.{Basin}
 use Rattle.water_model.specs.declared.types.MonthRecord.{MonthRecord}
-use Rattle.water_model.proofs.Balance.{ends}
-use Rattle.water_model.proofs.Duality.{not_senior_to_itself}
-use Rattle.water_model.proofs.Seniority.{senior_trans}
+use Rattle.water_model.proofs.Valid.{ends}
+use Rattle.water_model.proofs.Seniority.{not_senior_to_itself, senior_trans}
 use Rattle.water_model.proofs.Sets.{has_below}
 use Rattle.plan_residual.specs.Residual.{HasPlan, IsClosed, can_rise}
 use Rattle.plan_residual.specs.Slack.{others}

@@ -3,8 +3,7 @@
 use Rattle.std.proofs.Common.{◌≡◌, ℕ, ◌<◌, ◌≤◌, ◌^◌, min, Bool, true, false, refl, sym, ◌∙◌, ap, arith, List, length}
 use Rattle.std.proofs.Common.{map}
 use Rattle.std.proofs.lemmas.Bool.{and_from, and_parts, both_ways, lt-ltb, leb-true, le-leb, not-true}
-use Rattle.std.proofs.lemmas.Bool.{false_from_ne_true}
-use Rattle.std.proofs.lemmas.Bool.{not_from_false}
+use Rattle.std.proofs.lemmas.Bool.{false_from_ne_true, not_from_false}
 use Rattle.std.proofs.lemmas.List.FromFn.{length-map-range_with_len, get_or-map-range_with_len}
 use Rattle.std.specs.List.{range_with_len}
 use Rattle.std.specs.Prelude.{not, nat_le, if◌then◌else◌, slice_index, option_map, unwrap_or}
@@ -21,8 +20,9 @@ use Rattle.water_model.specs.declared.types.Basin.{Basin}
 use Rattle.water_model.specs.declared.types.Carry.{Carry}
 use Rattle.water_model.specs.declared.types.Carry.TheVariants.{River, Canal}
 use Rattle.water_model.specs.declared.types.MonthRecord.{MonthRecord}
-use Rattle.water_model.proofs.Balance.{ends, entry_holds, total_where_none_pass}
-use Rattle.water_model.proofs.CutBalance.{cut_balance}
+use Rattle.water_model.proofs.Valid.{ends, entry_holds}
+use Rattle.water_model.proofs.Sets.{total_where_none_pass}
+use Rattle.duality.proofs.CutBalance.{cut_balance}
 use Rattle.plan_residual.specs.Residual.{HasPlan}
 use Rattle.next_unit.specs.Laws.{SmallSupplyLeavesRoom}
 use Rattle.next_unit.proofs.Helps.{HasNumbers, numbers_of}

@@ -3,8 +3,7 @@
 use Rattle.std.proofs.Common.{◌≡◌, ℕ, zero, suc, ◌<◌, Bool, true, false, refl, sym, ◌∙◌, ap, arith, subst}
 use Rattle.std.proofs.Common.{List, [], ◌∷◌, length, inl, inr}
 use Rattle.std.proofs.lemmas.Bool.{and_from, and_parts, both_ways, cases_Bool, false_from_ne_true, lt-ltb, ltb-true}
-use Rattle.std.proofs.lemmas.Bool.{not-true}
-use Rattle.std.proofs.lemmas.Bool.{not_from_false, or_cases, or_left, or_right, or_from}
+use Rattle.std.proofs.lemmas.Bool.{not-true, not_from_false, or_cases, or_left, or_right, or_from}
 use Rattle.std.specs.Prelude.{◌&&◌, ◌||◌, not, nat_lt, slice_index, ◌⊎◌, Option, Some, None}
 use Rattle.water_model.specs.Lookups.{has}
 use Rattle.water_model.specs.Basin.{head_of, tail_of, instream_link, taking_node, is_senior}
@@ -12,7 +11,7 @@ use Rattle.water_model.specs.Cuts.{node_within, takes_within, separates, leaves,
 use Rattle.water_model.specs.History.{IsShort}
 use Rattle.water_model.specs.declared.types.Basin.{Basin}
 use Rattle.water_model.specs.declared.types.MonthRecord.{MonthRecord}
-use Rattle.water_model.proofs.Balance.{ends}
+use Rattle.water_model.proofs.Valid.{ends}
 use Rattle.water_model.proofs.Sets.{has_below}
 use Rattle.plan_residual.specs.Residual.{HasPlan, IsClosed}
 use Rattle.plan_residual.specs.Slack.{others}

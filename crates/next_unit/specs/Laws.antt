@@ -7,7 +7,7 @@ use Rattle.water_model.specs.Basin.{tail_of, head_of, instream_link, taking_node
 use Rattle.water_model.specs.Plans.{IsPlan, IsFeasible, IsGreatest, carry_of, delivery}
 use Rattle.water_model.specs.Cuts.{IsTight, IsReach, enters}
 use Rattle.water_model.specs.History.{IsShort, IsPartialHistory, calls}
-use Rattle.water_model.specs.Laws.{ServesSeniors, AreDeliveries}
+use Rattle.duality.specs.Laws.{ServesSeniors, AreDeliveries}
 use Rattle.water_model.specs.Valid.{IsValidBasin, IsSeriesOf}
 use Rattle.water_text.specs.declared.month.Month.{Month}
 use Rattle.water_model.specs.declared.types.Basin.{Basin}

@@ -17,7 +17,7 @@ ghost use Rattle.next_unit.specs.Helped.{AreHelped, AreHelpedTo, AreLinks, AreUn
 ghost use Rattle.next_unit.specs.Helped.{IsHelped, IsHelpedTo, NoneEnters};
 
 use crate::carry_helps;
-use calls::is_short;
+use cut_cert::calls::is_short;
 use cut_cert::{enters, holds};
 use plan_residual::ResidualSearch;
 use plan_residual::steps::can_rise;

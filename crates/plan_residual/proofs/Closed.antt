@@ -14,7 +14,7 @@ use Rattle.water_model.specs.declared.types.Basin.{Basin}
 use Rattle.water_model.specs.declared.types.MonthRecord.{MonthRecord}
 use Rattle.water_model.specs.declared.types.RightKind.{RightKind}
 use Rattle.water_model.specs.declared.types.RightKind.TheVariants.{Diversion, Instream, Zone}
-use Rattle.water_model.proofs.Balance.{ends, entry_holds, kind_is}
+use Rattle.water_model.proofs.Valid.{ends, entry_holds, kind_is}
 use Rattle.water_model.proofs.Sets.{has_below}
 use Rattle.plan_residual.specs.Residual.{HasPlan, IsClosed, AreReached}
 use Rattle.plan_residual.specs.Slack.{HasNoSlack, others}

@@ -7,7 +7,7 @@ use Rattle.water_model.specs.declared.types.Basin.{Basin}
 use Rattle.water_model.specs.declared.types.MonthRecord.{MonthRecord}
 use Rattle.water_model.specs.declared.types.RightKind.{RightKind}
 use Rattle.water_model.specs.declared.types.RightKind.TheVariants.{Diversion, Instream, Zone}
-use Rattle.water_model.proofs.Balance.{ends, entry_holds, kind_is}
+use Rattle.water_model.proofs.Valid.{ends, entry_holds, kind_is}
 use Rattle.plan_residual.specs.Residual.{HasPlan}
 use Rattle.plan_residual.specs.Core.{node_of, node_by_link, IsCore}
 use Rattle.plan_residual.proofs.Upstream.{ranks_to, ranked_within}

@@ -1,6 +1,5 @@
 -- The most senior right whose set is not its reach.
-use Rattle.std.proofs.Common.{◌≡◌, ℕ, ◌<◌, Bool, refl, sym, ap, subst, arith, List, [], length}
-use Rattle.std.proofs.Common.{get_or}
+use Rattle.std.proofs.Common.{◌≡◌, ℕ, ◌<◌, Bool, refl, sym, ap, subst, arith, List, [], length, get_or}
 use Rattle.std.specs.Prelude.{Option, Some, None, IsSome, unwrap_or}
 use Rattle.cut_cert.specs.Sets.{cut_at, HasCut}
 use Rattle.water_model.specs.CutSets.{set_of}

@@ -5,8 +5,7 @@ use Rattle.std.specs.Prelude.{if◌then◌else◌, not, ◌%◌}
 use Rattle.water_model.specs.Basin.{tail_of, head_of}
 use Rattle.water_model.specs.declared.types.Basin.{Basin}
 use Rattle.water_model.specs.declared.types.MonthRecord.{MonthRecord}
-use Rattle.plan_residual.specs.Residual.{link_of, is_back, start_of, end_of, opposite, can_rise, can_fall}
-use Rattle.plan_residual.specs.Residual.{has_room}
+use Rattle.plan_residual.specs.Residual.{link_of, is_back, start_of, end_of, opposite, can_rise, can_fall, has_room}
 use Rattle.plan_residual.specs.Rows.{step_count}
 
 -- what a step over a link, forward or backward, is

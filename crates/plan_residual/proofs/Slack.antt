@@ -14,12 +14,11 @@ use Rattle.water_model.specs.Cuts.{separates}
 use Rattle.water_model.specs.History.{IsShort}
 use Rattle.water_model.specs.declared.types.Basin.{Basin}
 use Rattle.water_model.specs.declared.types.MonthRecord.{MonthRecord}
-use Rattle.water_model.proofs.Balance.{total_where_none_pass}
-use Rattle.water_model.proofs.CutBalance.{cut_balance}
-use Rattle.water_model.proofs.Duality.{delivery_by_take, delivery_le_flow, not_senior_to_itself, taking_on_no_link}
-use Rattle.water_model.proofs.Greatest.{tight_leaves_nothing}
-use Rattle.water_model.proofs.Seniority.{senior_total}
-use Rattle.water_model.proofs.Sets.{total_crossing}
+use Rattle.water_model.proofs.Sets.{total_where_none_pass, total_crossing}
+use Rattle.duality.proofs.CutBalance.{cut_balance}
+use Rattle.duality.proofs.Duality.{delivery_by_take, delivery_le_flow, taking_on_no_link}
+use Rattle.water_model.proofs.Seniority.{not_senior_to_itself, senior_total}
+use Rattle.duality.proofs.Greatest.{tight_leaves_nothing}
 use Rattle.plan_residual.specs.Residual.{HasPlan}
 use Rattle.plan_residual.specs.Slack.{HasNoSlack}
 use Rattle.plan_residual.specs.Laws.{TightMeansNoSlack}

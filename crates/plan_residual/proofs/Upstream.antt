@@ -1,7 +1,6 @@
 -- The nodes from which a node is reached, with ranks that fall along a way to it.
 use Rattle.std.proofs.Common.{◌≡◌, ◌≢◌, ℕ, zero, suc, ◌+◌, ◌<◌, ◌≤◌, Bool, true, false, refl, sym, ◌∙◌, ap, arith}
-use Rattle.std.proofs.Common.{subst}
-use Rattle.std.proofs.Common.{List, length, replicate, inl, inr}
+use Rattle.std.proofs.Common.{subst, List, length, replicate, inl, inr}
 use Rattle.std.proofs.lemmas.Bool.{and_from, and_parts, both_ways, cases_eq, cases_Bool, eq-eqb, ne_eqb, not-true}
 use Rattle.std.proofs.lemmas.Bool.{true_from_ne_false}
 use Rattle.std.proofs.lemmas.List.{get_or-set_same, get_or-set_other, length-set, length-replicate}
@@ -13,7 +12,7 @@ use Rattle.water_model.specs.Basin.{head_of, tail_of}
 use Rattle.water_model.specs.Valid.{IsValidBasin}
 use Rattle.water_model.specs.declared.types.Basin.{Basin}
 use Rattle.water_model.specs.declared.types.MonthRecord.{MonthRecord}
-use Rattle.water_model.proofs.Balance.{ends}
+use Rattle.water_model.proofs.Valid.{ends}
 use Rattle.water_model.proofs.Sets.{has_below}
 use Rattle.plan_residual.specs.Residual.{can_rise, can_fall}
 use Rattle.plan_residual.specs.Core.{IsClosedBackward}

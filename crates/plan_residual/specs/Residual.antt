@@ -9,7 +9,7 @@ use Rattle.water_model.specs.Basin.{tail_of, head_of, is_on_link, instream_link,
 use Rattle.water_model.specs.Plans.{IsPlan, carry_of}
 use Rattle.water_model.specs.Cuts.{kept_on, takes_within}
 use Rattle.water_model.specs.History.{FitsBasin}
-use Rattle.water_model.specs.Laws.{AreDeliveries}
+use Rattle.duality.specs.Laws.{AreDeliveries}
 use Rattle.water_model.specs.Valid.{IsValidBasin}
 use Rattle.water_model.specs.declared.types.Basin.{Basin}
 use Rattle.water_model.specs.declared.types.MonthRecord.{MonthRecord}

@@ -3,7 +3,7 @@ use Rattle.std.specs.Prelude.{◌≡◌, ℕ, ◌<◌, Bool, not, ◌&&◌, List
 use Rattle.water_model.specs.Basin.{is_on_link}
 use Rattle.water_model.specs.Plans.{carry_of}
 use Rattle.water_model.specs.Cuts.{enters, leaves, kept_on}
-use Rattle.water_model.specs.Laws.{LeavesNothing}
+use Rattle.duality.specs.Laws.{LeavesNothing}
 use Rattle.water_model.specs.declared.types.Basin.{Basin}
 use Rattle.water_model.specs.declared.types.MonthRecord.{MonthRecord}
 

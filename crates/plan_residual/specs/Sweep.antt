@@ -1,7 +1,6 @@
 -- A search that goes on from the nodes that are reached as seen from one right to those as seen from a more senior one.
 use Rattle.std.specs.Prelude.{◌≡◌, ℕ, ◌+◌, ◌*◌, ◌<◌, ◌≤◌, Bool, true, List, length, slice_index, slice_index_or, Some}
-use Rattle.std.specs.Prelude.{None}
-use Rattle.std.specs.Prelude.{IsTrue, Option, ⊤}
+use Rattle.std.specs.Prelude.{None, IsTrue, Option, ⊤}
 use Rattle.water_model.specs.Lookups.{has}
 use Rattle.water_model.specs.Basin.{head_of, instream_link, is_senior}
 use Rattle.water_model.specs.Cuts.{takes_within}

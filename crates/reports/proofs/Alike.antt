@@ -7,21 +7,18 @@ use Rattle.std.specs.Fmt.{decimal}
 use Rattle.std.specs.List.{flat_map, list_all}
 use Rattle.std.proofs.lemmas.Bool.{cases_lt}
 use Rattle.std.proofs.lemmas.List.Sums.{sum_by-cons}
-use Rattle.water_model.specs.History.{HasReaches}
+use Rattle.water_model.specs.History.{HasReaches, cut_of, opening_after, calls, calling_right}
 use Rattle.water_text.specs.Months.{month_digits}
-use Rattle.water_model.specs.Balance.{total_inflow}
+use Rattle.duality.specs.Balance.{total_inflow}
 use Rattle.water_model.specs.Cuts.{IsReach}
-use Rattle.water_model.specs.History.{cut_of, opening_after}
-use Rattle.water_model.specs.Laws.{HaveSameOutcome}
+use Rattle.duality.specs.Laws.{HaveSameOutcome}
 use Rattle.water_model.specs.Indices.{indices_of, seniors_first}
-use Rattle.water_model.specs.History.{calls}
-use Rattle.water_model.specs.Text.{calling_right}
 use Rattle.water_model.specs.declared.types.Basin.{Basin}
 use Rattle.water_model.specs.declared.types.Inflows.{Inflows}
 use Rattle.water_model.specs.declared.types.MonthRecord.{MonthRecord}
-use Rattle.water_model.proofs.Greatest.{reach_unique}
+use Rattle.duality.proofs.Greatest.{reach_unique}
 use Rattle.water_model.proofs.Order.{Has, seniors_below}
-use Rattle.water_model.proofs.Outcome.{one_outcome}
+use Rattle.duality.proofs.Outcome.{one_outcome}
 use Rattle.reports.specs.Figures.{shortage, short_months, wanted, delivered, worst_month, waters_of, called_in}
 use Rattle.reports.specs.Figures.{called_count}
 use Rattle.reports.specs.Laws.{RunsHaveOneReport}

@@ -1,5 +1,5 @@
 -- The two sides of the balance are equal.
-use Rattle.water_model.proofs.Balance.{balanced}
+use Rattle.duality.proofs.Balance.{balanced}
 use Rattle.reports.specs.Figures.{waters_of}
 use Rattle.reports.specs.Laws.{FiguresAreBalanced}
 

@@ -4,7 +4,7 @@ use Rattle.std.proofs.Common.{map}
 use Rattle.std.specs.Prelude.{sum, sum_by, max, nat_lt, slice_index, Option, Some, option_map, if◌then◌else◌}
 use Rattle.std.proofs.lemmas.List.Sums.{sum_by_push}
 use Rattle.water_model.proofs.Histories.{opens_with_last}
-use Rattle.water_model.specs.Balance.{total_inflow, diverted}
+use Rattle.duality.specs.Balance.{total_inflow, diverted}
 use Rattle.water_model.specs.declared.types.Basin.{Basin}
 use Rattle.water_model.specs.declared.types.Inflows.{Inflows}
 use Rattle.water_model.specs.declared.types.MonthRecord.{MonthRecord}

@@ -7,16 +7,16 @@ use Rattle.std.proofs.lemmas.Option.{slice_get-get_or}
 use Rattle.finite_sums.specs.Sums.{total}
 use Rattle.finite_sums.proofs.Totals.{total_same}
 use Rattle.water_model.proofs.Lists.{prefix_partial}
-use Rattle.water_model.specs.Balance.{IsBalanced, total_inflow, diverted}
-use Rattle.water_model.specs.History.{IsPartialHistory, Follows}
+use Rattle.duality.specs.Balance.{IsBalanced, total_inflow, diverted}
+use Rattle.water_model.specs.History.{IsPartialHistory, Follows, calling_right}
 use Rattle.water_model.specs.Hydrology.{returned_at}
 use Rattle.water_model.specs.Indices.{indices_of}
-use Rattle.water_model.specs.Text.{calling_right}
 use Rattle.water_model.specs.Valid.{IsValidBasin, IsSeriesOf}
 use Rattle.water_model.specs.declared.types.Basin.{Basin}
 use Rattle.water_model.specs.declared.types.Inflows.{Inflows}
 use Rattle.water_model.specs.declared.types.MonthRecord.{MonthRecord}
-use Rattle.water_model.proofs.Balance.{balanced, sum_total}
+use Rattle.duality.proofs.Balance.{balanced}
+use Rattle.water_model.proofs.Sets.{sum_total}
 use Rattle.water_model.proofs.Order.{length-numbers_from}
 use Rattle.water_model.proofs.Histories.{opens_with_last}
 use Rattle.water_model.proofs.Wants.{want_most}

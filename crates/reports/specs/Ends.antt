@@ -1,8 +1,7 @@
 -- How a report may end.
 use Rattle.std.specs.Prelude.{ℕ, ◌≤◌, List, length, take, ⊤, Result, Ok, Err}
 use Rattle.water_edge.specs.Edge.{Extends, Output}
-use Rattle.water_model.specs.History.{HaveReaches}
-use Rattle.water_model.specs.History.{IsHistory}
+use Rattle.water_model.specs.History.{HaveReaches, IsHistory}
 use Rattle.water_model.specs.declared.types.Basin.{Basin}
 use Rattle.water_model.specs.declared.types.Inflows.{Inflows}
 use Rattle.water_model.specs.declared.types.MonthRecord.{MonthRecord}

@@ -3,14 +3,13 @@ use Rattle.std.specs.Prelude.{◌≡◌, ℕ, ◌+◌, ◌-◌, ◌&&◌, List, 
 use Rattle.std.specs.Prelude.{option_map, nat_lt, nat_le, is_some}
 use Rattle.std.specs.List.{list_all}
 use Rattle.water_text.specs.declared.month.Month.{Month}
-use Rattle.water_model.specs.Balance.{total_inflow, diverted}
-use Rattle.water_model.specs.History.{opening_after}
+use Rattle.duality.specs.Balance.{total_inflow, diverted}
+use Rattle.water_model.specs.History.{opening_after, calling_right}
 use Rattle.water_model.specs.Indices.{indices_of}
-use Rattle.water_model.specs.Text.{calling_right}
 use Rattle.water_model.specs.declared.types.Basin.{Basin}
 use Rattle.water_model.specs.declared.types.Inflows.{Inflows}
 use Rattle.water_model.specs.declared.types.MonthRecord.{MonthRecord}
-use Rattle.calls.specs.Callers.{is_short}
+use Rattle.cut_cert.specs.Callers.{is_short}
 use Rattle.reports.specs.declared.waters.Waters.{Waters}
 
 -- what a right lacks in a month

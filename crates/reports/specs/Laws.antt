@@ -1,7 +1,6 @@
 -- Laws over the figures of a run.
 use Rattle.std.specs.Prelude.{◌≡◌, ℕ, List}
-use Rattle.water_model.specs.History.{HaveReaches}
-use Rattle.water_model.specs.History.{IsPartialHistory, IsHistory}
+use Rattle.water_model.specs.History.{HaveReaches, IsPartialHistory, IsHistory}
 use Rattle.water_model.specs.Valid.{IsValidBasin}
 use Rattle.water_model.specs.declared.types.Basin.{Basin}
 use Rattle.water_model.specs.declared.types.Inflows.{Inflows}

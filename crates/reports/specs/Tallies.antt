@@ -1,7 +1,7 @@
 -- What is kept of the months of a run, instead of the months.
 use Rattle.std.specs.Prelude.{◌≡◌, ℕ, ◌+◌, ◌<◌, ◌^◌, max, List, [], ◌∷◌, ◌++◌, map, sum, sum_by, slice_index}
 use Rattle.month_fold.specs.Runs.{RunView, RunStandsFor}
-use Rattle.water_model.specs.Balance.{total_inflow, diverted}
+use Rattle.duality.specs.Balance.{total_inflow, diverted}
 use Rattle.water_model.specs.History.{IsPartialHistory}
 use Rattle.water_model.specs.Indices.{indices_of}
 use Rattle.water_model.specs.declared.types.Basin.{Basin}

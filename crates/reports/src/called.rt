@@ -1,16 +1,15 @@
 //! How many right-months had a calling right.
 ghost use Rattle.std.specs.Prelude.{List, ◌≡◌, ◌<◌, ◌≤◌, ◌++◌, ◌∷◌, [], length, is_some, if◌then◌else◌, IfOk};
-ghost use Rattle.calls.specs.Callers.{AreCallers};
+ghost use Rattle.cut_cert.specs.Callers.{AreCallers};
 ghost use Rattle.rights_roll.specs.Rolls.{IsRollOf};
-ghost use Rattle.water_model.specs.History.{FitsBasin};
-ghost use Rattle.water_model.specs.Text.{calling_right};
+ghost use Rattle.water_model.specs.History.{FitsBasin, calling_right};
 ghost use Rattle.water_model.specs.Valid.{IsValidBasin, IsSeriesOf};
 ghost use Rattle.water_model.specs.declared.types.MonthRecord.{MonthRecord};
 ghost use Rattle.reports.specs.Figures.{called_in};
 ghost use Rattle.reports.specs.Tallies.{IsKeptBefore, IsTrial};
 
 use crate::tally::Tally;
-use calls::{callers_by_node, calling_right};
+use cut_cert::calls::{callers_by_node, calling_right};
 use rights_roll::roll::Roll;
 use std::alloc::{AllocError, Global};
 use water_model::types::{Basin, Inflows, MonthRecord};

@@ -1,7 +1,7 @@
 //! The water of a run.
 ghost use Rattle.std.specs.Prelude.{List, ◌≡◌, ◌+◌, ◌<◌, ◌^◌, ◌++◌, ◌∷◌, [], length, sum, map, slice_index};
 ghost use Rattle.std.specs.Prelude.{if◌then◌else◌};
-ghost use Rattle.water_model.specs.Balance.{total_inflow, diverted};
+ghost use Rattle.duality.specs.Balance.{total_inflow, diverted};
 ghost use Rattle.water_model.specs.History.{FitsBasin};
 ghost use Rattle.water_model.specs.Valid.{IsValidBasin, IsSeriesOf, is_diversion};
 ghost use Rattle.water_model.specs.declared.types.MonthRecord.{MonthRecord};

@@ -1,7 +1,6 @@
 -- A node is adopted over another step: the tree stays a tree, and what is below the node stays in it.
 use Rattle.std.proofs.Common.{ℕ, Bool, true, false, ◌≡◌, ◌≢◌, ◌==◌, ◌||◌, ◌+◌, ◌-◌, ◌<◌, ◌≤◌, ◌⊎◌, List, length}
-use Rattle.std.proofs.Common.{arith, ap}
-use Rattle.std.proofs.Common.{if◌then◌else◌, slice_index, slice_set, subst, sym, inl, inr, refl, ◌∙◌}
+use Rattle.std.proofs.Common.{arith, ap, if◌then◌else◌, slice_index, slice_set, subst, sym, inl, inr, refl, ◌∙◌}
 use Rattle.std.proofs.lemmas.Bool.{cases_Bool, cases_eq, eq-eqb, ne_eqb, eqb-true}
 use Rattle.std.proofs.lemmas.List.{get_or-set_other, get_or-set_same, length-set}
 use Rattle.circulation.specs.Contents.{Contents, network, flow_of, arcs, IsCirculation}

@@ -1,7 +1,6 @@
 -- Nodes are freed, one after another.
 use Rattle.std.proofs.Common.{ℕ, nat_lt, ◌≡◌, ◌≢◌, ◌+◌, ◌-◌, ◌<◌, ◌≤◌, ◌⊎◌, List, length, replicate, slice_index}
-use Rattle.std.proofs.Common.{slice_set}
-use Rattle.std.proofs.Common.{refl, arith, ap, sym, subst, inl, inr, ◌∙◌}
+use Rattle.std.proofs.Common.{slice_set, refl, arith, ap, sym, subst, inl, inr, ◌∙◌}
 use Rattle.std.proofs.lemmas.Bool.{cases_eq, cases_lt}
 use Rattle.std.proofs.lemmas.List.{get_or-set_other, get_or-set_same, get_or-replicate, length-set, length-replicate}
 use Rattle.finite_sums.specs.Sums.{when}
@@ -15,8 +14,7 @@ use Rattle.residual_tree.specs.Adopting.{IsClear, IsAdopted, IsFreedNode}
 use Rattle.circulation.proofs.Scans.{end_within}
 use Rattle.residual_tree.proofs.Adopts.{tree_adopt}
 use Rattle.residual_tree.proofs.Changes.{count_most, count_freed, count_kept, occurs_more, occurs_here, occurs_or}
-use Rattle.residual_tree.proofs.Changes.{freed_word}
-use Rattle.residual_tree.proofs.Changes.{tree_free, tree_map}
+use Rattle.residual_tree.proofs.Changes.{freed_word, tree_free, tree_map}
 
 -- a node with a step is a basin node
 pub basin_end : (c : Contents) (labels : List ℕ) (s v : ℕ) → IsCirculation c → arc_of s < arcs c → v ≤ c.nodes →

@@ -7,8 +7,7 @@ use Rattle.circulation.specs.Contents.{Contents, network, flow_of, arcs, IsCircu
 use Rattle.circulation.specs.Residual.{arc_of, start_of, end_of, room_of}
 use Rattle.residual_tree.specs.declared.TheConstants.{ROOT}
 use Rattle.residual_tree.specs.Tree.{label_of, IsLabeled, IsResidualTree}
-use Rattle.residual_tree.specs.Repair.{OccursIn, none, only, no_step, IsFreeing, IsGrowing}
-use Rattle.residual_tree.specs.Repair.{HasArtificialStep}
+use Rattle.residual_tree.specs.Repair.{OccursIn, none, only, no_step, IsFreeing, IsGrowing, HasArtificialStep}
 use Rattle.residual_tree.proofs.Changes.{count_most, count_attached, occurs_more, occurs_here, occurs_or}
 use Rattle.residual_tree.proofs.Changes.{occurs_nowhere, IsLooseWay, tree_attach, tree_map}
 use Rattle.circulation.proofs.Scans.{end_within}

@@ -2,8 +2,7 @@
 use Rattle.std.proofs.Common.{ℕ, Bool, true, false, ◌≡◌, ◌+◌, ◌-◌, ◌%◌, arith, ap, sym, inl, inr, ◌∙◌}
 use Rattle.std.proofs.lemmas.Bool.{cases_Bool, eqb-true, eqb-false, eq-eqb, ne_eqb}
 use Rattle.circulation.specs.Network.{Network}
-use Rattle.circulation.specs.Residual.{arc_of, is_backward, by_direction, start_of, end_of}
-use Rattle.circulation.specs.Residual.{opposite}
+use Rattle.circulation.specs.Residual.{arc_of, is_backward, by_direction, start_of, end_of, opposite}
 
 -- what is known of the step over the same arc the other way
 pub record IsOpposite (w : Network) (s t : ℕ) : Type 0 where

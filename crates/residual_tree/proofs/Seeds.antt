@@ -4,12 +4,10 @@ use Rattle.std.proofs.Common.{arith, ap, sym, subst, inl, inr, ◌∙◌}
 use Rattle.std.proofs.lemmas.Bool.{cases_eq}
 use Rattle.std.proofs.lemmas.List.{get_or-set_other, get_or-set_same}
 use Rattle.circulation.specs.Contents.{Contents, network, flow_of, arcs}
-use Rattle.circulation.specs.Residual.{arc_of, start_of, end_of, room_of}
-use Rattle.circulation.specs.Residual.{opposite}
+use Rattle.circulation.specs.Residual.{arc_of, start_of, end_of, room_of, opposite}
 use Rattle.residual_tree.specs.Tree.{label_of, IsLabeled}
 use Rattle.residual_tree.specs.Repair.{OccursIn, none, only, no_step, IsFoundLabel, IsShut, IsGrowing, IsWayIn}
-use Rattle.residual_tree.proofs.Changes.{occurs_more, occurs_here, occurs_or}
-use Rattle.residual_tree.proofs.Changes.{occurs_nowhere, tree_map}
+use Rattle.residual_tree.proofs.Changes.{occurs_more, occurs_here, occurs_or, occurs_nowhere, tree_map}
 use Rattle.residual_tree.proofs.Opposites.{opposite_is}
 use Rattle.residual_tree.proofs.Grows.{growing_attach, growing_room}
 

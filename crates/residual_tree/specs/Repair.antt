@@ -3,8 +3,7 @@ use Rattle.std.specs.Prelude.{ℕ, ◌≡◌, ◌+◌, ◌-◌, ◌*◌, ◌<◌
 use Rattle.residual_tree.specs.declared.TheConstants.{ROOT}
 use Rattle.finite_sums.specs.Sums.{total, when}
 use Rattle.circulation.specs.Contents.{Contents, network, flow_of, arcs}
-use Rattle.circulation.specs.Residual.{arc_of, start_of, end_of, room_of}
-use Rattle.circulation.specs.Residual.{opposite}
+use Rattle.circulation.specs.Residual.{arc_of, start_of, end_of, room_of, opposite}
 use Rattle.residual_tree.specs.Tree.{label_of, IsLabeled}
 
 -- x stands in the list at an index from `first` to below `last`

@@ -2,8 +2,7 @@
 ghost use Rattle.std.specs.Prelude.{◌≡◌, true, false, ℕ, ◌+◌, ◌-◌, ◌*◌, ◌^◌, ◌<◌, ◌≤◌, []};
 ghost use Rattle.std.specs.Prelude.{length, replicate, slice_index, slice_set};
 ghost use Rattle.circulation.specs.Contents.{arcs, flow_of, network, IsCirculation};
-ghost use Rattle.circulation.specs.Residual.{arc_of, room_of, end_of};
-ghost use Rattle.circulation.specs.Residual.{opposite};
+ghost use Rattle.circulation.specs.Residual.{arc_of, room_of, end_of, opposite};
 ghost use Rattle.residual_tree.specs.Tree.{label_of, IsLabeled, IsResidualTree, unlabeled};
 ghost use Rattle.residual_tree.specs.Repair.{no_step, IsFoundLabel, IsShut, IsFreeing, IsGrowing, HasArtificialStep};
 

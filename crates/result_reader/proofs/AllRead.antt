@@ -19,10 +19,10 @@ use Rattle.water_model.specs.Hydrology.{stored_at}
 use Rattle.water_model.specs.Lookups.{of_entry}
 use Rattle.water_model.specs.Entries.{count_in, in_order}
 use Rattle.water_model.specs.Indices.{numbers_from, seniors_first}
-use Rattle.water_model.specs.Quantities.{amounts_of, entries_with_line, has_line, space_of}
+use Rattle.result_lines.specs.Quantities.{amounts_of, entries_with_line, has_line, space_of}
 use Rattle.water_model.specs.Plans.{delivery_by_link}
-use Rattle.water_model.specs.declared.quantity.Quantity.{Quantity}
-use Rattle.water_model.specs.declared.quantity.Quantity.TheVariants as quantity
+use Rattle.result_lines.specs.declared.quantity.Quantity.{Quantity}
+use Rattle.result_lines.specs.declared.quantity.Quantity.TheVariants as quantity
 use Rattle.water_model.specs.declared.types.Basin.{Basin}
 use Rattle.water_model.specs.declared.types.Inflows.{Inflows}
 use Rattle.water_model.specs.declared.types.MonthRecord.{MonthRecord}
@@ -32,7 +32,7 @@ use Rattle.water_model.specs.declared.types.RightKind.{RightKind}
 use Rattle.water_model.specs.declared.types.RightKind.TheVariants as kind
 use Rattle.result_reader.specs.Records.{IsTextMonth, AreTextMonths}
 use Rattle.result_reader.proofs.MonthRead.{take_of}
-use Rattle.water_model.proofs.Balance.{entry_at}
+use Rattle.water_model.proofs.Valid.{entry_at}
 use Rattle.water_model.proofs.Lists.{get_after, no_numbers}
 use Rattle.result_reader.proofs.Sets.{all_sets}
 use Rattle.result_reader.proofs.Telling.{set_all, set_all-whole}

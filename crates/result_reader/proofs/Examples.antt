@@ -7,9 +7,9 @@ use Rattle.water_text.specs.Months.{read_month}
 use Rattle.water_text.specs.Names.{is_name}
 use Rattle.water_text.specs.Shapes.{has_shape}
 use Rattle.water_model.specs.Indices.{numbers_from, by_seniority}
-use Rattle.water_model.specs.declared.item.Item.{Item}
-use Rattle.water_model.specs.declared.item.Item.TheVariants as line
-use Rattle.water_model.specs.declared.quantity.Quantity.TheVariants as quantity
+use Rattle.result_lines.specs.declared.item.Item.{Item}
+use Rattle.result_lines.specs.declared.item.Item.TheVariants as line
+use Rattle.result_lines.specs.declared.quantity.Quantity.TheVariants as quantity
 use Rattle.water_model.specs.declared.types.Basin.{Basin}
 use Rattle.water_model.proofs.Worked.{stream, old, new}
 use Rattle.result_reader.specs.Form.{is_same_shape, fits, due_in_month, due}

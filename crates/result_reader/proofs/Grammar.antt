@@ -5,11 +5,10 @@ use Rattle.std.specs.Prelude.{◌&&◌, not, Some, None}
 use Rattle.std.specs.List.{list_all, list_any}
 use Rattle.water_model.specs.declared.types.Basin.{Basin}
 use Rattle.water_model.specs.Indices.{numbers_from, members_from}
-use Rattle.result_reader.specs.Form.{shape_of, is_optional, fits}
-use Rattle.result_reader.specs.Form.{IsFollowedBy, Fills}
+use Rattle.result_reader.specs.Form.{shape_of, is_optional, fits, IsFollowedBy, Fills}
 use Rattle.result_reader.specs.Due.{is_call, is_member, is_member_shape, opened, take_line, step}
-use Rattle.water_model.specs.declared.item.Item.{Item}
-use Rattle.water_model.specs.declared.item.Item.TheVariants as line
+use Rattle.result_lines.specs.declared.item.Item.{Item}
+use Rattle.result_lines.specs.declared.item.Item.TheVariants as line
 use Rattle.result_reader.specs.declared.shape.Shape.{Shape}
 use Rattle.result_reader.specs.declared.shape.Shape.TheVariants as shape
 use Rattle.result_reader.proofs.Steps.{accepts, fits_shape, fits_itself, take_fits, take_skips, take_stops}

@@ -10,14 +10,14 @@ use Rattle.water_model.proofs.Order.{length-numbers_from}
 use Rattle.water_model.specs.Basin.{taking_node}
 use Rattle.water_model.specs.Entries.{count_in, in_order}
 use Rattle.water_model.specs.Indices.{numbers_from}
-use Rattle.water_model.specs.Quantities.{has_line}
-use Rattle.water_model.specs.Text.{section_space}
+use Rattle.result_lines.specs.Quantities.{has_line}
+use Rattle.result_lines.specs.Text.{section_space}
 use Rattle.water_model.specs.Hydrology.{run_month}
 use Rattle.water_model.specs.Valid.{IsValidBasin}
-use Rattle.water_model.specs.declared.item.Item.{Item}
-use Rattle.water_model.specs.declared.item.Section.{Section}
-use Rattle.water_model.specs.declared.item.Section.TheVariants as section
-use Rattle.water_model.specs.declared.item.TheConstants.{SECTIONS}
+use Rattle.result_lines.specs.declared.item.Item.{Item}
+use Rattle.result_lines.specs.declared.item.Section.{Section}
+use Rattle.result_lines.specs.declared.item.Section.TheVariants as section
+use Rattle.result_lines.specs.declared.item.TheConstants.{SECTIONS}
 use Rattle.water_model.specs.declared.types.Basin.{Basin}
 use Rattle.result_reader.specs.Due.{is_member, opened, take_line, step}
 use Rattle.result_reader.specs.Form.{shape_of, is_optional, fits, shapes_at, shapes_in, due, due_in_month}
@@ -25,9 +25,8 @@ use Rattle.result_reader.specs.Form.{due_for_month, due_from}
 use Rattle.result_reader.specs.Standing.{most_for, max_lines}
 use Rattle.result_reader.specs.declared.shape.Shape.{Shape}
 use Rattle.result_reader.specs.declared.shape.Shape.TheVariants as shape
-use Rattle.result_reader.proofs.Grammar.{plain}
+use Rattle.result_reader.proofs.Grammar.{plain, IsPlain, call, other}
 use Rattle.result_reader.proofs.Steps.{fits_shape, take_fits, take_skips, take_stops, step_open, step_shut}
-use Rattle.result_reader.proofs.Grammar.{IsPlain, call, other}
 
 -- each line that is due is at least one line
 most_for-some : (b : Basin) (d : Shape) → 1 ≤ most_for b d

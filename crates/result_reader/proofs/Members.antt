@@ -7,17 +7,15 @@ use Rattle.water_model.specs.declared.types.Basin.{Basin}
 use Rattle.water_model.specs.Indices.{numbers_from}
 use Rattle.result_reader.specs.Form.{fits, due_in_month}
 use Rattle.result_reader.specs.Due.{opened, take_line, step, is_member, is_member_shape, is_call}
-use Rattle.result_reader.specs.Progress.{due_at, months_due}
-use Rattle.result_reader.specs.Progress.{members_due}
-use Rattle.water_model.specs.declared.item.Item.{Item}
-use Rattle.water_model.specs.declared.item.Item.TheVariants as line
+use Rattle.result_reader.specs.Progress.{due_at, months_due, members_due}
+use Rattle.result_lines.specs.declared.item.Item.{Item}
+use Rattle.result_lines.specs.declared.item.Item.TheVariants as line
 use Rattle.result_reader.specs.declared.shape.Shape.{Shape}
 use Rattle.result_reader.specs.declared.shape.Shape.TheVariants as shape
 use Rattle.result_reader.specs.declared.position.Position.{Position}
 use Rattle.result_reader.specs.declared.position.Position.TheVariants as position
-use Rattle.result_reader.proofs.Grammar.{member_only, has_no_members}
+use Rattle.result_reader.proofs.Grammar.{member_only, has_no_members, no_member_due, plain, IsPlain, call, other}
 use Rattle.result_reader.proofs.Steps.{fits_itself, take_fits, take_skips, step_open}
-use Rattle.result_reader.proofs.Grammar.{no_member_due, plain, IsPlain, call, other}
 use Rattle.result_reader.proofs.Prefixes.{from_no_members, in_month_no_members, append_no_members}
 
 fits_not : (b : Basin) (k : ℕ) (i : Item) → (i ≡ line.Member k → ⊥) → fits b (shape.Member k) i ≡ false

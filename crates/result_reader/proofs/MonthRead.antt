@@ -7,17 +7,17 @@ use Rattle.std.proofs.Math.ListN.{length-set}
 use Rattle.water_model.specs.Basin.{taking_node}
 use Rattle.water_model.specs.History.{cut_of}
 use Rattle.water_model.specs.Indices.{seniors_first}
-use Rattle.water_model.specs.Quantities.{amounts_of, entries_with_line, with_amounts}
-use Rattle.water_model.specs.Text.{call_items, called_items, lines_in}
-use Rattle.water_model.specs.declared.item.Item.{Item}
-use Rattle.water_model.specs.declared.item.Item.TheVariants as line
-use Rattle.water_model.specs.declared.item.Section.{Section}
-use Rattle.water_model.specs.declared.item.Section.TheVariants as section
-use Rattle.water_model.specs.declared.quantity.Quantity.{Quantity}
+use Rattle.result_lines.specs.Quantities.{amounts_of, entries_with_line, with_amounts}
+use Rattle.result_lines.specs.Text.{call_items, called_items, lines_in}
+use Rattle.result_lines.specs.declared.item.Item.{Item}
+use Rattle.result_lines.specs.declared.item.Item.TheVariants as line
+use Rattle.result_lines.specs.declared.item.Section.{Section}
+use Rattle.result_lines.specs.declared.item.Section.TheVariants as section
+use Rattle.result_lines.specs.declared.quantity.Quantity.{Quantity}
 use Rattle.water_model.specs.declared.types.Basin.{Basin}
 use Rattle.water_model.specs.declared.types.Inflows.{Inflows}
 use Rattle.water_model.specs.declared.types.MonthRecord.{MonthRecord}
-use Rattle.water_model.proofs.Quantities.{amount_lines, amounts_with, cuts_with, flat_map_one, with_own, with_twice}
+use Rattle.result_lines.proofs.Quantities.{amount_lines, amounts_with, cuts_with, flat_map_one, with_own, with_twice}
 use Rattle.result_reader.specs.ReadSoFar.{ReadSoFar, read_item, with_now}
 use Rattle.result_reader.proofs.Sets.{put_sets, length-put_sets}
 use Rattle.result_reader.proofs.Telling.{set_all, fold-both, tell_call, put_cut}

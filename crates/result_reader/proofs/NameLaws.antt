@@ -1,7 +1,7 @@
 -- Names of a valid basin.
 use Rattle.std.proofs.Common.{◌≡◌, ℕ, ◌<◌, true}
 use Rattle.water_text.specs.Names.{is_name}
-use Rattle.water_model.proofs.Balance.{entry_at}
+use Rattle.water_model.proofs.Valid.{entry_at}
 use Rattle.water_model.proofs.Lists.{all_at}
 use Rattle.water_model.specs.Valid.{IsValidBasin, IsValidNode, IsValidLink, IsValidReservoir, IsValidRight}
 use Rattle.water_model.specs.declared.types.Basin.{Basin}

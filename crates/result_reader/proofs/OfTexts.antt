@@ -8,18 +8,17 @@ use Rattle.water_text.specs.Months.{IsMonth}
 use Rattle.water_model.proofs.Entries.{in_order-below}
 use Rattle.water_model.proofs.Order.{Has, seniors_below, find-passes}
 use Rattle.water_model.specs.Entries.{count_in, in_order}
-use Rattle.water_model.specs.History.{cut_of}
+use Rattle.water_model.specs.History.{cut_of, calls, calling_right}
 use Rattle.water_model.specs.Indices.{members_from, seniors_first}
-use Rattle.water_model.specs.Quantities.{amounts_of, has_line, space_of}
-use Rattle.water_model.specs.History.{calls}
-use Rattle.water_model.specs.Text.{calling_right, call_items, called_items, section_space, lines_at, lines_in}
-use Rattle.water_model.specs.Text.{month_lines, items_of_month, items_of}
+use Rattle.result_lines.specs.Quantities.{amounts_of, has_line, space_of}
+use Rattle.result_lines.specs.Text.{call_items, called_items, section_space, lines_at, lines_in}
+use Rattle.result_lines.specs.Text.{month_lines, items_of_month, items_of}
 use Rattle.water_model.specs.Valid.{IsValidBasin}
-use Rattle.water_model.specs.declared.item.Item.{Item}
-use Rattle.water_model.specs.declared.item.Item.TheVariants as line
-use Rattle.water_model.specs.declared.item.Section.{Section}
-use Rattle.water_model.specs.declared.item.Section.TheVariants as section
-use Rattle.water_model.specs.declared.item.TheConstants.{SECTIONS}
+use Rattle.result_lines.specs.declared.item.Item.{Item}
+use Rattle.result_lines.specs.declared.item.Item.TheVariants as line
+use Rattle.result_lines.specs.declared.item.Section.{Section}
+use Rattle.result_lines.specs.declared.item.Section.TheVariants as section
+use Rattle.result_lines.specs.declared.item.TheConstants.{SECTIONS}
 use Rattle.water_model.specs.declared.types.Basin.{Basin}
 use Rattle.water_model.specs.declared.types.Inflows.{Inflows}
 use Rattle.water_model.specs.declared.types.MonthRecord.{MonthRecord}

@@ -2,10 +2,10 @@
 use Rattle.std.proofs.Common.{◌≡◌, refl, sym, ap, ◌∙◌, List, [], ◌∷◌, ◌++◌, map, append_assoc}
 use Rattle.std.specs.Prelude.{Ok}
 use Rattle.std.specs.List.{flat_map}
-use Rattle.water_model.specs.Spelling.{line_of, whole_line}
-use Rattle.water_model.specs.Text.{items_of}
+use Rattle.result_lines.specs.Spelling.{line_of, whole_line}
+use Rattle.result_lines.specs.Text.{items_of}
 use Rattle.water_model.specs.Valid.{IsValidBasin}
-use Rattle.water_model.specs.declared.item.Item.{Item}
+use Rattle.result_lines.specs.declared.item.Item.{Item}
 use Rattle.water_model.specs.declared.types.Basin.{Basin}
 use Rattle.result_reader.specs.Laws.{TextsHaveOneReading}
 use Rattle.result_reader.specs.OfText.{IsOfText}

@@ -9,7 +9,7 @@ use Rattle.water_model.specs.Indices.{numbers_from}
 use Rattle.result_reader.specs.Form.{is_same_shape, fits, due_in_month, due_for_month}
 use Rattle.result_reader.specs.Due.{opened, take_line}
 use Rattle.result_reader.specs.Progress.{months_due}
-use Rattle.water_model.specs.declared.item.Item.{Item}
+use Rattle.result_lines.specs.declared.item.Item.{Item}
 use Rattle.result_reader.specs.declared.shape.Shape.{Shape}
 use Rattle.result_reader.specs.declared.shape.Shape.TheVariants as shape
 use Rattle.result_reader.proofs.Steps.{same_shape_is, same_shape_itself, take_fits, take_stops}

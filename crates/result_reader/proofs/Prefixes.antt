@@ -9,24 +9,22 @@ use Rattle.water_model.specs.declared.types.Basin.{Basin}
 use Rattle.water_model.specs.Basin.{taking_node}
 use Rattle.water_model.specs.Entries.{in_order}
 use Rattle.water_model.specs.Indices.{numbers_from}
-use Rattle.water_model.specs.Quantities.{has_line}
-use Rattle.water_model.specs.Text.{section_space}
+use Rattle.result_lines.specs.Quantities.{has_line}
+use Rattle.result_lines.specs.Text.{section_space}
 use Rattle.result_reader.specs.Form.{shape_of, is_optional, is_allowed, fits, shapes_at, shapes_in, due, due_in_month}
 use Rattle.result_reader.specs.Form.{due_for_month, due_from, IsPrefix}
 use Rattle.result_reader.specs.Due.{is_call, is_member, is_member_shape, opened, take_line, step, Due, all_due}
 use Rattle.result_reader.specs.Due.{due_after}
-use Rattle.water_model.specs.declared.item.Item.{Item}
-use Rattle.water_model.specs.declared.item.Item.TheVariants as line
-use Rattle.water_model.specs.declared.item.Section.{Section}
-use Rattle.water_model.specs.declared.item.Section.TheVariants as section
-use Rattle.water_model.specs.declared.item.TheConstants.{SECTIONS}
+use Rattle.result_lines.specs.declared.item.Item.{Item}
+use Rattle.result_lines.specs.declared.item.Item.TheVariants as line
+use Rattle.result_lines.specs.declared.item.Section.{Section}
+use Rattle.result_lines.specs.declared.item.Section.TheVariants as section
+use Rattle.result_lines.specs.declared.item.TheConstants.{SECTIONS}
 use Rattle.result_reader.specs.declared.shape.Shape.{Shape}
 use Rattle.result_reader.specs.declared.shape.Shape.TheVariants as shape
 use Rattle.result_reader.proofs.Steps.{accepts, accepts_step, steps_to, StepsTo, accepts_within, within_itself}
-use Rattle.result_reader.proofs.Grammar.{has_no_members, fills_accepted}
-use Rattle.result_reader.proofs.Steps.{fits_itself, take_fits, step_open, step_shut}
-use Rattle.result_reader.proofs.Grammar.{accepted_fills, plain, IsPlain, call, other}
-use Rattle.result_reader.proofs.Steps.{take_skips, take_stops}
+use Rattle.result_reader.proofs.Grammar.{has_no_members, fills_accepted, accepted_fills, plain, IsPlain, call, other}
+use Rattle.result_reader.proofs.Steps.{fits_itself, take_fits, step_open, step_shut, take_skips, take_stops}
 
 -- No `in` line is due at first.
 

@@ -17,10 +17,10 @@ use Rattle.water_text.specs.Months.{IsMonth, month_digits}
 use Rattle.water_text.specs.Names.{is_name}
 use Rattle.water_text.specs.declared.month.Month.{Month}
 use Rattle.water_model.specs.Entries.{count_in, name_in}
-use Rattle.water_model.specs.Quantities.{space_of}
-use Rattle.water_model.specs.Spelling.{fields_of, line_of}
-use Rattle.water_model.specs.declared.item.Item.{Item}
-use Rattle.water_model.specs.declared.item.Item.TheVariants as line
+use Rattle.result_lines.specs.Quantities.{space_of}
+use Rattle.result_lines.specs.Spelling.{fields_of, line_of}
+use Rattle.result_lines.specs.declared.item.Item.{Item}
+use Rattle.result_lines.specs.declared.item.Item.TheVariants as line
 use Rattle.water_model.specs.declared.space.Space.{Space}
 use Rattle.water_model.specs.declared.space.Space.TheVariants as space
 use Rattle.water_model.specs.declared.types.Basin.{Basin}

@@ -2,9 +2,9 @@
 use Rattle.std.proofs.Common.{◌≡◌, ℕ, ◌+◌, ◌-◌, ◌≤◌, false, refl, sym, ap, subst, ◌∙◌, arith, List, [], ◌∷◌, ◌++◌}
 use Rattle.std.specs.Prelude.{Option, Some, None, Ok, Err}
 use Rattle.std.specs.Option.{option_and_then}
-use Rattle.water_model.specs.Spelling.{line_of}
+use Rattle.result_lines.specs.Spelling.{line_of}
 use Rattle.water_model.specs.Valid.{IsValidBasin}
-use Rattle.water_model.specs.declared.item.Item.{Item}
+use Rattle.result_lines.specs.declared.item.Item.{Item}
 use Rattle.water_model.specs.declared.types.Basin.{Basin}
 use Rattle.result_reader.specs.Due.{Due, is_call, step, all_due, due_after}
 use Rattle.result_reader.specs.Form.{due, due_from, due_in_month}

@@ -5,15 +5,14 @@ use Rattle.std.specs.Prelude.{Some, option_map, ◌⊎◌, slice_index, slice_se
 use Rattle.std.proofs.Math.ListN.{length-set}
 use Rattle.std.proofs.lemmas.Bool.{cases_eq}
 use Rattle.std.proofs.lemmas.List.{get_or-set_other}
-use Rattle.std.proofs.lemmas.Grind.{get_or-set_at}
-use Rattle.std.proofs.lemmas.Grind.{same_number_lists}
+use Rattle.std.proofs.lemmas.Grind.{get_or-set_at, same_number_lists}
 use Rattle.water_model.specs.declared.types.Basin.{Basin}
 use Rattle.water_model.specs.declared.types.Inflows.{Inflows}
 use Rattle.water_model.specs.Indices.{members_from}
-use Rattle.water_model.specs.Text.{call_items}
+use Rattle.result_lines.specs.Text.{call_items}
 use Rattle.result_reader.specs.ReadSoFar.{ReadSoFar, read_item, with_member}
 use Rattle.water_model.specs.CutSets.{set_of, with_set}
-use Rattle.water_model.specs.declared.item.Item.TheVariants as line
+use Rattle.result_lines.specs.declared.item.Item.TheVariants as line
 use Rattle.water_model.proofs.Order.{Has}
 use Rattle.water_model.proofs.SetEntries.{entry_set, set_entry, set_twice}
 

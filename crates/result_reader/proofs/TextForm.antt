@@ -9,18 +9,17 @@ use Rattle.water_model.specs.Basin.{is_senior, taking_node}
 use Rattle.water_model.specs.Cuts.{takes_within, node_within}
 use Rattle.water_model.specs.Entries.{in_order}
 use Rattle.water_model.specs.Hydrology.{run_month}
-use Rattle.water_model.specs.History.{cut_of}
+use Rattle.water_model.specs.History.{cut_of, calls, calling_right}
 use Rattle.water_model.specs.Indices.{numbers_from, members_from, seniors_first}
-use Rattle.water_model.specs.Quantities.{amounts_of, has_line}
-use Rattle.water_model.specs.Spelling.{line_of}
-use Rattle.water_model.specs.History.{calls}
-use Rattle.water_model.specs.Text.{calling_right, call_items, called_items, section_space, lines_at, lines_in}
-use Rattle.water_model.specs.Text.{month_lines, items_of_month, items_of}
-use Rattle.water_model.specs.declared.item.Item.{Item}
-use Rattle.water_model.specs.declared.item.Item.TheVariants as line
-use Rattle.water_model.specs.declared.item.Section.{Section}
-use Rattle.water_model.specs.declared.item.Section.TheVariants as section
-use Rattle.water_model.specs.declared.item.TheConstants.{SECTIONS}
+use Rattle.result_lines.specs.Quantities.{amounts_of, has_line}
+use Rattle.result_lines.specs.Spelling.{line_of}
+use Rattle.result_lines.specs.Text.{call_items, called_items, section_space, lines_at, lines_in}
+use Rattle.result_lines.specs.Text.{month_lines, items_of_month, items_of}
+use Rattle.result_lines.specs.declared.item.Item.{Item}
+use Rattle.result_lines.specs.declared.item.Item.TheVariants as line
+use Rattle.result_lines.specs.declared.item.Section.{Section}
+use Rattle.result_lines.specs.declared.item.Section.TheVariants as section
+use Rattle.result_lines.specs.declared.item.TheConstants.{SECTIONS}
 use Rattle.water_model.specs.declared.types.Basin.{Basin}
 use Rattle.water_model.specs.declared.types.Inflows.{Inflows}
 use Rattle.water_model.specs.declared.types.MonthRecord.{MonthRecord}

@@ -5,15 +5,15 @@ use Rattle.std.specs.Prelude.{Option, Some, None, slice_index}
 use Rattle.std.specs.List.{flat_map}
 use Rattle.water_model.specs.Blank.{blank_month}
 use Rattle.water_model.specs.Entries.{count_in}
-use Rattle.water_model.specs.History.{cut_of}
+use Rattle.water_model.specs.History.{cut_of, calling_right}
 use Rattle.water_model.specs.Hydrology.{inflow_at, stored_at}
 use Rattle.water_model.specs.Indices.{indices_of, seniors_first}
-use Rattle.water_model.specs.Quantities.{amounts_of, entries_with_line, space_of}
-use Rattle.water_model.specs.Text.{lines_in, month_lines, items_of_month, items_of, calling_right}
-use Rattle.water_model.specs.declared.item.Item.TheVariants as line
-use Rattle.water_model.specs.declared.item.TheConstants.{SECTIONS}
-use Rattle.water_model.specs.declared.quantity.Quantity.{Quantity}
-use Rattle.water_model.specs.declared.quantity.Quantity.TheVariants as quantity
+use Rattle.result_lines.specs.Quantities.{amounts_of, entries_with_line, space_of}
+use Rattle.result_lines.specs.Text.{lines_in, month_lines, items_of_month, items_of}
+use Rattle.result_lines.specs.declared.item.Item.TheVariants as line
+use Rattle.result_lines.specs.declared.item.TheConstants.{SECTIONS}
+use Rattle.result_lines.specs.declared.quantity.Quantity.{Quantity}
+use Rattle.result_lines.specs.declared.quantity.Quantity.TheVariants as quantity
 use Rattle.water_model.specs.declared.types.Basin.{Basin}
 use Rattle.water_model.specs.declared.types.Inflows.{Inflows}
 use Rattle.water_model.specs.declared.types.MonthRecord.{MonthRecord}

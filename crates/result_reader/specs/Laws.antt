@@ -1,9 +1,9 @@
 -- Laws over what is read, and over the form of a text.
 use Rattle.std.specs.Prelude.{◌≡◌, ℕ, List, [], ◌∷◌, ◌++◌, length, Some, Ok, Err, ◌↔◌}
-use Rattle.water_model.specs.Spelling.{line_of}
-use Rattle.water_model.specs.Text.{items_of, text_bytes}
+use Rattle.result_lines.specs.Spelling.{line_of}
+use Rattle.result_lines.specs.Text.{items_of, text_bytes}
 use Rattle.water_model.specs.Valid.{IsValidBasin}
-use Rattle.water_model.specs.declared.item.Item.{Item}
+use Rattle.result_lines.specs.declared.item.Item.{Item}
 use Rattle.water_model.specs.declared.types.Basin.{Basin}
 use Rattle.water_model.specs.declared.types.Inflows.{Inflows}
 use Rattle.water_model.specs.declared.types.MonthRecord.{MonthRecord}

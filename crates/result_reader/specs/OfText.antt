@@ -1,8 +1,8 @@
 -- Lines that a text of a basin may have.
 use Rattle.std.specs.Prelude.{◌≤◌, ◌^◌}
-use Rattle.water_model.specs.OfBasin.{IsOfBasin}
-use Rattle.water_model.specs.declared.item.Item.{Item}
-use Rattle.water_model.specs.declared.item.Item.TheVariants as line
+use Rattle.result_lines.specs.OfBasin.{IsOfBasin}
+use Rattle.result_lines.specs.declared.item.Item.{Item}
+use Rattle.result_lines.specs.declared.item.Item.TheVariants as line
 use Rattle.water_model.specs.declared.types.Basin.{Basin}
 
 -- amounts are at most 10^15, and numbers of months 1 to 1,200

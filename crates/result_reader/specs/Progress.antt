@@ -2,7 +2,7 @@
 use Rattle.std.specs.Prelude.{◌≡◌, ℕ, ◌+◌, ◌-◌, ◌<◌, ◌≤◌, true, List, [], ◌∷◌, ◌++◌, map, length, drop, Option, Some}
 use Rattle.std.specs.Prelude.{None, IsSome, IfSome}
 use Rattle.water_model.specs.Indices.{numbers_from}
-use Rattle.water_model.specs.declared.item.Item.{Item}
+use Rattle.result_lines.specs.declared.item.Item.{Item}
 use Rattle.water_model.specs.declared.types.Basin.{Basin}
 use Rattle.result_reader.specs.Due.{Due, opened, take_line, step, is_call}
 use Rattle.result_reader.specs.Form.{due_from}

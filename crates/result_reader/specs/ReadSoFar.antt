@@ -8,9 +8,9 @@ use Rattle.water_model.specs.CutSets.{with_set}
 use Rattle.water_model.specs.History.{cut_of}
 use Rattle.water_model.specs.Hydrology.{inflow_at, stored_at}
 use Rattle.water_model.specs.Indices.{indices_of}
-use Rattle.water_model.specs.Quantities.{amounts_of, with_amounts}
-use Rattle.water_model.specs.declared.item.Item.{Item}
-use Rattle.water_model.specs.declared.item.Item.TheVariants as line
+use Rattle.result_lines.specs.Quantities.{amounts_of, with_amounts}
+use Rattle.result_lines.specs.declared.item.Item.{Item}
+use Rattle.result_lines.specs.declared.item.Item.TheVariants as line
 use Rattle.water_model.specs.declared.types.Basin.{Basin}
 use Rattle.water_model.specs.declared.types.Inflows.{Inflows}
 use Rattle.water_model.specs.declared.types.MonthRecord.{MonthRecord}

@@ -3,8 +3,8 @@ use Rattle.std.specs.Prelude.{◌≡◌, ℕ, ◌<◌, ◌≤◌, ◌^◌, Bool,
 use Rattle.std.specs.Prelude.{Some, None, IsTrue}
 use Rattle.std.specs.List.{list_any}
 use Rattle.water_model.specs.History.{IsNextMonth, IsShort, cut_of}
-use Rattle.water_model.specs.Quantities.{amounts_of}
-use Rattle.water_model.specs.declared.quantity.Quantity.{Quantity}
+use Rattle.result_lines.specs.Quantities.{amounts_of}
+use Rattle.result_lines.specs.declared.quantity.Quantity.{Quantity}
 use Rattle.water_model.specs.declared.types.Basin.{Basin}
 use Rattle.water_model.specs.declared.types.Inflows.{Inflows}
 use Rattle.water_model.specs.declared.types.MonthRecord.{MonthRecord}

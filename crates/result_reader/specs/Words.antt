@@ -1,8 +1,8 @@
 -- The words that lines begin with.
 use Rattle.std.specs.Prelude.{ℕ, List, [], ◌∷◌, Option, codes, find}
 use Rattle.std.specs.Str.{bytes_eq}
-use Rattle.water_model.specs.Quantities.{amount_word}
-use Rattle.water_model.specs.declared.quantity.Quantity.TheVariants as quantity
+use Rattle.result_lines.specs.Quantities.{amount_word}
+use Rattle.result_lines.specs.declared.quantity.Quantity.TheVariants as quantity
 use Rattle.result_reader.specs.declared.words.Word.{Word}
 use Rattle.result_reader.specs.declared.words.Word.TheVariants as word
 

@@ -4,18 +4,18 @@ ghost use Rattle.std.specs.List.{flat_map};
 ghost use Rattle.std.specs.Option.{option_to_list};
 ghost use Rattle.rights_roll.specs.Rolls.{IsRollOf};
 ghost use Rattle.water_model.specs.Entries.{count_in};
-ghost use Rattle.water_model.specs.Quantities.{AreReturnedTo};
-ghost use Rattle.water_model.specs.Text.{section_space};
+ghost use Rattle.result_lines.specs.Quantities.{AreReturnedTo};
+ghost use Rattle.result_lines.specs.Text.{section_space};
 ghost use Rattle.water_model.specs.Valid.{IsValidBasin};
-ghost use Rattle.water_model.specs.declared.item.TheConstants.{SECTIONS};
+ghost use Rattle.result_lines.specs.declared.item.TheConstants.{SECTIONS};
 ghost use Rattle.result_reader.specs.Form.{due_in_month, shapes_at, shapes_in};
 
 use crate::shape::Shape;
+use result_lines::item::{SECTIONS, Section};
+use result_lines::quantity::returned_to;
 use rights_roll::roll::Roll;
 use std::alloc::{AllocError, Global};
 use water_model::calls::taking_node;
-use water_model::item::{SECTIONS, Section};
-use water_model::quantity::returned_to;
 use water_model::space::{count_in, entry_at};
 use water_model::types::Basin;
 

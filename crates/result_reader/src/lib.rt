@@ -21,4 +21,4 @@ mod words;
 
 pub use bad_line::BadLine;
 pub use reader::ResultReader;
-pub use water_model::item::Item;
+pub use result_lines::item::Item;

@@ -4,7 +4,7 @@
 use crate::position::Position;
 use crate::progress::Progress;
 use crate::shape::Shape;
-use water_model::item::Item;
+use result_lines::item::Item;
 
 /// The entries that a line most likely names. They may be any numbers.
 #[derive(Clone, Copy)]

@@ -1,14 +1,14 @@
 //! The position of a line among those that are due.
 ghost use Rattle.std.specs.Prelude.{◌≡◌, ◌<◌, ◌≤◌, length};
-ghost use Rattle.water_model.specs.OfBasin.{IsOfBasin};
+ghost use Rattle.result_lines.specs.OfBasin.{IsOfBasin};
 ghost use Rattle.water_model.specs.Valid.{IsValidBasin};
 ghost use Rattle.result_reader.specs.Form as form;
 ghost use Rattle.result_reader.specs.Progress.{IsDueSearch, months_due, due_at, IsNextPosition, IsPositionOf};
 
 use crate::shape::{Shape, is_optional, is_same_shape, shape_of};
+use result_lines::item::Item;
 use rights_roll::priority::is_senior_to;
 use water_model::calls::month_at;
-use water_model::item::Item;
 use water_model::types::Basin;
 
 /// Where a line was found among those that are due: at an index, or not, because a line that has to come stands before

@@ -1,15 +1,15 @@
 //! How far a reader has come.
 ghost use Rattle.std.specs.Prelude.{◌≡◌, ◌<◌, length, false};
-ghost use Rattle.water_model.specs.OfBasin.{IsOfBasin};
+ghost use Rattle.result_lines.specs.OfBasin.{IsOfBasin};
 ghost use Rattle.water_model.specs.Valid.{IsValidBasin};
-ghost use Rattle.water_model.specs.declared.item.Item.TheVariants as line;
+ghost use Rattle.result_lines.specs.declared.item.Item.TheVariants as line;
 ghost use Rattle.result_reader.specs.Due as due;
 ghost use Rattle.result_reader.specs.Form as form;
 ghost use Rattle.result_reader.specs.Progress.{IsProgress, IsNextProgress};
 
 use crate::position::{Position, next_position};
 use crate::shape::{Shape, is_call};
-use water_model::item::Item;
+use result_lines::item::Item;
 use water_model::types::Basin;
 
 /// The position among the lines that are due, and after a `call` the first node whose `in` line may come, and whether

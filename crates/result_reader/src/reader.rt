@@ -1,9 +1,9 @@
 //! The reader of a result text.
 ghost use Rattle.std.specs.Prelude.{◌≡◌, ◌+◌, ◌*◌, ◌^◌, ◌≤◌, ◌++◌, ◌∷◌, [], List, IfOk, OnOk, OnErr};
 ghost use Rattle.rights_roll.specs.Rolls.{IsRollOf};
-ghost use Rattle.water_model.specs.Spelling.{line_of};
+ghost use Rattle.result_lines.specs.Spelling.{line_of};
 ghost use Rattle.water_model.specs.Valid.{IsValidBasin};
-ghost use Rattle.water_model.specs.declared.item.Item.{Item};
+ghost use Rattle.result_lines.specs.declared.item.Item.{Item};
 ghost use Rattle.result_reader.specs.Form.{due, due_in_month};
 ghost use Rattle.result_reader.specs.OfText.{IsOfText};
 ghost use Rattle.result_reader.specs.Reading.{read_line};
@@ -17,10 +17,10 @@ use crate::position::Position;
 use crate::progress::{Progress, next_progress};
 use crate::reading::item_of;
 use crate::shape::Shape;
+use result_lines::item::Item;
 use rights_roll::roll::Roll;
 use std::alloc::{AllocError, Global};
 use std::marker::Model;
-use water_model::item::Item;
 use water_model::types::Basin;
 
 /// Reads the lines of a result text of one basin in order, and accepts those that may come.

@@ -13,8 +13,8 @@ use crate::fields::{
 use crate::likely::Likely;
 use crate::names::Names;
 use crate::words::Word;
-use water_model::item::Item;
-use water_model::quantity::Quantity;
+use result_lines::item::Item;
+use result_lines::quantity::Quantity;
 use water_model::space::Space;
 use water_text::fields::cut;
 

@@ -3,8 +3,8 @@ ghost use Rattle.std.specs.Prelude.{◌≡◌, IsTrue, ◌↔◌};
 ghost use Rattle.result_reader.specs.Form as form;
 ghost use Rattle.result_reader.specs.Due as due;
 
-use water_model::item::Item;
-use water_model::quantity::Quantity;
+use result_lines::item::Item;
+use result_lines::quantity::Quantity;
 use water_text::month::Month;
 
 /// A line that is due: its word, with its month, its number of months or its first name.

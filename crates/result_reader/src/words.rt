@@ -2,7 +2,7 @@
 ghost use Rattle.std.specs.Prelude.{◌≡◌};
 ghost use Rattle.result_reader.specs.Words.{spelling_of, word_of};
 
-use water_model::quantity::Quantity;
+use result_lines::quantity::Quantity;
 
 /// The first word of a line.
 #[derive(Clone, Copy)]

@@ -3,8 +3,8 @@ use Rattle.std.proofs.Common.{◌≡◌, [], ◌∷◌, ◌++◌, refl}
 use Rattle.std.specs.Prelude.{codes}
 use Rattle.std.specs.Fmt.{digits}
 use Rattle.std.specs.List.{flat_map}
-use Rattle.water_model.specs.Spelling.{whole_line, line_of, fields_of}
-use Rattle.water_model.specs.Text.{items_of_tail}
+use Rattle.result_lines.specs.Spelling.{whole_line, line_of, fields_of}
+use Rattle.result_lines.specs.Text.{items_of_tail}
 use Rattle.water_model.specs.declared.types.Basin.{Basin}
 use Rattle.result_text.specs.Begun.{begun_bytes}
 

@@ -9,10 +9,10 @@ use Rattle.bit_words.specs.Marks.{is_marked, in_both, marks, IsNextInBoth}
 use Rattle.bit_words.proofs.Marks.{get_or-marks, length-marks}
 use Rattle.water_model.specs.Lookups.{has}
 use Rattle.water_model.specs.Indices.{numbers_from, members_from}
-use Rattle.water_model.specs.Spelling.{whole_line}
-use Rattle.water_model.specs.Text.{call_items}
-use Rattle.water_model.specs.declared.item.Item.{Item}
-use Rattle.water_model.specs.declared.item.Item.TheVariants as line
+use Rattle.result_lines.specs.Spelling.{whole_line}
+use Rattle.result_lines.specs.Text.{call_items}
+use Rattle.result_lines.specs.declared.item.Item.{Item}
+use Rattle.result_lines.specs.declared.item.Item.TheVariants as line
 use Rattle.water_model.specs.declared.types.Basin.{Basin}
 use Rattle.water_model.proofs.Order.{length-numbers_from, numbers_from-get}
 use Rattle.result_text.specs.Members.{member_at, members_of}

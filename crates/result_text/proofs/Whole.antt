@@ -9,8 +9,8 @@ use Rattle.std.proofs.lemmas.Grind.{flat_map-append}
 use Rattle.water_edge.specs.Edge.{Extends, Output, Puts}
 use Rattle.water_text.specs.Months.{IsMonth}
 use Rattle.water_model.specs.History.{Follows, IsShort, cut_of}
-use Rattle.water_model.specs.Spelling.{whole_line}
-use Rattle.water_model.specs.Text.{items_of_head, items_of_month, items_of_tail, text_bytes}
+use Rattle.result_lines.specs.Spelling.{whole_line}
+use Rattle.result_lines.specs.Text.{items_of_head, items_of_month, items_of_tail, text_bytes}
 use Rattle.water_model.specs.Valid.{IsValidBasin}
 use Rattle.water_model.specs.declared.types.Basin.{Basin}
 use Rattle.water_model.specs.declared.types.Inflows.{Inflows}

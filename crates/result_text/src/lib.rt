@@ -9,5 +9,5 @@ mod section;
 pub mod spelling;
 mod writer;
 
-pub use water_model::item::Item;
+pub use result_lines::item::Item;
 pub use writer::{put_head, put_month, put_tail};

@@ -1,17 +1,18 @@
 //! The lines of a section, entry by entry.
 ghost use Rattle.std.specs.Prelude.{◌≡◌, ◌≢◌, ◌<◌, slice_index, IfSome};
 ghost use Rattle.std.specs.Option.{option_to_list};
-ghost use Rattle.calls.specs.Callers.{AreCallers};
+ghost use Rattle.cut_cert.specs.Callers.{AreCallers};
 ghost use Rattle.water_model.specs.Entries.{count_in};
-ghost use Rattle.water_model.specs.OfBasin.{IsOfBasin};
-ghost use Rattle.water_model.specs.Quantities.{AreReturnedTo, amounts_of, space_of};
-ghost use Rattle.water_model.specs.Text.{calling_right, lines_at, section_space};
+ghost use Rattle.result_lines.specs.OfBasin.{IsOfBasin};
+ghost use Rattle.result_lines.specs.Quantities.{AreReturnedTo, amounts_of, space_of};
+ghost use Rattle.result_lines.specs.Text.{lines_at, section_space};
+ghost use Rattle.water_model.specs.History.{calling_right};
 ghost use Rattle.water_model.specs.Valid.{IsValidBasin};
 ghost use Rattle.result_text.specs.Range.{FitsText};
 
-use calls::calling_right;
-use water_model::item::{Item, Section};
-use water_model::quantity::Quantity;
+use cut_cert::calls::calling_right;
+use result_lines::item::{Item, Section};
+use result_lines::quantity::Quantity;
 use water_model::types::{Basin, MonthRecord};
 
 /// The amount of an entry in the record.

@@ -1,10 +1,10 @@
 //! How a line is spelled.
 ghost use Rattle.std.specs.Prelude.{◌≡◌};
-ghost use Rattle.water_model.specs.OfBasin.{IsOfBasin};
-ghost use Rattle.water_model.specs.Spelling.{whole_line};
+ghost use Rattle.result_lines.specs.OfBasin.{IsOfBasin};
+ghost use Rattle.result_lines.specs.Spelling.{whole_line};
 ghost use Rattle.water_model.specs.Valid.{IsValidBasin};
 
-use water_model::item::Item;
+use result_lines::item::Item;
 use water_model::space::{Space, name_in};
 use water_model::types::Basin;
 use water_text::line::Line;

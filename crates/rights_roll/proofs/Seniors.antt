@@ -7,9 +7,8 @@ use Rattle.std.specs.Prelude.{◌==◌, nat_lt, ◌≢◌, if◌then◌else◌}
 use Rattle.water_model.specs.Rights.{is_senior_in, priority_in, AreStrict}
 use Rattle.water_model.specs.Indices.{by_seniority}
 use Rattle.water_model.specs.declared.types.Right.{Right}
-use Rattle.water_model.proofs.Duality.{not_lower}
+use Rattle.water_model.proofs.Seniority.{not_lower, senior_trans}
 use Rattle.water_model.proofs.Order.{Has, IsOrdered, length-by_seniority, seniors_have, seniors_below, seniors_ordered}
-use Rattle.water_model.proofs.Seniority.{senior_trans}
 use Rattle.rights_roll.specs.SeniorityOrder.{IsSeniorityOrder}
 
 -- no right is senior to itself, nor are two to each other

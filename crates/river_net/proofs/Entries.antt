@@ -6,7 +6,7 @@ use Rattle.water_model.specs.Lookups.{of_entry}
 use Rattle.water_model.specs.Network.{HasNodes, tail_in, head_in}
 use Rattle.water_model.specs.declared.types.Link.{Link}
 use Rattle.water_model.specs.declared.types.Node.{Node}
-use Rattle.water_model.proofs.Balance.{entry_holds}
+use Rattle.water_model.proofs.Valid.{entry_holds}
 
 -- what is said of an entry, where it was read
 pub entry_is : {X Y : Type 0} (xs : List X) (k : ℕ) (x : X) (f : X → Y) (default : Y) → k < length xs →

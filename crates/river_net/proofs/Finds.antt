@@ -1,6 +1,5 @@
 -- Tests that agree.
-use Rattle.std.proofs.Common.{◌≡◌, ℕ, zero, suc, ◌+◌, ◌<◌, ◌≤◌, Bool, refl, ◌∙◌, ap, arith}
-use Rattle.std.proofs.Common.{cond}
+use Rattle.std.proofs.Common.{◌≡◌, ℕ, zero, suc, ◌+◌, ◌<◌, ◌≤◌, Bool, refl, ◌∙◌, ap, arith, cond}
 use Rattle.std.specs.Prelude.{Some}
 use Rattle.std.specs.List.{find, range_with_len}
 

@@ -1,6 +1,5 @@
 -- A network is sound exactly where it has no fault.
-use Rattle.std.proofs.Common.{◌≡◌, ℕ, Bool, true, false, refl, sym, ◌∙◌, ap, subst, arith, List}
-use Rattle.std.proofs.Common.{length, inl, inr, cond}
+use Rattle.std.proofs.Common.{◌≡◌, ℕ, Bool, true, false, refl, sym, ◌∙◌, ap, subst, arith, List, length, inl, inr, cond}
 use Rattle.std.proofs.lemmas.Bool.{cases_Bool, and_parts, and_from, and_left, and_right, false_from_ne_true, false≢true}
 use Rattle.std.proofs.lemmas.Bool.{eqb-true, eq-eqb, ltb-true, ltb-false, not_from_true, not_from_false}
 use Rattle.std.proofs.lemmas.List.Sums.{fails_before_first, passes_at_first}
@@ -9,7 +8,7 @@ use Rattle.std.specs.Prelude.{◌==◌, ◌&&◌, not, nat_lt, Option, Some, Non
 use Rattle.std.specs.Prelude.{position}
 use Rattle.std.specs.List.{list_any, position_or_len}
 use Rattle.std.specs.Option.{option_or}
-use Rattle.water_model.proofs.Balance.{entry_at}
+use Rattle.water_model.proofs.Valid.{entry_at}
 use Rattle.water_model.specs.Network.{walks, tail_in, head_in, is_river_in, is_river_kind, is_outlet_in, is_on_cycle}
 use Rattle.water_model.specs.Network.{HasNodes, HasRiverOut, IsSoundNetwork}
 use Rattle.water_model.specs.declared.types.Link.{Link}

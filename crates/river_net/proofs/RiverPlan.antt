@@ -18,7 +18,7 @@ use Rattle.water_text.specs.declared.month.Month.{Month}
 use Rattle.water_model.specs.declared.types.Basin.{Basin}
 use Rattle.water_model.specs.declared.types.Carry.{Carry}
 use Rattle.water_model.specs.declared.types.Carry.TheVariants.{River, Canal}
-use Rattle.water_model.proofs.Balance.{ends}
+use Rattle.water_model.proofs.Valid.{ends}
 use Rattle.water_model.proofs.Sets.{grouped, total_where_add}
 use Rattle.river_net.specs.Firsts.{IsWithin}
 use Rattle.river_net.specs.Laws.{RunOfRiverIsPlan}

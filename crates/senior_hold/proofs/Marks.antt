@@ -6,8 +6,7 @@ use Rattle.std.proofs.lemmas.Bool.Decides.{nat_tests}
 use Rattle.std.proofs.lemmas.List.{ext_get_or, get_or-replicate, get_or-set_same, get_or-set_other, length-set}
 use Rattle.std.proofs.lemmas.List.{length-replicate}
 use Rattle.std.proofs.lemmas.List.FromFn.{get_or-map-range_with_len, length-map-range_with_len}
-use Rattle.std.specs.Prelude.{◌==◌, ◌&&◌, nat_lt, slice_set, slice_index, Option, Some}
-use Rattle.std.specs.Prelude.{IfSome, IsSome, IsTrue, ◌↔◌}
+use Rattle.std.specs.Prelude.{◌==◌, ◌&&◌, nat_lt, slice_set, slice_index, Option, Some, IfSome, IsSome, IsTrue, ◌↔◌}
 use Rattle.bit_words.specs.Marks.{is_marked, marks}
 use Rattle.water_model.specs.CutSets.{CutSets, set_of, with_set}
 use Rattle.senior_hold.specs.MonthNetwork.{list_of}

@@ -12,7 +12,7 @@ use Rattle.water_model.specs.Valid.{IsValidBasin, IsValidReservoir, HasValidSite
 use Rattle.water_model.specs.declared.types.Basin.{Basin}
 use Rattle.water_model.specs.declared.types.RightKind.{RightKind}
 use Rattle.water_model.specs.declared.types.RightKind.TheVariants.{Diversion, Instream, Zone}
-use Rattle.water_model.proofs.Balance.{kind_is, KindIs, entry_holds}
+use Rattle.water_model.proofs.Valid.{kind_is, KindIs, entry_holds}
 use Rattle.circulation.specs.Network.{Network, inflow, outflow}
 use Rattle.senior_hold.specs.MonthNetwork.{takes, taker_count, outlet_count, arc_count, take_arc, out_arc, HasBasinEnds}
 

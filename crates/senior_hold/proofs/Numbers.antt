@@ -10,12 +10,10 @@ use Rattle.water_model.specs.Basin.{is_outlet}
 use Rattle.water_model.specs.Valid.{IsValidBasin}
 use Rattle.water_model.specs.declared.types.Basin.{Basin}
 use Rattle.water_model.specs.declared.types.Plan.{Plan}
-use Rattle.senior_hold.specs.MonthNetwork.{takes, take_arc, out_arc, right_arc, arc_by_link, taker_count}
-use Rattle.senior_hold.specs.MonthNetwork.{list_of}
+use Rattle.senior_hold.specs.MonthNetwork.{takes, take_arc, out_arc, right_arc, arc_by_link, taker_count, list_of}
 use Rattle.senior_hold.specs.Arcs.{AreArcs, AreAmountsOf}
 use Rattle.senior_hold.specs.declared.arcs.Arcs.{Arcs}
-use Rattle.senior_hold.proofs.MonthArcs.{IsKind, on_link, at_node, right_kind, take_arc_below}
-use Rattle.senior_hold.proofs.MonthArcs.{take_arc_apart}
+use Rattle.senior_hold.proofs.MonthArcs.{IsKind, on_link, at_node, right_kind, take_arc_below, take_arc_apart}
 use Rattle.senior_hold.proofs.Plans.{list_get, list_len}
 
 -- the arc of a right that takes

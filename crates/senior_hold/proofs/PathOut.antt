@@ -13,7 +13,7 @@ use Rattle.water_model.specs.declared.types.Basin.{Basin}
 use Rattle.water_model.specs.declared.types.Carry.{Carry}
 use Rattle.water_model.specs.declared.types.Carry.TheVariants.{River, Canal}
 use Rattle.water_model.specs.declared.types.Link.{Link}
-use Rattle.water_model.proofs.Balance.{ends, entry_holds}
+use Rattle.water_model.proofs.Valid.{ends, entry_holds}
 use Rattle.river_net.proofs.Ranks.{forward_numbers}
 use Rattle.circulation.specs.Network.{Network, IsFlow, LeadsOut}
 use Rattle.circulation.specs.Network as arc

@@ -9,7 +9,7 @@ use Rattle.word_region.proofs.Words.{length-with_words, length-zeroed}
 use Rattle.finite_sums.proofs.Totals.{count_at_most}
 use Rattle.water_model.specs.declared.types.Basin.{Basin}
 use Rattle.water_model.specs.Valid.{IsValidBasin}
-use Rattle.water_model.proofs.Balance.{ends}
+use Rattle.water_model.proofs.Valid.{ends}
 use Rattle.circulation.specs.declared.Circulation.{Circulation}
 use Rattle.circulation.specs.declared.Ends.{Ends}
 use Rattle.circulation.specs.Rows.{Rows}

@@ -8,12 +8,12 @@ use Rattle.finite_sums.specs.Sums.{total, count_where, when}
 use Rattle.finite_sums.proofs.Totals.{total_append, total_le, total_most}
 use Rattle.water_model.specs.Basin.{is_outlet}
 use Rattle.water_model.specs.CutSets.{CutSets}
-use Rattle.water_model.specs.Laws.{AreDeliveries}
+use Rattle.duality.specs.Laws.{AreDeliveries}
 use Rattle.water_model.specs.Plans.{IsPlan, delivery}
 use Rattle.water_model.specs.RunOfRiver.{IsRunOfRiver}
 use Rattle.water_model.specs.declared.types.Basin.{Basin}
 use Rattle.water_model.specs.declared.types.Plan.{Plan}
-use Rattle.water_model.proofs.Greatest.{cuts_make_plan_greatest}
+use Rattle.duality.proofs.Greatest.{cuts_make_plan_greatest}
 use Rattle.water_text.specs.declared.month.Month.{Month}
 use Rattle.circulation.specs.Contents.{Contents, network, flow_of, month_contents}
 use Rattle.circulation.specs.Network.{IsFlow}

@@ -12,18 +12,18 @@ use Rattle.water_model.specs.Lookups.{has}
 use Rattle.water_model.specs.Basin.{tail_of, head_of, instream_link, taking_node}
 use Rattle.water_model.specs.Cuts.{enters, leaves, cut_capacity, IsTight}
 use Rattle.water_model.specs.CutSets.{CutSets}
-use Rattle.water_model.specs.Laws.{AreDeliveries}
+use Rattle.duality.specs.Laws.{AreDeliveries}
 use Rattle.water_model.specs.Plans.{IsPlan, delivery, delivery_by_link, carry_of, taken_at}
 use Rattle.water_model.specs.RunOfRiver.{IsRunOfRiver, RunsNaturally}
 use Rattle.water_model.specs.Valid.{IsValidBasin}
 use Rattle.water_text.specs.declared.month.Month.{Month}
 use Rattle.water_model.specs.declared.types.Basin.{Basin}
 use Rattle.water_model.specs.declared.types.Plan.{Plan}
-use Rattle.water_model.proofs.Balance.{ends, total_where_all, total_where_none_pass, has_all}
-use Rattle.water_model.proofs.CutBalance.{cut_balance}
-use Rattle.water_model.proofs.Duality.{cut_slack}
-use Rattle.water_model.proofs.Greatest.{cuts_make_plan_greatest}
-use Rattle.water_model.proofs.Sets.{total_where_same, total_where_add}
+use Rattle.water_model.proofs.Valid.{ends}
+use Rattle.water_model.proofs.Sets.{total_where_all, total_where_none_pass, has_all, total_where_same, total_where_add}
+use Rattle.duality.proofs.CutBalance.{cut_balance}
+use Rattle.duality.proofs.Duality.{cut_slack}
+use Rattle.duality.proofs.Greatest.{cuts_make_plan_greatest}
 use Rattle.river_net.specs.Net.{total_of}
 use Rattle.river_net.proofs.RiverPlan.{river_balance, river_is_plan}
 use Rattle.circulation.specs.Contents.{Contents, network, flow_of}

@@ -10,19 +10,16 @@ use Rattle.water_model.specs.Basin.{is_outlet, tail_of, head_of, takes_at}
 use Rattle.water_model.specs.declared.types.Basin.{Basin}
 use Rattle.circulation.specs.Contents.{Contents, network, month_contents}
 use Rattle.senior_hold.specs.MonthNetwork.{out_arc, spill_arc, HasBasinEnds}
-use Rattle.senior_hold.specs.Arcs.{AreEndsOf}
-use Rattle.senior_hold.specs.Spilled.{spilled, HasSpills}
+use Rattle.senior_hold.specs.Arcs.{AreEndsOf, AreBounds, AreAmounts}
+use Rattle.senior_hold.specs.Spilled.{spilled, HasSpills, IsSpilledStart}
 use Rattle.senior_hold.proofs.Laid.{end_at}
 use Rattle.water_model.specs.declared.types.Plan.{Plan}
 use Rattle.water_model.specs.Plans.{IsPlan}
 use Rattle.water_text.specs.declared.month.Month.{Month}
 use Rattle.senior_hold.proofs.Rivers.{made}
 use Rattle.senior_hold.proofs.Begins.{begun_net, begun_flow, plan_same}
-use Rattle.senior_hold.specs.Solved.{AreWants, FitsPlan}
-use Rattle.senior_hold.specs.Arcs.{AreBounds, AreAmounts}
-use Rattle.senior_hold.specs.Spilled.{IsSpilledStart}
+use Rattle.senior_hold.specs.Solved.{AreWants, FitsPlan, IsGiven, FitsCuts}
 use Rattle.water_model.specs.CutSets.{CutSets, set_of, without_sets}
-use Rattle.senior_hold.specs.Solved.{IsGiven, FitsCuts}
 use Rattle.senior_hold.proofs.Solves.{IsStanding, standing_first}
 use Rattle.senior_hold.proofs.Turns.{IsTurn}
 use Rattle.circulation.specs.declared.Ends.{Ends}

@@ -11,8 +11,8 @@ use Rattle.water_model.specs.Cuts.{IsReach}
 use Rattle.water_model.specs.CutSets.{CutSets, set_of}
 use Rattle.water_text.specs.declared.month.Month.{Month}
 use Rattle.water_model.specs.declared.types.Basin.{Basin}
-use Rattle.water_model.proofs.Duality.{cut_slack}
-use Rattle.water_model.proofs.Stays.{tight_stays, greatest_same_terms}
+use Rattle.duality.proofs.Duality.{cut_slack}
+use Rattle.duality.proofs.Stays.{tight_stays, greatest_same_terms}
 use Rattle.circulation.specs.Network.{Network, IsFlow}
 use Rattle.senior_hold.specs.MonthNetwork.{takes, take_arc, out_arc, right_arc, arc_by_link, arc_count, IsMonthNetwork}
 use Rattle.senior_hold.specs.MonthNetwork.{plan_of}

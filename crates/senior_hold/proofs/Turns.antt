@@ -1,7 +1,7 @@
 -- What a turn of the sweep needs.
 use Rattle.std.proofs.Common.{◌≡◌, ℕ, ◌+◌, ◌<◌, ◌≤◌, sym, ◌∙◌, ap, subst, arith, List, length, get_or}
 use Rattle.std.specs.Prelude.{◌*◌, ◌^◌, slice_index, None}
-use Rattle.finite_sums.specs.Sums.{total}
+use Rattle.finite_sums.specs.Sums.{total, when}
 use Rattle.water_model.specs.CutSets.{CutSets, set_of}
 use Rattle.water_model.specs.Valid.{IsValidBasin}
 use Rattle.water_text.specs.declared.month.Month.{Month}
@@ -15,7 +15,6 @@ use Rattle.senior_hold.proofs.Plans.{right_arc_in, want_fits}
 use Rattle.senior_hold.proofs.PathOut.{path_out}
 use Rattle.senior_hold.proofs.Solves.{IsStanding}
 use Rattle.rights_roll.specs.SeniorityOrder.{IsSeniorityOrder}
-use Rattle.finite_sums.specs.Sums.{when}
 use Rattle.senior_hold.specs.Arcs.{AreArcs}
 use Rattle.senior_hold.specs.Spilled.{spilled}
 use Rattle.senior_hold.specs.Layouts.{OutletsAlone}

@@ -5,7 +5,7 @@ use Rattle.water_model.specs.Plans.{IsPlan}
 use Rattle.water_model.specs.Cuts.{IsTight, IsReach}
 use Rattle.water_model.specs.CutSets.{CutSets, set_of}
 use Rattle.water_model.specs.Hydrology.{run_month, want_of}
-use Rattle.water_model.specs.Laws.{AreDeliveries}
+use Rattle.duality.specs.Laws.{AreDeliveries}
 use Rattle.water_model.specs.Valid.{IsValidBasin, IsSeriesOf}
 use Rattle.water_model.specs.declared.types.Basin.{Basin}
 use Rattle.water_model.specs.declared.types.Inflows.{Inflows}

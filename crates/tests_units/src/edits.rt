@@ -3,7 +3,7 @@ ghost use Rattle.std.specs.Prelude.{◌≡◌, ◌<◌};
 
 use crate::basins::basin_of;
 use edit_script::{ScriptFault, ScriptRefused, read_script};
-use edit_shows::put_shows;
+use edit_session::put_shows;
 use inflow_file::read_inflows;
 use month_fold::work::Work;
 use std::alloc::Global;

@@ -3,11 +3,11 @@ ghost use Rattle.rights_roll.specs.Rolls.{IsRollOf};
 ghost use Rattle.water_model.specs.Valid.{IsValidBasin};
 
 use crate::basins::basin_of;
+use result_lines::quantity::Quantity;
 use result_reader::{BadLine, Item, ResultReader};
 use rights_roll::roll::Roll;
 use std::alloc::{AllocError, Global};
 use std::process::Abort;
-use water_model::quantity::Quantity;
 use water_model::types::Basin;
 use water_text::month::Month;
 

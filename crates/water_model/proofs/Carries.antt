@@ -10,7 +10,7 @@ use Rattle.water_model.specs.Valid.{IsValidBasin, IsValidLink, IsValidCarry}
 use Rattle.water_model.specs.declared.types.Basin.{Basin}
 use Rattle.water_model.specs.declared.types.Carry.{Carry}
 use Rattle.water_model.specs.declared.types.Carry.TheVariants.{River, Canal}
-use Rattle.water_model.proofs.Balance.{entry_holds}
+use Rattle.water_model.proofs.Valid.{entry_holds}
 
 -- no month has more than 31 days
 pub days_most : (m : Month) → IsMonth m → days_of m ≤ 31

@@ -1,15 +1,9 @@
 pub mod Sets
-pub mod CutBalance
-pub mod Duality
 pub mod Seniority
 pub mod Order
 pub mod Entries
-pub mod Quantities
-pub mod Greatest
-pub mod Sheltered
 pub mod CutLemmas
 pub mod CutSteps
-pub mod Balance
 pub mod Gauges
 pub mod RunMonths
 pub mod Wants
@@ -18,11 +12,5 @@ pub mod SetEntries
 pub mod Histories
 pub mod Lists
 pub mod Finds
-pub mod Outcome
-pub mod Returns
 pub mod Worked
-mod Examples
-pub mod RiverRows
-pub mod Stays
-pub mod Parts
-pub mod Alike
+pub mod Valid

@@ -6,10 +6,20 @@ use Rattle.std.proofs.lemmas.Bool.Decides.{nat_tests}
 use Rattle.std.specs.Prelude.{◌==◌, ◌&&◌, ◌||◌, nat_lt, ◌⊎◌, ◌≢◌}
 use Rattle.water_model.specs.Lookups.{of_entry}
 use Rattle.water_model.specs.Rights.{is_lower, priority, priority_in, is_senior_in, AreStrict}
-use Rattle.water_model.specs.Basin.{is_senior}
+use Rattle.water_model.specs.Basin.{is_senior, priority_of}
 use Rattle.water_model.specs.declared.types.Basin.{Basin}
 use Rattle.water_model.specs.declared.types.Right.{Right}
-use Rattle.water_model.proofs.Duality.{not_senior_to_itself}
+
+-- no right is senior to itself
+pub not_lower : (xs : List ℕ) → is_lower xs xs ≡ false
+not_lower [] = refl
+not_lower (x ∷ xs) = step x (is_lower xs xs) (not_lower xs)
+  where
+    step : (x : ℕ) (t : Bool) → t ≡ false → nat_lt x x || (x == x && t) ≡ false
+    step x t h = grind (arith, nat_tests)
+
+pub not_senior_to_itself : (b : Basin) (r : ℕ) → is_senior b r r ≡ false
+not_senior_to_itself b r = not_lower (priority_of b r)
 
 pub lower_trans : (xs ys zs : List ℕ) → is_lower xs ys ≡ true → is_lower ys zs ≡ true → is_lower xs zs ≡ true
 lower_trans [] ys zs h i = h

@@ -1,14 +1,16 @@
 -- Sums over the nodes of a set.
-use Rattle.std.proofs.Common.{◌≡◌, ℕ, zero, suc, ◌+◌, ◌<◌, Bool, true, false, refl, sym, ◌∙◌, ap, arith, List, [], ◌∷◌}
-use Rattle.std.proofs.Common.{length, ◌≤◌, inl, inr}
-use Rattle.std.specs.Prelude.{if◌then◌else◌, ◌==◌, nat_lt, Option, Some, None, ◌&&◌, not}
+use Rattle.std.proofs.Common.{◌≡◌, ℕ, zero, suc, ◌+◌, ◌<◌, Bool, true, false, refl, sym, ◌∙◌, ap, arith, List, []}
+use Rattle.std.proofs.Common.{◌∷◌, length, ◌≤◌, inl, inr, ◌-◌, replicate, sum}
+use Rattle.std.specs.Prelude.{if◌then◌else◌, ◌==◌, nat_lt, Option, Some, None, ◌&&◌, not, slice_index}
 use Rattle.std.proofs.lemmas.Bool.{and_from}
 use Rattle.std.proofs.lemmas.Bool.Decides.{nat_tests, eqb_tells}
 use Rattle.finite_sums.specs.Sums.{total, total_where}
 use Rattle.water_model.specs.Lookups.{has}
 use Rattle.water_model.specs.Basin.{is_at}
 use Rattle.water_model.specs.Cuts.{node_within}
-use Rattle.finite_sums.proofs.Totals.{total_same, total_exchange, total_at, total_zero, total_add, term_le_total_where}
+use Rattle.finite_sums.proofs.Totals.{total_same, total_exchange, total_at, total_zero, total_add}
+use Rattle.finite_sums.proofs.Totals.{term_le_total_where, total_start, total_first}
+use Rattle.std.proofs.lemmas.List.Sums.{sum_by-cons}
 
 -- an index that is in the set is below its length
 pub has_below : (set : List Bool) (k : ℕ) → has set k ≡ true → k < length set
@@ -170,3 +172,23 @@ unfolding total
 total_where_into zero m p q f g into one = omega arith
 total_where_into (suc n) m p q f g into one =
     into_more n m p q f g into one (λ r prefix each. total_where_into n m p r f g prefix each)
+
+-- the sum of a list is that over its indices
+pub sum_total : (xs : List ℕ) → sum xs ≡ total (length xs) (λ k. slice_index xs k)
+sum_total [] = sym (total_start (λ k. slice_index [] k))
+sum_total (x ∷ xs) =
+    omega (arith, sum_by-cons (λ x. x) x xs, sum_total xs, total_first (length xs) (λ k. slice_index (x ∷ xs) k))
+
+pub has_all : (n k : ℕ) → k < n → has (replicate n true) k ≡ true
+has_all zero k l = absurd (omega arith)
+has_all (suc n) zero l = refl
+has_all (suc n) (suc k) l = has_all n k (omega arith)
+
+-- a sum over indices that all pass
+pub total_where_all : (n : ℕ) (p : ℕ → Bool) (f : ℕ → ℕ) → ((k : ℕ) → k < n → p k ≡ true) →
+    total_where n p f ≡ total n f
+total_where_all n p f h = total_same n (λ k. if p k then f k else 0) f (λ k l. ap (λ t. if t then f k else 0) (h k l))
+
+pub total_where_none_pass : (n : ℕ) (p : ℕ → Bool) (f : ℕ → ℕ) → ((k : ℕ) → k < n → p k ≡ false) → total_where n p f ≡ 0
+total_where_none_pass n p f h =
+    total_zero n (λ k. if p k then f k else 0) (λ k l. ap (λ t. if t then f k else 0) (h k l))

@@ -1,6 +1,5 @@
 -- How large the numbers of a list, and the wants of a month, can be.
-use Rattle.std.proofs.Common.{◌≡◌, ℕ, ◌+◌, ◌*◌, ◌^◌, ◌<◌, ◌≤◌, Bool, true, false, ap, arith, List, length, inl}
-use Rattle.std.proofs.Common.{inr}
+use Rattle.std.proofs.Common.{◌≡◌, ℕ, ◌+◌, ◌*◌, ◌^◌, ◌<◌, ◌≤◌, Bool, true, false, ap, arith, List, length, inl, inr}
 use Rattle.std.specs.Prelude.{slice_index, Option, Some, None, unwrap_or, option_map, min, if◌then◌else◌, All}
 use Rattle.std.proofs.lemmas.Bool.{cases_lt}
 use Rattle.std.proofs.lemmas.List.{get_or_past}
@@ -13,7 +12,7 @@ use Rattle.water_model.specs.Hydrology.{cap_by_link, number_of}
 use Rattle.water_model.specs.Valid.{IsValidBasin, IsValidRight, IsSeriesOf}
 use Rattle.water_model.specs.declared.types.Basin.{Basin}
 use Rattle.water_model.specs.declared.types.Inflows.{Inflows}
-use Rattle.water_model.proofs.Balance.{entry_holds}
+use Rattle.water_model.proofs.Valid.{entry_holds}
 
 -- the entries of a list of small amounts
 pub entry_most : (xs : List ℕ) (m k : ℕ) → All (λ x. x ≤ m) xs → slice_index xs k ≤ m

@@ -1,6 +1,6 @@
 -- Records of months, histories, reaches and calling rights.
 use Rattle.std.specs.Prelude.{◌≡◌, ℕ, ◌+◌, ◌-◌, ◌<◌, ◌≤◌, Bool, false, List, map, length, slice_index, slice_get}
-use Rattle.std.specs.Prelude.{Option, Some, None, IsTrue, IfSome, IfNone, ◌&&◌, nat_lt, take}
+use Rattle.std.specs.Prelude.{Option, Some, None, IsTrue, IfSome, IfNone, ◌&&◌, nat_lt, take, find}
 use Rattle.std.specs.Option.{option_map_or}
 use Rattle.finite_sums.specs.Sums.{total_where}
 use Rattle.water_model.specs.Lookups.{of_entry}
@@ -15,6 +15,7 @@ use Rattle.water_model.specs.declared.types.Inflows.{Inflows}
 use Rattle.water_model.specs.declared.types.MonthRecord.{MonthRecord}
 use Rattle.water_model.specs.declared.types.RightKind.{RightKind}
 use Rattle.water_model.specs.declared.types.RightKind.TheVariants.{Diversion, Instream, Zone}
+use Rattle.water_model.specs.Indices.{seniors_first}
 
 -- a right is short if it is delivered less than its want
 abbrev pub IsShort : MonthRecord → ℕ → Type 0
@@ -114,3 +115,7 @@ pub record IsCallingRight (b : Basin) (m : MonthRecord) (right : ℕ) (answer : 
   pub first : IfSome answer (λ caller. (other : ℕ) → other < length b.rights → IsTrue (calls b m right other) →
       IsTrue (is_senior b other caller) → ⊥)
   pub none : IfNone answer ((other : ℕ) → other < length b.rights → IsTrue (calls b m right other) → ⊥)
+
+-- the most senior right that calls, or none
+unfoldable pub calling_right : Basin → MonthRecord → ℕ → Option ℕ
+calling_right b m right = find (λ caller. calls b m right caller) (seniors_first b)

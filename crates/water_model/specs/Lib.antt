@@ -9,16 +9,8 @@ pub mod CutSets
 pub mod Blank
 pub mod CutInside
 pub mod Plans
-pub mod Parts
 pub mod Cuts
 pub mod Hydrology
 pub mod History
-pub mod Balance
-pub mod Laws
-pub mod Alike
 pub mod RunOfRiver
 pub mod Entries
-pub mod Quantities
-pub mod Spelling
-pub mod OfBasin
-pub mod Text

@@ -1,5 +1,5 @@
 use Rattle.std.proofs.Common.{◌++◌}
-use Rattle.edit_shows.specs.Shown.{AreShown, HaveShown, done_bytes, months_bytes, shows_in}
+use Rattle.edit_session.specs.Shown.{AreShown, HaveShown, done_bytes, months_bytes, shows_in}
 use Rattle.basin_cli.proofs.Flushed.{kept, shows_prefix}
 use Rattle.basin_cli.proofs.FlushedBefore.{flushed_or_failed}
 use Rattle.basin_cli.proofs.editing.answer_edits.Goals as goal

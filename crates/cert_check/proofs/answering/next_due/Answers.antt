@@ -1,5 +1,5 @@
 use Rattle.std.proofs.Common.{◌∙◌, arith}
-use Rattle.calls.proofs.Search.{order_in_range}
+use Rattle.cut_cert.proofs.Search.{order_in_range}
 use Rattle.cert_check.proofs.answering.next_due.Goals as goal
 
 pub calling_right-requires-clause-right : goal.calling_right-requires-clause-right

@@ -1,7 +1,7 @@
 use Rattle.std.proofs.Common.{◌≡◌, ◌<◌, ◌∙◌, refl, ap, arith, length, Some}
 use Rattle.std.specs.Prelude.{◌==◌, slice_index, unwrap_or, option_map}
 use Rattle.water_model.specs.Basin.{tail_of}
-use Rattle.water_model.proofs.Balance.{ends}
+use Rattle.water_model.proofs.Valid.{ends}
 use Rattle.month_terms.proofs.Adds.{nothing_yet, one_more, sum_within}
 use Rattle.cert_check.proofs.balancing.add_outflows.Goals as goal
 

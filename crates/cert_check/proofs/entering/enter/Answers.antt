@@ -6,8 +6,8 @@ use Rattle.month_terms.proofs.Amounts.{deliveries_small}
 use Rattle.month_terms.proofs.WaterYears.{used_most}
 use Rattle.water_model.specs.CutSets.{set_of}
 use Rattle.water_model.specs.Entries.{count_in}
-use Rattle.water_model.specs.OfBasin.{IsOfBasin}
-use Rattle.water_model.specs.Quantities.{space_of}
+use Rattle.result_lines.specs.OfBasin.{IsOfBasin}
+use Rattle.result_lines.specs.Quantities.{space_of}
 use Rattle.water_model.specs.declared.types.MonthRecord.{MonthRecord}
 use Rattle.result_reader.specs.ReadSoFar.{ReadSoFar, read_item}
 use Rattle.cert_check.specs.Checking.{first_row}

@@ -1,5 +1,5 @@
 use Rattle.std.proofs.Common.{arith}
-use Rattle.calls.proofs.Search.{order_in_range}
+use Rattle.cut_cert.proofs.Search.{order_in_range}
 use Rattle.cert_check.proofs.passing.pass_over.Goals as goal
 
 pub passes-requires-clause-right : goal.passes-requires-clause-right

@@ -3,7 +3,7 @@ use Rattle.std.specs.Prelude.{◌==◌, slice_index}
 use Rattle.std.proofs.lemmas.List.{length-map}
 use Rattle.water_model.specs.Hydrology.{returned_at, used_of}
 use Rattle.water_model.specs.Entries.{count_in}
-use Rattle.water_model.specs.Quantities.{space_of}
+use Rattle.result_lines.specs.Quantities.{space_of}
 use Rattle.cert_check.proofs.refusing.quantity_wrong.Goals as goal
 
 pub returns-in-Evaporated : goal.returns-in-Evaporated

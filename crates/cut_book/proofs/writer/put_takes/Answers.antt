@@ -1,5 +1,5 @@
 use Rattle.std.proofs.Common.{arith, sym, ap, get_or, length}
-use Rattle.calls.proofs.Search.{order_in_range}
+use Rattle.cut_cert.proofs.Search.{order_in_range}
 use Rattle.result_text.proofs.Entries.{right_at}
 use Rattle.water_edge.proofs.Puts.{SoFar-none, SoFar-next, SoFar-fails, SoFar-whole}
 use Rattle.water_model.specs.Indices.{seniors_first}

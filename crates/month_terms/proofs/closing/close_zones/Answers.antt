@@ -1,8 +1,7 @@
 use Rattle.std.proofs.Common.{◌<◌, ◌^◌, ◌∙◌, sym, ap, arith, length}
 use Rattle.std.specs.Prelude.{slice_index}
-use Rattle.finite_sums.proofs.Totals.{total_where_start}
+use Rattle.finite_sums.proofs.Totals.{total_where_start, total_where_most}
 use Rattle.water_model.specs.History.{is_zone_of}
-use Rattle.finite_sums.proofs.Totals.{total_where_most}
 use Rattle.month_terms.proofs.Adds.{zone_more, no_zone_more, zone_within}
 use Rattle.water_model.proofs.Lists.{no_numbers}
 use Rattle.month_terms.proofs.closing.close_zones.Goals as goal

@@ -3,7 +3,7 @@ use Rattle.std.specs.Prelude.{unwrap_or, option_map, Option}
 use Rattle.cut_cert.specs.Sets.{cut_at}
 use Rattle.water_model.specs.Lookups.{has}
 use Rattle.water_model.specs.declared.types.Link.{Link}
-use Rattle.water_model.proofs.Balance.{ends}
+use Rattle.water_model.proofs.Valid.{ends}
 use Rattle.next_unit.proofs.Decided.{outside_reach, within_reach}
 use Rattle.next_unit.proofs.helped.decided_by_right.Goals as goal
 

@@ -2,7 +2,7 @@ use Rattle.std.proofs.Common.{◌≡◌, ℕ, Bool, true, false, refl, ◌∙◌
 use Rattle.std.proofs.lemmas.Bool.{OnFalse_from, true_from_ne_false, both_ways}
 use Rattle.std.specs.Prelude.{Option, None, Some, is_some, not}
 use Rattle.water_model.specs.Basin.{head_of}
-use Rattle.water_model.proofs.Balance.{ends}
+use Rattle.water_model.proofs.Valid.{ends}
 use Rattle.plan_residual.specs.Next.{IsNextOrFree}
 use Rattle.plan_residual.specs.Residual.{can_rise}
 use Rattle.next_unit.specs.Helped.{IsHelped}

@@ -1,6 +1,6 @@
 use Rattle.std.proofs.Common.{arith}
 use Rattle.std.specs.Prelude.{is_some}
-use Rattle.water_model.specs.Text.{calling_right}
+use Rattle.water_model.specs.History.{calling_right}
 use Rattle.reports.proofs.Rights.{count_none, count_more, at_most_more}
 use Rattle.reports.proofs.called.called_in.Goals as goal
 

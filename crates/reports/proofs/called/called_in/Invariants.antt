@@ -1,7 +1,7 @@
 use Rattle.std.proofs.Common.{◌≡◌, ◌≤◌}
 use Rattle.std.specs.Prelude.{count_by, is_some}
 use Rattle.water_model.specs.Indices.{numbers_from}
-use Rattle.water_model.specs.Text.{calling_right}
+use Rattle.water_model.specs.History.{calling_right}
 use Rattle.reports.proofs.called.called_in.Given as goal
 
 abbrev pub invariant-loop-right : goal.invariant-loop-right

@@ -1,7 +1,7 @@
 use Rattle.std.proofs.Common.{List, ℕ, [], ◌∙◌, sym, subst, get_or, append-nil}
 use Rattle.std.proofs.lemmas.Option.{slice_get-get_or}
 use Rattle.water_edge.specs.Edge.{Extends, Puts}
-use Rattle.calls.proofs.Search.{order_in_range}
+use Rattle.cut_cert.proofs.Search.{order_in_range}
 use Rattle.water_edge.proofs.Puts.{PutsPrefix-cut, SoFar-next, SoFar-fails, SoFar-whole}
 use Rattle.reports.specs.Texts.{row_in}
 use Rattle.reports.proofs.Written.{rows_of}

@@ -1,10 +1,9 @@
 use Rattle.std.proofs.Common.{ℕ, ◌≡◌, arith, sym, subst, ◌∙◌}
 use Rattle.circulation.specs.Contents.{network}
-use Rattle.circulation.specs.Residual.{start_of}
+use Rattle.circulation.specs.Residual.{start_of, opposite}
 use Rattle.circulation.proofs.Scans.{scan_at}
 use Rattle.residual_tree.specs.Repair.{IsWayIn}
 use Rattle.residual_tree.specs.Adopting.{IsClear}
-use Rattle.circulation.specs.Residual.{opposite}
 use Rattle.residual_tree.proofs.Opposites.{opposite_is}
 use Rattle.residual_tree.proofs.Seeds.{way_in}
 use Rattle.residual_tree.proofs.adopting.find_near.Goals as goal

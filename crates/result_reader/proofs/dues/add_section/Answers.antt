@@ -1,7 +1,7 @@
 use Rattle.std.proofs.Common.{arith, ◌∙◌, sym, ap}
 use Rattle.std.specs.Prelude.{slice_get}
 use Rattle.water_model.specs.Entries.{count_in, in_order}
-use Rattle.water_model.specs.Text.{section_space}
+use Rattle.result_lines.specs.Text.{section_space}
 use Rattle.water_model.proofs.Entries.{length-in_order}
 use Rattle.result_reader.specs.Form.{shapes_at}
 use Rattle.result_reader.proofs.Growing.{added-next, added-whole}

@@ -1,7 +1,7 @@
 use Rattle.std.proofs.Common.{◌≡◌, ◌++◌, take}
 use Rattle.std.specs.List.{flat_map}
 use Rattle.water_model.specs.Entries.{in_order}
-use Rattle.water_model.specs.Text.{section_space}
+use Rattle.result_lines.specs.Text.{section_space}
 use Rattle.result_reader.specs.Form.{shapes_at}
 use Rattle.result_reader.proofs.dues.add_section.Given as goal
 

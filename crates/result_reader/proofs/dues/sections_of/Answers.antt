@@ -1,6 +1,6 @@
 use Rattle.std.proofs.Common.{[]}
 use Rattle.std.proofs.lemmas.Option.{slice_get-get_or}
-use Rattle.water_model.specs.declared.item.TheConstants.{SECTIONS}
+use Rattle.result_lines.specs.declared.item.TheConstants.{SECTIONS}
 use Rattle.result_reader.specs.Form.{shapes_in}
 use Rattle.result_reader.proofs.Growing.{added-next, added-whole}
 use Rattle.result_reader.proofs.dues.sections_of.Goals as goal

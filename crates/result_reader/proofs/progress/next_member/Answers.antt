@@ -1,9 +1,8 @@
 use Rattle.std.proofs.Common.{arith, ap, ◌∙◌, refl}
 use Rattle.result_reader.specs.Due.{step}
-use Rattle.result_reader.specs.Progress.{members_due}
-use Rattle.result_reader.specs.Progress.{due_at}
+use Rattle.result_reader.specs.Progress.{members_due, due_at}
 use Rattle.std.specs.Prelude.{◌++◌}
-use Rattle.water_model.specs.declared.item.Item.TheVariants as line
+use Rattle.result_lines.specs.declared.item.Item.TheVariants as line
 use Rattle.result_reader.proofs.Members.{member_step, member_too_early, no_member_step, place_no_members}
 use Rattle.result_reader.proofs.progress.next_member.Goals as goal
 

@@ -1,7 +1,6 @@
 use Rattle.std.proofs.Common.{arith, sym, ap, ◌∙◌, refl, Some}
 use Rattle.result_reader.specs.Due.{step}
-use Rattle.result_reader.specs.Progress.{members_due}
-use Rattle.result_reader.specs.Progress.{due_at}
+use Rattle.result_reader.specs.Progress.{members_due, due_at}
 use Rattle.std.specs.Prelude.{◌++◌}
 use Rattle.result_reader.proofs.Members.{other_step, call_opens, other_opens}
 use Rattle.result_reader.proofs.progress.next_other.Goals as goal

@@ -3,9 +3,9 @@ use Rattle.bit_words.specs.Marks.{marks}
 use Rattle.std.specs.List.{flat_map}
 use Rattle.water_edge.specs.Edge.{Puts}
 use Rattle.water_model.specs.History.{cut_of}
-use Rattle.water_model.specs.Spelling.{whole_line}
-use Rattle.water_model.specs.declared.item.Item.{Item}
-use Rattle.water_model.specs.declared.item.Item.TheVariants as line
+use Rattle.result_lines.specs.Spelling.{whole_line}
+use Rattle.result_lines.specs.declared.item.Item.{Item}
+use Rattle.result_lines.specs.declared.item.Item.TheVariants as line
 use Rattle.result_text.specs.Members.{members_of}
 use Rattle.result_text.proofs.Members.{call_lines}
 use Rattle.water_edge.proofs.Puts.{Puts-first}

@@ -1,6 +1,6 @@
 use Rattle.std.proofs.Common.{[], ◌∷◌}
-use Rattle.water_model.specs.Spelling.{whole_line}
-use Rattle.water_model.specs.declared.item.Item.TheVariants as line
+use Rattle.result_lines.specs.Spelling.{whole_line}
+use Rattle.result_lines.specs.declared.item.Item.TheVariants as line
 use Rattle.water_edge.proofs.Puts.{Puts-first}
 use Rattle.result_text.proofs.writer.put_head.Goals as goal
 

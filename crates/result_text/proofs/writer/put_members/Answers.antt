@@ -2,8 +2,8 @@ use Rattle.std.proofs.Common.{arith, sym, subst, List}
 use Rattle.std.specs.List.{flat_map}
 use Rattle.water_edge.specs.Edge.{Extends}
 use Rattle.water_model.specs.Indices.{numbers_from}
-use Rattle.water_model.specs.Spelling.{whole_line}
-use Rattle.water_model.specs.declared.item.Item.{Item}
+use Rattle.result_lines.specs.Spelling.{whole_line}
+use Rattle.result_lines.specs.declared.item.Item.{Item}
 use Rattle.water_model.proofs.Order.{numbers_from-get}
 use Rattle.result_text.specs.Members.{member_at}
 use Rattle.result_text.proofs.Members.{line_of_next, SoFar-at, SoFar-rest}

@@ -1,6 +1,6 @@
 use Rattle.std.proofs.Common.{◌≤◌}
 use Rattle.water_model.specs.Indices.{numbers_from}
-use Rattle.water_model.specs.Spelling.{whole_line}
+use Rattle.result_lines.specs.Spelling.{whole_line}
 use Rattle.result_text.specs.Members.{member_at}
 use Rattle.water_edge.proofs.Puts.{SoFar}
 use Rattle.result_text.proofs.writer.put_members.Given as goal

@@ -1,7 +1,7 @@
 use Rattle.std.proofs.Common.{ℕ, List, subst}
 use Rattle.water_edge.specs.Edge.{Puts}
-use Rattle.water_model.specs.Spelling.{whole_line}
-use Rattle.water_model.specs.Text.{calling_right}
+use Rattle.result_lines.specs.Spelling.{whole_line}
+use Rattle.water_model.specs.History.{calling_right}
 use Rattle.result_text.proofs.MonthLines.{month_pieces}
 use Rattle.water_edge.proofs.Puts.{Puts-cut, Puts-second, Puts-third}
 use Rattle.result_text.proofs.writer.put_month.Goals as goal

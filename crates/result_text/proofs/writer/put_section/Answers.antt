@@ -1,8 +1,9 @@
 use Rattle.std.proofs.Common.{arith, ap, sym, ◌∙◌}
 use Rattle.std.specs.Prelude.{slice_get}
 use Rattle.water_model.specs.Entries.{count_in, in_order}
-use Rattle.water_model.specs.Spelling.{whole_line}
-use Rattle.water_model.specs.Text.{calling_right, lines_at, section_space}
+use Rattle.result_lines.specs.Spelling.{whole_line}
+use Rattle.result_lines.specs.Text.{lines_at, section_space}
+use Rattle.water_model.specs.History.{calling_right}
 use Rattle.water_model.proofs.Entries.{length-in_order}
 use Rattle.water_edge.proofs.Puts.{SoFar-none, SoFar-next, SoFar-fails, SoFar-whole}
 use Rattle.result_text.proofs.writer.put_section.Goals as goal

@@ -1,6 +1,7 @@
 use Rattle.water_model.specs.Entries.{in_order}
-use Rattle.water_model.specs.Spelling.{whole_line}
-use Rattle.water_model.specs.Text.{calling_right, lines_at, section_space}
+use Rattle.result_lines.specs.Spelling.{whole_line}
+use Rattle.result_lines.specs.Text.{lines_at, section_space}
+use Rattle.water_model.specs.History.{calling_right}
 use Rattle.water_edge.proofs.Puts.{SoFar}
 use Rattle.result_text.proofs.writer.put_section.Given as goal
 

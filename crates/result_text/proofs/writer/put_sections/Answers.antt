@@ -1,7 +1,8 @@
 use Rattle.std.proofs.lemmas.Option.{slice_get-get_or}
-use Rattle.water_model.specs.Spelling.{whole_line}
-use Rattle.water_model.specs.Text.{calling_right, lines_in}
-use Rattle.water_model.specs.declared.item.TheConstants.{SECTIONS}
+use Rattle.result_lines.specs.Spelling.{whole_line}
+use Rattle.result_lines.specs.Text.{lines_in}
+use Rattle.water_model.specs.History.{calling_right}
+use Rattle.result_lines.specs.declared.item.TheConstants.{SECTIONS}
 use Rattle.water_edge.proofs.Puts.{SoFar-none, SoFar-next, SoFar-fails, SoFar-whole}
 use Rattle.result_text.proofs.writer.put_sections.Goals as goal
 

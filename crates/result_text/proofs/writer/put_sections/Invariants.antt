@@ -1,5 +1,6 @@
-use Rattle.water_model.specs.Spelling.{whole_line}
-use Rattle.water_model.specs.Text.{calling_right, lines_in}
+use Rattle.result_lines.specs.Spelling.{whole_line}
+use Rattle.result_lines.specs.Text.{lines_in}
+use Rattle.water_model.specs.History.{calling_right}
 use Rattle.water_edge.proofs.Puts.{SoFar}
 use Rattle.result_text.proofs.writer.put_sections.Given as goal
 

@@ -1,6 +1,6 @@
 use Rattle.std.proofs.Common.{ap, ap₂, sym, ◌∙◌, ◌++◌, arith, length, take, length-take}
 use Rattle.std.specs.Prelude.{option_to_list}
-use Rattle.calls.proofs.Search.{order_in_range}
+use Rattle.cut_cert.proofs.Search.{order_in_range}
 use Rattle.water_model.proofs.Order.{length-by_seniority}
 use Rattle.injury.specs.Common.{common_rights}
 use Rattle.injury.proofs.Pairs.{pairs_more, pairs_all, pairs_bounded}

@@ -1,0 +1,236 @@
+-- Amounts in parts of a unit: what counts k-fold.
+use Rattle.std.proofs.Common.{◌≡◌, ℕ, zero, suc, ◌+◌, ◌*◌, ◌<◌, min, max, Bool, true, false, refl, sym, ◌∙◌, ap}
+use Rattle.std.proofs.Common.{ap₂, subst, arith, List, [], ◌∷◌, length, inl, inr, take}
+use Rattle.std.proofs.Math.Nat.{mul-add, mul-zero, one-mul, mul-le-mul_left, max-eq_left, max-eq_right, min-eq_left}
+use Rattle.std.proofs.Math.Nat.{min-eq_right}
+use Rattle.std.proofs.Math.Path.{fun_ext}
+use Rattle.std.proofs.lemmas.Bool.{cases_lt}
+use Rattle.std.proofs.lemmas.List.{length-map}
+use Rattle.std.specs.Prelude.{if◌then◌else◌, ◌==◌, ◌&&◌, not, slice_index, Option, Some, None}
+use Rattle.finite_sums.specs.Sums.{total, total_where, greatest_where}
+use Rattle.finite_sums.proofs.Totals.{total_same}
+use Rattle.water_model.specs.Lookups.{has}
+use Rattle.water_model.specs.Basin.{head_of, tail_of, takes_at, instream_link, is_on_link, is_senior}
+use Rattle.water_model.specs.Plans.{IsFeasible, delivery, delivery_by_link, carry_of, inflow_to, outflow_from, taken_at}
+use Rattle.duality.specs.Parts.{times, in_parts}
+use Rattle.water_model.specs.Cuts.{cut_kept, kept_on, enters, leaves, takes_within}
+use Rattle.water_model.specs.History.{Follows}
+use Rattle.duality.specs.Laws.{NoFractionHelps, WholeUnitsAreGreatest, OnePartIsUnit, AreDeliveries}
+use Rattle.water_model.specs.declared.types.Basin.{Basin}
+use Rattle.water_model.specs.declared.types.Inflows.{Inflows}
+use Rattle.water_model.specs.declared.types.MonthRecord.{MonthRecord}
+use Rattle.water_model.specs.declared.types.Plan.{Plan}
+use Rattle.water_model.proofs.Sets.{total_where_same}
+use Rattle.duality.proofs.Stays.{greatest_same_terms}
+use Rattle.duality.proofs.Duality.{capacity_within}
+use Rattle.duality.proofs.Greatest.{IsFull, IsMetOrFull, met_or_full, met_or_cut, gives_most, full_make_greatest}
+
+-- ---- numbers, sums and greatest values
+
+pub times_at : (k : ℕ) (xs : List ℕ) (n : ℕ) → slice_index (times k xs) n ≡ k * slice_index xs n
+times_at k [] n = sym (mul-zero k)
+times_at k (x ∷ xs) zero = refl
+times_at k (x ∷ xs) (suc n) = times_at k xs n
+
+max_times : (k a b : ℕ) → max (k * a) (k * b) ≡ k * max a b
+max_times k a b = elim (cases_lt a b) [
+  | inl less ↦ max-eq_right (mul-le-mul_left k (omega arith)) ∙ sym (ap (λ x. k * x) (max-eq_right (omega arith)))
+  | inr more ↦ max-eq_left (mul-le-mul_left k more) ∙ sym (ap (λ x. k * x) (max-eq_left more))
+]
+
+min_times : (k a b : ℕ) → min (k * a) (k * b) ≡ k * min a b
+min_times k a b = elim (cases_lt a b) [
+  | inl less ↦ min-eq_left (mul-le-mul_left k (omega arith)) ∙ sym (ap (λ x. k * x) (min-eq_left (omega arith)))
+  | inr more ↦ min-eq_right (mul-le-mul_left k more) ∙ sym (ap (λ x. k * x) (min-eq_right more))
+]
+
+term_times : (k : ℕ) (t : Bool) (x : ℕ) → (if t then k * x else 0) ≡ k * (if t then x else 0)
+term_times k true x = refl
+term_times k false x = sym (mul-zero k)
+
+total_times : (n k : ℕ) (f : ℕ → ℕ) → total n (λ j. k * f j) ≡ k * total n f
+unfolding total
+total_times zero k f = sym (mul-zero k)
+total_times (suc n) k f = omega (arith, total_times n k f, mul-add k (total n f) (f n))
+
+total_where_times : (n k : ℕ) (p : ℕ → Bool) (f : ℕ → ℕ) → total_where n p (λ j. k * f j) ≡ k * total_where n p f
+total_where_times n k p f =
+    total_same n (λ j. if p j then k * f j else 0) (λ j. k * (if p j then f j else 0))
+    (λ j l. term_times k (p j) (f j))
+    ∙ total_times n k (λ j. if p j then f j else 0)
+
+greatest_times : (n k : ℕ) (p : ℕ → Bool) (f : ℕ → ℕ) → greatest_where n p (λ j. k * f j) ≡ k * greatest_where n p f
+unfolding greatest_where
+greatest_times zero k p f = sym (mul-zero k)
+greatest_times (suc n) k p f =
+    ap₂ max (greatest_times n k p f) (term_times k (p n) (f n))
+    ∙ max_times k (greatest_where n p f) (if p n then f n else 0)
+
+-- a sum over amounts of a list
+sum_times : (n k : ℕ) (p : ℕ → Bool) (xs : List ℕ) →
+    total_where n p (λ j. slice_index (times k xs) j) ≡ k * total_where n p (λ j. slice_index xs j)
+sum_times n k p xs =
+    total_where_same n p (λ j. slice_index (times k xs) j) (λ j. k * slice_index xs j) (λ j l. times_at k xs j)
+    ∙ total_where_times n k p (λ j. slice_index xs j)
+
+-- ---- cuts
+
+kept_on_times : (b : Basin) (k : ℕ) (delivered : List ℕ) (r e : ℕ) →
+    kept_on b (times k delivered) r e ≡ k * kept_on b delivered r e
+kept_on_times b k delivered r e =
+    greatest_same_terms (length b.rights) (λ s. is_on_link b s e && is_senior b s r)
+    (λ s. slice_index (times k delivered) s) (λ s. k * slice_index delivered s) (λ s l h. times_at k delivered s)
+    ∙ greatest_times (length b.rights) k (λ s. is_on_link b s e && is_senior b s r) (λ s. slice_index delivered s)
+
+kept_times : (b : Basin) (k : ℕ) (delivered : List ℕ) (r : ℕ) (cut : List Bool) →
+    cut_kept b (times k delivered) r cut ≡ k * cut_kept b delivered r cut
+kept_times b k delivered r cut =
+    ap₂ ◌+◌ links rights
+    ∙ sym (mul-add k (total_where (length b.links) (λ e. leaves b cut e && not (is_on_link b r e))
+    (λ e. kept_on b delivered r e))
+    (total_where (length b.rights) (λ s. takes_within b cut s && is_senior b s r) (λ s. slice_index delivered s)))
+  where
+    links : total_where (length b.links) (λ e. leaves b cut e && not (is_on_link b r e))
+        (λ e. kept_on b (times k delivered) r e)
+        ≡ k * total_where (length b.links) (λ e. leaves b cut e && not (is_on_link b r e))
+        (λ e. kept_on b delivered r e)
+    links =
+        total_where_same (length b.links) (λ e. leaves b cut e && not (is_on_link b r e))
+        (λ e. kept_on b (times k delivered) r e) (λ e. k * kept_on b delivered r e)
+        (λ e l. kept_on_times b k delivered r e)
+        ∙ total_where_times (length b.links) k (λ e. leaves b cut e && not (is_on_link b r e))
+        (λ e. kept_on b delivered r e)
+
+    rights : total_where (length b.rights) (λ s. takes_within b cut s && is_senior b s r)
+        (λ s. slice_index (times k delivered) s)
+        ≡ k * total_where (length b.rights) (λ s. takes_within b cut s && is_senior b s r)
+        (λ s. slice_index delivered s)
+    rights = sum_times (length b.rights) k (λ s. takes_within b cut s && is_senior b s r) delivered
+
+capacity_times : (b : Basin) (k : ℕ) (carry : ℕ → ℕ) (supply : List ℕ) (cut : List Bool) →
+    capacity_within b (λ e. k * carry e) (times k supply) cut ≡ k * capacity_within b carry supply cut
+capacity_times b k carry supply cut =
+    ap₂ ◌+◌ (sum_times (length b.nodes) k (λ n. has cut n) supply)
+    (total_where_times (length b.links) k (λ e. enters b cut e) carry)
+    ∙ sym (mul-add k (total_where (length b.nodes) (λ n. has cut n) (λ n. slice_index supply n))
+    (total_where (length b.links) (λ e. enters b cut e) carry))
+
+-- a cut that is full is so k-fold
+full_times : (b : Basin) (k : ℕ) (carry : ℕ → ℕ) (supply delivered : List ℕ) (r : ℕ) (cut : List Bool) →
+    IsFull b carry supply delivered r cut →
+    IsFull b (λ e. k * carry e) (times k supply) (times k delivered) r cut
+full_times b k carry supply delivered r cut full = record {
+  is_cut = full.is_cut;
+  full = capacity_times b k carry supply cut
+      ∙ (ap (λ x. k * x) full.full
+      ∙ (mul-add k (slice_index delivered r) (cut_kept b delivered r cut)
+      ∙ sym (ap₂ ◌+◌ (times_at k delivered r) (kept_times b k delivered r cut))));
+}
+
+met_or_full_times : (b : Basin) (k : ℕ) (carry : ℕ → ℕ) (supply want delivered : List ℕ) (r : ℕ) →
+    IsMetOrFull b carry supply want delivered r →
+    IsMetOrFull b (λ e. k * carry e) (times k supply) (times k want) (times k delivered) r
+met_or_full_times b k carry supply want delivered r (inl met) =
+    inl (omega (arith, times_at k want r, times_at k delivered r, mul-le-mul_left k met))
+met_or_full_times b k carry supply want delivered r (inr cut) =
+    inr (cut.0, full_times b k carry supply delivered r cut.0 cut.1)
+
+-- ---- plans
+
+feasible_times : (b : Basin) (k : ℕ) (carry : ℕ → ℕ) (supply want : List ℕ) (p : Plan) →
+    IsFeasible b carry supply want p →
+    IsFeasible b (λ e. k * carry e) (times k supply) (times k want) (in_parts k p)
+feasible_times b k carry supply want p plan = record {
+  flow_len = length-map p.flow (λ x. k * x) ∙ plan.flow_len;
+  take_len = length-map p.take (λ x. k * x) ∙ plan.take_len;
+  out_len = length-map p.out (λ x. k * x) ∙ plan.out_len;
+  carries = λ e l. omega (arith, times_at k p.flow e, mul-le-mul_left k (plan.carries e l));
+  wants = λ r l. omega (arith, times_at k p.take r, times_at k want r, mul-le-mul_left k (plan.wants r l));
+  instream = λ r l on. nothing (slice_index p.take r) (plan.instream r l on) (times_at k p.take r);
+  outlets = λ n l inner. nothing (slice_index p.out n) (plan.outlets n l inner) (times_at k p.out n);
+  balance = λ n l.
+      ap₂ ◌+◌ (times_at k supply n) (sum_times (length b.links) k (λ e. head_of b e == n) p.flow)
+      ∙ (sym (mul-add k (slice_index supply n) (inflow_to b p.flow n))
+      ∙ (ap (λ x. k * x) (plan.balance n l)
+      ∙ (mul-add k (outflow_from b p.flow n + taken_at b p.take n) (slice_index p.out n)
+      ∙ ap₂ ◌+◌
+      (mul-add k (outflow_from b p.flow n) (taken_at b p.take n)
+      ∙ sym (ap₂ ◌+◌ (sum_times (length b.links) k (λ e. tail_of b e == n) p.flow)
+      (sum_times (length b.rights) k (λ r. takes_at b r n) p.take)))
+      (sym (times_at k p.out n)))));
+}
+  where
+    nothing : {x : ℕ} (y : ℕ) → y ≡ 0 → x ≡ k * y → x ≡ 0
+    nothing y none is = is ∙ (ap (λ z. k * z) none ∙ mul-zero k)
+
+delivery_times : (b : Basin) (k : ℕ) (want : List ℕ) (p : Plan) (r : ℕ) →
+    delivery b (times k want) (in_parts k p) r ≡ k * delivery b want p r
+delivery_times b k want p r = of_link (instream_link b r)
+  where
+    of_link : (o : Option ℕ) →
+        delivery_by_link o (slice_index (times k want) r) (in_parts k p) r
+        ≡ k * delivery_by_link o (slice_index want r) p r
+    of_link None = times_at k p.take r
+    of_link (Some link) =
+        ap₂ min (times_at k want r) (times_at k p.flow link)
+        ∙ min_times k (slice_index want r) (slice_index p.flow link)
+
+deliveries_times : (b : Basin) (k : ℕ) (want : List ℕ) (p : Plan) (delivered : List ℕ) →
+    AreDeliveries b want p delivered → AreDeliveries b (times k want) (in_parts k p) (times k delivered)
+deliveries_times b k want p delivered are = record {
+  each = λ r l. times_at k delivered r ∙ (ap (λ x. k * x) (are.each r l) ∙ sym (delivery_times b k want p r));
+}
+
+-- ---- the laws
+
+-- in a record each right is met or has a full cut, k-fold
+in_record : (b : Basin) (series : Inflows) (before : List MonthRecord) (m : MonthRecord) → Follows b series before m →
+    (k r : ℕ) → r < length b.rights →
+    IsMetOrFull b (λ e. k * carry_of b m.month e) (times k m.supply) (times k m.want) (times k m.delivered) r
+in_record b series before m follows k r l =
+    met_or_full_times b k (carry_of b m.month) m.supply m.want m.delivered r
+    (met_or_full b m.month m.supply m.want m.delivered r (met_or_cut b series before m follows r l))
+
+pub no_fraction_helps : NoFractionHelps
+no_fraction_helps b series records history i m at k q plan r l serves =
+    omega (
+      arith,
+      times_at k m.delivered r,
+      gives_most b (λ e. k * carry_of b m.month e) (times k m.supply) (times k m.want) (times k m.delivered) q r l plan
+          (in_record b series (take i records) m (history.each i m at) k r l) serves.each,
+    )
+
+pub whole_units_are_greatest : WholeUnitsAreGreatest
+whole_units_are_greatest b series records history i m at k = (
+  full_make_greatest b (λ e. k * carry_of b m.month e) (times k m.supply) (times k m.want) (times k m.delivered)
+      (in_parts k m.plan) (feasible_times b k (carry_of b m.month) m.supply m.want m.plan follows.after.plan)
+      deliveries (in_record b series (take i records) m follows k),
+  deliveries,
+)
+  where
+    follows : Follows b series (take i records) m
+    follows = history.each i m at
+
+    deliveries : AreDeliveries b (times k m.want) (in_parts k m.plan) (times k m.delivered)
+    deliveries = deliveries_times b k m.want m.plan m.delivered (record { each = follows.after.delivered })
+
+one_fold : (xs : List ℕ) → times 1 xs ≡ xs
+one_fold [] = refl
+one_fold (x ∷ xs) = ap₂ ◌∷◌ (one-mul x) (one_fold xs)
+
+pub one_part_is_unit : OnePartIsUnit
+one_part_is_unit b month supply want p = (
+  through (λ e. 1 * carry_of b month e) (carry_of b month) (times 1 supply) supply (times 1 want) want carries
+      (one_fold supply) (one_fold want),
+  through (carry_of b month) (λ e. 1 * carry_of b month e) supply (times 1 supply) want (times 1 want) (sym carries)
+      (sym (one_fold supply)) (sym (one_fold want)),
+)
+  where
+    carries : (λ e. 1 * carry_of b month e) ≡ carry_of b month
+    carries = fun_ext (λ e. one-mul (carry_of b month e))
+
+    through : (c c' : ℕ → ℕ) (s s' w w' : List ℕ) → c ≡ c' → s ≡ s' → w ≡ w' → IsFeasible b c s w p →
+        IsFeasible b c' s' w' p
+    through c c' s s' w w' e f g plan =
+        subst (λ x. IsFeasible b c' s' x p) g
+        (subst (λ x. IsFeasible b c' x w p) f (subst (λ x. IsFeasible b x s w p) e plan))

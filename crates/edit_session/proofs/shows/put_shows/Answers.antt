@@ -1,0 +1,8 @@
+use Rattle.std.proofs.lemmas.Result.{err_from_is_err_and}
+use Rattle.edit_session.proofs.Playing.{nothing_shown}
+use Rattle.edit_session.proofs.shows.put_shows.Goals as goal
+
+pub returns-in_err-session-clause-answers : goal.returns-in_err-session-clause-answers
+returns-in_err-session-clause-answers g c =
+    let p = err_from_is_err_and c.from_residual.result c.from_residual.ensures.1 in
+    rw (p.1, p.2) (nothing_shown c.args.basin.now c.args.series.now c.args.edits.now _)

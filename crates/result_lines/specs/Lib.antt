@@ -1,0 +1,4 @@
+pub mod Quantities
+pub mod Spelling
+pub mod OfBasin
+pub mod Text

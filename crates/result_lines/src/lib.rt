@@ -1,0 +1,5 @@
+//! The lines of a result text, and the quantities that they give.
+#![tactic(auto)]
+
+pub mod item;
+pub mod quantity;

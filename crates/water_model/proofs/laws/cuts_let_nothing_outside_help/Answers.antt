@@ -1,5 +1,0 @@
-use Rattle.water_model.proofs.Sheltered.{cuts_let_nothing_outside_help}
-use Rattle.water_model.proofs.laws.cuts_let_nothing_outside_help.Goals as goal
-
-pub returns : goal.returns
-returns c = cuts_let_nothing_outside_help

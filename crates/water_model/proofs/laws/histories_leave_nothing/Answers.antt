@@ -1,5 +1,0 @@
-use Rattle.water_model.proofs.Sheltered.{histories_leave_nothing}
-use Rattle.water_model.proofs.laws.histories_leave_nothing.Goals as goal
-
-pub returns : goal.returns
-returns c = histories_leave_nothing

@@ -1,5 +1,0 @@
-use Rattle.water_model.proofs.Parts.{one_part_is_unit}
-use Rattle.water_model.proofs.laws.one_part_is_unit.Goals as goal
-
-pub returns : goal.returns
-returns c = one_part_is_unit

@@ -1,5 +1,0 @@
-use Rattle.water_model.proofs.Parts.{whole_units_are_greatest}
-use Rattle.water_model.proofs.laws.whole_units_are_greatest.Goals as goal
-
-pub returns : goal.returns
-returns c = whole_units_are_greatest
