@@ -10,7 +10,7 @@ use water_model::types::Basin;
 use water_text::line::Line;
 
 /// Makes the line of an item, with its line feed.
-#[tactic(auto, unfolding(water_model::specs::Spelling::line_of, water_model::specs::Spelling::fields_of))]
+#[tactic(auto, unfolding(result_lines::specs::Spelling::line_of, result_lines::specs::Spelling::fields_of))]
 pub fn spell(line: &mut Line, basin: &Basin, item: &Item)
     requires basin { IsValidBasin basin.now }
     requires item { IsOfBasin basin.now item.now }
