@@ -7,9 +7,9 @@ ghost use Rattle.edit_session.specs.Shown.{Answers};
 ghost use Rattle.edit_session.specs.declared.stop.EditStop.TheVariants.{SinkFailed};
 ghost use Rattle.month_fold.specs.Works.{Solves};
 
+use crate::session::Session;
 use crate::stop::EditStop;
 use edit_script::edit::Edit;
-use edit_session::session::Session;
 use month_fold::work::Work;
 use result_text::put_month;
 use std::alloc::Global;

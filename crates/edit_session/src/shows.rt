@@ -8,9 +8,9 @@ ghost use Rattle.edit_session.specs.declared.stop.EditStop.TheVariants as stop;
 ghost use Rattle.month_fold.specs.Works.{Solves};
 
 use crate::answer::answer;
+use crate::session::Session;
 use crate::stop::EditStop;
 use edit_script::edit::Edit;
-use edit_session::session::Session;
 use month_fold::work::Work;
 use std::alloc::Global;
 use std::sync::ledger::Ledger;

@@ -24,7 +24,7 @@ use Rattle.reports.specs.Figures.{called_count}
 use Rattle.reports.specs.Laws.{RunsHaveOneReport}
 use Rattle.reports.specs.Reports.{row, right_row, balance_row, done_row, report_text, trial_text}
 use Rattle.reports.proofs.Growth.{same_waters}
-use Rattle.reports.proofs.Texts.{same_rows}
+use Rattle.reports.proofs.ReportTexts.{same_rows}
 
 -- two records of one month that differ in nothing that a report shows
 record IsAlike (b : Basin) (m n : MonthRecord) : Type 0 where

@@ -5,6 +5,6 @@ pub mod Loops
 pub mod Room
 pub mod Rights
 pub mod Sums
-pub mod Texts
+pub mod ReportTexts
 pub mod Worst
 pub mod Written

@@ -1,4 +1,4 @@
-use Rattle.reports.proofs.Texts.{months_are, entries_number, report_put, report_cut}
+use Rattle.reports.proofs.ReportTexts.{months_are, entries_number, report_put, report_cut}
 use Rattle.reports.proofs.period.period_report.Goals as goal
 
 pub put_report-requires-clause-count : goal.put_report-requires-clause-count

@@ -1,4 +1,4 @@
-use Rattle.reports.proofs.Texts.{totals_room, summary_is, summary_put, summary_cut}
+use Rattle.reports.proofs.ReportTexts.{totals_room, summary_is, summary_put, summary_cut}
 use Rattle.reports.proofs.trial.trial_report.Goals as goal
 
 pub totals_of-totals-requires : goal.totals_of-totals-requires
