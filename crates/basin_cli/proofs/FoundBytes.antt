@@ -8,7 +8,6 @@ use Rattle.cert_check.specs.declared.refuted.Refuted.{Refuted}
 use Rattle.inflow_file.specs.SeriesFaults.{series_fault}
 use Rattle.water_model.specs.declared.types.Basin.{Basin}
 use Rattle.water_model.specs.declared.types.Inflows.{Inflows}
-use Rattle.basin_cli.specs.declared.ending.Ending.TheVariants as ending
 use Rattle.basin_cli.specs.declared.found.Found.TheVariants as found
 use Rattle.basin_cli.specs.Bytes.{AreSpelled}
 use Rattle.basin_cli.specs.Found.{AreFaultless, IsFound, RunsAreAccepted, RunsAreAudited}

@@ -1,6 +1,6 @@
 -- What each status of a call means: its cause, and what it leaves on out and err.
-use Rattle.std.specs.Prelude.{◌≡◌, ℕ, ◌*◌, ◌<◌, ◌≤◌, List, length, take, Option, Some, None, Result}
-use Rattle.std.specs.Prelude.{Ok, Err, ⊤, IfSome, IsSome}
+use Rattle.std.specs.Prelude.{◌≡◌, ℕ, ◌*◌, ◌<◌, ◌≤◌, List, length, take, Option, Some, None}
+use Rattle.std.specs.Prelude.{Err, ⊤, IfSome, IsSome}
 use Rattle.water_edge.specs.Edge.{Extends, Output, Rose}
 use Rattle.basin_file.specs.BasinFaults.{Spells}
 use Rattle.basin_gen.specs.Generator.{generated}
@@ -13,7 +13,6 @@ use Rattle.reports.specs.Reports.{report_text, trial_text}
 use Rattle.water_model.specs.History.{HaveReaches, IsHistory, IsShort}
 use Rattle.result_lines.specs.Text.{text_bytes}
 use Rattle.water_model.specs.Valid.{IsSeriesOf}
-use Rattle.result_lines.specs.declared.item.Item.{Item}
 use Rattle.water_model.specs.declared.types.Basin.{Basin}
 use Rattle.water_model.specs.declared.types.Inflows.{Inflows}
 use Rattle.water_model.specs.declared.types.MonthRecord.{MonthRecord}

@@ -1,4 +1,4 @@
-use Rattle.std.proofs.Common.{◌∙◌, subst, inr, arith, ℕ, List, Option, length, length-take}
+use Rattle.std.proofs.Common.{◌∙◌, subst, inr, arith, ℕ, List, Option, length-take}
 use Rattle.std.specs.Prelude.{IfSome}
 use Rattle.water_edge.specs.Edge.{IsPart}
 use Rattle.basin_cli.proofs.Failing.{asks_again}
