@@ -1,5 +1,5 @@
 -- Scripts of changes: how a call that answers one ends, and what it leaves on out.
-use Rattle.std.proofs.Common.{◌≡◌, ℕ, ◌+◌, ◌≤◌, refl, sym, ◌∙◌, subst, List, [], ◌∷◌, length, inl, inr}
+use Rattle.std.proofs.Common.{◌≡◌, ℕ, ◌+◌, ◌≤◌, refl, sym, ◌∙◌, subst, List, [], ◌∷◌, length, inl, inr, Option}
 use Rattle.std.specs.Prelude.{IfSome, IsErr, IsOk, Ok, Err, Bool, true, false, if◌then◌else◌, Result, codes}
 use Rattle.std.specs.Str.{bytes_eq}
 use Rattle.water_edge.specs.Edge.{Output}
@@ -14,14 +14,16 @@ use Rattle.water_model.specs.declared.types.Inflows.{Inflows}
 use Rattle.month_fold.specs.Works.{WorkDone}
 use Rattle.basin_cli.specs.declared.ending.Ending.{Ending}
 use Rattle.basin_cli.specs.declared.ending.Ending.TheVariants as ending
+use Rattle.basin_cli.specs.declared.ending.File.{File}
+use Rattle.basin_cli.specs.declared.ending.File.TheVariants as file
 use Rattle.basin_cli.specs.declared.status.Status.{Status}
 use Rattle.basin_cli.specs.declared.status.Status.TheVariants as status
-use Rattle.basin_cli.specs.Bytes.{AreSpelled, KnownFiles, file_limit, known_series}
+use Rattle.basin_cli.specs.Bytes.{AreSpelled, IsTooLong, KnownFiles, file_limit, known_series}
 use Rattle.basin_cli.specs.Command.{Files}
 use Rattle.basin_cli.specs.Edited.{EditLeaves, EditWork, EditWrites, EndsEditing, HasEditingCause, IsGoodScript}
 use Rattle.basin_cli.specs.Edited.{IsScriptRefusedFor, LeavesScript, WorkOfScript}
-use Rattle.basin_cli.specs.Series.{AreLoaded}
-use Rattle.basin_cli.proofs.Judged.{after, of_both}
+use Rattle.basin_cli.specs.Series.{AreLoaded, FileEnds}
+use Rattle.basin_cli.proofs.Judged.{accepted, after, after_known, of_both}
 use Rattle.basin_cli.proofs.OneSeries.{one_basin}
 
 -- A script asks for the same of two series of a basin: they have their gauges and wants in the same places.
@@ -103,6 +105,25 @@ editing_cause known files script text b series (ending.ScriptRefused fault line)
     (λ bytes s spelled. record { within = within; basin = b; series = series; spelled = spelled; first = ends })
 editing_cause known files script text b series ending.OutOfMemory read write fits loaded within is ends = tt
 editing_cause known files script text b series other read write fits loaded within is ends = absurd ends
+
+-- the cause where the script is not read: `since` says that the shelf's count of faults rose since its inputs were read
+pub script_cause : (known : KnownFiles) (files : Files) (script : List ℕ) (b : Basin) (series : Inflows)
+    (later : Option (List ℕ)) (how : Ending) (since read write : Type 0) →
+    IsSeriesOf b series → AreLoaded known files b series → later ≡ known script → (since → read) →
+    FileEnds file.Script later since how → HasEditingCause files script how known read write
+script_cause known files script b series later (ending.ReadFault named) since read write fits loaded same rose ends =
+    subst (λ (f : File). HasEditingCause files script (ending.ReadFault f) known read write) (sym ends.0) (
+      rose ends.1,
+      accepted (known files.basin) (known_series known files.series) b series loaded.from_basin loaded.from_series,
+    )
+script_cause known files script b series later (ending.InputTooLong named) since read write fits loaded same rose ends =
+    subst (λ (f : File). HasEditingCause files script (ending.InputTooLong f) known read write) (sym ends.0)
+    (after_known (known files.basin) (known_series known files.series) (known script) b series IsTooLong
+    (λ _ _ bytes. IsTooLong bytes) fits loaded.from_basin loaded.from_series
+    (subst (λ (o : Option (List ℕ)). IfSome o IsTooLong) same ends.1)
+    (λ bytes s text spelled long. long))
+script_cause known files script b series later ending.OutOfMemory since read write fits loaded same rose ends = tt
+script_cause known files script b series later other since read write fits loaded same rose ends = absurd ends
 
 -- what is left on out
 leaves_by_status : (status : Status) (bytes s : List ℕ) (b : Basin) (series : Inflows) (text : List ℕ)

@@ -11,6 +11,7 @@ use Rattle.water_model.specs.History.{HasReaches, Follows, IsPartialHistory, IsS
 use Rattle.month_fold.specs.Runs.{RunView}
 use Rattle.result_text.specs.Range.{FitsText}
 use Rattle.result_text.proofs.Whole.{FitsText-follows}
+use Rattle.water_edge.specs.Edge.{Extends, Output}
 use Rattle.water_text.specs.declared.month.Month.{Month}
 use Rattle.water_model.proofs.Histories.{last_follows}
 use Rattle.water_model.proofs.Lists.{get_after}
@@ -22,7 +23,11 @@ use Rattle.water_model.specs.declared.types.Basin.{Basin}
 use Rattle.water_model.specs.declared.types.Inflows.{Inflows}
 use Rattle.water_model.specs.declared.types.MonthRecord.{MonthRecord}
 use Rattle.duality.proofs.Outcome.{one_outcome}
-use Rattle.basin_cli.specs.Explained.{Explains, HasLast, IsAbout, IsRecordOf, ExplainsShort}
+use Rattle.basin_cli.specs.Ending.{status_of}
+use Rattle.basin_cli.specs.Explained.{EndsExplaining, Explains, HasLast, IsAbout, IsRecordOf, ExplainsShort}
+use Rattle.basin_cli.specs.Out.{Leaves}
+use Rattle.basin_cli.specs.declared.ending.Ending.{Ending}
+use Rattle.basin_cli.specs.declared.ending.Ending.TheVariants as ending
 use Rattle.basin_cli.specs.declared.explaining.Account.{Account}
 use Rattle.basin_cli.specs.declared.explaining.Account.TheVariants as account
 use Rattle.basin_cli.proofs.Asked.{one_index, one_right}
@@ -93,6 +98,13 @@ reach_explained b m right reaches l is = (
   where
     reach : IsReach b m.month m.supply m.delivered right (cut_at m.cuts right)
     reach = reach_at b m right reaches l is
+
+-- such an answer stands whole on out, unless out failed
+pub explained_leaves : (m : MonthRecord) (right : ℕ) (how : Ending) (text : List ℕ) (old new : Output) →
+    EndsExplaining m right how ⊥ → Extends old new text → Leaves (status_of how) text old new
+explained_leaves m right ending.Done text old new ends put = put
+explained_leaves m right ending.Met text old new ends put = put
+explained_leaves m right other text old new ends put = absurd ends
 
 -- Two records of a month have one outcome, so a right is short in both or in none.
 pub one_answer : (b : Basin) (series : Inflows) (month : Month) (name : List ℕ) (right other : ℕ) (m n : MonthRecord) →

@@ -22,3 +22,5 @@ pub mod Flushed
 mod FlushedBefore
 pub mod Parts
 pub mod Unread
+pub mod Solved
+pub mod Upgraded

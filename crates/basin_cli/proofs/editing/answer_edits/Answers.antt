@@ -17,15 +17,15 @@ returns-in-Err-clause-leaves g c =
     (g.K.Sink.output c.args.out.now) (g.K.Sink.output c.put_shows.new.out) (g.K.Sink.output c.flush.new.self)
     c.in-Ok.ensures.answers c.in-Err.ensures.bytes
 
-pub returns-clause-leaves : goal.returns-clause-leaves
-returns-clause-leaves g c =
+pub returns-in-Err-OutOfMemory-clause-leaves : goal.returns-in-Err-OutOfMemory-clause-leaves
+returns-in-Err-OutOfMemory-clause-leaves g c =
     kept (HaveShown c.args.basin.now c.args.series.now c.args.edits.now) (months_bytes c.args.basin.now)
     (g.K.Sink.output c.args.out.now) (g.K.Sink.output c.put_shows.new.out)
     (g.K.Sink.output c.flush-in-Err-OutOfMemory.new.self)
-    c.in-Err-OutOfMemory.ensures.answers c.flush-in-Err-OutOfMemory.ensures.bytes
+    (rw c.in-Err-OutOfMemory.field-0-is at c.in-Err-OutOfMemory.ensures.answers) c.flush-in-Err-OutOfMemory.ensures.bytes
 
-pub returns-clause-shown : goal.returns-clause-shown
-returns-clause-shown g c = λ sound.
+pub returns-in-Err-OutOfMemory-clause-shown : goal.returns-in-Err-OutOfMemory-clause-shown
+returns-in-Err-OutOfMemory-clause-shown g c = λ sound.
     flushed_or_failed c.flush-in-Err-OutOfMemory.result (g.K.Sink.faults c.args.out.now)
     (g.K.Sink.faults c.put_shows.new.out) (g.K.Sink.faults c.flush-in-Err-OutOfMemory.new.self) _
     c.in-Err-OutOfMemory.ensures.cause.later c.flush-in-Err-OutOfMemory.ensures.all

@@ -1,5 +1,6 @@
 use Rattle.basin_cli.specs.Explained.{Explains}
 use Rattle.water_edge.proofs.Outputs.{Extends-kept}
+use Rattle.basin_cli.proofs.Explained.{explained_leaves}
 use Rattle.basin_cli.proofs.Flushed.{prefixes}
 use Rattle.basin_cli.proofs.explaining.answer.Goals as goal
 
@@ -14,6 +15,8 @@ returns-in-Ok-flush-clause-leaves g c =
     (let t = c.in-Ok.ensures.text in (
       t.0,
       t.1,
-      Extends-kept (g.K.Sink.output c.args.out.now) (g.K.Sink.output c.put_answer.new.sink)
-          (g.K.Sink.output c.flush.new.self) t.0 t.2 c.in-Ok-flush.ensures.bytes,
+      explained_leaves c.args.month.now c.args.right c.ending_for.result t.0 (g.K.Sink.output c.args.out.now)
+          (g.K.Sink.output c.flush.new.self) c.ending_for.ensures.ends
+          (Extends-kept (g.K.Sink.output c.args.out.now) (g.K.Sink.output c.put_answer.new.sink)
+          (g.K.Sink.output c.flush.new.self) t.0 t.2 c.in-Ok-flush.ensures.bytes),
     ))

@@ -1,24 +1,34 @@
-use Rattle.std.proofs.Common.{arith, rules}
-use Rattle.std.proofs.lemmas.Grind.{common_steps}
-use Rattle.basin_cli.specs.Command.{named, calls}
+use Rattle.basin_cli.specs.Command.{calls, named}
 use Rattle.basin_cli.specs.Ending.{status_of}
 use Rattle.basin_cli.specs.Failed.{files_to}
 use Rattle.basin_cli.proofs.Failing.{solving_stops}
 use Rattle.basin_cli.proofs.Idle.{stopped_writes}
+use Rattle.basin_cli.proofs.Solved.{list_writes, solving_cause, solving_prints, solving_solves}
 use Rattle.basin_cli.proofs.top.do_calls.Goals as goal
 
 pub returns : goal.returns
-returns g c = record {
-  cause = first_of (search rules, grind (arith, common_steps));
-  asked =
-      solving_stops (files_to (calls (named c.args.inputs))) (g.S.Shelf.asked c.args.shelf.now)
-      (g.S.Shelf.asked c.read_inputs.new.shelf) c.list_basin.result _ c.list_basin.ensures.ends;
-  can_be_printed = first_of (search rules, grind (arith, common_steps));
-  writes = first_of (search rules, grind (arith, common_steps));
-  out_stays = c.list_basin.ensures.out_stays;
-  flushed = c.list_basin.ensures.flushed;
-  shown = tt;
-  unread = tt;
-  idle = λ stopped. c.list_basin.ensures.idle (stopped_writes (status_of c.list_basin.result) stopped);
-  work = first_of (search rules, grind (arith, common_steps));
-}
+returns g c =
+    let known = g.S.Shelf.known c.args.shelf.now in
+    let files = named c.args.inputs in
+    let b = c.in-Ok.files.basin in
+    let series = c.in-Ok.files.series in
+    let how = c.list_basin.result in
+    record {
+      cause = solving_cause known files b series how _ _ c.in-Ok.ensures.loaded c.list_basin.ensures.ends;
+      asked =
+          solving_stops (files_to (calls files)) (g.S.Shelf.asked c.args.shelf.now)
+          (g.S.Shelf.asked c.read_inputs.new.shelf) how _ c.list_basin.ensures.ends;
+      can_be_printed = solving_prints how _ c.list_basin.ensures.ends;
+      writes =
+          list_writes known files b series (status_of how) (g.K.Sink.output c.args.out.now)
+          (g.K.Sink.output c.list_basin.new.out) c.args.work.now c.list_basin.new.work c.in-Ok.ensures.fits
+          c.in-Ok.ensures.loaded c.list_basin.ensures.leaves;
+      out_stays = c.list_basin.ensures.out_stays;
+      flushed = c.list_basin.ensures.flushed;
+      shown = tt;
+      unread = tt;
+      idle = λ stopped. c.list_basin.ensures.idle (stopped_writes (status_of how) stopped);
+      work =
+          solving_solves known files b c.args.work.now c.list_basin.new.work c.in-Ok.ensures.loaded.from_basin
+          c.list_basin.ensures.work;
+    }

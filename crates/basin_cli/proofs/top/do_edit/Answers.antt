@@ -4,9 +4,10 @@ use Rattle.std.specs.Prelude.{IfSome}
 use Rattle.basin_cli.specs.Command.{edit, named}
 use Rattle.basin_cli.specs.Ending.{status_of}
 use Rattle.basin_cli.specs.Failed.{files_to}
-use Rattle.basin_cli.proofs.Edited.{editing_cause, editing_solves, editing_writes}
+use Rattle.basin_cli.proofs.Edited.{editing_cause, editing_solves, editing_writes, script_cause}
 use Rattle.basin_cli.proofs.Failing.{editing_stops, inputs_stop, script_asks}
 use Rattle.basin_cli.proofs.Idle.{unsolved}
+use Rattle.basin_cli.proofs.Stops.{rose_since}
 use Rattle.basin_cli.proofs.Unread.{unread}
 use Rattle.basin_cli.proofs.top.do_edit.Goals as goal
 
@@ -51,7 +52,11 @@ returns-in-Err-read_file g c =
     let known = g.S.Shelf.known c.args.shelf.now in
     let ending = c.in-Err-read_file.ending in
     record {
-      cause = first_of (search rules, grind (arith, common_steps));
+      cause =
+          script_cause known files script c.in-Ok.files.basin c.in-Ok.files.series
+          (g.S.Shelf.known c.read_inputs.new.shelf script) ending _ _ _ c.in-Ok.ensures.fits c.in-Ok.ensures.loaded
+          (c.in-Ok.ensures.same.known script) (rose_since _ _ _ c.in-Ok.ensures.later)
+          c.in-Err-read_file.ensures.ends;
       asked =
           script_asks files script _ _ ending
           (g.S.Shelf.asked c.args.shelf.now) (g.S.Shelf.asked c.read_inputs.new.shelf)

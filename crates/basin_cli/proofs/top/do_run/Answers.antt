@@ -1,24 +1,34 @@
-use Rattle.std.proofs.Common.{arith, rules}
-use Rattle.std.proofs.lemmas.Grind.{common_steps}
 use Rattle.basin_cli.specs.Command.{named, run}
 use Rattle.basin_cli.specs.Ending.{status_of}
 use Rattle.basin_cli.specs.Failed.{files_to}
 use Rattle.basin_cli.proofs.Failing.{solving_stops}
 use Rattle.basin_cli.proofs.Idle.{stopped_writes}
+use Rattle.basin_cli.proofs.Solved.{run_writes, solving_cause, solving_prints, solving_solves}
 use Rattle.basin_cli.proofs.top.do_run.Goals as goal
 
 pub returns : goal.returns
-returns g c = record {
-  cause = first_of (search rules, grind (arith, common_steps));
-  asked =
-      solving_stops (files_to (run (named c.args.inputs))) (g.S.Shelf.asked c.args.shelf.now)
-      (g.S.Shelf.asked c.read_inputs.new.shelf) c.run_basin.result _ c.run_basin.ensures.ends;
-  can_be_printed = first_of (search rules, grind (arith, common_steps));
-  writes = first_of (search rules, grind (arith, common_steps));
-  out_stays = c.run_basin.ensures.out_stays;
-  flushed = c.run_basin.ensures.flushed;
-  shown = tt;
-  unread = tt;
-  idle = λ stopped. c.run_basin.ensures.idle (stopped_writes (status_of c.run_basin.result) stopped);
-  work = first_of (search rules, grind (arith, common_steps));
-}
+returns g c =
+    let known = g.S.Shelf.known c.args.shelf.now in
+    let files = named c.args.inputs in
+    let b = c.in-Ok.files.basin in
+    let series = c.in-Ok.files.series in
+    let how = c.run_basin.result in
+    record {
+      cause = solving_cause known files b series how _ _ c.in-Ok.ensures.loaded c.run_basin.ensures.ends;
+      asked =
+          solving_stops (files_to (run files)) (g.S.Shelf.asked c.args.shelf.now)
+          (g.S.Shelf.asked c.read_inputs.new.shelf) how _ c.run_basin.ensures.ends;
+      can_be_printed = solving_prints how _ c.run_basin.ensures.ends;
+      writes =
+          run_writes known files b series (status_of how) (g.K.Sink.output c.args.out.now)
+          (g.K.Sink.output c.run_basin.new.out) c.args.work.now c.run_basin.new.work c.in-Ok.ensures.fits
+          c.in-Ok.ensures.loaded c.run_basin.ensures.leaves;
+      out_stays = c.run_basin.ensures.out_stays;
+      flushed = c.run_basin.ensures.flushed;
+      shown = tt;
+      unread = tt;
+      idle = λ stopped. c.run_basin.ensures.idle (stopped_writes (status_of how) stopped);
+      work =
+          solving_solves known files b c.args.work.now c.run_basin.new.work c.in-Ok.ensures.loaded.from_basin
+          c.run_basin.ensures.work;
+    }

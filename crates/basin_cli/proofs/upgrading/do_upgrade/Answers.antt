@@ -1,8 +1,11 @@
 use Rattle.std.proofs.Common.{arith, refl, rules}
 use Rattle.std.proofs.lemmas.Grind.{common_steps}
+use Rattle.std.specs.Prelude.{string_bytes}
 use Rattle.basin_cli.specs.Command.{upgrade}
 use Rattle.basin_cli.specs.Failed.{files_to}
+use Rattle.basin_cli.specs.declared.status.Status.TheVariants as its
 use Rattle.basin_cli.proofs.Failing.{asks_one, basin_stops}
+use Rattle.basin_cli.proofs.Upgraded.{upgrade_writes}
 use Rattle.basin_cli.proofs.upgrading.do_upgrade.Goals as goal
 
 pub returns-in-Err : goal.returns-in-Err
@@ -30,9 +33,14 @@ returns-in-Ok-put_whole g c = λ done. record {
   cause = first_of (search rules, grind (arith, common_steps));
   asked = tt;
   can_be_printed = tt;
-  writes = first_of (search rules, grind (arith, common_steps));
+  writes =
+      upgrade_writes (g.S.Shelf.known c.args.shelf.now) c.args.name.now c.in-Ok.basin
+      (string_bytes c.in-Ok-upgraded.text) its.Done (g.K.Sink.output c.args.out.now)
+      (g.K.Sink.output c.put_whole.new.out) c.in-Ok.ensures.text c.in-Ok-upgraded.ensures.table
+      c.in-Ok-upgraded.ensures.spells c.in-Ok-upgraded.ensures.sound
+      (rw c.as_bytes.ensures.value at c.in-Ok-put_whole.ensures.text);
   out_stays = λ silent. absurd (silent tt);
-  flushed = first_of (search rules, grind (arith, common_steps));
+  flushed = λ quiet. c.in-Ok-put_whole.ensures.flushed;
   shown = tt;
   unread = tt;
   idle = λ _. refl;
@@ -44,7 +52,12 @@ returns g c = λ done. record {
   cause = first_of (search rules, grind (arith, common_steps));
   asked = tt;
   can_be_printed = tt;
-  writes = first_of (search rules, grind (arith, common_steps));
+  writes =
+      (let put = rw c.as_bytes.ensures.value at c.in-Err-put_whole.ensures.text in
+      upgrade_writes (g.S.Shelf.known c.args.shelf.now) c.args.name.now c.in-Ok.basin
+      (string_bytes c.in-Ok-upgraded.text) its.WriteFault (g.K.Sink.output c.args.out.now)
+      (g.K.Sink.output c.put_whole.new.out) c.in-Ok.ensures.text c.in-Ok-upgraded.ensures.table
+      c.in-Ok-upgraded.ensures.spells c.in-Ok-upgraded.ensures.sound (put.0, put.2));
   out_stays = λ silent. absurd (silent tt);
   flushed = λ quiet. absurd quiet;
   shown = tt;
