@@ -22,7 +22,8 @@ returns-in-Err-OutOfMemory-clause-leaves g c =
     kept (HaveShown c.args.basin.now c.args.series.now c.args.edits.now) (months_bytes c.args.basin.now)
     (g.K.Sink.output c.args.out.now) (g.K.Sink.output c.put_shows.new.out)
     (g.K.Sink.output c.flush-in-Err-OutOfMemory.new.self)
-    (rw c.in-Err-OutOfMemory.field-0-is at c.in-Err-OutOfMemory.ensures.answers) c.flush-in-Err-OutOfMemory.ensures.bytes
+    (rw c.in-Err-OutOfMemory.field-0-is at c.in-Err-OutOfMemory.ensures.answers)
+    c.flush-in-Err-OutOfMemory.ensures.bytes
 
 pub returns-in-Err-OutOfMemory-clause-shown : goal.returns-in-Err-OutOfMemory-clause-shown
 returns-in-Err-OutOfMemory-clause-shown g c = λ sound.
