@@ -1,14 +1,11 @@
-//! The top call over files in memory, for the tests of the program.
+//! The top call over files in memory, for the cases and the tests of the program.
 #![tactic(auto)]
 
 ghost use Rattle.std.specs.Prelude.{◌≡◌, ◌<◌};
 
-pub mod basins;
-pub mod ordinary;
-
 use basin_cli::{Status, basin_main};
 use month_fold::work::Work;
-use std::alloc::Global;
+use std::alloc::{AllocError, Global};
 use std::marker::Brand;
 use std::sync::ledger::{Blank, Ledger};
 use std::test::Fail;
@@ -48,7 +45,11 @@ pub fn files(alloc: Global, basin: &str, series: &str) -> Result<Set, Fail> {
 }
 
 /// The words, and a shelf that holds the files.
-fn set_up(alloc: Global, words: &[&str], set: Set) -> Result<(Vec<String>, MemoryShelf), Fail> {
+fn set_up(
+    alloc: Global,
+    words: &[&str],
+    set: Set,
+) -> Result<(Vec<String>, MemoryShelf), AllocError> {
     let mut list = Vec::new(alloc);
     for word in words {
         list.push(String::from_str(alloc, word)?)?;
@@ -70,7 +71,7 @@ fn call_over<P: Ledger, M: Ledger>(
     months: Blank,
     words: &[&str],
     set: Set,
-) -> Result<(Status, MemorySink, MemorySink), Fail>
+) -> Result<(Status, MemorySink, MemorySink), AllocError>
     requires pushes_name { pushes.name ≡ P.name }
     requires pushes_parts { pushes.parts ≡ P.parts }
     requires pushes_some { 0 < P.parts }
@@ -91,7 +92,7 @@ pub fn call(
     alloc: Global,
     words: &[&str],
     set: Set,
-) -> Result<(Status, MemorySink, MemorySink), Fail> {
+) -> Result<(Status, MemorySink, MemorySink), AllocError> {
     let pushes = Blank::new(1);
     let months = Blank::new(1);
     call_over::<Brand, Brand>(alloc, pushes, months, words, set)
@@ -128,24 +129,4 @@ pub fn expect(
 pub fn with(alloc: Global, text: &str, old: &str, new: &str) -> Result<String, Fail> {
     let (before, after) = text.split_once(old).ok_or("nothing to change")?;
     Ok(format!(in alloc; "{before}{new}{after}")?)
-}
-
-/// The first lines of a text, at most `count`.
-pub fn prefix(alloc: Global, text: &str, count: u64) -> Result<String, Fail> {
-    let mut prefix = String::new(alloc);
-    let mut left = count;
-    for line in text.lines() {
-        if left == 0 {
-            break;
-        }
-        left -= 1;
-        prefix.push_str(line)?;
-        prefix.push_str("\n")?;
-    }
-    Ok(prefix)
-}
-
-/// A file of this many blanks.
-pub fn blanks(alloc: Global, count: usize) -> Result<Vec<u8>, Fail> {
-    Ok(vec![in alloc; 32; count]?)
 }

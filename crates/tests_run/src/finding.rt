@@ -1,9 +1,7 @@
 //! What the bytes of a basin file, a series and a result are found to be, without files and a command.
-use crate::rivers::JUNIOR_DRY;
+use crate::basins::{GAUGED, JUNIOR_DRY, JUNIOR_SHORT, ORDINARY, ORDINARY_SERIES, ORDINARY_TEXT};
 use basin_cli::{Found, check_result};
 use std::test::Fail;
-use test_support::basins::{GAUGED, JUNIOR_SHORT};
-use test_support::ordinary::{ORDINARY, ORDINARY_SERIES, ORDINARY_TEXT};
 
 /// The series of a basin without gauges.
 const HEADER: &str = "month,node,amount\n";

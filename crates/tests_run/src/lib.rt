@@ -1,31 +1,20 @@
-//! The tests of runs, checks, audits, reports and trials, over the program's top call.
+//! The tests over the program's top call that are no cases of `tests_cases`: those that compare two runs, whose inputs
+//! are made, or that look at bytes without a command.
 #![tactic(auto)]
 
 #[cfg(test)]
-mod audits;
+mod basins;
 #[cfg(test)]
-mod canals;
+mod calling;
 #[cfg(test)]
-mod checks;
+mod comparing;
 #[cfg(test)]
-mod failing;
+mod editing;
 #[cfg(test)]
 mod finding;
 #[cfg(test)]
-mod gauging;
+mod methods;
 #[cfg(test)]
-mod lakes;
+mod sizes;
 #[cfg(test)]
-mod refusing;
-#[cfg(test)]
-mod reporting;
-#[cfg(test)]
-mod returning;
-#[cfg(test)]
-mod rivers;
-#[cfg(test)]
-mod running;
-#[cfg(test)]
-mod seasons;
-#[cfg(test)]
-mod volumes;
+mod upgrading;

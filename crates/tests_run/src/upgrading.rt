@@ -1,10 +1,9 @@
 //! Basin files in format 2, written by `upgrade`. What they spell shows in what runs of them write.
+use crate::basins::{JUNIOR_SHORT, LAKE, ORDINARY, ORDINARY_SERIES, ORDINARY_TEXT};
 use basin_cli::Status;
 use std::alloc::Global;
 use std::test::Fail;
-use test_support::basins::{JUNIOR_SHORT, LAKE};
-use test_support::ordinary::{ORDINARY, ORDINARY_SERIES, ORDINARY_TEXT};
-use test_support::{NEVER, Set, blanks, call, expect, files};
+use test_support::{call, expect, files};
 
 const WORDS: [&str; 2] = ["upgrade", "BASIN"];
 
@@ -174,42 +173,4 @@ fn keeps_every_key(rt: HostRuntime) -> Result<(), Fail> {
         assert!(rt; once.as_str().contains(key), "{key} in {once}");
     }
     Ok(())
-}
-
-#[test]
-fn refuses_what_run_refuses(rt: HostRuntime) -> Result<(), Fail> {
-    let set = files(rt.alloc(), "format = 7\n", "")?;
-    let line = "basin: MissingKey top 0\n";
-    expect(rt.alloc(), &WORDS, set, (Status::BasinRefused, "", line))?;
-    let usage = (Status::Usage, "", "usage: basin_cli COMMAND WORDS\n");
-    for words in [
-        ["upgrade"].as_slice(),
-        ["upgrade", "BASIN", "SERIES"].as_slice(),
-        ["upgrades", "BASIN"].as_slice(),
-    ] {
-        let set = files(rt.alloc(), JUNIOR_SHORT.0, "")?;
-        expect(rt.alloc(), words, set, usage)?;
-    }
-    let mut long = files(rt.alloc(), "", "")?;
-    long.basin = blanks(rt.alloc(), 67_108_865)?;
-    let too_long = (Status::InputTooLong, "", "too long: BASIN\n");
-    expect(rt.alloc(), &WORDS, long, too_long)
-}
-
-/// A basin whose file, or whose text, fails.
-fn failing(alloc: Global, shelf_fails: u64, out_fails: u64) -> Result<Set, Fail> {
-    let mut set = files(alloc, JUNIOR_SHORT.0, "")?;
-    set.shelf_fails = shelf_fails;
-    set.out_fails = out_fails;
-    Ok(set)
-}
-
-#[test]
-fn says_what_failed(rt: HostRuntime) -> Result<(), Fail> {
-    let set = failing(rt.alloc(), 0, NEVER)?;
-    let read = (Status::ReadFault, "", "read: BASIN\n");
-    expect(rt.alloc(), &WORDS, set, read)?;
-    let set = failing(rt.alloc(), NEVER, 0)?;
-    let write = (Status::WriteFault, "", "write: failed\n");
-    expect(rt.alloc(), &WORDS, set, write)
 }
