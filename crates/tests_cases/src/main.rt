@@ -1,7 +1,7 @@
 //! Runs the cases of the files in data/ over the program's top call, and tells which of them end otherwise than they
 //! say. The files are the words that it is called with. How they are written stands in data/common.
 //!
-//! A line is printed for each case that differs, and at the end one for each file, with how many of its cases passed.
+//! A line is printed for each case that differs, and for each file one with how many of its cases passed.
 //! The status is 0 where all pass, 1 where a case differs, and 2 where a file can't be read or has a line that is not
 //! understood.
 #![tactic(auto)]
@@ -68,14 +68,17 @@ fn try_file<R: Files>(
     report_on(alloc, report, name, &cases)
 }
 
-/// What is printed, and whether all passed. Or the file at fault, and its fault.
-fn try_files<R: Files + Env + AllocGlobal>(rt: &R) -> Result<(String, bool), (String, Fault)> {
+/// Tries the cases of the files that the words name, and adds to the report. Answers whether all passed, or the file at
+/// fault with its fault.
+fn try_files<R: Files + Env + AllocGlobal>(
+    rt: &R,
+    report: &mut String,
+) -> Result<bool, (String, Fault)> {
     let alloc = rt.alloc();
-    let mut report = String::new(alloc);
     let mut reader = Reader::new(alloc);
     let mut all = true;
     let Ok(names) = std::env::args(rt) else {
-        return Err((report, Fault::NoText));
+        return Err((String::new(alloc), Fault::NoText));
     };
     let mut is_first = true;
     for name in names {
@@ -83,23 +86,26 @@ fn try_files<R: Files + Env + AllocGlobal>(rt: &R) -> Result<(String, bool), (St
             is_first = false;
             continue;
         }
-        match try_file(alloc, rt, &mut reader, &mut report, name.as_str()) {
+        match try_file(alloc, rt, &mut reader, report, name.as_str()) {
             Ok(passed) => all = all && passed,
             Err(fault) => return Err((name, fault)),
         }
     }
-    Ok((report, all))
+    Ok(all)
 }
 
 fn main(rt: HostRuntime) -> ExitCode {
-    match try_files(&rt) {
-        Ok((report, all)) => {
-            let printed = print!(rt; "{report}");
-            if printed.is_err() {
-                return ExitCode::from(2);
-            }
-            ExitCode::from(if all { 0 } else { 1 })
-        }
+    let mut report = String::new(rt.alloc());
+    let tried = try_files(&rt, &mut report);
+    let printed = print!(rt; "{report}");
+    match tried {
+        Ok(all) => ExitCode::from(if printed.is_err() {
+            2
+        } else if all {
+            0
+        } else {
+            1
+        }),
         Err((name, fault)) => {
             let _ = eprintln!(rt; "{name}: {fault}");
             ExitCode::from(2)
