@@ -1,7 +1,7 @@
 //! Texts from lines that begin with a mark, and changes of them.
 //!
-//! A line `|TEXT` is a line of the text with its line feed. A line `~TEXT` has no line feed of its own, and each `\x` in
-//! it stands before the two digits of a byte.
+//! A line `|TEXT` is a line of the text with its line feed. A line `~TEXT` has no line feed of its own, and each `\x`
+//! in it stands before the two digits of a byte.
 
 use crate::fault::{Fault, Wrong};
 use std::alloc::Global;
