@@ -1,5 +1,0 @@
-use Rattle.residual_tree.specs.Tree.{IsResidualTree}
-use Rattle.tests_units.proofs.tree_raises.play_all.Given as goal
-
-abbrev pub invariant-loop-turn : goal.invariant-loop-turn
-invariant-loop-turn g l = IsResidualTree l.circ l.tree
