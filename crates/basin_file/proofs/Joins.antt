@@ -1,5 +1,5 @@
 -- How the parts of the order join.
-use Rattle.std.proofs.Common.{◌≡◌, ◌≢◌, ℕ, ◌+◌, List, [], ◌∷◌, Option, Some, None, option_and_then, IfOk, IfNone, All}
+use Rattle.std.proofs.Common.{◌≡◌, ℕ, ◌+◌, List, [], ◌∷◌, Option, Some, None, option_and_then, IfOk, IfNone, All}
 use Rattle.std.proofs.Common.{Result, Ok, Err, refl, sym, ap, ◌∙◌, inl, inr, nat_le, nat_lt, eqb}
 use Rattle.std.proofs.lemmas.Bool.{cases_Bool}
 use Rattle.toml.specs.Data.{Members}
@@ -15,7 +15,6 @@ use Rattle.rights_roll.specs.RollFaults.{roll_fault, IsRollRefusal}
 use Rattle.rights_roll.specs.declared.RollRefused.{RollRefused}
 use Rattle.rights_roll.specs.declared.RollRefused.TheVariants as roll
 use Rattle.reservoirs.specs.AreaFaults.{fault_after, table_fault}
-use Rattle.reservoirs.specs.declared.TableRefused.{TableRefused}
 use Rattle.reservoirs.specs.declared.TableRefused.TheVariants as area
 use Rattle.reservoirs.proofs.Tables.{is_table}
 use Rattle.basin_tree.specs.Order.{tree_fault}
@@ -24,56 +23,40 @@ use Rattle.basin_file.specs.BasinFaults.{roll_finding, area_finding, areas_fault
 use Rattle.basin_file.specs.Sound.{IsSoundBasin}
 use Rattle.basin_file.specs.Spelled.{basin_of}
 use Rattle.basin_file.proofs.Lists.{Each, each_all}
-use Rattle.basin_file.proofs.Passed.{no_fault, or_none}
+use Rattle.basin_file.proofs.Passed.{all_clean, or_none}
 use Rattle.basin_file.proofs.Whole.{sound_basin}
 
 -- a refused roll is reported as its first fault
 pub roll_found : (rights : List Right) (returns : List ReturnRow) (e : RollRefused) (finding : Finding) →
     IsRollRefusal e rights returns → Some finding ≡ roll_finding rights e →
     Some finding ≡ option_and_then (roll_finding rights) (roll_fault rights returns)
-roll_found rights returns (roll.BadDate right) finding refusal f =
-    f ∙ ap (option_and_then (roll_finding rights)) (sym refusal)
-roll_found rights returns (roll.SameSeniority first later) finding refusal f =
-    f ∙ ap (option_and_then (roll_finding rights)) (sym refusal)
-roll_found rights returns (roll.ZoneOrder right) finding refusal f =
-    f ∙ ap (option_and_then (roll_finding rights)) (sym refusal)
-roll_found rights returns (roll.ReturnParts right) finding refusal f =
-    f ∙ ap (option_and_then (roll_finding rights)) (sym refusal)
 roll_found rights returns roll.OutOfMemory finding refusal f = cc
+roll_found rights returns _ finding refusal f = f ∙ ap (option_and_then (roll_finding rights)) (sym refusal)
+
+-- what is reported as no fault is none
+abbrev pub IsReported : {F : Type 0} → (F → Option Finding) → Option F → Type 0
+IsReported f o = option_and_then f o ≡ None → o ≡ None
 
 -- an area table that is reported as no fault has none
-no_memory_after : (before : AreaPoint) (n : ℕ) (points : List AreaPoint) →
-    fault_after before n points ≢ Some area.OutOfMemory
-no_memory_after before n [] e = cc
-no_memory_after before n (p ∷ points) e =
+after_reported : (number : ℕ) (before : AreaPoint) (n : ℕ) (points : List AreaPoint) →
+    IsReported (area_finding number) (fault_after before n points)
+after_reported number before n [] e = refl
+after_reported number before n (p ∷ points) e =
     elim (cases_Bool (nat_le p.storage before.storage)) [
       | inl low ↦ (let h = rw low at e in cc)
       | inr high ↦ elim (cases_Bool (nat_lt p.area before.area)) [
         | inl falls ↦ (let h = rw (high, falls) at e in cc)
-        | inr stays ↦ no_memory_after p (n + 1) points (rw (high, stays) at e)
+        | inr stays ↦ rw (high, stays) (after_reported number p (n + 1) points (rw (high, stays) at e))
       ]
     ]
 
-no_memory : (points : List AreaPoint) → table_fault points ≢ Some area.OutOfMemory
-no_memory [] e = cc
-no_memory (p ∷ points) e =
+area_reported : (number : ℕ) (points : List AreaPoint) → IsReported (area_finding number) (table_fault points)
+area_reported number [] e = cc
+area_reported number (p ∷ points) e =
     elim (cases_Bool (eqb p.storage 0)) [
-      | inl begins ↦ no_memory_after p 1 points (rw begins at e)
+      | inl begins ↦ rw begins (after_reported number p 1 points (rw begins at e))
       | inr other ↦ (let h = rw other at e in cc)
     ]
-
-area_none : (number : ℕ) (points : List AreaPoint) → option_and_then (area_finding number) (table_fault points) ≡ None →
-    table_fault points ≡ None
-area_none number points e = by (table_fault points) refl e
-  where
-    by : (o : Option TableRefused) → table_fault points ≡ o → option_and_then (area_finding number) o ≡ None →
-        table_fault points ≡ None
-    by None same e = same
-    by (Some area.Empty) same e = cc
-    by (Some area.FirstNotZero) same e = cc
-    by (Some (area.NotRising point)) same e = cc
-    by (Some (area.AreaFalls point)) same e = cc
-    by (Some area.OutOfMemory) same e = absurd (no_memory points same)
 
 each_table : (n : ℕ) (reservoirs : List Reservoir) → areas_fault n reservoirs ≡ None →
     Each (λ v. IsAreaTable v.area) reservoirs
@@ -81,7 +64,7 @@ each_table n [] e = tt
 each_table n (v ∷ reservoirs) e =
     let both =
     or_none (option_and_then (area_finding (n + 1)) (table_fault v.area)) (areas_fault (n + 1) reservoirs) e in
-    (is_table v.area (area_none (n + 1) v.area both.0), each_table (n + 1) reservoirs both.1)
+    (is_table v.area (area_reported (n + 1) v.area both.0), each_table (n + 1) reservoirs both.1)
 
 -- where no reservoir is at fault, each has an area table
 pub areas_sound : (reservoirs : List Reservoir) (fault : Option Finding) → fault ≡ areas_fault 0 reservoirs →
@@ -118,5 +101,5 @@ valid_by b sound network roll tables = record {
 -- the basin that is spelled is sound
 pub sound_of : {E : Type 0} (tree : Members) (r : Result Basin E) → tree_fault tree ≡ None →
     IfOk r (λ basin. basin ≡ basin_of tree) → IfOk r IsSoundBasin
-sound_of tree (Ok basin) e b = rw b (sound_basin tree (no_fault tree e))
+sound_of tree (Ok basin) e b = rw b (sound_basin tree (all_clean tree e))
 sound_of tree (Err e2) e b = tt

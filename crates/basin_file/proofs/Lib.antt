@@ -1,3 +1,4 @@
+pub mod Fields
 pub mod Lists
 pub mod Months
 pub mod Passed
@@ -14,8 +15,6 @@ pub mod Texts
 pub mod Printed
 pub mod ReadBack
 pub mod Listed
-pub mod TableKeys
 pub mod TableSpells
 pub mod Fitting
 pub mod CleanTables
-pub mod CleanRights

@@ -1,6 +1,6 @@
 -- Values that stand in the table of a basin are read back: numbers, lists of them, texts and dates.
-use Rattle.std.proofs.Common.{◌≡◌, ℕ, zero, suc, ◌+◌, ◌*◌, ◌/◌, ◌%◌, ◌^◌, ◌<◌, ◌≤◌, ◌∙◌, Bool, true, false, ap, sym}
-use Rattle.std.proofs.Common.{refl, arith, List, [], ◌∷◌, length, map, get_or, nat_le, ◌&&◌, ◌==◌, codes, All}
+use Rattle.std.proofs.Common.{◌≡◌, ◌≢◌, ℕ, zero, suc, ◌+◌, ◌*◌, ◌/◌, ◌%◌, ◌^◌, ◌<◌, ◌≤◌, ◌∙◌, Bool, true, false, ap, sym}
+use Rattle.std.proofs.Common.{refl, arith, List, [], ◌∷◌, length, map, get_or, nat_le, pos, ◌&&◌, ◌==◌, codes, All}
 use Rattle.std.specs.Prelude.{Option, Some, None, option_map}
 use Rattle.std.proofs.lemmas.Bool.Decides.{nat_tests}
 use Rattle.std.proofs.lemmas.List.Elements.{All-tail}
@@ -11,7 +11,7 @@ use Rattle.std.specs.Option.{option_map_or}
 use Rattle.std.specs.Str.Parse.{digits_value}
 use Rattle.toml.specs.Data.{array, Items, no_items, item, get_item}
 use Rattle.toml.specs.View.{items_of}
-use Rattle.toml_tree.specs.Values.{integer_of, month_number, monthly_of}
+use Rattle.toml_tree.specs.Values.{integer_of, is_between, month_number, monthly_of}
 use Rattle.water_text.specs.Days.{is_date, read_day}
 use Rattle.water_text.specs.Months.{IsMonth, month_digits}
 use Rattle.water_text.specs.Names.{is_name}
@@ -32,12 +32,15 @@ use Rattle.basin_file.specs.Upgraded.{closed_data, day_text, inflow_data, number
 use Rattle.basin_file.specs.Upgraded.{shut_months, some_items}
 use Rattle.basin_file.proofs.Texts.{short_date}
 
+pub between : (least n most : ℕ) → least ≤ n → n ≤ most → is_between least most (pos n) ≡ true
+between least n most low high = test least n most low high
+  where
+    test : (least n most : ℕ) → least ≤ n → n ≤ most → (nat_le least n && nat_le n most) ≡ true
+    test least n most low high = grind (arith, nat_tests)
+
 -- a number within its range
 pub whole_read : (least most default n : ℕ) → least ≤ n → n ≤ most → integer_of least most default (Some (number n)) ≡ n
 whole_read least most default n low high = rw (between least n most low high) refl
-  where
-    between : (least n most : ℕ) → least ≤ n → n ≤ most → (nat_le least n && nat_le n most) ≡ true
-    between least n most low high = grind (arith, nat_tests)
 
 -- twelve numbers, each at its index
 item_read : (most : ℕ) (ns : List ℕ) (k : ℕ) → k < length ns → get_or ns k 0 ≤ most →
@@ -73,12 +76,12 @@ area_read (p ∷ area) h =
       area_read area (All-tail IsValidPoint p area h),
     ) refl
 
--- the months in which a canal is shut: those after a month don't name it
-other_month : (n month : ℕ) → 1 ≤ n → n ≤ 12 → month < n → (integer_of 1 12 0 (Some (number n)) == month) ≡ false
-other_month n month low high less = rw (whole_read 1 12 0 n low high) (other n month less)
+-- the months in which a canal is shut: only a month itself names it
+other_month : (n month : ℕ) → 1 ≤ n → n ≤ 12 → n ≢ month → (integer_of 1 12 0 (Some (number n)) == month) ≡ false
+other_month n month low high other = rw (whole_read 1 12 0 n low high) (apart n month other)
   where
-    other : (n month : ℕ) → month < n → (n == month) ≡ false
-    other n month less = grind (arith, nat_tests)
+    apart : (n month : ℕ) → n ≢ month → (n == month) ≡ false
+    apart n month other = grind (arith, nat_tests)
 
 this_month : (n : ℕ) → 1 ≤ n → n ≤ 12 → (integer_of 1 12 0 (Some (number n)) == n) ≡ true
 this_month n low high = rw (whole_read 1 12 0 n low high) (same n)
@@ -86,17 +89,11 @@ this_month n low high = rw (whole_read 1 12 0 n low high) (same n)
     same : (n : ℕ) → (n == n) ≡ true
     same n = grind (arith, nat_tests)
 
-later_month : (n month : ℕ) → 1 ≤ n → n ≤ 12 → n < month → (integer_of 1 12 0 (Some (number n)) == month) ≡ false
-later_month n month low high less = rw (whole_read 1 12 0 n low high) (other n month less)
-  where
-    other : (n month : ℕ) → n < month → (n == month) ≡ false
-    other n month less = grind (arith, nat_tests)
-
 not_after : (from month : ℕ) (shut : List Bool) → 1 ≤ from → from + length shut ≤ 13 → month < from →
     items_any (λ x. integer_of 1 12 0 (Some x) == month) (numbers (shut_months from shut)) ≡ false
 not_after from month [] low high less = refl
 not_after from month (true ∷ shut) low high less =
-    rw (other_month from month low (omega arith) less)
+    rw (other_month from month low (omega arith) (omega arith))
     (not_after (from + 1) month shut (omega arith) (omega arith) (omega arith))
 not_after from month (false ∷ shut) low high less =
     not_after (from + 1) month shut (omega arith) (omega arith) (omega arith)
@@ -110,7 +107,7 @@ month_read from zero month (true ∷ shut) low high within is =
 month_read from zero month (false ∷ shut) low high within is =
     sym (not_after (from + 1) month shut (omega arith) (omega arith) (omega arith))
 month_read from (suc k) month (true ∷ shut) low high within is =
-    rw (later_month from month low (omega arith) (omega arith))
+    rw (other_month from month low (omega arith) (omega arith))
     (month_read (from + 1) k month shut (omega arith) (omega arith) (omega arith) (omega arith))
 month_read from (suc k) month (false ∷ shut) low high within is =
     month_read (from + 1) k month shut (omega arith) (omega arith) (omega arith) (omega arith)

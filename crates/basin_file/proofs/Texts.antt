@@ -7,9 +7,9 @@ use Rattle.std.specs.List.{list_all}
 use Rattle.std.specs.Str.{IsAscii}
 use Rattle.std.proofs.lemmas.Bool.Decides.{nat_tests}
 use Rattle.std.proofs.lemmas.Fmt.{IsAscii-decimal}
-use Rattle.std.proofs.lemmas.List.Elements.{All-append}
 use Rattle.std.proofs.lemmas.List.Sums.{AllPass-from_list_all}
-use Rattle.std.proofs.lemmas.Str.Ascii.{All-from_ascii, IsAscii-cons, IsAscii-from_all, IsAscii-nil}
+use Rattle.std.proofs.lemmas.Str.{IsAscii-append}
+use Rattle.std.proofs.lemmas.Str.Ascii.{IsAscii-cons, IsAscii-from_all, IsAscii-nil}
 use Rattle.water_text.specs.Days.{is_date}
 use Rattle.water_text.specs.Months.{IsMonth, month_digits, days_in}
 use Rattle.water_text.specs.Names.{is_name, is_name_byte}
@@ -42,13 +42,9 @@ two_ascii n l =
 dash_ascii : (n : ℕ) → n < 100 → IsAscii (45 ∷ two_digits n)
 dash_ascii n l = IsAscii-cons 45 (two_digits n) (omega arith) (two_ascii n l)
 
-both_ascii : (xs ys : List ℕ) → IsAscii xs → IsAscii ys → IsAscii (xs ++ ys)
-both_ascii xs ys h k =
-    IsAscii-from_all (xs ++ ys) (All-append (λ byte. byte < 128) xs ys (All-from_ascii xs h) (All-from_ascii ys k))
-
 pub month_ascii : (m : Month) → IsMonth m → IsAscii (month_digits m)
 month_ascii m h =
-    both_ascii (decimal m.year) (45 ∷ two_digits m.month) (IsAscii-decimal m.year (omega (arith, h.year)))
+    IsAscii-append (decimal m.year) (45 ∷ two_digits m.month) (IsAscii-decimal m.year (omega (arith, h.year)))
     (dash_ascii m.month (omega (arith, h.month)))
 
 -- the numbers of a date have as many digits as their texts
@@ -59,42 +55,28 @@ pub record HasShortNumbers (d : Day) : Type 0 where
 
 pub short_date : (d : Day) → is_date d ≡ true → HasShortNumbers d
 unfolding is_date
-short_date d h = record {
-  year = year d.year d.month d.day (days_in d.year d.month) h;
-  month = month d.year d.month d.day (days_in d.year d.month) h;
-  day = omega (arith, day d.year d.month d.day (days_in d.year d.month) h, most);
-}
+short_date d h = record { year = its.0; month = its.2; day = omega (arith, its.3, most) }
   where
-    year : (y m k n : ℕ) →
-        (nat_le 1 y && nat_le y 2999) && (nat_le 1 m && nat_le m 12) && (nat_le 1 k && nat_le k n) ≡ true → y ≤ 2999
-    year y m k n e = grind (arith, nat_tests)
+    parts : (y m k n : ℕ) →
+        (nat_le 1 y && nat_le y 2999) && (nat_le 1 m && nat_le m 12) && (nat_le 1 k && nat_le k n) ≡ true →
+        (y ≤ 2999) × (1 ≤ m) × (m ≤ 12) × (k ≤ n)
+    parts y m k n e =
+        (grind (arith, nat_tests), grind (arith, nat_tests), grind (arith, nat_tests), grind (arith, nat_tests))
 
-    first : (y m k n : ℕ) →
-        (nat_le 1 y && nat_le y 2999) && (nat_le 1 m && nat_le m 12) && (nat_le 1 k && nat_le k n) ≡ true → 1 ≤ m
-    first y m k n e = grind (arith, nat_tests)
-
-    month : (y m k n : ℕ) →
-        (nat_le 1 y && nat_le y 2999) && (nat_le 1 m && nat_le m 12) && (nat_le 1 k && nat_le k n) ≡ true → m ≤ 12
-    month y m k n e = grind (arith, nat_tests)
-
-    day : (y m k n : ℕ) →
-        (nat_le 1 y && nat_le y 2999) && (nat_le 1 m && nat_le m 12) && (nat_le 1 k && nat_le k n) ≡ true → k ≤ n
-    day y m k n e = grind (arith, nat_tests)
+    its : (d.year ≤ 2999) × (1 ≤ d.month) × (d.month ≤ 12) × (d.day ≤ days_in d.year d.month)
+    its = parts d.year d.month d.day (days_in d.year d.month) h
 
     most : days_in d.year d.month ≤ 31
-    most =
-        rw (days_in-days_in_month d.year d.month (first d.year d.month d.day (days_in d.year d.month) h)
-        (month d.year d.month d.day (days_in d.year d.month) h))
-        (days_in_month-le (pos d.year) d.month)
+    most = rw (days_in-days_in_month d.year d.month its.1 its.2) (days_in_month-le (pos d.year) d.month)
 
 pub day_ascii : (d : Day) → is_date d ≡ true → IsAscii (day_text d)
 unfolding day_text
 day_ascii d h =
     let its = short_date d h in
-    both_ascii (two_digits (d.year / 100) ++ two_digits (d.year % 100) ++ 45 ∷ two_digits d.month)
+    IsAscii-append (two_digits (d.year / 100) ++ two_digits (d.year % 100) ++ 45 ∷ two_digits d.month)
     (45 ∷ two_digits d.day)
-    (both_ascii (two_digits (d.year / 100) ++ two_digits (d.year % 100)) (45 ∷ two_digits d.month)
-    (both_ascii (two_digits (d.year / 100)) (two_digits (d.year % 100))
+    (IsAscii-append (two_digits (d.year / 100) ++ two_digits (d.year % 100)) (45 ∷ two_digits d.month)
+    (IsAscii-append (two_digits (d.year / 100)) (two_digits (d.year % 100))
     (two_ascii (d.year / 100) (omega (arith, its.year))) (two_ascii (d.year % 100) (omega arith)))
     (dash_ascii d.month (omega (arith, its.month))))
     (dash_ascii d.day (omega (arith, its.day)))
