@@ -1,15 +1,19 @@
--- The table of a valid basin has no fault: its rows are fields that fit, and each of its entries is clean.
-use Rattle.std.proofs.Common.{◌≡◌, ℕ, suc, ◌+◌, ◌-◌, ◌*◌, ◌/◌, ◌^◌, ◌<◌, ◌≤◌, ◌∙◌, Bool, true, false, not, ◌&&◌}
-use Rattle.std.proofs.Common.{◌==◌, nat_le, nat_lt, ap, sym, subst, refl, arith, List, [], ◌∷◌, ◌++◌, length, length-append}
+-- The table of a valid basin has no fault: its rows are fields that fit, each of its entries is clean, and it can be
+-- printed and read back.
+use Rattle.std.proofs.Common.{◌≡◌, ℕ, suc, ◌+◌, ◌-◌, ◌*◌, ◌/◌, ◌^◌, ◌<◌, ◌≤◌, ◌∙◌, Bool, true, false, not, ◌&&◌, ◌==◌}
+use Rattle.std.proofs.Common.{nat_le, nat_lt, ap, sym, subst, refl, arith, List, [], ◌∷◌, ◌++◌, length, length-append}
 use Rattle.std.proofs.Common.{map, take, slice_get, count_by, is_none, is_some, codes}
-use Rattle.std.specs.Prelude.{Option, Some, None, option_map, option_and_then, unwrap_or}
+use Rattle.std.specs.Prelude.{Option, Some, None, option_map, option_and_then, unwrap_or, if◌then◌else◌}
 use Rattle.std.proofs.lemmas.Bool.{eq-eqb, le-ltb}
 use Rattle.std.proofs.lemmas.List.{length-map}
 use Rattle.std.proofs.lemmas.Bool.Decides.{nat_tests}
 use Rattle.std.proofs.lemmas.Option.{slice_get-map, slice_get_within}
 use Rattle.std.proofs.lemmas.Slice.Eq.{bytes_eq-Decides}
 use Rattle.std.specs.Option.{option_map_or, option_or}
-use Rattle.toml.specs.Data.{Data, table, Members, get, get_item, as_array, as_bool, as_str}
+use Rattle.std.specs.Str.{IsUtf8, is_utf8}
+use Rattle.std.proofs.lemmas.Str.{is_utf8-from_IsUtf8}
+use Rattle.toml.specs.Data.{Data, table, Members, get, get_item, as_array, as_bool, as_str, members_depth}
+use Rattle.toml.specs.Data.{members_have_valid_dates}
 use Rattle.toml.specs.View.{items_of}
 use Rattle.toml_tree.specs.Items.{items_len}
 use Rattle.toml_tree.specs.Texts.{is_the_text, earlier_like}
@@ -19,8 +23,8 @@ use Rattle.water_text.specs.declared.month.Month.{Month}
 use Rattle.water_text.proofs.MonthLaws.{read_month-month_digits}
 use Rattle.water_model.specs.Basin.{is_outlet, node_name, link_name, reservoir_name, right_name}
 use Rattle.water_model.specs.Lookups.{of_entry}
-use Rattle.water_model.specs.Valid.{HasValidSite, IsAreaTable, IsValidBasin, IsValidLink, IsValidNode}
-use Rattle.water_model.specs.Valid.{IsValidReservoir, IsValidReturn}
+use Rattle.water_model.specs.Valid.{HasValidSite, IsAreaTable, IsValidBasin, IsValidLink, IsValidNode, IsValidReservoir}
+use Rattle.water_model.specs.Valid.{IsValidReturn}
 use Rattle.water_model.specs.declared.types.Basin.{Basin}
 use Rattle.water_model.specs.declared.types.Carry.{Carry}
 use Rattle.water_model.specs.declared.types.Carry.TheVariants.{River, Canal}
@@ -57,16 +61,18 @@ use Rattle.basin_file.specs.Spelled.{basin_of, rows_after, rows_in}
 use Rattle.basin_file.specs.Upgraded.{basin_table, closed_data, inflow_data, link_row, listed, node_row, number}
 use Rattle.basin_file.specs.Upgraded.{per_day_data, point_data, reservoir_row, return_row, right_row, rights_in}
 use Rattle.basin_file.specs.Upgraded.{row_of_kind, want_data}
+use Rattle.toml.specs.Parse.{parse_document}
+use Rattle.toml_tree.specs.Document.{document_of}
 use Rattle.basin_file.proofs.Counts.{before_less, count_where-entries, counts_within, earlier_at}
-use Rattle.basin_file.proofs.Fitting.{ArePlain, Field, clean_fields, closed_in, dated, in_field, inflow_in}
-use Rattle.basin_file.proofs.Fitting.{month, named, per_day_in, plain_fields, points, rate, refers, tables}
-use Rattle.basin_file.proofs.Fitting.{truth, volume_in, want_in, whole}
+use Rattle.basin_file.proofs.Fitting.{ArePlain, Field, clean_fields, closed_in, dated, in_field, inflow_in, month}
+use Rattle.basin_file.proofs.Fitting.{named, per_day_in, plain_fields, points, rate, refers, tables, truth, volume_in}
+use Rattle.basin_file.proofs.Fitting.{want_in, whole}
 use Rattle.basin_file.proofs.Listed.{all_each, item_listing, len_items, len_listing, rows_listing}
 use Rattle.basin_file.proofs.Lists.{Each, each_all, each_at, each_then}
 use Rattle.basin_file.proofs.Passed.{IsClean, IsListed, IsTidy, entry_of, listing, no_tree_fault, top_entry}
-use Rattle.basin_file.proofs.TableSpells.{IsRightIn, all_rights, diversion_named, link_at, link_named, lists, node_named}
-use Rattle.basin_file.proofs.TableSpells.{reservoir_named, return_texts, right_named, rights_sound, rows_for}
-use Rattle.basin_file.proofs.TableSpells.{table_spells, text_there, top_at, whole_there}
+use Rattle.basin_file.proofs.TableSpells.{IsRightIn, all_rights, diversion_named, link_at, link_named, lists}
+use Rattle.basin_file.proofs.TableSpells.{node_named, reservoir_named, return_texts, right_named, rights_sound}
+use Rattle.basin_file.proofs.TableSpells.{rows_for, table_spells, text_there, top_at, whole_there}
 
 -- a name that first stands at its own index is no earlier entry's
 owns : (tree : Members) (t : BasinTable) (k : ℕ) (row : Members) (space : Space) (q : List ℕ) (j : ℕ) →
@@ -448,3 +454,25 @@ table_is_sound b valid =
     ap (λ (o : Option Finding). option_or o (basin_fault (basin_of (basin_table b))))
     (no_tree_fault (basin_table b) (record { top = top_clean b valid; tidy = tidy b valid }))
     ∙ (ap basin_fault (table_spells b valid) ∙ basin_none b valid)
+
+-- what is printed of it is read back
+pub read_back : (b : Basin) → IsValidBasin b → (text : List ℕ) (ms : Members) → ms ≡ basin_table b → IsUtf8 text →
+    (members_depth ms ≤ 80 → parse_document text ≡ Some ms) →
+    document_of text ≡ Some (basin_table b)
+read_back b valid text ms is utf8 reads =
+    by_test (is_utf8 text) (is_utf8-from_IsUtf8 text utf8) (reads (short ms is) ∙ ap (λ (t : Members). Some t) is)
+  where
+    short : (ms : Members) → ms ≡ basin_table b → members_depth ms ≤ 80
+    short ms is = rw is (let its = table_is_plain b valid in omega (arith, its.shallow))
+
+    by_test : (t : Bool) → t ≡ true → parse_document text ≡ Some (basin_table b) →
+        (if t then parse_document text else None) ≡ Some (basin_table b)
+    by_test true e h = h
+    by_test false e h = cc
+
+-- and no date of it is invalid
+pub no_dates : (b : Basin) → IsValidBasin b → (ms : Members) → ms ≡ basin_table b → members_have_valid_dates ms ≡ false → ⊥
+no_dates b valid ms is h =
+    let its = table_is_plain b valid in
+    let clash : true ≡ false = sym its.dates ∙ (ap members_have_valid_dates (sym is) ∙ h) in
+    cc

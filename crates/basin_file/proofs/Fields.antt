@@ -1,14 +1,41 @@
--- Rows by their keys in rising order: what stands at each, and that they can be put from the last to the first.
-use Rattle.std.proofs.Common.{◌≡◌, ℕ, ◌∙◌, ap, sym, refl, Bool, true, List, [], ◌∷◌, ◌&&◌, nat_cmp}
-use Rattle.std.proofs.Common.{Ordering, Less, Equal, Greater}
-use Rattle.std.specs.Prelude.{Option, Some, None, if◌then◌else◌}
+-- Members that are added to a table, and rows by their keys in rising order: what stands at each, and that they can be
+-- put from the last to the first.
+use Rattle.std.proofs.Common.{◌≡◌, ℕ, ap, refl, false, List, [], ◌∷◌, length, String, Global, string_bytes, Ordering}
+use Rattle.std.proofs.Common.{Less, Equal, Greater, ◌∙◌, sym, Bool, true, ◌&&◌, nat_cmp}
+use Rattle.std.specs.Prelude.{◌==◌, Option, Some, None, if◌then◌else◌}
+use Rattle.std.specs.Ordering.{match_ordering, is_eq, is_lt}
+use Rattle.std.specs.String.{string_cmp}
+use Rattle.std.specs.BTreeMap.{insert_entry}
 use Rattle.std.specs.Cmp.Lexicographic.{slice_cmp}
-use Rattle.std.specs.Ordering.{is_eq, is_lt, match_ordering}
 use Rattle.std.proofs.lemmas.Bool.{and_parts}
 use Rattle.std.proofs.lemmas.Map.Text.{is_eq-slice_cmp}
 use Rattle.std.proofs.lemmas.Slice.Eq.{bytes_eq-Decides}
-use Rattle.toml.specs.Data.{Data, Members, no_members, member, get_member, is_before}
-use Rattle.basin_file.specs.Upgraded.{with_member, with_option, with_some}
+use Rattle.toml.specs.Data.{array, Members, member, Data, no_members, get_member, is_before}
+use Rattle.toml.specs.View.{view, items_view, members_view}
+use Rattle.toml.specs.declared.value.Value.{Value}
+use Rattle.basin_file.specs.Upgraded.{some_items, with_member, with_option, with_some}
+
+-- a key that is put into the map of a table
+pub view-insert : (k : String Global) (v : Value) (es : List (String Global × Value)) →
+    members_view (insert_entry string_cmp es k v) ≡ with_member (string_bytes k) (view v) (members_view es)
+view-insert k v [] = refl
+view-insert k v (e ∷ es) = by_order (string_cmp k e.0) (view-insert k v es)
+  where
+    by_order : (o : Ordering) →
+        members_view (insert_entry string_cmp es k v) ≡ with_member (string_bytes k) (view v) (members_view es) →
+        members_view (match_ordering o ((k, v) ∷ e ∷ es) ((e.0, v) ∷ es) (e ∷ insert_entry string_cmp es k v))
+        ≡ match_ordering o (member (string_bytes k) (view v) (member (string_bytes e.0) (view e.1) (members_view es)))
+        (member (string_bytes e.0) (view v) (members_view es))
+        (member (string_bytes e.0) (view e.1) (with_member (string_bytes k) (view v) (members_view es)))
+    by_order Less further = refl
+    by_order Equal further = refl
+    by_order Greater further = ap (member (string_bytes e.0) (view e.1)) further
+
+-- a list is put unless it is empty
+pub listed-put : (key : List ℕ) (values : List Value) (ms : Members) → (length values == 0) ≡ false →
+    with_member key (array (items_view values)) ms ≡ with_option key (some_items (items_view values)) ms
+listed-put key [] ms h = cc
+listed-put key (v ∷ values) ms h = refl
 
 -- a key, and its value if it has one
 abbrev pub Keyed : Type 0

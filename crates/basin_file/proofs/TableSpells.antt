@@ -44,10 +44,10 @@ use Rattle.basin_file.specs.Upgraded.{per_day_data, reservoir_row, return_row, r
 use Rattle.basin_file.specs.Upgraded.{want_data}
 use Rattle.basin_file.proofs.Fields.{Keyed, looked_up, value_at}
 use Rattle.basin_file.proofs.Listed.{HaveOwn, all_each, diversion_same, diversion_within, diversions_own, each_filter}
-use Rattle.basin_file.proofs.Listed.{index_found, index_read, items_in, items_listed, map_alike, map_back, rights_by_table}
-use Rattle.basin_file.proofs.Listed.{rows_listing, texts_listing}
+use Rattle.basin_file.proofs.Listed.{index_found, index_read, items_in, items_listed, map_alike, map_back}
+use Rattle.basin_file.proofs.Listed.{rights_by_table, rows_listing, texts_listing}
 use Rattle.basin_file.proofs.Lists.{Each, each_any, each_then, each_with}
-use Rattle.basin_file.proofs.Months.{series_wants}
+use Rattle.basin_file.proofs.Ranges.{series_wants}
 use Rattle.basin_file.proofs.Passed.{IsListed, listing}
 use Rattle.basin_file.proofs.ReadBack.{area_read, carry_read, date_read, first_read, inflow_read, monthly_read}
 use Rattle.basin_file.proofs.ReadBack.{name_read, volume_read, whole_read}

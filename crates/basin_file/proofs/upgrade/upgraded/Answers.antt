@@ -6,8 +6,7 @@ use Rattle.toml.specs.View.{table_view}
 use Rattle.toml.specs.declared.ser.error.Error.{Error}
 use Rattle.basin_file.specs.BasinFaults.{document_fault}
 use Rattle.basin_file.specs.Upgraded.{basin_table}
-use Rattle.basin_file.proofs.CleanTables.{table_is_sound}
-use Rattle.basin_file.proofs.Printed.{no_dates, read_back}
+use Rattle.basin_file.proofs.CleanTables.{table_is_sound, no_dates, read_back}
 use Rattle.basin_file.proofs.TableSpells.{table_spells}
 use Rattle.basin_file.proofs.upgrade.upgraded.Goals as goal
 
