@@ -102,7 +102,8 @@ tidy_rows : {X : Type 0} {tree : Members} (t : BasinTable) (row : X → Members)
     ((k : ℕ) (x : X) → slice_get xs k ≡ Some x → IsClean tree (entry_of t k (row x))) → IsTidy tree t
 tidy_rows {X = X} {tree = tree} t row xs its clean = record {
   lists = its ∙ ap listing (sym rows);
-  clean = λ k r at. by k r (slice_get xs k) refl (sym (slice_get-map row xs k) ∙ (ap (λ rs. slice_get rs k) (sym rows) ∙ at));
+  clean = λ k r at. by k r (slice_get xs k) refl
+      (sym (slice_get-map row xs k) ∙ (ap (λ rs. slice_get rs k) (sym rows) ∙ at));
 }
   where
     rows : rows_in tree t ≡ map row xs
@@ -164,7 +165,8 @@ module _ (b : Basin) (valid : IsValidBasin b) where
     order_field = whole tree (codes "order") false 1 0 1000000 r.order (omega arith) h.0.order
 
     abbrev want_field : Field tree 2
-    want_field = in_field tree (required (codes "want") Want) (Some (want_data r)) (want_in tree r.want r.series h.0.want)
+    want_field =
+        in_field tree (required (codes "want") Want) (Some (want_data r)) (want_in tree r.want r.series h.0.want)
 
     abbrev diversion_fields : (node : ℕ) → node < length b.nodes → List (Field tree 2)
     diversion_fields node index =
@@ -236,7 +238,8 @@ module _ (b : Basin) (valid : IsValidBasin b) where
       let within = slice_get_within b.links k l at in
       clean_fields tree which.Link (k + 1) (link_fields l (all_at (IsValidLink b) b.links k l valid.links at)) format
       (record { rising = refl; known = refl; found = refl }) refl
-      ((λ i. is_some (link_at b l (codes "closed") i) && not (is_some (link_at b l (codes "per_day") i))) ∙ canal l.carry)
+      ((λ i. is_some (link_at b l (codes "closed") i) && not (is_some (link_at b l (codes "per_day") i)))
+      ∙ canal l.carry)
       refl (le-ltb 4000 (k + 1) (omega (arith, within, valid.bounded.links)))
       (owns tree which.Link k (link_row b l) Links l.name k refl
       (text_there (codes "name") (link_row b l) l.name (link_at b l (codes "name")))
@@ -471,7 +474,8 @@ read_back b valid text ms is utf8 reads =
     by_test false e h = cc
 
 -- and no date of it is invalid
-pub no_dates : (b : Basin) → IsValidBasin b → (ms : Members) → ms ≡ basin_table b → members_have_valid_dates ms ≡ false → ⊥
+pub no_dates : (b : Basin) → IsValidBasin b → (ms : Members) → ms ≡ basin_table b →
+    members_have_valid_dates ms ≡ false → ⊥
 no_dates b valid ms is h =
     let its = table_is_plain b valid in
     let clash : true ≡ false = sym its.dates ∙ (ap members_have_valid_dates (sym is) ∙ h) in

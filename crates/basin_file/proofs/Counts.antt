@@ -1,5 +1,6 @@
 -- Counts of entries and of return rows.
-use Rattle.std.proofs.Common.{nat_lt, ◌≡◌, ℕ, zero, suc, ◌+◌, ◌<◌, ◌≤◌, List, [], ◌∷◌, length, map, take, Bool, true, Option}
+use Rattle.std.proofs.Common.{nat_lt, ◌≡◌, ℕ, zero, suc, ◌+◌, ◌<◌, ◌≤◌, List, [], ◌∷◌, length, map, take, Bool}
+use Rattle.std.proofs.Common.{true, Option}
 use Rattle.std.proofs.Common.{false, Some, slice_get, if◌then◌else◌, count_by, refl, sym, ap, ◌∙◌, arith, nat_lt}
 use Rattle.std.proofs.lemmas.List.Sums.{sum_by-cons}
 use Rattle.std.proofs.lemmas.Bool.{ltb-false}
@@ -81,7 +82,8 @@ pub before_less : {X : Type 0} (p : X → Bool) (xs : List X) (k : ℕ) (x : X) 
 before_less p [] k x e passes = cc
 before_less p (y ∷ xs) zero x e passes =
     let same : y ≡ x = cc in
-    let least : 1 ≤ count_by p (y ∷ xs) = rw (count_by-cons p y xs) (counted (p y) (count_by p xs) (ap p same ∙ passes)) in
+    let least : 1 ≤ count_by p (y ∷ xs) = rw (count_by-cons p y xs)
+    (counted (p y) (count_by p xs) (ap p same ∙ passes)) in
     omega arith
   where
     counted : (t : Bool) (m : ℕ) → t ≡ true → 1 ≤ (if t then 1 else 0) + m

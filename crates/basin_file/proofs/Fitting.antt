@@ -103,7 +103,8 @@ monthly_items most ns h =
     ranged_items 0 most ns (each_then (λ n. n ≤ most) (λ n. is_between 0 most (pos n) ≡ true) ns
     (λ n l. between 0 n most (omega arith) l) (all_each (λ n. n ≤ most) ns h.each))
 
-pub twelve_items : (most : ℕ) (ns : List ℕ) → IsMonthly most ns → is_listed is_integer_value 12 (array (numbers ns)) ≡ true
+pub twelve_items : (most : ℕ) (ns : List ℕ) → IsMonthly most ns →
+    is_listed is_integer_value 12 (array (numbers ns)) ≡ true
 twelve_items most ns h = rw (len_items number ns, h.twelve, whole_items ns) refl
 
 months_each : (from : ℕ) (shut : List Bool) → 1 ≤ from → from + length shut ≤ 13 →
@@ -113,7 +114,8 @@ months_each from (true ∷ shut) low high =
     (between 1 from 12 low (omega arith), months_each (from + 1) shut (omega arith) (omega arith))
 months_each from (false ∷ shut) low high = months_each (from + 1) shut (omega arith) (omega arith)
 
-pub pair_items : (area : List AreaPoint) → items_all (is_listed is_integer_value 2) (items_of (map point_data area)) ≡ true
+pub pair_items : (area : List AreaPoint) →
+    items_all (is_listed is_integer_value 2) (items_of (map point_data area)) ≡ true
 pair_items [] = refl
 pair_items (p ∷ area) = pair_items area
 
@@ -160,7 +162,8 @@ module _ (tree : Members) where
       is_bad_name key.kind d ≡ false → names_none tree key.kind d ≡ false → IsPlain n d → Field tree n
   field key d p q r s plain = record { key = key; value = Some d; fits = fits_by key d p q r s; plain = plain }
 
-  abbrev pub whole : {n : ℕ} (key : List ℕ) (needed : Bool) (since least most k : ℕ) → least ≤ k → k ≤ most → Field tree n
+  abbrev pub whole : {n : ℕ} (key : List ℕ) (needed : Bool) (since least most k : ℕ) → least ≤ k → k ≤ most →
+      Field tree n
   whole {n = n} key needed since least most k low high =
       field (record { name = key; is_required = needed; kind = Integer least most; since = since }) (number k) refl
       (between least k most low high) refl refl (plain_number k n)
@@ -170,9 +173,11 @@ module _ (tree : Members) where
       field (required (codes "name") Name) (string text) refl refl (ap not good) refl (plain_text text 2)
 
   abbrev pub truth : (key : List ℕ) → Bool → Field tree 2
-  truth key t = field (optional key Truth) (boolean t) refl refl refl refl (record { shallow = omega arith; dates = refl })
+  truth key t =
+      field (optional key Truth) (boolean t) refl refl refl refl (record { shallow = omega arith; dates = refl })
 
-  abbrev pub refers : (key : List ℕ) (space : Space) (q : List ℕ) (k : ℕ) → named_at tree space q ≡ Some k → Field tree 2
+  abbrev pub refers : (key : List ℕ) (space : Space) (q : List ℕ) (k : ℕ) → named_at tree space q ≡ Some k →
+      Field tree 2
   refers key space q k named =
       field (required key (Refers space)) (string q) refl refl refl (ap (λ (o : Option ℕ). not (is_some o)) named)
       (plain_text q 2)
@@ -196,7 +201,8 @@ module _ (tree : Members) where
       field (optional (codes "area") Points) (array (items_of (map point_data area))) (pair_items area)
       (point_items area h) refl refl
       (plain_array 1 (items_of (map point_data area)) (plain_items 1 point_data area
-      (each_any (λ p. IsPlain 1 (point_data p)) area (λ p. plain_array 0 _ (plain_numbers 0 (p.storage ∷ p.area ∷ []))))))
+      (each_any (λ p. IsPlain 1 (point_data p)) area
+      (λ p. plain_array 0 _ (plain_numbers 0 (p.storage ∷ p.area ∷ []))))))
 
   -- fields whose value depends on what is written
   abbrev pub InField : KeyRow → ℕ → Option Data → Type 0
@@ -214,12 +220,14 @@ module _ (tree : Members) where
 
   pub want_in : (ns : List ℕ) (series : Bool) → IsMonthly (10 ^ 9) ns →
       InField (required (codes "want") Want) 2 (Some (if series then string (codes "series") else array (numbers ns)))
-  want_in ns true h = of_field (field (required (codes "want") Want) (string (codes "series")) refl refl refl refl (plain_text _ 2))
+  want_in ns true h =
+      of_field (field (required (codes "want") Want) (string (codes "series")) refl refl refl refl (plain_text _ 2))
   want_in ns false h =
       of_field (field (required (codes "want") Want) (array (numbers ns)) (rw (twelve_items (10 ^ 9) ns h) refl)
       (monthly_items (10 ^ 9) ns h) refl refl (plain_array 1 (numbers ns) (plain_numbers 1 ns)))
 
-  pub inflow_in : (i : inflow.Inflow) → IsValidInflow i → InField (optional (codes "inflow") Inflow) 2 (Some (inflow_data i))
+  pub inflow_in : (i : inflow.Inflow) → IsValidInflow i →
+      InField (optional (codes "inflow") Inflow) 2 (Some (inflow_data i))
   inflow_in (inflows.Monthly ns) h =
       of_field (field (optional (codes "inflow") Inflow) (array (numbers ns)) (rw (twelve_items (10 ^ 9) ns h) refl)
       (monthly_items (10 ^ 9) ns h) refl refl (plain_array 1 (numbers ns) (plain_numbers 1 ns)))

@@ -1,5 +1,6 @@
 -- The entries that the table of a basin lists: their rows, the indices of their names, and the rights by their tables.
-use Rattle.std.proofs.Common.{◌≡◌, ◌≢◌, ℕ, zero, suc, ◌+◌, ◌<◌, ◌≤◌, ◌∙◌, Bool, true, false, cond, ap, sym, refl, inl, inr}
+use Rattle.std.proofs.Common.{◌≡◌, ◌≢◌, ℕ, zero, suc, ◌+◌, ◌<◌, ◌≤◌, ◌∙◌, Bool, true, false, cond, ap, sym, refl}
+use Rattle.std.proofs.Common.{inl, inr}
 use Rattle.std.proofs.Common.{arith, List, [], ◌∷◌, ◌++◌, length, map, filter, All, slice_get, append_assoc}
 use Rattle.std.specs.Prelude.{Option, Some, option_and_then, option_map, unwrap_or}
 use Rattle.std.specs.Option.{option_map_or}

@@ -35,7 +35,8 @@ some_text : {format : ℕ} {tree : Members} (key : List ℕ) (o : Option Data) �
 some_text key None fits = let never : true ≡ false = fits.present in cc
 some_text key (Some d) fits = by (as_str d) fits.kinds fits.names
   where
-    by : (text : Option (List ℕ)) → not (is_some text) ≡ false → option_map_or (λ q. not (is_name q)) text false ≡ false →
+    by : (text : Option (List ℕ)) → not (is_some text) ≡ false →
+        option_map_or (λ q. not (is_name q)) text false ≡ false →
         (q : List ℕ) × (text ≡ Some q) × (is_name q ≡ true)
     by None some good = cc
     by (Some q) some good = (q, refl, not-false (is_name q) good)
@@ -70,8 +71,8 @@ at_within {tree = tree} {space = space} its =
     let within = slice_get_within (texts_of tree space) first.0 first.1 first.3 in
     omega (arith, first.2)
 
-pub number_within : {tree : Members} {space : Space} (key : List ℕ) (row : Members) → Names tree space (text_at key row) →
-    number_at tree space key row < length (texts_of tree space)
+pub number_within : {tree : Members} {space : Space} (key : List ℕ) (row : Members) →
+    Names tree space (text_at key row) → number_at tree space key row < length (texts_of tree space)
 number_within {tree = tree} {space = space} key row its =
     rw (its.text_is, its.named) (small_within its.at (length (texts_of tree space)) (at_within its))
   where
@@ -79,7 +80,8 @@ number_within {tree = tree} {space = space} key row its =
     small_within m n h = grind (arith, nat_tests)
 
 -- and it is the index, where the space has at most 4,000 names
-pub number_is : {tree : Members} {space : Space} (key : List ℕ) (row : Members) → (its : Names tree space (text_at key row)) →
+pub number_is : {tree : Members} {space : Space} (key : List ℕ) (row : Members) →
+    (its : Names tree space (text_at key row)) →
     length (texts_of tree space) ≤ 4000 → named_at tree space its.q ≡ Some (number_at tree space key row)
 number_is {tree = tree} {space = space} key row its bounded =
     let within = at_within its in
@@ -119,12 +121,14 @@ AreOwn all n texts = (k : ℕ) (q : List ℕ) → slice_get texts k ≡ Some (So
 
 own_append : (all : List (Option (List ℕ))) (n : ℕ) (xs ys : List (Option (List ℕ))) → AreOwn all n xs →
     AreOwn all (n + length xs) ys → AreOwn all n (xs ++ ys)
-own_append all n [] ys a b k q at = let same : n + 0 + k ≡ n + k = omega arith in subst (λ (m : ℕ). IsFirst all m q) same (b k q at)
+own_append all n [] ys a b k q at =
+    let same : n + 0 + k ≡ n + k = omega arith in subst (λ (m : ℕ). IsFirst all m q) same (b k q at)
 own_append all n (x ∷ xs) ys a b zero q at = a zero q at
 own_append all n (x ∷ xs) ys a b (suc k) q at =
     let same : n + 1 + k ≡ n + suc k = omega arith in
     subst (λ (m : ℕ). IsFirst all m q) same (own_append all (n + 1) xs ys
-    (λ j r there. (let up : n + suc j ≡ n + 1 + j = omega arith in subst (λ (m : ℕ). IsFirst all m r) up (a (suc j) r there)))
+    (λ j r there. (let up : n + suc j ≡ n + 1 + j = omega arith in
+    subst (λ (m : ℕ). IsFirst all m r) up (a (suc j) r there)))
     (λ j r there. (let up : n + suc (length xs) + j ≡ n + 1 + length xs + j = omega arith in
     subst (λ (m : ℕ). IsFirst all m r) up (b j r there))) k q at)
 
@@ -175,7 +179,8 @@ module _ (tree : Members) (clean : AreClean tree) where
       by (slice_get (rows_in tree t) k) refl (sym (slice_get-map (text_at (own_key t)) (rows_in tree t) k)
       ∙ (ap (λ ts. slice_get ts k) (sym (texts_in-rows tree clean t h)) ∙ at))
     where
-      by : (o : Option Members) → slice_get (rows_in tree t) k ≡ o → option_map (text_at (own_key t)) o ≡ Some (Some q) →
+      by : (o : Option Members) → slice_get (rows_in tree t) k ≡ o →
+          option_map (text_at (own_key t)) o ≡ Some (Some q) →
           IsFirst (texts_of tree space) (rights_before tree t + k) q
       by None there text = cc
       by (Some row) there text =

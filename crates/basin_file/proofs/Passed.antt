@@ -1,7 +1,8 @@
 -- A document has no fault by itself exactly where its top and its entries are clean.
 use Rattle.std.proofs.Common.{◌≡◌, ℕ, zero, suc, ◌+◌, List, [], ◌∷◌, ◌++◌, map, Bool, true, false, not, ◌&&◌, ◌||◌}
 use Rattle.std.proofs.Common.{Option, Some, None, option_map, option_and_then, unwrap_or, is_some, slice_get, Ordering}
-use Rattle.std.proofs.Common.{Less, Equal, Greater, refl, sym, subst, ap, ◌∙◌, inl, inr, option_to_list, arith, zero-add}
+use Rattle.std.proofs.Common.{Less, Equal, Greater, refl, sym, subst, ap, ◌∙◌, inl, inr, option_to_list, arith}
+use Rattle.std.proofs.Common.{zero-add}
 use Rattle.std.proofs.lemmas.Bool.{cases_Bool, and_parts, not-false, or_parts}
 use Rattle.std.proofs.lemmas.Map.Text.{is_eq-slice_cmp}
 use Rattle.std.proofs.lemmas.Slice.Eq.{bytes_eq-Decides}
@@ -72,7 +73,8 @@ each_passes [] tree e = each_any (PassesAll [] tree) (entries_of tree) (λ e. tt
 each_passes (pass ∷ list) tree e =
     let both = or_none (found_by pass tree) (first_fault list tree) e in
     each_with (λ e. pass.1 tree e ≡ false) (PassesAll list tree) (entries_of tree)
-    (each_unfound (pass.1 tree) (entries_of tree) (map_none (found_at pass.0) (find (pass.1 tree) (entries_of tree)) both.0))
+    (each_unfound (pass.1 tree) (entries_of tree)
+    (map_none (found_at pass.0) (find (pass.1 tree) (entries_of tree)) both.0))
     (each_passes list tree both.1)
 
 none_first : (list : List Pass) (tree : Members) → Each (PassesAll list tree) (entries_of tree) →
@@ -233,7 +235,8 @@ IsListed Top = ⊥
 IsListed _ = Unit {0}
 
 place : (t : BasinTable) → IsListed t → (i : ℕ) × (needed : Bool) × (slice_get listed i ≡ Some t) ×
-    (slice_get (keys_of Top) (i + 3) ≡ Some (record { name = table_name t; is_required = needed; kind = Tables; since = 1 }))
+    (slice_get (keys_of Top) (i + 3)
+    ≡ Some (record { name = table_name t; is_required = needed; kind = Tables; since = 1 }))
 place Top h = absurd h
 place Node h = (0, true, refl, refl)
 place Link h = (1, false, refl, refl)
@@ -275,7 +278,8 @@ all_clean tree e =
       tidy = λ t is_listed.
           (let at = place t is_listed in
           let fits = fits_at tree (top_entry tree) each.0 (at.0 + 3) _ at.3 in
-          let lists = listing_all (items_at tree t) (tables_in (format_of tree) (get_member (table_name t) tree) fits.kinds)
+          let lists = listing_all (items_at tree t)
+          (tables_in (format_of tree) (get_member (table_name t) tree) fits.kinds)
           in
           record {
             lists = lists;
@@ -292,8 +296,16 @@ unfolding tree_fault
 no_tree_fault tree are =
     none_first passes tree (
       are.top,
-      each_flat (IsClean tree) (entries_in tree) listed
-          (each Node tt, (each Link tt, (each Reservoir tt, (each Diversion tt, (each Instream tt, (each Zone tt, (each Return tt, tt))))))),
+      each_flat (IsClean tree) (entries_in tree) listed (
+        each Node tt,
+        (
+          each Link tt,
+          (
+            each Reservoir tt,
+            (each Diversion tt, (each Instream tt, (each Zone tt, (each Return tt, tt)))),
+          ),
+        ),
+      ),
     )
   where
     each : (t : BasinTable) → IsListed t → Each (IsClean tree) (entries_in tree t)

@@ -354,7 +354,8 @@ module _ (b : Basin) (valid : IsValidBasin b) where
       each_filter (λ r. is_in_table t r.kind) (IsRightIn b t) b.rights
       (each_then (λ r. IsValidRight b r × (is_date r.date ≡ true)) (λ r. is_in_table t r.kind ≡ true → IsRightIn b t r)
       b.rights (λ r h is. (h.0, h.1, is))
-      (each_with (IsValidRight b) (λ r. is_date r.date ≡ true) b.rights (all_each (IsValidRight b) b.rights valid.rights)
+      (each_with (IsValidRight b) (λ r. is_date r.date ≡ true) b.rights
+      (all_each (IsValidRight b) b.rights valid.rights)
       (each_date b.rights valid.roll.dates)))
 
   -- the entries of a table
