@@ -1,345 +1,482 @@
--- The table of a valid basin has no fault by itself: each of its entries is clean.
-use Rattle.std.proofs.Common.{◌≡◌, ℕ, zero, suc, ◌+◌, ◌-◌, ◌*◌, ◌^◌, ◌≤◌, ◌∙◌, Bool, true, false, not, ◌&&◌}
-use Rattle.std.proofs.Common.{nat_lt, ap, sym, subst, refl, arith, List, [], ◌∷◌, ◌++◌, length, length-append}
-use Rattle.std.proofs.Common.{map, take, slice_get, count_by, is_some, codes}
+-- The table of a valid basin has no fault: its rows are fields that fit, each of its entries is clean, and it can be
+-- printed and read back.
+use Rattle.std.proofs.Common.{◌≡◌, ℕ, suc, ◌+◌, ◌-◌, ◌*◌, ◌/◌, ◌^◌, ◌<◌, ◌≤◌, ◌∙◌, Bool, true, false, not, ◌&&◌, ◌==◌}
+use Rattle.std.proofs.Common.{nat_le, nat_lt, ap, sym, subst, refl, arith, List, [], ◌∷◌, ◌++◌, length, length-append}
+use Rattle.std.proofs.Common.{map, take, slice_get, count_by, is_none, is_some, codes}
 use Rattle.std.specs.Prelude.{Option, Some, None, option_map, option_and_then, unwrap_or, if◌then◌else◌}
-use Rattle.std.proofs.lemmas.Bool.{le-ltb}
-use Rattle.std.proofs.lemmas.List.{map-append}
-use Rattle.std.proofs.lemmas.Option.{slice_get_within}
-use Rattle.std.specs.List.{list_any}
-use Rattle.std.specs.Option.{option_map_or}
-use Rattle.toml.specs.Data.{Data, string, table, Members, no_members, get, get_item, get_member, as_bool}
+use Rattle.std.proofs.lemmas.Bool.{eq-eqb, le-ltb}
+use Rattle.std.proofs.lemmas.List.{length-map}
+use Rattle.std.proofs.lemmas.Bool.Decides.{nat_tests}
+use Rattle.std.proofs.lemmas.Option.{slice_get-map, slice_get_within}
+use Rattle.std.proofs.lemmas.Slice.Eq.{bytes_eq-Decides}
+use Rattle.std.specs.Option.{option_map_or, option_or}
+use Rattle.std.specs.Str.{IsUtf8, is_utf8}
+use Rattle.std.proofs.lemmas.Str.{is_utf8-from_IsUtf8}
+use Rattle.toml.specs.Data.{Data, table, Members, get, get_item, as_array, as_bool, as_str, members_depth}
+use Rattle.toml.specs.Data.{members_have_valid_dates}
 use Rattle.toml.specs.View.{items_of}
 use Rattle.toml_tree.specs.Items.{items_len}
-use Rattle.first_index.specs.Indices.{first_from}
-use Rattle.toml_tree.specs.Texts.{texts_after, is_the_text}
-use Rattle.toml_tree.specs.Values.{text_at, integer_of}
-use Rattle.water_text.specs.Days.{is_date}
+use Rattle.toml_tree.specs.Texts.{is_the_text, earlier_like}
+use Rattle.toml_tree.specs.Values.{text_at, integer_of, integer_at}
+use Rattle.water_text.specs.Months.{month_after, month_within, read_month}
+use Rattle.water_text.specs.declared.month.Month.{Month}
+use Rattle.water_text.proofs.MonthLaws.{read_month-month_digits}
 use Rattle.water_model.specs.Basin.{is_outlet, node_name, link_name, reservoir_name, right_name}
-use Rattle.water_model.specs.Valid.{IsValidBasin, IsValidCarry, IsValidInflow, IsValidLink, IsValidNode}
-use Rattle.water_model.specs.Valid.{IsValidReservoir, IsValidRight}
+use Rattle.water_model.specs.Lookups.{of_entry}
+use Rattle.water_model.specs.Valid.{HasValidSite, IsAreaTable, IsValidBasin, IsValidLink, IsValidNode, IsValidReservoir}
+use Rattle.water_model.specs.Valid.{IsValidReturn}
 use Rattle.water_model.specs.declared.types.Basin.{Basin}
 use Rattle.water_model.specs.declared.types.Carry.{Carry}
 use Rattle.water_model.specs.declared.types.Carry.TheVariants.{River, Canal}
-use Rattle.water_model.specs.declared.types.Inflow as inflow
-use Rattle.water_model.specs.declared.types.Inflow.TheVariants as inflows
 use Rattle.water_model.specs.declared.types.Link as link
 use Rattle.water_model.specs.declared.types.Node as node
 use Rattle.water_model.specs.declared.types.Reservoir as reservoir
+use Rattle.water_model.specs.declared.types.Reservoir.{Reservoir}
+use Rattle.water_model.specs.declared.types.ReturnRow.{ReturnRow}
 use Rattle.water_model.specs.declared.types.Right.{Right}
+use Rattle.water_model.specs.declared.types.RightKind.{RightKind}
+use Rattle.water_model.specs.declared.types.RightKind.TheVariants as kind
+use Rattle.water_model.proofs.Lists.{all_at, get_before, once}
+use Rattle.river_net.proofs.NoFault.{sound_faultless}
+use Rattle.river_net.specs.declared.refused.NetRefused.{NetRefused}
+use Rattle.rights_roll.proofs.Soundness.{roll_fault-sound}
+use Rattle.rights_roll.specs.RollFaults.{roll_fault}
+use Rattle.rights_roll.specs.declared.RollRefused.{RollRefused}
+use Rattle.reservoirs.proofs.Tables.{no_fault}
+use Rattle.reservoirs.specs.declared.TableRefused.{TableRefused}
 use Rattle.basin_tree.specs.declared.tables.BasinTable.{BasinTable}
 use Rattle.basin_tree.specs.declared.tables.BasinTable.TheVariants as which
-use Rattle.basin_tree.specs.declared.tables.Kind.TheVariants.{CalendarMonths, Inflow, Integer}
+use Rattle.basin_tree.specs.declared.tables.Kind.TheVariants.{CalendarMonths, Inflow, Integer, Want}
 use Rattle.basin_tree.specs.declared.tables.Space.{Space}
-use Rattle.basin_tree.specs.declared.tables.Space.TheVariants.{Nodes, Links, Reservoirs, Rights}
-use Rattle.basin_tree.specs.Entries.{Entry}
-use Rattle.basin_tree.specs.KeyFaults.{format_of, has_unknown, is_known, names_in}
+use Rattle.basin_tree.specs.declared.tables.Space.TheVariants.{Nodes, Links, Reservoirs, Diversions, Rights}
+use Rattle.basin_tree.specs.declared.walk.Finding.{Finding}
+use Rattle.basin_tree.specs.Entries.{items_at}
+use Rattle.basin_tree.specs.Indices.{named_at, own_key}
+use Rattle.basin_tree.specs.KeyFaults.{format_of, runs_late}
 use Rattle.basin_tree.specs.NameFaults.{is_outlet_at, own_space, repeats_name, rights_before, same_name, stands_before}
-use Rattle.basin_tree.specs.Indices.{named_at, own_key, texts_of}
-use Rattle.basin_tree.specs.Tables.{KeyRow, keys_of}
-use Rattle.basin_file.specs.BasinFaults.{is_in_table}
-use Rattle.basin_file.specs.Upgraded.{basin_table, closed_data, inflow_data, link_row, listed, node_row, per_day_data}
-use Rattle.basin_file.specs.Upgraded.{point_data, reservoir_row, return_row, right_row, rights_in, with_some}
-use Rattle.basin_file.proofs.Counts.{count_by-cons}
-use Rattle.basin_file.proofs.Fitting.{Fits, IsClean, and_false, clean_by, fits_gauged, fits_inflow, fits_monthly}
-use Rattle.basin_file.proofs.Fitting.{fits_months, fits_name, fits_none, fits_number, fits_points, fits_reference}
-use Rattle.basin_file.proofs.Fitting.{fits_truth, len_items, names_some}
-use Rattle.basin_file.proofs.Listed.{all_each, each_filter, items_in, index_found, rights_by_table, texts_listed}
-use Rattle.basin_file.proofs.Lists.{each_at, each_then}
-use Rattle.basin_file.proofs.TableKeys.{HasKeysOf, skip, table_keys}
-use Rattle.basin_file.proofs.TableSpells.{each_right, kind_name, link_named, node_named, reservoir_named, text_there}
-use Rattle.basin_file.proofs.TableSpells.{link_closed, link_end, link_per_day}
-
-pub fits_at : (tree : Members) (key : KeyRow) (o p : Option Data) → o ≡ p → Fits tree key p → Fits tree key o
-fits_at tree key o p e f = subst (Fits tree key) (sym e) f
+use Rattle.basin_tree.specs.Tables.{optional, required, second, table_name}
+use Rattle.basin_file.specs.BasinFaults.{area_finding, areas_fault, basin_fault, document_fault, is_in_table}
+use Rattle.basin_file.specs.BasinFaults.{net_finding, roll_finding}
+use Rattle.basin_file.specs.Spelled.{basin_of, rows_after, rows_in}
+use Rattle.basin_file.specs.Upgraded.{basin_table, closed_data, inflow_data, link_row, listed, node_row, number}
+use Rattle.basin_file.specs.Upgraded.{per_day_data, point_data, reservoir_row, return_row, right_row, rights_in}
+use Rattle.basin_file.specs.Upgraded.{row_of_kind, want_data}
+use Rattle.toml.specs.Parse.{parse_document}
+use Rattle.toml_tree.specs.Document.{document_of}
+use Rattle.basin_file.proofs.Counts.{before_less, count_where-entries, counts_within, earlier_at}
+use Rattle.basin_file.proofs.Fitting.{ArePlain, Field, clean_fields, closed_in, dated, in_field, inflow_in, month}
+use Rattle.basin_file.proofs.Fitting.{named, per_day_in, plain_fields, points, rate, refers, tables, truth, volume_in}
+use Rattle.basin_file.proofs.Fitting.{want_in, whole}
+use Rattle.basin_file.proofs.Listed.{all_each, item_listing, len_items, len_listing, rows_listing}
+use Rattle.basin_file.proofs.Lists.{Each, each_all, each_at, each_then}
+use Rattle.basin_file.proofs.Passed.{IsClean, IsListed, IsTidy, entry_of, listing, no_tree_fault, top_entry}
+use Rattle.basin_file.proofs.TableSpells.{IsRightIn, all_rights, diversion_named, link_at, link_named, lists}
+use Rattle.basin_file.proofs.TableSpells.{node_named, reservoir_named, return_texts, right_named, rights_sound}
+use Rattle.basin_file.proofs.TableSpells.{rows_for, table_spells, text_there, top_at, whole_there}
 
 -- a name that first stands at its own index is no earlier entry's
-pub owns : (tree : Members) (e : Entry) (space : Space) (q : List ℕ) (k : ℕ) → own_space e.table ≡ Some space →
-    text_at (own_key e.table) e.row ≡ Some q →
-    named_at tree space q ≡ Some k → rights_before tree e.table + (e.number - 1) ≤ k → same_name tree e ≡ false
-owns tree e space q k own text named low =
-    ap (λ (o : Option Space). option_map_or (repeats_name tree e) o false) own
-    ∙ (ap (λ (o : Option (List ℕ)). option_map_or
-    (stands_before tree space (rights_before tree e.table + (e.number - 1))) o false) text
-    ∙ (ap (λ (o : Option ℕ). option_map_or (λ at. nat_lt at (rights_before tree e.table + (e.number - 1))) o false)
-    named
-    ∙ le-ltb k (rights_before tree e.table + (e.number - 1)) low))
+owns : (tree : Members) (t : BasinTable) (k : ℕ) (row : Members) (space : Space) (q : List ℕ) (j : ℕ) →
+    own_space t ≡ Some space → text_at (own_key t) row ≡ Some q → named_at tree space q ≡ Some j →
+    rights_before tree t + (k + 1 - 1) ≤ j → same_name tree (entry_of t k row) ≡ false
+owns tree t k row space q j own text its low =
+    ap (λ (o : Option Space). option_map_or (repeats_name tree (entry_of t k row)) o false) own
+    ∙ (ap (λ (o : Option (List ℕ)). option_map_or (stands_before tree space (rights_before tree t + (k + 1 - 1))) o
+    false) text
+    ∙ (ap (λ (o : Option ℕ). option_map_or (λ at. nat_lt at (rights_before tree t + (k + 1 - 1))) o false) its
+    ∙ le-ltb j (rights_before tree t + (k + 1 - 1)) low))
 
--- the item at an index of what is listed
-item_there : {X : Type 0} (row : X → Members) (xs : List X) (at : ℕ) →
-    get_item at (items_of (map (λ x. table (row x)) xs)) ≡ option_map (λ x. table (row x)) (slice_get xs at)
-item_there row [] at = refl
-item_there row (x ∷ xs) zero = refl
-item_there row (x ∷ xs) (suc at) = item_there row xs at
+-- the entry at an index has the name of the index
+named_there : {X : Type 0} (tree : Members) (space : Space) (name : X → List ℕ) (xs : List X) (k : ℕ) (x : X) →
+    slice_get xs k ≡ Some x → named_at tree space (of_entry xs k name []) ≡ Some k →
+    named_at tree space (name x) ≡ Some k
+named_there tree space name xs k x at its =
+    ap (λ o. named_at tree space (unwrap_or (option_map name o) [])) (sym at) ∙ its
 
-item_listed : {X : Type 0} (row : X → Members) (xs : List X) (at : ℕ) →
-    get_item at (items_in (listed row xs)) ≡ option_map (λ x. table (row x)) (slice_get xs at)
-item_listed row [] at = refl
-item_listed row (x ∷ xs) at = item_there row (x ∷ xs) at
+-- a table that isn't required may have no entry
+never : (n : ℕ) → false ≡ true → 1 ≤ n
+never n e = cc
 
-pub len_listed : {X : Type 0} (row : X → Members) (xs : List X) → items_len (items_in (listed row xs)) ≡ length xs
-len_listed row [] = refl
-len_listed row (x ∷ xs) = len_items (λ x. table (row x)) (x ∷ xs)
+-- a table of rows that are clean is tidy
+tidy_rows : {X : Type 0} {tree : Members} (t : BasinTable) (row : X → Members) (xs : List X) →
+    items_at tree t ≡ listing (map row xs) →
+    ((k : ℕ) (x : X) → slice_get xs k ≡ Some x → IsClean tree (entry_of t k (row x))) → IsTidy tree t
+tidy_rows {X = X} {tree = tree} t row xs its clean = record {
+  lists = its ∙ ap listing (sym rows);
+  clean = λ k r at. by k r (slice_get xs k) refl
+      (sym (slice_get-map row xs k) ∙ (ap (λ rs. slice_get rs k) (sym rows) ∙ at));
+}
+  where
+    rows : rows_in tree t ≡ map row xs
+    rows = ap rows_after its ∙ rows_listing (map row xs)
+
+    by : (k : ℕ) (r : Members) (o : Option X) → slice_get xs k ≡ o → option_map row o ≡ Some r →
+        IsClean tree (entry_of t k r)
+    by k r None e same = cc
+    by k r (Some x) e same =
+        let is : row x ≡ r = cc in subst (λ (r : Members). IsClean tree (entry_of t k r)) is (clean k x e)
 
 -- an entry of the second of two lists
-pub there_right : {X : Type 0} (xs ys : List X) (k : ℕ) (x : X) → slice_get ys k ≡ Some x →
+there_right : {X : Type 0} (xs ys : List X) (k : ℕ) (x : X) → slice_get ys k ≡ Some x →
     slice_get (xs ++ ys) (length xs + k) ≡ Some x
 there_right {X = X} [] ys k x e = subst (λ (n : ℕ). slice_get ys n ≡ Some x) (omega arith) e
 there_right {X = X} (y ∷ xs) ys k x e =
-    let rest : slice_get (xs ++ ys) (length xs + k) ≡ Some x = there_right xs ys k x e in
     let more : suc (length xs + k) ≡ suc (length xs) + k = omega arith in
-    subst (λ (n : ℕ). slice_get (y ∷ (xs ++ ys)) n ≡ Some x) more rest
-
--- fewer pass before one that passes than in all
-one_passes : (t : Bool) → t ≡ true → (m n : ℕ) → n ≡ (if t then 1 else 0) + m → 1 ≤ n
-one_passes true e m n h = omega arith
-one_passes false e m n h = cc
-
-one_more : (t m n prefix whole : ℕ) → prefix ≡ t + m → whole ≡ t + n → m + 1 ≤ n → prefix + 1 ≤ whole
-one_more t m n prefix whole e f l = omega arith
-
-pub before_less : {X : Type 0} (p : X → Bool) (xs : List X) (k : ℕ) (x : X) → slice_get xs k ≡ Some x → p x ≡ true →
-    count_by p (take k xs) + 1 ≤ count_by p xs
-before_less p [] k x e passes = cc
-before_less p (y ∷ xs) zero x e passes =
-    let same : y ≡ x = cc in
-    let least : 1 ≤ count_by p (y ∷ xs) =
-    one_passes (p y) (ap p same ∙ passes) (count_by p xs) (count_by p (y ∷ xs)) (count_by-cons p y xs) in
-    omega arith
-before_less p (y ∷ xs) (suc k) x e passes =
-    one_more (if p y then 1 else 0) (count_by p (take k xs)) (count_by p xs) (count_by p (y ∷ take k xs))
-    (count_by p (y ∷ xs))
-    (count_by-cons p y (take k xs)) (count_by-cons p y xs) (before_less p xs k x e passes)
-
-pub map_same : {X : Type 0} (xs : List X) → map (λ x. x) xs ≡ xs
-map_same [] = refl
-map_same (x ∷ xs) = ap (λ ys. x ∷ ys) (map_same xs)
-
--- every key of the top is known
-top_some : (key : List ℕ) (o : Option Data) (rest : Members) → not (is_known 2 (keys_of which.Top) key) ≡ false →
-    list_any (λ name. not (is_known 2 (keys_of which.Top) name)) (names_in rest) ≡ false →
-    list_any (λ name. not (is_known 2 (keys_of which.Top) name)) (names_in (with_some key o rest)) ≡ false
-top_some key o rest h k = names_some (λ name. not (is_known 2 (keys_of which.Top) name)) key o rest h k
-
-pub top_known : (b : Basin) → has_unknown 2 which.Top (basin_table b) ≡ false
-unfolding basin_table
-top_known b =
-    top_some (codes "diversion") (listed (right_row b) (rights_in which.Diversion b.rights)) _ refl
-    (top_some (codes "instream") (listed (right_row b) (rights_in which.Instream b.rights)) _ refl
-    (top_some (codes "link") (listed (link_row b) b.links) _ refl
-    (top_some (codes "node") (listed node_row b.nodes) _ refl
-    (top_some (codes "reservoir") (listed (reservoir_row b) b.reservoirs) _ refl
-    (top_some (codes "return") (listed (return_row b) b.returns) _ refl
-    (top_some (codes "zone") (listed (right_row b) (rights_in which.Zone b.rights)) no_members refl refl))))))
+    subst (λ (n : ℕ). slice_get (y ∷ (xs ++ ys)) n ≡ Some x) more (there_right xs ys k x e)
 
 module _ (b : Basin) (valid : IsValidBasin b) where
-  pub keys : HasKeysOf b (basin_table b)
-  keys = table_keys b
+  abbrev tree : Members
+  tree = basin_table b
 
-  pub format : format_of (basin_table b) ≡ 2
-  format = ap (integer_of 1 2 1) keys.format
+  format : format_of (basin_table b) ≡ 2
+  format = ap (integer_of 1 2 1) (top_at b (codes "format"))
 
-  pub node_clean : (k : ℕ) (n : node.Node) → slice_get b.nodes k ≡ Some n →
-      IsClean (basin_table b) (record { table = which.Node; number = k + 1; row = node_row n })
+  -- the fields of each row
+  abbrev node_fields : (n : node.Node) → IsValidNode n → List (Field tree 2)
+  node_fields n h =
+      in_field tree (optional (codes "inflow") Inflow) (Some (inflow_data n.inflow)) (inflow_in tree n.inflow h.inflow)
+      ∷ named tree n.name h.name ∷ truth tree (codes "outlet") n.outlet ∷ []
+
+  abbrev link_fields : (l : link.Link) → IsValidLink b l → List (Field tree 2)
+  link_fields l h =
+      in_field tree (second (codes "closed") CalendarMonths) (closed_data l.carry) (closed_in tree l.carry h.carry)
+      ∷ refers tree (codes "from") Nodes (node_name b l.from) l.from (node_named b valid l.from h.ends.from)
+      ∷ named tree l.name h.name
+      ∷ in_field tree (optional (codes "per_day") (Integer 0 (10 ^ 9))) (per_day_data l.carry)
+      (per_day_in tree l.carry h.carry)
+      ∷ refers tree (codes "to") Nodes (node_name b l.to) l.to (node_named b valid l.to h.ends.to) ∷ []
+
+  abbrev reservoir_fields : (v : reservoir.Reservoir) → IsValidReservoir b v → List (Field tree 2)
+  reservoir_fields v h =
+      points tree v.area h.points
+      ∷ refers tree (codes "node") Nodes (node_name b v.node) v.node (node_named b valid v.node h.node)
+      ∷ whole tree (codes "opening") true 1 0 (16 * 10 ^ 9) v.opening (omega arith) h.opening ∷ rate tree v.rate h.rate
+      ∷ []
+
+  abbrev return_fields : (row : ReturnRow) → IsValidReturn b row → List (Field tree 2)
+  return_fields row h =
+      refers tree (codes "diversion") Diversions (right_name b row.right) row.right
+      (diversion_named b valid row.right h.diversion)
+      ∷ whole tree (codes "lag") true 1 1 120 row.lag h.lag.0 h.lag.1
+      ∷ refers tree (codes "node") Nodes (node_name b row.node) row.node (node_named b valid row.node h.node)
+      ∷ whole tree (codes "part") true 1 1 10000 row.part h.part.0 h.part.1 ∷ []
+
+  module _ (t : BasinTable) (r : Right) (h : IsRightIn b t r) where
+    abbrev order_field : Field tree 2
+    order_field = whole tree (codes "order") false 1 0 1000000 r.order (omega arith) h.0.order
+
+    abbrev want_field : Field tree 2
+    want_field =
+        in_field tree (required (codes "want") Want) (Some (want_data r)) (want_in tree r.want r.series h.0.want)
+
+    abbrev diversion_fields : (node : ℕ) → node < length b.nodes → List (Field tree 2)
+    diversion_fields node index =
+        dated tree r.date h.1 ∷ named tree r.name h.0.name
+        ∷ refers tree (codes "node") Nodes (node_name b node) node (node_named b valid node index) ∷ order_field
+        ∷ in_field tree (second (codes "volume") (Integer 0 (16 * 10 ^ 9))) (option_map number r.volume)
+        (volume_in tree r.kind r.volume h.0.volume) ∷ want_field ∷ []
+
+    abbrev instream_fields : (link : ℕ) → link < length b.links → List (Field tree 2)
+    instream_fields link index =
+        dated tree r.date h.1 ∷ refers tree (codes "link") Links (link_name b link) link (link_named b valid link index)
+        ∷ named tree r.name h.0.name ∷ order_field ∷ want_field ∷ []
+
+    abbrev zone_fields : (reservoir level : ℕ) → reservoir < length b.reservoirs → 1 ≤ level → level ≤ 16 →
+        List (Field tree 2)
+    zone_fields reservoir level index low high =
+        dated tree r.date h.1 ∷ whole tree (codes "level") true 1 1 16 level low high ∷ named tree r.name h.0.name
+        ∷ order_field
+        ∷ refers tree (codes "reservoir") Reservoirs (reservoir_name b reservoir) reservoir
+        (reservoir_named b valid reservoir index) ∷ want_field ∷ []
+
+    plain_right : ArePlain 2 (right_row b r)
+    plain_right = by r.kind h.0.site
+      where
+        by : (its : RightKind) → HasValidSite b its → ArePlain 2 (row_of_kind b r its)
+        by (kind.Diversion node) site = plain_fields tree (diversion_fields node site)
+        by (kind.Instream link) site = plain_fields tree (instream_fields link site)
+        by (kind.Zone reservoir level) site =
+            plain_fields tree (zone_fields reservoir level site.0 site.1 site.2)
+
+  abbrev right_table : BasinTable → Field tree 4
+  right_table t = tables tree (table_name t) false (right_row b) (IsRightIn b t) (rights_in t b.rights) (never _)
+      (each_all (IsRightIn b t) (rights_in t b.rights) (rights_sound b valid t)) (plain_right t)
+
+  abbrev top_fields : List (Field tree 4)
+  top_fields =
+      right_table which.Diversion ∷ month tree b.first valid.run.first
+      ∷ whole tree (codes "format") true 1 1 2 2 (omega arith) (omega arith) ∷ right_table which.Instream
+      ∷ tables tree (codes "link") false (link_row b) (IsValidLink b) b.links (never _) valid.links
+      (λ l h. plain_fields tree (link_fields l h))
+      ∷ whole tree (codes "months") true 1 1 1200 b.months valid.run.months.0 valid.run.months.1
+      ∷ tables tree (codes "node") true node_row IsValidNode b.nodes (λ e. valid.bounded.some_node) valid.nodes
+      (λ n h. plain_fields tree (node_fields n h))
+      ∷ tables tree (codes "reservoir") false (reservoir_row b) (IsValidReservoir b) b.reservoirs (never _)
+      valid.reservoirs (λ v h. plain_fields tree (reservoir_fields v h))
+      ∷ tables tree (codes "return") false (return_row b) (IsValidReturn b) b.returns (never _) valid.returns
+      (λ row h. plain_fields tree (return_fields row h))
+      ∷ whole tree (codes "year_start") false 2 1 12 b.year_start valid.format.year_start.0 valid.format.year_start.1
+      ∷ right_table which.Zone ∷ []
+
+  -- so the table is shallow and has no dates of TOML
+  pub table_is_plain : ArePlain 4 (basin_table b)
+  unfolding basin_table
+  table_is_plain = plain_fields tree top_fields
+
+  node_clean : (k : ℕ) (n : node.Node) → slice_get b.nodes k ≡ Some n →
+      IsClean tree (entry_of which.Node k (node_row n))
   node_clean k n at =
-      let h = each_at IsValidNode b.nodes k n at (all_each IsValidNode b.nodes valid.nodes) in
       let within = slice_get_within b.nodes k n at in
-      let name : node_name b k ≡ n.name = ap (λ (o : Option node.Node). unwrap_or (option_map (λ x. x.name) o) []) at in
-      clean_by (basin_table b) (record { table = which.Node; number = k + 1; row = node_row n }) format (
-        fits_name (basin_table b) (codes "name") true 1 n.name h.name,
-        (fits_truth (basin_table b) (codes "outlet") false 1 n.outlet, (inflow_fits n.inflow h.inflow, tt)),
-      )
-      (record {
-        known = refl;
-        nodes = refl;
-        canal = refl;
-        late = refl;
-        many = le-ltb 2000 (k + 1) (omega (arith, within, valid.bounded.nodes));
-        same = owns (basin_table b) (record { table = which.Node; number = k + 1; row = node_row n }) Nodes n.name k
-            refl refl
-            (ap (named_at (basin_table b) Nodes) (sym name) ∙ node_named b valid k within) (omega arith);
-        outlets = refl;
-      })
-    where
-      inflow_fits : (i : inflow.Inflow) → IsValidInflow i →
-          Fits (basin_table b) (record { name = codes "inflow"; is_required = false; kind = Inflow; since = 1 })
-          (Some (inflow_data i))
-      inflow_fits (inflows.Monthly amounts) h = fits_inflow (basin_table b) (codes "inflow") false 1 amounts h
-      inflow_fits inflows.Gauged h = fits_gauged (basin_table b) (codes "inflow") false 1
+      clean_fields tree which.Node (k + 1) (node_fields n (all_at IsValidNode b.nodes k n valid.nodes at)) format
+      (record { rising = refl; known = refl; found = refl }) refl refl refl
+      (le-ltb 2000 (k + 1) (omega (arith, within, valid.bounded.nodes)))
+      (owns tree which.Node k (node_row n) Nodes n.name k refl refl
+      (named_there tree Nodes (λ n. n.name) b.nodes k n at (node_named b valid k within)) (omega arith)) refl
 
-  pub link_clean : (k : ℕ) (l : link.Link) → slice_get b.links k ≡ Some l →
-      IsClean (basin_table b) (record { table = which.Link; number = k + 1; row = link_row b l })
+  link_clean : (k : ℕ) (l : link.Link) → slice_get b.links k ≡ Some l →
+      IsClean tree (entry_of which.Link k (link_row b l))
   link_clean k l at =
-      let h = each_at (IsValidLink b) b.links k l at (all_each (IsValidLink b) b.links valid.links) in
       let within = slice_get_within b.links k l at in
-      let name : link_name b k ≡ l.name = ap (λ (o : Option link.Link). unwrap_or (option_map (λ x. x.name) o) []) at in
-      clean_by (basin_table b) (record { table = which.Link; number = k + 1; row = link_row b l }) format (
-        fits_at (basin_table b) _ _ (Some (string l.name))
-            (skip (codes "name") (codes "closed") (closed_data l.carry) _ refl)
-            (fits_name (basin_table b) (codes "name") true 1 l.name h.name),
-        (
-          fits_at (basin_table b) _ _ (Some (string (node_name b l.from)))
-              (skip (codes "from") (codes "closed") (closed_data l.carry) _ refl)
-              (fits_reference (basin_table b) (codes "from") true 1 Nodes (node_name b l.from) l.from
-              (node_named b valid l.from h.ends.from)),
-          (
-            fits_at (basin_table b) _ _ (Some (string (node_name b l.to)))
-                (skip (codes "to") (codes "closed") (closed_data l.carry) _ refl
-                ∙ skip (codes "to") (codes "per_day") (per_day_data l.carry) (link_end b l) refl)
-                (fits_reference (basin_table b) (codes "to") true 1 Nodes (node_name b l.to) l.to
-                (node_named b valid l.to h.ends.to)),
-            (
-              fits_at (basin_table b) _ _ (per_day_data l.carry) (link_per_day b l)
-                  (per_day_fits l.carry h.carry),
-              (
-                fits_at (basin_table b) _ _ (closed_data l.carry) (link_closed b l) (closed_fits l.carry h.carry),
-                tt,
-              ),
-            ),
-          ),
-        ),
-      )
-      (record {
-        known =
-            names_some (λ name. not (is_known 2 (keys_of which.Link) name)) (codes "closed") (closed_data l.carry) _
-            refl
-            (names_some (λ name. not (is_known 2 (keys_of which.Link) name)) (codes "per_day") (per_day_data l.carry)
-            (link_end b l) refl refl);
-        nodes = refl;
-        canal =
-            ap (λ (o : Option Data). is_some o && not (is_some (get_member (codes "per_day") (link_row b l))))
-            (link_closed b l)
-            ∙ (ap (λ (o : Option Data). is_some (closed_data l.carry) && not (is_some o)) (link_per_day b l)
-            ∙ canal l.carry);
-        late = refl;
-        many = le-ltb 4000 (k + 1) (omega (arith, within, valid.bounded.links));
-        same = owns (basin_table b) (record { table = which.Link; number = k + 1; row = link_row b l }) Links l.name k
-            refl
-            (text_there (codes "name") (link_row b l) l.name
-            (skip (codes "name") (codes "closed") (closed_data l.carry) _ refl))
-            (ap (named_at (basin_table b) Links) (sym name) ∙ link_named b valid k within) (omega arith);
-        outlets = refl;
-      })
+      clean_fields tree which.Link (k + 1) (link_fields l (all_at (IsValidLink b) b.links k l valid.links at)) format
+      (record { rising = refl; known = refl; found = refl }) refl
+      ((λ i. is_some (link_at b l (codes "closed") i) && not (is_some (link_at b l (codes "per_day") i)))
+      ∙ canal l.carry)
+      refl (le-ltb 4000 (k + 1) (omega (arith, within, valid.bounded.links)))
+      (owns tree which.Link k (link_row b l) Links l.name k refl
+      (text_there (codes "name") (link_row b l) l.name (link_at b l (codes "name")))
+      (named_there tree Links (λ l. l.name) b.links k l at (link_named b valid k within)) (omega arith)) refl
     where
-      per_day_fits : (c : Carry) → IsValidCarry c →
-          Fits (basin_table b)
-          (record { name = codes "per_day"; is_required = false; kind = Integer 0 (10 ^ 9); since = 1 })
-          (per_day_data c)
-      per_day_fits River h = fits_none (basin_table b) (codes "per_day") (Integer 0 (10 ^ 9)) 1
-      per_day_fits (Canal per_day shut) h =
-          fits_number (basin_table b) (codes "per_day") false 1 0 (10 ^ 9) per_day (omega arith) h.0
-
-      closed_fits : (c : Carry) → IsValidCarry c →
-          Fits (basin_table b) (record { name = codes "closed"; is_required = false; kind = CalendarMonths; since = 2 })
-          (closed_data c)
-      closed_fits River h = fits_none (basin_table b) (codes "closed") CalendarMonths 2
-      closed_fits (Canal per_day shut) h = fits_months (basin_table b) (codes "closed") 2 shut h.1
+      and_false : (t : Bool) → (t && false) ≡ false
+      and_false true = refl
+      and_false false = refl
 
       canal : (c : Carry) → (is_some (closed_data c) && not (is_some (per_day_data c))) ≡ false
       canal River = refl
       canal (Canal per_day shut) = and_false (is_some (closed_data (Canal per_day shut)))
 
-  outlet_same : (at : ℕ) → is_outlet_at (basin_table b) at ≡ is_outlet b at
+  outlet_same : (at : ℕ) → is_outlet_at tree at ≡ is_outlet b at
   outlet_same at =
-      ap (λ (o : Option Data). truth (get_item at (items_in o))) keys.nodes
-      ∙ (ap (λ (o : Option Data). truth o) (item_listed node_row b.nodes at) ∙ by (slice_get b.nodes at))
+      ap truth (ap (get_item at) (lists b valid which.Node tt) ∙ (item_listing (map node_row b.nodes) at
+      ∙ ap (option_map (λ row. table row)) (slice_get-map node_row b.nodes at))) ∙ by (slice_get b.nodes at)
     where
       truth : Option Data → Bool
       truth o =
           option_map_or (λ outlet. outlet) (option_and_then as_bool (option_and_then (get (codes "outlet")) o)) false
 
-      by : (o : Option node.Node) →
-          truth (option_map (λ n. table (node_row n)) o) ≡ unwrap_or (option_map (λ n. n.outlet) o) false
+      by : (o : Option node.Node) → truth (option_map (λ row. table row) (option_map node_row o))
+          ≡ unwrap_or (option_map (λ n. n.outlet) o) false
       by None = refl
       by (Some n) = refl
 
-  pub reservoir_clean : (k : ℕ) (v : reservoir.Reservoir) → slice_get b.reservoirs k ≡ Some v →
-      IsClean (basin_table b) (record { table = which.Reservoir; number = k + 1; row = reservoir_row b v })
+  reservoir_clean : (k : ℕ) (v : reservoir.Reservoir) → slice_get b.reservoirs k ≡ Some v →
+      IsClean tree (entry_of which.Reservoir k (reservoir_row b v))
   reservoir_clean k v at =
-      let h = each_at (IsValidReservoir b) b.reservoirs k v at
-      (all_each (IsValidReservoir b) b.reservoirs valid.reservoirs) in
-      let within = slice_get_within b.reservoirs k v at in
-      let name : reservoir_name b k ≡ node_name b v.node =
-      ap (λ (o : Option reservoir.Reservoir). unwrap_or (option_map (λ x. node_name b x.node) o) []) at in
-      let named = node_named b valid v.node h.node in
-      clean_by (basin_table b) (record { table = which.Reservoir; number = k + 1; row = reservoir_row b v }) format (
-        fits_reference (basin_table b) (codes "node") true 1 Nodes (node_name b v.node) v.node named,
-        (
-          fits_number (basin_table b) (codes "opening") true 1 0 (16 * 10 ^ 9) v.opening (omega arith) h.opening,
-          (
-            fits_points (basin_table b) (codes "area") false 1 v.area h.points,
-            (fits_monthly (basin_table b) (codes "rate") false 1 10000 v.rate h.rate, tt),
-          ),
-        ),
-      )
-      (record {
-        known = refl;
-        nodes = refl;
-        canal = refl;
-        late = refl;
-        many = le-ltb 64 (items_len (items_of (map point_data v.area)))
-            (omega (arith, len_items point_data v.area, h.bounded_points));
-        same = owns (basin_table b) (record { table = which.Reservoir; number = k + 1; row = reservoir_row b v })
-            Reservoirs (node_name b v.node) k refl refl
-            (ap (named_at (basin_table b) Reservoirs) (sym name) ∙ reservoir_named b valid k within) (omega arith);
-        outlets = ap (λ (o : Option ℕ). option_map_or (is_outlet_at (basin_table b)) o false) named
-            ∙ (outlet_same v.node ∙ h.inner);
-      })
+      let h = all_at (IsValidReservoir b) b.reservoirs k v valid.reservoirs at in
+      clean_fields tree which.Reservoir (k + 1) (reservoir_fields v h) format
+      (record { rising = refl; known = refl; found = refl }) refl refl refl
+      (le-ltb 64 (items_len (items_of (map point_data v.area)))
+      (omega (arith, len_items point_data v.area, h.bounded_points)))
+      (owns tree which.Reservoir k (reservoir_row b v) Reservoirs (node_name b v.node) k refl refl
+      (named_there tree Reservoirs (λ v. node_name b v.node) b.reservoirs k v at
+      (reservoir_named b valid k (slice_get_within b.reservoirs k v at))) (omega arith))
+      (ap (λ (o : Option ℕ). option_map_or (is_outlet_at tree) o false) (node_named b valid v.node h.node)
+      ∙ (outlet_same v.node ∙ h.inner))
 
-  -- rights by their tables
-  abbrev pub d : List Right
-  d = rights_in which.Diversion b.rights
+  count : (t : BasinTable) → IsListed t → items_len (items_at tree t) ≡ length (rows_for b t)
+  count t h = ap items_len (lists b valid t h) ∙ len_listing (rows_for b t)
 
-  abbrev pub i : List Right
-  i = rights_in which.Instream b.rights
-
-  abbrev pub z : List Right
-  z = rights_in which.Zone b.rights
-
-  pub all_rights : d ++ i ++ z ≡ b.rights
-  all_rights = rights_by_table 0 b.rights valid.ranked
-
-  pub bounded_rights : length d + length i + length z ≤ 2000
-  bounded_rights =
-      let whole : length (d ++ i ++ z) ≡ length b.rights = ap (λ rs. length rs) all_rights in
-      omega (arith, whole, length-append (d ++ i) z, length-append d i, valid.bounded.rights)
-
-  right_texts : texts_of (basin_table b) Rights ≡ map (λ r. Some r.name) b.rights
-  right_texts =
-      three _ _ _ (texts which.Diversion d keys.diversions) (texts which.Instream i keys.instreams)
-      (texts which.Zone z keys.zones)
-      ∙ ap (λ rs. map (λ (r : Right). Some r.name) rs) all_rights
+  right_clean : (t : BasinTable) (k : ℕ) (r : Right) → slice_get (rights_in t b.rights) k ≡ Some r →
+      IsClean tree (entry_of t k (right_row b r))
+  right_clean t k r at =
+      let h = each_at (IsRightIn b t) (rights_in t b.rights) k r at (rights_sound b valid t) in
+      by t r.kind h h.0.site h.2 at
     where
-      names : List Right → List (Option (List ℕ))
-      names rs = map (λ r. Some r.name) rs
+      d : List Right
+      d = rights_in which.Diversion b.rights
 
-      texts : (t : BasinTable) (rs : List Right) {o : Option Data} → o ≡ listed (right_row b) rs →
-          texts_after (codes "name") (items_in o) ≡ names rs
-      texts t rs e =
-          ap (λ (o : Option Data). texts_after (codes "name") (items_in o)) e
-          ∙ texts_listed (codes "name") (right_row b) (λ r. r.name) rs (λ r. kind_name b r r.kind)
+      i : List Right
+      i = rights_in which.Instream b.rights
 
-      three : (p q r : List (Option (List ℕ))) → p ≡ names d → q ≡ names i → r ≡ names z →
-          p ++ q ++ r ≡ names (d ++ i ++ z)
-      three p q r e f g =
-          rw (e, f, g) (sym (map-append (λ (r : Right). Some r.name) (d ++ i) z
-          ∙ ap (λ xs. xs ++ names z) (map-append (λ (r : Right). Some r.name) d i)))
+      z : List Right
+      z = rights_in which.Zone b.rights
 
-  pub right_named : (k : ℕ) (r : Right) → slice_get b.rights k ≡ Some r →
-      named_at (basin_table b) Rights r.name ≡ Some k
-  right_named k r at =
-      let name : right_name b k ≡ r.name = ap (λ (o : Option Right). unwrap_or (option_map (λ x. x.name) o) []) at in
-      ap (named_at (basin_table b) Rights) (sym name)
-      ∙ (ap (λ texts. first_from (is_the_text (right_name b k)) 0 texts) right_texts
-      ∙ index_found (λ r. r.name) b.rights k (slice_get_within b.rights k r at) valid.names.rights)
+      -- its index among all rights gives what it owes beside its fields
+      rest : (t : BasinTable) (row : Members) (j : ℕ) → own_space t ≡ Some Rights →
+          text_at (own_key t) row ≡ Some r.name → slice_get (d ++ i ++ z) j ≡ Some r → rights_before tree t + k ≡ j →
+          (nat_lt 2000 (rights_before tree t + (k + 1)) ≡ false) × (same_name tree (entry_of t k row) ≡ false)
+      rest t row j own text there same =
+          let whole : slice_get b.rights j ≡ Some r =
+          ap (λ rs. slice_get rs j) (sym (all_rights b valid)) ∙ there in
+          let within = slice_get_within b.rights j r whole in (
+            le-ltb 2000 (rights_before tree t + (k + 1)) (omega (arith, within, same, valid.bounded.rights)),
+            owns tree t k row Rights r.name j own text
+                (named_there tree Rights (λ r. r.name) b.rights j r whole (right_named b valid j within))
+                (omega (arith, same)),
+          )
 
-  pub sound_at : (t : BasinTable) (k : ℕ) (r : Right) → slice_get (rights_in t b.rights) k ≡ Some r →
-      (IsValidRight b r × (is_date r.date ≡ true)) × (is_in_table t r.kind ≡ true)
-  sound_at t k r at =
-      each_at (λ r. (IsValidRight b r × (is_date r.date ≡ true)) × (is_in_table t r.kind ≡ true)) (rights_in t b.rights)
-      k r at
-      (each_filter (λ r. is_in_table t r.kind) (λ r. (IsValidRight b r × (is_date r.date ≡ true)) ×
-      (is_in_table t r.kind ≡ true)) b.rights
-      (each_then (λ r. IsValidRight b r × (is_date r.date ≡ true)) (λ r. is_in_table t r.kind ≡ true →
-      (IsValidRight b r × (is_date r.date ≡ true)) × (is_in_table t r.kind ≡ true))
-      b.rights (λ r h e. (h, e)) (each_right b valid)))
+      by : (t : BasinTable) (its : RightKind) → IsRightIn b t r → HasValidSite b its → is_in_table t its ≡ true →
+          slice_get (rights_in t b.rights) k ≡ Some r → IsClean tree (entry_of t k (row_of_kind b r its))
+      by which.Diversion (kind.Diversion node) h site is at =
+          let owed = rest which.Diversion (row_of_kind b r (kind.Diversion node)) k refl refl
+          (get_before (d ++ i) z k r (get_before d i k r at)) (omega arith) in
+          clean_fields tree which.Diversion (k + 1) (diversion_fields which.Diversion r h node site) format
+          (record { rising = refl; known = refl; found = refl }) refl refl refl owed.0 owed.1 refl
+      by which.Instream (kind.Instream link) h site is at =
+          let owed = rest which.Instream (row_of_kind b r (kind.Instream link)) (length d + k) refl refl
+          (get_before (d ++ i) z (length d + k) r (there_right d i k r at))
+          (omega (arith, count which.Diversion tt, length-map d (right_row b))) in
+          clean_fields tree which.Instream (k + 1) (instream_fields which.Instream r h link site) format
+          (record { rising = refl; known = refl; found = refl }) refl refl refl owed.0 owed.1 refl
+      by which.Zone (kind.Zone reservoir level) h site is at =
+          let owed = rest which.Zone (row_of_kind b r (kind.Zone reservoir level)) (length (d ++ i) + k) refl refl
+          (there_right (d ++ i) z k r at)
+          (omega (
+            arith,
+            count which.Diversion tt,
+            count which.Instream tt,
+            length-map d (right_row b),
+            length-map i (right_row b),
+            length-append d i,
+          )) in
+          clean_fields tree which.Zone (k + 1)
+          (zone_fields which.Zone r h reservoir level site.0 site.1 site.2) format
+          (record { rising = refl; known = refl; found = refl }) refl refl refl owed.0 owed.1 refl
+      by _ _ h site is at = cc
+
+  return_clean : (k : ℕ) (row : ReturnRow) → slice_get b.returns k ≡ Some row →
+      IsClean tree (entry_of which.Return k (return_row b row))
+  return_clean k row at =
+      clean_fields tree which.Return (k + 1) (return_fields row h) format
+      (record { rising = refl; known = refl; found = refl }) refl refl refl
+      (ap (λ (ts : List (Option (List ℕ))). nat_le 8 (earlier_like ts (k + 1 - 1))) (return_texts b valid)
+      ∙ (ap (nat_le 8) (earlier_at text b.returns (k + 1 - 1) k row (right_name b row.right) (omega arith) at refl)
+      ∙ below _ less)) refl refl
+    where
+      h : IsValidReturn b row
+      h = all_at (IsValidReturn b) b.returns k row valid.returns at
+
+      text : ReturnRow → Option (List ℕ)
+      text entry = Some (right_name b entry.right)
+
+      each : Each (λ entry. is_the_text (right_name b row.right) (Some (right_name b entry.right)) ≡ true →
+          (entry.right == row.right) ≡ true) b.returns
+      each =
+          each_then (IsValidReturn b)
+          (λ entry. is_the_text (right_name b row.right) (Some (right_name b entry.right)) ≡ true →
+          (entry.right == row.right) ≡ true) b.returns
+          (λ entry its e. eq-eqb entry.right row.right
+          (once (right_name b) (length b.rights) valid.names.rights entry.right row.right its.right h.right
+          (sym ((bytes_eq-Decides (right_name b row.right) (right_name b entry.right)).0 e))))
+          (all_each (IsValidReturn b) b.returns valid.returns)
+
+      less : count_by (λ entry. is_the_text (right_name b row.right) (text entry)) (take k b.returns) < 8
+      less =
+          let prefix = counts_within (λ (entry : ReturnRow). is_the_text (right_name b row.right) (text entry))
+          (λ (entry : ReturnRow). entry.right == row.right) k b.returns each in
+          let before = before_less (λ (entry : ReturnRow). entry.right == row.right) b.returns k row at
+          (eq-eqb row.right row.right refl) in
+          let most : count_by (λ (entry : ReturnRow). entry.right == row.right) b.returns ≤ 8 =
+          subst (λ (n : ℕ). n ≤ 8) (count_where-entries (λ (entry : ReturnRow). entry.right == row.right) b.returns)
+          (valid.bounded.rows row.right h.right) in
+          omega arith
+
+      below : (m : ℕ) → m < 8 → nat_le 8 m ≡ false
+      below m l = grind (arith, nat_tests)
+
+  top_clean : IsClean tree (top_entry tree)
+  unfolding basin_table
+  top_clean =
+      clean_fields tree which.Top 0 top_fields format (record { rising = refl; known = refl; found = refl })
+      (ap (λ (o : Option Data). option_map_or (λ items. items_len items == 0) (option_and_then as_array o) false)
+      (top_at b (codes "node")) ∙ some_nodes b.nodes valid.bounded.some_node) refl late refl refl refl
+    where
+      some_nodes : (nodes : List node.Node) → 1 ≤ length nodes →
+          option_map_or (λ items. items_len items == 0) (option_and_then as_array (listed node_row nodes)) false ≡ false
+      some_nodes [] some = absurd (omega arith)
+      some_nodes (n ∷ nodes) some = positive _
+        where
+          positive : (m : ℕ) → (suc m == 0) ≡ false
+          positive m = grind (arith, nat_tests)
+
+      ends : (y m months : ℕ) → 1 ≤ m → 1 ≤ months → 12 * y + m + months ≤ 36001 →
+          y + (m - 1 + (months - 1)) / 12 ≤ 2999
+      ends y m months first some h = omega arith
+
+      is_within : (n : ℕ) → n ≤ 2999 → nat_le n 2999 ≡ true
+      is_within n l = grind (arith, nat_tests)
+
+      in_time : is_none (month_within b.first (b.months - 1)) ≡ false
+      in_time =
+          rw (is_within (month_after b.first (b.months - 1)).year
+          (ends b.first.year b.first.month b.months valid.run.first.month.0 valid.run.months.0 valid.run.ends)) refl
+
+      late : runs_late which.Top (basin_table b) ≡ false
+      late =
+          (λ i. option_map_or (λ first. is_none (month_within first (months i - 1)))
+          (read_month (unwrap_or (option_and_then as_str (top_at b (codes "first_month") i)) [])) false)
+          ∙ (ap (λ (o : Option Month). option_map_or (λ first. is_none (month_within first (b.months - 1))) o false)
+          (read_month-month_digits b.first valid.run.first) ∙ in_time)
+        where
+          months : integer_at (codes "months") 1 1200 1 (basin_table b) ≡ b.months
+          months = whole_there (codes "months") 1 1200 1 (basin_table b) b.months (top_at b (codes "months"))
+              valid.run.months.0 valid.run.months.1
+
+  tidy : (t : BasinTable) → IsListed t → IsTidy tree t
+  tidy which.Top h = absurd h
+  tidy which.Node h = tidy_rows which.Node node_row b.nodes (lists b valid which.Node h) node_clean
+  tidy which.Link h = tidy_rows which.Link (link_row b) b.links (lists b valid which.Link h) link_clean
+  tidy which.Reservoir h =
+      tidy_rows which.Reservoir (reservoir_row b) b.reservoirs (lists b valid which.Reservoir h) reservoir_clean
+  tidy which.Return h = tidy_rows which.Return (return_row b) b.returns (lists b valid which.Return h) return_clean
+  tidy t h = tidy_rows t (right_row b) (rights_in t b.rights) (lists b valid t h) (right_clean t)
+
+-- a valid basin has no fault
+areas_none : (n : ℕ) (reservoirs : List Reservoir) → Each (λ v. IsAreaTable v.area) reservoirs →
+    areas_fault n reservoirs ≡ None
+areas_none n [] each = refl
+areas_none n (v ∷ reservoirs) each =
+    ap (λ (o : Option TableRefused). option_or (option_and_then (area_finding (n + 1)) o)
+    (areas_fault (n + 1) reservoirs)) (no_fault v.area each.0)
+    ∙ areas_none (n + 1) reservoirs each.1
+
+basin_none : (b : Basin) → IsValidBasin b → basin_fault (record b { format = 2 }) ≡ None
+unfolding basin_fault
+basin_none b valid =
+    ap (λ (o : Option NetRefused). option_or (option_and_then net_finding o)
+    (option_or (option_and_then (roll_finding b.rights) (roll_fault b.rights b.returns))
+    (areas_fault 0 b.reservoirs)))
+    (sound_faultless b.nodes b.links (λ k l h. (valid.links k l h).ends) valid.network)
+    ∙ (ap (λ (o : Option RollRefused). option_or (option_and_then (roll_finding b.rights) o)
+    (areas_fault 0 b.reservoirs)) (roll_fault-sound b.rights b.returns valid.roll)
+    ∙ areas_none 0 b.reservoirs
+    (each_then (IsValidReservoir b) (λ v. IsAreaTable v.area) b.reservoirs (λ v h. h.table)
+    (all_each (IsValidReservoir b) b.reservoirs valid.reservoirs)))
+
+-- so its table has none
+pub table_is_sound : (b : Basin) → IsValidBasin b → document_fault (Some (basin_table b)) ≡ None
+table_is_sound b valid =
+    ap (λ (o : Option Finding). option_or o (basin_fault (basin_of (basin_table b))))
+    (no_tree_fault (basin_table b) (record { top = top_clean b valid; tidy = tidy b valid }))
+    ∙ (ap basin_fault (table_spells b valid) ∙ basin_none b valid)
+
+-- what is printed of it is read back
+pub read_back : (b : Basin) → IsValidBasin b → (text : List ℕ) (ms : Members) → ms ≡ basin_table b → IsUtf8 text →
+    (members_depth ms ≤ 80 → parse_document text ≡ Some ms) →
+    document_of text ≡ Some (basin_table b)
+read_back b valid text ms is utf8 reads =
+    by_test (is_utf8 text) (is_utf8-from_IsUtf8 text utf8) (reads (short ms is) ∙ ap (λ (t : Members). Some t) is)
+  where
+    short : (ms : Members) → ms ≡ basin_table b → members_depth ms ≤ 80
+    short ms is = rw is (let its = table_is_plain b valid in omega (arith, its.shallow))
+
+    by_test : (t : Bool) → t ≡ true → parse_document text ≡ Some (basin_table b) →
+        (if t then parse_document text else None) ≡ Some (basin_table b)
+    by_test true e h = h
+    by_test false e h = cc
+
+-- and no date of it is invalid
+pub no_dates : (b : Basin) → IsValidBasin b → (ms : Members) → ms ≡ basin_table b →
+    members_have_valid_dates ms ≡ false → ⊥
+no_dates b valid ms is h =
+    let its = table_is_plain b valid in
+    let clash : true ≡ false = sym its.dates ∙ (ap members_have_valid_dates (sym is) ∙ h) in
+    cc

@@ -1,101 +1,162 @@
--- A file without a fault spells a valid basin.
-use Rattle.std.proofs.Common.{◌≡◌, ◌≢◌, ℕ, ◌+◌, Bool, true, false, List, [], ◌∷◌, Option, Some, None, option_and_then}
-use Rattle.std.proofs.Common.{refl, sym, ◌∙◌}
-use Rattle.std.specs.Prelude.{nat_lt, option_map, length, map, position}
+-- How the parts of the order join: a file without a fault spells a valid basin.
+use Rattle.std.proofs.Common.{◌≡◌, ℕ, ◌+◌, List, [], ◌∷◌, Option, Some, None, option_and_then, IfOk, IfNone, All}
+use Rattle.std.proofs.Common.{Result, Ok, Err, refl, sym, ap, ◌∙◌, inl, inr, nat_le, nat_lt, eqb, ◌≢◌, subst}
+use Rattle.std.proofs.lemmas.Bool.{cases_Bool}
+use Rattle.std.specs.Prelude.{option_map, length, map, position}
 use Rattle.std.specs.List.{position_or_len, find, range_with_len}
 use Rattle.std.specs.Option.{option_or}
 use Rattle.std.specs.Str.{bytes_eq}
 use Rattle.toml.specs.Data.{Members}
-use Rattle.toml_tree.specs.Document.{document_of}
-use Rattle.water_model.specs.Valid.{IsValidBasin}
+use Rattle.water_model.specs.Network.{IsSoundNetwork}
+use Rattle.water_model.specs.Rights.{IsSoundRoll, has_bad_date, has_zone_fault, priority}
+use Rattle.water_model.specs.Valid.{IsAreaTable, IsValidBasin}
+use Rattle.water_model.specs.declared.types.AreaPoint.{AreaPoint}
 use Rattle.water_model.specs.declared.types.Basin.{Basin}
-use Rattle.water_model.specs.declared.types.Link.{Link}
-use Rattle.water_model.specs.declared.types.Node.{Node}
+use Rattle.water_model.specs.declared.types.Reservoir.{Reservoir}
 use Rattle.water_model.specs.declared.types.ReturnRow.{ReturnRow}
 use Rattle.water_model.specs.declared.types.Right.{Right}
-use Rattle.water_model.specs.Rights.{has_bad_date, has_zone_fault, priority}
+use Rattle.rights_roll.specs.RollFaults.{roll_fault, IsRollRefusal, same_from, has_many_parts}
+use Rattle.rights_roll.specs.declared.RollRefused.{RollRefused}
+use Rattle.rights_roll.specs.declared.RollRefused.TheVariants as roll
+use Rattle.reservoirs.specs.AreaFaults.{fault_after, table_fault}
+use Rattle.reservoirs.specs.declared.TableRefused.TheVariants as area
+use Rattle.reservoirs.proofs.Tables.{is_table}
+use Rattle.basin_tree.specs.Order.{tree_fault}
+use Rattle.basin_tree.specs.declared.walk.Finding.{Finding}
+use Rattle.basin_file.specs.BasinFaults.{roll_finding, area_finding, areas_fault, Spells, file_fault, document_fault}
+use Rattle.basin_file.specs.BasinFaults.{basin_fault, net_finding}
+use Rattle.basin_file.specs.Sound.{IsSoundBasin}
+use Rattle.basin_file.specs.Spelled.{basin_of}
+use Rattle.toml_tree.specs.Document.{document_of}
+use Rattle.water_model.specs.declared.types.Link.{Link}
+use Rattle.water_model.specs.declared.types.Node.{Node}
 use Rattle.river_net.specs.NetFaults.{net_fault, first_self_link, first_from_outlet, first_without_river}
 use Rattle.river_net.specs.NetFaults.{first_on_cycle}
 use Rattle.river_net.specs.declared.refused.NetRefused.TheVariants as net
 use Rattle.river_net.proofs.NoFault.{faultless_sound}
-use Rattle.rights_roll.specs.RollFaults.{roll_fault, date_fault, same_seniority, same_from, zone_fault, parts_fault}
-use Rattle.rights_roll.specs.RollFaults.{has_many_parts}
-use Rattle.rights_roll.specs.declared.RollRefused.{RollRefused}
-use Rattle.rights_roll.specs.declared.RollRefused.TheVariants as roll
 use Rattle.rights_roll.proofs.Soundness.{sound-from_faultless, roll_fault-is}
-use Rattle.basin_tree.specs.Order.{tree_fault}
-use Rattle.basin_file.specs.BasinFaults.{Spells, file_fault, document_fault, basin_fault, net_finding, roll_finding}
-use Rattle.basin_file.specs.BasinFaults.{areas_fault}
-use Rattle.basin_file.specs.Spelled.{basin_of}
-use Rattle.basin_file.proofs.Joins.{areas_sound, valid_by}
+use Rattle.basin_file.proofs.Lists.{Each, each_all}
+use Rattle.basin_file.proofs.Passed.{all_clean, or_none}
 use Rattle.basin_file.proofs.Whole.{sound_basin}
-use Rattle.basin_file.proofs.Passed.{no_fault, or_none}
 
--- a fault of a network is reported
-net_four : (a b c d : Option ℕ) →
-    option_and_then net_finding (option_or (option_map net.SelfLink a) (option_or (option_map net.LinkFromOutlet b)
-    (option_or (option_map net.NoRiver c) (option_map net.DirectedCycle d)))) ≡ None →
-    option_or (option_map net.SelfLink a) (option_or (option_map net.LinkFromOutlet b)
-    (option_or (option_map net.NoRiver c) (option_map net.DirectedCycle d))) ≡ None
-net_four None None None None e = refl
-net_four (Some x) b c d e = cc
-net_four None (Some x) c d e = cc
-net_four None None (Some x) d e = cc
-net_four None None None (Some x) e = cc
+-- a refused roll is reported as its first fault
+pub roll_found : (rights : List Right) (returns : List ReturnRow) (e : RollRefused) (finding : Finding) →
+    IsRollRefusal e rights returns → Some finding ≡ roll_finding rights e →
+    Some finding ≡ option_and_then (roll_finding rights) (roll_fault rights returns)
+roll_found rights returns roll.OutOfMemory finding refusal f = cc
+roll_found rights returns _ finding refusal f = f ∙ ap (option_and_then (roll_finding rights)) (sym refusal)
 
-net_none : (nodes : List Node) (links : List Link) → option_and_then net_finding (net_fault nodes links) ≡ None →
-    net_fault nodes links ≡ None
+-- what is reported as no fault is none
+abbrev pub IsReported : {F : Type 0} → (F → Option Finding) → Option F → Type 0
+IsReported f o = option_and_then f o ≡ None → o ≡ None
+
+-- an area table that is reported as no fault has none
+after_reported : (number : ℕ) (before : AreaPoint) (n : ℕ) (points : List AreaPoint) →
+    IsReported (area_finding number) (fault_after before n points)
+after_reported number before n [] e = refl
+after_reported number before n (p ∷ points) e =
+    elim (cases_Bool (nat_le p.storage before.storage)) [
+      | inl low ↦ (let h = rw low at e in cc)
+      | inr high ↦ elim (cases_Bool (nat_lt p.area before.area)) [
+        | inl falls ↦ (let h = rw (high, falls) at e in cc)
+        | inr stays ↦ rw (high, stays) (after_reported number p (n + 1) points (rw (high, stays) at e))
+      ]
+    ]
+
+area_reported : (number : ℕ) (points : List AreaPoint) → IsReported (area_finding number) (table_fault points)
+area_reported number [] e = cc
+area_reported number (p ∷ points) e =
+    elim (cases_Bool (eqb p.storage 0)) [
+      | inl begins ↦ rw begins (after_reported number p 1 points (rw begins at e))
+      | inr other ↦ (let h = rw other at e in cc)
+    ]
+
+each_table : (n : ℕ) (reservoirs : List Reservoir) → areas_fault n reservoirs ≡ None →
+    Each (λ v. IsAreaTable v.area) reservoirs
+each_table n [] e = tt
+each_table n (v ∷ reservoirs) e =
+    let both =
+    or_none (option_and_then (area_finding (n + 1)) (table_fault v.area)) (areas_fault (n + 1) reservoirs) e in
+    (is_table v.area (area_reported (n + 1) v.area both.0), each_table (n + 1) reservoirs both.1)
+
+-- where no reservoir is at fault, each has an area table
+pub areas_sound : (reservoirs : List Reservoir) (fault : Option Finding) → fault ≡ areas_fault 0 reservoirs →
+    IfNone fault (All (λ v. IsAreaTable v.area) reservoirs)
+areas_sound reservoirs None e = each_all (λ v. IsAreaTable v.area) reservoirs (each_table 0 reservoirs (sym e))
+areas_sound reservoirs (Some finding) e = tt
+
+-- a sound basin with a sound network, roll and area tables is valid
+pub valid_by : (b : Basin) → IsSoundBasin b → IsSoundNetwork b.nodes b.links → IsSoundRoll b.rights b.returns →
+    All (λ v. IsAreaTable v.area) b.reservoirs → IsValidBasin b
+valid_by b sound network roll tables = record {
+  format = sound.format;
+  run = sound.run;
+  bounded = sound.bounded;
+  nodes = sound.nodes;
+  links = sound.links;
+  reservoirs = λ k d h. (let v = sound.reservoirs k d h in record {
+    node = v.node;
+    inner = v.inner;
+    opening = v.opening;
+    points = v.points;
+    bounded_points = v.bounded_points;
+    table = tables k d h;
+    rate = v.rate;
+  });
+  rights = sound.rights;
+  ranked = sound.ranked;
+  returns = sound.returns;
+  names = sound.names;
+  network = network;
+  roll = roll;
+}
+
+-- the basin that is spelled is sound
+pub sound_of : {E : Type 0} (tree : Members) (r : Result Basin E) → tree_fault tree ≡ None →
+    IfOk r (λ basin. basin ≡ basin_of tree) → IfOk r IsSoundBasin
+sound_of tree (Ok basin) e b = rw b (sound_basin tree (all_clean tree e))
+sound_of tree (Err e2) e b = tt
+
+-- each fault of a network and of a roll is reported
+or_reported : {F : Type 0} (f : F → Option Finding) (a b : Option F) → IsReported f a → IsReported f b →
+    IsReported f (option_or a b)
+or_reported f None b x y e = y e
+or_reported f (Some a) b x y e = x e
+
+map_reported : {A F : Type 0} (f : F → Option Finding) (g : A → F) → ((a : A) → f (g a) ≢ None) → (o : Option A) →
+    IsReported f (option_map g o)
+map_reported f g some None e = refl
+map_reported f g some (Some a) e = absurd (some a e)
+
+net_reported : (nodes : List Node) (links : List Link) → IsReported net_finding (net_fault nodes links)
 unfolding net_fault
-net_none nodes links e =
-    net_four (first_self_link links) (first_from_outlet nodes links) (first_without_river nodes links)
-    (first_on_cycle nodes links) e
+net_reported nodes links =
+    or_reported net_finding _ _ (map_reported net_finding net.SelfLink (λ k e. cc) (first_self_link links))
+    (or_reported net_finding _ _
+    (map_reported net_finding net.LinkFromOutlet (λ k e. cc) (first_from_outlet nodes links))
+    (or_reported net_finding _ _ (map_reported net_finding net.NoRiver (λ k e. cc) (first_without_river nodes links))
+    (map_reported net_finding net.DirectedCycle (λ k e. cc) (first_on_cycle nodes links))))
 
--- a fault of a roll is reported
-abbrev IsNotMemory : Option RollRefused → Type 0
-IsNotMemory o = o ≢ Some roll.OutOfMemory
+same_reported : (rights : List Right) (keys : List (List ℕ)) (n : ℕ) (rest : List (List ℕ)) →
+    IsReported (roll_finding rights) (same_from keys n rest)
+same_reported rights keys n [] e = refl
+same_reported rights keys n (key ∷ rest) e =
+    elim (cases_Bool (nat_lt (position_or_len (bytes_eq key) keys) n)) [
+      | inl low ↦ (let h = rw low at e in cc)
+      | inr high ↦ rw high (same_reported rights keys (n + 1) rest (rw high at e))
+    ]
 
-same_not_memory : (keys : List (List ℕ)) (n : ℕ) (rest : List (List ℕ)) → IsNotMemory (same_from keys n rest)
-same_not_memory keys n [] e = cc
-same_not_memory keys n (key ∷ rest) e =
-    by (nat_lt (position_or_len (bytes_eq key) keys) n) refl (same_not_memory keys (n + 1) rest)
-  where
-    by : (t : Bool) → nat_lt (position_or_len (bytes_eq key) keys) n ≡ t →
-        (same_from keys (n + 1) rest ≡ Some roll.OutOfMemory → ⊥) → ⊥
-    by true low after = (let h = rw low at e in cc)
-    by false high after = after (rw high at e)
-
-map_not_memory : (f : ℕ → RollRefused) → ((k : ℕ) → f k ≢ roll.OutOfMemory) → (o : Option ℕ) →
-    IsNotMemory (option_map f o)
-map_not_memory f other None e = cc
-map_not_memory f other (Some k) e = other k (cc)
-
-or_not_memory : (a b : Option RollRefused) → IsNotMemory a → IsNotMemory b → IsNotMemory (option_or a b)
-or_not_memory None b x y e = y e
-or_not_memory (Some f) b x y e = x e
-
-roll_not_memory : (rights : List Right) (returns : List ReturnRow) → IsNotMemory (roll_fault rights returns)
-roll_not_memory rights returns e =
-    or_not_memory (date_fault rights) _ (map_not_memory roll.BadDate (λ k same. cc) (position has_bad_date rights))
-    (or_not_memory (same_seniority rights) _ (same_not_memory (map priority rights) 0 (map priority rights))
-    (or_not_memory (zone_fault rights) (parts_fault rights returns)
-    (map_not_memory roll.ZoneOrder (λ k same. cc) (find (has_zone_fault rights) (range_with_len 0 (length rights))))
-    (map_not_memory roll.ReturnParts (λ k same. cc)
-    (find (has_many_parts returns) (range_with_len 0 (length rights))))))
-    (sym (roll_fault-is rights returns) ∙ e)
-
-roll_none : (rights : List Right) (returns : List ReturnRow) →
-    option_and_then (roll_finding rights) (roll_fault rights returns) ≡ None →
-    roll_fault rights returns ≡ None
-roll_none rights returns e = by (roll_fault rights returns) refl e
-  where
-    by : (o : Option RollRefused) → roll_fault rights returns ≡ o → option_and_then (roll_finding rights) o ≡ None →
-        roll_fault rights returns ≡ None
-    by None same e = same
-    by (Some (roll.BadDate right)) same e = cc
-    by (Some (roll.SameSeniority first later)) same e = cc
-    by (Some (roll.ZoneOrder right)) same e = cc
-    by (Some (roll.ReturnParts right)) same e = cc
-    by (Some roll.OutOfMemory) same e = absurd (roll_not_memory rights returns same)
+roll_reported : (rights : List Right) (returns : List ReturnRow) →
+    IsReported (roll_finding rights) (roll_fault rights returns)
+roll_reported rights returns =
+    let f = roll_finding rights in
+    subst (IsReported f) (sym (roll_fault-is rights returns))
+    (or_reported f _ _ (map_reported f roll.BadDate (λ k e. cc) (position has_bad_date rights))
+    (or_reported f _ _ (same_reported rights (map priority rights) 0 (map priority rights))
+    (or_reported f _ _
+    (map_reported f roll.ZoneOrder (λ k e. cc) (find (has_zone_fault rights) (range_with_len 0 (length rights))))
+    (map_reported f roll.ReturnParts (λ k e. cc)
+    (find (has_many_parts returns) (range_with_len 0 (length rights)))))))
 
 basin_valid : (tree : Members) → tree_fault tree ≡ None → basin_fault (basin_of tree) ≡ None →
     IsValidBasin (basin_of tree)
@@ -108,9 +169,9 @@ basin_valid tree none e =
     let rights =
     or_none (option_and_then (roll_finding b.rights) (roll_fault b.rights b.returns)) (areas_fault 0 b.reservoirs)
     net.1 in
-    valid_by b (sound_basin tree (no_fault tree none))
-    (faultless_sound b.nodes b.links (net_none b.nodes b.links net.0))
-    (sound-from_faultless b.rights b.returns (roll_none b.rights b.returns rights.0))
+    valid_by b (sound_basin tree (all_clean tree none))
+    (faultless_sound b.nodes b.links (net_reported b.nodes b.links net.0))
+    (sound-from_faultless b.rights b.returns (roll_reported b.rights b.returns rights.0))
     (areas_sound b.reservoirs None (sym rights.1))
 
 pub faultless_files_are_valid : (bytes : List ℕ) → file_fault bytes ≡ None → (b : Basin) × Spells bytes b ×

@@ -1,16 +1,19 @@
--- Values that fit the keys of their tables, and entries without a fault.
-use Rattle.std.proofs.Common.{◌≡◌, ℕ, suc, ◌+◌, ◌*◌, ◌^◌, ◌≤◌, ◌∙◌, Bool, true, false, not, ◌&&◌, ◌||◌, ◌==◌, nat_le}
-use Rattle.std.proofs.Common.{ap, subst, refl, arith, List, [], ◌∷◌, ◌++◌, length, map, slice_get, is_some, pos, codes}
-use Rattle.std.proofs.Common.{All}
+-- Keys with values that fit them, and entries whose rows are such keys: the fields of format 2.
+use Rattle.std.proofs.Common.{◌≡◌, ℕ, ◌+◌, ◌*◌, ◌^◌, ◌≤◌, ◌∙◌, Bool, true, false, not, ◌&&◌}
+use Rattle.std.proofs.Common.{ap, sym, subst, refl, arith, List, [], ◌∷◌, length, map, is_some, pos, codes, All}
+use Rattle.std.proofs.Common.{nat_cmp}
 use Rattle.std.specs.Prelude.{Option, Some, None, option_map, if◌then◌else◌}
-use Rattle.std.proofs.lemmas.Bool.Decides.{nat_tests}
+use Rattle.std.proofs.lemmas.Bool.{and_parts}
 use Rattle.std.proofs.lemmas.List.Elements.{All-tail}
-use Rattle.std.specs.List.{find, flat_map, list_any}
-use Rattle.std.specs.Option.{option_map_or, option_or}
+use Rattle.std.specs.Cmp.Lexicographic.{slice_cmp}
+use Rattle.std.specs.List.{list_all}
+use Rattle.std.specs.Option.{option_map_or}
+use Rattle.std.specs.Ordering.{is_eq}
 use Rattle.toml.specs.Data.{Data, string, boolean, array, table, Items, no_items, item, Members, get_member, as_array}
-use Rattle.toml.specs.Data.{as_table}
+use Rattle.toml.specs.Data.{as_table, depth, items_depth, members_depth, has_valid_dates, items_have_valid_dates}
+use Rattle.toml.specs.Data.{members_have_valid_dates}
 use Rattle.toml.specs.View.{items_of}
-use Rattle.toml_tree.specs.Items.{items_all, items_len}
+use Rattle.toml_tree.specs.Items.{items_all}
 use Rattle.toml_tree.specs.Values.{is_between}
 use Rattle.water_text.specs.Months.{IsMonth, month_digits, read_month}
 use Rattle.water_text.specs.Names.{is_name}
@@ -19,48 +22,70 @@ use Rattle.water_text.proofs.MonthLaws.{read_month-month_digits}
 use Rattle.water_text.specs.declared.month.Month.{Month}
 use Rattle.water_text.specs.Days.{is_date}
 use Rattle.water_text.specs.declared.day.Day.{Day}
-use Rattle.water_model.specs.Valid.{IsMonthly, IsValidPoint}
+use Rattle.water_model.specs.Valid.{IsMonthly, IsValidCarry, IsValidInflow, IsValidPoint, IsValidVolume}
 use Rattle.water_model.specs.declared.types.AreaPoint.{AreaPoint}
+use Rattle.water_model.specs.declared.types.Carry.{Carry}
+use Rattle.water_model.specs.declared.types.Carry.TheVariants.{River, Canal}
+use Rattle.water_model.specs.declared.types.Inflow as inflow
+use Rattle.water_model.specs.declared.types.Inflow.TheVariants as inflows
+use Rattle.water_model.specs.declared.types.RightKind.{RightKind}
 use Rattle.basin_tree.specs.declared.tables.BasinTable.{BasinTable}
-use Rattle.basin_tree.specs.declared.tables.BasinTable.TheVariants as which
 use Rattle.basin_tree.specs.declared.tables.Kind.{Kind}
 use Rattle.basin_tree.specs.declared.tables.Kind.TheVariants.{Tables, Integer, Truth, Name, Refers, MonthText, DateText}
 use Rattle.basin_tree.specs.declared.tables.Kind.TheVariants.{Monthly, Want, CalendarMonths, Inflow, Points}
 use Rattle.basin_tree.specs.declared.tables.Space.{Space}
-use Rattle.basin_tree.specs.Entries.{Entry, entries_after, entries_in, entries_of, found_at}
-use Rattle.basin_tree.specs.KeyFaults.{any_value, format_of, has_no_nodes, has_unknown, lacks_key, missing_key}
-use Rattle.basin_tree.specs.KeyFaults.{names_in, out_of_range, runs_late, shuts_no_canal, unknown_key, wrong_kind}
+use Rattle.basin_tree.specs.Entries.{Entry}
+use Rattle.basin_tree.specs.KeyFaults.{format_of, has_no_nodes, has_unknown, is_known, runs_late}
+use Rattle.basin_tree.specs.KeyFaults.{shuts_no_canal}
 use Rattle.basin_tree.specs.Kinds.{has_kind, is_listed, is_integer_value}
-use Rattle.basin_tree.specs.NameFaults.{bad_name, is_bad_name, names_none, no_such_name, outlet_reservoir, same_name}
-use Rattle.basin_tree.specs.NameFaults.{stands_at_outlet, too_many}
-use Rattle.basin_tree.specs.Order.{Pass, first_fault, passes, tree_fault}
+use Rattle.basin_tree.specs.NameFaults.{is_bad_name, names_none, same_name, stands_at_outlet, too_many}
 use Rattle.basin_tree.specs.Indices.{named_at}
 use Rattle.basin_tree.specs.Ranges.{in_range, number_in, pair_in}
-use Rattle.basin_tree.specs.Tables.{KeyRow, keys_of, table_name}
-use Rattle.basin_tree.specs.Tables as tables
-use Rattle.basin_file.specs.Upgraded.{day_text, listed, number, numbers, point_data, shut_months, some_items, with_some}
-use Rattle.basin_file.proofs.Listed.{all_each, items_in}
-use Rattle.basin_file.proofs.Lists.{Each, each_then}
-use Rattle.basin_file.proofs.Passed.{find_cons}
-use Rattle.basin_file.proofs.ReadBack.{date_shape}
+use Rattle.basin_tree.specs.Tables.{KeyRow, keys_of, required, optional, second}
+use Rattle.basin_file.specs.Upgraded.{closed_data, day_text, inflow_data, listed, number, numbers, per_day_data}
+use Rattle.basin_file.specs.Upgraded.{point_data, shut_months, some_items, with_some}
+use Rattle.basin_file.proofs.Fields.{Keyed, ascend, looked_up, row_of, value_at}
+use Rattle.basin_file.proofs.Listed.{all_each, len_items}
+use Rattle.basin_file.proofs.Lists.{Each, each_any, each_then}
+use Rattle.basin_file.proofs.Passed.{Fits, IsClean, clean_by, or_false}
+use Rattle.basin_file.proofs.ReadBack.{between, date_shape}
 
--- a value, or none, that fits a key of format 2
-pub record Fits (tree : Members) (key : KeyRow) (o : Option Data) : Type 0 where
-  pub present : (key.is_required && not (is_some o)) ≡ false
-  pub kinds : option_map_or (λ d. not (has_kind 2 key.kind d)) o false ≡ false
-  pub ranges : option_map_or (λ d. not (in_range key.kind d)) o false ≡ false
-  pub names : option_map_or (is_bad_name key.kind) o false ≡ false
-  pub refers : option_map_or (names_none tree key.kind) o false ≡ false
+-- data that is shallow, with no date of TOML that can't be printed
+pub record IsPlain (n : ℕ) (d : Data) : Type 0 where
+  pub shallow : depth d ≤ n
+  pub dates : has_valid_dates d ≡ true
 
-pub between : (least n most : ℕ) → least ≤ n → n ≤ most → is_between least most (pos n) ≡ true
-between least n most low high = test least n most low high
-  where
-    test : (least n most : ℕ) → least ≤ n → n ≤ most → (nat_le least n && nat_le n most) ≡ true
-    test least n most low high = grind (arith, nat_tests)
+pub record ArePlainItems (n : ℕ) (ds : Items) : Type 0 where
+  pub shallow : items_depth ds ≤ n
+  pub dates : items_have_valid_dates ds ≡ true
 
-pub and_false : (t : Bool) → (t && false) ≡ false
-and_false true = refl
-and_false false = refl
+pub record ArePlain (n : ℕ) (ms : Members) : Type 0 where
+  pub shallow : members_depth ms ≤ n
+  pub dates : members_have_valid_dates ms ≡ true
+
+abbrev pub IsPlainOption : ℕ → Option Data → Type 0
+IsPlainOption n None = Unit {0}
+IsPlainOption n (Some d) = IsPlain n d
+
+pub plain_text : (s : List ℕ) (n : ℕ) → IsPlain n (string s)
+plain_text s n = record { shallow = omega arith; dates = refl }
+
+pub plain_number : (k n : ℕ) → IsPlain n (number k)
+plain_number k n = record { shallow = omega arith; dates = refl }
+
+pub plain_items : {X : Type 0} (n : ℕ) (f : X → Data) (xs : List X) → Each (λ x. IsPlain n (f x)) xs →
+    ArePlainItems n (items_of (map f xs))
+plain_items n f [] each = record { shallow = omega arith; dates = refl }
+plain_items n f (x ∷ xs) each =
+    let here = each.0 in
+    let rest = plain_items n f xs each.1 in
+    record { shallow = omega (arith, here.shallow, rest.shallow); dates = rw here.dates rest.dates }
+
+pub plain_array : (n : ℕ) (ds : Items) → ArePlainItems n ds → IsPlain (n + 1) (array ds)
+plain_array n ds h = record { shallow = omega (arith, h.shallow); dates = h.dates }
+
+pub plain_numbers : (n : ℕ) (ns : List ℕ) → ArePlainItems n (numbers ns)
+plain_numbers n ns = plain_items n number ns (each_any (λ k. IsPlain n (number k)) ns (λ k. plain_number k n))
 
 -- items of lists of numbers
 whole_items : (ns : List ℕ) → items_all is_integer_value (numbers ns) ≡ true
@@ -72,17 +97,15 @@ ranged_items : (least most : ℕ) (ns : List ℕ) → Each (λ n. is_between lea
 ranged_items least most [] each = refl
 ranged_items least most (n ∷ ns) each = rw (each.0) (ranged_items least most ns each.1)
 
-pub len_items : {X : Type 0} (f : X → Data) (xs : List X) → items_len (items_of (map f xs)) ≡ length xs
-len_items f [] = refl
-len_items f (x ∷ xs) = ap suc (len_items f xs)
+pub monthly_items : (most : ℕ) (ns : List ℕ) → IsMonthly most ns →
+    items_all (number_in 0 most) (numbers ns) ≡ true
+monthly_items most ns h =
+    ranged_items 0 most ns (each_then (λ n. n ≤ most) (λ n. is_between 0 most (pos n) ≡ true) ns
+    (λ n l. between 0 n most (omega arith) l) (all_each (λ n. n ≤ most) ns h.each))
 
-monthly_each : (most : ℕ) (ns : List ℕ) → IsMonthly most ns → Each (λ n. is_between 0 most (pos n) ≡ true) ns
-monthly_each most ns h =
-    each_then (λ n. n ≤ most) (λ n. is_between 0 most (pos n) ≡ true) ns (λ n l. between 0 n most (omega arith) l)
-    (all_each (λ n. n ≤ most) ns h.each)
-
-twelve_items : (most : ℕ) (ns : List ℕ) → IsMonthly most ns → (items_len (numbers ns) == 12) ≡ true
-twelve_items most ns h = rw (len_items number ns, h.twelve) refl
+pub twelve_items : (most : ℕ) (ns : List ℕ) → IsMonthly most ns →
+    is_listed is_integer_value 12 (array (numbers ns)) ≡ true
+twelve_items most ns h = rw (len_items number ns, h.twelve, whole_items ns) refl
 
 months_each : (from : ℕ) (shut : List Bool) → 1 ≤ from → from + length shut ≤ 13 →
     Each (λ n. is_between 1 12 (pos n) ≡ true) (shut_months from shut)
@@ -91,11 +114,12 @@ months_each from (true ∷ shut) low high =
     (between 1 from 12 low (omega arith), months_each (from + 1) shut (omega arith) (omega arith))
 months_each from (false ∷ shut) low high = months_each (from + 1) shut (omega arith) (omega arith)
 
-pair_items : (area : List AreaPoint) → items_all (is_listed is_integer_value 2) (items_of (map point_data area)) ≡ true
+pub pair_items : (area : List AreaPoint) →
+    items_all (is_listed is_integer_value 2) (items_of (map point_data area)) ≡ true
 pair_items [] = refl
 pair_items (p ∷ area) = pair_items area
 
-point_items : (area : List AreaPoint) → All IsValidPoint area →
+pub point_items : (area : List AreaPoint) → All IsValidPoint area →
     items_all (λ x. option_map_or pair_in (as_array x) true) (items_of (map point_data area)) ≡ true
 point_items [] h = refl
 point_items (p ∷ area) h =
@@ -108,7 +132,7 @@ table_items : {X : Type 0} (row : X → Members) (xs : List X) →
 table_items row [] = refl
 table_items row (x ∷ xs) = table_items row xs
 
-month_shape : (m : Month) → IsMonth m → has_shape (codes "dddd-dd") (month_digits m) ≡ true
+pub month_shape : (m : Month) → IsMonth m → has_shape (codes "dddd-dd") (month_digits m) ≡ true
 unfolding read_month
 month_shape m h = by (has_shape (codes "dddd-dd") (month_digits m)) refl (read_month-month_digits m h)
   where
@@ -116,259 +140,226 @@ month_shape m h = by (has_shape (codes "dddd-dd") (month_digits m)) refl (read_m
     by true e read = refl
     by false e read = (let none = rw e at read in cc)
 
-module _ (tree : Members) where
-  pub fits_none : (name : List ℕ) (kind : Kind) (since : ℕ) →
-      Fits tree (record { name = name; is_required = false; kind = kind; since = since }) None
-  fits_none name kind since = record { present = refl; kinds = refl; ranges = refl; names = refl; refers = refl }
+-- a key of format 2 with its value, if it has one, which fits it and is plain
+pub record Field (tree : Members) (n : ℕ) : Type 0 where
+  pub key : KeyRow
+  pub value : Option Data
+  pub fits : Fits 2 tree key value
+  pub plain : IsPlainOption n value
 
+module _ (tree : Members) where
   -- a value by the four tests of its kind
-  fits_by : (key : KeyRow) (d : Data) → has_kind 2 key.kind d ≡ true → in_range key.kind d ≡ true →
-      is_bad_name key.kind d ≡ false → names_none tree key.kind d ≡ false →
-      Fits tree key (Some d)
+  pub fits_by : (key : KeyRow) (d : Data) → has_kind 2 key.kind d ≡ true → in_range key.kind d ≡ true →
+      is_bad_name key.kind d ≡ false → names_none tree key.kind d ≡ false → Fits 2 tree key (Some d)
   fits_by key d p q r s =
       record { present = and_false key.is_required; kinds = ap not p; ranges = ap not q; names = r; refers = s }
+    where
+      and_false : (t : Bool) → (t && false) ≡ false
+      and_false true = refl
+      and_false false = refl
 
-  pub fits_number : (name : List ℕ) (needed : Bool) (since least most n : ℕ) → least ≤ n → n ≤ most →
-      Fits tree (record { name = name; is_required = needed; kind = Integer least most; since = since })
-      (Some (number n))
-  fits_number name needed since least most n low high =
-      fits_by _ (number n) refl (between least n most low high) refl refl
+  abbrev field : {n : ℕ} (key : KeyRow) (d : Data) → has_kind 2 key.kind d ≡ true → in_range key.kind d ≡ true →
+      is_bad_name key.kind d ≡ false → names_none tree key.kind d ≡ false → IsPlain n d → Field tree n
+  field key d p q r s plain = record { key = key; value = Some d; fits = fits_by key d p q r s; plain = plain }
 
-  pub fits_truth : (name : List ℕ) (needed : Bool) (since : ℕ) (t : Bool) →
-      Fits tree (record { name = name; is_required = needed; kind = Truth; since = since }) (Some (boolean t))
-  fits_truth name needed since t = fits_by _ (boolean t) refl refl refl refl
+  abbrev pub whole : {n : ℕ} (key : List ℕ) (needed : Bool) (since least most k : ℕ) → least ≤ k → k ≤ most →
+      Field tree n
+  whole {n = n} key needed since least most k low high =
+      field (record { name = key; is_required = needed; kind = Integer least most; since = since }) (number k) refl
+      (between least k most low high) refl refl (plain_number k n)
 
-  pub fits_name : (name : List ℕ) (needed : Bool) (since : ℕ) (text : List ℕ) → is_name text ≡ true →
-      Fits tree (record { name = name; is_required = needed; kind = Name; since = since }) (Some (string text))
-  fits_name name needed since text good = fits_by _ (string text) refl refl (ap not good) refl
+  abbrev pub named : (text : List ℕ) → is_name text ≡ true → Field tree 2
+  named text good =
+      field (required (codes "name") Name) (string text) refl refl (ap not good) refl (plain_text text 2)
 
-  pub fits_reference : (name : List ℕ) (needed : Bool) (since : ℕ) (space : Space) (q : List ℕ) (k : ℕ) →
-      named_at tree space q ≡ Some k →
-      Fits tree (record { name = name; is_required = needed; kind = Refers space; since = since }) (Some (string q))
-  fits_reference name needed since space q k named =
-      fits_by _ (string q) refl refl refl (ap (λ (o : Option ℕ). not (is_some o)) named)
+  abbrev pub truth : (key : List ℕ) → Bool → Field tree 2
+  truth key t =
+      field (optional key Truth) (boolean t) refl refl refl refl (record { shallow = omega arith; dates = refl })
 
-  pub fits_date : (name : List ℕ) (needed : Bool) (since : ℕ) (d : Day) → is_date d ≡ true →
-      Fits tree (record { name = name; is_required = needed; kind = DateText; since = since })
-      (Some (string (day_text d)))
-  fits_date name needed since d good = fits_by _ (string (day_text d)) (date_shape d good) refl refl refl
+  abbrev pub refers : (key : List ℕ) (space : Space) (q : List ℕ) (k : ℕ) → named_at tree space q ≡ Some k →
+      Field tree 2
+  refers key space q k named =
+      field (required key (Refers space)) (string q) refl refl refl (ap (λ (o : Option ℕ). not (is_some o)) named)
+      (plain_text q 2)
 
-  pub fits_month : (name : List ℕ) (needed : Bool) (since : ℕ) (m : Month) → IsMonth m →
-      Fits tree (record { name = name; is_required = needed; kind = MonthText; since = since })
-      (Some (string (month_digits m)))
-  fits_month name needed since m good =
-      fits_by _ (string (month_digits m)) (month_shape m good)
-      (ap (λ (o : Option Month). is_some o) (read_month-month_digits m good)) refl refl
+  abbrev pub dated : (d : Day) → is_date d ≡ true → Field tree 2
+  dated d good =
+      field (required (codes "date") DateText) (string (day_text d)) (date_shape d good) refl refl refl (plain_text _ 2)
 
-  pub fits_monthly : (name : List ℕ) (needed : Bool) (since most : ℕ) (ns : List ℕ) → IsMonthly most ns →
-      Fits tree (record { name = name; is_required = needed; kind = Monthly most; since = since })
-      (Some (array (numbers ns)))
-  fits_monthly name needed since most ns h =
-      fits_by _ (array (numbers ns)) (rw (twelve_items most ns h, whole_items ns) refl)
-      (ranged_items 0 most ns (monthly_each most ns h)) refl refl
+  abbrev pub month : (m : Month) → IsMonth m → Field tree 4
+  month m good =
+      field (required (codes "first_month") MonthText) (string (month_digits m)) (month_shape m good)
+      (ap (λ (o : Option Month). is_some o) (read_month-month_digits m good)) refl refl (plain_text _ 4)
 
-  pub fits_want : (name : List ℕ) (needed : Bool) (since : ℕ) (ns : List ℕ) (series : Bool) → IsMonthly (10 ^ 9) ns →
-      Fits tree (record { name = name; is_required = needed; kind = Want; since = since })
-      (Some (if series then string (codes "series") else array (numbers ns)))
-  fits_want name needed since ns true h = fits_by _ (string (codes "series")) refl refl refl refl
-  fits_want name needed since ns false h =
-      fits_by _ (array (numbers ns)) (rw (twelve_items (10 ^ 9) ns h, whole_items ns) refl)
-      (ranged_items 0 (10 ^ 9) ns (monthly_each (10 ^ 9) ns h)) refl refl
+  abbrev pub rate : (ns : List ℕ) → IsMonthly 10000 ns → Field tree 2
+  rate ns h =
+      field (optional (codes "rate") (Monthly 10000)) (array (numbers ns)) (twelve_items 10000 ns h)
+      (monthly_items 10000 ns h) refl refl (plain_array 1 (numbers ns) (plain_numbers 1 ns))
 
-  pub fits_gauged : (name : List ℕ) (needed : Bool) (since : ℕ) →
-      Fits tree (record { name = name; is_required = needed; kind = Inflow; since = since })
-      (Some (string (codes "gauged")))
-  fits_gauged name needed since = fits_by _ (string (codes "gauged")) refl refl refl refl
+  abbrev pub points : (area : List AreaPoint) → All IsValidPoint area → Field tree 2
+  points area h =
+      field (optional (codes "area") Points) (array (items_of (map point_data area))) (pair_items area)
+      (point_items area h) refl refl
+      (plain_array 1 (items_of (map point_data area)) (plain_items 1 point_data area
+      (each_any (λ p. IsPlain 1 (point_data p)) area
+      (λ p. plain_array 0 _ (plain_numbers 0 (p.storage ∷ p.area ∷ []))))))
 
-  pub fits_inflow : (name : List ℕ) (needed : Bool) (since : ℕ) (ns : List ℕ) → IsMonthly (10 ^ 9) ns →
-      Fits tree (record { name = name; is_required = needed; kind = Inflow; since = since }) (Some (array (numbers ns)))
-  fits_inflow name needed since ns h =
-      fits_by _ (array (numbers ns)) (rw (twelve_items (10 ^ 9) ns h, whole_items ns) refl)
-      (ranged_items 0 (10 ^ 9) ns (monthly_each (10 ^ 9) ns h)) refl refl
+  -- fields whose value depends on what is written
+  abbrev pub InField : KeyRow → ℕ → Option Data → Type 0
+  InField key n o = Fits 2 tree key o × IsPlainOption n o
 
-  pub fits_points : (name : List ℕ) (needed : Bool) (since : ℕ) (area : List AreaPoint) → All IsValidPoint area →
-      Fits tree (record { name = name; is_required = needed; kind = Points; since = since })
-      (Some (array (items_of (map point_data area))))
-  fits_points name needed since area h =
-      fits_by _ (array (items_of (map point_data area))) (pair_items area) (point_items area h) refl refl
+  abbrev pub in_field : {n : ℕ} (key : KeyRow) (o : Option Data) → InField key n o → Field tree n
+  in_field key o its = record { key = key; value = o; fits = its.0; plain = its.1 }
 
-  pub fits_months : (name : List ℕ) (since : ℕ) (shut : List Bool) → length shut ≡ 12 →
-      Fits tree (record { name = name; is_required = false; kind = CalendarMonths; since = since })
-      (some_items (numbers (shut_months 1 shut)))
-  fits_months name since shut len = by (numbers (shut_months 1 shut)) (whole_items (shut_months 1 shut))
-      (ranged_items 1 12 (shut_months 1 shut) (months_each 1 shut (omega arith) (omega (arith, len))))
+  pub no_field : (n : ℕ) (name : List ℕ) (kind : Kind) (since : ℕ) →
+      InField (record { name = name; is_required = false; kind = kind; since = since }) n None
+  no_field n name kind since = (record { present = refl; kinds = refl; ranges = refl; names = refl; refers = refl }, tt)
+
+  abbrev of_field : {n : ℕ} (f : Field tree n) → InField f.key n f.value
+  of_field f = (f.fits, f.plain)
+
+  pub want_in : (ns : List ℕ) (series : Bool) → IsMonthly (10 ^ 9) ns →
+      InField (required (codes "want") Want) 2 (Some (if series then string (codes "series") else array (numbers ns)))
+  want_in ns true h =
+      of_field (field (required (codes "want") Want) (string (codes "series")) refl refl refl refl (plain_text _ 2))
+  want_in ns false h =
+      of_field (field (required (codes "want") Want) (array (numbers ns)) (rw (twelve_items (10 ^ 9) ns h) refl)
+      (monthly_items (10 ^ 9) ns h) refl refl (plain_array 1 (numbers ns) (plain_numbers 1 ns)))
+
+  pub inflow_in : (i : inflow.Inflow) → IsValidInflow i →
+      InField (optional (codes "inflow") Inflow) 2 (Some (inflow_data i))
+  inflow_in (inflows.Monthly ns) h =
+      of_field (field (optional (codes "inflow") Inflow) (array (numbers ns)) (rw (twelve_items (10 ^ 9) ns h) refl)
+      (monthly_items (10 ^ 9) ns h) refl refl (plain_array 1 (numbers ns) (plain_numbers 1 ns)))
+  inflow_in inflows.Gauged h =
+      of_field (field (optional (codes "inflow") Inflow) (string (codes "gauged")) refl refl refl refl (plain_text _ 2))
+
+  pub per_day_in : (c : Carry) → IsValidCarry c →
+      InField (optional (codes "per_day") (Integer 0 (10 ^ 9))) 2 (per_day_data c)
+  per_day_in River h = no_field 2 (codes "per_day") (Integer 0 (10 ^ 9)) 1
+  per_day_in (Canal per_day shut) h = of_field (whole (codes "per_day") false 1 0 (10 ^ 9) per_day (omega arith) h.0)
+
+  pub closed_in : (c : Carry) → IsValidCarry c → InField (second (codes "closed") CalendarMonths) 2 (closed_data c)
+  closed_in River h = no_field 2 (codes "closed") CalendarMonths 2
+  closed_in (Canal per_day shut) h = by (numbers (shut_months 1 shut)) (whole_items (shut_months 1 shut))
+      (ranged_items 1 12 (shut_months 1 shut) (months_each 1 shut (omega arith) (omega (arith, h.1))))
+      (plain_numbers 1 (shut_months 1 shut))
     where
       by : (ds : Items) → items_all is_integer_value ds ≡ true → items_all (number_in 1 12) ds ≡ true →
-          Fits tree (record { name = name; is_required = false; kind = CalendarMonths; since = since }) (some_items ds)
-      by no_items p q = fits_none name CalendarMonths since
-      by (item d ds) p q = fits_by _ (array (item d ds)) p q refl refl
+          ArePlainItems 1 ds → InField (second (codes "closed") CalendarMonths) 2 (some_items ds)
+      by no_items p q plain = no_field 2 (codes "closed") CalendarMonths 2
+      by (item d ds) p q plain =
+          of_field (field (second (codes "closed") CalendarMonths) (array (item d ds)) p q refl refl
+          (plain_array 1 (item d ds) plain))
 
-  pub fits_tables : {X : Type 0} (name : List ℕ) (since : ℕ) (row : X → Members) (xs : List X) →
-      Fits tree (record { name = name; is_required = false; kind = Tables; since = since }) (listed row xs)
-  fits_tables name since row [] = fits_none name Tables since
-  fits_tables name since row (x ∷ xs) =
-      fits_by _ (array (items_of (map (λ x. table (row x)) (x ∷ xs)))) (table_items row (x ∷ xs)) refl refl refl
+  pub volume_in : (its : RightKind) (volume : Option ℕ) → IsValidVolume its volume →
+      InField (second (codes "volume") (Integer 0 (16 * 10 ^ 9))) 2 (option_map number volume)
+  volume_in its None h = no_field 2 (codes "volume") (Integer 0 (16 * 10 ^ 9)) 2
+  volume_in its (Some n) h = of_field (whole (codes "volume") false 2 0 (16 * 10 ^ 9) n (omega arith) h.1)
 
-  pub fits_some_tables : {X : Type 0} (name : List ℕ) (since : ℕ) (row : X → Members) (xs : List X) → 1 ≤ length xs →
-      Fits tree (record { name = name; is_required = true; kind = Tables; since = since }) (listed row xs)
-  fits_some_tables name since row [] some = absurd (omega arith)
-  fits_some_tables name since row (x ∷ xs) some =
-      fits_by _ (array (items_of (map (λ x. table (row x)) (x ∷ xs)))) (table_items row (x ∷ xs)) refl refl refl
+  -- a table of entries, of which there has to be one where it is required
+  pub tables_in : {X : Type 0} (key : List ℕ) (needed : Bool) (row : X → Members) (xs : List X) →
+      (needed ≡ true → 1 ≤ length xs) → Each (λ x. ArePlain 2 (row x)) xs →
+      InField (record { name = key; is_required = needed; kind = Tables; since = 1 }) 4 (listed row xs)
+  tables_in key false row [] some each = no_field 4 key Tables 1
+  tables_in key true row [] some each = let none = some refl in absurd (omega arith)
+  tables_in {X = X} key needed row (x ∷ xs) some each =
+      of_field (field (record { name = key; is_required = needed; kind = Tables; since = 1 })
+      (array (items_of (map (λ x. table (row x)) (x ∷ xs)))) (table_items row (x ∷ xs)) refl refl refl
+      (plain_array 3 _ (plain_items 3 (λ x. table (row x)) (x ∷ xs)
+      (each_then (λ x. ArePlain 2 (row x)) (λ x. IsPlain 3 (table (row x))) (x ∷ xs) deeper each))))
+    where
+      deeper : (x : X) → ArePlain 2 (row x) → IsPlain 3 (table (row x))
+      deeper x h = record { shallow = omega (arith, h.shallow); dates = h.dates }
 
--- an entry that no test finds
-pub record IsClean (tree : Members) (e : Entry) : Type 0 where
-  pub keys : unknown_key tree e ≡ false
-  pub missing : missing_key tree e ≡ false
-  pub kinds : wrong_kind tree e ≡ false
-  pub ranges : out_of_range tree e ≡ false
-  pub names : bad_name tree e ≡ false
-  pub many : too_many tree e ≡ false
-  pub same : same_name tree e ≡ false
-  pub unknown : no_such_name tree e ≡ false
-  pub outlets : outlet_reservoir tree e ≡ false
+  abbrev pub tables : {X : Type 0} (key : List ℕ) (needed : Bool) (row : X → Members) (P : X → Type 0) (xs : List X) →
+      (needed ≡ true → 1 ≤ length xs) → All P xs → ((x : X) → P x → ArePlain 2 (row x)) → Field tree 4
+  tables key needed row P xs some all plain =
+      in_field (record { name = key; is_required = needed; kind = Tables; since = 1 }) (listed row xs)
+      (tables_in key needed row xs some (each_then P (λ x. ArePlain 2 (row x)) xs plain (all_each P xs all)))
 
-any_each : {X : Type 0} (p : X → Bool) (xs : List X) → Each (λ x. p x ≡ false) xs → list_any p xs ≡ false
-any_each p [] each = refl
-any_each p (x ∷ xs) each = rw (each.0) (any_each p xs each.1)
+  module _ {n : ℕ} where
+    abbrev pub keyed : List (Field tree n) → List Keyed
+    keyed fields = map (λ f. (f.key.name, f.value)) fields
 
-or_false : (p q : Bool) → p ≡ false → q ≡ false → (p || q) ≡ false
-or_false p q h k = rw (h, k) refl
+    abbrev pub key_at : List ℕ → List (Field tree n) → Option KeyRow
+    key_at k [] = None
+    key_at k (f ∷ fs) = if is_eq (slice_cmp nat_cmp k f.key.name) then Some f.key else key_at k fs
 
--- what an entry still owes where its values fit
-pub record IsRest (tree : Members) (e : Entry) : Type 0 where
-  pub known : has_unknown 2 e.table e.row ≡ false
-  pub nodes : has_no_nodes e.table e.row ≡ false
-  pub canal : shuts_no_canal e.table e.row ≡ false
-  pub late : runs_late e.table e.row ≡ false
-  pub many : too_many tree e ≡ false
-  pub same : same_name tree e ≡ false
-  pub outlets : stands_at_outlet e.table tree e.row ≡ false
+    -- fields in rising order, which are the keys of a table
+    pub record AreKeysOf (t : BasinTable) (fields : List (Field tree n)) : Type 0 where
+      pub rising : ascend (keyed fields) ≡ true
+      pub known : list_all (λ f. is_known 2 (keys_of t) f.key.name) fields ≡ true
+      pub found : map (λ key. key_at key.name fields) (keys_of t) ≡ map (λ key. Some key) (keys_of t)
 
-pub clean_by : (tree : Members) (e : Entry) → format_of tree ≡ 2 →
-    Each (λ key. Fits tree key (get_member key.name e.row)) (keys_of e.table) → IsRest tree e → IsClean tree e
-clean_by tree e format fits rest = record {
-  keys = ap (λ f. has_unknown f e.table e.row) format ∙ rest.known;
-  missing = or_false (lacks_key e.table e.row || has_no_nodes e.table e.row) (shuts_no_canal e.table e.row)
-      (or_false (lacks_key e.table e.row) (has_no_nodes e.table e.row)
-      (any_each (λ key. key.is_required && not (is_some (get_member key.name e.row))) (keys_of e.table)
-      (each (λ key. (key.is_required && not (is_some (get_member key.name e.row))) ≡ false) (λ key f. f.present)))
-      rest.nodes) rest.canal;
-  kinds = ap (λ f. any_value (λ kind d. not (has_kind f kind d)) e.table e.row) format
-      ∙ value (λ kind d. not (has_kind 2 kind d)) (λ key f. f.kinds);
-  ranges = or_false (any_value (λ kind d. not (in_range kind d)) e.table e.row) (runs_late e.table e.row)
-      (value (λ kind d. not (in_range kind d)) (λ key f. f.ranges)) rest.late;
-  names = value is_bad_name (λ key f. f.names);
-  many = rest.many;
-  same = rest.same;
-  unknown = value (names_none tree) (λ key f. f.refers);
-  outlets = rest.outlets;
-}
-  where
-    each : (P : KeyRow → Type 0) → ((key : KeyRow) → Fits tree key (get_member key.name e.row) → P key) →
-        Each P (keys_of e.table)
-    each P f = each_then (λ key. Fits tree key (get_member key.name e.row)) P (keys_of e.table) f fits
+    pub plain_fields : (fields : List (Field tree n)) → ArePlain n (row_of (keyed fields))
+    plain_fields [] = record { shallow = omega arith; dates = refl }
+    plain_fields (f ∷ fs) = by f.value f.plain (plain_fields fs)
+      where
+        by : (o : Option Data) → IsPlainOption n o → ArePlain n (row_of (keyed fs)) →
+            ArePlain n (with_some f.key.name o (row_of (keyed fs)))
+        by None h rest = rest
+        by (Some d) h rest =
+            record { shallow = omega (arith, h.shallow, rest.shallow); dates = rw h.dates rest.dates }
 
-    value : (test : Kind → Data → Bool) →
-        ((key : KeyRow) → Fits tree key (get_member key.name e.row) →
-        option_map_or (test key.kind) (get_member key.name e.row) false ≡ false) →
-        any_value test e.table e.row ≡ false
-    value test f =
-        any_each (λ key. option_map_or (test key.kind) (get_member key.name e.row) false) (keys_of e.table)
-        (each (λ key. option_map_or (test key.kind) (get_member key.name e.row) false ≡ false) f)
+    known_names : (t : BasinTable) (fields : List (Field tree n)) →
+        list_all (λ f. is_known 2 (keys_of t) f.key.name) fields ≡ true →
+        has_unknown 2 t (row_of (keyed fields)) ≡ false
+    known_names t [] h = refl
+    known_names t (f ∷ fs) h =
+        let both = and_parts (is_known 2 (keys_of t) f.key.name)
+        (list_all (λ f. is_known 2 (keys_of t) f.key.name) fs) h in
+        by f.value both.0 (known_names t fs both.1)
+      where
+        by : (o : Option Data) → is_known 2 (keys_of t) f.key.name ≡ true →
+            has_unknown 2 t (row_of (keyed fs)) ≡ false →
+            has_unknown 2 t (with_some f.key.name o (row_of (keyed fs))) ≡ false
+        by None known rest = rest
+        by (Some d) known rest =
+            or_false (not (is_known 2 (keys_of t) f.key.name)) (has_unknown 2 t (row_of (keyed fs))) (ap not known) rest
 
--- keys that may stand are known where they are
-pub names_some : (p : List ℕ → Bool) (key : List ℕ) (o : Option Data) (rest : Members) → p key ≡ false →
-    list_any p (names_in rest) ≡ false →
-    list_any p (names_in (with_some key o rest)) ≡ false
-names_some p key None rest h k = k
-names_some p key (Some d) rest h k = or_false (p key) (list_any p (names_in rest)) h k
+    -- the value at a key fits it
+    fits_key : (key : KeyRow) (fields : List (Field tree n)) → key_at key.name fields ≡ Some key →
+        Fits 2 tree key (value_at key.name (keyed fields))
+    fits_key key [] e = cc
+    fits_key key (f ∷ fs) e = by (is_eq (slice_cmp nat_cmp key.name f.key.name)) e (fits_key key fs)
+      where
+        by : (t : Bool) → (if t then Some f.key else key_at key.name fs) ≡ Some key →
+            (key_at key.name fs ≡ Some key → Fits 2 tree key (value_at key.name (keyed fs))) →
+            Fits 2 tree key (if t then f.value else value_at key.name (keyed fs))
+        by true e rest = let same : f.key ≡ key = cc in subst (λ (k : KeyRow). Fits 2 tree k f.value) same f.fits
+        by false e rest = rest e
 
--- a test finds nothing in a list of clean entries
-find_both : {X : Type 0} (f : X → Bool) (xs ys : List X) → find f xs ≡ None → find f ys ≡ None →
-    find f (xs ++ ys) ≡ None
-find_both f [] ys a b = b
-find_both f (x ∷ xs) ys a b = let both = find_cons f x xs a in rw both.0 (find_both f xs ys both.1 b)
+    fits_keys : (fields : List (Field tree n)) (keys : List KeyRow) → format_of tree ≡ 2 →
+        ascend (keyed fields) ≡ true →
+        map (λ key. key_at key.name fields) keys ≡ map (λ key. Some key) keys →
+        Each (λ key. Fits (format_of tree) tree key (get_member key.name (row_of (keyed fields)))) keys
+    fits_keys fields [] format rising e = tt
+    fits_keys fields (key ∷ keys) format rising e =
+        let here : key_at key.name fields ≡ Some key = cc in
+        let rest : map (λ key. key_at key.name fields) keys ≡ map (λ key. Some key) keys = cc in (
+          subst (λ (f : ℕ). Fits f tree key (get_member key.name (row_of (keyed fields)))) (sym format)
+              (subst (Fits 2 tree key) (sym (looked_up key.name (keyed fields) rising)) (fits_key key fields here)),
+          fits_keys fields keys format rising rest,
+        )
 
-find_lists : {A X : Type 0} (f : X → Bool) (g : A → List X) (lists : List A) → Each (λ a. find f (g a) ≡ None) lists →
-    find f (flat_map g lists) ≡ None
-find_lists f g [] each = refl
-find_lists f g (a ∷ lists) each = find_both f (g a) (flat_map g lists) each.0 (find_lists f g lists each.1)
+    -- an entry of such fields is clean where it keeps what else an entry has to
+    abbrev filled : BasinTable → ℕ → List (Field tree n) → Entry
+    filled t number fields = record { table = t; number = number; row = row_of (keyed fields) }
 
-find_rows : {X : Type 0} (f : Entry → Bool) (t : BasinTable) (row : X → Members) (n : ℕ) (xs : List X) →
-    ((k : ℕ) (x : X) → slice_get xs k ≡ Some x → f (record { table = t; number = n + k + 1; row = row x }) ≡ false) →
-    find f (entries_after t n (items_of (map (λ x. table (row x)) xs))) ≡ None
-find_rows f t row n [] each = refl
-find_rows {X = X} f t row n (x ∷ xs) each =
-    let at : ℕ → Type 0 = λ m. f (record { table = t; number = m; row = row x }) ≡ false in
-    let here : f (record { table = t; number = n + 1; row = row x }) ≡ false = subst at (omega arith) (each 0 x refl) in
-    rw here (find_rows f t row (n + 1) xs rest)
-  where
-    rest : (k : ℕ) (y : X) → slice_get xs k ≡ Some y →
-        f (record { table = t; number = n + 1 + k + 1; row = row y }) ≡ false
-    rest k y there =
-        let at : ℕ → Type 0 = λ m. f (record { table = t; number = m; row = row y }) ≡ false in
-        subst at (omega arith) (each (suc k) y there)
-
-find_listed : {X : Type 0} (f : Entry → Bool) (t : BasinTable) (row : X → Members) (xs : List X) →
-    ((k : ℕ) (x : X) → slice_get xs k ≡ Some x → f (record { table = t; number = 0 + k + 1; row = row x }) ≡ false) →
-    find f (entries_after t 0 (items_in (listed row xs))) ≡ None
-find_listed f t row [] each = refl
-find_listed f t row (x ∷ xs) each = find_rows f t row 0 (x ∷ xs) each
-
--- a test that no clean entry has finds nothing in a table
-abbrev pub IsTidy : Members → BasinTable → Type 0
-IsTidy tree t = (f : Entry → Bool) → ((e : Entry) → IsClean tree e → f e ≡ false) → find f (entries_in tree t) ≡ None
-
-pub tidy_listed : {X : Type 0} (tree : Members) (t : BasinTable) (row : X → Members) (xs : List X) →
-    get_member (table_name t) tree ≡ listed row xs →
-    ((k : ℕ) (x : X) → slice_get xs k ≡ Some x → IsClean tree (record { table = t; number = k + 1; row = row x })) →
-    IsTidy tree t
-tidy_listed tree t row xs at clean f none =
-    ap (λ (o : Option Data). find f (entries_after t 0 (items_in o))) at
-    ∙ find_listed f t row xs (λ k x there.
-    (let same : ℕ → Type 0 = λ m. f (record { table = t; number = m; row = row x }) ≡ false in
-    subst same (omega arith) (none (record { table = t; number = k + 1; row = row x }) (clean k x there))))
-
-none_first : (list : List Pass) (tree : Members) → Each (λ pass. find (pass.1 tree) (entries_of tree) ≡ None) list →
-    first_fault list tree ≡ None
-none_first [] tree each = refl
-none_first (pass ∷ list) tree each =
-    ap (λ (o : Option Entry). option_or (option_map (found_at pass.0) o) (first_fault list tree)) each.0
-    ∙ none_first list tree each.1
-
--- a document whose entries are clean has no fault by itself
-pub no_tree_fault : (tree : Members) → IsClean tree (record { table = which.Top; number = 0; row = tree }) →
-    Each (IsTidy tree) tables.listed → tree_fault tree ≡ None
-unfolding tree_fault
-no_tree_fault tree top tidy =
-    none_first passes tree (
-      by (unknown_key tree) (λ e c. c.keys),
-      (
-        by (missing_key tree) (λ e c. c.missing),
-        (
-          by (wrong_kind tree) (λ e c. c.kinds),
-          (
-            by (out_of_range tree) (λ e c. c.ranges),
-            (
-              by (bad_name tree) (λ e c. c.names),
-              (
-                by (too_many tree) (λ e c. c.many),
-                (
-                  by (same_name tree) (λ e c. c.same),
-                  (
-                    by (no_such_name tree) (λ e c. c.unknown),
-                    (by (outlet_reservoir tree) (λ e c. c.outlets), tt),
-                  ),
-                ),
-              ),
-            ),
-          ),
-        ),
-      ),
-    )
-  where
-    by : (f : Entry → Bool) → ((e : Entry) → IsClean tree e → f e ≡ false) → find f (entries_of tree) ≡ None
-    by f none =
-        rw (none (record { table = which.Top; number = 0; row = tree }) top)
-        (find_lists f (entries_in tree) tables.listed
-        (each_then (IsTidy tree) (λ t. find f (entries_in tree t) ≡ None) tables.listed (λ t h. h f none) tidy))
+    pub clean_fields : (t : BasinTable) (number : ℕ) (fields : List (Field tree n)) → format_of tree ≡ 2 →
+        AreKeysOf t fields → has_no_nodes t (row_of (keyed fields)) ≡ false →
+        shuts_no_canal t (row_of (keyed fields)) ≡ false → runs_late t (row_of (keyed fields)) ≡ false →
+        too_many tree (filled t number fields) ≡ false → same_name tree (filled t number fields) ≡ false →
+        stands_at_outlet t tree (row_of (keyed fields)) ≡ false → IsClean tree (filled t number fields)
+    clean_fields t number fields format keys nodes canal late many same outlets =
+        clean_by tree (filled t number fields) (fits_keys fields (keys_of t) format keys.rising keys.found)
+        (record {
+          known = ap (λ f. has_unknown f t (row_of (keyed fields))) format ∙ known_names t fields keys.known;
+          nodes = nodes;
+          canal = canal;
+          late = late;
+          many = many;
+          same = same;
+          outlets = outlets;
+        })

@@ -1,71 +1,144 @@
--- In a document without faults no two entries of one space have one name.
-use Rattle.std.proofs.Common.{◌≡◌, ◌≢◌, ℕ, zero, suc, ◌+◌, ◌<◌, ◌≤◌, List, [], ◌∷◌, ◌++◌, length, map, Bool, true}
-use Rattle.std.proofs.Common.{false, Option, Some, None, slice_get, refl, sym, ◌∙◌, inl, inr, arith, nat_lt, codes}
-use Rattle.std.proofs.Common.{subst, length-append, zero-add}
-use Rattle.std.proofs.lemmas.Bool.{cases_Bool}
+-- In a clean document each text that should be a name is one, each that should name an entry does, and no two entries
+-- of one space have one name.
+use Rattle.std.proofs.Common.{◌≡◌, ℕ, ◌<◌, ◌≤◌, List, ◌∙◌, length, map, ap, not, true, false, Option, Some, None}
+use Rattle.std.proofs.Common.{option_and_then, is_some, slice_get, sym, refl, arith, codes, zero, suc, ◌+◌, ◌-◌, []}
+use Rattle.std.proofs.Common.{◌∷◌, ◌++◌, option_map, nat_lt, subst, length-append}
+use Rattle.std.proofs.lemmas.Bool.{not-false}
 use Rattle.std.proofs.lemmas.Bool.Decides.{nat_tests}
-use Rattle.std.proofs.lemmas.List.{length-map}
-use Rattle.std.proofs.lemmas.Option.{slice_get-map}
-use Rattle.std.proofs.lemmas.Slice.Eq.{bytes_eq-Decides}
+use Rattle.std.proofs.lemmas.Option.{slice_get_within, slice_get-map}
 use Rattle.std.specs.Option.{option_map_or}
-use Rattle.toml.specs.Data.{Members}
+use Rattle.std.proofs.lemmas.List.{length-map}
+use Rattle.std.proofs.lemmas.Slice.Eq.{bytes_eq-Decides}
+use Rattle.toml.specs.Data.{Data, Members, get_member, as_str}
 use Rattle.toml_tree.specs.Items.{items_len}
-use Rattle.first_index.specs.Indices.{first_from}
-use Rattle.toml_tree.specs.Texts.{is_the_text}
+use Rattle.toml_tree.specs.Texts.{is_the_text, texts_after}
 use Rattle.toml_tree.specs.Values.{text_at}
 use Rattle.water_text.specs.Names.{is_name}
-use Rattle.water_model.specs.Lookups.{of_entry}
-use Rattle.water_model.proofs.Valid.{entry_at}
-use Rattle.basin_tree.specs.Entries.{items_at}
 use Rattle.basin_tree.specs.declared.tables.BasinTable.{BasinTable}
-use Rattle.basin_tree.specs.declared.tables.BasinTable.TheVariants.{Diversion, Instream, Zone}
+use Rattle.basin_tree.specs.declared.tables.Kind.TheVariants.{Name, Refers}
 use Rattle.basin_tree.specs.declared.tables.Space.{Space}
+use Rattle.basin_tree.specs.Entries.{items_at}
+use Rattle.basin_tree.specs.Indices.{own_key, texts_in, texts_of, named_at}
+use Rattle.basin_tree.specs.Tables.{keys_of, required}
+use Rattle.basin_file.specs.Spelled.{small, number_at, rows_in}
+use Rattle.first_index.specs.Indices.{first_from}
+use Rattle.water_model.proofs.Valid.{entry_at}
+use Rattle.basin_tree.specs.declared.tables.BasinTable.TheVariants.{Diversion, Instream, Zone}
 use Rattle.basin_tree.specs.declared.tables.Space.TheVariants.{Rights}
 use Rattle.basin_tree.specs.NameFaults.{own_space, rights_before}
-use Rattle.basin_tree.specs.Indices.{own_key, texts_in, texts_of, named_at}
-use Rattle.basin_file.specs.Spelled.{name_at, rows_in}
-use Rattle.basin_file.proofs.Lists.{Each, EachFrom, from_at, from_map, from_append}
-use Rattle.basin_file.proofs.Passed.{IsListed, HasNoFault, IsFine, fine_rows}
-use Rattle.basin_file.proofs.Refers.{texts_in-rows, length-rows_in}
+use Rattle.basin_file.proofs.Listed.{first_at, index_read, len_listing, texts_listing, HaveOwn, first_le}
+use Rattle.basin_file.proofs.Passed.{AreClean, Fits, IsClean, IsListed, entry_of, fits_at, rest_of}
 
--- an index that passes is not before the first
-pub first_le : {X : Type 0} (p : X → Bool) (n : ℕ) (xs : List X) (i : ℕ) (x : X) → slice_get xs i ≡ Some x →
-    p x ≡ true →
-    (at : ℕ) × (first_from p n xs ≡ Some at) × (at ≤ n + i)
-first_le p n [] i x there passes = cc
-first_le p n (y ∷ xs) zero x there passes =
-    let same : y ≡ x = cc in let here : p y ≡ true = rw same passes in (n, rw here refl, omega arith)
-first_le p n (y ∷ xs) (suc i) x there passes =
-    elim (cases_Bool (p y)) [
-      | inl here ↦ (n, rw here refl, omega arith)
-      | inr other ↦ (let rest = first_le p (n + 1) xs i x there passes in
-          let within : rest.0 ≤ n + 1 + i = rest.2 in
-          (rest.0, rw other rest.1, omega arith))
-    ]
+-- a text at a required key
+some_text : {format : ℕ} {tree : Members} (key : List ℕ) (o : Option Data) → Fits format tree (required key Name) o →
+    (q : List ℕ) × (option_and_then as_str o ≡ Some q) × (is_name q ≡ true)
+some_text key None fits = let never : true ≡ false = fits.present in cc
+some_text key (Some d) fits = by (as_str d) fits.kinds fits.names
+  where
+    by : (text : Option (List ℕ)) → not (is_some text) ≡ false →
+        option_map_or (λ q. not (is_name q)) text false ≡ false →
+        (q : List ℕ) × (text ≡ Some q) × (is_name q ≡ true)
+    by None some good = cc
+    by (Some q) some good = (q, refl, not-false (is_name q) good)
 
--- the first index passes
-pub first_at : {X : Type 0} (p : X → Bool) (n : ℕ) (xs : List X) (at : ℕ) → first_from p n xs ≡ Some at →
-    (k : ℕ) × (x : X) × (at ≡ n + k) × (slice_get xs k ≡ Some x) × (p x ≡ true)
-first_at p n [] at e = cc
-first_at p n (y ∷ xs) at e =
-    elim (cases_Bool (p y)) [
-      | inl here ↦ (let same : n ≡ at = (let w = rw here at e in cc) in (0, y, omega arith, refl, here))
-      | inr other ↦
-          (let rest = first_at p (n + 1) xs at (rw other at e) in (suc rest.0, rest.1, omega arith, rest.3, rest.4))
-    ]
+-- a text that names an entry
+pub record Names (tree : Members) (space : Space) (text : Option (List ℕ)) : Type 0 where
+  pub q : List ℕ
+  pub at : ℕ
+  pub text_is : text ≡ Some q
+  pub named : named_at tree space q ≡ Some at
 
--- a text that is the first of no index before its own
-abbrev pub IsOwn : List (Option (List ℕ)) → ℕ → Option (List ℕ) → Type 0
-IsOwn texts k text =
-    option_map_or (λ q. option_map_or (λ at. nat_lt at k) (first_from (is_the_text q) 0 texts) false) text false ≡ false
+names_by : {format : ℕ} (tree : Members) (key : List ℕ) (space : Space) (o : Option Data) →
+    Fits format tree (required key (Refers space)) o → Names tree space (option_and_then as_str o)
+names_by tree key space None fits = let never : true ≡ false = fits.present in cc
+names_by tree key space (Some d) fits = by (as_str d) fits.kinds fits.refers
+  where
+    found : (q : List ℕ) (o : Option ℕ) → named_at tree space q ≡ o → not (is_some o) ≡ false →
+        Names tree space (Some q)
+    found q None e some = cc
+    found q (Some at) e some = record { q = q; at = at; text_is = refl; named = e }
+
+    by : (text : Option (List ℕ)) → not (is_some text) ≡ false →
+        option_map_or (λ q. not (is_some (named_at tree space q))) text false ≡ false → Names tree space text
+    by None some good = cc
+    by (Some q) some good = found q (named_at tree space q) refl good
+
+-- what is named is below the count of its space, and so is its number
+pub at_within : {tree : Members} {space : Space} {text : Option (List ℕ)} → (its : Names tree space text) →
+    its.at < length (texts_of tree space)
+at_within {tree = tree} {space = space} its =
+    let first = first_at (is_the_text its.q) 0 (texts_of tree space) its.at its.named in
+    let within = slice_get_within (texts_of tree space) first.0 first.1 first.3 in
+    omega (arith, first.2)
+
+pub number_within : {tree : Members} {space : Space} (key : List ℕ) (row : Members) →
+    Names tree space (text_at key row) → number_at tree space key row < length (texts_of tree space)
+number_within {tree = tree} {space = space} key row its =
+    rw (its.text_is, its.named) (small_within its.at (length (texts_of tree space)) (at_within its))
+  where
+    small_within : (m n : ℕ) → m < n → small m < n
+    small_within m n h = grind (arith, nat_tests)
+
+-- and it is the index, where the space has at most 4,000 names
+pub number_is : {tree : Members} {space : Space} (key : List ℕ) (row : Members) →
+    (its : Names tree space (text_at key row)) →
+    length (texts_of tree space) ≤ 4000 → named_at tree space its.q ≡ Some (number_at tree space key row)
+number_is {tree = tree} {space = space} key row its bounded =
+    let within = at_within its in
+    let number : number_at tree space key row ≡ its.at =
+    rw its.text_is (index_read tree space its.q its.at its.named (omega arith)) in
+    rw number its.named
+
+module _ (tree : Members) (clean : AreClean tree) where
+  pub name_there : (t : BasinTable) (k : ℕ) (row : Members) →
+      slice_get (keys_of t) 0 ≡ Some (required (codes "name") Name) → IsClean tree (entry_of t k row) →
+      (q : List ℕ) × (text_at (codes "name") row ≡ Some q) × (is_name q ≡ true)
+  name_there t k row at its =
+      some_text (codes "name") (get_member (codes "name") row) (fits_at tree (entry_of t k row) its 0 _ at)
+
+  -- the texts that name the entries of a table
+  pub texts_in-rows : (t : BasinTable) → IsListed t → texts_in tree t ≡ map (text_at (own_key t)) (rows_in tree t)
+  texts_in-rows t h =
+      ap (texts_after (own_key t)) (clean.tidy t h).lists ∙ texts_listing (own_key t) (rows_in tree t)
+
+  pub length-rows_in : (t : BasinTable) → IsListed t → length (rows_in tree t) ≡ items_len (items_at tree t)
+  length-rows_in t h = sym (ap items_len (clean.tidy t h).lists ∙ len_listing (rows_in tree t))
+
+-- a text of a clean row that should name an entry does
+pub refers_there : (tree : Members) (t : BasinTable) (k : ℕ) (row : Members) (i : ℕ) (key : List ℕ) (space : Space) →
+    slice_get (keys_of t) i ≡ Some (required key (Refers space)) → IsClean tree (entry_of t k row) →
+    Names tree space (text_at key row)
+refers_there tree t k row i key space at its =
+    names_by tree key space (get_member key row) (fits_at tree (entry_of t k row) its i _ at)
+
+-- a text stands at no index before this one
+abbrev IsFirst : List (Option (List ℕ)) → ℕ → List ℕ → Type 0
+IsFirst texts k q = option_map_or (λ at. nat_lt at k) (first_from (is_the_text q) 0 texts) false ≡ false
+
+-- each text, after n others, is the first of its kind among all
+abbrev pub AreOwn : List (Option (List ℕ)) → ℕ → List (Option (List ℕ)) → Type 0
+AreOwn all n texts = (k : ℕ) (q : List ℕ) → slice_get texts k ≡ Some (Some q) → IsFirst all (n + k) q
+
+own_append : (all : List (Option (List ℕ))) (n : ℕ) (xs ys : List (Option (List ℕ))) → AreOwn all n xs →
+    AreOwn all (n + length xs) ys → AreOwn all n (xs ++ ys)
+own_append all n [] ys a b k q at =
+    let same : n + 0 + k ≡ n + k = omega arith in subst (λ (m : ℕ). IsFirst all m q) same (b k q at)
+own_append all n (x ∷ xs) ys a b zero q at = a zero q at
+own_append all n (x ∷ xs) ys a b (suc k) q at =
+    let same : n + 1 + k ≡ n + suc k = omega arith in
+    subst (λ (m : ℕ). IsFirst all m q) same (own_append all (n + 1) xs ys
+    (λ j r there. (let up : n + suc j ≡ n + 1 + j = omega arith in
+    subst (λ (m : ℕ). IsFirst all m r) up (a (suc j) r there)))
+    (λ j r there. (let up : n + suc (length xs) + j ≡ n + 1 + length xs + j = omega arith in
+    subst (λ (m : ℕ). IsFirst all m r) up (b j r there))) k q at)
 
 -- where each text is, no two indices have one text
-pub own_texts : (texts : List (Option (List ℕ))) → EachFrom (IsOwn texts) 0 texts → (i j : ℕ) (q : List ℕ) → i < j →
+pub own_texts : (texts : List (Option (List ℕ))) → AreOwn texts 0 texts → (i j : ℕ) (q : List ℕ) → i < j →
     slice_get texts i ≡ Some (Some q) → slice_get texts j ≡ Some (Some q) → ⊥
 own_texts texts own i j q before one other =
     let first = first_le (is_the_text q) 0 texts i (Some q) one ((bytes_eq-Decides q q).1 refl) in
     let within : first.0 ≤ 0 + i = first.2 in
-    let here : nat_lt first.0 (0 + j) ≡ false = rw (first.1) at (from_at (IsOwn texts) 0 texts j (Some q) other own) in
+    let here : nat_lt first.0 (0 + j) ≡ false = rw (first.1) at (own j q other) in
     not_before first.0 (0 + j) (omega arith) here
   where
     not_before : (n m : ℕ) → n < m → nat_lt n m ≡ false → ⊥
@@ -86,61 +159,9 @@ same_text tree space q r at one other =
     by None one other = cc
     by (Some t) one other = (bytes_eq-Decides q t).0 one ∙ sym ((bytes_eq-Decides r t).0 other)
 
--- the text of a fine row in a space is the first of no index before its own
-row_own : (tree : Members) (table : BasinTable) (space : Space) → own_space table ≡ Some space →
-    (k : ℕ) (row : Members) → IsFine tree table k row →
-    IsOwn (texts_of tree space) (rights_before tree table + k) (text_at (own_key table) row)
-row_own tree table space is_space k row fine =
-    let at : ℕ → Type 0 =
-    λ n. IsOwn (texts_of tree space) (rights_before tree table + n) (text_at (own_key table) row) in
-    subst at (omega arith) (rw is_space at fine.own)
-
-pub table_own : (tree : Members) → HasNoFault tree → (table : BasinTable) → IsListed table → (space : Space) →
-    own_space table ≡ Some space →
-    EachFrom (IsOwn (texts_of tree space)) (rights_before tree table) (texts_in tree table)
-table_own tree none table is_listed space is_space =
-    rw (texts_in-rows tree none table is_listed)
-    (from_map (IsFine tree table) (IsOwn (texts_of tree space)) (text_at (own_key table)) (rights_before tree table) 0
-    (rows_in tree table)
-    (λ k row fine. row_own tree table space is_space k row
-    (subst (λ (n : ℕ). IsFine tree table n row) (zero-add k) fine))
-    (fine_rows tree none table is_listed))
-
--- the names of rights, over their three tables
-pub rights_own : (tree : Members) → HasNoFault tree → EachFrom (IsOwn (texts_of tree Rights)) 0 (texts_of tree Rights)
-rights_own tree none =
-    let own = IsOwn (texts_of tree Rights) in
-    let diversions = texts_in tree Diversion in
-    let instreams = texts_in tree Instream in
-    let zones = texts_in tree Zone in
-    from_append own 0 (diversions ++ instreams) zones
-    (from_append own 0 diversions instreams (table_own tree none Diversion tt Rights refl)
-    (subst (λ (n : ℕ). EachFrom own n instreams) (len Diversion tt) (table_own tree none Instream tt Rights refl)))
-    (subst (λ (n : ℕ). EachFrom own n zones) both (table_own tree none Zone tt Rights refl))
-  where
-    len : (table : BasinTable) → IsListed table → items_len (items_at tree table) ≡ 0 + length (texts_in tree table)
-    len table is_listed =
-        let texts : length (texts_in tree table) ≡ length (rows_in tree table) =
-        rw (texts_in-rows tree none table is_listed) (length-map (rows_in tree table) (text_at (own_key table))) in
-        let rows : length (rows_in tree table) ≡ items_len (items_at tree table) =
-        length-rows_in tree none table is_listed in omega arith
-
-    both : items_len (items_at tree Diversion) + items_len (items_at tree Instream) ≡ 0 + length
-        (texts_in tree Diversion ++ texts_in tree Instream)
-    both =
-        let a = len Diversion tt in
-        let b = len Instream tt in
-        rw length-append (omega arith)
-
--- the name that is spelled is the text
-pub own_name : (row : Members) (q : List ℕ) → text_at (codes "name") row ≡ Some q → is_name q ≡ true →
-    text_at (codes "name") row ≡ Some (name_at (codes "name") row)
-own_name row q text good = rw text (rw good refl)
-
 -- where the names of entries are such texts, no two of them have one name
 pub own_names : {X : Type 0} (name : X → List ℕ) (entries : List X) (texts : List (Option (List ℕ))) →
-    map (λ x. Some (name x)) entries ≡ texts → EachFrom (IsOwn texts) 0 texts →
-    (i j : ℕ) → i < j → j < length entries → of_entry entries i name [] ≢ of_entry entries j name []
+    map (λ x. Some (name x)) entries ≡ texts → AreOwn texts 0 texts → HaveOwn name entries
 own_names {X = X} name entries texts same own i j before within equal =
     let one = entry_at entries i (omega arith) in
     let other = entry_at entries j within in
@@ -151,9 +172,44 @@ own_names {X = X} name entries texts same own i j before within equal =
     text_at_index : (k : ℕ) (x : X) → slice_get entries k ≡ Some x → slice_get texts k ≡ Some (Some (name x))
     text_at_index k x there = rw (← same) (rw (slice_get-map (λ y. Some (name y)) entries k) (rw there refl))
 
--- the names of the entries that rows spell
-pub names_of_rows : {X : Type 0} (spells : Members → X) (name : X → List ℕ) (key : List ℕ) (rows : List Members) →
-    Each (λ row. text_at key row ≡ Some (name (spells row))) rows →
-    map (λ x. Some (name x)) (map spells rows) ≡ map (text_at key) rows
-names_of_rows spells name key [] each = refl
-names_of_rows spells name key (row ∷ rows) each = rw (each.0, names_of_rows spells name key rows each.1) refl
+module _ (tree : Members) (clean : AreClean tree) where
+  pub table_own : (t : BasinTable) → IsListed t → (space : Space) → own_space t ≡ Some space →
+      AreOwn (texts_of tree space) (rights_before tree t) (texts_in tree t)
+  table_own t h space is k q at =
+      by (slice_get (rows_in tree t) k) refl (sym (slice_get-map (text_at (own_key t)) (rows_in tree t) k)
+      ∙ (ap (λ ts. slice_get ts k) (sym (texts_in-rows tree clean t h)) ∙ at))
+    where
+      by : (o : Option Members) → slice_get (rows_in tree t) k ≡ o →
+          option_map (text_at (own_key t)) o ≡ Some (Some q) →
+          IsFirst (texts_of tree space) (rights_before tree t + k) q
+      by None there text = cc
+      by (Some row) there text =
+          let its : text_at (own_key t) row ≡ Some q = cc in
+          let same : k + 1 - 1 ≡ k = omega arith in
+          subst (λ (n : ℕ). IsFirst (texts_of tree space) (rights_before tree t + n) q) same
+          (rw (is, its) at (rest_of tree (entry_of t k row) ((clean.tidy t h).clean k row there)).same)
+
+  -- the names of rights, over their three tables
+  pub rights_own : AreOwn (texts_of tree Rights) 0 (texts_of tree Rights)
+  rights_own =
+      own_append all 0 (texts_in tree Diversion ++ texts_in tree Instream) (texts_in tree Zone)
+      (own_append all 0 (texts_in tree Diversion) (texts_in tree Instream) (table_own Diversion tt Rights refl)
+      (subst (λ (n : ℕ). AreOwn all n (texts_in tree Instream)) (len Diversion tt) (table_own Instream tt Rights refl)))
+      (subst (λ (n : ℕ). AreOwn all n (texts_in tree Zone)) both (table_own Zone tt Rights refl))
+    where
+      all : List (Option (List ℕ))
+      all = texts_of tree Rights
+
+      len : (t : BasinTable) → IsListed t → items_len (items_at tree t) ≡ 0 + length (texts_in tree t)
+      len t h =
+          let texts : length (texts_in tree t) ≡ length (rows_in tree t) =
+          ap (λ ts. length ts) (texts_in-rows tree clean t h) ∙ length-map (rows_in tree t) (text_at (own_key t)) in
+          let rows = length-rows_in tree clean t h in
+          omega arith
+
+      both : items_len (items_at tree Diversion) + items_len (items_at tree Instream) ≡ 0 + length
+          (texts_in tree Diversion ++ texts_in tree Instream)
+      both =
+          let a = len Diversion tt in
+          let b = len Instream tt in
+          rw length-append (omega arith)

@@ -1,24 +1,34 @@
--- Values that stand in the table of a basin are read back: numbers, lists of them, texts and dates.
-use Rattle.std.proofs.Common.{◌≡◌, ℕ, zero, suc, ◌+◌, ◌*◌, ◌/◌, ◌%◌, ◌^◌, ◌<◌, ◌≤◌, ◌∙◌, Bool, true, false, ap, sym}
-use Rattle.std.proofs.Common.{refl, arith, List, [], ◌∷◌, length, map, get_or, nat_le, ◌&&◌, ◌==◌, codes, All}
+-- Values that stand in the table of a basin are read back: numbers, lists of them, texts of ASCII bytes and dates.
+use Rattle.std.proofs.Common.{◌≡◌, ℕ, ◌+◌, ◌/◌, ◌%◌, ◌<◌, ◌≤◌, Bool, true, false, arith, List, [], ◌∷◌, ◌++◌, length}
+use Rattle.std.proofs.Common.{get_or, ◌≢◌, zero, suc, ◌*◌, ◌^◌, ◌∙◌, ap, sym, refl, map, nat_le, pos, ◌&&◌, ◌==◌, codes}
+use Rattle.std.proofs.Common.{All}
 use Rattle.std.specs.Prelude.{Option, Some, None, option_map}
+use Rattle.std.specs.Fmt.{decimal}
+use Rattle.std.specs.List.{list_all}
+use Rattle.std.specs.Str.{IsAscii}
 use Rattle.std.proofs.lemmas.Bool.Decides.{nat_tests}
+use Rattle.std.proofs.lemmas.Fmt.{IsAscii-decimal}
+use Rattle.std.proofs.lemmas.List.Sums.{AllPass-from_list_all}
+use Rattle.std.proofs.lemmas.Str.{IsAscii-append, digit_value_digit}
+use Rattle.std.proofs.lemmas.Str.Ascii.{IsAscii-cons, IsAscii-from_all, IsAscii-nil}
 use Rattle.std.proofs.lemmas.List.Elements.{All-tail}
 use Rattle.std.proofs.lemmas.List.FromFn.{fill_by_all}
-use Rattle.std.proofs.lemmas.Str.{digit_value_digit}
 use Rattle.std.specs.Char.{digit_value}
 use Rattle.std.specs.Option.{option_map_or}
 use Rattle.std.specs.Str.Parse.{digits_value}
-use Rattle.toml.specs.Data.{array, Items, no_items, item, get_item}
-use Rattle.toml.specs.View.{items_of}
-use Rattle.toml_tree.specs.Values.{integer_of, month_number, monthly_of}
 use Rattle.water_text.specs.Days.{is_date, read_day}
-use Rattle.water_text.specs.Months.{IsMonth, month_digits}
-use Rattle.water_text.specs.Names.{is_name}
-use Rattle.water_text.specs.Shapes.{has_shape}
+use Rattle.water_text.specs.Months.{IsMonth, month_digits, days_in}
+use Rattle.water_text.specs.Names.{is_name, is_name_byte}
+use Rattle.water_text.proofs.DayNumbers.{days_in-days_in_month, days_in_month-le}
+use Rattle.basin_file.specs.Upgraded.{day_text, two_digits, closed_data, inflow_data, number, numbers, per_day_data}
+use Rattle.basin_file.specs.Upgraded.{point_data, shut_months, some_items}
 use Rattle.water_text.specs.declared.day.Day.{Day}
 use Rattle.water_text.specs.declared.month.Month.{Month}
-use Rattle.water_text.proofs.MonthLaws.{read_month-month_digits, is_digit, two_digits}
+use Rattle.toml.specs.Data.{array, Items, no_items, item, get_item}
+use Rattle.toml.specs.View.{items_of}
+use Rattle.toml_tree.specs.Values.{integer_of, is_between, month_number, monthly_of}
+use Rattle.water_text.specs.Shapes.{has_shape}
+use Rattle.water_text.proofs.MonthLaws.{read_month-month_digits, is_digit, two_digits as two_read}
 use Rattle.water_model.specs.Valid.{IsMonthly, IsValidCarry, IsValidInflow, IsValidPoint, IsValidVolume}
 use Rattle.water_model.specs.declared.types.AreaPoint.{AreaPoint}
 use Rattle.water_model.specs.declared.types.Carry.{Carry}
@@ -28,16 +38,79 @@ use Rattle.water_model.specs.declared.types.Inflow.TheVariants.{Monthly, Gauged}
 use Rattle.water_model.specs.declared.types.RightKind.{RightKind}
 use Rattle.basin_file.specs.Spelled.{carry_of, date_of, first_of, inflow_of, items_any, lists_month, name_of, points_in}
 use Rattle.basin_file.specs.Spelled.{shut_of, volume_of}
-use Rattle.basin_file.specs.Upgraded.{closed_data, day_text, inflow_data, number, numbers, per_day_data, point_data}
-use Rattle.basin_file.specs.Upgraded.{shut_months, some_items}
-use Rattle.basin_file.proofs.Texts.{short_date}
+
+low : (byte : ℕ) → is_name_byte byte ≡ true → byte < 128
+low byte h = grind (arith, nat_tests)
+
+last_of : (p q r : Bool) → p && (q && r) ≡ true → r ≡ true
+last_of true true r h = h
+last_of true false r h = cc
+last_of false q r h = cc
+
+pub name_ascii : (text : List ℕ) → is_name text ≡ true → IsAscii text
+unfolding is_name
+name_ascii text h =
+    let each =
+    AllPass-from_list_all is_name_byte text
+    (last_of (nat_le 1 (length text)) (nat_le (length text) 32) (list_all is_name_byte text) h) in
+    IsAscii-from_all text (λ k d l. low (get_or text k d) (each k d l))
+
+two_ascii : (n : ℕ) → n < 100 → IsAscii (two_digits n)
+two_ascii n l =
+    IsAscii-cons (48 + n / 10) ((48 + n % 10) ∷ []) (omega arith)
+    (IsAscii-cons (48 + n % 10) [] (omega arith) IsAscii-nil)
+
+dash_ascii : (n : ℕ) → n < 100 → IsAscii (45 ∷ two_digits n)
+dash_ascii n l = IsAscii-cons 45 (two_digits n) (omega arith) (two_ascii n l)
+
+pub month_ascii : (m : Month) → IsMonth m → IsAscii (month_digits m)
+month_ascii m h =
+    IsAscii-append (decimal m.year) (45 ∷ two_digits m.month) (IsAscii-decimal m.year (omega (arith, h.year)))
+    (dash_ascii m.month (omega (arith, h.month)))
+
+-- the numbers of a date have as many digits as their texts
+pub record HasShortNumbers (d : Day) : Type 0 where
+  pub year : d.year ≤ 2999
+  pub month : d.month ≤ 12
+  pub day : d.day ≤ 31
+
+pub short_date : (d : Day) → is_date d ≡ true → HasShortNumbers d
+unfolding is_date
+short_date d h = record { year = its.0; month = its.2; day = omega (arith, its.3, most) }
+  where
+    parts : (y m k n : ℕ) →
+        (nat_le 1 y && nat_le y 2999) && (nat_le 1 m && nat_le m 12) && (nat_le 1 k && nat_le k n) ≡ true →
+        (y ≤ 2999) × (1 ≤ m) × (m ≤ 12) × (k ≤ n)
+    parts y m k n e =
+        (grind (arith, nat_tests), grind (arith, nat_tests), grind (arith, nat_tests), grind (arith, nat_tests))
+
+    its : (d.year ≤ 2999) × (1 ≤ d.month) × (d.month ≤ 12) × (d.day ≤ days_in d.year d.month)
+    its = parts d.year d.month d.day (days_in d.year d.month) h
+
+    most : days_in d.year d.month ≤ 31
+    most = rw (days_in-days_in_month d.year d.month its.1 its.2) (days_in_month-le (pos d.year) d.month)
+
+pub day_ascii : (d : Day) → is_date d ≡ true → IsAscii (day_text d)
+unfolding day_text
+day_ascii d h =
+    let its = short_date d h in
+    IsAscii-append (two_digits (d.year / 100) ++ two_digits (d.year % 100) ++ 45 ∷ two_digits d.month)
+    (45 ∷ two_digits d.day)
+    (IsAscii-append (two_digits (d.year / 100) ++ two_digits (d.year % 100)) (45 ∷ two_digits d.month)
+    (IsAscii-append (two_digits (d.year / 100)) (two_digits (d.year % 100))
+    (two_ascii (d.year / 100) (omega (arith, its.year))) (two_ascii (d.year % 100) (omega arith)))
+    (dash_ascii d.month (omega (arith, its.month))))
+    (dash_ascii d.day (omega (arith, its.day)))
+
+pub between : (least n most : ℕ) → least ≤ n → n ≤ most → is_between least most (pos n) ≡ true
+between least n most low high = test least n most low high
+  where
+    test : (least n most : ℕ) → least ≤ n → n ≤ most → (nat_le least n && nat_le n most) ≡ true
+    test least n most low high = grind (arith, nat_tests)
 
 -- a number within its range
 pub whole_read : (least most default n : ℕ) → least ≤ n → n ≤ most → integer_of least most default (Some (number n)) ≡ n
 whole_read least most default n low high = rw (between least n most low high) refl
-  where
-    between : (least n most : ℕ) → least ≤ n → n ≤ most → (nat_le least n && nat_le n most) ≡ true
-    between least n most low high = grind (arith, nat_tests)
 
 -- twelve numbers, each at its index
 item_read : (most : ℕ) (ns : List ℕ) (k : ℕ) → k < length ns → get_or ns k 0 ≤ most →
@@ -73,12 +146,12 @@ area_read (p ∷ area) h =
       area_read area (All-tail IsValidPoint p area h),
     ) refl
 
--- the months in which a canal is shut: those after a month don't name it
-other_month : (n month : ℕ) → 1 ≤ n → n ≤ 12 → month < n → (integer_of 1 12 0 (Some (number n)) == month) ≡ false
-other_month n month low high less = rw (whole_read 1 12 0 n low high) (other n month less)
+-- the months in which a canal is shut: only a month itself names it
+other_month : (n month : ℕ) → 1 ≤ n → n ≤ 12 → n ≢ month → (integer_of 1 12 0 (Some (number n)) == month) ≡ false
+other_month n month low high other = rw (whole_read 1 12 0 n low high) (apart n month other)
   where
-    other : (n month : ℕ) → month < n → (n == month) ≡ false
-    other n month less = grind (arith, nat_tests)
+    apart : (n month : ℕ) → n ≢ month → (n == month) ≡ false
+    apart n month other = grind (arith, nat_tests)
 
 this_month : (n : ℕ) → 1 ≤ n → n ≤ 12 → (integer_of 1 12 0 (Some (number n)) == n) ≡ true
 this_month n low high = rw (whole_read 1 12 0 n low high) (same n)
@@ -86,17 +159,11 @@ this_month n low high = rw (whole_read 1 12 0 n low high) (same n)
     same : (n : ℕ) → (n == n) ≡ true
     same n = grind (arith, nat_tests)
 
-later_month : (n month : ℕ) → 1 ≤ n → n ≤ 12 → n < month → (integer_of 1 12 0 (Some (number n)) == month) ≡ false
-later_month n month low high less = rw (whole_read 1 12 0 n low high) (other n month less)
-  where
-    other : (n month : ℕ) → n < month → (n == month) ≡ false
-    other n month less = grind (arith, nat_tests)
-
 not_after : (from month : ℕ) (shut : List Bool) → 1 ≤ from → from + length shut ≤ 13 → month < from →
     items_any (λ x. integer_of 1 12 0 (Some x) == month) (numbers (shut_months from shut)) ≡ false
 not_after from month [] low high less = refl
 not_after from month (true ∷ shut) low high less =
-    rw (other_month from month low (omega arith) less)
+    rw (other_month from month low (omega arith) (omega arith))
     (not_after (from + 1) month shut (omega arith) (omega arith) (omega arith))
 not_after from month (false ∷ shut) low high less =
     not_after (from + 1) month shut (omega arith) (omega arith) (omega arith)
@@ -110,7 +177,7 @@ month_read from zero month (true ∷ shut) low high within is =
 month_read from zero month (false ∷ shut) low high within is =
     sym (not_after (from + 1) month shut (omega arith) (omega arith) (omega arith))
 month_read from (suc k) month (true ∷ shut) low high within is =
-    rw (later_month from month low (omega arith) (omega arith))
+    rw (other_month from month low (omega arith) (omega arith))
     (month_read (from + 1) k month shut (omega arith) (omega arith) (omega arith) (omega arith))
 month_read from (suc k) month (false ∷ shut) low high within is =
     month_read (from + 1) k month shut (omega arith) (omega arith) (omega arith) (omega arith)
@@ -185,8 +252,8 @@ day_read d h =
     rw (
       date_shape d h,
       four_read d.year its.year,
-      two_digits d.month (omega (arith, its.month)),
-      two_digits d.day (omega (arith, its.day)),
+      two_read d.month (omega (arith, its.month)),
+      two_read d.day (omega (arith, its.day)),
     ) refl
 
 pub date_read : (d : Day) → is_date d ≡ true → date_of (day_text d) ≡ d

@@ -1,45 +1,260 @@
--- What a document without faults spells is sound.
-use Rattle.std.proofs.Common.{◌≡◌, ◌≢◌, ℕ, ◌+◌, ◌-◌, ◌<◌, ◌≤◌, ◌==◌, List, [], ◌∷◌, ◌++◌, length}
-use Rattle.std.proofs.Common.{map, take, Bool, true, false, Option, Some, None}
-use Rattle.std.proofs.Common.{slice_get, count_by, refl, sym, ap, ◌∙◌, arith, nat_le, codes, append_assoc, subst, not}
+-- Each entry of a clean document is valid, and what the document spells is sound.
+use Rattle.std.proofs.Common.{◌≡◌, ℕ, zero, suc, ◌+◌, ◌*◌, ◌^◌, ◌<◌, ◌≤◌, ◌==◌, List, [], ◌∷◌, ◌++◌, length, map, Bool}
+use Rattle.std.proofs.Common.{true, false, Option, Some, None, option_map, option_and_then, ap, unwrap_or, is_some}
+use Rattle.std.proofs.Common.{slice_get, refl, sym, ◌∙◌, arith, codes, length-append, zero-add, not, IsTrue, ◌≢◌, ◌-◌}
+use Rattle.std.proofs.Common.{take, count_by, nat_le, append_assoc, subst, All}
 use Rattle.std.proofs.lemmas.Bool.Decides.{nat_tests}
 use Rattle.std.proofs.lemmas.List.{length-map, append-nil, map-append}
 use Rattle.std.proofs.lemmas.Option.{slice_get-map, slice_get_within}
+use Rattle.std.specs.Option.{option_map_or}
 use Rattle.std.proofs.lemmas.Slice.Eq.{bytes_eq-Decides}
-use Rattle.std.proofs.lemmas.Bool.{eqb-true, or_parts}
-use Rattle.toml.specs.Data.{Members, get_member}
-use Rattle.toml_tree.specs.Texts.{texts_after, is_the_text, earlier_like}
-use Rattle.toml_tree.specs.Values.{text_at, text_or_empty, integer_at, integer_of}
-use Rattle.water_model.specs.Basin.{node_name, link_name, right_name, node_of_reservoir}
-use Rattle.water_model.specs.Valid.{HasValidFormat, IsValidNode, IsValidLink, IsValidRight, IsValidReturn, IsValidRun}
-use Rattle.water_model.specs.Valid.{HasBoundedEntries, HasOwnNames, AreRanked, rank_of_kind, rows_of, IsAlwaysOpen}
-use Rattle.water_model.specs.declared.types.ReturnRow.{ReturnRow}
+use Rattle.std.proofs.lemmas.Bool.{eqb-true, not-false}
+use Rattle.toml.specs.Data.{Data, Items, Members, get, get_item, get_member, as_array, as_bool, as_table, no_items}
+use Rattle.toml.specs.Data.{table}
+use Rattle.toml_tree.specs.Items.{items_all, items_len}
+use Rattle.toml_tree.specs.Values.{text_at, integer_at, text_or_empty, integer_of}
+use Rattle.water_text.specs.Names.{is_name}
+use Rattle.water_model.specs.Basin.{is_outlet, node_of_reservoir}
+use Rattle.water_model.specs.Lookups.{of_entry}
+use Rattle.water_model.specs.Valid.{HasValidSite, IsValidVolume, IsValidNode, IsValidLink, IsValidRight, IsValidReturn}
+use Rattle.water_model.specs.Valid.{is_diversion_kind, HasValidFormat, IsValidRun, HasBoundedEntries, AreRanked}
+use Rattle.water_model.specs.Valid.{rank_of_kind, rows_of, IsAlwaysOpen}
+use Rattle.water_model.specs.declared.types.Node as node
 use Rattle.water_model.specs.declared.types.Right.{Right}
-use Rattle.water_model.proofs.Valid.{entry_at}
+use Rattle.water_model.specs.declared.types.RightKind.{RightKind}
+use Rattle.water_model.specs.declared.types.RightKind.TheVariants as kind
 use Rattle.basin_tree.specs.declared.tables.BasinTable.{BasinTable}
-use Rattle.basin_tree.specs.declared.tables.BasinTable.TheVariants.{Top, Node, Link, Reservoir, Diversion, Instream}
-use Rattle.basin_tree.specs.declared.tables.BasinTable.TheVariants.{Zone, Return}
-use Rattle.basin_tree.specs.declared.tables.Kind.TheVariants.{Want}
+use Rattle.basin_tree.specs.declared.tables.BasinTable.TheVariants.{Node, Link, Reservoir, Diversion, Instream, Zone}
+use Rattle.basin_tree.specs.declared.tables.BasinTable.TheVariants.{Return}
+use Rattle.basin_tree.specs.declared.tables.Kind.TheVariants.{Name, Refers, Tables, Want}
+use Rattle.basin_tree.specs.declared.tables.Space.{Space}
 use Rattle.basin_tree.specs.declared.tables.Space.TheVariants.{Nodes, Links, Reservoirs, Diversions, Rights}
-use Rattle.basin_tree.specs.Entries.{items_at}
-use Rattle.basin_tree.specs.KeyFaults.{format_of, unknown_key, out_of_range, any_value}
-use Rattle.basin_tree.specs.Indices.{texts_in, texts_of, named_at}
-use Rattle.basin_tree.specs.Ranges.{in_range, ends_late}
-use Rattle.basin_tree.specs.Tables.{keys_of}
+use Rattle.basin_tree.specs.NameFaults.{is_outlet_at, rights_before}
+use Rattle.basin_tree.specs.Indices.{own_key, texts_in, texts_of, named_at}
+use Rattle.basin_tree.specs.Tables.{keys_of, required}
 use Rattle.basin_file.specs.Sound.{IsSoundReservoir, IsSoundBasin}
-use Rattle.basin_file.specs.Spelled.{rows_in, node_of, link_of, reservoir_of, volume_of, is_series}
-use Rattle.basin_file.specs.Spelled.{diversion_of, instream_of, zone_of, return_of, rights_of, basin_of}
-use Rattle.basin_file.proofs.Lists.{Each, EachFrom, each_all, each_append, each_from, each_map}
-use Rattle.basin_file.proofs.Passed.{IsListed, HasNoFault, IsFine, absent, all_tables, top_passes}
-use Rattle.basin_file.proofs.Months.{always_open, no_text}
-use Rattle.basin_file.proofs.Refers.{there_at, refers_there, texts_after-rows, texts_in-rows, number_is}
-use Rattle.basin_file.proofs.OwnNames.{own_texts, own_names, names_of_rows, same_text, table_own, rights_own}
-use Rattle.basin_file.proofs.Ranges.{whole_in, first_valid, run_ends}
-use Rattle.basin_file.proofs.Counts.{count_where-entries, bounded_pass, counts_within}
-use Rattle.basin_file.proofs.RowsValid.{fine, fine_at, length_texts, bounded_nodes, bounded_links, bounded_diversions}
-use Rattle.basin_file.proofs.RowsValid.{bounded_rights}
-use Rattle.basin_file.proofs.RowsValid.{some_node, name_of_row, node_valid, link_valid, bounded_node_texts}
-use Rattle.basin_file.proofs.RowsValid.{reservoir_sound, diversion_valid, instream_valid, zone_valid, return_valid}
+use Rattle.basin_file.specs.Spelled.{name_at, rows_in, number_at, node_of, link_of, reservoir_of, right_of, volume_of}
+use Rattle.basin_file.specs.Spelled.{diversion_of, instream_of, zone_of, return_of, rights_of, basin_of, is_series}
+use Rattle.toml_tree.specs.Texts.{texts_after, is_the_text, earlier_like}
+use Rattle.water_model.specs.declared.types.ReturnRow.{ReturnRow}
+use Rattle.water_model.proofs.Valid.{entry_at}
+use Rattle.basin_tree.specs.Entries.{Entry, items_at}
+use Rattle.basin_tree.specs.KeyFaults.{format_of, is_known}
+use Rattle.basin_tree.specs.Kinds.{has_kind}
+use Rattle.basin_file.proofs.Counts.{bounded_by, bounded_pass, count_taken, count_where-entries, counts_within}
+use Rattle.basin_file.proofs.Counts.{earlier_at}
+use Rattle.basin_file.proofs.Listed.{item_listing, HaveOwn, map_alike, texts_listing}
+use Rattle.basin_file.proofs.Ranges.{series_wants, always_open, no_text, whole_in, volume_valid, monthly_in}
+use Rattle.basin_file.proofs.Ranges.{points_valid, bounded_points, inflow_valid, carry_valid, first_valid, run_ends}
+use Rattle.basin_file.proofs.Passed.{AreClean, Fits, IsClean, IsListed, entry_of, fits_at, rest_of, top_entry, absent}
+use Rattle.basin_file.proofs.OwnNames.{name_there, refers_there, texts_in-rows, length-rows_in, number_within}
+use Rattle.basin_file.proofs.OwnNames.{number_is, own_names, own_texts, rights_own, same_text, table_own}
+use Rattle.basin_file.proofs.Lists.{Each, each_all, each_append, each_by, each_map}
+
+-- at least one node is listed
+some_items : {format : ℕ} {tree : Members} (o : Option Data) → Fits format tree (required (codes "node") Tables) o →
+    option_map_or (λ items. items_len items == 0) (option_and_then as_array o) false ≡ false →
+    1 ≤ items_len (unwrap_or (option_and_then as_array o) no_items)
+some_items None fits n = let never : true ≡ false = fits.present in cc
+some_items (Some d) fits n = by (as_array d) fits.kinds n
+  where
+    positive : (n : ℕ) → (n == 0) ≡ false → 1 ≤ n
+    positive n e = grind (arith, nat_tests)
+
+    by : (a : Option Items) → not (option_map_or (items_all (λ x. is_some (as_table x))) a false) ≡ false →
+        option_map_or (λ items. items_len items == 0) a false ≡ false → 1 ≤ items_len (unwrap_or a no_items)
+    by None e n = cc
+    by (Some items) e n = positive (items_len items) n
+
+module _ (tree : Members) (clean : AreClean tree) where
+  pub length_texts : (t : BasinTable) → IsListed t → length (texts_in tree t) ≡ length (rows_in tree t)
+  length_texts t h =
+      ap (λ ts. length ts) (texts_in-rows tree clean t h) ∙ length-map (rows_in tree t) (text_at (own_key t))
+
+  pub clean_at : (t : BasinTable) → IsListed t → (k : ℕ) (row : Members) → slice_get (rows_in tree t) k ≡ Some row →
+      IsClean tree (entry_of t k row)
+  clean_at t h = (clean.tidy t h).clean
+
+  pub bounded_nodes : length (rows_in tree Node) ≤ 2000
+  bounded_nodes =
+      let h = bounded_by 2000 0 (rows_in tree Node) (λ k row at. rw zero-add
+      (rest_of tree (entry_of Node k row) (clean_at Node tt k row at)).many) (omega arith) in
+      omega arith
+
+  pub bounded_links : length (rows_in tree Link) ≤ 4000
+  bounded_links =
+      let h = bounded_by 4000 0 (rows_in tree Link) (λ k row at. rw zero-add
+      (rest_of tree (entry_of Link k row) (clean_at Link tt k row at)).many) (omega arith) in
+      omega arith
+
+  pub bounded_diversions : 0 + length (rows_in tree Diversion) ≤ 2000
+  bounded_diversions = bounded_by 2000 0 (rows_in tree Diversion)
+      (λ k row at. (rest_of tree (entry_of Diversion k row) (clean_at Diversion tt k row at)).many) (omega arith)
+
+  pub bounded_rights : length (rights_of tree) ≤ 2000
+  bounded_rights =
+      let diversions = length-rows_in tree clean Diversion tt in
+      let instreams = length-rows_in tree clean Instream tt in
+      let low = bounded_diversions in
+      let more = bounded_by 2000 (rights_before tree Instream) (rows_in tree Instream)
+      (λ k row at. (rest_of tree (entry_of Instream k row) (clean_at Instream tt k row at)).many) (omega arith) in
+      let most = bounded_by 2000 (rights_before tree Zone) (rows_in tree Zone)
+      (λ k row at. (rest_of tree (entry_of Zone k row) (clean_at Zone tt k row at)).many) (omega arith) in
+      rw (
+        length-append,
+        length-append,
+        length-map (rows_in tree Diversion) (diversion_of tree),
+        length-map (rows_in tree Instream) (instream_of tree),
+        length-map (rows_in tree Zone) (zone_of tree),
+      ) (omega arith)
+
+  pub some_node : 1 ≤ length (rows_in tree Node)
+  some_node =
+      rw (length-rows_in tree clean Node tt)
+      (some_items (get_member (codes "node") tree) (fits_at tree (top_entry tree) clean.top 3 _ refl)
+      (rest_of tree (top_entry tree) clean.top).nodes)
+
+  node_texts : length (texts_of tree Nodes) ≡ length (basin_of tree).nodes
+  node_texts = length_texts Node tt ∙ sym (length-map (rows_in tree Node) node_of)
+
+  link_texts : length (texts_of tree Links) ≡ length (basin_of tree).links
+  link_texts = length_texts Link tt ∙ sym (length-map (rows_in tree Link) (link_of tree))
+
+  reservoir_texts : length (texts_of tree Reservoirs) ≡ length (basin_of tree).reservoirs
+  reservoir_texts = length_texts Reservoir tt ∙ sym (length-map (rows_in tree Reservoir) (reservoir_of tree))
+
+  pub bounded_node_texts : length (texts_of tree Nodes) ≤ 4000
+  bounded_node_texts = let same = length_texts Node tt in let bounded = bounded_nodes in omega arith
+
+  -- the right at an index among the diversions is one
+  prefix_diversion : (rows : List Members) (more others : List Right) (k : ℕ) → k < length rows →
+      of_entry (map (diversion_of tree) rows ++ more ++ others) k (λ r. is_diversion_kind r.kind) false ≡ true
+  prefix_diversion [] more others k h = absurd (omega arith)
+  prefix_diversion (row ∷ rows) more others zero h = refl
+  prefix_diversion (row ∷ rows) more others (suc k) h = prefix_diversion rows more others k (omega arith)
+
+  -- the node at an index is an outlet where the document says so
+  outlet_at : (at : ℕ) → is_outlet (basin_of tree) at ≡ is_outlet_at tree at
+  outlet_at at =
+      ap (λ (o : Option node.Node). unwrap_or (option_map (λ n. n.outlet) o) false)
+      (slice_get-map node_of (rows_in tree Node) at)
+      ∙ (by (slice_get (rows_in tree Node) at)
+      ∙ ap (λ (o : Option Data). option_map_or (λ outlet. outlet)
+      (option_and_then as_bool (option_and_then (get (codes "outlet")) o)) false)
+      (sym (ap (get_item at) (clean.tidy Node tt).lists ∙ item_listing (rows_in tree Node) at)))
+    where
+      truth : (o : Option Bool) → unwrap_or o false ≡ option_map_or (λ outlet. outlet) o false
+      truth None = refl
+      truth (Some b) = refl
+
+      by : (o : Option Members) → unwrap_or (option_map (λ n. n.outlet) (option_map node_of o)) false
+          ≡ option_map_or (λ outlet. outlet)
+          (option_and_then as_bool (option_and_then (get (codes "outlet")) (option_map (λ row. table row) o))) false
+      by None = refl
+      by (Some row) = truth (option_and_then as_bool (get_member (codes "outlet") row))
+
+  module _ (t : BasinTable) (k : ℕ) (row : Members) (its : IsClean tree (entry_of t k row)) where
+    -- a text that should name an entry has a number below the count of the names in its space
+    number : (i : ℕ) (key : List ℕ) (space : Space) (n : ℕ) →
+        slice_get (keys_of t) i ≡ Some (required key (Refers space)) → length (texts_of tree space) ≡ n →
+        number_at tree space key row < n
+    number i key space n at len =
+        let within = number_within key row (refers_there tree t k row i key space at its) in rw len at within
+
+    pub name_of_row : slice_get (keys_of t) 0 ≡ Some (required (codes "name") Name) →
+        (text_at (codes "name") row ≡ Some (name_at (codes "name") row)) × IsTrue (is_name (name_at (codes "name") row))
+    name_of_row at =
+        let there = name_there tree clean t k row at its in
+        (rw there.1 (rw there.2 refl), rw (there.1) (rw (there.2) there.2))
+
+  pub node_valid : (k : ℕ) (row : Members) → IsClean tree (entry_of Node k row) → IsValidNode (node_of row)
+  node_valid k row its =
+      record {
+        name = (name_of_row Node k row its refl).1;
+        inflow =
+            inflow_valid (get_member (codes "inflow") row);
+      }
+
+  pub link_valid : (k : ℕ) (row : Members) → IsClean tree (entry_of Link k row) →
+      IsValidLink (basin_of tree) (link_of tree row)
+  link_valid k row its = record {
+    name = (name_of_row Link k row its refl).1;
+    ends = record {
+      from = number Link k row its 1 (codes "from") Nodes _ refl node_texts;
+      to = number Link k row its 2 (codes "to") Nodes _ refl node_texts;
+    };
+    carry = carry_valid (get_member (codes "per_day") row) (get_member (codes "closed") row);
+  }
+
+  pub reservoir_sound : (k : ℕ) (row : Members) → IsClean tree (entry_of Reservoir k row) →
+      IsSoundReservoir (basin_of tree) (reservoir_of tree row)
+  reservoir_sound k row its = record {
+    node = number Reservoir k row its 0 (codes "node") Nodes _ refl node_texts;
+    inner =
+        (let there = refers_there tree Reservoir k row 0 (codes "node") Nodes refl its in
+        let named = number_is (codes "node") row there bounded_node_texts in
+        outlet_at (number_at tree Nodes (codes "node") row)
+        ∙ (rw (there.text_is, named) at (rest_of tree (entry_of Reservoir k row) its).outlets));
+    opening = (whole_in 0 (16 * 10 ^ 9) 0 (get_member (codes "opening") row) (omega arith) (omega arith)).1;
+    points = points_valid (get_member (codes "area") row);
+    bounded_points = bounded_points (get_member (codes "area") row)
+        (rest_of tree (entry_of Reservoir k row) its).many;
+    rate = monthly_in 10000 (get_member (codes "rate") row);
+  }
+
+  -- what each right keeps, whatever its kind
+  right_valid : (t : BasinTable) (k : ℕ) (row : Members) (its : RightKind) (volume : Option ℕ) →
+      IsClean tree (entry_of t k row) → slice_get (keys_of t) 0 ≡ Some (required (codes "name") Name) →
+      HasValidSite (basin_of tree) its → IsValidVolume its volume →
+      IsValidRight (basin_of tree) (right_of its volume row)
+  right_valid t k row its volume clean at site valid = record {
+    name = (name_of_row t k row clean at).1;
+    order = (whole_in 0 1000000 0 (get_member (codes "order") row) (omega arith) (omega arith)).1;
+    site = site;
+    want = monthly_in (10 ^ 9) (get_member (codes "want") row);
+    volume = valid;
+    series = series_wants (get_member (codes "want") row);
+  }
+
+  pub diversion_valid : (k : ℕ) (row : Members) → IsClean tree (entry_of Diversion k row) →
+      IsValidRight (basin_of tree) (diversion_of tree row)
+  diversion_valid k row its =
+      let value = get_member (codes "volume") row in
+      right_valid Diversion k row (kind.Diversion (number_at tree Nodes (codes "node") row)) (volume_of value) its refl
+      (number Diversion k row its 1 (codes "node") Nodes _ refl node_texts)
+      (volume_valid (kind.Diversion (number_at tree Nodes (codes "node") row)) refl value)
+
+  pub instream_valid : (k : ℕ) (row : Members) → IsClean tree (entry_of Instream k row) →
+      IsValidRight (basin_of tree) (instream_of tree row)
+  instream_valid k row its =
+      right_valid Instream k row (kind.Instream (number_at tree Links (codes "link") row)) None its refl
+      (number Instream k row its 1 (codes "link") Links _ refl link_texts) tt
+
+  pub zone_valid : (k : ℕ) (row : Members) → IsClean tree (entry_of Zone k row) →
+      IsValidRight (basin_of tree) (zone_of tree row)
+  zone_valid k row its =
+      let level = whole_in 1 16 1 (get_member (codes "level") row) (omega arith) (omega arith) in
+      right_valid Zone k row (kind.Zone (number_at tree Reservoirs (codes "reservoir") row)
+      (integer_at (codes "level") 1 16 1 row)) None its refl
+      (number Zone k row its 1 (codes "reservoir") Reservoirs _ refl reservoir_texts, level.0, level.1) tt
+
+  own_diversion : (k : ℕ) (row : Members) → IsClean tree (entry_of Return k row) →
+      number_at tree Diversions (codes "diversion") row < length (rows_in tree Diversion)
+  own_diversion k row its =
+      number Return k row its 0 (codes "diversion") Diversions _ refl (length_texts Diversion tt)
+
+  pub return_valid : (k : ℕ) (row : Members) → IsClean tree (entry_of Return k row) →
+      IsValidReturn (basin_of tree) (return_of tree row)
+  return_valid k row its = record {
+    right =
+        (let own = own_diversion k row its in
+        let same = length-map (rows_in tree Diversion) (diversion_of tree) in
+        rw (length-append, length-append) (omega arith));
+    diversion = prefix_diversion (rows_in tree Diversion) _ _ _ (own_diversion k row its);
+    node = number Return k row its 1 (codes "node") Nodes _ refl node_texts;
+    part = whole_in 1 10000 1 (get_member (codes "part") row) (omega arith) (omega arith);
+    lag = whole_in 1 120 1 (get_member (codes "lag") row) (omega arith) (omega arith);
+  }
 
 ranked_more : (g : Members → Right) (n : ℕ) → ((members : Members) → rank_of_kind (g members).kind ≡ n) →
     (rows : List Members) (least : ℕ) (others : List Right) → least ≤ n →
@@ -51,85 +266,65 @@ ranked_more g n same (members ∷ rows) least others low rest = (
       (rw (same members) (omega arith)) rest,
 )
 
-module _ (tree : Members) (none : HasNoFault tree) where
-  bounded_diversion_texts : length (texts_of tree Diversions) ≤ 4000
-  bounded_diversion_texts =
-      let same = length_texts tree none Diversion tt in let bounded = bounded_diversions tree none in omega arith
-
-  -- a members's diversion is the one that its text names
-  right_is : (k : ℕ) (members : Members) → IsFine tree Return k members →
-      (q : List ℕ) × (text_at (codes "diversion") members ≡ Some q) ×
-      (named_at tree Diversions q ≡ Some (return_of tree members).right)
-  right_is k members fine =
-      let there = refers_there tree Return k members 0 (codes "diversion") Diversions refl fine in
-      let same =
-      number_is tree Diversions (codes "diversion") members there.0 there.1 there.2 there.3 bounded_diversion_texts in
-      (there.0, there.2, rw same there.3)
+module _ (tree : Members) (clean : AreClean tree) where
+  -- a row's diversion is the one that its text names
+  right_is : (k : ℕ) (row : Members) → IsClean tree (entry_of Return k row) →
+      (q : List ℕ) × (text_at (codes "diversion") row ≡ Some q) ×
+      (named_at tree Diversions q ≡ Some (return_of tree row).right)
+  right_is k row its =
+      let there = refers_there tree Return k row 0 (codes "diversion") Diversions refl its in
+      let same = length_texts tree clean Diversion tt in
+      let bounded = bounded_diversions tree clean in
+      (there.q, there.text_is, number_is (codes "diversion") row there (omega arith))
 
   abbrev is_row_of : ℕ → ReturnRow → Bool
   is_row_of right row = row.right == right
 
-  texts_of_rows : texts_after (codes "diversion") (items_at tree Return) ≡ map (text_at (codes "diversion"))
-      (rows_in tree Return)
-  texts_of_rows = texts_after-rows (codes "diversion") (items_at tree Return) (all_tables tree none Return tt)
-
-  -- fewer than 8 rows stand before a members with its text
-  bounded_like : (k : ℕ) (members : Members) (q : List ℕ) → IsFine tree Return k members →
-      slice_get (rows_in tree Return) k ≡ Some members →
-      text_at (codes "diversion") members ≡ Some q →
-      count_by (is_the_text q) (take k (map (text_at (codes "diversion")) (rows_in tree Return))) < 8
-  bounded_like k members q fine there text = by (k + 1 - 1) (omega arith) fine.bounded
-    where
-      bounded : (n : ℕ) → nat_le 8 n ≡ false → n < 8
-      bounded n e = grind (arith, nat_tests)
-
-      texts : List (Option (List ℕ))
-      texts = map (text_at (codes "diversion")) (rows_in tree Return)
-
-      text_there : slice_get texts k ≡ Some (Some q)
-      text_there = rw (slice_get-map (text_at (codes "diversion")) (rows_in tree Return) k) (rw there (rw text refl))
-
-      by : (n : ℕ) → n ≡ k →
-          nat_le 8 (earlier_like (texts_after (codes "diversion") (items_at tree Return)) n) ≡ false →
-          count_by (is_the_text q) (take k texts) < 8
-      by n same e = bounded (count_by (is_the_text q) (take k texts)) (rw (same, texts_of_rows, text_there) at e)
-
-  -- fewer than 8 rows of its diversion stand before a members
+  -- fewer than 8 rows of its diversion stand before a row
   bounded_before : (right k : ℕ) (entry : ReturnRow) →
       slice_get (map (return_of tree) (rows_in tree Return)) k ≡ Some entry → is_row_of right entry ≡ true →
       0 + count_by (is_row_of right) (take k (map (return_of tree) (rows_in tree Return))) < 8
   bounded_before right k entry there is_row =
       let len = length-map (rows_in tree Return) (return_of tree) in
-      let members =
-      entry_at (rows_in tree Return) k (let h =
+      let row = entry_at (rows_in tree Return) k (let h =
       slice_get_within (map (return_of tree) (rows_in tree Return)) k entry there in omega arith) in
-      let fine = fine_at tree none Return tt k members.0 members.1 in
-      let text = right_is k members.0 fine in
-      let spelled : Some (return_of tree members.0) ≡ Some entry =
-      (rw (slice_get-map (return_of tree) (rows_in tree Return) k, members.1) at there) in
-      let its : (return_of tree members.0).right ≡ right =
-      eqb-true (return_of tree members.0).right right (let same : return_of tree members.0 ≡ entry = cc in
+      let text = right_is k row.0 (clean_at tree clean Return tt k row.0 row.1) in
+      let spelled : Some (return_of tree row.0) ≡ Some entry =
+      (rw (slice_get-map (return_of tree) (rows_in tree Return) k, row.1) at there) in
+      let its : (return_of tree row.0).right ≡ right =
+      eqb-true (return_of tree row.0).right right (let same : return_of tree row.0 ≡ entry = cc in
       subst (λ (r : ReturnRow). is_row_of right r ≡ true) (sym same) is_row) in
-      let within : count_by (is_row_of right) (take k (map (return_of tree) (rows_in tree Return)))
-      ≤ count_by (is_the_text text.0) (take k (map (text_at (codes "diversion")) (rows_in tree Return))) =
-      counts_within (return_of tree) (text_at (codes "diversion")) (is_row_of right) (is_the_text text.0) k
-      (rows_in tree Return)
-      (each_from (IsFine tree Return) _ 0 (rows_in tree Return)
-      (λ j other fine_other. alike j other fine_other text.0 (rw its at text.2)) (module_fine)) in
-      let bounded = bounded_like k members.0 text.0 fine members.1 text.1 in
+      let ours = count_taken (return_of tree) (is_row_of right) k (rows_in tree Return) in
+      let within = counts_within (λ row. is_row_of right (return_of tree row))
+      (λ row. is_the_text text.0 (text_at (codes "diversion") row)) k (rows_in tree Return)
+      (each_by (λ row. is_row_of right (return_of tree row) ≡ true →
+      is_the_text text.0 (text_at (codes "diversion") row) ≡ true) (rows_in tree Return)
+      (λ j other at. alike j other at text.0 (rw its at text.2))) in
+      let earlier : earlier_like (texts_after (codes "diversion") (items_at tree Return)) (k + 1 - 1) ≡ count_by
+      (λ row. is_the_text text.0 (text_at (codes "diversion") row)) (take k (rows_in tree Return)) =
+      ap (λ ts. earlier_like ts (k + 1 - 1)) texts
+      ∙ earlier_at (text_at (codes "diversion")) (rows_in tree Return) (k + 1 - 1) k row.0 text.0 (omega arith) row.1
+      text.1 in
+      let few = below (earlier_like (texts_after (codes "diversion") (items_at tree Return)) (k + 1 - 1))
+      (rest_of tree (entry_of Return k row.0) (clean_at tree clean Return tt k row.0 row.1)).many in
       omega arith
     where
-      module_fine : EachFrom (IsFine tree Return) 0 (rows_in tree Return)
-      module_fine = fine tree none Return tt
-
-      alike : (j : ℕ) (other : Members) → IsFine tree Return j other → (q : List ℕ) →
+      alike : (j : ℕ) (other : Members) → slice_get (rows_in tree Return) j ≡ Some other → (q : List ℕ) →
           named_at tree Diversions q ≡ Some right →
           is_row_of right (return_of tree other) ≡ true → is_the_text q (text_at (codes "diversion") other) ≡ true
-      alike j other fine_other q named is_row =
-          let text = right_is j other fine_other in
+      alike j other at q named is_row =
+          let text = right_is j other (clean_at tree clean Return tt j other at) in
           let its : (return_of tree other).right ≡ right = eqb-true (return_of tree other).right right is_row in
           let same : q ≡ text.0 = same_text tree Diversions q text.0 right named (rw its at text.2) in
           rw text.1 ((bytes_eq-Decides q text.0).1 same)
+
+      texts : texts_after (codes "diversion") (items_at tree Return)
+          ≡ map (text_at (codes "diversion")) (rows_in tree Return)
+      texts = ap (texts_after (codes "diversion")) (clean.tidy Return tt).lists
+          ∙ texts_listing (codes "diversion") (rows_in tree Return)
+
+      below : (n : ℕ) → nat_le 8 n ≡ false → n < 8
+      below n e = grind (arith, nat_tests)
 
   bounded_rows : (right : ℕ) → rows_of (basin_of tree) right ≤ 8
   bounded_rows right =
@@ -138,67 +333,48 @@ module _ (tree : Members) (none : HasNoFault tree) where
       (omega arith) in
       rw (count_where-entries (is_row_of right) (map (return_of tree) (rows_in tree Return))) (omega arith)
 
-  nodes_own : (i j : ℕ) → i < j → j < length (basin_of tree).nodes →
-      node_name (basin_of tree) i ≢ node_name (basin_of tree) j
+  -- the names of what a table's rows spell are their texts
+  names : {X : Type 0} (t : BasinTable) (h : IsListed t) (spells : Members → X) (name : X → List ℕ) →
+      ((k : ℕ) (row : Members) → IsClean tree (entry_of t k row) →
+      Some (name (spells row)) ≡ text_at (own_key t) row) →
+      map (λ x. Some (name x)) (map spells (rows_in tree t)) ≡ texts_in tree t
+  names t h spells name same =
+      map_alike (λ x. Some (name x)) spells (text_at (own_key t)) (rows_in tree t)
+      (each_by (λ row. Some (name (spells row)) ≡ text_at (own_key t) row) (rows_in tree t)
+      (λ k row at. same k row (clean_at tree clean t h k row at)))
+      ∙ sym (texts_in-rows tree clean t h)
+
+  nodes_own : HaveOwn (λ n. n.name) (map node_of (rows_in tree Node))
   nodes_own =
       own_names (λ n. n.name) (map node_of (rows_in tree Node)) (texts_of tree Nodes)
-      (names_of_rows node_of (λ n. n.name) (codes "name") (rows_in tree Node)
-      (each_from (IsFine tree Node) _ 0 (rows_in tree Node)
-      (λ k members fine. (name_of_row tree none Node k members refl fine).0)
-      (fine tree none Node tt))
-      ∙ sym (texts_in-rows tree none Node tt))
-      (table_own tree none Node tt Nodes refl)
+      (names Node tt node_of (λ n. n.name) (λ k row its. sym (name_of_row tree clean Node k row its refl).0))
+      (table_own tree clean Node tt Nodes refl)
 
-  links_own : (i j : ℕ) → i < j → j < length (basin_of tree).links →
-      link_name (basin_of tree) i ≢ link_name (basin_of tree) j
+  links_own : HaveOwn (λ l. l.name) (map (link_of tree) (rows_in tree Link))
   links_own =
       own_names (λ l. l.name) (map (link_of tree) (rows_in tree Link)) (texts_of tree Links)
-      (names_of_rows (link_of tree) (λ l. l.name) (codes "name") (rows_in tree Link)
-      (each_from (IsFine tree Link) _ 0 (rows_in tree Link)
-      (λ k members fine. (name_of_row tree none Link k members refl fine).0)
-      (fine tree none Link tt))
-      ∙ sym (texts_in-rows tree none Link tt))
-      (table_own tree none Link tt Links refl)
+      (names Link tt (link_of tree) (λ l. l.name) (λ k row its. sym (name_of_row tree clean Link k row its refl).0))
+      (table_own tree clean Link tt Links refl)
 
-  rights_named : map (λ r. Some r.name) (rights_of tree) ≡ texts_of tree Rights
-  rights_named =
-      rw (map-append (λ (r : Right). Some r.name), map-append (λ (r : Right). Some r.name))
-      (joined diversions instreams zones)
-    where
-      joined : {a b c d e f : List (Option (List ℕ))} → a ≡ d → b ≡ e → c ≡ f → a ++ b ++ c ≡ d ++ e ++ f
-      joined p q r = cc
-
-      diversions : map (λ r. Some r.name) (map (diversion_of tree) (rows_in tree Diversion)) ≡ texts_in tree Diversion
-      diversions = names_of_rows (diversion_of tree) (λ r. r.name) (codes "name") (rows_in tree Diversion)
-          (each_from (IsFine tree Diversion) _ 0 (rows_in tree Diversion)
-          (λ k members fine. (name_of_row tree none Diversion k members refl fine).0) (fine tree none Diversion tt))
-          ∙ sym (texts_in-rows tree none Diversion tt)
-
-      instreams : map (λ r. Some r.name) (map (instream_of tree) (rows_in tree Instream)) ≡ texts_in tree Instream
-      instreams = names_of_rows (instream_of tree) (λ r. r.name) (codes "name") (rows_in tree Instream)
-          (each_from (IsFine tree Instream) _ 0 (rows_in tree Instream)
-          (λ k members fine. (name_of_row tree none Instream k members refl fine).0) (fine tree none Instream tt))
-          ∙ sym (texts_in-rows tree none Instream tt)
-
-      zones : map (λ r. Some r.name) (map (zone_of tree) (rows_in tree Zone)) ≡ texts_in tree Zone
-      zones = names_of_rows (zone_of tree) (λ r. r.name) (codes "name") (rows_in tree Zone)
-          (each_from (IsFine tree Zone) _ 0 (rows_in tree Zone)
-          (λ k members fine. (name_of_row tree none Zone k members refl fine).0) (fine tree none Zone tt))
-          ∙ sym (texts_in-rows tree none Zone tt)
-
-  own_rights : (i j : ℕ) → i < j → j < length (basin_of tree).rights →
-      right_name (basin_of tree) i ≢ right_name (basin_of tree) j
-  own_rights = own_names (λ r. r.name) (rights_of tree) (texts_of tree Rights) rights_named (rights_own tree none)
+  own_rights : HaveOwn (λ r. r.name) (rights_of tree)
+  own_rights =
+      own_names (λ r. r.name) (rights_of tree) (texts_of tree Rights)
+      (rw (map-append (λ (r : Right). Some r.name), map-append (λ (r : Right). Some r.name))
+      (λ i. names Diversion tt (diversion_of tree) (λ r. r.name)
+      (λ k row its. sym (name_of_row tree clean Diversion k row its refl).0) i
+      ++ names Instream tt (instream_of tree) (λ r. r.name)
+      (λ k row its. sym (name_of_row tree clean Instream k row its refl).0) i
+      ++ names Zone tt (zone_of tree) (λ r. r.name)
+      (λ k row its. sym (name_of_row tree clean Zone k row its refl).0) i))
+      (rights_own tree clean)
 
   -- a reservoir's node is the one that its text names
-  node_is : (k : ℕ) (members : Members) → IsFine tree Reservoir k members →
-      (q : List ℕ) × (text_at (codes "node") members ≡ Some q) ×
-      (named_at tree Nodes q ≡ Some (reservoir_of tree members).node)
-  node_is k members fine =
-      let there = refers_there tree Reservoir k members 0 (codes "node") Nodes refl fine in
-      let same =
-      number_is tree Nodes (codes "node") members there.0 there.1 there.2 there.3 (bounded_node_texts tree none) in
-      (there.0, there.2, rw same there.3)
+  node_is : (k : ℕ) (row : Members) → IsClean tree (entry_of Reservoir k row) →
+      (q : List ℕ) × (text_at (codes "node") row ≡ Some q) ×
+      (named_at tree Nodes q ≡ Some (reservoir_of tree row).node)
+  node_is k row its =
+      let there = refers_there tree Reservoir k row 0 (codes "node") Nodes refl its in
+      (there.q, there.text_is, number_is (codes "node") row there (bounded_node_texts tree clean))
 
   reservoirs_own : (i j : ℕ) → i < j → j < length (basin_of tree).reservoirs →
       node_of_reservoir (basin_of tree) i ≢ node_of_reservoir (basin_of tree) j
@@ -206,8 +382,8 @@ module _ (tree : Members) (none : HasNoFault tree) where
       let len = length-map (rows_in tree Reservoir) (reservoir_of tree) in
       let one = entry_at (rows_in tree Reservoir) i (omega arith) in
       let other = entry_at (rows_in tree Reservoir) j (omega arith) in
-      let text = node_is i one.0 (fine_at tree none Reservoir tt i one.0 one.1) in
-      let text2 = node_is j other.0 (fine_at tree none Reservoir tt j other.0 other.1) in
+      let text = node_is i one.0 (clean_at tree clean Reservoir tt i one.0 one.1) in
+      let text2 = node_is j other.0 (clean_at tree clean Reservoir tt j other.0 other.1) in
       let nodes : Some (reservoir_of tree one.0).node ≡ Some (reservoir_of tree other.0).node =
       (rw (
         slice_get-map (reservoir_of tree) (rows_in tree Reservoir) i,
@@ -217,56 +393,53 @@ module _ (tree : Members) (none : HasNoFault tree) where
       ) at equal) in
       let same : text.0 ≡ text2.0 =
       same_text tree Nodes text.0 text2.0 (reservoir_of tree one.0).node text.2 (text2.2 ∙ sym nodes) in
-      own_texts (texts_of tree Reservoirs) (table_own tree none Reservoir tt Reservoirs refl) i j text.0 before
+      own_texts (texts_of tree Reservoirs) (table_own tree clean Reservoir tt Reservoirs refl) i j text.0 before
       (index i one.0 text.0 one.1 text.1) (rw same (index j other.0 text2.0 other.1 text2.1))
     where
-      index : (k : ℕ) (members : Members) (q : List ℕ) → slice_get (rows_in tree Reservoir) k ≡ Some members →
-          text_at (codes "node") members ≡ Some q →
+      index : (k : ℕ) (row : Members) (q : List ℕ) → slice_get (rows_in tree Reservoir) k ≡ Some row →
+          text_at (codes "node") row ≡ Some q →
           slice_get (texts_of tree Reservoirs) k ≡ Some (Some q)
-      index k members q there text =
-          rw (texts_in-rows tree none Reservoir tt)
+      index k row q there text =
+          rw (texts_in-rows tree clean Reservoir tt)
           (rw (slice_get-map (text_at (codes "node")) (rows_in tree Reservoir) k) (rw there (rw text refl)))
 
-  each_valid : {X : Type 0} (P : X → Type 0) (table : BasinTable) → IsListed table → (spells : Members → X) →
-      ((k : ℕ) (members : Members) → IsFine tree table k members → P (spells members)) →
-      Each P (map spells (rows_in tree table))
-  each_valid P table is_listed spells valid =
-      each_map P spells (rows_in tree table)
-      (each_from (IsFine tree table) (λ members. P (spells members)) 0 (rows_in tree table) valid
-      (fine tree none table is_listed))
+  each_valid : {X : Type 0} (P : X → Type 0) (t : BasinTable) → IsListed t → (spells : Members → X) →
+      ((k : ℕ) (row : Members) → IsClean tree (entry_of t k row) → P (spells row)) →
+      Each P (map spells (rows_in tree t))
+  each_valid P t h spells valid =
+      each_map P spells (rows_in tree t)
+      (each_by (λ row. P (spells row)) (rows_in tree t)
+      (λ k row at. valid k row (clean_at tree clean t h k row at)))
+
+  -- the same of all rights
+  each_right : (P : Right → Type 0) → ((k : ℕ) (row : Members) → IsClean tree (entry_of Diversion k row) →
+      P (diversion_of tree row)) →
+      ((k : ℕ) (row : Members) → IsClean tree (entry_of Instream k row) → P (instream_of tree row)) →
+      ((k : ℕ) (row : Members) → IsClean tree (entry_of Zone k row) → P (zone_of tree row)) →
+      All P (rights_of tree)
+  each_right P d i z =
+      each_all P (rights_of tree)
+      (each_append P _ _ (each_append P _ _ (each_valid P Diversion tt (diversion_of tree) d)
+      (each_valid P Instream tt (instream_of tree) i)) (each_valid P Zone tt (zone_of tree) z))
 
   run_valid : IsValidRun (basin_of tree)
   run_valid =
       let months = whole_in 1 1200 1 (get_member (codes "months") tree) (omega arith) (omega arith) in
-      let late =
-      or_parts (any_value (λ kind d. not (in_range kind d)) Top tree) (ends_late tree)
-      (top_passes (out_of_range tree) tree none.ranges) in
       record {
         first = first_valid (text_or_empty (codes "first_month") tree);
         months = months;
         ends = run_ends (text_or_empty (codes "first_month") tree) (integer_at (codes "months") 1 1200 1 tree) months.0
-            months.1 late.1;
+            months.1 (rest_of tree (top_entry tree) clean.top).late;
       }
 
   bounded_entries : HasBoundedEntries (basin_of tree)
   bounded_entries = record {
-    some_node = rw (length-map (rows_in tree Node) node_of) (some_node tree none);
-    nodes = rw (length-map (rows_in tree Node) node_of) (bounded_nodes tree none);
-    links = rw (length-map (rows_in tree Link) (link_of tree)) (bounded_links tree none);
-    rights = bounded_rights tree none;
+    some_node = rw (length-map (rows_in tree Node) node_of) (some_node tree clean);
+    nodes = rw (length-map (rows_in tree Node) node_of) (bounded_nodes tree clean);
+    links = rw (length-map (rows_in tree Link) (link_of tree)) (bounded_links tree clean);
+    rights = bounded_rights tree clean;
     rows = λ right h. bounded_rows right;
   }
-
-  names_own : HasOwnNames (basin_of tree)
-  names_own = record { nodes = nodes_own; links = links_own; rights = own_rights; reservoirs = reservoirs_own }
-
-  rights_valid : Each (λ r. IsValidRight (basin_of tree) r) (rights_of tree)
-  rights_valid =
-      each_append (λ r. IsValidRight (basin_of tree) r) _ _
-      (each_append (λ r. IsValidRight (basin_of tree) r) _ _
-      (each_valid (λ r. IsValidRight (basin_of tree) r) Diversion tt (diversion_of tree) (diversion_valid tree none))
-      (each_valid (λ r. IsValidRight (basin_of tree) r) Instream tt (instream_of tree) (instream_valid tree none)))
-      (each_valid (λ r. IsValidRight (basin_of tree) r) Zone tt (zone_of tree) (zone_valid tree none))
 
   ranked : AreRanked 0 (rights_of tree)
   ranked = rw append_assoc
@@ -275,57 +448,40 @@ module _ (tree : Members) (none : HasNoFault tree) where
       (λ m2 low2. rw (← append-nil (map (zone_of tree) (rows_in tree Zone)))
       (ranked_more (zone_of tree) 2 (λ members. refl) (rows_in tree Zone) m2 [] (omega arith) (λ m3 low3. tt)))))
 
-  -- in format 1 no water year begins with another month than October
-  october : format_of tree ≡ 1 → integer_at (codes "year_start") 1 12 10 tree ≡ 10
-  october first =
-      ap (integer_of 1 12 10)
-      (absent 1 Top (codes "year_start") tree (rw first at (top_passes (unknown_key tree) tree none.keys)) refl)
+  -- a key of format 2 isn't there in format 1
+  lacks : format_of tree ≡ 1 → (e : Entry) (key : List ℕ) → IsClean tree e → is_known 1 (keys_of e.table) key ≡ false →
+      get_member key e.row ≡ None
+  lacks first e key its other =
+      absent 1 e.table key e.row (rw first at (rest_of tree e its).known) other
 
-  -- and no right has a volume
-  no_volumes : format_of tree ≡ 1 → Each (λ r. r.volume ≡ None) (rights_of tree)
-  no_volumes first =
-      each_append (λ r. r.volume ≡ None) _ _
-      (each_append (λ r. r.volume ≡ None) _ _
-      (each_valid (λ r. r.volume ≡ None) Diversion tt (diversion_of tree)
-      (λ k members fine. ap volume_of (absent 1 Diversion (codes "volume") members (rw first at fine.keys) refl)))
-      (each_valid (λ r. r.volume ≡ None) Instream tt (instream_of tree) (λ k members fine. refl)))
-      (each_valid (λ r. r.volume ≡ None) Zone tt (zone_of tree) (λ k members fine. refl))
-
-  -- no canal is shut
-  open_canals : format_of tree ≡ 1 → Each (λ l. IsAlwaysOpen l.carry) (basin_of tree).links
-  open_canals first =
-      each_valid (λ l. IsAlwaysOpen l.carry) Link tt (link_of tree)
-      (λ k members fine. always_open (get_member (codes "per_day") members) (get_member (codes "closed") members)
-      (absent 1 Link (codes "closed") members (rw first at fine.keys) refl))
-
-  -- and no right has its wants in the series
-  plain_wants : (table : BasinTable) (k : ℕ) (members : Members) (i : ℕ) →
-      slice_get (keys_of table) i ≡ Some (record { name = codes "want"; is_required = true; kind = Want; since = 1 }) →
-      format_of tree ≡ 1 → IsFine tree table k members → is_series (get_member (codes "want") members) ≡ false
-  plain_wants table k members i at first fine =
-      let d = there_at tree table k members i _ at refl fine in
-      rw (d.1) (no_text d.0 (rw first at d.2))
-
-  no_series : format_of tree ≡ 1 → Each (λ r. r.series ≡ false) (rights_of tree)
-  no_series first =
-      each_append (λ r. r.series ≡ false) _ _
-      (each_append (λ r. r.series ≡ false) _ _
-      (each_valid (λ r. r.series ≡ false) Diversion tt (diversion_of tree)
-      (λ k members fine. plain_wants Diversion k members 3 refl first fine))
-      (each_valid (λ r. r.series ≡ false) Instream tt (instream_of tree)
-      (λ k members fine. plain_wants Instream k members 3 refl first fine)))
-      (each_valid (λ r. r.series ≡ false) Zone tt (zone_of tree)
-      (λ k members fine. plain_wants Zone k members 4 refl first fine))
+  -- in format 1 no right has its wants in the series
+  plain_wants : (t : BasinTable) (k : ℕ) (row : Members) (i : ℕ) →
+      slice_get (keys_of t) i ≡ Some (required (codes "want") Want) →
+      format_of tree ≡ 1 → IsClean tree (entry_of t k row) → is_series (get_member (codes "want") row) ≡ false
+  plain_wants t k row i at first its =
+      by (get_member (codes "want") row) (rw first at (fits_at tree (entry_of t k row) its i _ at).kinds)
+    where
+      by : (o : Option Data) → option_map_or (λ d. not (has_kind 1 Want d)) o false ≡ false → is_series o ≡ false
+      by None e = refl
+      by (Some d) e = no_text d (not-false _ e)
 
   format_valid : HasValidFormat (basin_of tree)
   format_valid = record {
     format = whole_in 1 2 1 (get_member (codes "format") tree) (omega arith) (omega arith);
     year_start = whole_in 1 12 10 (get_member (codes "year_start") tree) (omega arith) (omega arith);
     first = λ first. record {
-      year_start = october first;
-      open_canals = each_all (λ l. IsAlwaysOpen l.carry) _ (open_canals first);
-      volumes = each_all (λ r. r.volume ≡ None) _ (no_volumes first);
-      no_series = each_all (λ r. r.series ≡ false) _ (no_series first);
+      year_start = ap (integer_of 1 12 10) (lacks first (top_entry tree) (codes "year_start") clean.top refl);
+      open_canals = each_all (λ l. IsAlwaysOpen l.carry) _
+          (each_valid (λ l. IsAlwaysOpen l.carry) Link tt (link_of tree)
+          (λ k row its. always_open (get_member (codes "per_day") row) (get_member (codes "closed") row)
+          (lacks first (entry_of Link k row) (codes "closed") its refl)));
+      volumes = each_right (λ r. r.volume ≡ None)
+          (λ k row its. ap volume_of (lacks first (entry_of Diversion k row) (codes "volume") its refl))
+          (λ k row its. refl) (λ k row its. refl);
+      no_series = each_right (λ r. r.series ≡ false)
+          (λ k row its. plain_wants Diversion k row 3 refl first its)
+          (λ k row its. plain_wants Instream k row 3 refl first its)
+          (λ k row its. plain_wants Zone k row 4 refl first its);
     };
   }
 
@@ -334,18 +490,19 @@ module _ (tree : Members) (none : HasNoFault tree) where
     format = format_valid;
     run = run_valid;
     bounded = bounded_entries;
-    nodes = each_all _ _ (each_valid IsValidNode Node tt node_of (node_valid tree none));
+    nodes = each_all _ _ (each_valid IsValidNode Node tt node_of (node_valid tree clean));
     links =
-        each_all _ _ (each_valid (λ l. IsValidLink (basin_of tree) l) Link tt (link_of tree) (link_valid tree none));
+        each_all _ _ (each_valid (λ l. IsValidLink (basin_of tree) l) Link tt (link_of tree) (link_valid tree clean));
     reservoirs =
         each_all _ _
         (each_valid (λ v. IsSoundReservoir (basin_of tree) v) Reservoir tt (reservoir_of tree)
-        (reservoir_sound tree none));
-    rights = each_all _ _ rights_valid;
+        (reservoir_sound tree clean));
+    rights = each_right (λ r. IsValidRight (basin_of tree) r) (diversion_valid tree clean) (instream_valid tree clean)
+        (zone_valid tree clean);
     ranked = ranked;
     returns =
         each_all _ _
-        (each_valid (λ members. IsValidReturn (basin_of tree) members) Return tt (return_of tree)
-        (return_valid tree none));
-    names = names_own;
+        (each_valid (λ row. IsValidReturn (basin_of tree) row) Return tt (return_of tree)
+        (return_valid tree clean));
+    names = record { nodes = nodes_own; links = links_own; rights = own_rights; reservoirs = reservoirs_own };
   }

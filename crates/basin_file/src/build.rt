@@ -1,14 +1,14 @@
 //! The basin of a document, entry by entry.
 ghost use Rattle.std.specs.Prelude.{◌≡◌, ◌++◌, [], map, unwrap_or, IfOk, OnOk, codes};
-ghost use Rattle.toml.specs.Data.{Members, get_member, as_array, no_items};
+ghost use Rattle.toml.specs.Data.{get_member, as_array, no_items};
 ghost use Rattle.toml.specs.View.{view, table_view, items_view};
 ghost use Rattle.basin_tree.specs.Documents.{tree_of};
-ghost use Rattle.basin_file.specs.Spelled.{rows_after, rows_in, point_in, points_in, no_area, area_of, node_of};
-ghost use Rattle.basin_file.specs.Spelled.{link_of, reservoir_of, diversion_of, instream_of, zone_of, return_of};
+ghost use Rattle.basin_file.specs.Spelled.{rows_after, rows_in, point_in, points_in, no_area, area_of, reservoir_of};
 ghost use Rattle.basin_file.specs.Spelled.{rights_of, basin_of};
 
 use crate::parts::{
-    diversion_of, first_of, instream_of, link_of, node_of, number_at, point_in, return_of, zone_of,
+    DiversionReader, EntryReader, InstreamReader, LinkReader, NodeReader, ReturnReader, ZoneReader,
+    first_of, number_at, point_in,
 };
 use basin_tree::document::Document;
 use basin_tree::tables::{BasinTable, MAX_STORED, Space};
@@ -60,27 +60,6 @@ fn area_at(alloc: Global, row: &Table) -> Result<Vec<AreaPoint>, AllocError>
     }
 }
 
-/// The reservoir of an entry.
-fn reservoir_of(alloc: Global, document: &Document, row: &Table) -> Result<Reservoir, AllocError>
-    ensures { IfOk result (λ reservoir. reservoir ≡ reservoir_of (tree_of document.now) (table_view row.now)) }
-{
-    let area = area_at(alloc, row)?;
-    Ok(Reservoir {
-        node: number_at(document, Space::Nodes, row, "node"),
-        opening: integer_at(row, "opening", 0, MAX_STORED, 0),
-        area: Rows::from_vec(area),
-        rate: monthly_at(row, "rate", 10_000),
-    })
-}
-
-/// Reads one entry of a table.
-trait EntryReader<E> {
-    ghost spells: { Members → Members → E };
-
-    fn read(alloc: Global, document: &Document, row: &Table) -> Result<E, AllocError>
-        ensures { IfOk result (λ entry. entry ≡ spells (tree_of document.now) (table_view row.now)) };
-}
-
 /// Adds the entries among some values.
 fn add_entries<E: Drop, R: EntryReader<E>>(
     into: &mut Vec<E>,
@@ -127,73 +106,19 @@ fn table_of<E: Drop, R: EntryReader<E>>(
     Ok(Rows::from_vec(entries))
 }
 
-struct NodeReader;
-
-impl EntryReader<Node> for NodeReader {
-    ghost spells = { λ _. node_of };
-
-    fn read(_alloc: Global, _document: &Document, row: &Table) -> Result<Node, AllocError> {
-        Ok(node_of(row))
-    }
-}
-
-struct LinkReader;
-
-impl EntryReader<Link> for LinkReader {
-    ghost spells = { link_of };
-
-    fn read(_alloc: Global, document: &Document, row: &Table) -> Result<Link, AllocError> {
-        Ok(link_of(document, row))
-    }
-}
-
 struct ReservoirReader;
 
 impl EntryReader<Reservoir> for ReservoirReader {
     ghost spells = { reservoir_of };
 
     fn read(alloc: Global, document: &Document, row: &Table) -> Result<Reservoir, AllocError> {
-        reservoir_of(alloc, document, row)
-    }
-}
-
-struct DiversionReader;
-
-impl EntryReader<Right> for DiversionReader {
-    ghost spells = { diversion_of };
-
-    fn read(_alloc: Global, document: &Document, row: &Table) -> Result<Right, AllocError> {
-        Ok(diversion_of(document, row))
-    }
-}
-
-struct InstreamReader;
-
-impl EntryReader<Right> for InstreamReader {
-    ghost spells = { instream_of };
-
-    fn read(_alloc: Global, document: &Document, row: &Table) -> Result<Right, AllocError> {
-        Ok(instream_of(document, row))
-    }
-}
-
-struct ZoneReader;
-
-impl EntryReader<Right> for ZoneReader {
-    ghost spells = { zone_of };
-
-    fn read(_alloc: Global, document: &Document, row: &Table) -> Result<Right, AllocError> {
-        Ok(zone_of(document, row))
-    }
-}
-
-struct ReturnReader;
-
-impl EntryReader<ReturnRow> for ReturnReader {
-    ghost spells = { return_of };
-
-    fn read(_alloc: Global, document: &Document, row: &Table) -> Result<ReturnRow, AllocError> {
-        Ok(return_of(document, row))
+        let area = area_at(alloc, row)?;
+        Ok(Reservoir {
+            node: number_at(document, Space::Nodes, row, "node"),
+            opening: integer_at(row, "opening", 0, MAX_STORED, 0),
+            area: Rows::from_vec(area),
+            rate: monthly_at(row, "rate", 10_000),
+        })
     }
 }
 

@@ -1,8 +1,8 @@
 //! The parts of a basin, each from the keys and values of its entry.
-ghost use Rattle.std.specs.Prelude.{◌≡◌, ◌<◌, ◌==◌, Some, false, codes, option_map};
+ghost use Rattle.std.specs.Prelude.{◌≡◌, ◌<◌, ◌==◌, Some, false, codes, option_map, IfOk};
 ghost use Rattle.std.specs.List.{list_any};
 ghost use Rattle.std.specs.Option.{option_map_or};
-ghost use Rattle.toml.specs.Data.{get_member};
+ghost use Rattle.toml.specs.Data.{Members, get_member};
 ghost use Rattle.toml.specs.View.{view, table_view, items_view};
 ghost use Rattle.toml_tree.specs.Values.{integer_of};
 ghost use Rattle.basin_tree.specs.Documents.{tree_of};
@@ -12,6 +12,7 @@ ghost use Rattle.basin_file.specs.Spelled.{volume_of, right_of, diversion_of, in
 
 use basin_tree::document::Document;
 use basin_tree::tables::{MAX_AMOUNT, MAX_STORED, Space};
+use std::alloc::{AllocError, Global};
 use toml::{Table, Value};
 use toml_tree::values::{
     integer_at, integer_of, item_at, items_of, member, monthly_at, text_or_empty,
@@ -155,29 +156,6 @@ pub fn first_of(text: &[u8]) -> Month
     }
 }
 
-/// The node of an entry.
-pub fn node_of(row: &Table) -> Node
-    ensures { result ≡ node_of (table_view row.now) }
-{
-    Node {
-        name: name_at(row, "name"),
-        outlet: truth_at(row, "outlet"),
-        inflow: inflow_at(row),
-    }
-}
-
-/// The link of an entry.
-pub fn link_of(document: &Document, row: &Table) -> Link
-    ensures { result ≡ link_of (tree_of document.now) (table_view row.now) }
-{
-    Link {
-        name: name_at(row, "name"),
-        from: number_at(document, Space::Nodes, row, "from"),
-        to: number_at(document, Space::Nodes, row, "to"),
-        carry: carry_at(row),
-    }
-}
-
 fn volume_at(row: &Table) -> Option<u64>
     ensures { result ≡ volume_of (get_member (codes "volume") (table_view row.now)) }
 {
@@ -211,39 +189,88 @@ fn right_of(kind: RightKind, volume: Option<u64>, row: &Table) -> Right
     }
 }
 
-/// The right of a diversion's entry.
-pub fn diversion_of(document: &Document, row: &Table) -> Right
-    ensures { result ≡ diversion_of (tree_of document.now) (table_view row.now) }
-{
-    let node = number_at(document, Space::Nodes, row, "node");
-    right_of(RightKind::Diversion { node }, volume_at(row), row)
+/// Reads one entry of a table.
+pub trait EntryReader<E> {
+    ghost spells: { Members → Members → E };
+
+    fn read(alloc: Global, document: &Document, row: &Table) -> Result<E, AllocError>
+        ensures { IfOk result (λ entry. entry ≡ spells (tree_of document.now) (table_view row.now)) };
 }
 
-/// The right of an instream right's entry.
-pub fn instream_of(document: &Document, row: &Table) -> Right
-    ensures { result ≡ instream_of (tree_of document.now) (table_view row.now) }
-{
-    let link = number_at(document, Space::Links, row, "link");
-    right_of(RightKind::Instream { link }, None, row)
+pub struct NodeReader;
+
+impl EntryReader<Node> for NodeReader {
+    ghost spells = { λ _. node_of };
+
+    fn read(_alloc: Global, _document: &Document, row: &Table) -> Result<Node, AllocError> {
+        Ok(Node {
+            name: name_at(row, "name"),
+            outlet: truth_at(row, "outlet"),
+            inflow: inflow_at(row),
+        })
+    }
 }
 
-/// The right of a zone's entry.
-pub fn zone_of(document: &Document, row: &Table) -> Right
-    ensures { result ≡ zone_of (tree_of document.now) (table_view row.now) }
-{
-    let reservoir = number_at(document, Space::Reservoirs, row, "reservoir");
-    let level = integer_at(row, "level", 1, 16, 1) as u8;
-    right_of(RightKind::Zone { reservoir, level }, None, row)
+pub struct LinkReader;
+
+impl EntryReader<Link> for LinkReader {
+    ghost spells = { link_of };
+
+    fn read(_alloc: Global, document: &Document, row: &Table) -> Result<Link, AllocError> {
+        Ok(Link {
+            name: name_at(row, "name"),
+            from: number_at(document, Space::Nodes, row, "from"),
+            to: number_at(document, Space::Nodes, row, "to"),
+            carry: carry_at(row),
+        })
+    }
 }
 
-/// The row of a return's entry.
-pub fn return_of(document: &Document, row: &Table) -> ReturnRow
-    ensures { result ≡ return_of (tree_of document.now) (table_view row.now) }
-{
-    ReturnRow {
-        right: number_at(document, Space::Diversions, row, "diversion"),
-        node: number_at(document, Space::Nodes, row, "node"),
-        part: integer_at(row, "part", 1, 10_000, 1) as u32,
-        lag: integer_at(row, "lag", 1, 120, 1) as u32,
+pub struct DiversionReader;
+
+impl EntryReader<Right> for DiversionReader {
+    ghost spells = { diversion_of };
+
+    fn read(_alloc: Global, document: &Document, row: &Table) -> Result<Right, AllocError> {
+        let node = number_at(document, Space::Nodes, row, "node");
+        Ok(right_of(RightKind::Diversion { node }, volume_at(row), row))
+    }
+}
+
+pub struct InstreamReader;
+
+impl EntryReader<Right> for InstreamReader {
+    ghost spells = { instream_of };
+
+    fn read(_alloc: Global, document: &Document, row: &Table) -> Result<Right, AllocError> {
+        let link = number_at(document, Space::Links, row, "link");
+        Ok(right_of(RightKind::Instream { link }, None, row))
+    }
+}
+
+pub struct ZoneReader;
+
+impl EntryReader<Right> for ZoneReader {
+    ghost spells = { zone_of };
+
+    fn read(_alloc: Global, document: &Document, row: &Table) -> Result<Right, AllocError> {
+        let reservoir = number_at(document, Space::Reservoirs, row, "reservoir");
+        let level = integer_at(row, "level", 1, 16, 1) as u8;
+        Ok(right_of(RightKind::Zone { reservoir, level }, None, row))
+    }
+}
+
+pub struct ReturnReader;
+
+impl EntryReader<ReturnRow> for ReturnReader {
+    ghost spells = { return_of };
+
+    fn read(_alloc: Global, document: &Document, row: &Table) -> Result<ReturnRow, AllocError> {
+        Ok(ReturnRow {
+            right: number_at(document, Space::Diversions, row, "diversion"),
+            node: number_at(document, Space::Nodes, row, "node"),
+            part: integer_at(row, "part", 1, 10_000, 1) as u32,
+            lag: integer_at(row, "lag", 1, 120, 1) as u32,
+        })
     }
 }

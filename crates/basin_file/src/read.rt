@@ -98,7 +98,7 @@ fn first_area_fault(reservoirs: &[Reservoir]) -> Option<Finding>
 }
 
 /// The fault of the first reservoir whose area table has one.
-#[tactic(auto, using(crate::proofs::Joins::areas_sound))]
+#[tactic(auto, using(crate::proofs::Faultless::areas_sound))]
 fn areas_fault(reservoirs: &[Reservoir]) -> Option<Finding>
     requires { All (λ v. length v.area ≤ 64) reservoirs.now }
     ensures first { result ≡ areas_fault 0 reservoirs.now }
@@ -108,7 +108,7 @@ fn areas_fault(reservoirs: &[Reservoir]) -> Option<Finding>
 }
 
 /// The first fault of a basin by its network, its rights and its area tables.
-#[tactic(auto, using(crate::proofs::Joins::valid_by), unfolding(crate::specs::BasinFaults::basin_fault))]
+#[tactic(auto, using(crate::proofs::Faultless::valid_by), unfolding(crate::specs::BasinFaults::basin_fault))]
 fn basin_fault(alloc: Global, basin: &Basin) -> Result<Option<Finding>, AllocError>
     requires { IsSoundBasin basin.now }
     ensures first { IfOk result (λ fault. fault ≡ basin_fault basin.now) }

@@ -187,23 +187,6 @@ fn inflow_value(alloc: Global, inflow: &Inflow) -> Result<Value, AllocError>
     }
 }
 
-/// The table of a node.
-fn node_row(alloc: Global, node: &Node) -> Result<Table, AllocError>
-    requires { IsValidNode node.now }
-    ensures { IfOk result (λ row. table_view row ≡ node_row node.now) }
-{
-    let mut row = Table::new(alloc);
-    put_name(alloc, &mut row, "name", node.name.bytes())?;
-    put(alloc, &mut row, "outlet", Value::Boolean(node.outlet))?;
-    put(
-        alloc,
-        &mut row,
-        "inflow",
-        inflow_value(alloc, &node.inflow)?,
-    )?;
-    Ok(row)
-}
-
 /// The calendar months in which a canal is shut.
 fn months_shut(alloc: Global, shut: &[bool]) -> Result<Vec<Value>, AllocError>
     requires { length shut.now ≤ 12 }
@@ -216,26 +199,6 @@ fn months_shut(alloc: Global, shut: &[bool]) -> Result<Vec<Value>, AllocError>
         }
     }
     Ok(list)
-}
-
-/// The table of a link.
-fn link_row(alloc: Global, basin: &Basin, link: &Link) -> Result<Table, AllocError>
-    requires basin { IsValidBasin basin.now }
-    requires link { IsValidLink basin.now link.now }
-    ensures { IfOk result (λ row. table_view row ≡ link_row basin.now link.now) }
-{
-    let mut row = Table::new(alloc);
-    put_name(alloc, &mut row, "name", link.name.bytes())?;
-    put_name(alloc, &mut row, "from", node_name(basin, link.from))?;
-    put_name(alloc, &mut row, "to", node_name(basin, link.to))?;
-    match &link.carry {
-        Carry::River => {}
-        Carry::Canal { per_day, shut } => {
-            put_number(alloc, &mut row, "per_day", *per_day)?;
-            put_list(alloc, &mut row, "closed", months_shut(alloc, shut)?)?;
-        }
-    }
-    Ok(row)
 }
 
 fn point_value(alloc: Global, point: AreaPoint) -> Result<Value, AllocError>
@@ -255,25 +218,6 @@ fn points(alloc: Global, area: &[AreaPoint]) -> Result<Vec<Value>, AllocError>
         list.push(point_value(alloc, *point)?)?;
     }
     Ok(list)
-}
-
-/// The table of a reservoir.
-fn reservoir_row(alloc: Global, basin: &Basin, reservoir: &Reservoir) -> Result<Table, AllocError>
-    requires basin { IsValidBasin basin.now }
-    requires reservoir { IsValidReservoir basin.now reservoir.now }
-    ensures { IfOk result (λ row. table_view row ≡ reservoir_row basin.now reservoir.now) }
-{
-    let mut row = Table::new(alloc);
-    put_name(alloc, &mut row, "node", node_name(basin, reservoir.node))?;
-    put_number(alloc, &mut row, "opening", reservoir.opening)?;
-    put(
-        alloc,
-        &mut row,
-        "area",
-        Value::Array(points(alloc, reservoir.area.as_slice())?),
-    )?;
-    put(alloc, &mut row, "rate", numbers(alloc, &reservoir.rate)?)?;
-    Ok(row)
 }
 
 fn want_value(alloc: Global, right: &Right) -> Result<Value, AllocError>
@@ -346,21 +290,6 @@ fn right_row(alloc: Global, basin: &Basin, right: &Right) -> Result<Table, Alloc
     Ok(row)
 }
 
-/// The table of a return row.
-fn return_row(alloc: Global, basin: &Basin, entry: &ReturnRow) -> Result<Table, AllocError>
-    requires basin { IsValidBasin basin.now }
-    requires entry { IsValidReturn basin.now entry.now }
-    ensures { IfOk result (λ row. table_view row ≡ return_row basin.now entry.now) }
-{
-    let mut row = Table::new(alloc);
-    let right = right_name(basin, entry.right);
-    put_name(alloc, &mut row, "diversion", right)?;
-    put_name(alloc, &mut row, "node", node_name(basin, entry.node))?;
-    put_number(alloc, &mut row, "part", u64::from(entry.part))?;
-    put_number(alloc, &mut row, "lag", u64::from(entry.lag))?;
-    Ok(row)
-}
-
 /// Makes the table of one entry.
 trait RowWriter<E> {
     ghost fits: { Basin → E → Type 0 };
@@ -381,7 +310,16 @@ impl RowWriter<Node> for NodeWriter {
     ghost table_of = { λ _ node. node_row node };
 
     fn write(alloc: Global, _basin: &Basin, node: &Node) -> Result<Table, AllocError> {
-        node_row(alloc, node)
+        let mut row = Table::new(alloc);
+        put_name(alloc, &mut row, "name", node.name.bytes())?;
+        put(alloc, &mut row, "outlet", Value::Boolean(node.outlet))?;
+        put(
+            alloc,
+            &mut row,
+            "inflow",
+            inflow_value(alloc, &node.inflow)?,
+        )?;
+        Ok(row)
     }
 }
 
@@ -393,7 +331,18 @@ impl RowWriter<Link> for LinkWriter {
     ghost table_of = { λ b link. link_row b link };
 
     fn write(alloc: Global, basin: &Basin, link: &Link) -> Result<Table, AllocError> {
-        link_row(alloc, basin, link)
+        let mut row = Table::new(alloc);
+        put_name(alloc, &mut row, "name", link.name.bytes())?;
+        put_name(alloc, &mut row, "from", node_name(basin, link.from))?;
+        put_name(alloc, &mut row, "to", node_name(basin, link.to))?;
+        match &link.carry {
+            Carry::River => {}
+            Carry::Canal { per_day, shut } => {
+                put_number(alloc, &mut row, "per_day", *per_day)?;
+                put_list(alloc, &mut row, "closed", months_shut(alloc, shut)?)?;
+            }
+        }
+        Ok(row)
     }
 }
 
@@ -405,7 +354,17 @@ impl RowWriter<Reservoir> for ReservoirWriter {
     ghost table_of = { λ b reservoir. reservoir_row b reservoir };
 
     fn write(alloc: Global, basin: &Basin, reservoir: &Reservoir) -> Result<Table, AllocError> {
-        reservoir_row(alloc, basin, reservoir)
+        let mut row = Table::new(alloc);
+        put_name(alloc, &mut row, "node", node_name(basin, reservoir.node))?;
+        put_number(alloc, &mut row, "opening", reservoir.opening)?;
+        put(
+            alloc,
+            &mut row,
+            "area",
+            Value::Array(points(alloc, reservoir.area.as_slice())?),
+        )?;
+        put(alloc, &mut row, "rate", numbers(alloc, &reservoir.rate)?)?;
+        Ok(row)
     }
 }
 
@@ -417,7 +376,13 @@ impl RowWriter<ReturnRow> for ReturnWriter {
     ghost table_of = { λ b entry. return_row b entry };
 
     fn write(alloc: Global, basin: &Basin, entry: &ReturnRow) -> Result<Table, AllocError> {
-        return_row(alloc, basin, entry)
+        let mut row = Table::new(alloc);
+        let right = right_name(basin, entry.right);
+        put_name(alloc, &mut row, "diversion", right)?;
+        put_name(alloc, &mut row, "node", node_name(basin, entry.node))?;
+        put_number(alloc, &mut row, "part", u64::from(entry.part))?;
+        put_number(alloc, &mut row, "lag", u64::from(entry.lag))?;
+        Ok(row)
     }
 }
 

@@ -1,5 +1,5 @@
 use Rattle.std.proofs.Common.{rules}
-use Rattle.basin_file.proofs.Joins.{roll_found}
+use Rattle.basin_file.proofs.Faultless.{roll_found}
 use Rattle.basin_file.proofs.read.rights_fault.Goals as goal
 
 pub returns-in-Some-clause-first : goal.returns-in-Some-clause-first

@@ -1,5 +1,5 @@
 use Rattle.basin_tree.specs.Documents.{tree_of}
-use Rattle.basin_file.proofs.Joins.{sound_of}
+use Rattle.basin_file.proofs.Faultless.{sound_of}
 use Rattle.basin_file.proofs.read.sound_basin.Goals as goal
 
 pub returns-clause-sound : goal.returns-clause-sound

@@ -1,7 +1,7 @@
 use Rattle.std.proofs.Common.{◌∙◌, ap}
 use Rattle.toml.specs.View.{members_view, view}
 use Rattle.basin_file.specs.Upgraded.{with_member}
-use Rattle.basin_file.proofs.Tables.{view-insert}
+use Rattle.basin_file.proofs.Fields.{view-insert}
 use Rattle.basin_file.proofs.upgrade.put.Goals as goal
 
 pub returns : goal.returns

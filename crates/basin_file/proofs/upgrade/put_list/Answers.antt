@@ -4,7 +4,7 @@ use Rattle.toml.specs.Data.{Members}
 use Rattle.toml.specs.View.{table_view}
 use Rattle.toml.proofs.Views.{view-Array}
 use Rattle.basin_file.specs.Upgraded.{with_member}
-use Rattle.basin_file.proofs.Tables.{listed-put}
+use Rattle.basin_file.proofs.Fields.{listed-put}
 use Rattle.basin_file.proofs.upgrade.put_list.Goals as goal
 
 pub returns : goal.returns

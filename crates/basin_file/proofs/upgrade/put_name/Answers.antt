@@ -1,4 +1,4 @@
-use Rattle.basin_file.proofs.Texts.{name_ascii}
+use Rattle.basin_file.proofs.ReadBack.{name_ascii}
 use Rattle.basin_file.proofs.upgrade.put_name.Goals as goal
 
 pub put_text-requires : goal.put_text-requires

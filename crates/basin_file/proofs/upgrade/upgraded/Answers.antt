@@ -6,15 +6,14 @@ use Rattle.toml.specs.View.{table_view}
 use Rattle.toml.specs.declared.ser.error.Error.{Error}
 use Rattle.basin_file.specs.BasinFaults.{document_fault}
 use Rattle.basin_file.specs.Upgraded.{basin_table}
-use Rattle.basin_file.proofs.CleanRights.{table_is_sound}
-use Rattle.basin_file.proofs.Printed.{no_dates, read_back}
+use Rattle.basin_file.proofs.CleanTables.{table_is_sound, no_dates, read_back}
 use Rattle.basin_file.proofs.TableSpells.{table_spells}
 use Rattle.basin_file.proofs.upgrade.upgraded.Goals as goal
 
 pub returns-in-Ok : goal.returns-in-Ok
 returns-in-Ok c =
     let read =
-    read_back c.args.basin.now (string_bytes c.in-Ok.text) (table_view c.in_ok-table.table)
+    read_back c.args.basin.now c.requires (string_bytes c.in-Ok.text) (table_view c.in_ok-table.table)
     c.in_ok-table.ensures (IsUtf8-string_bytes c.in-Ok.text)
     c.in-Ok.ensures.reads_back in
     record {
@@ -30,5 +29,5 @@ returns-in-Ok c =
 
 pub unreachable-requires : goal.unreachable-requires
 unreachable-requires c =
-    no_dates c.args.basin.now (table_view c.in_ok-table.table) c.in_ok-table.ensures
+    no_dates c.args.basin.now c.requires (table_view c.in_ok-table.table) c.in_ok-table.ensures
     (c.in-Err-DateInvalid.ensures.dates.0 (ap (λ (e : Error). Err e) c.in-Err-DateInvalid.field-0-is))
