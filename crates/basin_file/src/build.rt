@@ -106,6 +106,7 @@ fn table_of<E: Drop, R: EntryReader<E>>(
     Ok(Rows::from_vec(entries))
 }
 
+/// The reservoir of an entry.
 struct ReservoirReader;
 
 impl EntryReader<Reservoir> for ReservoirReader {

@@ -197,6 +197,7 @@ pub trait EntryReader<E> {
         ensures { IfOk result (λ entry. entry ≡ spells (tree_of document.now) (table_view row.now)) };
 }
 
+/// The node of an entry.
 pub struct NodeReader;
 
 impl EntryReader<Node> for NodeReader {
@@ -211,6 +212,7 @@ impl EntryReader<Node> for NodeReader {
     }
 }
 
+/// The link of an entry.
 pub struct LinkReader;
 
 impl EntryReader<Link> for LinkReader {
@@ -226,6 +228,7 @@ impl EntryReader<Link> for LinkReader {
     }
 }
 
+/// The right of a diversion's entry.
 pub struct DiversionReader;
 
 impl EntryReader<Right> for DiversionReader {
@@ -237,6 +240,7 @@ impl EntryReader<Right> for DiversionReader {
     }
 }
 
+/// The right of an instream right's entry.
 pub struct InstreamReader;
 
 impl EntryReader<Right> for InstreamReader {
@@ -248,6 +252,7 @@ impl EntryReader<Right> for InstreamReader {
     }
 }
 
+/// The right of a zone's entry.
 pub struct ZoneReader;
 
 impl EntryReader<Right> for ZoneReader {
@@ -260,6 +265,7 @@ impl EntryReader<Right> for ZoneReader {
     }
 }
 
+/// The row of a return's entry.
 pub struct ReturnReader;
 
 impl EntryReader<ReturnRow> for ReturnReader {

@@ -302,6 +302,7 @@ trait RowWriter<E> {
         ensures { IfOk result (λ made. table_view made ≡ table_of basin.now entry.now) };
 }
 
+/// The table of a node.
 struct NodeWriter;
 
 impl RowWriter<Node> for NodeWriter {
@@ -323,6 +324,7 @@ impl RowWriter<Node> for NodeWriter {
     }
 }
 
+/// The table of a link.
 struct LinkWriter;
 
 impl RowWriter<Link> for LinkWriter {
@@ -346,6 +348,7 @@ impl RowWriter<Link> for LinkWriter {
     }
 }
 
+/// The table of a reservoir.
 struct ReservoirWriter;
 
 impl RowWriter<Reservoir> for ReservoirWriter {
@@ -368,6 +371,7 @@ impl RowWriter<Reservoir> for ReservoirWriter {
     }
 }
 
+/// The table of a return row.
 struct ReturnWriter;
 
 impl RowWriter<ReturnRow> for ReturnWriter {
