@@ -22,3 +22,4 @@ pub mod SettledPlans
 pub mod Budget
 pub mod SearchedPlans
 pub mod Placing
+pub mod Preferred

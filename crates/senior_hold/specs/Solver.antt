@@ -1,4 +1,5 @@
 -- What a solver is to its callers, and what it keeps.
+use Rattle.std.specs.Prelude.{◌≡◌}
 use Rattle.water_model.specs.Valid.{IsValidBasin}
 use Rattle.water_model.specs.declared.types.Basin.{Basin}
 use Rattle.senior_hold.specs.Layouts.{IsLayout, FitsRoom}
@@ -14,3 +15,4 @@ pub record IsValidSolver (i : Inside) : Type 0 where
   pub is_layout : IsLayout i.basin.now i.layout
   pub fits_room : FitsRoom i.basin.now i.room
   pub places : HasPlaces i.basin.now i.region i.places
+  pub rounds : i.rounds.basin ≡ i.basin.now

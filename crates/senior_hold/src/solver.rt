@@ -18,6 +18,7 @@ use crate::places::{Method, Places, open_places, sweep, words_of};
 use crate::tree_sweep::Sweep;
 use rights_roll::roll::Roll;
 use river_net::Net;
+use rivers_first::Rounds;
 use std::alloc::{AllocError, Global};
 use std::marker::Model;
 use std::sync::ledger::Ledger;
@@ -52,6 +53,7 @@ pub struct Solver<'b> {
     room: Room,
     region: Region,
     places: Places,
+    rounds: Rounds<'b>,
 }
 
 impl<'b> Model for Solver<'b> {
@@ -108,12 +110,14 @@ impl<'b> Solver<'b> {
         let room = room_of(alloc, basin, ends.len())?;
         let mut region = Region::open(alloc, words_of(basin, ends.len()))?;
         let places = open_places(basin, &ends, &mut region);
+        let rounds = Rounds::open(alloc, basin, layout.net.order())?;
         Ok(Solver {
             basin,
             layout,
             room,
             region,
             places,
+            rounds,
         })
     }
 
@@ -195,11 +199,8 @@ impl<'b> Solver<'b> {
         );
     }
 
-    /// Writes the plan of a month that serves seniors first, and gives each right that is short its reach as its set.
-    /// The supply is indexed by node, the want by right, both in units of 1,000 cubic metres. Without rights the plan
-    /// is the run of the river. Each search that finds a walk, and each push along the tree, ticks `searches` once. It
-    /// refuses nothing and takes no memory.
-    pub fn solve_month<L: Ledger>(
+    /// Finds a plan for a month as `solve_month` does, by the tree if its pushes last.
+    fn find_plan<L: Ledger>(
         &mut self,
         month: Month,
         supply: &[u64],
@@ -220,6 +221,33 @@ impl<'b> Solver<'b> {
         if sweep == Sweep::GaveUp {
             cuts.clear();
             self.sweep_by_searches(month, supply, want, plan, cuts, searches);
+        }
+    }
+
+    /// Writes the plan of a month that serves seniors first, and gives each right that is short its reach as its set.
+    /// The supply is indexed by node, the want by right, both in units of 1,000 cubic metres. Without rights the plan
+    /// is the run of the river; else its water goes by rivers where it need not go through a canal. Each search that
+    /// finds a walk, and each push along the tree, ticks `searches` once. It refuses nothing and takes no memory.
+    pub fn solve_month<L: Ledger>(
+        &mut self,
+        month: Month,
+        supply: &[u64],
+        want: &[u64],
+        plan: &mut Plan,
+        cuts: &mut CutList,
+        searches: &mut Steps<L>,
+    )
+        requires month { IsMonth month }
+        requires given { IsGiven self.old month supply.now want.now plan.old cuts.old }
+        ensures same { self.new ≡ self.old }
+        ensures plan { FitsPlan self.old plan.new }
+        ensures cuts { FitsCuts self.old cuts.new }
+        ensures solved { IsSolved self.old month supply.now want.now plan.new cuts.new }
+        ensures pushes { searches.new ≤ searches.old + month_pushes self.old }
+    {
+        self.find_plan(month, supply, want, plan, cuts, searches);
+        if self.basin.rights.len() > 0 {
+            self.rounds.prefer_rivers(want, plan);
         }
     }
 }

@@ -6,4 +6,5 @@ invariant_of-result c = record {
   is_layout = c.in_ok-layout.ensures;
   fits_room = c.in_ok-room.ensures;
   places = c.open_places-places.ensures.places;
+  rounds = c.in_ok-rounds.ensures;
 }

@@ -1,0 +1,116 @@
+-- A plan whose water was sent down rivers.
+use Rattle.std.proofs.Common.{ℕ, ◌≡◌, ◌^◌, ◌<◌, ◌≤◌, Bool, true, false, List, length, slice_index, ap, arith, ◌∙◌}
+use Rattle.std.proofs.Common.{inl, inr, subst, sym, refl}
+use Rattle.std.specs.Prelude.{Option, Some, None, unwrap_or, option_map}
+use Rattle.water_model.specs.Basin.{instream_link, is_river}
+use Rattle.water_model.specs.Network.{is_river_kind}
+use Rattle.water_model.specs.Plans.{IsPlan, IsGreatest, DeliversSame, carry_of, carry_of_kind, delivery}
+use Rattle.water_model.specs.Plans.{delivery_by_link}
+use Rattle.water_text.specs.declared.month.Month.{Month}
+use Rattle.water_model.specs.declared.types.Basin.{Basin}
+use Rattle.water_model.specs.declared.types.Carry.{Carry}
+use Rattle.water_model.specs.declared.types.Carry.TheVariants.{River, Canal}
+use Rattle.water_model.specs.declared.types.Plan.{Plan}
+use Rattle.water_model.specs.Basin.{link_of_kind}
+use Rattle.water_model.specs.Valid.{IsValidBasin, HasValidSite}
+use Rattle.water_model.specs.declared.types.RightKind.{RightKind}
+use Rattle.water_model.specs.declared.types.RightKind.TheVariants.{Diversion, Instream, Zone}
+use Rattle.water_model.proofs.Valid.{entry_at, kind_is}
+use Rattle.rivers_first.specs.Sent.{IsSent, KeepsInstream}
+
+-- what a river carries
+river_carry : (b : Basin) (month : Month) (e : ℕ) → e < length b.links → is_river b e ≡ true →
+    carry_of b month e ≡ 10 ^ 15
+river_carry b month e l river =
+    let entry = entry_at b.links e l in
+    let kind : is_river b e ≡ is_river_kind entry.0.carry =
+    ap (λ o. unwrap_or (option_map (λ x. is_river_kind x.carry) o) false) entry.1 in
+    let carry : carry_of b month e ≡ carry_of_kind entry.0.carry month =
+    ap (λ o. unwrap_or (option_map (λ x. carry_of_kind x.carry month) o) 0) entry.1 in
+    carry ∙ by_kind entry.0.carry (sym kind ∙ river)
+  where
+    by_kind : (c : Carry) → is_river_kind c ≡ true → carry_of_kind c month ≡ 10 ^ 15
+    by_kind River h = refl
+    by_kind (Canal per_day shut) h = let never : false ≡ true = h in cc
+
+abbrev pub with_flow : Plan → List ℕ → Plan
+with_flow p flow = record p { flow = flow }
+
+-- it is a plan
+pub sent_plan : (b : Basin) (month : Month) (supply want kept flow : List ℕ) (p : Plan) →
+    IsPlan b month supply want p → IsSent b kept p.flow flow → IsPlan b month supply want (with_flow p flow)
+sent_plan b month supply want kept flow p plan sent = record {
+  flow_len = sent.within.count;
+  take_len = plan.take_len;
+  out_len = plan.out_len;
+  carries = λ e l. carries e l (is_river b e) refl;
+  wants = plan.wants;
+  instream = plan.instream;
+  outlets = plan.outlets;
+  balance = λ n l. omega (arith, plan.balance n l, sent.nodes n);
+}
+  where
+    carries : (e : ℕ) → e < length b.links → (t : Bool) → is_river b e ≡ t → slice_index flow e ≤ carry_of b month e
+    carries e l true river = omega (arith, sent.within.high e l, river_carry b month e l river)
+    carries e l false canal = omega (arith, sent.canals e l canal, plan.carries e l)
+
+-- it delivers no less
+pub sent_delivers : (b : Basin) (want kept flow : List ℕ) (p : Plan) (count r : ℕ) →
+    KeepsInstream b want p.flow count kept → IsSent b kept p.flow flow → r < count →
+    ((e : ℕ) → instream_link b r ≡ Some e → e < length b.links) →
+    delivery b want p r ≤ delivery b want (with_flow p flow) r
+sent_delivers b want kept flow p count r keeps sent l within = by_link (instream_link b r) refl
+  where
+    by_link : (o : Option ℕ) → instream_link b r ≡ o →
+        delivery_by_link o (slice_index want r) p r ≤ delivery_by_link o (slice_index want r) (with_flow p flow) r
+    by_link None h = omega arith
+    by_link (Some e) h =
+        let kept_there = keeps.each r e l h in
+        let low = sent.within.low e (within e h) in
+        omega arith
+
+-- as much as the greatest plan, and so as much
+pub no_less_same : (b : Basin) (month : Month) (supply want : List ℕ) (p q : Plan) →
+    IsGreatest b month supply want p → IsPlan b month supply want q →
+    ((r : ℕ) → r < length b.rights → delivery b want p r ≤ delivery b want q r) → DeliversSame b want p q
+no_less_same b month supply want p q best plan less = elim (best.greatest q plan) [
+  | inl same ↦ same
+  | inr more ↦ let most = more.more in let least = less more.right more.in_range in absurd (omega arith)
+]
+
+-- and so it is greatest too
+pub same_greatest : (b : Basin) (month : Month) (supply want : List ℕ) (p q : Plan) →
+    IsGreatest b month supply want p → IsPlan b month supply want q → DeliversSame b want p q →
+    IsGreatest b month supply want q
+same_greatest b month supply want p q best plan same = record {
+  plan = plan;
+  greatest = λ x is. elim (best.greatest x is) [
+    | inl h ↦ inl (λ r l. sym (same r l) ∙ h r l)
+    | inr h ↦ inr record {
+        right = h.right;
+        in_range = h.in_range;
+        more = subst (λ (n : ℕ). delivery b want x h.right < n) (same h.right h.in_range) h.more;
+        same_to_seniors = λ s l senior. sym (same s l) ∙ h.same_to_seniors s l senior;
+      }
+  ];
+}
+
+-- an instream right's link is a link of the basin
+link_in : (b : Basin) (r e : ℕ) → IsValidBasin b → r < length b.rights → instream_link b r ≡ Some e → e < length b.links
+link_in b r e valid l h = let its = kind_is b valid r l in by_kind its.kind its.site (sym its.link ∙ h)
+  where
+    by_kind : (k : RightKind) → HasValidSite b k → link_of_kind k ≡ Some e → e < length b.links
+    by_kind (Diversion node) site h = let never : None ≡ Some e = h in cc
+    by_kind (Instream link) site h = let same : Some link ≡ Some e = h in let e_is : link ≡ e = cc in omega arith
+    by_kind (Zone reservoir level) site h = let never : None ≡ Some e = h in cc
+
+-- what was sent down rivers leaves all deliveries, and the plan stays greatest
+pub preferred : (b : Basin) (month : Month) (supply want kept flow : List ℕ) (p : Plan) → IsValidBasin b →
+    IsGreatest b month supply want p → KeepsInstream b want p.flow (length b.rights) kept →
+    IsSent b kept p.flow flow →
+    DeliversSame b want p (with_flow p flow) × IsGreatest b month supply want (with_flow p flow)
+preferred b month supply want kept flow p valid best keeps sent =
+    let plan = sent_plan b month supply want kept flow p best.plan sent in
+    let same = no_less_same b month supply want p (with_flow p flow) best plan
+    (λ r l. sent_delivers b want kept flow p (length b.rights) r keeps sent l (λ e. link_in b r e valid l)) in
+    (same, same_greatest b month supply want p (with_flow p flow) best plan same)

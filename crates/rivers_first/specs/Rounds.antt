@@ -1,0 +1,53 @@
+-- Rounds: closed walks of the residual network that take water off a canal, and give it to rivers.
+use Rattle.std.specs.Prelude.{◌≡◌, ◌≢◌, ℕ, ◌+◌, ◌<◌, ◌^◌, true, false, All, List, length, slice_index}
+use Rattle.water_model.specs.Basin.{tail_of, head_of, is_river}
+use Rattle.water_model.specs.declared.types.Basin.{Basin}
+use Rattle.circulation.specs.Network.{Network}
+use Rattle.circulation.specs.Residual.{arc_of, is_backward, start_of, end_of}
+
+-- the links of a basin, each of which keeps at least an amount, and carries no more than a river. It says nothing of
+-- what comes to nodes
+abbrev pub links_above : Basin → (ℕ → ℕ) → Network
+links_above b kept = record {
+  nodes = 0;
+  arcs = length b.links;
+  from = λ e. tail_of b e;
+  to = λ e. head_of b e;
+  supply = λ v. 0;
+  lower = kept;
+  upper = λ e. 10 ^ 15;
+}
+
+-- the first step goes back over a canal
+pub record BeginsOnCanal (b : Basin) (round : List ℕ) : Type 0 where
+  pub some : 0 < length round
+  pub back : is_backward (slice_index round 0) ≡ true
+  pub canal : is_river b (arc_of (slice_index round 0)) ≡ false
+
+-- the step goes over a link that none before it goes over, and that is a river unless the step is the first; and the
+-- next one begins where it ends, after the last step the first one
+pub record GoesOn (b : Basin) (round : List ℕ) (at : ℕ) : Type 0 where
+  pub link : arc_of (slice_index round at) < length b.links
+  pub river : 0 < at → is_river b (arc_of (slice_index round at)) ≡ true
+  pub joined : at + 1 < length round →
+      end_of (links_above b (λ e. 0)) (slice_index round at)
+      ≡ start_of (links_above b (λ e. 0)) (slice_index round (at + 1))
+  pub closed : at + 1 ≡ length round →
+      end_of (links_above b (λ e. 0)) (slice_index round at)
+      ≡ start_of (links_above b (λ e. 0)) (slice_index round 0)
+  pub once : (i : ℕ) → i < at → arc_of (slice_index round i) ≢ arc_of (slice_index round at)
+
+-- back over a canal, and then over rivers, down or up, from where the canal begins to where it ends
+pub record IsRound (b : Basin) (round : List ℕ) : Type 0 where
+  pub canal : BeginsOnCanal b round
+  pub steps : (at : ℕ) → at < length round → GoesOn b round at
+
+-- what contracts see of a basin's rounds: with them, room for an amount of each link
+pub record RoundsView : Type 0 where
+  pub basin : Basin
+  pub rounds : List (List ℕ)
+  pub kept : List ℕ
+
+pub record AreRounds (v : RoundsView) : Type 0 where
+  pub each : All (IsRound v.basin) v.rounds
+  pub room : length v.kept ≡ length v.basin.links
