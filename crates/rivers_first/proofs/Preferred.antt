@@ -87,11 +87,11 @@ same_greatest b month supply want p q best plan same = record {
   greatest = λ x is. elim (best.greatest x is) [
     | inl h ↦ inl (λ r l. sym (same r l) ∙ h r l)
     | inr h ↦ inr record {
-        right = h.right;
-        in_range = h.in_range;
-        more = subst (λ (n : ℕ). delivery b want x h.right < n) (same h.right h.in_range) h.more;
-        same_to_seniors = λ s l senior. sym (same s l) ∙ h.same_to_seniors s l senior;
-      }
+      right = h.right;
+      in_range = h.in_range;
+      more = subst (λ (n : ℕ). delivery b want x h.right < n) (same h.right h.in_range) h.more;
+      same_to_seniors = λ s l senior. sym (same s l) ∙ h.same_to_seniors s l senior;
+    }
   ];
 }
 

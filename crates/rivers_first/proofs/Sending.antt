@@ -112,9 +112,9 @@ sending_end b kept old new round at amount end now = record {
   nodes = λ v.
       let first = start_of (net b kept) (slice_index round 0) in
       let moved : outflow (net b kept) (slice_index new) v + inflow (net b kept) (slice_index old) v
-          + when (first == v) amount
-          ≡ outflow (net b kept) (slice_index old) v + inflow (net b kept) (slice_index new) v
-          + when (first == v) amount =
+      + when (first == v) amount
+      ≡ outflow (net b kept) (slice_index old) v + inflow (net b kept) (slice_index new) v
+      + when (first == v) amount =
       now.pushing.moved first (λ c. absurd (omega arith)) (λ c. refl) v in
       omega arith;
 }

@@ -118,6 +118,9 @@ impl<'b> Rounds<'b> {
         let mut least = RIVER_CARRY;
         for at in 0..round.len() {
             least = least.min(self.room(round[at], flow));
+            if least == 0 {
+                return 0;
+            }
         }
         least
     }

@@ -68,6 +68,17 @@ impl Search {
         self.onward.get(node as usize).copied().flatten()
     }
 
+    /// Forgets what was noted of the nodes that were found.
+    fn forget(&mut self) {
+        for node in &self.queue {
+            let at = *node as usize;
+            if at < self.onward.len() {
+                self.onward[at] = None;
+            }
+        }
+        self.queue.clear();
+    }
+
     /// Notes by which step water goes on from a node, unless there is one already.
     fn note(&mut self, node: u32, step: u32) -> Result<(), AllocError> {
         let at = node as usize;
@@ -120,8 +131,7 @@ impl Search {
     fn look(&mut self, basin: &Basin, back: u32, either: bool) -> Result<(), AllocError>
         requires { arc_of back < length basin.now.links }
     {
-        self.onward.as_mut_slice().fill(None);
-        self.queue.clear();
+        self.forget();
         self.note(start_of(basin, back), back)?;
         let mut done = 0;
         for _ in 0..LONGEST {
