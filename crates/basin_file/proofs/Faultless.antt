@@ -19,7 +19,6 @@ use Rattle.rights_roll.specs.RollFaults.{roll_fault, IsRollRefusal, same_from, h
 use Rattle.rights_roll.specs.declared.RollRefused.{RollRefused}
 use Rattle.rights_roll.specs.declared.RollRefused.TheVariants as roll
 use Rattle.reservoirs.specs.AreaFaults.{fault_after, table_fault}
-use Rattle.reservoirs.specs.declared.TableRefused.TheVariants as area
 use Rattle.reservoirs.proofs.Tables.{is_table}
 use Rattle.basin_tree.specs.Order.{tree_fault}
 use Rattle.basin_tree.specs.declared.walk.Finding.{Finding}

@@ -4,6 +4,7 @@ pub mod Ranges
 pub mod Passed
 pub mod OwnNames
 pub mod Counts
+pub mod EntriesValid
 pub mod Whole
 pub mod Faultless
 pub mod ReadBack
