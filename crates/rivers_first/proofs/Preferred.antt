@@ -11,12 +11,10 @@ use Rattle.water_model.specs.declared.types.Basin.{Basin}
 use Rattle.water_model.specs.declared.types.Carry.{Carry}
 use Rattle.water_model.specs.declared.types.Carry.TheVariants.{River, Canal}
 use Rattle.water_model.specs.declared.types.Plan.{Plan}
-use Rattle.water_model.specs.Basin.{link_of_kind}
-use Rattle.water_model.specs.Valid.{IsValidBasin, HasValidSite}
-use Rattle.water_model.specs.declared.types.RightKind.{RightKind}
-use Rattle.water_model.specs.declared.types.RightKind.TheVariants.{Diversion, Instream, Zone}
-use Rattle.water_model.proofs.Valid.{entry_at, kind_is}
+use Rattle.water_model.specs.Valid.{IsValidBasin}
+use Rattle.water_model.proofs.Valid.{entry_at}
 use Rattle.rivers_first.specs.Sent.{IsSent, KeepsInstream}
+use Rattle.rivers_first.proofs.Kept.{keeps_right, link_in}
 
 -- what a river carries
 river_carry : (b : Basin) (month : Month) (e : ℕ) → e < length b.links → is_river b e ≡ true →
@@ -65,7 +63,7 @@ sent_delivers b want kept flow p count r keeps sent l within = by_link (instream
         delivery_by_link o (slice_index want r) p r ≤ delivery_by_link o (slice_index want r) (with_flow p flow) r
     by_link None h = omega arith
     by_link (Some e) h =
-        let kept_there = keeps.each r e l h in
+        let kept_there = keeps_right b want p.flow kept count r e keeps l (within e h) h in
         let low = sent.within.low e (within e h) in
         omega arith
 
@@ -94,15 +92,6 @@ same_greatest b month supply want p q best plan same = record {
     }
   ];
 }
-
--- an instream right's link is a link of the basin
-link_in : (b : Basin) (r e : ℕ) → IsValidBasin b → r < length b.rights → instream_link b r ≡ Some e → e < length b.links
-link_in b r e valid l h = let its = kind_is b valid r l in by_kind its.kind its.site (sym its.link ∙ h)
-  where
-    by_kind : (k : RightKind) → HasValidSite b k → link_of_kind k ≡ Some e → e < length b.links
-    by_kind (Diversion node) site h = let never : None ≡ Some e = h in cc
-    by_kind (Instream link) site h = let same : Some link ≡ Some e = h in let e_is : link ≡ e = cc in omega arith
-    by_kind (Zone reservoir level) site h = let never : None ≡ Some e = h in cc
 
 -- what was sent down rivers leaves all deliveries, and the plan stays greatest
 pub preferred : (b : Basin) (month : Month) (supply want kept flow : List ℕ) (p : Plan) → IsValidBasin b →

@@ -1,16 +1,17 @@
 -- An amount that is sent over a round: what holds when the steps before `at` are done.
 use Rattle.std.proofs.Common.{ℕ, Bool, true, false, not, ◌≡◌, ◌≢◌, ◌+◌, ◌^◌, ◌<◌, ◌≤◌, List, length, slice_index}
-use Rattle.std.proofs.Common.{◌==◌, slice_set, refl, arith, ap, sym, subst, inl, inr, ◌∙◌}
+use Rattle.std.proofs.Common.{◌==◌, ◌⊎◌, ◌-◌, All, min, get_or, slice_set, refl, arith, ap, sym, subst, inl, inr, ◌∙◌}
+use Rattle.std.proofs.lemmas.Bool.{cases_lt}
 use Rattle.std.proofs.lemmas.Bool.Decides.{eqb_tells}
 use Rattle.std.proofs.lemmas.List.{get_or-set_same, get_or-set_other, length-set}
 use Rattle.finite_sums.specs.Sums.{when}
 use Rattle.water_model.specs.Basin.{is_river}
 use Rattle.water_model.specs.declared.types.Basin.{Basin}
 use Rattle.circulation.specs.Network.{Network, IsFlow, inflow, outflow}
-use Rattle.circulation.specs.Residual.{arc_of, is_backward, start_of, room_of, IsClosedWalk}
+use Rattle.circulation.specs.Residual.{arc_of, is_backward, by_direction, start_of, room_of, IsClosedWalk}
 use Rattle.circulation.proofs.Pushing.{IsPushing, pushing_start, pushing_next, change_fits}
-use Rattle.rivers_first.specs.Rounds.{links_above, IsRound}
-use Rattle.rivers_first.specs.Sent.{IsWithin, IsSent}
+use Rattle.rivers_first.specs.Rounds.{links_above, IsRound, IsDown}
+use Rattle.rivers_first.specs.Sent.{IsWithin, IsSent, HasFullRiver, IsRoomOfOne, IsRelieved, IsRelievedIfDown}
 
 -- the links of the basin with what is kept on them
 abbrev pub net : Basin → List ℕ → Network
@@ -130,3 +131,111 @@ sent_then b kept x y z h k = record {
   canals = λ e l c. omega (arith, h.canals e l c, k.canals e l c);
   nodes = λ v. omega (arith, h.nodes v, k.nodes v);
 }
+
+-- the least of the rooms of the first steps
+pub one_next : (b : Basin) (kept flow round : List ℕ) (at least room less : ℕ) →
+    IsRoomOfOne b kept flow round at least →
+    room ≡ room_of (net b kept) (slice_index flow) (slice_index round at) → less ≡ min least room →
+    IsRoomOfOne b kept flow round (at + 1) less
+one_next b kept flow round at least room less one is_room is_least = elim (cases_lt room least) [
+  | inl below ↦ inr (at, (omega arith, (let same : less ≡ room = omega arith in same ∙ is_room)))
+  | inr above ↦ let same : less ≡ least = omega arith in elim one [
+    | inl e ↦ inl (same ∙ e)
+    | inr (i, of) ↦ let l = of.0 in inr (i, (omega arith, same ∙ of.1))
+  ]
+]
+
+-- of fewer steps, of more
+pub one_of_more : (b : Basin) (kept flow round : List ℕ) (count more amount : ℕ) → count ≤ more →
+    IsRoomOfOne b kept flow round count amount → IsRoomOfOne b kept flow round more amount
+one_of_more b kept flow round count more amount le one = elim one [
+  | inl e ↦ inl e
+  | inr (i, of) ↦ let l = of.0 in inr (i, (omega arith, of.1))
+]
+
+-- each step of the round changed its link by the amount
+abbrev pub IsChanged : (old new round : List ℕ) → ℕ → Type 0
+IsChanged old new round amount = (i : ℕ) → i < length round →
+    slice_index new (arc_of (slice_index round i)) + when (is_backward (slice_index round i)) amount
+    ≡ slice_index old (arc_of (slice_index round i)) + when (not (is_backward (slice_index round i))) amount
+
+pub not_changed : (old round : List ℕ) → IsChanged old old round 0
+not_changed old round i l = none (is_backward (slice_index round i)) (slice_index old (arc_of (slice_index round i)))
+  where
+    none : (t : Bool) (x : ℕ) → x + when t 0 ≡ x + when (not t) 0
+    none true x = refl
+    none false x = refl
+
+-- Where as much was sent as the least room of a round that goes down rivers alone, its canal has no more than what is
+-- kept on it, or a river is full.
+pub relieved : (b : Basin) (kept old new round : List ℕ) (amount : ℕ) → IsRound b round → IsWithin b kept old →
+    IsDown round → HasRoom b kept old round amount → IsRoomOfOne b kept old round (length round) amount →
+    IsChanged old new round amount → IsRelieved kept new round ⊎ HasFullRiver b new
+relieved b kept old new round amount is within down room one changed =
+    let canal = arc_of (slice_index round 0) in
+    let some : 0 < length round = is.canal.some in
+    let inside : canal < length b.links = (is.steps 0 some).link in
+    let falls : slice_index new canal + amount ≡ slice_index old canal + 0 =
+    subst (λ (t : Bool). slice_index new canal + when t amount ≡ slice_index old canal + when (not t) amount)
+    is.canal.back (changed 0 some) in
+    let least : amount ≤ slice_index old canal - slice_index kept canal =
+    subst (λ (t : Bool). amount ≤ by_direction t (10 ^ 15 - slice_index old canal)
+    (slice_index old canal - slice_index kept canal)) is.canal.back (room 0 some) in
+    let low = within.low canal inside in
+    let high = within.high canal inside in
+    elim one [
+      | inl e ↦ inl (omega arith)
+      | inr (i, of) ↦ let l = of.0 in let e = of.1 in elim (eqb_tells i 0) [
+        | inl z ↦
+            let its : amount ≡ slice_index old canal - slice_index kept canal =
+            subst (λ (t : Bool). amount ≡ by_direction t (10 ^ 15 - slice_index old canal)
+            (slice_index old canal - slice_index kept canal)) is.canal.back
+            (subst (λ (n : ℕ). amount ≡ room_of (net b kept) (slice_index old) (slice_index round n)) z.1 e) in
+            inl (omega arith)
+        | inr z ↦
+            let river = arc_of (slice_index round i) in
+            let forward : is_backward (slice_index round i) ≡ false = down.forward i (omega arith) l in
+            let its : amount ≡ 10 ^ 15 - slice_index old river =
+            subst (λ (t : Bool). amount ≡ by_direction t (10 ^ 15 - slice_index old river)
+            (slice_index old river - slice_index kept river)) forward e in
+            let rises : slice_index new river + 0 ≡ slice_index old river + amount =
+            subst (λ (t : Bool). slice_index new river + when t amount ≡ slice_index old river + when (not t) amount)
+            forward (changed i l) in
+            let there = (is.steps i l).link in
+            let most = within.high river there in
+            inr record { link = river; in_range = there; full = omega arith }
+      ]
+    ]
+
+-- what was relieved stays so, and one round more is
+pub relieved_next : (b : Basin) (kept old now new : List ℕ) (rounds : List (List ℕ)) (at : ℕ) (d : List ℕ) →
+    All (IsRound b) rounds → at < length rounds → IsSent b kept old now → IsSent b kept now new →
+    (IsDown (get_or rounds at d) → IsRelieved kept new (get_or rounds at d) ⊎ HasFullRiver b new) →
+    ((k : ℕ) → k < at → IsRelievedIfDown b kept old now (get_or rounds k d)) →
+    (k : ℕ) → k < at + 1 → IsRelievedIfDown b kept old new (get_or rounds k d)
+relieved_next b kept old now new rounds at d are within before sent one others k l down = elim (eqb_tells k at) [
+  | inl e ↦ elim (one (subst (λ (n : ℕ). IsDown (get_or rounds n d)) e.1 down)) [
+    | inl h ↦ inl (subst (λ (n : ℕ). IsRelieved kept new (get_or rounds n d)) (sym e.1) h)
+    | inr full ↦ inr record { flow = new; sent = sent_then b kept old now new before sent; full = full }
+  ]
+  | inr e ↦ elim (others k (omega arith) down) [
+    | inl h ↦
+        let is : IsRound b (get_or rounds k d) = are k d (omega arith) in
+        let less = sent.canals (arc_of (slice_index (get_or rounds k d) 0)) (is.steps 0 is.canal.some).link
+        is.canal.canal in
+        inl (omega arith)
+    | inr fill ↦ inr fill
+  ]
+]
+
+-- two times over
+pub relieved_then : (b : Basin) (kept old now new : List ℕ) (rounds : List (List ℕ)) → IsSent b kept old now →
+    All (IsRelievedIfDown b kept now new) rounds → All (IsRelievedIfDown b kept old new) rounds
+relieved_then b kept old now new rounds before are k d l down = elim (are k d l down) [
+  | inl h ↦ inl h
+  | inr fill ↦ inr record {
+    flow = fill.flow;
+    sent = sent_then b kept old now fill.flow before fill.sent;
+    full = fill.full;
+  }
+]

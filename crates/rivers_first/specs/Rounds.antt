@@ -42,6 +42,10 @@ pub record IsRound (b : Basin) (round : List ℕ) : Type 0 where
   pub canal : BeginsOnCanal b round
   pub steps : (at : ℕ) → at < length round → GoesOn b round at
 
+-- after the canal it goes down rivers alone
+pub record IsDown (round : List ℕ) : Type 0 where
+  pub forward : (at : ℕ) → 0 < at → at < length round → is_backward (slice_index round at) ≡ false
+
 -- what contracts see of a basin's rounds: with them, room for an amount of each link
 pub record RoundsView : Type 0 where
   pub basin : Basin

@@ -1,13 +1,14 @@
 //! The rounds of a basin, and what is sent round.
-ghost use Rattle.std.specs.Prelude.{◌≡◌, ℕ, ◌+◌, ◌*◌, ◌^◌, ◌<◌, ◌≤◌, true, false, not, List, length, slice_index, IfOk};
+ghost use Rattle.std.specs.Prelude.{◌≡◌, ℕ, ◌+◌, ◌*◌, ◌^◌, ◌<◌, ◌≤◌, true, false, not, All, List, length, slice_index, IfOk, ◌⊎◌};
 ghost use Rattle.water_text.specs.declared.month.Month.{Month};
 ghost use Rattle.water_model.specs.Basin.{is_river};
 ghost use Rattle.water_model.specs.Plans.{IsGreatest, DeliversSame};
 ghost use Rattle.water_model.specs.Valid.{IsValidBasin};
 ghost use Rattle.finite_sums.specs.Sums.{when};
-ghost use Rattle.circulation.specs.Residual.{arc_of, is_backward, room_of};
-ghost use Rattle.rivers_first.specs.Rounds.{links_above, IsRound};
-ghost use Rattle.rivers_first.specs.Sent.{IsWithin, IsSent, KeepsInstream};
+ghost use Rattle.circulation.specs.Residual.{arc_of, is_backward, room_of, IsPushed};
+ghost use Rattle.rivers_first.specs.Rounds.{links_above, IsRound, IsDown};
+ghost use Rattle.rivers_first.specs.Sent.{IsWithin, IsSent, KeepsInstream, HasFullRiver, IsRelieved, IsRelievedIfDown};
+ghost use Rattle.rivers_first.specs.Sent.{IsRoomOfOne};
 
 use crate::search::Search;
 use std::alloc::{AllocError, Global};
@@ -112,8 +113,9 @@ impl<'b> Rounds<'b> {
     fn least_room(&self, round: &[u32], flow: &[u64]) -> u64
         requires round { IsRound self.now.basin round.now }
         requires within { IsWithin self.now.basin self.now.kept flow.now }
-        ensures { let net = links_above self.now.basin (slice_index self.now.kept) in
+        ensures least { let net = links_above self.now.basin (slice_index self.now.kept) in
             (i : ℕ) → i < length round.now → result ≤ room_of net (slice_index flow.now) (slice_index round.now i) }
+        ensures one { IsRoomOfOne self.now.basin self.now.kept flow.now round.now (length round.now) result }
     {
         let mut least = RIVER_CARRY;
         for at in 0..round.len() {
@@ -132,7 +134,9 @@ impl<'b> Rounds<'b> {
         requires amount { 0 < amount }
         requires room { let net = links_above self.now.basin (slice_index self.now.kept) in
             (i : ℕ) → i < length round.now → amount ≤ room_of net (slice_index flow.old) (slice_index round.now i) }
-        ensures { IsSent self.now.basin self.now.kept flow.old flow.new }
+        ensures sent { IsSent self.now.basin self.now.kept flow.old flow.new }
+        ensures pushed { IsPushed (slice_index flow.old) (slice_index flow.new) (slice_index round.now)
+            0 (length round.now) amount }
     {
         for at in 0..round.len() {
             let step = round[at];
@@ -145,7 +149,9 @@ impl<'b> Rounds<'b> {
     fn send(&self, round: &[u32], flow: &mut [u64])
         requires round { IsRound self.now.basin round.now }
         requires within { IsWithin self.now.basin self.now.kept flow.old }
-        ensures { IsSent self.now.basin self.now.kept flow.old flow.new }
+        ensures sent { IsSent self.now.basin self.now.kept flow.old flow.new }
+        ensures relieved { IsDown round.now →
+            IsRelieved self.now.kept flow.new round.now ⊎ HasFullRiver self.now.basin flow.new }
     {
         let amount = self.least_room(round, flow);
         if amount > 0 {
@@ -156,7 +162,8 @@ impl<'b> Rounds<'b> {
     /// Sends as much as can go over one round after the other.
     fn send_all(&self, flow: &mut [u64])
         requires within { IsWithin self.now.basin self.now.kept flow.old }
-        ensures { IsSent self.now.basin self.now.kept flow.old flow.new }
+        ensures sent { IsSent self.now.basin self.now.kept flow.old flow.new }
+        ensures relieved { All (IsRelievedIfDown self.now.basin self.now.kept flow.old flow.new) self.now.rounds }
     {
         for at in 0..self.rounds.len() {
             self.send(self.rounds[at].as_slice(), flow);
@@ -170,8 +177,10 @@ impl<'b> Rounds<'b> {
         requires flows { length flow.old ≡ length self.old.basin.links }
         requires small { (e : ℕ) → e < length self.old.basin.links → slice_index flow.old e ≤ 10 ^ 15 }
         ensures basin { self.new.basin ≡ self.old.basin }
+        ensures rounds { self.new.rounds ≡ self.old.rounds }
         ensures kept { KeepsInstream self.old.basin want.now flow.old (length self.old.basin.rights) self.new.kept }
         ensures sent { IsSent self.old.basin self.new.kept flow.old flow.new }
+        ensures relieved { All (IsRelievedIfDown self.old.basin self.new.kept flow.old flow.new) self.old.rounds }
     {
         note_kept(self.basin, want, flow, self.kept.as_mut_slice());
         self.send_all(flow);
@@ -187,6 +196,11 @@ impl<'b> Rounds<'b> {
         requires flows { length plan.old.flow ≡ length self.old.basin.links }
         requires small { (e : ℕ) → e < length self.old.basin.links → slice_index plan.old.flow e ≤ 10 ^ 15 }
         ensures same { self.new.basin ≡ self.old.basin }
+        ensures rounds { self.new.rounds ≡ self.old.rounds }
+        ensures kept { KeepsInstream self.old.basin want.now plan.old.flow (length self.old.basin.rights)
+            self.new.kept }
+        ensures down { All (IsRelievedIfDown self.old.basin self.new.kept plan.old.flow plan.new.flow)
+            self.old.rounds }
         ensures rest { plan.new ≡ record plan.old { flow = plan.new.flow } }
         ensures count { length plan.new.flow ≡ length plan.old.flow }
         ensures canals { (e : ℕ) → e < length self.old.basin.links → is_river self.old.basin e ≡ false →
