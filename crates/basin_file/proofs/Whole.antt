@@ -41,7 +41,8 @@ use Rattle.basin_file.proofs.Passed.{AreClean, IsClean, IsListed, entry_of, fits
 use Rattle.basin_file.proofs.OwnNames.{refers_there, texts_in-rows}
 use Rattle.basin_file.proofs.OwnNames.{number_is, own_names, own_texts, rights_own, same_text, table_own}
 use Rattle.basin_file.proofs.Lists.{Each, each_all, each_append, each_by, each_map}
-use Rattle.basin_file.proofs.EntriesValid.{name_of_row, length_texts, clean_at, bounded_nodes, bounded_links, bounded_diversions}
+use Rattle.basin_file.proofs.EntriesValid.{name_of_row, length_texts, clean_at}
+use Rattle.basin_file.proofs.EntriesValid.{bounded_nodes, bounded_links, bounded_diversions}
 use Rattle.basin_file.proofs.EntriesValid.{bounded_rights, some_node, bounded_node_texts, node_valid, link_valid}
 use Rattle.basin_file.proofs.EntriesValid.{reservoir_sound, diversion_valid, instream_valid, zone_valid, return_valid}
 

@@ -26,7 +26,8 @@ pub link_is : (b : Basin) (r : ℕ) (x : Right) → slice_get b.rights r ≡ Som
 link_is b r x h = ap (λ o. unwrap_or (option_map (λ y. link_of_kind y.kind) o) None) h
 
 -- an instream right's link is a link of the basin
-pub link_in : (b : Basin) (r e : ℕ) → IsValidBasin b → r < length b.rights → instream_link b r ≡ Some e → e < length b.links
+pub link_in : (b : Basin) (r e : ℕ) → IsValidBasin b → r < length b.rights → instream_link b r ≡ Some e →
+    e < length b.links
 link_in b r e valid l h = let its = kind_is b valid r l in by_kind its.kind its.site (sym its.link ∙ h)
   where
     by_kind : (k : RightKind) → HasValidSite b k → link_of_kind k ≡ Some e → e < length b.links

@@ -24,7 +24,8 @@ HasRoom b kept flow round amount = (i : ℕ) → i < length round →
 
 pub record IsSending (b : Basin) (kept old new round : List ℕ) (at amount : ℕ) : Type 0 where
   pub size : length new ≡ length b.links
-  pub pushing : IsPushing (net b kept) (slice_index old) (slice_index new) (slice_index round) 0 (length round) at amount
+  pub pushing : IsPushing (net b kept) (slice_index old) (slice_index new) (slice_index round) 0 (length round) at
+      amount
   pub canals : (e : ℕ) → e < length b.links → is_river b e ≡ false → slice_index new e ≤ slice_index old e
 
 pub within_flow : (b : Basin) (kept flow : List ℕ) → IsWithin b kept flow → IsFlow (net b kept) (slice_index flow)
@@ -58,7 +59,8 @@ pub sending_fits : (b : Basin) (kept old new round : List ℕ) (at amount : ℕ)
     (is_backward (slice_index round at) ≡ true → amount ≤ slice_index new (arc_of (slice_index round at))) ×
     (is_backward (slice_index round at) ≡ false → slice_index new (arc_of (slice_index round at)) + amount < 2 ^ 64)
 sending_fits b kept old new round at amount is within some room now l =
-    let fits = change_fits (net b kept) (slice_index old) (slice_index new) (slice_index round) 0 (length round) at amount
+    let fits = change_fits (net b kept) (slice_index old) (slice_index new) (slice_index round) 0 (length round) at
+    amount
     (within_flow b kept old within) (round_closed b kept old round amount is some room) now.pushing (omega arith) l in
     (fits.0, λ e. omega (arith, fits.1 e))
 

@@ -1,5 +1,6 @@
 //! The rounds of a basin, and what is sent round.
-ghost use Rattle.std.specs.Prelude.{◌≡◌, ℕ, ◌+◌, ◌*◌, ◌^◌, ◌<◌, ◌≤◌, true, false, not, All, List, length, slice_index, IfOk, ◌⊎◌};
+ghost use Rattle.std.specs.Prelude.{◌≡◌, ◌⊎◌, ℕ, ◌+◌, ◌*◌, ◌^◌, ◌<◌, ◌≤◌, true, false, not, All, List, length};
+ghost use Rattle.std.specs.Prelude.{slice_index, IfOk};
 ghost use Rattle.water_text.specs.declared.month.Month.{Month};
 ghost use Rattle.water_model.specs.Basin.{is_river};
 ghost use Rattle.water_model.specs.Plans.{IsGreatest, DeliversSame};
@@ -99,7 +100,8 @@ impl<'b> Rounds<'b> {
     fn room(&self, step: u32, flow: &[u64]) -> u64
         requires step { arc_of step < length self.now.basin.links }
         requires within { IsWithin self.now.basin self.now.kept flow.now }
-        ensures { result ≡ room_of (links_above self.now.basin (slice_index self.now.kept)) (slice_index flow.now) step }
+        ensures { let net = links_above self.now.basin (slice_index self.now.kept) in
+            result ≡ room_of net (slice_index flow.now) step }
     {
         let link = (step / 2) as usize;
         if step % 2 == 1 {
@@ -189,7 +191,8 @@ impl<'b> Rounds<'b> {
 
     /// Changes the flows of a month's plan so that water goes by rivers where it need not go through a canal: over each
     /// round as much as can go, and once more, as one canal can make room for another. What instream rights have stays
-    /// on their links. Wants are indexed by right, in units of 1,000 cubic metres. It refuses nothing and takes no memory.
+    /// on their links. Wants are indexed by right, in units of 1,000 cubic metres. It refuses nothing and takes no
+    /// memory.
     pub fn prefer_rivers(&mut self, want: &[u64], plan: &mut Plan)
         requires valid { IsValidBasin self.old.basin }
         requires wants { length want.now ≡ length self.old.basin.rights }
@@ -205,7 +208,8 @@ impl<'b> Rounds<'b> {
         ensures count { length plan.new.flow ≡ length plan.old.flow }
         ensures canals { (e : ℕ) → e < length self.old.basin.links → is_river self.old.basin e ≡ false →
             slice_index plan.new.flow e ≤ slice_index plan.old.flow e }
-        ensures greatest { (month : Month) (supply : List ℕ) → IsGreatest self.old.basin month supply want.now plan.old →
+        ensures greatest { (month : Month) (supply : List ℕ) →
+            IsGreatest self.old.basin month supply want.now plan.old →
             IsGreatest self.old.basin month supply want.now plan.new }
         ensures deliveries { (month : Month) (supply : List ℕ) →
             IsGreatest self.old.basin month supply want.now plan.old →

@@ -14,21 +14,24 @@ pub bounds-flow-link : goal.bounds-flow-link
 bounds-flow-link c =
     let within = link_in c.args.basin.now c.loop-right.right c.in-Instream.link c.requires.valid
     (omega (arith, c.loop-right-test.true, c.len-right-end.ensures))
-    (link_is c.args.basin.now c.loop-right.right c.index.result.now c.index.ensures ∙ ap link_of_kind c.in-Instream.is) in
+    (link_is c.args.basin.now c.loop-right.right c.index.result.now c.index.ensures
+    ∙ ap link_of_kind c.in-Instream.is) in
     omega (arith, within, c.requires.flows)
 
 pub bounds-kept-link : goal.bounds-kept-link
 bounds-kept-link c =
     let within = link_in c.args.basin.now c.loop-right.right c.in-Instream.link c.requires.valid
     (omega (arith, c.loop-right-test.true, c.len-right-end.ensures))
-    (link_is c.args.basin.now c.loop-right.right c.index.result.now c.index.ensures ∙ ap link_of_kind c.in-Instream.is) in
+    (link_is c.args.basin.now c.loop-right.right c.index.result.now c.index.ensures
+    ∙ ap link_of_kind c.in-Instream.is) in
     omega (arith, within, c.loop-right.invariant.size)
 
 pub bounds-kept-link-in-Instream : goal.bounds-kept-link-in-Instream
 bounds-kept-link-in-Instream c =
     let within = link_in c.args.basin.now c.loop-right.right c.in-Instream.link c.requires.valid
     (omega (arith, c.loop-right-test.true, c.len-right-end.ensures))
-    (link_is c.args.basin.now c.loop-right.right c.index.result.now c.index.ensures ∙ ap link_of_kind c.in-Instream.is) in
+    (link_is c.args.basin.now c.loop-right.right c.index.result.now c.index.ensures
+    ∙ ap link_of_kind c.in-Instream.is) in
     omega (arith, within, c.loop-right.invariant.size)
 
 pub loop-right-preserved : goal.loop-right-preserved
