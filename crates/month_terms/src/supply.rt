@@ -9,13 +9,7 @@ use water_model::types::{Basin, Inflow, Inflows};
 
 /// What flows in at a node in the month with this index. `position` is that of its calendar month in a list of twelve:
 /// it is the same for all nodes, and so the caller finds it once.
-pub fn inflow_in_year(
-    basin: &Basin,
-    series: &Inflows,
-    node: usize,
-    index: u32,
-    position: usize,
-) -> u64
+fn inflow_in_year(basin: &Basin, series: &Inflows, node: usize, index: u32, position: usize) -> u64
     requires basin { IsValidBasin basin.now }
     requires series { IsSeriesOf basin.now series.now }
     requires node { node < length basin.now.nodes }
