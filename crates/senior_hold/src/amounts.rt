@@ -59,8 +59,9 @@ fn lay_spills(basin: &Basin, arcs: &Arcs, out: &[u64], into: &mut [u64])
         AreAmountsOf basin.now p (slice_index into.old) (length basin.now.links) (length basin.now.rights) 0 →
         AreAmounts (spilled basin.now) p (slice_index into.new) }
 {
+    let first = arcs.spill as usize;
     for node in 0..basin.nodes.len() {
-        into[arcs.spill as usize + node] = out[node];
+        into[first + node] = out[node];
     }
 }
 
@@ -132,8 +133,8 @@ pub fn read_links(circ: &CirculationMut<'_>, into: &mut [u64])
     ensures { into.new ≡ list_of (length into.old) (flow_of circ.now) }
 {
     let _arcs = circ.arcs();
-    for link in 0..into.len() {
-        into[link] = circ.flow(link as u32);
+    for link in 0..into.len() as u32 {
+        into[link as usize] = circ.flow(link);
     }
 }
 
@@ -162,8 +163,9 @@ pub fn read_spills(basin: &Basin, circ: &CirculationMut<'_>, arcs: &Arcs, into: 
     ensures { into.new ≡ spills_of basin.now (flow_of circ.now) }
 {
     let _arcs = circ.arcs();
+    let first = arcs.spill;
     for node in 0..basin.nodes.len() {
-        into[node] = circ.flow(arcs.spill + node as u32);
+        into[node] = circ.flow(first + node as u32);
     }
 }
 

@@ -19,8 +19,8 @@ overflow_add-into c = omega (
   c.requires.valid.bounded.nodes,
 )
 
-pub offset_bounds-into-arcs : goal.offset_bounds-into-arcs
-offset_bounds-into-arcs c =
+pub offset_bounds-into-first : goal.offset_bounds-into-first
+offset_bounds-into-first c =
     omega (
       arith,
       c.requires.arcs.spill,
@@ -32,8 +32,8 @@ offset_bounds-into-arcs c =
       c.requires.valid.bounded.nodes,
     )
 
-pub bounds-into-arcs : goal.bounds-into-arcs
-bounds-into-arcs c =
+pub bounds-into-first : goal.bounds-into-first
+bounds-into-first c =
     omega (
       arith,
       c.requires.arcs.spill,
