@@ -1,11 +1,27 @@
 //! What a month supplies to each node.
 ghost use Rattle.std.specs.Prelude.{ℕ, ◌≡◌, ◌+◌, ◌-◌, ◌<◌, ◌≤◌, ◌^◌, length, slice_index};
-ghost use Rattle.water_model.specs.Hydrology.{inflow_at, stored_at};
+ghost use Rattle.water_model.specs.Hydrology.{in_year, inflow_at, stored_at};
 ghost use Rattle.water_model.specs.Valid.{IsValidBasin, IsSeriesOf};
 
 use crate::add::add_at;
-use water_model::calls::inflow_of;
-use water_model::types::{Basin, Inflows};
+use water_model::calls::{inflow_of, month_at};
+use water_model::types::{Basin, Inflow, Inflows};
+
+/// What flows in at a node in the month with this index. `position` is that of its calendar month in a list of twelve:
+/// it is the same for all nodes, and so the caller finds it once.
+fn inflow_in_year(basin: &Basin, series: &Inflows, node: usize, index: u32, position: usize) -> u64
+    requires basin { IsValidBasin basin.now }
+    requires series { IsSeriesOf basin.now series.now }
+    requires node { node < length basin.now.nodes }
+    requires index { index < basin.now.months }
+    requires position { position ≡ in_year basin.now index }
+    ensures { result ≡ inflow_at basin.now series.now node index }
+{
+    match &basin.nodes[node].inflow {
+        Inflow::Monthly(amounts) => amounts[position],
+        Inflow::Gauged => inflow_of(basin, series, node as u32, index),
+    }
+}
 
 /// Writes what flows in and what comes back at each node in the month with this index.
 pub fn read_inflows(
@@ -26,8 +42,9 @@ pub fn read_inflows(
     ensures each { (n : ℕ) → n < length basin.now.nodes →
         slice_index supply.new n ≡ inflow_at basin.now series.now n index + slice_index returned.now n }
 {
+    let position = month_at(basin, index).month as usize - 1;
     for node in 0..basin.nodes.len() {
-        supply[node] = inflow_of(basin, series, node as u32, index) + returned[node];
+        supply[node] = inflow_in_year(basin, series, node, index, position) + returned[node];
     }
 }
 

@@ -21,46 +21,47 @@ use water_text::month::Month;
 /// As much as a river carries in a month, in units of 1,000 cubic metres.
 pub const RIVER_CARRY: u64 = 1_000_000_000_000_000;
 
-/// Writes the flows of a plan at the indices of links.
-fn lay_flows(basin: &Basin, plan: &Plan, into: &mut [u64])
-    requires plan { FitsPlan basin.now plan.now }
+/// Writes the flows of links at their indices.
+fn lay_flows(basin: &Basin, flow: &[u64], into: &mut [u64])
+    requires flow { length flow.now ≡ length basin.now.links }
     requires into { length basin.now.links ≤ length into.old }
-    ensures { AreAmountsOf basin.now plan.now (slice_index into.new) (length basin.now.links) 0 0 }
+    ensures { (e : ℕ) → e < length basin.now.links → slice_index into.new e ≡ slice_index flow.now e }
 {
     for link in 0..basin.links.len() {
-        into[link] = plan.flow[link];
+        into[link] = flow[link];
     }
 }
 
-/// Writes the takes of a plan at the indices of their arcs.
-fn lay_takes(basin: &Basin, arcs: &Arcs, plan: &Plan, into: &mut [u64])
+/// Writes what rights take at the indices of their arcs.
+fn lay_takes(basin: &Basin, arcs: &Arcs, take: &[u64], into: &mut [u64])
     requires valid { IsValidBasin basin.now }
     requires arcs { AreArcs basin.now arcs.now }
-    requires plan { FitsPlan basin.now plan.now }
+    requires take { length take.now ≡ length basin.now.rights }
     requires into { length basin.now.links + taker_count basin.now ≤ length into.old }
-    requires flows { AreAmountsOf basin.now plan.now (slice_index into.old) (length basin.now.links) 0 0 }
-    ensures { AreAmountsOf basin.now plan.now (slice_index into.new)
-        (length basin.now.links) (length basin.now.rights) 0 }
+    ensures { (p : Plan) → p.take ≡ take.now →
+        AreAmountsOf basin.now p (slice_index into.old) (length basin.now.links) 0 0 →
+        AreAmountsOf basin.now p (slice_index into.new) (length basin.now.links) (length basin.now.rights) 0 }
 {
     for right in 0..basin.rights.len() {
         if taking_node(basin, right as u32).is_some() {
-            into[arcs.rights[right] as usize] = plan.take[right];
+            into[arcs.rights[right] as usize] = take[right];
         }
     }
 }
 
-/// Writes the outflows of a plan at the indices of the spills.
-fn lay_spills(basin: &Basin, arcs: &Arcs, plan: &Plan, into: &mut [u64])
+/// Writes outflows, indexed by node, at the indices of the spills.
+fn lay_spills(basin: &Basin, arcs: &Arcs, out: &[u64], into: &mut [u64])
     requires valid { IsValidBasin basin.now }
     requires arcs { AreArcs basin.now arcs.now }
-    requires plan { FitsPlan basin.now plan.now }
+    requires out { length out.now ≡ length basin.now.nodes }
     requires into { length into.old ≡ arc_count (spilled basin.now) }
-    requires takes { AreAmountsOf basin.now plan.now (slice_index into.old)
-        (length basin.now.links) (length basin.now.rights) 0 }
-    ensures { AreAmounts (spilled basin.now) plan.now (slice_index into.new) }
+    ensures { (p : Plan) → p.out ≡ out.now →
+        AreAmountsOf basin.now p (slice_index into.old) (length basin.now.links) (length basin.now.rights) 0 →
+        AreAmounts (spilled basin.now) p (slice_index into.new) }
 {
+    let first = arcs.spill as usize;
     for node in 0..basin.nodes.len() {
-        into[arcs.spill as usize + node] = plan.out[node];
+        into[first + node] = out[node];
     }
 }
 
@@ -72,16 +73,16 @@ pub fn lay(basin: &Basin, arcs: &Arcs, plan: &Plan, into: &mut [u64])
     requires into { length into.old ≡ arc_count (spilled basin.now) }
     ensures { AreAmounts (spilled basin.now) plan.now (slice_index into.new) }
 {
-    lay_flows(basin, plan, into);
-    lay_takes(basin, arcs, plan, into);
-    lay_spills(basin, arcs, plan, into);
+    lay_flows(basin, plan.flow.as_slice(), into);
+    lay_takes(basin, arcs, plan.take.as_slice(), into);
+    lay_spills(basin, arcs, plan.out.as_slice(), into);
 }
 
-/// The most that each link carries in a month.
-fn write_carries(basin: &Basin, month: Month, into: &mut [u64])
+/// Writes the most that each link carries in a month at the indices of links.
+fn lay_carries(basin: &Basin, month: Month, into: &mut [u64])
     requires valid { IsValidBasin basin.now }
     requires month { IsMonth month }
-    requires into { length into.old ≡ length basin.now.links }
+    requires into { length basin.now.links ≤ length into.old }
     ensures { (e : ℕ) → e < length basin.now.links → slice_index into.new e ≡ carry_of basin.now month e }
 {
     for link in 0..basin.links.len() {
@@ -104,27 +105,26 @@ pub fn write_outlets(basin: &Basin, into: &mut [u64])
 }
 
 /// The most that each arc may have in a month: for a link its carry, for a take the want of its right, and for a spill
-/// the outflow in `most`, whose flows and takes are room that is written over.
+/// its amount of `out`, which is indexed by node.
 pub fn write_bounds(
     basin: &Basin,
     arcs: &Arcs,
     month: Month,
     want: &[u64],
-    most: &mut Plan,
+    out: &[u64],
     upper: &mut [u64],
 )
     requires valid { IsValidBasin basin.now }
     requires month { IsMonth month }
     requires arcs { AreArcs basin.now arcs.now }
     requires want { length want.now ≡ length basin.now.rights }
-    requires most { FitsPlan basin.now most.old }
+    requires out { length out.now ≡ length basin.now.nodes }
     requires upper { length upper.old ≡ arc_count (spilled basin.now) }
-    ensures most { FitsPlan basin.now most.new }
-    ensures upper { AreBounds (spilled basin.now) month want.now (slice_index most.old.out) (slice_index upper.new) }
+    ensures { AreBounds (spilled basin.now) month want.now (slice_index out.now) (slice_index upper.new) }
 {
-    write_carries(basin, month, most.flow.as_mut_slice());
-    most.take.as_mut_slice().copy_from_slice(want);
-    lay(basin, arcs, most, upper);
+    lay_carries(basin, month, upper);
+    lay_takes(basin, arcs, want, upper);
+    lay_spills(basin, arcs, out, upper);
 }
 
 /// Reads the flow of each link.
@@ -133,8 +133,8 @@ pub fn read_links(circ: &CirculationMut<'_>, into: &mut [u64])
     ensures { into.new ≡ list_of (length into.old) (flow_of circ.now) }
 {
     let _arcs = circ.arcs();
-    for link in 0..into.len() {
-        into[link] = circ.flow(link as u32);
+    for link in 0..into.len() as u32 {
+        into[link as usize] = circ.flow(link);
     }
 }
 
@@ -163,8 +163,9 @@ pub fn read_spills(basin: &Basin, circ: &CirculationMut<'_>, arcs: &Arcs, into: 
     ensures { into.new ≡ spills_of basin.now (flow_of circ.now) }
 {
     let _arcs = circ.arcs();
+    let first = arcs.spill;
     for node in 0..basin.nodes.len() {
-        into[node] = circ.flow(arcs.spill + node as u32);
+        into[node] = circ.flow(first + node as u32);
     }
 }
 

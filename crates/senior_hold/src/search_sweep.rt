@@ -68,7 +68,7 @@ fn begin_river<'r>(
         &layout.arcs,
         month,
         want,
-        &mut room.most,
+        room.most.out.as_slice(),
         &mut room.upper,
     );
     run_river(basin, &layout.net, supply, plan);

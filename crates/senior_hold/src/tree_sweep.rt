@@ -58,7 +58,7 @@ fn begin_spilled<'r>(
         &layout.arcs,
         month,
         want,
-        &mut room.most,
+        room.most.out.as_slice(),
         &mut room.upper,
     );
     // The spills are the last arcs, in the order of the nodes.

@@ -13,7 +13,7 @@ overflow_add-inflow c = omega (
   inflow_fits c.args.basin.now c.args.series.now c.args.index c.loop-node.node c.requires.basin c.requires.series
       (omega arith),
   c.loop-node.invariant,
-  c.inflow_of-inflow.ensures,
+  c.inflow_in_year-inflow.ensures,
 )
 
 pub loop-node-preserved : goal.loop-node-preserved
@@ -21,5 +21,5 @@ loop-node-preserved c = omega (
   arith,
   total_more c.loop-node.node (λ n. inflow_at c.args.basin.now c.args.series.now n c.args.index),
   c.loop-node.invariant,
-  c.inflow_of-inflow.ensures,
+  c.inflow_in_year-inflow.ensures,
 )

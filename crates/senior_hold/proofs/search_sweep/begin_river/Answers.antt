@@ -39,7 +39,7 @@ lend_month-requires-clause-start c =
     let count = spilled_count c.args.basin.now in
     let wide = c.write_outlets.auto.into ∙ ap length c.as_mut_slice.ensures.value in
     let most = λ (n : ℕ) (l : n < length c.args.basin.now.nodes).
-    ap (λ (xs : List ℕ). slice_index xs n) (whole_rows _ _ wide) ∙ c.write_outlets.ensures n l in
+    ap (λ (xs : List ℕ). slice_index xs n) (c.as_slice.ensures ∙ whole_rows _ _ wide) ∙ c.write_outlets.ensures n l in
     let plan = river_plan c.args.basin.now c.args.month c.args.supply.now c.args.want.now c.run_river.new.plan
     c.requires.valid c.requires.supply c.run_river.ensures.run in
     let arcs = held_arcs c.args.basin.now c.args.held.now c.args.fixed.now c.args.moving.now c.requires.arcs in
@@ -58,7 +58,7 @@ lend_month-requires-clause-start c =
             (spilled_wants c.args.basin.now c.args.month c.args.want.now c.requires.want)
             (ap length is ∙ (size ∙ c.requires.room.uppers))
             (ap length (last_all c.args.held.now.arcs c.deref-2.result.now long) ∙ long ∙ arcs)
-            (bounds_over (spilled c.args.basin.now) c.args.month c.args.want.now _ _ _ is c.write_bounds.ensures.upper)
+            (bounds_over (spilled c.args.basin.now) c.args.month c.args.want.now _ _ _ is c.write_bounds.ensures)
             (amounts_over (spilled c.args.basin.now) c.run_river.new.plan _ _ all c.lay.ensures)
             (plan_up c.args.basin.now c.args.month c.args.supply.now c.args.want.now c.run_river.new.plan plan)
             (λ n l. outlets_small c.args.basin.now _ most n (omega (arith, l, count)))
@@ -81,7 +81,7 @@ returns-clause-begun c =
     let count = spilled_count c.args.basin.now in
     let wide = c.write_outlets.auto.into ∙ ap length c.as_mut_slice.ensures.value in
     let most = λ (n : ℕ) (l : n < length c.args.basin.now.nodes).
-    ap (λ (xs : List ℕ). slice_index xs n) (whole_rows _ _ wide) ∙ c.write_outlets.ensures n l in
+    ap (λ (xs : List ℕ). slice_index xs n) (c.as_slice.ensures ∙ whole_rows _ _ wide) ∙ c.write_outlets.ensures n l in
     let plan = river_plan c.args.basin.now c.args.month c.args.supply.now c.args.want.now c.run_river.new.plan
     c.requires.valid c.requires.supply c.run_river.ensures.run in
     let arcs = held_arcs c.args.basin.now c.args.held.now c.args.fixed.now c.args.moving.now c.requires.arcs in
@@ -94,7 +94,7 @@ returns-clause-begun c =
     (on_last c.args.held.now.arcs c.deref-2.result.now) (record h.contents { scratch = c.lend_month.result.scratch })
     c.lend_month.result c.run_river.new.plan _
     h.ends (bounds_over (spilled c.args.basin.now) c.args.month c.args.want.now _ _ _ is
-    c.write_bounds.ensures.upper)
+    c.write_bounds.ensures)
     most c.run_river.ensures.fits plan c.run_river.ensures.run
     (amounts_over (spilled c.args.basin.now) c.run_river.new.plan _ _ all c.lay.ensures)
     c.run_river.ensures.small (c.lend_month.ensures h.contents h.fixed)

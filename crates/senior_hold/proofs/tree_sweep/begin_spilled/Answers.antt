@@ -21,7 +21,7 @@ lend_month-requires-clause-start c =
     let filled = c.fill.ensures.after (λ y h. h) in
     let wide = c.fill.ensures.len ∙ ap length c.as_mut_slice.ensures.value in
     let most = λ (n : ℕ) (l : n < length b.nodes).
-    ap (λ (xs : List ℕ). slice_index xs n) (whole_rows _ _ wide ∙ filled)
+    ap (λ (xs : List ℕ). slice_index xs n) (c.as_slice.ensures ∙ whole_rows _ _ wide ∙ filled)
     ∙ get_or-replicate {A = ℕ} _ n (10 ^ 15) 0
     (omega (arith, l, ap length c.as_mut_slice.ensures.value, c.requires.room.fits_most.out)) in
     let h = c.requires.arcs in (
@@ -31,7 +31,7 @@ lend_month-requires-clause-start c =
         spilled_begins b c.args.month c.args.supply.now c.args.want.now c.deref.result.now h.contents _ _ h.ends
             (held_arcs b c.args.held.now c.args.fixed.now c.args.moving.now h) c.requires.valid c.requires.month
             c.requires.supply c.requires.want (ap length is ∙ (size ∙ c.requires.room.uppers))
-            (bounds_over (spilled b) c.args.month c.args.want.now _ _ _ is c.write_bounds.ensures.upper) most,
+            (bounds_over (spilled b) c.args.month c.args.want.now _ _ _ is c.write_bounds.ensures) most,
       ),
     )
 
@@ -46,11 +46,11 @@ returns-clause-start c =
     let filled = c.fill.ensures.after (λ y h. h) in
     let wide = c.fill.ensures.len ∙ ap length c.as_mut_slice.ensures.value in
     let most = λ (n : ℕ) (l : n < length b.nodes).
-    ap (λ (xs : List ℕ). slice_index xs n) (whole_rows _ _ wide ∙ filled)
+    ap (λ (xs : List ℕ). slice_index xs n) (c.as_slice.ensures ∙ whole_rows _ _ wide ∙ filled)
     ∙ get_or-replicate {A = ℕ} _ n (10 ^ 15) 0
     (omega (arith, l, ap length c.as_mut_slice.ensures.value, c.requires.room.fits_most.out)) in
     let h = c.requires.arcs in
     spilled_begun b c.args.month c.args.supply.now c.args.want.now c.deref.result.now h.contents c.lend_month.result _ _
     h.ends (held_arcs b c.args.held.now c.args.fixed.now c.args.moving.now h) c.requires.supply
-    (bounds_over (spilled b) c.args.month c.args.want.now _ _ _ is c.write_bounds.ensures.upper) most
+    (bounds_over (spilled b) c.args.month c.args.want.now _ _ _ is c.write_bounds.ensures) most
     (c.lend_month.ensures h.contents h.fixed)

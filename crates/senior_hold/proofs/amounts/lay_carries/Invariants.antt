@@ -1,5 +1,5 @@
 use Rattle.std.proofs.Common.{◌≡◌, ℕ, ◌<◌, slice_index}
-use Rattle.senior_hold.proofs.amounts.write_carries.Given as goal
+use Rattle.senior_hold.proofs.amounts.lay_carries.Given as goal
 use Rattle.water_model.specs.Plans.{carry_of}
 
 abbrev pub invariant-loop-link : goal.invariant-loop-link
