@@ -1,6 +1,6 @@
 -- A text that comes in pieces: its lines with one more piece, and what is refused whatever follows.
 use Rattle.std.proofs.Common.{◌≡◌, ℕ, ◌+◌, ◌<◌, Bool, true, false, refl, sym, ap, ◌∙◌, arith, inl, inr, List, [], ◌∷◌}
-use Rattle.std.proofs.Common.{◌++◌, length, take, drop, length-append, append_assoc, take-append-drop}
+use Rattle.std.proofs.Common.{◌++◌, length, take, drop, length-append, append_assoc, take-append-drop, subst}
 use Rattle.std.specs.Prelude.{Option, Some, None, Result, Ok, Err, IsOk, nat_lt, not, slice_range, if◌then◌else◌}
 use Rattle.std.specs.List.{onto_first}
 use Rattle.std.proofs.Math.Seq.{take-add, take-append-add}
@@ -299,6 +299,22 @@ ended_refused c line text bytes piece taken e given takes answer more = elim tak
   | inl to_feed ↦ line_refused c line text bytes piece taken e given to_feed answer more
   | inr to_full ↦ long_refused c line text bytes piece taken e given to_full answer more
 ]
+
+-- Nothing was held, and nothing is.
+pub held_given : (c after : CheckerView) (line : LineHeld) (text bytes piece : List ℕ) (taken : ℕ) →
+    AreGiven c line text → line.bytes ≡ [] → TakesToFeed [] bytes piece taken →
+    ((lines : List (List ℕ)) → CheckerStandsFor c lines → CheckerStandsFor after (lines ++ bytes ∷ [])) →
+    after.refused ≡ None → AreGiven after line (text ++ take taken piece)
+held_given c after line text bytes piece taken given none takes stands good =
+    let now = line_given c after line text bytes piece taken given
+    (subst (λ (held : List ℕ). TakesToFeed held bytes piece taken) (sym none) takes) stands good in
+    record {
+      lines = now.lines;
+      stands = now.stands;
+      good = now.good;
+      pieces = now.pieces ∙ ap (λ (held : List ℕ). now.lines ++ held ∷ []) (sym none);
+      short = omega (arith, ap length none);
+    }
 
 -- A piece from an index on.
 

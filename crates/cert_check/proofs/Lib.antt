@@ -36,6 +36,7 @@ pub mod Missing
 pub mod Dues
 pub mod Even
 pub mod FirstRows
+pub mod MemberLines
 pub mod Standings
 pub mod ByteLaws
 pub mod Beginnings

@@ -77,6 +77,7 @@ fn ask_month(basin: &Basin, roll: &Roll, month: &MonthRecord, audit: &mut Audit)
 
 /// Takes a good line of this number, before it is entered: the number of a `call` line is kept, and the month that an
 /// `end` line ends is asked.
+#[inline(never)]
 pub fn audit_item(
     context: &Context,
     audit: &mut Audit,

@@ -76,6 +76,7 @@ fn blank(month: &mut MonthRecord, index: u32, calendar: Month)
 }
 
 /// Enters a `month` line.
+#[inline(never)]
 pub fn enter_month(state: &mut CheckState, calendar: Month)
     ensures rest { state.new ≡ record state.old {
       month = state.new.month;
@@ -212,6 +213,7 @@ pub fn enter_member(state: &mut CheckState, node: u32)
 }
 
 /// Enters a `called` line, which is that of the next right that answers to a caller.
+#[inline(never)]
 pub fn enter_called(basin: &Basin, roll: &Roll, state: &mut CheckState)
     requires basin { IsValidBasin basin.now }
     requires roll { IsRollOf basin.now.rights roll.now }
@@ -229,6 +231,7 @@ pub fn enter_called(basin: &Basin, roll: &Roll, state: &mut CheckState)
 }
 
 /// Enters an `end` line: what the month leaves to the next.
+#[inline(never)]
 pub fn enter_end(basin: &Basin, state: &mut CheckState)
     requires basin { IsValidBasin basin.now }
     requires rows { return_rows state.old.lags ≡ basin.now.returns }

@@ -1,8 +1,9 @@
 //! A checker of a result text that comes in pieces of any size.
 ghost use Rattle.std.specs.Prelude.{ℕ, List, [], ◌∷◌, ◌++◌, ◌≡◌, ◌+◌, ◌^◌, ◌<◌, ◌≤◌, None, Err, length, take};
-ghost use Rattle.std.specs.Prelude.{IfOk, IfErr, OnOk};
+ghost use Rattle.std.specs.Prelude.{IfOk, IfErr, IfSome, OnOk};
+ghost use Rattle.std.specs.List.{position};
 ghost use Rattle.water_model.specs.Valid.{IsValidBasin, IsSeriesOf};
-ghost use Rattle.water_text.specs.LinesIn.{nothing_held};
+ghost use Rattle.water_text.specs.LinesIn.{TakesToFeed, is_feed, nothing_held};
 ghost use Rattle.cert_check.specs.Checking.{verdict_from};
 ghost use Rattle.cert_check.specs.Audit.{IsAuditAnswer};
 ghost use Rattle.cert_check.specs.Pieces.{AreGiven, IsAudit, IsPartialLine, StandsForText, bytes_left, room_left};
@@ -35,8 +36,44 @@ fn end_line(checker: &mut Checker, line: &mut LineIn) -> Result<(), Refuted>
     answer
 }
 
+/// The index of the first line feed.
+fn first_feed(piece: &[u8]) -> Option<usize>
+    ensures { result ≡ position is_feed piece.now }
+{
+    piece.iter().position(|byte| *byte == b'\n')
+}
+
+/// The line that a piece begins with, without its line feed, where it ends in the piece and has at most 128 bytes.
+fn first_line(piece: &[u8]) -> Option<&[u8]>
+    ensures within { IfSome result (λ text. length text.now < length piece.now) }
+    ensures short { IfSome result (λ text. length text.now ≤ 128) }
+    ensures takes { IfSome result (λ text. TakesToFeed [] text.now piece.now (length text.now + 1)) }
+{
+    let prefix = &piece[..piece.len().min(129)];
+    match first_feed(prefix) {
+        Some(at) => Some(&prefix[..at]),
+        None => None,
+    }
+}
+
+/// That line, where no byte is held: it lies whole in the piece.
+fn whole_line<'a>(line: &LineIn, piece: &'a [u8]) -> Option<&'a [u8]>
+    ensures none { IfSome result (λ text. line.now.bytes ≡ []) }
+    ensures within { IfSome result (λ text. length text.now < length piece.now) }
+    ensures short { IfSome result (λ text. length text.now ≤ 128) }
+    ensures takes { IfSome result (λ text. TakesToFeed [] text.now piece.now (length text.now + 1)) }
+{
+    if line.bytes().is_empty() {
+        first_line(piece)
+    } else {
+        None
+    }
+}
+
 /// Gives a checker the prefix of some bytes, up to the end of a line if there is one, and answers how many they are.
-fn give_prefix(checker: &mut Checker, line: &mut LineIn, rest: &[u8]) -> Result<usize, Refuted>
+/// The bytes are copied behind those that are held.
+#[inline(never)]
+fn give_held(checker: &mut Checker, line: &mut LineIn, rest: &[u8]) -> Result<usize, Refuted>
     requires line { IsPartialLine line.old }
     requires good { checker.old.refused ≡ None }
     requires some { 0 < length rest.now }
@@ -59,6 +96,34 @@ fn give_prefix(checker: &mut Checker, line: &mut LineIn, rest: &[u8]) -> Result<
     }
     end_line(checker, line)?;
     Ok(fed.taken)
+}
+
+/// Gives a checker the prefix of some bytes, up to the end of a line if there is one, and answers how many they are. A
+/// line that lies whole in them isn't copied.
+fn give_prefix(checker: &mut Checker, line: &mut LineIn, rest: &[u8]) -> Result<usize, Refuted>
+    requires line { IsPartialLine line.old }
+    requires good { checker.old.refused ≡ None }
+    requires some { 0 < length rest.now }
+    ensures some { IfOk result (λ taken. 0 < taken) }
+    ensures within { IfOk result (λ taken. taken ≤ length rest.now) }
+    ensures given { IfOk result (λ taken. (text : List ℕ) → AreGiven checker.old line.old text →
+        AreGiven checker.new line.new (text ++ take taken rest.now)) }
+    ensures good { OnOk result (checker.new.refused ≡ None) }
+    ensures refused { IfErr result (λ e. (text : List ℕ) → AreGiven checker.old line.old text → (more : List ℕ) →
+        text_verdict checker.old.basin checker.old.series (text ++ rest.now ++ more) ≡ Err e) }
+    ensures left { IfOk result (λ taken. room_left checker.new line.new + taken ≤ room_left checker.old line.old) }
+    ensures line { IsPartialLine line.new }
+    ensures basin { checker.new.basin ≡ checker.old.basin }
+    ensures series { checker.new.series ≡ checker.old.series }
+    ensures audit { lines.IsAudit checker.old → lines.IsAudit checker.new }
+{
+    match whole_line(line, rest) {
+        Some(text) => {
+            checker.line(text)?;
+            Ok(text.len() + 1)
+        }
+        None => give_held(checker, line, rest),
+    }
 }
 
 /// Gives a checker the next bytes of a text. The line holds what stands after the last line feed before them.

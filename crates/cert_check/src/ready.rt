@@ -19,6 +19,7 @@ use result_lines::item::Item;
 use result_lines::quantity::Quantity;
 
 /// Makes the supply that was read, unless the record has it.
+#[inline(never)]
 pub fn know_supply(context: &Context, state: &mut CheckState)
     requires context { IsContext context.now }
     requires month { HasMonth context.now.basin.now context.now.series.now state.old }
@@ -53,6 +54,20 @@ fn know_closes(context: &Context, state: &mut CheckState)
     }
 }
 
+/// Finds the first caller of each node by the deliveries and sets that were read. A function clears the room of its
+/// locals when it starts, so this one with a table is called only where one is made.
+#[inline(never)]
+fn find_callers(context: &Context, state: &mut CheckState)
+    requires context { IsContext context.now }
+    requires keeps { HasRead context.now.basin.now context.now.series.now state.old }
+    ensures rest { state.new ≡ record state.old { callers = state.new.callers; has_callers = true } }
+    ensures keeps { (t : ReadSoFar) → Keeps context.now.basin.now context.now.series.now state.old t →
+        Keeps context.now.basin.now context.now.series.now state.new t }
+{
+    state.callers = callers_by_node(context.basin, &context.roll, &state.month);
+    state.has_callers = true;
+}
+
 /// Finds the first caller of each node by the deliveries and sets that were read, unless the check state has them.
 fn know_callers(context: &Context, state: &mut CheckState)
     requires context { IsContext context.now }
@@ -62,12 +77,12 @@ fn know_callers(context: &Context, state: &mut CheckState)
         Keeps context.now.basin.now context.now.series.now state.new t }
 {
     if !state.has_callers {
-        state.callers = callers_by_node(context.basin, &context.roll, &state.month);
-        state.has_callers = true;
+        find_callers(context, state);
     }
 }
 
 /// Makes the sums of what comes into each node and of what leaves it, where the month's flows and takes were read.
+#[inline(never)]
 fn know_sums(context: &Context, state: &mut CheckState)
     requires context { IsContext context.now }
     requires month { HasMonth context.now.basin.now context.now.series.now state.old }
@@ -122,6 +137,7 @@ fn pass(context: &Context, state: &mut CheckState, item: &Item)
 
 /// Finds the callers where a line stands after the `call` lines. Where no right is left that answers to one, they
 /// aren't looked at again.
+#[inline(never)]
 fn answer(context: &Context, state: &mut CheckState, item: &Item)
     requires context { IsContext context.now }
     requires keeps { HasRead context.now.basin.now context.now.series.now state.old }
@@ -165,6 +181,7 @@ fn make_ready_for_set(context: &Context, state: &mut CheckState, item: &Item)
 }
 
 /// Makes what the test of an amount looks at.
+#[inline(never)]
 fn make_ready_for_amount(context: &Context, state: &mut CheckState, quantity: Quantity, entry: u32)
     requires context { IsContext context.now }
     requires month { HasMonth context.now.basin.now context.now.series.now state.old }
@@ -186,7 +203,7 @@ fn make_ready_for_amount(context: &Context, state: &mut CheckState, quantity: Qu
     }
 }
 
-/// Makes what the tests of a line look at. What was read stays.
+/// Makes what the tests of a line look at. What was read stays. The tests of an `in` line look at nothing.
 pub fn make_ready(context: &Context, state: &mut CheckState, item: &Item)
     requires context { IsContext context.now }
     requires item { IsOfBasin context.now.basin.now item.now }
@@ -195,6 +212,9 @@ pub fn make_ready(context: &Context, state: &mut CheckState, item: &Item)
     ensures keeps { (t : ReadSoFar) → Keeps context.now.basin.now context.now.series.now state.old t →
         Keeps context.now.basin.now context.now.series.now state.new t }
 {
+    if is_member(item) {
+        return;
+    }
     pass(context, state, item);
     answer(context, state, item);
     make_ready_for_set(context, state, item);

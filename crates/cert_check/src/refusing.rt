@@ -189,6 +189,7 @@ fn closing_wrong(context: &Context, state: &CheckState, reservoir: u32, amount: 
 }
 
 /// The first of the rows of the calls that holds of a line.
+#[inline(never)]
 fn call_row(context: &Context, state: &CheckState, item: &Item) -> Option<RefutedKind>
     requires context { IsContext context.now }
     requires item { IsOfBasin context.now.basin.now item.now }
@@ -266,6 +267,7 @@ fn kind_if(holds: bool, kind: RefutedKind) -> Option<RefutedKind>
 }
 
 /// The row of a line's own kind, if it has one and it holds.
+#[inline(never)]
 fn own_row(context: &Context, state: &CheckState, item: &Item) -> Option<RefutedKind>
     requires context { IsContext context.now }
     requires item { IsOfBasin context.now.basin.now item.now }
@@ -311,7 +313,7 @@ fn own_row(context: &Context, state: &CheckState, item: &Item) -> Option<Refuted
     }
 }
 
-/// The first row of the verdict that holds of a line. The check state is ready for it.
+/// The first row of the verdict that holds of a line. The check state is ready for it. No row holds of an `in` line.
 pub fn first_row(context: &Context, state: &CheckState, item: &Item) -> Option<RefutedKind>
     requires context { IsContext context.now }
     requires item { IsOfBasin context.now.basin.now item.now }
@@ -321,6 +323,9 @@ pub fn first_row(context: &Context, state: &CheckState, item: &Item) -> Option<R
         MayCome context.now.basin.now context.now.series.now t item.now →
         result ≡ checking.first_row context.now.basin.now context.now.series.now t item.now }
 {
+    if compare::is_member(item) {
+        return None;
+    }
     match call_row(context, state, item) {
         Some(kind) => Some(kind),
         None => own_row(context, state, item),

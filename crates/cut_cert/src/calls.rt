@@ -88,6 +88,7 @@ fn call_from(
 ///
 /// It goes over the rights once, seniors first. Each node is given to a caller once, and two words of marks in which no
 /// node is both free and in the set cost one look. It takes no memory.
+#[inline(never)]
 pub fn callers_by_node(basin: &Basin, roll: &Roll, month: &MonthRecord) -> [Option<u32>; MAX_NODES]
     requires basin { IsValidBasin basin.now }
     requires roll { IsRollOf basin.now.rights roll.now }

@@ -180,6 +180,22 @@ struct Crossing {
     kept: u64,
 }
 
+/// What seniors keep on a link, or 0 where it is the right's own.
+#[inline(never)]
+fn kept_beside(basin: &Basin, roll: &Roll, delivered: &[u64], right: u32, link: u32) -> u64
+    requires roll { IsRollOf basin.now.rights roll.now }
+    requires delivered { length delivered.now ≡ length basin.now.rights }
+    requires right { right < length basin.now.rights }
+    ensures { result ≡ when (not (is_on_link basin.now right link)) (kept_on basin.now delivered.now right link) }
+{
+    let kept = kept_on(basin, roll, delivered, right, link);
+    if is_on_link(basin, right, link) {
+        0
+    } else {
+        kept
+    }
+}
+
 /// The amounts of one link, in a month of this many days.
 fn crossing_at(
     basin: &Basin,
@@ -206,13 +222,14 @@ fn crossing_at(
         (kept_on basin.now delivered.now right link) }
 {
     let entry = &basin.links[link as usize];
-    let from_within = is_in(words, entry.from);
-    let to_within = is_in(words, entry.to);
-    if to_within && !from_within {
+    if is_in(words, entry.to) {
+        if is_in(words, entry.from) {
+            return Crossing { carry: 0, kept: 0 };
+        }
         let carry = carry_in_days(&entry.carry, month, days);
         Crossing { carry, kept: 0 }
-    } else if from_within && !to_within && !is_on_link(basin, right, link) {
-        let kept = kept_on(basin, roll, delivered, right, link);
+    } else if is_in(words, entry.from) {
+        let kept = kept_beside(basin, roll, delivered, right, link);
         Crossing { carry: 0, kept }
     } else {
         Crossing { carry: 0, kept: 0 }
@@ -221,6 +238,7 @@ fn crossing_at(
 
 /// The sums over all links. It goes over them once.
 #[tactic(auto, using(finite_sums::proofs::Totals::sums))]
+#[inline(never)]
 fn crossings(
     basin: &Basin,
     roll: &Roll,
@@ -260,6 +278,7 @@ fn crossings(
 
 /// What seniors take in a right's set.
 #[tactic(auto, using(finite_sums::proofs::Totals::sums))]
+#[inline(never)]
 fn kept_by_takes(basin: &Basin, delivered: &[u64], right: u32, words: &[u64]) -> u64
     requires basin { IsValidBasin basin.now }
     requires delivered { length delivered.now ≡ length basin.now.rights }

@@ -1,5 +1,6 @@
 //! Names, and what they name.
-ghost use Rattle.std.specs.Prelude.{◌≡◌, ◌<◌, true, IfOk, Some};
+ghost use Rattle.std.specs.Prelude.{◌≡◌, ◌<◌, true, IfOk};
+ghost use Rattle.water_model.specs.Entries.{count_in, name_in};
 ghost use Rattle.water_model.specs.Valid.{IsValidBasin};
 ghost use Rattle.water_model.specs.declared.space.Space.TheVariants.{Nodes, Links, Reservoirs, Rights};
 ghost use Rattle.basin_names.specs.Named.{named};
@@ -42,10 +43,11 @@ impl<'b> Names<'b> {
         })
     }
 
-    /// Whether the entry at an index has the name.
-    fn has_name(&self, space: Space, at: u32, name: &[u8]) -> bool
+    /// Whether the entry at an index, which may be any number, is there and has the name.
+    pub fn has_name(&self, space: Space, at: u32, name: &[u8]) -> bool
         requires { IsValidBasin self.now.basin.now }
-        ensures { result ≡ true → named self.now.basin.now space name.now ≡ Some at }
+        ensures within { result ≡ true → at < count_in space self.now.basin.now }
+        ensures same { result ≡ true → name.now ≡ name_in space self.now.basin.now at }
     {
         at < count_in(space, self.basin) && name_in(space, self.basin, at).bytes() == name
     }

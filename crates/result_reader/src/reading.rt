@@ -1,7 +1,8 @@
 //! What a line says.
-ghost use Rattle.std.specs.Prelude.{◌≡◌};
+ghost use Rattle.std.specs.Prelude.{◌≡◌, ◌++◌, true, codes, IfSome, Ok};
 ghost use Rattle.water_text.specs.Fields.{pieces_after};
 ghost use Rattle.water_model.specs.Valid.{IsValidBasin};
+ghost use Rattle.result_lines.specs.declared.item.Item.TheVariants as line;
 ghost use Rattle.result_reader.specs.Reading as reading;
 ghost use Rattle.result_reader.specs.declared.words.Word.TheVariants as word;
 
@@ -166,9 +167,10 @@ fn item_with(
     }
 }
 
-/// What a line says, whatever stands before it. It likely names these entries.
+/// What a line says, by its fields.
 #[tactic(auto, unfolding(crate::specs::Reading::item_of))]
-pub fn item_of(names: &Names, likely: Likely, text: &[u8]) -> Result<Item, BadLine>
+#[inline(never)]
+fn item_by_fields(names: &Names, likely: Likely, text: &[u8]) -> Result<Item, BadLine>
     requires { IsValidBasin names.now.basin.now }
     ensures { result ≡ reading.item_of names.now.basin.now text.now }
 {
@@ -179,5 +181,41 @@ pub fn item_of(names: &Names, likely: Likely, text: &[u8]) -> Result<Item, BadLi
     match Word::of(first) {
         Some(word) => item_with(names, likely, word, rest),
         None => Err(BadLine::UnknownWord),
+    }
+}
+
+/// What stands after the word of an `in` line, if a line begins with it.
+fn after_in(text: &[u8]) -> Option<&[u8]>
+    ensures { IfSome result (λ rest. text.now ≡ codes "in " ++ rest.now) }
+{
+    if text.len() > 3 && text[0] == b'i' && text[1] == b'n' && text[2] == b' ' {
+        Some(&text[3..])
+    } else {
+        None
+    }
+}
+
+/// Whether a line is the `in` line of the node at an index, which may be any number.
+fn is_member_line(names: &Names, node: u32, text: &[u8]) -> bool
+    requires { IsValidBasin names.now.basin.now }
+    ensures { result ≡ true → reading.item_of names.now.basin.now text.now ≡ Ok (line.Member node) }
+{
+    match after_in(text) {
+        Some(name) => names.has_name(Space::Nodes, node, name),
+        None => false,
+    }
+}
+
+/// What a line says, whatever stands before it. It likely names these entries. Most lines of a text are `in` lines of
+/// the likely node: one is compared with the spelling of that, and its fields aren't looked at.
+pub fn item_of(names: &Names, likely: Likely, text: &[u8]) -> Result<Item, BadLine>
+    requires { IsValidBasin names.now.basin.now }
+    ensures { result ≡ reading.item_of names.now.basin.now text.now }
+{
+    let node = likely.member;
+    if is_member_line(names, node, text) {
+        Ok(Item::Member { node })
+    } else {
+        item_by_fields(names, likely, text)
     }
 }

@@ -1,5 +1,5 @@
 //! The words that lines begin with.
-ghost use Rattle.std.specs.Prelude.{◌≡◌};
+ghost use Rattle.std.specs.Prelude.{◌≡◌, true, Some};
 ghost use Rattle.result_reader.specs.Words.{spelling_of, word_of};
 
 use result_lines::quantity::Quantity;
@@ -69,13 +69,23 @@ impl Word {
         None
     }
 
-    /// The word that the bytes spell, or `None` where they spell none. Most lines of a text are `in` lines, so their
-    /// word comes first.
+    /// Whether the bytes spell the word.
+    fn is_spelled(self, text: &[u8]) -> bool
+        ensures { result ≡ true → Some self ≡ word_of text.now }
+    {
+        self.text() == text
+    }
+
+    /// The word that the bytes spell, or `None` where they spell none. The words of most lines come first.
     pub fn of(text: &[u8]) -> Option<Word>
         ensures { result ≡ word_of text.now }
     {
-        if text == b"in".as_slice() {
+        if Word::Member.is_spelled(text) {
             Some(Word::Member)
+        } else if Word::Amount(Quantity::Flow).is_spelled(text) {
+            Some(Word::Amount(Quantity::Flow))
+        } else if Word::Deliver.is_spelled(text) {
+            Some(Word::Deliver)
         } else {
             Word::find(text)
         }

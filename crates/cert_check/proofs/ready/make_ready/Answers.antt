@@ -1,4 +1,5 @@
 use Rattle.std.proofs.Common.{sym, ◌∙◌}
+use Rattle.cert_check.proofs.MemberLines.{ready}
 use Rattle.cert_check.proofs.ready.make_ready.Goals as goal
 
 pub returns-in-Amount-clause-ready : goal.returns-in-Amount-clause-ready
@@ -10,3 +11,7 @@ returns-in-Amount-clause-ready c = record {
       ∙ (c.make_ready_for_set.ensures.callers ∙ c.answer.ensures.callers after);
   own = rw c.in-Amount.is c.make_ready_for_amount.ensures.ready;
 }
+
+pub returns-then-is_member-clause-ready : goal.returns-then-is_member-clause-ready
+returns-then-is_member-clause-ready c =
+    ready c.args.context.now c.args.state.now c.args.item.now (sym c.is_member.ensures ∙ c.if-is_member.true)

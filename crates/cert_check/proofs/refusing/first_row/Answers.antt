@@ -1,6 +1,7 @@
 use Rattle.std.proofs.Common.{sym, ◌∙◌}
 use Rattle.cert_check.specs.Checking.{call_rows, own_rows}
 use Rattle.cert_check.proofs.FirstRows.{first_is, some_first, none_first}
+use Rattle.cert_check.proofs.MemberLines.{no_row}
 use Rattle.cert_check.proofs.refusing.first_row.Goals as goal
 
 pub returns-in-Some : goal.returns-in-Some
@@ -17,3 +18,8 @@ returns-in-None c = λ t k m.
     ∙ none_first (call_rows c.args.context.now.basin.now c.args.context.now.series.now t c.args.item.now)
     (own_rows c.args.context.now.basin.now c.args.context.now.series.now t c.args.item.now)
     (sym (c.in-None.ensures t k)))
+
+pub returns-then-is_member : goal.returns-then-is_member
+returns-then-is_member c = λ t k m.
+    sym (no_row c.args.context.now.basin.now c.args.context.now.series.now t c.args.item.now
+    (sym c.is_member.ensures ∙ c.if-is_member.true))
