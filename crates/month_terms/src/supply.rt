@@ -7,9 +7,15 @@ use crate::add::add_at;
 use water_model::calls::{inflow_of, month_at};
 use water_model::types::{Basin, Inflow, Inflows};
 
-/// What flows in at a node in the month with this index. `position` is that of its calendar month in a list of twelve:
-/// it is the same for all nodes, and so the caller finds it once.
-fn inflow_in_year(basin: &Basin, series: &Inflows, node: usize, index: u32, position: usize) -> u64
+/// What flows in at a node in the month with this index, in units of 1,000 cubic metres. `position` is that of its
+/// calendar month in a list of twelve: it is the same for all nodes, and so the caller finds it once.
+pub fn inflow_in_year(
+    basin: &Basin,
+    series: &Inflows,
+    node: usize,
+    index: u32,
+    position: usize,
+) -> u64
     requires basin { IsValidBasin basin.now }
     requires series { IsSeriesOf basin.now series.now }
     requires node { node < length basin.now.nodes }

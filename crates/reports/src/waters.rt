@@ -3,14 +3,14 @@ ghost use Rattle.std.specs.Prelude.{List, ◌≡◌, ◌+◌, ◌<◌, ◌^◌, 
 ghost use Rattle.std.specs.Prelude.{if◌then◌else◌};
 ghost use Rattle.duality.specs.Balance.{total_inflow, diverted};
 ghost use Rattle.water_model.specs.History.{FitsBasin};
-ghost use Rattle.water_model.specs.Hydrology.{in_year, inflow_at};
 ghost use Rattle.water_model.specs.Valid.{IsValidBasin, IsSeriesOf, is_diversion};
 ghost use Rattle.water_model.specs.declared.types.MonthRecord.{MonthRecord};
 ghost use Rattle.reports.specs.Figures.{waters_of};
 ghost use Rattle.reports.specs.Tallies.{HasRoomForMonth};
 
-use water_model::calls::{inflow_of, month_at};
-use water_model::types::{Basin, Inflow, Inflows, MonthRecord, RightKind};
+use month_terms::supply::inflow_in_year;
+use water_model::calls::month_at;
+use water_model::types::{Basin, Inflows, MonthRecord, RightKind};
 
 /// The water of a run: what was stored before its first month, flowed in and came back, and what is stored after its
 /// last month, evaporated, was delivered to diversions and flowed out.
@@ -31,22 +31,6 @@ fn sum_of(amounts: &[u64]) -> u64
     ensures { result ≡ sum amounts.now }
 {
     amounts.iter().sum()
-}
-
-/// The inflow to a node in the month with this index. `position` is that of its calendar month in a list of twelve: it
-/// is the same for all nodes, and so the caller finds it once.
-fn inflow_in_year(basin: &Basin, series: &Inflows, node: usize, index: u32, position: usize) -> u64
-    requires basin { IsValidBasin basin.now }
-    requires series { IsSeriesOf basin.now series.now }
-    requires node { node < length basin.now.nodes }
-    requires index { index < basin.now.months }
-    requires position { position ≡ in_year basin.now index }
-    ensures { result ≡ inflow_at basin.now series.now node index }
-{
-    match &basin.nodes[node].inflow {
-        Inflow::Monthly(amounts) => amounts[position],
-        Inflow::Gauged => inflow_of(basin, series, node as u32, index),
-    }
 }
 
 /// The inflow to all nodes in the month with this index.
