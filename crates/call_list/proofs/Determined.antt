@@ -5,6 +5,7 @@ use Rattle.std.proofs.lemmas.List.{length-map}
 use Rattle.std.specs.Prelude.{slice_get, slice_index, slice_index_or, option_map, if◌then◌else◌, nat_lt}
 use Rattle.std.specs.List.{flat_map}
 use Rattle.std.proofs.lemmas.Option.{slice_get_within, slice_get-map}
+use Rattle.water_model.specs.Entries.{in_order}
 use Rattle.water_model.specs.Basin.{taking_node}
 use Rattle.water_model.specs.History.{IsPartialHistory, IsShort}
 use Rattle.duality.specs.Laws.{HaveSameOutcome}
@@ -24,7 +25,7 @@ use Rattle.next_unit.proofs.Exact.{rights_have_cores}
 use Rattle.next_unit.proofs.InHistories.{month_of, has_plan, histories_show_where_supply_helps}
 use Rattle.call_list.specs.Entries.{whole_line}
 use Rattle.call_list.specs.Found.{Found, IsFoundIn, curtailed_for, if_senior, next_at}
-use Rattle.call_list.specs.Lists.{head_bytes, line_with, lines_at, lines_in, month_bytes, indices_in, tail_bytes}
+use Rattle.call_list.specs.Lists.{head_bytes, line_with, lines_at, lines_in, month_bytes, space_of, tail_bytes}
 use Rattle.call_list.specs.declared.entry.Entry.TheVariants as line
 use Rattle.call_list.specs.declared.part.Part.{Part}
 use Rattle.call_list.specs.declared.part.Part.TheVariants as part
@@ -177,7 +178,7 @@ same_parts : (ps : List Part) (b : Basin) (m n : MonthRecord) (found : Found) �
 same_parts [] b m n found same = refl
 same_parts (p ∷ ps) b m n found same =
     ap₂ (λ xs ys. xs ++ ys)
-    (flat_same (lines_at p b m found) (lines_at p b n found) (indices_in p b)
+    (flat_same (lines_at p b m found) (lines_at p b n found) (in_order (space_of p) b)
     (λ position h. same_line p b m n found position same)) (same_parts ps b m n found same)
 
 same_lines : (b : Basin) (m n : MonthRecord) (f g : Found) → HaveSameOutcome m n → f ≡ g →

@@ -1,6 +1,5 @@
--- Where one more unit would help a short right, and the pieces of the text that says it.
-use Rattle.std.proofs.Common.{◌≡◌, ℕ, ◌<◌, Bool, refl, ap, sym, List, ◌++◌, length}
-use Rattle.std.proofs.lemmas.Grind.{flat_map-append}
+-- Where one more unit would help a short right.
+use Rattle.std.proofs.Common.{◌≡◌, ℕ, ◌<◌, Bool, refl, List, [], ◌∷◌, ◌++◌, append-nil, length}
 use Rattle.std.specs.List.{flat_map}
 use Rattle.std.specs.Prelude.{slice_index}
 use Rattle.cut_cert.specs.Sets.{HasCut, cut_at}
@@ -14,8 +13,8 @@ use Rattle.plan_residual.specs.Residual.{HasPlan}
 use Rattle.next_unit.specs.Core.{IsLeastTight}
 use Rattle.next_unit.proofs.Helping.{short_has_reach}
 use Rattle.next_unit.proofs.Least.{core_is_least_tight_cut}
-use Rattle.call_list.specs.Entries.{whole_line}
 use Rattle.call_list.specs.Helping.{IsHelpingText, helping_bytes, helping_lines, link_lines, node_lines}
+use Rattle.call_list.specs.declared.entry.Entry.{Entry}
 use Rattle.call_list.specs.declared.entry.Entry.TheVariants as line
 
 -- the record has a set of a short right
@@ -52,13 +51,10 @@ helping_text b m r core given reaches l short is_core = record {
     least : IsLeastTight b m.month m.supply m.delivered r core
     least = core_least b m r core given reaches l short is_core
 
--- the pieces of its lines: the first, the nodes and the links
-pub index_pieces : (b : Basin) (m : MonthRecord) (r : ℕ) (reach core : List Bool) →
-    whole_line b (line.Where m.month r (slice_index m.delivered r) (slice_index m.want r))
-    ++ (flat_map (whole_line b) (flat_map (node_lines core) (indices_of b.nodes))
-    ++ flat_map (whole_line b) (flat_map (link_lines b reach core) (indices_of b.links)))
-    ≡ flat_map (whole_line b) (helping_lines b m r reach core)
-index_pieces b m r reach core =
-    ap (λ bytes. whole_line b (line.Where m.month r (slice_index m.delivered r) (slice_index m.want r)) ++ bytes)
-    (sym (flat_map-append (whole_line b) (flat_map (node_lines core) (indices_of b.nodes))
-    (flat_map (link_lines b reach core) (indices_of b.links))))
+-- its lines: the first, those of the nodes and those of the links
+pub help_pieces : (b : Basin) (m : MonthRecord) (r : ℕ) (reach core : List Bool) (first : Entry) →
+    first ≡ line.Where m.month r (slice_index m.delivered r) (slice_index m.want r) →
+    first ∷ ((flat_map (node_lines core) (indices_of b.nodes) ++ (flat_map (link_lines b reach core)
+    (indices_of b.links) ++ [])) ++ [])
+    ≡ helping_lines b m r reach core
+help_pieces b m r reach core first is = rw is (simp append-nil)

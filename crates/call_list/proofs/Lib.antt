@@ -2,7 +2,6 @@ pub mod Answers
 pub mod Curtailed
 pub mod HelpTexts
 pub mod Keeping
-pub mod Pieces
 pub mod Whole
 pub mod Months
 pub mod Determined

@@ -1,8 +1,10 @@
 -- The list of a month's calls, and the whole list.
-use Rattle.std.specs.Prelude.{ℕ, List, [], ◌∷◌, ◌++◌, length, if◌then◌else◌, nat_lt, slice_index, slice_index_or}
+use Rattle.std.specs.Prelude.{ℕ, List, [], ◌∷◌, ◌++◌, if◌then◌else◌, nat_lt, slice_index, slice_index_or}
 use Rattle.std.specs.Prelude.{Option, Some, None}
 use Rattle.std.specs.List.{flat_map}
-use Rattle.water_model.specs.Indices.{indices_of, seniors_first}
+use Rattle.water_model.specs.Entries.{in_order}
+use Rattle.water_model.specs.declared.space.Space.{Space}
+use Rattle.water_model.specs.declared.space.Space.TheVariants as space
 use Rattle.water_model.specs.declared.types.Basin.{Basin}
 use Rattle.water_model.specs.declared.types.MonthRecord.{MonthRecord}
 use Rattle.call_list.specs.Entries.{whole_line}
@@ -12,18 +14,12 @@ use Rattle.call_list.specs.declared.entry.Entry.TheVariants as line
 use Rattle.call_list.specs.declared.part.Part.{Part}
 use Rattle.call_list.specs.declared.part.Part.TheVariants as part
 
--- what a part goes over: nodes and links in the order of the basin, rights seniors first
-abbrev pub indices_in : Part → Basin → List ℕ
-indices_in part.Shorts b = seniors_first b
-indices_in part.Nexts b = indices_of b.nodes
-indices_in part.Links b = indices_of b.links
-indices_in part.Curtailed b = seniors_first b
-
-abbrev pub count_in : Part → Basin → ℕ
-count_in part.Shorts b = length b.rights
-count_in part.Nexts b = length b.nodes
-count_in part.Links b = length b.links
-count_in part.Curtailed b = length b.rights
+-- the space that a part goes over
+abbrev pub space_of : Part → Space
+space_of part.Shorts = space.Rights
+space_of part.Nexts = space.Nodes
+space_of part.Links = space.Links
+space_of part.Curtailed = space.Rights
 
 -- the line of an index with the right that it names, if there is one
 abbrev pub line_with : (ℕ → ℕ → Entry) → ℕ → Option ℕ → List Entry
@@ -40,7 +36,7 @@ lines_at part.Links b m found link = line_with line.Link link (slice_index_or fo
 lines_at part.Curtailed b m found right = line_with line.Curtailed right (curtailed_for b m found.next right)
 
 abbrev pub lines_in : Part → Basin → MonthRecord → Found → List Entry
-lines_in of_part b m found = flat_map (lines_at of_part b m found) (indices_in of_part b)
+lines_in of_part b m found = flat_map (lines_at of_part b m found) (in_order (space_of of_part) b)
 
 -- a month: its parts between its first line and its end
 abbrev pub month_lines : Basin → MonthRecord → Found → List Entry

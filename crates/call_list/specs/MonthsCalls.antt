@@ -1,18 +1,15 @@
 -- What contracts see of a month with what was found of it.
-use Rattle.std.specs.Prelude.{ℕ, List, [], ◌∷◌, Option}
-use Rattle.std.specs.List.{flat_map}
+use Rattle.std.specs.Prelude.{ℕ, List, Option}
 use Rattle.rights_roll.specs.Rolls.{IsRollOf}
 use Rattle.rights_roll.specs.RollView.{RollView}
 use Rattle.result_text.specs.Range.{FitsText}
 use Rattle.water_model.specs.Valid.{IsValidBasin}
 use Rattle.water_model.specs.declared.types.Basin.{Basin}
 use Rattle.water_model.specs.declared.types.MonthRecord.{MonthRecord}
-use Rattle.call_list.specs.Entries.{whole_line}
 use Rattle.call_list.specs.Found.{Found, FitsFound}
-use Rattle.call_list.specs.Lists.{lines_at, lines_in}
+use Rattle.call_list.specs.Lists.{lines_at}
 use Rattle.call_list.specs.declared.entry.Entry.{Entry}
 use Rattle.call_list.specs.declared.part.Part.{Part}
-use Rattle.call_list.specs.declared.part.Part.TheVariants as part
 
 pub record CallsSeen : Type 0 where
   pub basin : Basin
@@ -34,14 +31,3 @@ pub record AreMonthCalls (c : CallsSeen) : Type 0 where
 
 abbrev pub lines_of : CallsSeen → Part → ℕ → List Entry
 lines_of c of_part position = lines_at of_part c.basin c.month c.found position
-
-abbrev pub part_of : CallsSeen → Part → List Entry
-part_of c of_part = lines_in of_part c.basin c.month c.found
-
--- those of all parts
-abbrev pub parts_of : CallsSeen → List Entry
-parts_of c = flat_map (part_of c) (part.Shorts ∷ part.Nexts ∷ part.Links ∷ part.Curtailed ∷ [])
-
--- the bytes of some lines
-abbrev pub bytes_of : CallsSeen → List Entry → List ℕ
-bytes_of c lines = flat_map (whole_line c.basin) lines

@@ -8,24 +8,25 @@ ghost use Rattle.rights_roll.specs.Rolls.{IsRollOf};
 ghost use Rattle.water_edge.specs.Edge.{HasCause, Puts};
 ghost use Rattle.water_model.specs.CutSets.{set_of};
 ghost use Rattle.water_model.specs.History.{HasReaches, IsShort};
-ghost use Rattle.water_model.specs.Indices.{indices_of};
 ghost use Rattle.water_model.specs.Valid.{IsValidBasin};
+ghost use Rattle.water_model.specs.declared.space.Space.TheVariants.{Links, Nodes};
 ghost use Rattle.result_text.specs.Range.{FitsText};
 ghost use Rattle.plan_residual.specs.Residual.{HasPlan};
 ghost use Rattle.call_list.specs.Entries.{IsOfBasin, whole_line};
-ghost use Rattle.call_list.specs.Helping.{IsHelpingText, helping_lines, link_lines, node_lines};
-ghost use Rattle.call_list.specs.Helpers.{HoldsCore, HoldsSet, IsHelpFinderOf};
+ghost use Rattle.call_list.specs.Helping.{IsHelpingText, helping_lines};
+ghost use Rattle.call_list.specs.Helpers.{HoldsCore, HoldsSet, IsHelpFinderOf, help_lines};
 
 use crate::entry::Entry;
-use crate::writer::put_entry;
 use cut_book::put_account;
 use cut_cert::holds;
 use plan_residual::ResidualSearch;
+use result_text::listing::{Listing, put_listing, put_some};
 use rights_roll::roll::Roll;
 use std::alloc::{AllocError, Global};
 use std::marker::Model;
 use water_edge::{Sink, SinkFailed};
 use water_model::cut_list::CutList;
+use water_model::space::Space;
 use water_model::types::{Basin, MonthRecord};
 
 /// What it takes to say where one more unit would help a right: the search through a month's residual network, and cuts
@@ -103,93 +104,76 @@ impl HelpFinder {
     }
 }
 
-/// The line of a node, if it is in the right's core.
-fn node_line(basin: &Basin, core: &CutList, right: u32, node: u32) -> Option<Entry>
-    requires core { HasCut basin.now core.now right }
-    requires node { node < length basin.now.nodes }
-    ensures lines { option_to_list result ≡ node_lines (cut_at core.now right) node }
-    ensures named { IfSome result (IsOfBasin basin.now) }
-{
-    if holds(core, right, node) {
-        Some(Entry::At { node })
-    } else {
-        None
-    }
-}
-
-/// The line of a link, if it leads from outside the right's reach into its core.
-fn link_line(basin: &Basin, reach: &CutList, core: &CutList, right: u32, link: u32) -> Option<Entry>
-    requires basin { IsValidBasin basin.now }
-    requires reach { HasCut basin.now reach.now right }
-    requires core { HasCut basin.now core.now right }
-    requires link { link < length basin.now.links }
-    ensures lines { option_to_list result
-        ≡ link_lines basin.now (cut_at reach.now right) (cut_at core.now right) link }
-    ensures named { IfSome result (IsOfBasin basin.now) }
-{
-    let ends = &basin.links[link as usize];
-    if !holds(reach, right, ends.from) && holds(core, right, ends.to) {
-        Some(Entry::Carry { link })
-    } else {
-        None
-    }
-}
-
-/// Puts a line, if there is one.
-fn put_line<K: Sink>(sink: &mut K, basin: &Basin, line: Option<Entry>) -> Result<(), SinkFailed>
-    requires basin { IsValidBasin basin.now }
-    requires line { IfSome line (IsOfBasin basin.now) }
-    ensures text { Puts (K.output sink.old) (K.output sink.new) result
-        (flat_map (whole_line basin.now) (option_to_list line)) }
-    ensures cause { HasCause (K.faults sink.old) (K.faults sink.new) (IsErr result) }
-{
-    match line {
-        Some(entry) => put_entry(sink, basin, entry),
-        None => Ok(()),
-    }
-}
-
-/// Puts the lines of the nodes of a right's core.
-fn put_nodes<K: Sink>(
-    sink: &mut K,
-    basin: &Basin,
-    core: &CutList,
+/// A right, with its reach in some cuts and its core in others.
+#[derive(Drop)]
+struct Help<'b> {
+    basin: &'b Basin,
+    reach: &'b CutList,
+    core: &'b CutList,
     right: u32,
-) -> Result<(), SinkFailed>
-    requires basin { IsValidBasin basin.now }
-    requires core { HasCut basin.now core.now right }
-    ensures text { Puts (K.output sink.old) (K.output sink.new) result
-        (flat_map (whole_line basin.now)
-        (flat_map (node_lines (cut_at core.now right)) (indices_of basin.now.nodes))) }
-    ensures cause { HasCause (K.faults sink.old) (K.faults sink.new) (IsErr result) }
-{
-    for node in 0..basin.nodes.len() as u32 {
-        put_line(sink, basin, node_line(basin, core, right, node))?;
-    }
-    Ok(())
 }
 
-/// Puts the lines of the links that lead from outside a right's reach into its core.
-fn put_links<K: Sink>(
-    sink: &mut K,
-    basin: &Basin,
-    reach: &CutList,
-    core: &CutList,
-    right: u32,
-) -> Result<(), SinkFailed>
-    requires basin { IsValidBasin basin.now }
-    requires reach { HasCut basin.now reach.now right }
-    requires core { HasCut basin.now core.now right }
-    ensures text { Puts (K.output sink.old) (K.output sink.new) result
-        (flat_map (whole_line basin.now)
-        (flat_map (link_lines basin.now (cut_at reach.now right) (cut_at core.now right))
-        (indices_of basin.now.links))) }
-    ensures cause { HasCause (K.faults sink.old) (K.faults sink.new) (IsErr result) }
-{
-    for link in 0..basin.links.len() as u32 {
-        put_line(sink, basin, link_line(basin, reach, core, right, link))?;
+impl<'b> Model for Help<'b> {
+    ghost use Rattle.call_list.specs.Helpers.{HelpSeen, IsHelpSeen, help_seen};
+
+    ghost Value = { HelpSeen };
+
+    ghost view = { λ h. help_seen h.basin.now h.reach.now h.core.now h.right };
+
+    ghost invariant = { λ h. IsHelpSeen (help_seen h.basin.now h.reach.now h.core.now h.right) };
+}
+
+impl<'b> Help<'b> {
+    /// The line of a node, if it is in the core.
+    fn node_at(&self, node: u32) -> Option<Entry>
+        requires { node < length self.now.basin.nodes }
+        ensures lines { option_to_list result ≡ help_lines self.now Nodes node }
+        ensures named { IfSome result (IsOfBasin self.now.basin) }
+    {
+        if holds(self.core, self.right, node) {
+            Some(Entry::At { node })
+        } else {
+            None
+        }
     }
-    Ok(())
+
+    /// The line of a link, if it leads from outside the reach into the core.
+    fn link_at(&self, link: u32) -> Option<Entry>
+        requires { link < length self.now.basin.links }
+        ensures lines { option_to_list result ≡ help_lines self.now Links link }
+        ensures named { IfSome result (IsOfBasin self.now.basin) }
+    {
+        let ends = &self.basin.links[link as usize];
+        if !holds(self.reach, self.right, ends.from) && holds(self.core, self.right, ends.to) {
+            Some(Entry::Carry { link })
+        } else {
+            None
+        }
+    }
+}
+
+impl<'b> Listing for Help<'b> {
+    type Part = Space;
+
+    type Said = Entry;
+
+    ghost of_basin = { λ h. h.basin };
+
+    ghost part_space = { λ part. part };
+
+    ghost entry_lines = { help_lines };
+
+    fn space(&self, part: Space) -> Space {
+        part
+    }
+
+    fn put_entry<K: Sink>(&self, sink: &mut K, part: Space, entry: u32) -> Result<(), SinkFailed> {
+        match part {
+            Space::Nodes => put_some(sink, self.basin, self.node_at(entry)),
+            Space::Links => put_some(sink, self.basin, self.link_at(entry)),
+            Space::Reservoirs | Space::Rights => Ok(()),
+        }
+    }
 }
 
 /// The first line: what a right got and wanted.
@@ -212,11 +196,13 @@ fn first_line(month: &MonthRecord, right: u32) -> Entry
 fn put_indices<K: Sink>(
     sink: &mut K,
     basin: &Basin,
+    roll: &Roll,
     month: &MonthRecord,
     core: &CutList,
     right: u32,
 ) -> Result<(), SinkFailed>
     requires basin { IsValidBasin basin.now }
+    requires roll { IsRollOf basin.now.rights roll.now }
     requires month { FitsText basin.now month.now }
     requires reach { HasCut basin.now month.now.cuts right }
     requires core { HasCut basin.now core.now right }
@@ -225,9 +211,15 @@ fn put_indices<K: Sink>(
         (helping_lines basin.now month.now right (cut_at month.now.cuts right) (cut_at core.now right))) }
     ensures cause { HasCause (K.faults sink.old) (K.faults sink.new) (IsErr result) }
 {
-    put_entry(sink, basin, first_line(month, right))?;
-    put_nodes(sink, basin, core, right)?;
-    put_links(sink, basin, &month.cuts, core, right)
+    let help = Help {
+        basin,
+        reach: &month.cuts,
+        core,
+        right,
+    };
+    let first = first_line(month, right);
+    let parts = [Space::Nodes, Space::Links];
+    put_listing(sink, &help, basin, roll, Some(first), &parts, None)
 }
 
 /// Puts where one more unit would help a short right of a month whose sets are the reaches: what it got and wanted;
@@ -260,6 +252,6 @@ pub fn put_helping<K: Sink>(
 {
     finder.find_core(basin, roll, month, right);
     let core = finder.cuts();
-    put_indices(sink, basin, month, core, right)?;
+    put_indices(sink, basin, roll, month, core, right)?;
     put_account(sink, basin, roll, month, core, right)
 }

@@ -1,10 +1,10 @@
 //! A month with what was found of it, and the lines of its list.
 ghost use Rattle.std.specs.Prelude.{◌≡◌, ◌<◌, length, IfSome};
 ghost use Rattle.std.specs.Option.{option_to_list};
-ghost use Rattle.water_model.specs.Indices.{seniors_first};
+ghost use Rattle.water_model.specs.Entries.{count_in};
 ghost use Rattle.call_list.specs.Entries.{IsOfBasin};
 ghost use Rattle.call_list.specs.Found.{curtailed_for};
-ghost use Rattle.call_list.specs.Lists.{count_in};
+ghost use Rattle.call_list.specs.Lists.{space_of};
 ghost use Rattle.call_list.specs.MonthsCalls.{lines_of};
 
 use crate::entry::Entry;
@@ -38,24 +38,6 @@ impl<'b> Model for MonthCalls<'b> {
 }
 
 impl<'b> MonthCalls<'b> {
-    /// How many indices a part goes over.
-    pub(crate) fn count_in(&self, part: Part) -> u32
-        ensures { result ≡ count_in part self.now.basin }
-    {
-        match part {
-            Part::Nexts => self.basin.nodes.len() as u32,
-            Part::Links => self.basin.links.len() as u32,
-            Part::Shorts | Part::Curtailed => self.basin.rights.len() as u32,
-        }
-    }
-
-    /// The rights of the basin, seniors first.
-    pub(crate) fn by_seniority(&self) -> &[u32]
-        ensures { result.now ≡ seniors_first self.now.basin }
-    {
-        self.roll.by_seniority()
-    }
-
     /// The line of a right, if it is short.
     fn short_at(&self, right: u32) -> Option<Entry>
         requires { right < length self.now.basin.rights }
@@ -132,7 +114,7 @@ impl<'b> MonthCalls<'b> {
 
     /// The line of an index of a part, if it has one.
     pub(crate) fn line_at(&self, part: Part, position: u32) -> Option<Entry>
-        requires { position < count_in part self.now.basin }
+        requires { position < count_in (space_of part) self.now.basin }
         ensures lines { option_to_list result ≡ lines_of self.now part position }
         ensures named { IfSome result (IsOfBasin self.now.basin) }
     {

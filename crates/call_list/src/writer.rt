@@ -1,101 +1,40 @@
 //! The list of calls, one `put` for each line.
-ghost use Rattle.std.specs.Prelude.{◌≡◌, ◌<◌, ◌∷◌, [], IsErr, length};
+ghost use Rattle.std.specs.Prelude.{IsErr};
 ghost use Rattle.water_edge.specs.Edge.{HasCause, Puts};
-ghost use Rattle.water_model.specs.Indices.{numbers_from, seniors_first};
 ghost use Rattle.water_model.specs.Valid.{IsValidBasin};
-ghost use Rattle.call_list.specs.Entries.{IsOfBasin, whole_line};
-ghost use Rattle.call_list.specs.Lists.{count_in, head_bytes, month_bytes, indices_in, tail_bytes};
-ghost use Rattle.call_list.specs.MonthsCalls.{bytes_of, lines_of, part_of, parts_of};
+ghost use Rattle.call_list.specs.Lists.{head_bytes, month_bytes, space_of, tail_bytes};
+ghost use Rattle.call_list.specs.MonthsCalls.{lines_of};
 
 use crate::entry::Entry;
 use crate::month::MonthCalls;
 use crate::part::{PARTS, Part};
-use crate::spelling::spell;
+use result_text::listing::{Listing, put_line, put_listing, put_some};
 use water_edge::{Sink, SinkFailed};
+use water_model::space::Space;
 use water_model::types::Basin;
-use water_text::line::Line;
 
-/// Puts the line of an entry.
-pub(crate) fn put_entry<K: Sink>(
-    sink: &mut K,
-    basin: &Basin,
-    entry: Entry,
-) -> Result<(), SinkFailed>
-    requires basin { IsValidBasin basin.now }
-    requires entry { IsOfBasin basin.now entry }
-    ensures text { Puts (K.output sink.old) (K.output sink.new) result (whole_line basin.now entry) }
-    ensures cause { HasCause (K.faults sink.old) (K.faults sink.new) (IsErr result) }
-{
-    let mut line = Line::new();
-    spell(&mut line, basin, &entry);
-    sink.put(line.bytes())
-}
+impl<'b> Listing for MonthCalls<'b> {
+    type Part = Part;
 
-/// Puts the line of an index of a part, if it has one.
-fn put_line<K: Sink>(
-    sink: &mut K,
-    calls: &MonthCalls,
-    part: Part,
-    position: u32,
-) -> Result<(), SinkFailed>
-    requires { position < count_in part calls.now.basin }
-    ensures text { Puts (K.output sink.old) (K.output sink.new) result
-        (bytes_of calls.now (lines_of calls.now part position)) }
-    ensures cause { HasCause (K.faults sink.old) (K.faults sink.new) (IsErr result) }
-{
-    match calls.line_at(part, position) {
-        Some(entry) => put_entry(sink, calls.basin, entry),
-        None => Ok(()),
+    type Said = Entry;
+
+    ghost of_basin = { λ c. c.basin };
+
+    ghost part_space = { space_of };
+
+    ghost entry_lines = { lines_of };
+
+    fn space(&self, part: Part) -> Space {
+        match part {
+            Part::Nexts => Space::Nodes,
+            Part::Links => Space::Links,
+            Part::Shorts | Part::Curtailed => Space::Rights,
+        }
     }
-}
 
-/// Puts the lines of a part whose indices are those of nodes or links, in the order of the basin.
-fn put_indices<K: Sink>(sink: &mut K, calls: &MonthCalls, part: Part) -> Result<(), SinkFailed>
-    requires { indices_in part calls.now.basin ≡ numbers_from 0 (count_in part calls.now.basin) }
-    ensures text { Puts (K.output sink.old) (K.output sink.new) result (bytes_of calls.now (part_of calls.now part)) }
-    ensures cause { HasCause (K.faults sink.old) (K.faults sink.new) (IsErr result) }
-{
-    let count = calls.count_in(part);
-    for position in 0..count {
-        put_line(sink, calls, part, position)?;
+    fn put_entry<K: Sink>(&self, sink: &mut K, part: Part, entry: u32) -> Result<(), SinkFailed> {
+        put_some(sink, self.basin, self.line_at(part, entry))
     }
-    Ok(())
-}
-
-/// Puts the lines of a part whose indices are those of rights, seniors first.
-fn put_rights<K: Sink>(sink: &mut K, calls: &MonthCalls, part: Part) -> Result<(), SinkFailed>
-    requires order { indices_in part calls.now.basin ≡ seniors_first calls.now.basin }
-    requires count { count_in part calls.now.basin ≡ length calls.now.basin.rights }
-    ensures text { Puts (K.output sink.old) (K.output sink.new) result (bytes_of calls.now (part_of calls.now part)) }
-    ensures cause { HasCause (K.faults sink.old) (K.faults sink.new) (IsErr result) }
-{
-    let order = calls.by_seniority();
-    for right in order {
-        put_line(sink, calls, part, *right)?;
-    }
-    Ok(())
-}
-
-/// Puts the lines of a part.
-fn put_part<K: Sink>(sink: &mut K, calls: &MonthCalls, part: Part) -> Result<(), SinkFailed>
-    ensures text { Puts (K.output sink.old) (K.output sink.new) result (bytes_of calls.now (part_of calls.now part)) }
-    ensures cause { HasCause (K.faults sink.old) (K.faults sink.new) (IsErr result) }
-{
-    match part {
-        Part::Shorts | Part::Curtailed => put_rights(sink, calls, part),
-        Part::Nexts | Part::Links => put_indices(sink, calls, part),
-    }
-}
-
-/// Puts all lines between the first and the last of a month, part by part.
-fn put_parts<K: Sink>(sink: &mut K, calls: &MonthCalls) -> Result<(), SinkFailed>
-    ensures text { Puts (K.output sink.old) (K.output sink.new) result (bytes_of calls.now (parts_of calls.now)) }
-    ensures cause { HasCause (K.faults sink.old) (K.faults sink.new) (IsErr result) }
-{
-    for part in PARTS.iter() {
-        put_part(sink, calls, *part)?;
-    }
-    Ok(())
 }
 
 /// Puts the list of a month: each short right with what it got and wanted, seniors first; each node at which one more
@@ -110,9 +49,9 @@ pub fn put_month<K: Sink>(sink: &mut K, calls: &MonthCalls) -> Result<(), SinkFa
     ensures cause { HasCause (K.faults sink.old) (K.faults sink.new) (IsErr result) }
 {
     let month = calls.month.month;
-    put_entry(sink, calls.basin, Entry::Month { month })?;
-    put_parts(sink, calls)?;
-    put_entry(sink, calls.basin, Entry::End)
+    let first = Some(Entry::Month { month });
+    let last = Some(Entry::End);
+    put_listing(sink, calls, calls.basin, calls.roll, first, &PARTS, last)
 }
 
 /// Puts the first line of a list.
@@ -125,7 +64,7 @@ pub fn put_head<K: Sink>(sink: &mut K, basin: &Basin) -> Result<(), SinkFailed>
         first: basin.first,
         months: basin.months,
     };
-    put_entry(sink, basin, entry)
+    put_line(sink, basin, entry)
 }
 
 /// Puts the last line of a list.
@@ -137,5 +76,5 @@ pub fn put_tail<K: Sink>(sink: &mut K, basin: &Basin) -> Result<(), SinkFailed>
     let entry = Entry::Done {
         months: basin.months,
     };
-    put_entry(sink, basin, entry)
+    put_line(sink, basin, entry)
 }

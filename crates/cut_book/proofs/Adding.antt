@@ -11,13 +11,14 @@ use Rattle.finite_sums.proofs.Totals.{total_first, total_same}
 use Rattle.water_model.specs.Basin.{is_on_link, is_senior}
 use Rattle.water_model.specs.Cuts.{enters, leaves, takes_within, kept_on, cut_capacity, cut_kept}
 use Rattle.water_model.specs.Lookups.{has}
+use Rattle.water_model.specs.Entries.{in_order}
 use Rattle.water_model.specs.Indices.{numbers_from, indices_of, put_right, sort_rights, by_seniority, seniors_first}
 use Rattle.water_model.specs.Plans.{carry_of}
 use Rattle.water_model.specs.declared.types.Basin.{Basin}
 use Rattle.water_model.specs.declared.types.MonthRecord.{MonthRecord}
 use Rattle.water_model.specs.declared.types.Right.{Right}
 use Rattle.water_model.proofs.Order.{seniors_have, find-none}
-use Rattle.cut_book.specs.Book.{counts, terms_at, keep_terms, lines_at, lines_in, indices_in, terms}
+use Rattle.cut_book.specs.Book.{counts, terms_at, keep_terms, lines_at, lines_in, space_of, terms}
 use Rattle.cut_book.specs.Entries.{brought, kept, amount_of, has_amount}
 use Rattle.cut_book.specs.Holders.{holder_of, holds_amount}
 use Rattle.cut_book.specs.Laws.{LinesMakeBound, TightBooksSumToDelivery}
@@ -122,11 +123,12 @@ one g e = sum_by-cons g e [] ∙ omega arith
 -- the lines of a part, by what its terms are worth
 sum_part : (g : BookLine → ℕ) (p : Part) (b : Basin) (m : MonthRecord) (right : ℕ) (set : List Bool) (value : ℕ → ℕ) →
     ((e : BookLine) → g e ≤ amount_of e) → ((k : ℕ) → sum_by g (terms_at p b m right k) ≡ value k) →
-    sum_by g (lines_in p b m right set) ≡ sum_by (λ k. if counts p b right set k then value k else 0) (indices_in p b)
+    sum_by g (lines_in p b m right set)
+    ≡ sum_by (λ k. if counts p b right set k then value k else 0) (in_order (space_of p) b)
 sum_part g p b m right set value most is =
-    sum_flat g (lines_at p b m right set) (indices_in p b)
+    sum_flat g (lines_at p b m right set) (in_order (space_of p) b)
     ∙ sum_same (λ k. sum_by g (lines_at p b m right set k)) (λ k. if counts p b right set k then value k else 0)
-    (indices_in p b) (λ k. at k (counts p b right set k))
+    (in_order (space_of p) b) (λ k. at k (counts p b right set k))
   where
     at : (k : ℕ) (t : Bool) →
         sum_by g (if t then filter has_amount (terms_at p b m right k) else []) ≡ (if t then value k else 0)
@@ -134,9 +136,10 @@ sum_part g p b m right set value most is =
     at k false = refl
 
 nothing_in : (p : Part) (b : Basin) (right : ℕ) (set : List Bool) →
-    sum_by (λ k. if counts p b right set k then 0 else 0) (indices_in p b) ≡ 0
+    sum_by (λ k. if counts p b right set k then 0 else 0) (in_order (space_of p) b) ≡ 0
 nothing_in p b right set =
-    sum_none (λ k. if counts p b right set k then 0 else 0) (indices_in p b) (λ k. same_at (counts p b right set k) 0)
+    sum_none (λ k. if counts p b right set k then 0 else 0) (in_order (space_of p) b)
+    (λ k. same_at (counts p b right set k) 0)
   where
     same_at : (t : Bool) (x : ℕ) → (if t then x else x) ≡ x
     same_at true x = refl

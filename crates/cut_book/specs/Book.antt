@@ -1,12 +1,14 @@
 -- The account book of a right: the terms of the bound of a set, and what they add up to.
-use Rattle.std.specs.Prelude.{ℕ, Bool, ◌&&◌, not, List, [], ◌∷◌, ◌++◌, filter, length, slice_index, Option, Some, None}
+use Rattle.std.specs.Prelude.{ℕ, Bool, ◌&&◌, not, List, [], ◌∷◌, ◌++◌, filter, slice_index, Option, Some, None}
 use Rattle.std.specs.Prelude.{if◌then◌else◌}
 use Rattle.std.specs.List.{flat_map}
 use Rattle.water_model.specs.Basin.{is_on_link, is_senior}
 use Rattle.water_model.specs.Cuts.{enters, leaves, takes_within, kept_on}
 use Rattle.water_model.specs.Lookups.{has}
-use Rattle.water_model.specs.Indices.{indices_of, seniors_first}
+use Rattle.water_model.specs.Entries.{in_order}
 use Rattle.water_model.specs.Plans.{carry_of}
+use Rattle.water_model.specs.declared.space.Space.{Space}
+use Rattle.water_model.specs.declared.space.Space.TheVariants as space
 use Rattle.water_model.specs.declared.types.Basin.{Basin}
 use Rattle.water_model.specs.declared.types.MonthRecord.{MonthRecord}
 use Rattle.cut_book.specs.Entries.{has_amount, balance_of, whole_line}
@@ -16,18 +18,12 @@ use Rattle.cut_book.specs.declared.entry.BookLine.TheVariants as line
 use Rattle.cut_book.specs.declared.part.Part.{Part}
 use Rattle.cut_book.specs.declared.part.Part.TheVariants as part
 
--- what a part goes over: nodes and links in the order of the basin, rights seniors first
-abbrev pub indices_in : Part → Basin → List ℕ
-indices_in part.Supplies b = indices_of b.nodes
-indices_in part.Enters b = indices_of b.links
-indices_in part.Keeps b = indices_of b.links
-indices_in part.Takes b = seniors_first b
-
-abbrev pub count_in : Part → Basin → ℕ
-count_in part.Supplies b = length b.nodes
-count_in part.Enters b = length b.links
-count_in part.Keeps b = length b.links
-count_in part.Takes b = length b.rights
+-- the space that a part goes over
+abbrev pub space_of : Part → Space
+space_of part.Supplies = space.Nodes
+space_of part.Enters = space.Links
+space_of part.Keeps = space.Links
+space_of part.Takes = space.Rights
 
 -- whether it has a term in the bound of a right's set
 abbrev pub counts : Part → Basin → ℕ → List Bool → ℕ → Bool
@@ -55,7 +51,7 @@ lines_at of_part b m right set index =
     if counts of_part b right set index then filter has_amount (terms_at of_part b m right index) else []
 
 abbrev pub lines_in : Part → Basin → MonthRecord → ℕ → List Bool → List BookLine
-lines_in of_part b m right set = flat_map (lines_at of_part b m right set) (indices_in of_part b)
+lines_in of_part b m right set = flat_map (lines_at of_part b m right set) (in_order (space_of of_part) b)
 
 -- all terms: supplies, links that enter, what is kept on links, and takes
 abbrev pub terms : Basin → MonthRecord → ℕ → List Bool → List BookLine

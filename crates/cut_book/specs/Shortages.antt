@@ -1,6 +1,5 @@
 -- A right that is short in a month, and the lines of its account.
 use Rattle.std.specs.Prelude.{ℕ, List}
-use Rattle.std.specs.List.{flat_map}
 use Rattle.rights_roll.specs.Rolls.{IsRollOf}
 use Rattle.rights_roll.specs.RollView.{RollView}
 use Rattle.water_model.specs.CutSets.{CutSets}
@@ -9,8 +8,7 @@ use Rattle.water_model.specs.declared.types.Basin.{Basin}
 use Rattle.water_model.specs.declared.types.MonthRecord.{MonthRecord}
 use Rattle.result_text.specs.Range.{FitsText}
 use Rattle.cut_cert.specs.Sets.{HasCut, cut_at}
-use Rattle.cut_book.specs.Book.{lines_at, lines_in, terms}
-use Rattle.cut_book.specs.Entries.{whole_line}
+use Rattle.cut_book.specs.Book.{lines_at, terms}
 use Rattle.cut_book.specs.declared.entry.BookLine.{BookLine}
 use Rattle.cut_book.specs.declared.part.Part.{Part}
 
@@ -34,16 +32,9 @@ pub record IsShortage (s : ShortageView) : Type 0 where
   pub fits : FitsText s.basin s.month
   pub cut : HasCut s.basin s.cuts s.right
 
--- the lines of an index of a part of its set's bound, those of the part, and all
+-- the lines of an entry of a part of its set's bound, and all
 abbrev pub lines_of : ShortageView → Part → ℕ → List BookLine
 lines_of s of_part index = lines_at of_part s.basin s.month s.right (cut_at s.cuts s.right) index
 
-abbrev pub part_of : ShortageView → Part → List BookLine
-part_of s of_part = lines_in of_part s.basin s.month s.right (cut_at s.cuts s.right)
-
 abbrev pub terms_of : ShortageView → List BookLine
 terms_of s = terms s.basin s.month s.right (cut_at s.cuts s.right)
-
--- the bytes of some lines
-abbrev pub bytes_of : ShortageView → List BookLine → List ℕ
-bytes_of s lines = flat_map (whole_line s.basin) lines

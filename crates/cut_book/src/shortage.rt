@@ -1,8 +1,8 @@
 //! A right that is short in a month, and the terms of its account.
 ghost use Rattle.std.specs.Prelude.{◌≡◌, ◌∷◌, [], ◌<◌, filter, length, slice_index, IfSome};
 ghost use Rattle.std.specs.Option.{option_to_list};
-ghost use Rattle.water_model.specs.Indices.{seniors_first};
-ghost use Rattle.cut_book.specs.Book.{count_in};
+ghost use Rattle.water_model.specs.Entries.{count_in};
+ghost use Rattle.cut_book.specs.Book.{space_of};
 ghost use Rattle.cut_book.specs.Entries.{IsOfBasin, amount_of, has_amount};
 ghost use Rattle.cut_book.specs.Shortages.{lines_of};
 
@@ -48,24 +48,6 @@ fn unless_zero(entry: BookLine, amount: u64) -> Option<BookLine>
 }
 
 impl<'b> Shortage<'b> {
-    /// How many indices a part goes over.
-    pub fn count_in(&self, part: Part) -> u32
-        ensures { result ≡ count_in part self.now.basin }
-    {
-        match part {
-            Part::Supplies => self.basin.nodes.len() as u32,
-            Part::Enters | Part::Keeps => self.basin.links.len() as u32,
-            Part::Takes => self.basin.rights.len() as u32,
-        }
-    }
-
-    /// The rights of the basin, seniors first.
-    pub fn by_seniority(&self) -> &[u32]
-        ensures { result.now ≡ seniors_first self.now.basin }
-    {
-        self.roll.by_seniority()
-    }
-
     /// The line of a node's supply.
     fn supply_at(&self, node: u32) -> Option<BookLine>
         requires { node < length self.now.basin.nodes }
@@ -139,7 +121,7 @@ impl<'b> Shortage<'b> {
 
     /// The line of an index of a part, if it has one.
     pub fn line_at(&self, part: Part, index: u32) -> Option<BookLine>
-        requires { index < count_in part self.now.basin }
+        requires { index < count_in (space_of part) self.now.basin }
         ensures lines { option_to_list result ≡ lines_of self.now part index }
         ensures named { IfSome result (IsOfBasin self.now.basin) }
     {

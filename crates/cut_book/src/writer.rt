@@ -1,104 +1,46 @@
 //! The account book, one `put` for each line.
-ghost use Rattle.std.specs.Prelude.{◌≡◌, ◌<◌, ◌∷◌, [], IsErr};
+ghost use Rattle.std.specs.Prelude.{IsErr};
 ghost use Rattle.rights_roll.specs.Rolls.{IsRollOf};
 ghost use Rattle.water_edge.specs.Edge.{HasCause, Puts};
 ghost use Rattle.water_model.specs.Cuts.{IsTight};
-ghost use Rattle.water_model.specs.Indices.{numbers_from};
 ghost use Rattle.water_model.specs.Valid.{IsValidBasin};
 ghost use Rattle.result_text.specs.Range.{FitsText};
 ghost use Rattle.cut_cert.specs.Sets.{HasCut, cut_at};
-ghost use Rattle.cut_book.specs.Entries.{IsOfBasin};
-ghost use Rattle.cut_book.specs.Book.{account_bytes, book_bytes, count_in, indices_in};
-ghost use Rattle.cut_book.specs.Shortages.{bytes_of, lines_of, part_of, terms_of};
+ghost use Rattle.cut_book.specs.Book.{account_bytes, book_bytes, space_of};
+ghost use Rattle.cut_book.specs.Shortages.{lines_of};
 
 use crate::entry::BookLine;
 use crate::part::{PARTS, Part};
 use crate::shortage::Shortage;
-use crate::spelling::spell;
+use result_text::listing::{Listing, put_listing, put_some};
 use rights_roll::roll::Roll;
 use water_edge::{Sink, SinkFailed};
 use water_model::cut_list::CutList;
+use water_model::space::Space;
 use water_model::types::{Basin, MonthRecord};
-use water_text::line::Line;
 
-/// Puts the line of an entry.
-fn put_entry<K: Sink>(sink: &mut K, shortage: &Shortage, entry: BookLine) -> Result<(), SinkFailed>
-    requires { IsOfBasin shortage.now.basin entry }
-    ensures text { Puts (K.output sink.old) (K.output sink.new) result (bytes_of shortage.now (entry ∷ [])) }
-    ensures cause { HasCause (K.faults sink.old) (K.faults sink.new) (IsErr result) }
-{
-    let mut line = Line::new();
-    spell(&mut line, shortage.basin, &entry);
-    sink.put(line.bytes())
-}
+impl<'b> Listing for Shortage<'b> {
+    type Part = Part;
 
-/// Puts the line of an index of a part, if it has one.
-fn put_line<K: Sink>(
-    sink: &mut K,
-    shortage: &Shortage,
-    part: Part,
-    index: u32,
-) -> Result<(), SinkFailed>
-    requires { index < count_in part shortage.now.basin }
-    ensures text { Puts (K.output sink.old) (K.output sink.new) result
-        (bytes_of shortage.now (lines_of shortage.now part index)) }
-    ensures cause { HasCause (K.faults sink.old) (K.faults sink.new) (IsErr result) }
-{
-    match shortage.line_at(part, index) {
-        Some(entry) => put_entry(sink, shortage, entry),
-        None => Ok(()),
+    type Said = BookLine;
+
+    ghost of_basin = { λ s. s.basin };
+
+    ghost part_space = { space_of };
+
+    ghost entry_lines = { lines_of };
+
+    fn space(&self, part: Part) -> Space {
+        match part {
+            Part::Supplies => Space::Nodes,
+            Part::Enters | Part::Keeps => Space::Links,
+            Part::Takes => Space::Rights,
+        }
     }
-}
 
-/// Puts the lines of a part whose indices are those of nodes or links, in the order of the basin.
-fn put_indices<K: Sink>(sink: &mut K, shortage: &Shortage, part: Part) -> Result<(), SinkFailed>
-    requires { indices_in part shortage.now.basin ≡ numbers_from 0 (count_in part shortage.now.basin) }
-    ensures text { Puts (K.output sink.old) (K.output sink.new) result
-        (bytes_of shortage.now (part_of shortage.now part)) }
-    ensures cause { HasCause (K.faults sink.old) (K.faults sink.new) (IsErr result) }
-{
-    let count = shortage.count_in(part);
-    for index in 0..count {
-        put_line(sink, shortage, part, index)?;
+    fn put_entry<K: Sink>(&self, sink: &mut K, part: Part, entry: u32) -> Result<(), SinkFailed> {
+        put_some(sink, self.basin, self.line_at(part, entry))
     }
-    Ok(())
-}
-
-/// Puts the lines of takes, seniors first.
-fn put_takes<K: Sink>(sink: &mut K, shortage: &Shortage) -> Result<(), SinkFailed>
-    ensures text { Puts (K.output sink.old) (K.output sink.new) result
-        (bytes_of shortage.now (part_of shortage.now Part.Takes)) }
-    ensures cause { HasCause (K.faults sink.old) (K.faults sink.new) (IsErr result) }
-{
-    let order = shortage.by_seniority();
-    for taker in order {
-        put_line(sink, shortage, Part::Takes, *taker)?;
-    }
-    Ok(())
-}
-
-/// Puts the lines of a part.
-fn put_part<K: Sink>(sink: &mut K, shortage: &Shortage, part: Part) -> Result<(), SinkFailed>
-    ensures text { Puts (K.output sink.old) (K.output sink.new) result
-        (bytes_of shortage.now (part_of shortage.now part)) }
-    ensures cause { HasCause (K.faults sink.old) (K.faults sink.new) (IsErr result) }
-{
-    match part {
-        Part::Takes => put_takes(sink, shortage),
-        _ => put_indices(sink, shortage, part),
-    }
-}
-
-/// Puts all terms of the bound of a right's set, part by part.
-fn put_terms<K: Sink>(sink: &mut K, shortage: &Shortage) -> Result<(), SinkFailed>
-    ensures text { Puts (K.output sink.old) (K.output sink.new) result
-        (bytes_of shortage.now (terms_of shortage.now)) }
-    ensures cause { HasCause (K.faults sink.old) (K.faults sink.new) (IsErr result) }
-{
-    for part in PARTS.iter() {
-        put_part(sink, shortage, *part)?;
-    }
-    Ok(())
 }
 
 /// Puts the account of a right whose set in these cuts is a tight cut of it: the lines of its book after the first.
@@ -132,8 +74,8 @@ pub fn put_account<K: Sink>(
         cuts,
         right,
     };
-    put_terms(sink, &shortage)?;
-    put_entry(sink, &shortage, shortage.sum())
+    let sum = shortage.sum();
+    put_listing(sink, &shortage, basin, roll, None, &PARTS, Some(sum))
 }
 
 /// Puts the account book of a right whose set in the record is a tight cut of it: what it got and wanted, each supply
@@ -166,6 +108,7 @@ pub fn put_book<K: Sink>(
         cuts: &month.cuts,
         right,
     };
-    put_entry(sink, &shortage, shortage.why())?;
-    put_account(sink, basin, roll, month, &month.cuts, right)
+    let why = shortage.why();
+    let sum = shortage.sum();
+    put_listing(sink, &shortage, basin, roll, Some(why), &PARTS, Some(sum))
 }

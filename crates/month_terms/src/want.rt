@@ -7,8 +7,8 @@ ghost use Rattle.water_model.specs.Valid.{IsValidBasin, IsSeriesOf};
 use water_model::calls::{month_at, want_of};
 use water_model::types::{Basin, Inflows, Plan, RightKind};
 
-/// The want of a right in the month with this index. `position` is that of its calendar month in a list of twelve: it is
-/// the same for all rights, and most of them want what stands there.
+/// The want of a right in the month with this index. `position` is that of its calendar month in a list of twelve: it
+/// is the same for all rights, and most of them want what stands there.
 fn want_in_year(
     basin: &Basin,
     series: &Inflows,

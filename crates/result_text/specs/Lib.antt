@@ -1,3 +1,4 @@
 pub mod Range
 pub mod Members
 pub mod Begun
+pub mod Lines

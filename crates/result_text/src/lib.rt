@@ -5,8 +5,9 @@
 //! No call takes memory.
 #![tactic(auto)]
 
+pub mod listing;
 mod section;
-pub mod spelling;
+mod spelling;
 mod writer;
 
 pub use result_lines::item::Item;

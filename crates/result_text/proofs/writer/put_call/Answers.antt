@@ -11,13 +11,13 @@ use Rattle.result_text.proofs.Members.{call_lines}
 use Rattle.water_edge.proofs.Puts.{Puts-first}
 use Rattle.result_text.proofs.writer.put_call.Goals as goal
 
-pub returns-in_ok-put_item-in-Some-clause-text : goal.returns-in_ok-put_item-in-Some-clause-text
-returns-in_ok-put_item-in-Some-clause-text g c =
+pub returns-in_ok-put_line-in-Some-clause-text : goal.returns-in_ok-put_line-in-Some-clause-text
+returns-in_ok-put_line-in-Some-clause-text g c =
     let nodes = c.len-nodes.result in
     let words = c.in-Some.words.now in
     let all = Puts-first (whole_line c.args.basin.now) (line.Call c.args.right) (members_of nodes words)
-    (g.K.Sink.output c.args.sink.now) (g.K.Sink.output c.put_item.new.sink) (g.K.Sink.output c.put_members.new.sink)
-    c.put_members.result c.in_ok-put_item-in-Some.ensures.text c.put_members.ensures.text in
+    (g.K.Sink.output c.args.sink.now) (g.K.Sink.output c.put_line.new.sink) (g.K.Sink.output c.put_members.new.sink)
+    c.put_members.result c.in_ok-put_line-in-Some.ensures.text c.put_members.ensures.text in
     subst (λ (items : List Item). Puts (g.K.Sink.output c.args.sink.now) (g.K.Sink.output c.put_members.new.sink)
     c.put_members.result (flat_map (whole_line c.args.basin.now) items))
     (call_lines c.args.right nodes words (cut_of c.args.month.now c.args.right)

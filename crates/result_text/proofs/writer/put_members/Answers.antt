@@ -29,24 +29,24 @@ loop-turn-preserved g c =
           c.loop-turn.invariant.put next)
           (numbers_from-get 0 c.args.nodes c.in-Some.node c.in-Some.node (omega (arith, next.below)) (omega arith))
           (subst (λ (items : List Item). Extends (g.K.Sink.output c.loop-turn.sink)
-          (g.K.Sink.output c.put_item.new.sink)
+          (g.K.Sink.output c.put_line.new.sink)
           (flat_map (whole_line c.args.basin.now) items))
           (sym (line_of_next c.args.words.now c.loop-turn.from c.args.nodes c.in-Some.node next))
-          c.in_ok-put_item-in-Some.ensures.text)
-          c.in_ok-put_item-in-Some.ensures.cause.later;
+          c.in_ok-put_line-in-Some.ensures.text)
+          c.in_ok-put_line-in-Some.ensures.cause.later;
     }
 
-pub returns-in_err-put_item-in-Some-clause-text : goal.returns-in_err-put_item-in-Some-clause-text
-returns-in_err-put_item-in-Some-clause-text g c =
+pub returns-in_err-put_line-in-Some-clause-text : goal.returns-in_err-put_line-in-Some-clause-text
+returns-in_err-put_line-in-Some-clause-text g c =
     let next = c.in-Some.ensures.some in
-    SoFar-fails c.in-Some.node (g.K.Sink.output c.put_item.new.sink) c.from_residual.result
+    SoFar-fails c.in-Some.node (g.K.Sink.output c.put_line.new.sink) c.from_residual.result
     (SoFar-at c.args.basin.now c.args.words.now c.args.nodes c.loop-turn.from c.in-Some.node
     c.loop-turn.invariant.put next)
     (numbers_from-get 0 c.args.nodes c.in-Some.node c.in-Some.node (omega (arith, next.below)) (omega arith))
-    (subst (λ (items : List Item). PutsPrefix (g.K.Sink.output c.loop-turn.sink) (g.K.Sink.output c.put_item.new.sink)
+    (subst (λ (items : List Item). PutsPrefix (g.K.Sink.output c.loop-turn.sink) (g.K.Sink.output c.put_line.new.sink)
     (flat_map (whole_line c.args.basin.now) items))
     (sym (line_of_next c.args.words.now c.loop-turn.from c.args.nodes c.in-Some.node next))
-    c.in_err-put_item-in-Some.ensures.text)
+    c.in_err-put_line-in-Some.ensures.text)
     c.from_residual.ensures.0
 
 pub returns-in-None-clause-text : goal.returns-in-None-clause-text
