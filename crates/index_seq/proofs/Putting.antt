@@ -10,11 +10,7 @@ use Rattle.water_edge.proofs.Outputs.{Extends-trans}
 use Rattle.water_model.specs.declared.types.Basin.{Basin}
 use Rattle.water_edge.proofs.Puts.{PutsPrefix, PutsPrefix-fails, PutsPrefix-then, PutsPrefix-cut}
 use Rattle.index_seq.specs.Entries.{whole_line}
-use Rattle.index_seq.specs.Text.{yearly_lines, right_lines, ensemble_lines}
-use Rattle.index_seq.specs.Traces.{years_of}
-use Rattle.index_seq.specs.declared.entry.EnsembleLine.{EnsembleLine}
-use Rattle.std.proofs.lemmas.Grind.{flat_map-append}
-use Rattle.water_model.specs.Indices.{seniors_first}
+use Rattle.index_seq.specs.Text.{yearly_lines}
 use Rattle.index_seq.specs.declared.entry.EnsembleLine.TheVariants as line
 use Rattle.index_seq.proofs.Counting.{first_of_rest}
 
@@ -72,18 +68,3 @@ put_fails b amounts rest count old mid new before between r s l is here failed =
 
     further : List ℕ
     further = flat_map (whole_line b) (yearly_lines (drop count rest))
-
--- a whole text: its first line, those of the rights, and its last line
-pub text_pieces : (b : Basin) (amounts : ℕ → List ℕ) →
-    flat_map (whole_line b) (line.Ensemble b.first (years_of b) ∷ [])
-    ++ (flat_map (whole_line b) (flat_map (right_lines amounts) (seniors_first b)) ++ flat_map (whole_line b)
-    (line.Done (years_of b) ∷ []))
-    ≡ flat_map (whole_line b) (ensemble_lines b amounts)
-text_pieces b amounts =
-    ap (λ t. t ++ (flat_map (whole_line b) rights ++ flat_map (whole_line b) (line.Done (years_of b) ∷ [])))
-    (append-nil (whole_line b (line.Ensemble b.first (years_of b))))
-    ∙ ap (λ t. whole_line b (line.Ensemble b.first (years_of b)) ++ t)
-    (sym (flat_map-append (whole_line b) rights (line.Done (years_of b) ∷ [])))
-  where
-    rights : List EnsembleLine
-    rights = flat_map (right_lines amounts) (seniors_first b)

@@ -1,7 +1,9 @@
 -- The text of an ensemble.
-use Rattle.std.specs.Prelude.{ℕ, List, [], ◌∷◌, ◌++◌, map}
+use Rattle.std.specs.Prelude.{◌≡◌, ℕ, List, [], ◌∷◌, ◌++◌, length, map, slice_index_or}
 use Rattle.std.specs.List.{flat_map}
+use Rattle.std.specs.List.Sorted.{IsNonDecreasingBy}
 use Rattle.water_model.specs.Indices.{seniors_first}
+use Rattle.water_model.specs.Valid.{IsValidBasin}
 use Rattle.water_model.specs.declared.types.Basin.{Basin}
 use Rattle.water_model.specs.declared.types.MonthRecord.{MonthRecord}
 use Rattle.index_seq.specs.Counts.{rising, count_of}
@@ -27,3 +29,16 @@ ensemble_lines b amounts =
 -- the text of some traces
 abbrev pub ensemble_text : Basin → List (List MonthRecord) → List ℕ
 ensemble_text b traces = flat_map (whole_line b) (ensemble_lines b (yearly_deliveries b traces))
+
+-- what contracts see of the amounts of all rights, which don't fall
+pub record AmountsSeen : Type 0 where
+  pub basin : Basin
+  pub by_right : List (List ℕ)
+
+abbrev pub amounts_seen : Basin → List (List ℕ) → AmountsSeen
+amounts_seen b amounts = record { basin = b; by_right = amounts }
+
+pub record AreAmounts (a : AmountsSeen) : Type 0 where
+  pub valid : IsValidBasin a.basin
+  pub count : length a.by_right ≡ length a.basin.rights
+  pub sorted : (r : ℕ) → IsNonDecreasingBy (λ x. x) (slice_index_or a.by_right r [])

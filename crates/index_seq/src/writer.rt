@@ -4,31 +4,19 @@ ghost use Rattle.std.specs.List.{flat_map, prefix_len};
 ghost use Rattle.std.specs.List.Sorted.{IsNonDecreasingBy};
 ghost use Rattle.water_edge.specs.Edge.{HasCause, Puts};
 ghost use Rattle.water_model.specs.Valid.{IsValidBasin};
-ghost use Rattle.index_seq.specs.Entries.{IsOfBasin, whole_line};
+ghost use Rattle.water_model.specs.declared.space.Space.TheVariants.{Rights};
+ghost use Rattle.index_seq.specs.Entries.{whole_line};
 ghost use Rattle.index_seq.specs.Text.{yearly_lines, right_lines, ensemble_lines};
 ghost use Rattle.rights_roll.specs.Rolls.{IsRollOf};
-ghost use Rattle.water_model.specs.Indices.{seniors_first};
 
 use crate::entry::EnsembleLine;
-use crate::spelling::spell;
+use result_text::listing::{Listing, put_line, put_listing};
 use rights_roll::roll::Roll;
+use std::marker::Model;
 use water_edge::{Sink, SinkFailed};
 use water_model::rows::Rows;
+use water_model::space::Space;
 use water_model::types::Basin;
-use water_text::line::Line;
-
-/// Puts the line of an entry.
-fn put_entry<K: Sink>(sink: &mut K, basin: &Basin, entry: EnsembleLine) -> Result<(), SinkFailed>
-    requires basin { IsValidBasin basin.now }
-    requires entry { IsOfBasin basin.now entry }
-    ensures text { Puts (K.output sink.old) (K.output sink.new) result
-        (flat_map (whole_line basin.now) (entry ∷ [])) }
-    ensures cause { HasCause (K.faults sink.old) (K.faults sink.new) (IsErr result) }
-{
-    let mut line = Line::new();
-    spell(&mut line, basin, &entry);
-    sink.put(line.bytes())
-}
 
 /// How many of the first amounts are equal to the first one.
 #[tactic(auto, using(crate::proofs::Prefixes::prefixes))]
@@ -68,7 +56,7 @@ pub fn put_yearly<K: Sink>(sink: &mut K, basin: &Basin, amounts: &[u64]) -> Resu
             amount: rest[0],
             count: count as u64,
         };
-        put_entry(sink, basin, entry)?;
+        put_line(sink, basin, entry)?;
         rest = after(rest, count);
     }
     Ok(())
@@ -88,39 +76,56 @@ fn put_right<K: Sink>(
         (flat_map (whole_line basin.now) (EnsembleLine.Right right ∷ yearly_lines amounts.now)) }
     ensures cause { HasCause (K.faults sink.old) (K.faults sink.new) (IsErr result) }
 {
-    put_entry(sink, basin, EnsembleLine::Right { right })?;
+    put_line(sink, basin, EnsembleLine::Right { right })?;
     put_yearly(sink, basin, amounts)
 }
 
-/// The amounts of a right.
-fn amounts_of(amounts: &[Rows<u64>], right: u32) -> &[u64]
-    requires { right < length amounts.now }
-    ensures { result.now ≡ slice_index_or amounts.now right [] }
-{
-    amounts[right as usize].as_slice()
+/// What each right of a basin was delivered in the years of an ensemble. The amounts of each right don't fall.
+#[derive(Drop)]
+struct Amounts<'b> {
+    basin: &'b Basin,
+    by_right: &'b [Rows<u64>],
 }
 
-/// Puts the lines of all rights, seniors first. The amounts of each right don't fall.
-fn put_rights<K: Sink>(
-    sink: &mut K,
-    basin: &Basin,
-    roll: &Roll,
-    amounts: &[Rows<u64>],
-) -> Result<(), SinkFailed>
-    requires basin { IsValidBasin basin.now }
-    requires roll { IsRollOf basin.now.rights roll.now }
-    requires count { length amounts.now ≡ length basin.now.rights }
-    requires sorted { (r : ℕ) → IsNonDecreasingBy (λ x. x) (slice_index_or amounts.now r []) }
-    ensures text { Puts (K.output sink.old) (K.output sink.new) result
-        (flat_map (whole_line basin.now)
-        (flat_map (right_lines (λ r. slice_index_or amounts.now r [])) (seniors_first basin.now))) }
-    ensures cause { HasCause (K.faults sink.old) (K.faults sink.new) (IsErr result) }
-{
-    let order = roll.by_seniority();
-    for right in order {
-        put_right(sink, basin, *right, amounts_of(amounts, *right))?;
+impl<'b> Model for Amounts<'b> {
+    ghost use Rattle.index_seq.specs.Text.{AmountsSeen, AreAmounts, amounts_seen};
+
+    ghost Value = { AmountsSeen };
+
+    ghost view = { λ a. amounts_seen a.basin.now a.by_right.now };
+
+    ghost invariant = { λ a. AreAmounts (amounts_seen a.basin.now a.by_right.now) };
+}
+
+impl<'b> Amounts<'b> {
+    /// The amounts of a right.
+    fn of(&self, right: u32) -> &[u64]
+        requires { right < length self.now.basin.rights }
+        ensures right { result.now ≡ slice_index_or self.now.by_right right [] }
+        ensures sorted { IsNonDecreasingBy (λ x. x) result.now }
+    {
+        self.by_right[right as usize].as_slice()
     }
-    Ok(())
+}
+
+impl<'b> Listing for Amounts<'b> {
+    type Part = ();
+
+    type Said = EnsembleLine;
+
+    ghost of_basin = { λ a. a.basin };
+
+    ghost part_space = { λ part. Rights };
+
+    ghost entry_lines = { λ a part right. right_lines (λ r. slice_index_or a.by_right r []) right };
+
+    fn space(&self, _part: ()) -> Space {
+        Space::Rights
+    }
+
+    fn put_entry<K: Sink>(&self, sink: &mut K, _part: (), right: u32) -> Result<(), SinkFailed> {
+        put_right(sink, self.basin, right, self.of(right))
+    }
 }
 
 /// Puts the text of an ensemble, by the amounts that each right was delivered in the years of its traces, which don't
@@ -147,7 +152,10 @@ pub fn put_ensemble<K: Sink>(
         first: basin.first,
         traces,
     };
-    put_entry(sink, basin, first)?;
-    put_rights(sink, basin, roll, amounts)?;
-    put_entry(sink, basin, EnsembleLine::Done { traces })
+    let last = EnsembleLine::Done { traces };
+    let rights = Amounts {
+        basin,
+        by_right: amounts,
+    };
+    put_listing(sink, &rights, basin, roll, Some(first), &[()], Some(last))
 }

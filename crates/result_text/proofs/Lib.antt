@@ -1,4 +1,3 @@
-pub mod Entries
 pub mod Members
 pub mod Whole
 pub mod Examples

@@ -7,6 +7,6 @@ use Rattle.index_seq.proofs.writer.put_right.Goals as goal
 pub returns-clause-text : goal.returns-clause-text
 returns-clause-text g c =
     Puts-first (whole_line c.args.basin.now) (line.Right c.args.right) (yearly_lines c.args.amounts.now)
-    (g.K.Sink.output c.args.sink.now) (g.K.Sink.output c.put_entry.new.sink) (g.K.Sink.output c.put_yearly.new.sink)
+    (g.K.Sink.output c.args.sink.now) (g.K.Sink.output c.put_line.new.sink) (g.K.Sink.output c.put_yearly.new.sink)
     c.put_yearly.result
-    c.in_ok-put_entry.ensures.text c.put_yearly.ensures.text
+    c.in_ok-put_line.ensures.text c.put_yearly.ensures.text
