@@ -177,11 +177,12 @@ impl<'b> Listing for Help<'b> {
 }
 
 /// The first line: what a right got and wanted.
-fn first_line(month: &MonthRecord, right: u32) -> Entry
-    requires delivered { right < length month.now.delivered }
-    requires want { right < length month.now.want }
-    ensures { result ≡ Entry.Where month.now.month right
+fn first_line(basin: &Basin, month: &MonthRecord, right: u32) -> Entry
+    requires month { FitsText basin.now month.now }
+    requires right { right < length basin.now.rights }
+    ensures value { result ≡ Entry.Where month.now.month right
         (slice_index month.now.delivered right) (slice_index month.now.want right) }
+    ensures named { IsOfBasin basin.now result }
 {
     Entry::Where {
         month: month.month,
@@ -217,9 +218,9 @@ fn put_indices<K: Sink>(
         core,
         right,
     };
-    let first = first_line(month, right);
+    let first = first_line(basin, month, right);
     let parts = [Space::Nodes, Space::Links];
-    put_listing(sink, &help, basin, roll, Some(first), &parts, None)
+    put_listing(sink, &help, basin, roll, &[first], &parts, &[])
 }
 
 /// Puts where one more unit would help a short right of a month whose sets are the reaches: what it got and wanted;

@@ -49,9 +49,16 @@ pub fn put_month<K: Sink>(sink: &mut K, calls: &MonthCalls) -> Result<(), SinkFa
     ensures cause { HasCause (K.faults sink.old) (K.faults sink.new) (IsErr result) }
 {
     let month = calls.month.month;
-    let first = Some(Entry::Month { month });
-    let last = Some(Entry::End);
-    put_listing(sink, calls, calls.basin, calls.roll, first, &PARTS, last)
+    let first = [Entry::Month { month }];
+    put_listing(
+        sink,
+        calls,
+        calls.basin,
+        calls.roll,
+        &first,
+        &PARTS,
+        &[Entry::End],
+    )
 }
 
 /// Puts the first line of a list.

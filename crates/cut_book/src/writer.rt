@@ -75,7 +75,7 @@ pub fn put_account<K: Sink>(
         right,
     };
     let sum = shortage.sum();
-    put_listing(sink, &shortage, basin, roll, None, &PARTS, Some(sum))
+    put_listing(sink, &shortage, basin, roll, &[], &PARTS, &[sum])
 }
 
 /// Puts the account book of a right whose set in the record is a tight cut of it: what it got and wanted, each supply
@@ -110,5 +110,5 @@ pub fn put_book<K: Sink>(
     };
     let why = shortage.why();
     let sum = shortage.sum();
-    put_listing(sink, &shortage, basin, roll, Some(why), &PARTS, Some(sum))
+    put_listing(sink, &shortage, basin, roll, &[why], &PARTS, &[sum])
 }

@@ -157,5 +157,5 @@ pub fn put_ensemble<K: Sink>(
         basin,
         by_right: amounts,
     };
-    put_listing(sink, &rights, basin, roll, Some(first), &[()], Some(last))
+    put_listing(sink, &rights, basin, roll, &[first], &[()], &[last])
 }

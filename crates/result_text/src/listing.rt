@@ -1,6 +1,6 @@
 //! One way to put lines: of what a line says, and of all entries that have lines, part by part.
 ghost use Rattle.std.specs.Prelude.{◌≡◌, ℕ, ◌<◌, ◌++◌, ◌∷◌, [], List, IfSome, IsErr};
-ghost use Rattle.std.specs.List.{flat_map};
+ghost use Rattle.std.specs.List.{AllByRecursion, flat_map};
 ghost use Rattle.std.specs.Option.{option_to_list};
 ghost use Rattle.rights_roll.specs.Rolls.{IsRollOf};
 ghost use Rattle.water_edge.specs.Edge.{HasCause, Puts};
@@ -20,7 +20,7 @@ pub trait Spelled: Copy {
     /// It names entries of the basin and months of the calendar.
     ghost is_of_basin: { Basin → Self → Type 0 };
 
-    /// Its bytes, with the line feed.
+    /// Its bytes, with the line feed, unless the next line goes on with it.
     ghost bytes: { Basin → Self → List ℕ };
 
     /// Makes its line.
@@ -61,6 +61,23 @@ pub fn put_some<K: Sink, S: Spelled>(
         Some(said) => put_line(sink, basin, said),
         None => Ok(()),
     }
+}
+
+/// Puts lines, one after another, as `put_line` does each.
+pub fn put_lines<K: Sink, S: Spelled>(
+    sink: &mut K,
+    basin: &Basin,
+    lines: &[S],
+) -> Result<(), SinkFailed>
+    requires basin { IsValidBasin basin.now }
+    requires lines { AllByRecursion (S.is_of_basin basin.now) lines.now }
+    ensures text { Puts (K.output sink.old) (K.output sink.new) result (flat_map (S.bytes basin.now) lines.now) }
+    ensures cause { HasCause (K.faults sink.old) (K.faults sink.new) (IsErr result) }
+{
+    for said in lines {
+        put_line(sink, basin, *said)?;
+    }
+    Ok(())
 }
 
 /// What has lines for the entries of a basin, part by part. Each part goes over the entries of one space.
@@ -141,8 +158,8 @@ fn put_parts<K: Sink, L: Listing>(
     Ok(())
 }
 
-/// Puts a first line, if there is one, the lines of parts, and a last line, if there is one. Of each part the lines of
-/// rights come seniors first, those of all other entries in the order of the basin.
+/// Puts first lines, the lines of parts, and last lines. Of each part the lines of rights come seniors first, those of
+/// all other entries in the order of the basin.
 ///
 /// `SinkFailed` comes only where the sink counted a fault; a prefix of the lines was then put. No memory is taken.
 pub fn put_listing<K: Sink, L: Listing>(
@@ -150,21 +167,21 @@ pub fn put_listing<K: Sink, L: Listing>(
     listing: &L,
     basin: &Basin,
     roll: &Roll,
-    first: Option<L::Said>,
+    first: &[L::Said],
     parts: &[L::Part],
-    last: Option<L::Said>,
+    last: &[L::Said],
 ) -> Result<(), SinkFailed>
     requires basin { IsValidBasin basin.now }
     requires roll { IsRollOf basin.now.rights roll.now }
     requires same { L.of_basin listing.now ≡ basin.now }
-    requires first { IfSome first (L.Said.is_of_basin basin.now) }
-    requires last { IfSome last (L.Said.is_of_basin basin.now) }
+    requires first { AllByRecursion (L.Said.is_of_basin basin.now) first.now }
+    requires last { AllByRecursion (L.Said.is_of_basin basin.now) last.now }
     ensures text { Puts (K.output sink.old) (K.output sink.new) result (flat_map (L.Said.bytes basin.now)
-        (option_to_list first ++ (flat_map (λ part. flat_map (L.entry_lines listing.now part)
-        (in_order (L.part_space part) basin.now)) parts.now ++ option_to_list last))) }
+        (first.now ++ (flat_map (λ part. flat_map (L.entry_lines listing.now part)
+        (in_order (L.part_space part) basin.now)) parts.now ++ last.now))) }
     ensures cause { HasCause (K.faults sink.old) (K.faults sink.new) (IsErr result) }
 {
-    put_some(sink, basin, first)?;
+    put_lines(sink, basin, first)?;
     put_parts(sink, listing, basin, roll, parts)?;
-    put_some(sink, basin, last)
+    put_lines(sink, basin, last)
 }

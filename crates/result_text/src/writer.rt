@@ -10,7 +10,7 @@ ghost use Rattle.water_model.specs.Valid.{IsValidBasin};
 ghost use Rattle.result_text.specs.Members.{members_of};
 ghost use Rattle.result_text.specs.Range.{FitsText};
 
-use crate::listing::{put_line, put_listing};
+use crate::listing::{put_line, put_lines, put_listing};
 use crate::section::MonthLines;
 use bit_words::next_marked_in_both;
 use cut_cert::calls::callers_by_node;
@@ -102,9 +102,8 @@ pub fn put_month<K: Sink>(
         returned: &returned,
         callers: &callers,
     };
-    let first = Some(Item::Month { month: month.month });
-    let last = Some(Item::End);
-    put_listing(sink, &lines, basin, roll, first, &SECTIONS, last)
+    let first = Item::Month { month: month.month };
+    put_listing(sink, &lines, basin, roll, &[first], &SECTIONS, &[Item::End])
 }
 
 /// Puts the head of a text: its title, and the run's first month and number of months.
@@ -116,12 +115,11 @@ pub fn put_head<K: Sink>(sink: &mut K, basin: &Basin) -> Result<(), SinkFailed>
         (flat_map (whole_line basin.now) (items_of_head basin.now)) }
     ensures cause { HasCause (K.faults sink.old) (K.faults sink.new) (IsErr result) }
 {
-    put_line(sink, basin, Item::Title)?;
     let run = Item::Run {
         first: basin.first,
         months: basin.months,
     };
-    put_line(sink, basin, run)
+    put_lines(sink, basin, &[Item::Title, run])
 }
 
 /// Puts the tail of a text: one line with the run's number of months.

@@ -1,6 +1,5 @@
 use Rattle.std.proofs.Common.{◌≡◌, ℕ, List, ◌++◌, refl, subst}
 use Rattle.std.specs.List.{flat_map}
-use Rattle.std.specs.Option.{option_to_list}
 use Rattle.std.proofs.lemmas.Grind.{flat_map-append}
 use Rattle.water_edge.specs.Edge.{Puts}
 use Rattle.water_edge.proofs.Puts.{Puts-second, Puts-third}
@@ -16,20 +15,20 @@ returns-in_err-put_parts-clause-text g c =
     let old = g.K.Sink.output c.args.sink.now in
     let new = g.K.Sink.output c.put_parts.new.sink in
     subst (λ (bytes : List ℕ). Puts old new c.from_residual-in_err-put_parts.result bytes)
-    (pieces (g.L.Said.Spelled.bytes c.args.basin.now) (option_to_list c.args.first)
+    (pieces (g.L.Said.Spelled.bytes c.args.basin.now) c.args.first.now
     (flat_map (λ part. flat_map (g.L.Listing.entry_lines c.args.listing.now part)
-    (in_order (g.L.Listing.part_space part) c.args.basin.now)) c.args.parts.now) (option_to_list c.args.last))
-    (Puts-second old (g.K.Sink.output c.put_some.new.sink) new c.from_residual-in_err-put_parts.result _ _ _
-    c.from_residual-in_err-put_parts.ensures.0 c.in_ok-put_some.ensures.text c.in_err-put_parts.ensures.text)
+    (in_order (g.L.Listing.part_space part) c.args.basin.now)) c.args.parts.now) c.args.last.now)
+    (Puts-second old (g.K.Sink.output c.put_lines.new.sink) new c.from_residual-in_err-put_parts.result _ _ _
+    c.from_residual-in_err-put_parts.ensures.0 c.in_ok-put_lines.ensures.text c.in_err-put_parts.ensures.text)
 
 pub returns-clause-text : goal.returns-clause-text
 returns-clause-text g c =
     let old = g.K.Sink.output c.args.sink.now in
-    let new = g.K.Sink.output c.put_some-2.new.sink in
-    subst (λ (bytes : List ℕ). Puts old new c.put_some-2.result bytes)
-    (pieces (g.L.Said.Spelled.bytes c.args.basin.now) (option_to_list c.args.first)
+    let new = g.K.Sink.output c.put_lines-2.new.sink in
+    subst (λ (bytes : List ℕ). Puts old new c.put_lines-2.result bytes)
+    (pieces (g.L.Said.Spelled.bytes c.args.basin.now) c.args.first.now
     (flat_map (λ part. flat_map (g.L.Listing.entry_lines c.args.listing.now part)
-    (in_order (g.L.Listing.part_space part) c.args.basin.now)) c.args.parts.now) (option_to_list c.args.last))
-    (Puts-third old (g.K.Sink.output c.put_some.new.sink) (g.K.Sink.output c.put_parts.new.sink) new
-    c.put_some-2.result _ _ _ c.in_ok-put_some.ensures.text c.in_ok-put_parts.ensures.text
-    c.put_some-2.ensures.text)
+    (in_order (g.L.Listing.part_space part) c.args.basin.now)) c.args.parts.now) c.args.last.now)
+    (Puts-third old (g.K.Sink.output c.put_lines.new.sink) (g.K.Sink.output c.put_parts.new.sink) new
+    c.put_lines-2.result _ _ _ c.in_ok-put_lines.ensures.text c.in_ok-put_parts.ensures.text
+    c.put_lines-2.ensures.text)
