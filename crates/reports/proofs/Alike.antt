@@ -17,14 +17,13 @@ use Rattle.water_model.specs.declared.types.Basin.{Basin}
 use Rattle.water_model.specs.declared.types.Inflows.{Inflows}
 use Rattle.water_model.specs.declared.types.MonthRecord.{MonthRecord}
 use Rattle.duality.proofs.Greatest.{reach_unique}
-use Rattle.water_model.proofs.Order.{Has, seniors_below}
+use Rattle.water_model.proofs.Order.{Has, flat_same, seniors_below}
 use Rattle.duality.proofs.Outcome.{one_outcome}
 use Rattle.reports.specs.Figures.{shortage, short_months, wanted, delivered, worst_month, waters_of, called_in}
 use Rattle.reports.specs.Figures.{called_count}
 use Rattle.reports.specs.Laws.{RunsHaveOneReport}
 use Rattle.reports.specs.Reports.{row, right_row, balance_row, done_row, report_text, trial_text}
 use Rattle.reports.proofs.Growth.{same_waters}
-use Rattle.reports.proofs.ReportTexts.{same_rows}
 
 -- two records of one month that differ in nothing that a report shows
 record IsAlike (b : Basin) (m n : MonthRecord) : Type 0 where
@@ -226,7 +225,7 @@ one_report b series records others number size valid one reaches other further =
     report =
         ap (λ rows. row (codes "report" ∷ month_digits b.first ∷ decimal b.months ∷ []) ++ rows ++ balance_row
         (waters_of b series records) ++ done_row b)
-        (same_rows (right_row b records) (right_row b others) (seniors_first b)
+        (flat_same (right_row b records) (right_row b others) (seniors_first b)
         (λ r has. one_row b r records others are))
         ∙ ap (λ w. row (codes "report" ∷ month_digits b.first ∷ decimal b.months ∷ []) ++ flat_map (right_row b others)
         (seniors_first b) ++ balance_row w ++ done_row b)

@@ -7,4 +7,3 @@ pub mod Rights
 pub mod Sums
 pub mod ReportTexts
 pub mod Worst
-pub mod Written

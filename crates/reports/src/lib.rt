@@ -5,11 +5,12 @@
 #![tactic(auto)]
 
 mod called;
+mod entry;
 mod figures;
 pub mod laws;
 mod months;
 mod period;
-mod rows;
+mod spelling;
 mod stop;
 mod tally;
 mod texts;

@@ -1,63 +1,83 @@
-//! The texts of reports.
-ghost use Rattle.std.specs.Prelude.{◌≡◌, ◌<◌, ◌++◌, length, All, IfSome, IsErr};
-ghost use Rattle.std.specs.List.{flat_map};
+//! The texts of reports, one `put` for each line.
+ghost use Rattle.std.specs.Prelude.{◌≡◌, ◌∷◌, [], List, ◌<◌, length, All, IfSome, IsErr};
 ghost use Rattle.rights_roll.specs.Rolls.{IsRollOf};
 ghost use Rattle.water_edge.specs.Edge.{HasCause, Puts};
-ghost use Rattle.water_model.specs.Indices.{seniors_first};
 ghost use Rattle.water_model.specs.Valid.{IsValidBasin};
+ghost use Rattle.water_model.specs.declared.space.Space.TheVariants.{Rights};
+ghost use Rattle.water_model.specs.declared.types.Inflows.{Inflows};
+ghost use Rattle.water_model.specs.declared.types.MonthRecord.{MonthRecord};
 ghost use Rattle.water_text.specs.Months.{IsMonth};
-ghost use Rattle.reports.specs.Texts.{row_in, tally_text, made_rows, amount_rows, count_rows, summary_text};
+ghost use Rattle.reports.specs.Reports.{report_text, trial_text};
+ghost use Rattle.reports.specs.Tallies.{AreBounded, IsTally, IsTrial};
+ghost use Rattle.reports.specs.Texts.{IsOfBasin, right_lines};
 
+use crate::called::Trial;
+use crate::entry::ReportLine;
 use crate::figures::RightFigures;
-use crate::rows::{put_end, put_number, put_right, put_run, put_size, put_trial};
 use crate::tally::Tally;
-use crate::totals::Totals;
-use crate::waters::Waters;
+use crate::totals::totals_of;
+use result_text::listing::{Listing, put_line, put_lines, put_listing};
 use rights_roll::roll::Roll;
+use std::marker::Model;
 use water_edge::{Sink, SinkFailed};
 use water_model::rows::Rows;
+use water_model::space::Space;
 use water_model::types::Basin;
 
-/// Puts the row of a right that has its figures in a list by right.
-fn put_listed<K: Sink>(
-    sink: &mut K,
-    basin: &Basin,
-    rights: &Rows<RightFigures>,
-    right: u32,
-) -> Result<(), SinkFailed>
-    requires basin { IsValidBasin basin.now }
-    requires right { right < length basin.now.rights }
-    requires count { length rights.now ≡ length basin.now.rights }
-    requires worst { All (λ f. IfSome f.worst IsMonth) rights.now }
-    ensures text { Puts (K.output sink.old) (K.output sink.new) result (row_in basin.now rights.now right) }
-    ensures cause { HasCause (K.faults sink.old) (K.faults sink.new) (IsErr result) }
-{
-    put_right(sink, basin, right, &rights[right as usize])
+/// The figures of each right of a basin, indexed by right.
+#[derive(Drop)]
+struct RightRows<'b> {
+    basin: &'b Basin,
+    figures: &'b Rows<RightFigures>,
 }
 
-/// Puts the rows of the rights, seniors first.
-fn put_rights<K: Sink>(
-    sink: &mut K,
-    basin: &Basin,
-    roll: &Roll,
-    rights: &Rows<RightFigures>,
-) -> Result<(), SinkFailed>
-    requires basin { IsValidBasin basin.now }
-    requires roll { IsRollOf basin.now.rights roll.now }
-    requires count { length rights.now ≡ length basin.now.rights }
-    requires worst { All (λ f. IfSome f.worst IsMonth) rights.now }
-    ensures text { Puts (K.output sink.old) (K.output sink.new) result
-        (flat_map (row_in basin.now rights.now) (seniors_first basin.now)) }
-    ensures cause { HasCause (K.faults sink.old) (K.faults sink.new) (IsErr result) }
-{
-    let order = roll.by_seniority();
-    for right in order {
-        put_listed(sink, basin, rights, *right)?;
+impl<'b> Model for RightRows<'b> {
+    ghost use Rattle.reports.specs.Texts.{RightsSeen, AreRights, rights_seen};
+
+    ghost Value = { RightsSeen };
+
+    ghost view = { λ r. rights_seen r.basin.now r.figures.now };
+
+    ghost invariant = { λ r. AreRights (rights_seen r.basin.now r.figures.now) };
+}
+
+impl<'b> RightRows<'b> {
+    /// The line of a right.
+    fn line_of(&self, right: u32) -> ReportLine
+        requires { right < length self.now.basin.rights }
+        ensures lines { result ∷ [] ≡ right_lines self.now.figures right }
+        ensures named { IsOfBasin self.now.basin result }
+    {
+        ReportLine::Right {
+            right,
+            figures: self.figures[right as usize],
+        }
     }
-    Ok(())
 }
 
-/// Puts the report of a tally.
+impl<'b> Listing for RightRows<'b> {
+    type Part = ();
+
+    type Said = ReportLine;
+
+    ghost of_basin = { λ r. r.basin };
+
+    ghost part_space = { λ part. Rights };
+
+    ghost entry_lines = { λ r part right. right_lines r.figures right };
+
+    fn space(&self, _part: ()) -> Space {
+        Space::Rights
+    }
+
+    fn put_entry<K: Sink>(&self, sink: &mut K, _part: (), right: u32) -> Result<(), SinkFailed> {
+        put_line(sink, self.basin, self.line_of(right))
+    }
+}
+
+/// Puts the report of a tally: a line for each right, seniors first, and the balance.
+///
+/// `SinkFailed` comes only where the sink counted a fault; a prefix of the text was then put.
 pub fn put_report<K: Sink>(
     sink: &mut K,
     basin: &Basin,
@@ -68,66 +88,60 @@ pub fn put_report<K: Sink>(
     requires roll { IsRollOf basin.now.rights roll.now }
     requires count { length tally.now.rights ≡ length basin.now.rights }
     requires worst { All (λ f. IfSome f.worst IsMonth) tally.now.rights }
-    ensures text { Puts (K.output sink.old) (K.output sink.new) result (tally_text basin.now tally.now) }
+    ensures text { (series : Inflows) (records : List MonthRecord) → IsTally basin.now series records tally.now →
+        Puts (K.output sink.old) (K.output sink.new) result (report_text basin.now series records) }
     ensures cause { HasCause (K.faults sink.old) (K.faults sink.new) (IsErr result) }
 {
-    put_run(sink, basin)?;
-    put_rights(sink, basin, roll, &tally.rights)?;
-    put_end(sink, basin, &tally.waters)
+    let rights = RightRows {
+        basin,
+        figures: &tally.rights,
+    };
+    let waters = tally.waters;
+    let last = [
+        ReportLine::Balance { waters },
+        ReportLine::Rest { waters },
+        ReportLine::Done,
+    ];
+    let first = [ReportLine::Report];
+    put_listing(sink, &rights, basin, roll, &first, &[()], &last)
 }
 
-/// Puts the rows of what a trial made.
-fn put_made<K: Sink>(sink: &mut K, number: u32, size: u32, basin: &Basin) -> Result<(), SinkFailed>
-    ensures text { Puts (K.output sink.old) (K.output sink.new) result (made_rows number size basin.now) }
-    ensures cause { HasCause (K.faults sink.old) (K.faults sink.new) (IsErr result) }
-{
-    put_trial(sink, number, size)?;
-    put_size(sink, basin)
-}
-
-/// Puts the rows of amounts over all rights.
-fn put_amounts<K: Sink>(sink: &mut K, totals: &Totals) -> Result<(), SinkFailed>
-    ensures text { Puts (K.output sink.old) (K.output sink.new) result (amount_rows totals.now) }
-    ensures cause { HasCause (K.faults sink.old) (K.faults sink.new) (IsErr result) }
-{
-    put_number(sink, b"wanted", totals.wanted)?;
-    put_number(sink, b"delivered", totals.delivered)
-}
-
-/// Puts the rows of counts of right-months.
-fn put_counts<K: Sink>(sink: &mut K, totals: &Totals, called: u64) -> Result<(), SinkFailed>
-    ensures text { Puts (K.output sink.old) (K.output sink.new) result (count_rows totals.now called) }
-    ensures cause { HasCause (K.faults sink.old) (K.faults sink.new) (IsErr result) }
-{
-    put_number(sink, b"short", totals.short_months)?;
-    put_number(sink, b"called", called)
-}
-
-/// Puts the rows of the sums over all rights.
-fn put_totals<K: Sink>(sink: &mut K, totals: &Totals, called: u64) -> Result<(), SinkFailed>
-    ensures text { Puts (K.output sink.old) (K.output sink.new) result
-        (amount_rows totals.now ++ count_rows totals.now called) }
-    ensures cause { HasCause (K.faults sink.old) (K.faults sink.new) (IsErr result) }
-{
-    put_amounts(sink, totals)?;
-    put_counts(sink, totals, called)
-}
-
-/// Puts the summary of a trial.
+/// Puts the summary of a trial of a basin made from a number and a size: sums over all rights, and the balance.
+///
+/// `SinkFailed` comes only where the sink counted a fault; a prefix of the text was then put.
 pub fn put_summary<K: Sink>(
     sink: &mut K,
     number: u32,
     size: u32,
     basin: &Basin,
-    totals: &Totals,
-    called: u64,
-    waters: &Waters,
+    trial: &Trial,
 ) -> Result<(), SinkFailed>
-    ensures text { Puts (K.output sink.old) (K.output sink.new) result
-        (summary_text number size basin.now totals.now called waters.now) }
+    requires basin { IsValidBasin basin.now }
+    requires bounded { AreBounded trial.now.tally.rights }
+    ensures text { (series : Inflows) (records : List MonthRecord) → IsTrial basin.now series records trial.now →
+        Puts (K.output sink.old) (K.output sink.new) result (trial_text number size basin.now series records) }
     ensures cause { HasCause (K.faults sink.old) (K.faults sink.new) (IsErr result) }
 {
-    put_made(sink, number, size, basin)?;
-    put_totals(sink, totals, called)?;
-    put_end(sink, basin, waters)
+    let totals = totals_of(&trial.tally.rights);
+    let waters = trial.tally.waters;
+    let lines = [
+        ReportLine::Trial { number, size },
+        ReportLine::Size,
+        ReportLine::Wanted {
+            amount: totals.wanted,
+        },
+        ReportLine::Delivered {
+            amount: totals.delivered,
+        },
+        ReportLine::Short {
+            count: totals.short_months,
+        },
+        ReportLine::Called {
+            count: trial.called,
+        },
+        ReportLine::Balance { waters },
+        ReportLine::Rest { waters },
+        ReportLine::Done,
+    ];
+    put_lines(sink, basin, &lines)
 }

@@ -10,7 +10,6 @@ ghost use Rattle.month_fold.specs.Works.{SolvesRun};
 use crate::months::trial_of;
 use crate::stop::ReportStop;
 use crate::texts::put_summary;
-use crate::totals::totals_of;
 use month_fold::run::Run;
 use month_fold::work::Work;
 use std::alloc::Global;
@@ -49,16 +48,7 @@ pub fn trial_report<K: Sink, P: Ledger, M: Ledger>(
         Ok(trial) => trial,
         Err(_) => return Err(ReportStop::OutOfMemory),
     };
-    let totals = totals_of(&trial.tally.rights);
-    match put_summary(
-        sink,
-        number,
-        size,
-        basin,
-        &totals,
-        trial.called,
-        &trial.tally.waters,
-    ) {
+    match put_summary(sink, number, size, basin, &trial) {
         Ok(()) => Ok(()),
         Err(_) => Err(ReportStop::SinkFailed),
     }

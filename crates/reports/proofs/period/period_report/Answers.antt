@@ -1,4 +1,4 @@
-use Rattle.reports.proofs.ReportTexts.{months_are, entries_number, report_put, report_cut}
+use Rattle.reports.proofs.ReportTexts.{months_are, entries_number}
 use Rattle.reports.proofs.period.period_report.Goals as goal
 
 pub put_report-requires-clause-count : goal.put_report-requires-clause-count
@@ -15,13 +15,9 @@ put_report-requires-clause-worst g c =
 pub returns-in-Ok-put_report-clause-text : goal.returns-in-Ok-put_report-clause-text
 returns-in-Ok-put_report-clause-text g c =
     let all = rw (c.in-Ok.ensures.basin, c.in-Ok.ensures.series) at c.in-Ok-tally_of.ensures.tally in
-    report_put c.args.basin.now c.args.series.now all.records c.in-Ok-tally_of.tally (g.K.Sink.output c.args.sink.now)
-    (g.K.Sink.output c.put_report.new.sink)
-    all.run all.is c.in-Ok-put_report.ensures.text
+    (all.records, all.run, c.in-Ok-put_report.ensures.text c.args.series.now all.records all.is)
 
 pub returns-clause-text : goal.returns-clause-text
 returns-clause-text g c =
     let all = rw (c.in-Ok.ensures.basin, c.in-Ok.ensures.series) at c.in-Ok-tally_of.ensures.tally in
-    report_cut c.args.basin.now c.args.series.now all.records c.in-Ok-tally_of.tally (g.K.Sink.output c.args.sink.now)
-    (g.K.Sink.output c.put_report.new.sink)
-    all.run all.is c.in-Err-put_report.ensures.text
+    (all.records, all.run, c.in-Err-put_report.ensures.text c.args.series.now all.records all.is)
