@@ -3,11 +3,12 @@ ghost use Rattle.std.specs.Prelude.{List, ◌≡◌, ◌<◌, ◌≤◌, ◌++�
 ghost use Rattle.cut_cert.specs.Callers.{AreCallers};
 ghost use Rattle.rights_roll.specs.Rolls.{IsRollOf};
 ghost use Rattle.water_model.specs.History.{FitsBasin, calling_right};
-ghost use Rattle.water_model.specs.Valid.{IsValidBasin, IsSeriesOf};
+ghost use Rattle.water_model.specs.Valid.{IsValidBasin};
 ghost use Rattle.water_model.specs.declared.types.MonthRecord.{MonthRecord};
 ghost use Rattle.reports.specs.Figures.{called_in};
-ghost use Rattle.reports.specs.Tallies.{IsKeptBefore, IsTrial};
+ghost use Rattle.reports.specs.Tallies.{IsTrial};
 
+use crate::months::Kept;
 use crate::tally::Tally;
 use cut_cert::calls::{callers_by_node, calling_right};
 use rights_roll::roll::Roll;
@@ -51,26 +52,16 @@ fn called_in(basin: &Basin, roll: &Roll, month: &MonthRecord) -> u64
     count
 }
 
-impl Trial {
-    /// The tally before the first month. AllocError comes where memory is lacking.
-    pub fn open(alloc: Global, basin: &Basin) -> Result<Trial, AllocError>
-        requires { IsValidBasin basin.now }
-        ensures { IfOk result (λ trial. (series : Inflows) → IsTrial basin.now series [] trial) }
-    {
+impl Kept for Trial {
+    ghost is_of = { IsTrial };
+
+    fn open(alloc: Global, basin: &Basin) -> Result<Trial, AllocError> {
         let tally = Tally::open(alloc, basin)?;
         Ok(Trial { tally, called: 0 })
     }
 
-    /// Adds the month that follows those so far.
-    pub fn add(&mut self, basin: &Basin, series: &Inflows, roll: &Roll, month: &MonthRecord)
-        requires basin { IsValidBasin basin.now }
-        requires series { IsSeriesOf basin.now series.now }
-        requires roll { IsRollOf basin.now.rights roll.now }
-        requires next { IsKeptBefore IsTrial basin.now series.now self.old month.now }
-        ensures { (records : List MonthRecord) → IsTrial basin.now series.now records self.old →
-            IsTrial basin.now series.now (records ++ month.now ∷ []) self.new }
-    {
+    fn add(&mut self, basin: &Basin, series: &Inflows, roll: &Roll, month: &MonthRecord) {
         self.called += called_in(basin, roll, month);
-        self.tally.add(basin, series, month);
+        self.tally.add(basin, series, roll, month);
     }
 }

@@ -1,98 +1,81 @@
 //! All months of a run, one after the other.
-ghost use Rattle.std.specs.Prelude.{[], ◌≡◌, ◌+◌, ◌<◌, IfOk, OnErr};
+ghost use Rattle.std.specs.Prelude.{List, [], ◌∷◌, ◌++◌, ◌≡◌, ◌+◌, ◌<◌, IfOk, OnErr};
 ghost use Rattle.month_fold.specs.Runs.{GoesOn, RunStandsFor};
 ghost use Rattle.month_fold.specs.Works.{Solves, SolvesRun};
-ghost use Rattle.reports.specs.Tallies.{IsKeptOf, IsKeptOfRun, IsTally, IsTrial};
+ghost use Rattle.rights_roll.specs.Rolls.{IsRollOf};
+ghost use Rattle.water_model.specs.Valid.{IsValidBasin, IsSeriesOf};
+ghost use Rattle.water_model.specs.declared.types.Basin.{Basin};
+ghost use Rattle.water_model.specs.declared.types.Inflows.{Inflows};
+ghost use Rattle.water_model.specs.declared.types.MonthRecord.{MonthRecord};
+ghost use Rattle.reports.specs.Tallies.{IsKeptBefore, IsKeptOf, IsKeptOfRun};
 
-use crate::called::Trial;
-use crate::tally::Tally;
 use month_fold::run::Run;
 use month_fold::work::Work;
+use rights_roll::roll::Roll;
 use std::alloc::{AllocError, Global};
 use std::sync::ledger::Ledger;
+use water_model::types::{Basin, Inflows, MonthRecord};
 
-/// Solves the next month and adds it to a tally.
-fn tally_month<P: Ledger, M: Ledger>(tally: &mut Tally, run: &mut Run, work: &mut Work<P, M>)
+/// What is kept of the months of a run, instead of the months.
+pub trait Kept: Sized {
+    /// It is of these months of a basin with a series.
+    ghost is_of: { Basin → Inflows → List MonthRecord → Self → Type 0 };
+
+    /// What is kept before the first month. AllocError comes where memory is lacking.
+    fn open(alloc: Global, basin: &Basin) -> Result<Self, AllocError>
+        requires { IsValidBasin basin.now }
+        ensures { IfOk result (λ kept. (series : Inflows) → is_of basin.now series [] kept) };
+
+    /// Adds the month that follows those so far.
+    fn add(&mut self, basin: &Basin, series: &Inflows, roll: &Roll, month: &MonthRecord)
+        requires basin { IsValidBasin basin.now }
+        requires series { IsSeriesOf basin.now series.now }
+        requires roll { IsRollOf basin.now.rights roll.now }
+        requires next { IsKeptBefore is_of basin.now series.now self.old month.now }
+        ensures { (records : List MonthRecord) → is_of basin.now series.now records self.old →
+            is_of basin.now series.now (records ++ month.now ∷ []) self.new };
+}
+
+/// Solves the next month and adds it to what is kept.
+fn keep_month<T: Kept, P: Ledger, M: Ledger>(kept: &mut T, run: &mut Run, work: &mut Work<P, M>)
     requires left { run.old.done < run.old.basin.months }
-    requires tally { IsKeptOf IsTally run.old tally.old }
+    requires kept { IsKeptOf T.is_of run.old kept.old }
     ensures goes_on { GoesOn run.old run.new }
     ensures done { run.new.done ≡ run.old.done + 1 }
-    ensures tally { IsKeptOf IsTally run.new tally.new }
+    ensures kept { IsKeptOf T.is_of run.new kept.new }
     ensures work { Solves 1 run.old.basin work.old work.new }
 {
     run.step(work);
-    tally.add(run.basin(), run.series(), run.month());
+    kept.add(run.basin(), run.series(), run.roll(), run.month());
 }
 
-/// Solves all months and adds them to a tally.
-fn tally_months<P: Ledger, M: Ledger>(tally: &mut Tally, run: &mut Run, work: &mut Work<P, M>)
+/// Solves all months and adds them to what is kept.
+fn keep_months<T: Kept, P: Ledger, M: Ledger>(kept: &mut T, run: &mut Run, work: &mut Work<P, M>)
     requires first { run.old.done ≡ 0 }
-    requires tally { IsKeptOf IsTally run.old tally.old }
+    requires kept { IsKeptOf T.is_of run.old kept.old }
     ensures goes_on { GoesOn run.old run.new }
-    ensures tally { IsKeptOfRun IsTally run.old.basin run.old.series tally.new }
+    ensures kept { IsKeptOfRun T.is_of run.old.basin run.old.series kept.new }
     ensures work { SolvesRun run.old.basin work.old work.new }
 {
     for _month in 0..run.basin().months {
-        tally_month(tally, run, work);
+        keep_month(kept, run, work);
     }
 }
 
-/// The tally of all months of a run that had none yet. AllocError comes where memory is lacking, before a month is
+/// What is kept of all months of a run that had none yet. AllocError comes where memory is lacking, before a month is
 /// solved.
-pub fn tally_of<P: Ledger, M: Ledger>(
+pub fn kept_of<T: Kept, P: Ledger, M: Ledger>(
     alloc: Global,
     run: &mut Run,
     work: &mut Work<P, M>,
-) -> Result<Tally, AllocError>
+) -> Result<T, AllocError>
     requires { RunStandsFor run.old [] }
     ensures goes_on { GoesOn run.old run.new }
-    ensures tally { IfOk result (IsKeptOfRun IsTally run.old.basin run.old.series) }
+    ensures kept { IfOk result (IsKeptOfRun T.is_of run.old.basin run.old.series) }
     ensures unsolved { OnErr result (work.new ≡ work.old) }
     ensures work { SolvesRun run.old.basin work.old work.new }
 {
-    let mut tally = Tally::open(alloc, run.basin())?;
-    tally_months(&mut tally, run, work);
-    Ok(tally)
-}
-
-/// Solves the next month and adds it to a trial.
-fn try_month<P: Ledger, M: Ledger>(trial: &mut Trial, run: &mut Run, work: &mut Work<P, M>)
-    requires left { run.old.done < run.old.basin.months }
-    requires trial { IsKeptOf IsTrial run.old trial.old }
-    ensures goes_on { GoesOn run.old run.new }
-    ensures done { run.new.done ≡ run.old.done + 1 }
-    ensures trial { IsKeptOf IsTrial run.new trial.new }
-    ensures work { Solves 1 run.old.basin work.old work.new }
-{
-    run.step(work);
-    trial.add(run.basin(), run.series(), run.roll(), run.month());
-}
-
-/// Solves all months and adds them to a trial.
-fn try_months<P: Ledger, M: Ledger>(trial: &mut Trial, run: &mut Run, work: &mut Work<P, M>)
-    requires first { run.old.done ≡ 0 }
-    requires trial { IsKeptOf IsTrial run.old trial.old }
-    ensures trial { IsKeptOfRun IsTrial run.old.basin run.old.series trial.new }
-    ensures work { SolvesRun run.old.basin work.old work.new }
-{
-    for _month in 0..run.basin().months {
-        try_month(trial, run, work);
-    }
-}
-
-/// The trial of all months of a run that had none yet. AllocError comes where memory is lacking, before a month is
-/// solved.
-pub fn trial_of<P: Ledger, M: Ledger>(
-    alloc: Global,
-    run: &mut Run,
-    work: &mut Work<P, M>,
-) -> Result<Trial, AllocError>
-    requires { RunStandsFor run.old [] }
-    ensures trial { IfOk result (IsKeptOfRun IsTrial run.old.basin run.old.series) }
-    ensures unsolved { OnErr result (work.new ≡ work.old) }
-    ensures work { SolvesRun run.old.basin work.old work.new }
-{
-    let mut trial = Trial::open(alloc, run.basin())?;
-    try_months(&mut trial, run, work);
-    Ok(trial)
+    let mut kept = T::open(alloc, run.basin())?;
+    keep_months(&mut kept, run, work);
+    Ok(kept)
 }

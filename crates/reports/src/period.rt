@@ -7,8 +7,9 @@ ghost use Rattle.reports.specs.Reports.{report_text};
 ghost use Rattle.reports.specs.declared.stop.ReportStop.TheVariants.{SinkFailed, OutOfMemory};
 ghost use Rattle.month_fold.specs.Works.{SolvesRun};
 
-use crate::months::tally_of;
+use crate::months::kept_of;
 use crate::stop::ReportStop;
+use crate::tally::Tally;
 use crate::texts::put_report;
 use month_fold::run::Run;
 use month_fold::work::Work;
@@ -42,7 +43,7 @@ pub fn period_report<K: Sink, P: Ledger, M: Ledger>(
         Ok(run) => run,
         Err(_) => return Err(ReportStop::OutOfMemory),
     };
-    let tally = match tally_of(alloc, &mut run, work) {
+    let tally: Tally = match kept_of(alloc, &mut run, work) {
         Ok(tally) => tally,
         Err(_) => return Err(ReportStop::OutOfMemory),
     };

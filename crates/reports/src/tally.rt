@@ -1,11 +1,12 @@
 //! What is kept of the months of a run.
 ghost use Rattle.std.specs.Prelude.{ℕ, List, ◌≡◌, ◌<◌, ◌++◌, ◌∷◌, [], length, slice_get, Some, IfOk};
-ghost use Rattle.water_model.specs.Valid.{IsValidBasin, IsSeriesOf};
 ghost use Rattle.water_model.specs.declared.types.MonthRecord.{MonthRecord};
-ghost use Rattle.reports.specs.Tallies.{figures_of, HasRoom, IsKeptBefore, IsTally};
+ghost use Rattle.reports.specs.Tallies.{figures_of, HasRoom, IsTally};
 
 use crate::figures::RightFigures;
+use crate::months::Kept;
 use crate::waters::Waters;
+use rights_roll::roll::Roll;
 use std::alloc::{AllocError, Global};
 use water_model::rows::Rows;
 use water_model::types::{Basin, Inflows, MonthRecord};
@@ -47,12 +48,10 @@ fn add_rights(rights: &mut Rows<RightFigures>, month: &MonthRecord)
     }
 }
 
-impl Tally {
-    /// The tally before the first month. AllocError comes where memory is lacking.
-    pub fn open(alloc: Global, basin: &Basin) -> Result<Tally, AllocError>
-        requires { IsValidBasin basin.now }
-        ensures { IfOk result (λ tally. (series : Inflows) → IsTally basin.now series [] tally) }
-    {
+impl Kept for Tally {
+    ghost is_of = { IsTally };
+
+    fn open(alloc: Global, basin: &Basin) -> Result<Tally, AllocError> {
         let rights = first_figures(alloc, basin.rights.len())?;
         Ok(Tally {
             rights,
@@ -60,14 +59,7 @@ impl Tally {
         })
     }
 
-    /// Adds the month that follows those so far.
-    pub fn add(&mut self, basin: &Basin, series: &Inflows, month: &MonthRecord)
-        requires basin { IsValidBasin basin.now }
-        requires series { IsSeriesOf basin.now series.now }
-        requires next { IsKeptBefore IsTally basin.now series.now self.old month.now }
-        ensures { (records : List MonthRecord) → IsTally basin.now series.now records self.old →
-            IsTally basin.now series.now (records ++ month.now ∷ []) self.new }
-    {
+    fn add(&mut self, basin: &Basin, series: &Inflows, _roll: &Roll, month: &MonthRecord) {
         add_rights(&mut self.rights, month);
         self.waters = self.waters.with_month(basin, series, month);
     }

@@ -7,7 +7,8 @@ ghost use Rattle.reports.specs.Reports.{trial_text};
 ghost use Rattle.reports.specs.declared.stop.ReportStop.TheVariants.{SinkFailed, OutOfMemory};
 ghost use Rattle.month_fold.specs.Works.{SolvesRun};
 
-use crate::months::trial_of;
+use crate::called::Trial;
+use crate::months::kept_of;
 use crate::stop::ReportStop;
 use crate::texts::put_summary;
 use month_fold::run::Run;
@@ -44,7 +45,7 @@ pub fn trial_report<K: Sink, P: Ledger, M: Ledger>(
         Ok(run) => run,
         Err(_) => return Err(ReportStop::OutOfMemory),
     };
-    let trial = match trial_of(alloc, &mut run, work) {
+    let trial: Trial = match kept_of(alloc, &mut run, work) {
         Ok(trial) => trial,
         Err(_) => return Err(ReportStop::OutOfMemory),
     };

@@ -1,7 +1,7 @@
 use Rattle.std.proofs.Common.{◌∙◌, [], arith}
 use Rattle.reports.specs.Tallies.{figures_of}
 use Rattle.reports.proofs.Rights.{list_is}
-use Rattle.reports.proofs.tally.Tally.open.Goals as goal
+use Rattle.reports.proofs.tally.TallyKept.open.Goals as goal
 
 pub returns : goal.returns
 returns c = λ series. record {

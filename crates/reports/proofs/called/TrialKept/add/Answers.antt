@@ -3,7 +3,7 @@ use Rattle.std.proofs.lemmas.List.Sums.{sum_by_push}
 use Rattle.water_model.proofs.Histories.{last_follows}
 use Rattle.reports.specs.Figures.{called_in}
 use Rattle.reports.proofs.Room.{called_room}
-use Rattle.reports.proofs.called.Trial.add.Goals as goal
+use Rattle.reports.proofs.called.TrialKept.add.Goals as goal
 
 pub called_in-requires-clause-month : goal.called_in-requires-clause-month
 called_in-requires-clause-month c =

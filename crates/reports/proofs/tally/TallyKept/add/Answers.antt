@@ -3,7 +3,7 @@ use Rattle.water_model.proofs.Histories.{last_follows}
 use Rattle.reports.specs.Tallies.{figures_of}
 use Rattle.reports.proofs.Rights.{entry_is, entry_at, entries_count, list_is}
 use Rattle.reports.proofs.Room.{right_room, month_room}
-use Rattle.reports.proofs.tally.Tally.add.Goals as goal
+use Rattle.reports.proofs.tally.TallyKept.add.Goals as goal
 
 pub add_rights-requires-clause-want : goal.add_rights-requires-clause-want
 add_rights-requires-clause-want c =
