@@ -50,15 +50,8 @@ pub fn put_month<K: Sink>(sink: &mut K, calls: &MonthCalls) -> Result<(), SinkFa
 {
     let month = calls.month.month;
     let first = [Entry::Month { month }];
-    put_listing(
-        sink,
-        calls,
-        calls.basin,
-        calls.roll,
-        &first,
-        &PARTS,
-        &[Entry::End],
-    )
+    let last = [Entry::End];
+    put_listing(sink, calls, calls.basin, calls.roll, &first, &PARTS, &last)
 }
 
 /// Puts the first line of a list.
