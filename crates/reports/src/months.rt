@@ -1,6 +1,6 @@
 //! All months of a run, one after the other.
 ghost use Rattle.std.specs.Prelude.{List, [], ◌∷◌, ◌++◌, ◌≡◌, ◌+◌, ◌<◌, IfOk, OnErr};
-ghost use Rattle.month_fold.specs.Runs.{GoesOn, RunStandsFor};
+ghost use Rattle.month_fold.specs.Runs.{GoesOn};
 ghost use Rattle.month_fold.specs.Works.{Solves, SolvesRun};
 ghost use Rattle.rights_roll.specs.Rolls.{IsRollOf};
 ghost use Rattle.water_model.specs.Valid.{IsValidBasin, IsSeriesOf};
@@ -62,20 +62,23 @@ fn keep_months<T: Kept, P: Ledger, M: Ledger>(kept: &mut T, run: &mut Run, work:
     }
 }
 
-/// What is kept of all months of a run that had none yet. AllocError comes where memory is lacking, before a month is
-/// solved.
-pub fn kept_of<T: Kept, P: Ledger, M: Ledger>(
+/// What is kept of all months of a basin with a series, and the run that solved them. AllocError comes where memory is
+/// lacking, before a month is solved.
+pub fn kept_of<'b, 's, T: Kept, P: Ledger, M: Ledger>(
     alloc: Global,
-    run: &mut Run,
+    basin: &'b Basin,
+    series: &'s Inflows,
     work: &mut Work<P, M>,
-) -> Result<T, AllocError>
-    requires { RunStandsFor run.old [] }
-    ensures goes_on { GoesOn run.old run.new }
-    ensures kept { IfOk result (IsKeptOfRun T.is_of run.old.basin run.old.series) }
+) -> Result<(T, Run<'b, 's>), AllocError>
+    requires basin { IsValidBasin basin.now }
+    requires series { IsSeriesOf basin.now series.now }
+    ensures kept { IfOk result (λ all. IsKeptOfRun T.is_of basin.now series.now all.0) }
+    ensures run { IfOk result (λ all. all.1.basin ≡ basin.now) }
     ensures unsolved { OnErr result (work.new ≡ work.old) }
-    ensures work { SolvesRun run.old.basin work.old work.new }
+    ensures work { SolvesRun basin.now work.old work.new }
 {
-    let mut kept = T::open(alloc, run.basin())?;
-    keep_months(&mut kept, run, work);
-    Ok(kept)
+    let mut run = Run::open(alloc, basin, series)?;
+    let mut kept = T::open(alloc, basin)?;
+    keep_months(&mut kept, &mut run, work);
+    Ok((kept, run))
 }

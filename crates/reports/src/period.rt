@@ -11,7 +11,6 @@ use crate::months::kept_of;
 use crate::stop::ReportStop;
 use crate::tally::Tally;
 use crate::texts::put_report;
-use month_fold::run::Run;
 use month_fold::work::Work;
 use std::alloc::Global;
 use std::sync::ledger::Ledger;
@@ -39,12 +38,8 @@ pub fn period_report<K: Sink, P: Ledger, M: Ledger>(
     ensures unsolved { result ≡ Err OutOfMemory → work.new ≡ work.old }
     ensures work { SolvesRun basin.now work.old work.new }
 {
-    let mut run = match Run::open(alloc, basin, series) {
-        Ok(run) => run,
-        Err(_) => return Err(ReportStop::OutOfMemory),
-    };
-    let tally: Tally = match kept_of(alloc, &mut run, work) {
-        Ok(tally) => tally,
+    let (tally, run) = match kept_of::<Tally, P, M>(alloc, basin, series, work) {
+        Ok(all) => all,
         Err(_) => return Err(ReportStop::OutOfMemory),
     };
     match put_report(sink, basin, run.roll(), &tally) {

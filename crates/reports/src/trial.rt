@@ -11,7 +11,6 @@ use crate::called::Trial;
 use crate::months::kept_of;
 use crate::stop::ReportStop;
 use crate::texts::put_summary;
-use month_fold::run::Run;
 use month_fold::work::Work;
 use std::alloc::Global;
 use std::sync::ledger::Ledger;
@@ -41,12 +40,8 @@ pub fn trial_report<K: Sink, P: Ledger, M: Ledger>(
     ensures unsolved { result ≡ Err OutOfMemory → work.new ≡ work.old }
     ensures work { SolvesRun basin.now work.old work.new }
 {
-    let mut run = match Run::open(alloc, basin, series) {
-        Ok(run) => run,
-        Err(_) => return Err(ReportStop::OutOfMemory),
-    };
-    let trial: Trial = match kept_of(alloc, &mut run, work) {
-        Ok(trial) => trial,
+    let (trial, _run) = match kept_of::<Trial, P, M>(alloc, basin, series, work) {
+        Ok(all) => all,
         Err(_) => return Err(ReportStop::OutOfMemory),
     };
     match put_summary(sink, number, size, basin, &trial) {
