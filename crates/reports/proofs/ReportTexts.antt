@@ -22,7 +22,7 @@ use Rattle.result_text.proofs.Whole.{FitsText-follows}
 use Rattle.reports.specs.Figures.{short_months, wanted, delivered, short_count, all_wanted, all_delivered}
 use Rattle.reports.specs.Reports.{row, balance_row, done_row, right_row, report_text, trial_text}
 use Rattle.reports.specs.Tallies.{figures_of, IsTally, IsTrial, AreBounded}
-use Rattle.reports.specs.Texts.{whole_line, right_lines}
+use Rattle.reports.specs.Texts.{AreRights, rights_seen, whole_line, right_lines}
 use Rattle.reports.specs.declared.figures.RightFigures.{RightFigures}
 use Rattle.reports.specs.declared.entry.ReportLine.{ReportLine}
 use Rattle.reports.specs.declared.entry.ReportLine.TheVariants as line
@@ -86,16 +86,19 @@ find_holds P p (x ∷ xs) all = by_test (p x) (find_holds P p xs (All-tail P x x
     by_test true further = all 0 x (omega arith)
     by_test false further = further
 
-pub months_are : (b : Basin) (series : Inflows) (records : List MonthRecord) (t : Tally) → IsValidBasin b →
-    IsPartialHistory b series records → IsTally b series records t →
-    All (λ f. IfSome f.worst IsMonth) t.rights
+pub are_rights : (b : Basin) (series : Inflows) (records : List MonthRecord) (t : Tally) → IsValidBasin b →
+    IsPartialHistory b series records → IsTally b series records t → AreRights (rights_seen b t.rights)
 unfolding figures_of
-months_are b series records t valid partial is = λ k d l.
-    (let at_row =
-    entry_at (figures_of records) b.rights t.rights k (get_or t.rights k d) is.rights
-    (slice_get-get_or t.rights k d l) in
-    subst (λ (f : RightFigures). IfSome f.worst IsMonth) (sym at_row.1)
-    (of_found (find _ records) (find_holds (λ m. IsMonth m.month) _ records calendar)))
+are_rights b series records t valid partial is = record {
+  valid = valid;
+  count = entries_count (figures_of records) b.rights t.rights is.rights;
+  worst = λ k d l.
+      (let at_row =
+      entry_at (figures_of records) b.rights t.rights k (get_or t.rights k d) is.rights
+      (slice_get-get_or t.rights k d l) in
+      subst (λ (f : RightFigures). IfSome f.worst IsMonth) (sym at_row.1)
+      (of_found (find _ records) (find_holds (λ m. IsMonth m.month) _ records calendar)));
+}
   where
     calendar : All (λ m. IsMonth m.month) records
     calendar = λ k d l.
@@ -106,10 +109,6 @@ months_are b series records t valid partial is = λ k d l.
     of_found : (o : Option MonthRecord) → IfSome o (λ m. IsMonth m.month) → IfSome (option_map (λ m. m.month) o) IsMonth
     of_found None h = tt
     of_found (Some m) h = h
-
-pub entries_number : (b : Basin) (series : Inflows) (records : List MonthRecord) (t : Tally) →
-    IsTally b series records t → length t.rights ≡ length b.rights
-entries_number b series records t is = entries_count (figures_of records) b.rights t.rights is.rights
 
 -- sums over the figures of all rights
 sum_mapped : {X : Type 0} (f : X → ℕ) (g : ℕ → X) (ns : List ℕ) → sum_by f (map g ns) ≡ sum_by (λ n. f (g n)) ns
@@ -147,7 +146,7 @@ totals_room b series records t valid fits partial is = record {
 }
   where
     count : length t.rights ≡ length b.rights
-    count = entries_number b series records t is
+    count = entries_count (figures_of records) b.rights t.rights is.rights
 
     months : length records ≤ 1200
     months = omega (arith, partial.within, valid.run.months.1)

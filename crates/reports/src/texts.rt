@@ -1,15 +1,14 @@
 //! The texts of reports, one `put` for each line.
-ghost use Rattle.std.specs.Prelude.{◌≡◌, ◌∷◌, [], List, ◌<◌, length, All, IfSome, IsErr};
+ghost use Rattle.std.specs.Prelude.{◌≡◌, ◌∷◌, [], List, ◌<◌, length, IsErr};
 ghost use Rattle.rights_roll.specs.Rolls.{IsRollOf};
 ghost use Rattle.water_edge.specs.Edge.{HasCause, Puts};
 ghost use Rattle.water_model.specs.Valid.{IsValidBasin};
 ghost use Rattle.water_model.specs.declared.space.Space.TheVariants.{Rights};
 ghost use Rattle.water_model.specs.declared.types.Inflows.{Inflows};
 ghost use Rattle.water_model.specs.declared.types.MonthRecord.{MonthRecord};
-ghost use Rattle.water_text.specs.Months.{IsMonth};
 ghost use Rattle.reports.specs.Reports.{report_text, trial_text};
 ghost use Rattle.reports.specs.Tallies.{AreBounded, IsTally, IsTrial};
-ghost use Rattle.reports.specs.Texts.{IsOfBasin, right_lines};
+ghost use Rattle.reports.specs.Texts.{AreRights, IsOfBasin, right_lines, rights_seen};
 
 use crate::called::Trial;
 use crate::entry::ReportLine;
@@ -84,10 +83,8 @@ pub fn put_report<K: Sink>(
     roll: &Roll,
     tally: &Tally,
 ) -> Result<(), SinkFailed>
-    requires basin { IsValidBasin basin.now }
     requires roll { IsRollOf basin.now.rights roll.now }
-    requires count { length tally.now.rights ≡ length basin.now.rights }
-    requires worst { All (λ f. IfSome f.worst IsMonth) tally.now.rights }
+    requires rights { AreRights (rights_seen basin.now tally.now.rights) }
     ensures text { (series : Inflows) (records : List MonthRecord) → IsTally basin.now series records tally.now →
         Puts (K.output sink.old) (K.output sink.new) result (report_text basin.now series records) }
     ensures cause { HasCause (K.faults sink.old) (K.faults sink.new) (IsErr result) }

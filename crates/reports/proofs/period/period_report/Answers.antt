@@ -1,16 +1,11 @@
-use Rattle.reports.proofs.ReportTexts.{months_are, entries_number}
+use Rattle.reports.proofs.ReportTexts.{are_rights}
 use Rattle.reports.proofs.period.period_report.Goals as goal
 
-pub put_report-requires-clause-count : goal.put_report-requires-clause-count
-put_report-requires-clause-count g c =
+pub put_report-requires-clause-rights : goal.put_report-requires-clause-rights
+put_report-requires-clause-rights g c =
     let all = c.in-Ok.ensures.kept in
-    entries_number c.args.basin.now c.args.series.now all.records c.in-Ok.all.0 all.is
-
-pub put_report-requires-clause-worst : goal.put_report-requires-clause-worst
-put_report-requires-clause-worst g c =
-    let all = c.in-Ok.ensures.kept in
-    months_are c.args.basin.now c.args.series.now all.records c.in-Ok.all.0 c.requires.basin
-    all.run.history.partial all.is
+    are_rights c.args.basin.now c.args.series.now all.records c.in-Ok.all.0 c.requires.basin all.run.history.partial
+    all.is
 
 pub returns-in-Ok-put_report-clause-text : goal.returns-in-Ok-put_report-clause-text
 returns-in-Ok-put_report-clause-text g c =
