@@ -1,26 +1,27 @@
--- A month that starts from the run of the river.
-use Rattle.std.proofs.Common.{◌≡◌, ℕ, ◌<◌, ◌≤◌, Bool, true, false, refl, sym, ◌∙◌, ap, ap₂, subst, arith, List, length}
-use Rattle.std.proofs.lemmas.List.{get_or-replicate}
+-- A month that is begun with bounds and with the amounts of a plan.
+use Rattle.std.proofs.Common.{◌≡◌, ℕ, ◌<◌, ◌≤◌, true, refl, sym, ◌∙◌, ap, subst, arith, List, length}
+use Rattle.std.proofs.lemmas.List.{length-replicate, get_or-replicate}
 use Rattle.std.proofs.lemmas.Grind.{same_number_lists}
-use Rattle.std.specs.Prelude.{◌^◌, slice_index, Option, Some, None, is_some}
+use Rattle.std.specs.Prelude.{◌^◌, slice_index}
 use Rattle.finite_sums.specs.Sums.{when}
-use Rattle.water_model.specs.Basin.{is_outlet, taking_node}
-use Rattle.water_model.specs.Valid.{IsValidBasin}
-use Rattle.water_model.specs.RunOfRiver.{IsRunOfRiver}
-use Rattle.water_text.specs.declared.month.Month.{Month}
+use Rattle.water_model.specs.Basin.{is_outlet}
+use Rattle.water_model.specs.CutSets.{CutSets}
+use Rattle.water_model.specs.Plans.{IsPlan, carry_of}
 use Rattle.water_model.specs.declared.types.Basin.{Basin}
 use Rattle.water_model.specs.declared.types.Plan.{Plan}
-use Rattle.circulation.specs.Contents.{Contents, network, month_contents, IsStart}
+use Rattle.water_text.specs.declared.month.Month.{Month}
+use Rattle.circulation.specs.Contents.{Contents, network, flow_of, month_contents, IsStart}
 use Rattle.circulation.specs.Network.{IsFlow}
-use Rattle.senior_hold.specs.MonthNetwork.{takes, take_arc, out_arc, arc_count, HasBasinEnds, IsMonthNetwork, plan_of}
-use Rattle.senior_hold.proofs.MonthArcs.{IsArc, is_link, is_take, is_out, arc_is}
-use Rattle.river_net.proofs.RiverPlan.{river_is_plan}
-use Rattle.senior_hold.proofs.Plans.{list_get, list_len, flow_is}
-use Rattle.water_model.specs.Plans.{IsPlan, carry_of}
-use Rattle.senior_hold.specs.Solved.{FitsPlan, AreSupplies, AreWants}
 use Rattle.senior_hold.specs.Arcs.{AreAmounts, AreBounds}
+use Rattle.senior_hold.specs.MonthNetwork.{out_arc, spill_arc, arc_count, HasBasinEnds, IsMonthNetwork, plan_of}
+use Rattle.senior_hold.specs.Solved.{AreWants, IsGiven}
+use Rattle.senior_hold.specs.Spilled.{spilled, spills_of, IsBegun, IsSpilledStart}
+use Rattle.senior_hold.proofs.MonthArcs.{IsArc, is_link, is_take, is_out, arc_is}
+use Rattle.senior_hold.proofs.Plans.{list_get, list_len, flow_is}
+use Rattle.senior_hold.proofs.Solves.{IsStanding, standing_first}
+use Rattle.senior_hold.proofs.SpilledArcs.{spilled_count, spilled_outlet, spill_is}
 
-pub begun_small : {most : ℕ → ℕ} (b : Basin) (month : Month) (want upper : List ℕ) →
+begun_small : {most : ℕ → ℕ} (b : Basin) (month : Month) (want upper : List ℕ) →
     ((e : ℕ) → e < length b.links → carry_of b month e ≤ 10 ^ 15) →
     AreBounds b month want most (λ a. slice_index upper a) → ((n : ℕ) → n < length b.nodes → most n ≤ 10 ^ 15) →
     ((r : ℕ) → r < length b.rights → slice_index want r ≤ 10 ^ 9) → length upper ≡ arc_count b → (a : ℕ) →
@@ -34,7 +35,7 @@ begun_small b month want upper carries are mosts limits len a l = of_arc a (arc_
     of_arc a (is_out n k h e) =
         subst (λ a. slice_index upper a ≤ 10 ^ 15) e (omega (arith, are.on_outs n k h, mosts n k))
 
-pub begun_net : {most : ℕ → ℕ} (b : Basin) (month : Month) (supply want upper start : List ℕ) (c : Contents) →
+begun_net : {most : ℕ → ℕ} (b : Basin) (month : Month) (supply want upper start : List ℕ) (c : Contents) →
     HasBasinEnds b (network c) → AreBounds b month want most (λ a. slice_index upper a) →
     IsMonthNetwork b month supply want (network (month_contents c supply upper start))
 begun_net b month supply want upper start c ends are = record {
@@ -44,7 +45,7 @@ begun_net b month supply want upper start c ends are = record {
   supplies = λ n l. refl;
 }
 
-pub begun_flow : {most : ℕ → ℕ} (b : Basin) (month : Month) (supply want upper start : List ℕ) (c : Contents)
+begun_flow : {most : ℕ → ℕ} (b : Basin) (month : Month) (supply want upper start : List ℕ) (c : Contents)
     (p : Plan) → HasBasinEnds b (network c) → AreBounds b month want most (λ a. slice_index upper a) →
     IsPlan b month supply want p → AreAmounts b p (λ a. slice_index start a) →
     ((n : ℕ) → n < length b.nodes → slice_index p.out n ≤ most n) →
@@ -72,50 +73,74 @@ start_is b month supply want upper start c p carries ends supplies wants uppers 
       flow = begun_flow b month supply want upper start c p ends are plan laid small;
     }
 
--- the plan of the flow that a plan gives is the plan
-pub plan_same : (b : Basin) (month : Month) (supply want : List ℕ) (p : Plan) (g : ℕ → ℕ) → FitsPlan b p →
-    IsPlan b month supply want p → AreAmounts b p g → plan_of b g ≡ p
-plan_same b month supply want p g fits plan laid =
-    ap₂ (λ (f t : List ℕ). made f t (plan_of b g).out)
-    (same_number_lists (plan_of b g).flow p.flow (list_len (length b.links) g
-    ∙ sym fits.flow) (λ e l. flows e (let s = list_len (length b.links) g in omega arith)))
-    (same_number_lists (plan_of b g).take p.take (list_len (length b.rights) took
-    ∙ sym fits.take) (λ r l. takings r (let s = list_len (length b.rights) took in omega arith)))
-    ∙ ap (made p.flow p.take)
-    (same_number_lists (plan_of b g).out p.out (list_len (length b.nodes) gone
-    ∙ sym fits.out) (λ n l. goings n (let s = list_len (length b.nodes) gone in omega arith)))
+-- what lies on the outlets is what the plan lets out
+outs_same : (b : Basin) (p : Plan) (g : ℕ → ℕ) → length p.out ≡ length b.nodes →
+    ((n : ℕ) → n < length b.nodes → is_outlet b n ≡ true) → AreAmounts b p g → (plan_of b g).out ≡ p.out
+outs_same b p g size all laid =
+    same_number_lists (plan_of b g).out p.out (list_len (length b.nodes) gone ∙ sym size)
+    (λ n l. each n (let s = list_len (length b.nodes) gone in omega arith))
   where
-    made : List ℕ → List ℕ → List ℕ → Plan
-    made f t o = record { flow = f; take = t; out = o }
-
-    took : ℕ → ℕ
-    took r = when (takes b r) (g (take_arc b r))
-
     gone : ℕ → ℕ
     gone n = when (is_outlet b n) (g (out_arc b n))
 
-    flows : (e : ℕ) → e < length b.links → slice_index (plan_of b g).flow e ≡ slice_index p.flow e
-    flows e l = list_get (length b.links) g e l ∙ laid.on_links e l
+    each : (n : ℕ) → n < length b.nodes → slice_index (plan_of b g).out n ≡ slice_index p.out n
+    each n l = list_get (length b.nodes) gone n l
+        ∙ (ap (λ t. when t (g (out_arc b n))) (all n l) ∙ laid.on_outs n l (all n l))
 
-    by_node : (r : ℕ) → r < length b.rights → (o : Option ℕ) → taking_node b r ≡ o → took r ≡ slice_index p.take r
-    by_node r l None e = ap (λ o. when (is_some o) (g (take_arc b r))) e ∙ sym (plan.instream r l e)
-    by_node r l (Some v) e = ap (λ o. when (is_some o) (g (take_arc b r))) e ∙ laid.on_takes r l (ap is_some e)
+-- a month that starts with these bounds and amounts
+pub begun : (b : Basin) (month : Month) (supply want upper start : List ℕ) (c new : Contents) (p : Plan)
+    (most : ℕ → ℕ) → HasBasinEnds (spilled b) (network c) →
+    AreBounds (spilled b) month want most (λ a. slice_index upper a) → IsPlan (spilled b) month supply want p →
+    AreAmounts (spilled b) p (λ a. slice_index start a) →
+    ((n : ℕ) → n < length (spilled b).nodes → slice_index p.out n ≤ most n) →
+    new ≡ month_contents c supply upper start → IsBegun b month supply want new
+begun b month supply want upper start c new p most ends are plan laid small is =
+    subst (λ (x : Contents). IsBegun b month supply want x) (sym is) record {
+      net = begun_net (spilled b) month supply want upper start c ends are;
+      is_flow = begun_flow (spilled b) month supply want upper start c p ends are plan laid small;
+      size = length-replicate {A = ℕ} (length c.from) 0 ∙ ends.arcs;
+      free = λ a l. get_or-replicate {A = ℕ} (length c.from) a 0 0 (let n = ends.arcs in omega arith);
+    }
 
-    takings : (r : ℕ) → r < length b.rights → slice_index (plan_of b g).take r ≡ slice_index p.take r
-    takings r l = list_get (length b.rights) took r l ∙ by_node r l (taking_node b r) refl
+-- the most that a node may spill
+pub spill_upper : (b : Basin) (month : Month) (want upper start supply : List ℕ) (c new : Contents) (most : ℕ → ℕ)
+    (n : ℕ) → AreBounds (spilled b) month want most (λ a. slice_index upper a) → n < length b.nodes →
+    new ≡ month_contents c supply upper start → slice_index new.upper (spill_arc b n) ≡ most n
+spill_upper b month want upper start supply c new most n are l is =
+    ap (λ (x : Contents). slice_index x.upper (spill_arc b n)) is
+    ∙ (ap (slice_index upper) (sym (spill_is b n (omega arith)))
+    ∙ are.on_outs n (omega (arith, l, spilled_count b)) (spilled_outlet b n l))
 
-    by_outlet : (n : ℕ) → n < length b.nodes → (t : Bool) → is_outlet b n ≡ t → gone n ≡ slice_index p.out n
-    by_outlet n l true e = ap (λ t. when t (g (out_arc b n))) e ∙ laid.on_outs n l e
-    by_outlet n l false e = ap (λ t. when t (g (out_arc b n))) e ∙ sym (plan.outlets n l e)
+-- and one that starts with all supply spilled
+pub spilled_start : (b : Basin) (month : Month) (supply want upper start : List ℕ) (c new : Contents) (p : Plan)
+    (most : ℕ → ℕ) → HasBasinEnds (spilled b) (network c) →
+    AreBounds (spilled b) month want most (λ a. slice_index upper a) →
+    ((n : ℕ) → n < length b.nodes → most n ≡ 10 ^ 15) → IsPlan (spilled b) month supply want p →
+    AreAmounts (spilled b) p (λ a. slice_index start a) →
+    ((n : ℕ) → n < length b.nodes → slice_index p.out n ≤ 10 ^ 15) →
+    ((e : ℕ) → e < length b.links → slice_index p.flow e ≡ 0) → p.out ≡ supply →
+    new ≡ month_contents c supply upper start → IsSpilledStart b month supply want new
+spilled_start b month supply want upper start c new p most ends are mosts plan laid small still all is = record {
+  begun = begun b month supply want upper start c new p most ends are plan laid
+      (λ n l. omega (
+        arith,
+        small n (omega (arith, l, spilled_count b)),
+        mosts n (omega (arith, l, spilled_count b)),
+      )) is;
+  still = λ e l. ap (λ (x : Contents). flow_of x e) is ∙ (laid.on_links e l ∙ still e l);
+  all = ap (λ (x : Contents). spills_of b (flow_of x)) is
+      ∙ (outs_same (spilled b) p (λ a. slice_index start a) plan.out_len
+      (λ n l. spilled_outlet b n (omega (arith, l, spilled_count b))) laid ∙ all);
+  wide = λ n l. spill_upper b month want upper start supply c new most n are l is ∙ mosts n l;
+}
 
-    goings : (n : ℕ) → n < length b.nodes → slice_index (plan_of b g).out n ≡ slice_index p.out n
-    goings n l = list_get (length b.nodes) gone n l ∙ by_outlet n l (is_outlet b n) refl
-
--- the run of the river is a plan for any wants
-pub river_plan : (b : Basin) (month : Month) (supply want : List ℕ) (p : Plan) → IsValidBasin b → AreSupplies b supply →
-    IsRunOfRiver b supply p → IsPlan b month supply want p
-river_plan b month supply want p valid given run =
-    river_is_plan b month supply want p valid (let bounded = given.small in omega arith) run
+-- a month stands so before any right is served
+pub standing_begun : (b : Basin) (month : Month) (supply want order : List ℕ) (c : Contents) (p : Plan)
+    (cuts : CutSets) → IsBegun b month supply want c → IsGiven b month supply want p cuts →
+    IsStanding (spilled b) month supply want order 0 c cuts
+standing_begun b month supply want order c p cuts start given =
+    standing_first (spilled b) month supply want order c cuts start.net start.is_flow start.size start.free
+    (record { nodes = given.fits_cuts.nodes ∙ sym (spilled_count b); rights = given.fits_cuts.rights }) given.no_sets
 
 -- the same bounds and amounts in another list
 pub bounds_over : (b : Basin) (month : Month) (want xs ys : List ℕ) (most : ℕ → ℕ) → xs ≡ ys →

@@ -2,7 +2,7 @@
 use Rattle.std.proofs.Common.{◌≡◌, ℕ, ◌+◌, ◌-◌, ◌^◌, ◌<◌, ◌≤◌, List, ◌++◌, length, replicate, refl, ap, sym, arith, ◌∙◌}
 use Rattle.std.specs.Prelude.{slice_index}
 use Rattle.std.proofs.lemmas.Grind.{common_steps}
-use Rattle.std.proofs.lemmas.List.{get_or-replicate, length-replicate}
+use Rattle.std.proofs.lemmas.List.{get_or-replicate}
 use Rattle.water_model.specs.declared.types.Basin.{Basin}
 use Rattle.water_model.specs.declared.types.Plan.{Plan}
 use Rattle.finite_sums.proofs.Totals.{term_le_total}
@@ -19,8 +19,8 @@ use Rattle.senior_hold.specs.MonthNetwork.{taker_count, arc_count, HasBasinEnds}
 use Rattle.senior_hold.specs.Places.{HasArcs}
 use Rattle.senior_hold.specs.Solved.{AreSupplies, AreWants}
 use Rattle.senior_hold.specs.Spilled.{spilled, IsSpilledStart}
-use Rattle.senior_hold.proofs.Begins.{start_is}
-use Rattle.senior_hold.proofs.Spilled.{spilled_plan, spilled_wants, spilled_start}
+use Rattle.senior_hold.proofs.Begins.{start_is, spilled_start}
+use Rattle.senior_hold.proofs.Spilled.{spilled_plan, spilled_wants}
 use Rattle.senior_hold.proofs.MonthArcs.{take_arc_below}
 use Rattle.senior_hold.proofs.SpilledArcs.{spilled_count, spilled_arcs, spill_is}
 
@@ -115,11 +115,6 @@ pub spilled_begun : (b : Basin) (month : Month) (supply want upper : List ℕ) (
     IsSpilledStart b month supply want new
 spilled_begun b month supply want upper c new arcs most ends all given are mosts is =
     spilled_start b month supply want upper (on_last arcs supply) (record c { scratch = new.scratch }) new
-    (spilled_of b supply) most ends are mosts
-    record {
-      flow = length-replicate {A = ℕ} (length b.links) 0;
-      take = length-replicate {A = ℕ} (length b.rights) 0;
-      out = given.count;
-    }
-    (spilled_is b month supply want given) (spilled_laid b supply arcs all given.count)
-    (spilled_small b supply given) (λ e l. get_or-replicate {A = ℕ} (length b.links) e 0 0 l) refl is
+    (spilled_of b supply) most ends are mosts (spilled_is b month supply want given)
+    (spilled_laid b supply arcs all given.count) (spilled_small b supply given)
+    (λ e l. get_or-replicate {A = ℕ} (length b.links) e 0 0 l) refl is

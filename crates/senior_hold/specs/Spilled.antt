@@ -1,5 +1,7 @@
 -- A month's network with a spill at each node: what it is to the network of a basin, and how its flows become plans.
 use Rattle.std.specs.Prelude.{◌≡◌, ℕ, ◌+◌, ◌^◌, ◌<◌, true, List, map, length, slice_index}
+use Rattle.finite_sums.specs.Sums.{when}
+use Rattle.water_model.specs.Basin.{is_outlet}
 use Rattle.water_model.specs.RunOfRiver.{RunsNaturally}
 use Rattle.water_model.specs.declared.types.Basin.{Basin}
 use Rattle.water_model.specs.declared.types.Node.{Node}
@@ -35,16 +37,24 @@ pub record HasSpills (c : Contents) (first : ℕ) : Type 0 where
   pub from : (n : ℕ) → n < c.nodes → slice_index c.from (first + n) ≡ n
   pub to : (n : ℕ) → n < c.nodes → slice_index c.to (first + n) ≡ c.nodes
 
--- a node spills at most as much as a river carries
-abbrev pub SpillsAreWide : Basin → Contents → Type 0
-SpillsAreWide b c = (n : ℕ) → n < length b.nodes → slice_index c.upper (spill_arc b n) ≡ 10 ^ 15
-
--- a month that starts with all supply spilled where it comes in, with no arc held
-pub record IsSpilledStart (b : Basin) (month : Month) (supply want : List ℕ) (c : Contents) : Type 0 where
+-- a month that is begun, with no arc held
+pub record IsBegun (b : Basin) (month : Month) (supply want : List ℕ) (c : Contents) : Type 0 where
   pub net : IsMonthNetwork (spilled b) month supply want (network c)
   pub is_flow : IsFlow (network c) (flow_of c)
   pub size : length c.lower ≡ arc_count (spilled b)
   pub free : (a : ℕ) → a < arc_count (spilled b) → slice_index c.lower a ≡ 0
+
+-- a node spills at most as much as a river carries
+abbrev pub SpillsAreWide : Basin → Contents → Type 0
+SpillsAreWide b c = (n : ℕ) → n < length b.nodes → slice_index c.upper (spill_arc b n) ≡ 10 ^ 15
+
+-- so where it is an outlet, and else nothing
+abbrev pub OutletsAlone : Basin → Contents → Type 0
+OutletsAlone b c = (n : ℕ) → n < length b.nodes → slice_index c.upper (spill_arc b n) ≡ when (is_outlet b n) (10 ^ 15)
+
+-- a month that starts with all supply spilled where it comes in
+pub record IsSpilledStart (b : Basin) (month : Month) (supply want : List ℕ) (c : Contents) : Type 0 where
+  pub begun : IsBegun b month supply want c
   pub still : (e : ℕ) → e < length b.links → flow_of c e ≡ 0
   pub all : spills_of b (flow_of c) ≡ supply
   pub wide : SpillsAreWide b c

@@ -4,7 +4,7 @@ use Rattle.senior_hold.specs.Spilled.{spilled}
 use Rattle.senior_hold.proofs.Begins.{bounds_over}
 use Rattle.senior_hold.proofs.SpilledStarts.{held_arcs, supplies_bounded, spilled_begins, spilled_begun}
 use Rattle.water_model.proofs.Lists.{whole_rows}
-use Rattle.senior_hold.proofs.tree_sweep.begin_spilled.Goals as goal
+use Rattle.senior_hold.proofs.sweep.begin_spilled.Goals as goal
 
 pub lend_month-requires-clause-bounded : goal.lend_month-requires-clause-bounded
 lend_month-requires-clause-bounded c = supplies_bounded c.args.basin.now c.args.supply.now _
