@@ -131,7 +131,6 @@ spilled_start b month supply want upper start c new p most ends are mosts plan l
   all = ap (λ (x : Contents). spills_of b (flow_of x)) is
       ∙ (outs_same (spilled b) p (λ a. slice_index start a) plan.out_len
       (λ n l. spilled_outlet b n (omega (arith, l, spilled_count b))) laid ∙ all);
-  wide = λ n l. spill_upper b month want upper start supply c new most n are l is ∙ mosts n l;
 }
 
 -- a month stands so before any right is served
@@ -141,6 +140,16 @@ pub standing_begun : (b : Basin) (month : Month) (supply want order : List ℕ) 
 standing_begun b month supply want order c p cuts start given =
     standing_first (spilled b) month supply want order c cuts start.net start.is_flow start.size start.free
     (record { nodes = given.fits_cuts.nodes ∙ sym (spilled_count b); rights = given.fits_cuts.rights }) given.no_sets
+
+-- bounds where the same may be spilled
+pub bounds_most : (b : Basin) (month : Month) (want : List ℕ) (upper most most' : ℕ → ℕ) →
+    ((n : ℕ) → n < length b.nodes → most n ≡ most' n) → AreBounds b month want most upper →
+    AreBounds b month want most' upper
+bounds_most b month want upper most most' same are = record {
+  on_links = are.on_links;
+  on_takes = are.on_takes;
+  on_outs = λ n l h. are.on_outs n l h ∙ same n l;
+}
 
 -- the same bounds and amounts in another list
 pub bounds_over : (b : Basin) (month : Month) (want xs ys : List ℕ) (most : ℕ → ℕ) → xs ≡ ys →

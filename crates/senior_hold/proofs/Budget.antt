@@ -13,7 +13,8 @@ use Rattle.residual_tree.proofs.Overs.{over_forward}
 use Rattle.senior_hold.specs.MonthNetwork.{out_arc, spill_arc, IsMonthNetwork}
 use Rattle.senior_hold.specs.Serving.{FillsExit}
 use Rattle.senior_hold.specs.Solved.{AreSupplies}
-use Rattle.senior_hold.specs.Spilled.{spilled, spills_of, SpillsAreWide}
+use Rattle.senior_hold.specs.declared.sweep.Method.{Method}
+use Rattle.senior_hold.specs.Spilled.{spilled, spills_of, SpillsAreOf}
 use Rattle.senior_hold.proofs.Plans.{list_get, list_len}
 use Rattle.senior_hold.proofs.SettledPlans.{spills_bounded}
 use Rattle.senior_hold.proofs.TreeServes.{raised_net}
@@ -35,7 +36,7 @@ spill_most b g n l =
 -- no raise fills a spill, which may have more than all supply
 pub never_full : (b : Basin) (month : Month) (supply want : List ℕ) (c : Contents) (arc exit first : ℕ) →
     IsValidBasin b → AreSupplies b supply → IsMonthNetwork (spilled b) month supply want (network c) →
-    SpillsAreWide b c → first ≡ spill_arc b 0 → first ≤ exit → exit < first + c.nodes → FillsExit c arc exit → ⊥
+    SpillsAreOf b Method.Tree c → first ≡ spill_arc b 0 → first ≤ exit → exit < first + c.nodes → FillsExit c arc exit → ⊥
 never_full b month supply want c arc exit first valid supplies net wide start above below fills =
     let d = fills.then in
     let node = exit - first in

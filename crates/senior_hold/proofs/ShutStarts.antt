@@ -18,7 +18,8 @@ use Rattle.augment.specs.Raised.{open_arcs}
 use Rattle.senior_hold.specs.Arcs.{AreBounds, AreAmounts}
 use Rattle.senior_hold.specs.MonthNetwork.{taker_count, spill_arc, arc_count, HasBasinEnds}
 use Rattle.senior_hold.specs.Solved.{AreSupplies, AreWants}
-use Rattle.senior_hold.specs.Spilled.{spilled, OutletsAlone, IsBegun}
+use Rattle.senior_hold.specs.Spilled.{spilled, SpillsAreOf, IsBegun}
+use Rattle.senior_hold.specs.declared.sweep.Method.{Method}
 use Rattle.senior_hold.proofs.Begins.{start_is, begun}
 use Rattle.senior_hold.proofs.SettledPlans.{spills_most}
 use Rattle.senior_hold.proofs.SpilledArcs.{spilled_count, spilled_outlet, spilled_arcs}
@@ -92,7 +93,8 @@ shut_begun b month supply want upper start c new p most ends valid given are is 
     (plan_up b month supply want p plan) laid (outs_fit b month supply want p most valid given plan is) made
 
 -- no more arcs may carry anything than the basin has links, takers and outlets
-pub open_bounded : (b : Basin) (c : Contents) → HasBasinEnds (spilled b) (network c) → OutletsAlone b c →
+pub open_bounded : (b : Basin) (c : Contents) → HasBasinEnds (spilled b) (network c) →
+    SpillsAreOf b Method.Searches c →
     open_arcs (network c) ≤ arc_count b
 open_bounded b c ends outlets =
     let links = length b.links in

@@ -16,7 +16,8 @@ use Rattle.senior_hold.proofs.PathOut.{path_out}
 use Rattle.senior_hold.proofs.Solves.{IsStanding}
 use Rattle.rights_roll.specs.SeniorityOrder.{IsSeniorityOrder}
 use Rattle.senior_hold.specs.Arcs.{AreArcs}
-use Rattle.senior_hold.specs.Spilled.{spilled, OutletsAlone}
+use Rattle.senior_hold.specs.Spilled.{spilled, SpillsAreOf}
+use Rattle.senior_hold.specs.declared.sweep.Method.{Method}
 use Rattle.senior_hold.specs.Layouts.{IsLayout}
 use Rattle.senior_hold.specs.declared.solver.Layout.{Layout}
 use Rattle.senior_hold.proofs.SpilledArcs.{spilled_kinds}
@@ -93,7 +94,7 @@ at_turn b l month supply want items k arc c cuts valid is same below at wants no
 
 pub turn_path_out : (b : Basin) (month : Month) (supply want order : List ℕ) (k r arc : ℕ) (c : Contents)
     (cuts : CutSets) → IsValidBasin b → IsTurn b order k r arc → total (length b.nodes)
-    (λ v. slice_index supply v) < 4 * 10 ^ 13 → OutletsAlone b c →
+    (λ v. slice_index supply v) < 4 * 10 ^ 13 → SpillsAreOf b Method.Searches c →
     IsStanding (spilled b) month supply want order k c cuts → HasPathOut (network c) arc
 turn_path_out b month supply want order k r arc c cuts valid t bounded outlets now =
     subst (λ a. HasPathOut (network c) a) (sym t.arc_is)

@@ -9,6 +9,7 @@ use Rattle.water_model.specs.declared.types.Plan.{Plan}
 use Rattle.water_text.specs.declared.month.Month.{Month}
 use Rattle.circulation.specs.Contents.{Contents, arcs, network, flow_of}
 use Rattle.circulation.specs.Network.{IsFlow}
+use Rattle.senior_hold.specs.declared.sweep.Method.{Method}
 use Rattle.senior_hold.specs.MonthNetwork.{plan_of, arc_count, spill_arc, IsMonthNetwork}
 
 -- the node lets water out
@@ -44,17 +45,16 @@ pub record IsBegun (b : Basin) (month : Month) (supply want : List ℕ) (c : Con
   pub size : length c.lower ≡ arc_count (spilled b)
   pub free : (a : ℕ) → a < arc_count (spilled b) → slice_index c.lower a ≡ 0
 
--- a node spills at most as much as a river carries
-abbrev pub SpillsAreWide : Basin → Contents → Type 0
-SpillsAreWide b c = (n : ℕ) → n < length b.nodes → slice_index c.upper (spill_arc b n) ≡ 10 ^ 15
+-- the most that a node may spill: as much as a river carries, by searches at outlets alone
+abbrev pub spill_most : Basin → Method → ℕ → ℕ
+spill_most b Method.Tree node = 10 ^ 15
+spill_most b Method.Searches node = when (is_outlet b node) (10 ^ 15)
 
--- so where it is an outlet, and else nothing
-abbrev pub OutletsAlone : Basin → Contents → Type 0
-OutletsAlone b c = (n : ℕ) → n < length b.nodes → slice_index c.upper (spill_arc b n) ≡ when (is_outlet b n) (10 ^ 15)
+abbrev pub SpillsAreOf : Basin → Method → Contents → Type 0
+SpillsAreOf b method c = (n : ℕ) → n < length b.nodes → slice_index c.upper (spill_arc b n) ≡ spill_most b method n
 
 -- a month that starts with all supply spilled where it comes in
 pub record IsSpilledStart (b : Basin) (month : Month) (supply want : List ℕ) (c : Contents) : Type 0 where
   pub begun : IsBegun b month supply want c
   pub still : (e : ℕ) → e < length b.links → flow_of c e ≡ 0
   pub all : spills_of b (flow_of c) ≡ supply
-  pub wide : SpillsAreWide b c

@@ -173,8 +173,8 @@ impl<'b> Solver<'b> {
         )
     }
 
-    /// Finds a plan for a month as `solve_month` does, by the tree if its pushes last, and else by searches from where the
-    /// tree came.
+    /// Finds a plan for a month as `solve_month` does, by the tree if its pushes last, and else by searches from where
+    /// the tree came.
     fn find_plan<L: Ledger>(
         &mut self,
         month: Month,

@@ -1,8 +1,8 @@
 //! A month's rights, one after another, seniors first.
 //!
 //! By the tree, water stays where it rises: a month begins with nothing on the links and each node's supply on its
-//! spill. By searches a month goes on from a plan, and only outlets let water out. In both what is left on the spills at
-//! the end runs down the rivers. No delivery changes by that, as a tight cut bounds every plan.
+//! spill. By searches a month goes on from a plan, and only outlets let water out. At the end what is left on the spills
+//! runs down the rivers. No delivery changes by that, as a tight cut bounds every plan.
 ghost use Rattle.std.specs.Prelude.{◌≡◌, ◌⊎◌, ℕ, ◌+◌, ◌*◌, ◌^◌, ◌<◌, ◌≤◌, length, slice_index, None};
 ghost use Rattle.water_text.specs.Months.{IsMonth};
 ghost use Rattle.water_text.specs.declared.month.Month.{Month};
@@ -15,12 +15,13 @@ ghost use Rattle.residual_tree.specs.Raised.{IsExit, IsRaisedOver};
 ghost use Rattle.residual_tree.specs.Tree.{IsResidualTree};
 ghost use Rattle.river_net.specs.Net.{total_of};
 ghost use Rattle.senior_hold.specs.MonthNetwork.{HasBasinEnds, arc_count};
+ghost use Rattle.senior_hold.specs.Arcs.{AreBounds};
 ghost use Rattle.senior_hold.specs.Serving.{IsServed, KeepsShape, FillsExit};
 ghost use Rattle.senior_hold.specs.Solved.{FitsPlan, FitsCuts, AreSupplies, AreWants, IsGiven, IsSolved};
 ghost use Rattle.senior_hold.specs.Layouts.{IsLayout, FitsRoom};
 ghost use Rattle.senior_hold.specs.Places.{HasArcs, HasParts};
-ghost use Rattle.senior_hold.specs.Spilled.{spilled, spills_of, HasSpills, IsBegun, OutletsAlone, IsSpilledStart};
-ghost use Rattle.senior_hold.specs.Spilled.{IsSettledPlan};
+ghost use Rattle.senior_hold.specs.Spilled.{spilled, spills_of, spill_most, HasSpills, SpillsAreOf, IsBegun};
+ghost use Rattle.senior_hold.specs.Spilled.{IsSpilledStart, IsSettledPlan};
 
 use crate::amounts::{
     RIVER_CARRY, lay, read_links, read_spills, read_takes, write_bounds, write_outlets,
@@ -48,30 +49,36 @@ pub enum Method {
     Searches,
 }
 
-/// Starts a month with all supply spilled where it comes in, and with no arc held. The words that change may hold
-/// anything.
-fn begin_spilled<'r>(
+/// Writes the most that each node may spill.
+fn write_spills(method: Method, basin: &Basin, most: &mut [u64])
+    requires { length most.old ≡ length basin.now.nodes }
+    ensures { (n : ℕ) → n < length basin.now.nodes → slice_index most.new n ≡ spill_most basin.now method n }
+{
+    match method {
+        Method::Tree => most.fill(RIVER_CARRY),
+        Method::Searches => write_outlets(basin, most),
+    }
+}
+
+/// Writes the bounds of a month.
+fn write_uppers(
+    method: Method,
     basin: &Basin,
     layout: &Layout,
     room: &mut Room,
-    held: &Circulation,
-    fixed: &'r [u64],
-    moving: &'r mut [u64],
     month: Month,
-    supply: &[u64],
     want: &[u64],
-) -> CirculationMut<'r>
+)
     requires valid { IsValidBasin basin.now }
     requires layout { IsLayout basin.now layout.now }
     requires room { FitsRoom basin.now room.old }
-    requires arcs { HasArcs basin.now held.now fixed.now moving.old }
     requires month { IsMonth month }
-    requires supply { AreSupplies basin.now supply.now }
-    requires want { AreWants basin.now month want.now }
+    requires want { length want.now ≡ length basin.now.rights }
     ensures room { FitsRoom basin.now room.new }
-    ensures start { IsSpilledStart basin.now month supply.now want.now result }
+    ensures bounds { AreBounds (spilled basin.now) month want.now (spill_most basin.now method)
+        (slice_index room.new.upper.items) }
 {
-    room.most.out.as_mut_slice().fill(RIVER_CARRY);
+    write_spills(method, basin, room.most.out.as_mut_slice());
     write_bounds(
         basin,
         &layout.arcs,
@@ -80,50 +87,10 @@ fn begin_spilled<'r>(
         room.most.out.as_slice(),
         &mut room.upper,
     );
-    // The spills are the last arcs, in the order of the nodes.
-    held.lend_month(fixed, moving, supply, &room.upper, supply)
 }
 
-/// Starts a month from a plan of it, with no arc held. Where a node is no outlet, its spill carries nothing. The words
-/// that change may hold anything.
-fn begin_shut<'r>(
-    basin: &Basin,
-    layout: &Layout,
-    room: &mut Room,
-    held: &Circulation,
-    fixed: &'r [u64],
-    moving: &'r mut [u64],
-    month: Month,
-    supply: &[u64],
-    want: &[u64],
-    plan: &Plan,
-) -> CirculationMut<'r>
-    requires valid { IsValidBasin basin.now }
-    requires layout { IsLayout basin.now layout.now }
-    requires room { FitsRoom basin.now room.old }
-    requires arcs { HasArcs basin.now held.now fixed.now moving.old }
-    requires month { IsMonth month }
-    requires supply { AreSupplies basin.now supply.now }
-    requires want { AreWants basin.now month want.now }
-    requires plan { IsPlan basin.now month supply.now want.now plan.now }
-    ensures room { FitsRoom basin.now room.new }
-    ensures begun { IsBegun basin.now month supply.now want.now result }
-    ensures outlets { OutletsAlone basin.now result }
-{
-    write_outlets(basin, room.most.out.as_mut_slice());
-    write_bounds(
-        basin,
-        &layout.arcs,
-        month,
-        want,
-        room.most.out.as_slice(),
-        &mut room.upper,
-    );
-    lay(basin, &layout.arcs, plan, &mut room.start);
-    held.lend_month(fixed, moving, supply, &room.upper, &room.start)
-}
-
-/// Starts a month as a method begins, with no arc held.
+/// Starts a month with no arc held: by the tree with all supply spilled where it comes in, and by searches from the plan.
+/// The words that change may hold anything.
 fn begin<'r>(
     method: Method,
     basin: &Basin,
@@ -147,19 +114,16 @@ fn begin<'r>(
     requires plan { method ≡ Method.Searches → IsPlan basin.now month supply.now want.now plan.now }
     ensures room { FitsRoom basin.now room.new }
     ensures begun { IsBegun basin.now month supply.now want.now result }
+    ensures spills { SpillsAreOf basin.now method result }
     ensures start { method ≡ Method.Tree → IsSpilledStart basin.now month supply.now want.now result }
-    ensures outlets { method ≡ Method.Searches → OutletsAlone basin.now result }
 {
+    write_uppers(method, basin, layout, room, month, want);
     match method {
-        Method::Tree => {
-            begin_spilled(
-                basin, layout, room, held, fixed, moving, month, supply, want,
-            )
-        }
+        // The spills are the last arcs, in the order of the nodes.
+        Method::Tree => held.lend_month(fixed, moving, supply, &room.upper, supply),
         Method::Searches => {
-            begin_shut(
-                basin, layout, room, held, fixed, moving, month, supply, want, plan,
-            )
+            lay(basin, &layout.arcs, plan, &mut room.start);
+            held.lend_month(fixed, moving, supply, &room.upper, &room.start)
         }
     }
 }
@@ -278,9 +242,9 @@ pub enum Sweep {
     GaveUp,
 }
 
-/// Serves the rights by a method, seniors first, and writes the plan, which after GaveUp serves the first of them alone.
-/// Of the budget each turn by the tree loses at most one push, its last, so that GaveUp comes only after more than 29
-/// pushes for each right. By searches it begins with the plan that it is given, and never gives up.
+/// Serves the rights by a method, seniors first, and writes the plan. Of the budget each turn by the tree loses at most
+/// one push, its last, so that GaveUp comes only after more than 29 pushes for each right. By searches it begins with
+/// the plan that it is given, and never gives up.
 pub fn sweep_month<L: Ledger>(
     method: Method,
     basin: &Basin,

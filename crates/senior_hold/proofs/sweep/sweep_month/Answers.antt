@@ -6,7 +6,7 @@ use Rattle.senior_hold.specs.contracts.tree_raises.Turn.{the_type}
 use Rattle.circulation.specs.Contents.{Contents, network, flow_of}
 use Rattle.augment.specs.Raised.{open_arcs}
 use Rattle.senior_hold.specs.MonthNetwork.{arc_count, spill_arc}
-use Rattle.senior_hold.specs.Spilled.{spilled, IsSpilledStart}
+use Rattle.senior_hold.specs.Spilled.{spilled, IsSpilledStart, SpillsAreOf}
 use Rattle.senior_hold.proofs.Begins.{standing_begun}
 use Rattle.senior_hold.proofs.Budget.{never_full}
 use Rattle.senior_hold.proofs.ShutStarts.{open_bounded}
@@ -52,9 +52,8 @@ loop-turn-init g c =
       tree = λ h. c.plant-tree.ensures;
       first = λ e. refl;
       cost = λ h. omega (arith, ap length c.by_seniority-order.ensures, o.count);
-      wide = λ h. (c.begin-circ.ensures.start h).wide;
+      spills = c.begin-circ.ensures.spills;
       used = λ h. omega (arith, ap length c.by_seniority-order.ensures, o.count);
-      outlets = λ h. c.begin-circ.ensures.outlets h;
       search_cost = λ h. omega arith;
       room = c.begin-circ.ensures.room;
       plan = c.requires.given.fits_plan;
@@ -112,7 +111,7 @@ serve_by-turn-requires-clause-path_out g c = λ h.
     c.requires.given.wants c.loop-turn.invariant.standing in
     turn_path_out c.args.basin.now c.args.month c.args.supply.now c.args.want.now _ c.loop-turn.turn _
     c.index-arc.result.now c.loop-turn.circ c.loop-turn.cuts c.requires.valid t.own c.requires.given.supplies.small
-    (c.loop-turn.invariant.outlets h) c.loop-turn.invariant.standing
+    (subst (λ m. SpillsAreOf c.args.basin.now m c.loop-turn.circ) h c.loop-turn.invariant.spills) c.loop-turn.invariant.standing
 
 pub serve_by-turn-requires-clause-right : goal.serve_by-turn-requires-clause-right
 serve_by-turn-requires-clause-right g c =
@@ -147,19 +146,17 @@ loop-turn-preserved g c =
       tree = λ h. done.tree h is;
       first = λ e. absurd (omega arith);
       cost = λ h. omega (arith, inv.cost h, done.cost h);
-      wide = λ h n l. ap (λ (x : Contents). slice_index x.upper (spill_arc c.args.basin.now n)) (done.served is).held
-          ∙ inv.wide h n l;
+      spills = λ n l. ap (λ (x : Contents). slice_index x.upper (spill_arc c.args.basin.now n)) (done.served is).held
+          ∙ inv.spills n l;
       used = λ h. elim (done.used h) [
         | inl each ↦ omega (arith, each, inv.used h)
         | inr fills ↦ absurd (never_full c.args.basin.now c.args.month c.args.supply.now c.args.want.now
             c.loop-turn.circ c.index-arc.result.now c.exit_of-exit.result c.args.layout.now.arcs.spill c.requires.valid
-            c.requires.given.supplies inv.standing.net (inv.wide h) c.requires.layout.are_arcs.spill
+            c.requires.given.supplies inv.standing.net (subst (λ m. SpillsAreOf c.args.basin.now m c.loop-turn.circ) h inv.spills) c.requires.layout.are_arcs.spill
             c.exit_of-exit.ensures.first c.exit_of-exit.ensures.spill fills)
       ];
-      outlets = λ h n l. ap (λ (x : Contents). slice_index x.upper (spill_arc c.args.basin.now n)) (done.served is).held
-          ∙ inv.outlets h n l;
       search_cost = λ h. one_more (arc_count c.args.basin.now) (open_arcs (network c.loop-turn.circ)) c.loop-turn.turn
-          _ _ _ (open_bounded c.args.basin.now c.loop-turn.circ inv.standing.net.ends (inv.outlets h))
+          _ _ _ (open_bounded c.args.basin.now c.loop-turn.circ inv.standing.net.ends (subst (λ m. SpillsAreOf c.args.basin.now m c.loop-turn.circ) h inv.spills))
           (inv.search_cost h) (done.search_cost h);
       room = inv.room;
       plan = inv.plan;
@@ -211,7 +208,7 @@ returns-then-eq-clause-gave_up g c = λ _.
         )
         | inr fills ↦ absurd (never_full c.args.basin.now c.args.month c.args.supply.now c.args.want.now
             c.loop-turn.circ c.index-arc.result.now c.exit_of-exit.result c.args.layout.now.arcs.spill c.requires.valid
-            c.requires.given.supplies inv.standing.net (inv.wide h) c.requires.layout.are_arcs.spill
+            c.requires.given.supplies inv.standing.net (subst (λ m. SpillsAreOf c.args.basin.now m c.loop-turn.circ) h inv.spills) c.requires.layout.are_arcs.spill
             c.exit_of-exit.ensures.first c.exit_of-exit.ensures.spill fills)
       ]
     ]

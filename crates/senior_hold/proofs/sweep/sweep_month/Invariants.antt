@@ -3,7 +3,7 @@ use Rattle.residual_tree.specs.Tree.{IsResidualTree}
 use Rattle.senior_hold.specs.Layouts.{FitsRoom}
 use Rattle.senior_hold.specs.MonthNetwork.{arc_count}
 use Rattle.senior_hold.specs.Solved.{FitsPlan}
-use Rattle.senior_hold.specs.Spilled.{spilled, SpillsAreWide, OutletsAlone}
+use Rattle.senior_hold.specs.Spilled.{spilled, SpillsAreOf}
 use Rattle.senior_hold.specs.declared.sweep.Method.{Method}
 use Rattle.senior_hold.proofs.Solves.{IsStanding}
 use Rattle.senior_hold.proofs.sweep.sweep_month.Given as goal
@@ -14,9 +14,8 @@ invariant-loop-turn g l = record {
   tree : l.method ≡ Method.Tree → IsResidualTree l.circ l.tree;
   first : l.turn ≡ 0 → l.circ ≡ l.initial.circ;
   cost : l.method ≡ Method.Tree → l.searches + l.left ≤ l.fn.searches + 30 * length l.basin.rights;
-  wide : l.method ≡ Method.Tree → SpillsAreWide l.basin l.circ;
+  spills : SpillsAreOf l.basin l.method l.circ;
   used : l.method ≡ Method.Tree → l.fn.searches + 30 * length l.basin.rights ≤ l.searches + l.left + l.turn;
-  outlets : l.method ≡ Method.Searches → OutletsAlone l.basin l.circ;
   search_cost : l.method ≡ Method.Searches →
       l.searches ≤ l.fn.searches + l.turn * (30 * (2 * arc_count l.basin + 1));
   room : FitsRoom l.basin l.room;
