@@ -1,5 +1,5 @@
 -- A month that is begun with bounds and with the amounts of a plan.
-use Rattle.std.proofs.Common.{◌≡◌, ℕ, ◌<◌, ◌≤◌, true, refl, sym, ◌∙◌, ap, subst, arith, List, length}
+use Rattle.std.proofs.Common.{◌≡◌, ℕ, ◌<◌, ◌≤◌, Bool, true, false, refl, sym, ◌∙◌, ap, subst, arith, List, length}
 use Rattle.std.proofs.lemmas.List.{length-replicate, get_or-replicate}
 use Rattle.std.proofs.lemmas.Grind.{same_number_lists}
 use Rattle.std.specs.Prelude.{◌^◌, slice_index}
@@ -9,13 +9,17 @@ use Rattle.water_model.specs.CutSets.{CutSets}
 use Rattle.water_model.specs.Plans.{IsPlan, carry_of}
 use Rattle.water_model.specs.declared.types.Basin.{Basin}
 use Rattle.water_model.specs.declared.types.Plan.{Plan}
+use Rattle.water_model.specs.Valid.{IsValidBasin}
+use Rattle.water_model.proofs.Carries.{carry_most}
+use Rattle.water_text.specs.Months.{IsMonth}
 use Rattle.water_text.specs.declared.month.Month.{Month}
-use Rattle.circulation.specs.Contents.{Contents, network, flow_of, month_contents, IsStart}
+use Rattle.circulation.specs.Contents.{Contents, network, month_contents, IsStart}
 use Rattle.circulation.specs.Network.{IsFlow}
 use Rattle.senior_hold.specs.Arcs.{AreAmounts, AreBounds}
-use Rattle.senior_hold.specs.MonthNetwork.{out_arc, spill_arc, arc_count, HasBasinEnds, IsMonthNetwork, plan_of}
-use Rattle.senior_hold.specs.Solved.{AreWants, IsGiven}
-use Rattle.senior_hold.specs.Spilled.{spilled, spills_of, IsBegun, IsSpilledStart}
+use Rattle.senior_hold.specs.MonthNetwork.{out_arc, arc_count, HasBasinEnds, IsMonthNetwork, plan_of}
+use Rattle.senior_hold.specs.Solved.{AreSupplies, AreWants, IsGiven}
+use Rattle.senior_hold.specs.Spilled.{spilled, spills_of, spill_most, IsBegun, IsSpilledStart}
+use Rattle.senior_hold.specs.declared.sweep.Method.{Method}
 use Rattle.senior_hold.proofs.MonthArcs.{IsArc, is_link, is_take, is_out, arc_is}
 use Rattle.senior_hold.proofs.Plans.{list_get, list_len, flow_is}
 use Rattle.senior_hold.proofs.Solves.{IsStanding, standing_first}
@@ -56,21 +60,58 @@ begun_flow b month supply want upper start c p ends are plan laid small =
     (λ a l. get_or-replicate {A = ℕ} (length c.from) a 0 0 l) laid.on_links laid.on_takes laid.on_outs
     (λ n l h. omega (arith, small n l, are.on_outs n l h))
 
--- a month may start with these bounds and amounts
-pub start_is : {most : ℕ → ℕ} (b : Basin) (month : Month) (supply want upper start : List ℕ) (c : Contents) (p : Plan) →
-    ((e : ℕ) → e < length b.links → carry_of b month e ≤ 10 ^ 15) → HasBasinEnds b (network c) →
-    length supply ≡ length b.nodes → AreWants b month want → length upper ≡ arc_count b → length start ≡ arc_count b →
-    AreBounds b month want most (λ a. slice_index upper a) → AreAmounts b p (λ a. slice_index start a) →
-    IsPlan b month supply want p → ((n : ℕ) → n < length b.nodes → most n ≤ 10 ^ 15) →
-    ((n : ℕ) → n < length b.nodes → slice_index p.out n ≤ most n) → IsStart c supply upper start
-start_is b month supply want upper start c p carries ends supplies wants uppers starts are laid plan mosts small =
+-- amounts with which a month may start: those of a plan that lets water out where nodes may spill it
+pub record IsStartOf (b : Basin) (method : Method) (month : Month) (supply want start : List ℕ) : Type 0 where
+  pub plan : Plan
+  pub is_plan : IsPlan (spilled b) month supply want plan
+  pub laid : AreAmounts (spilled b) plan (λ a. slice_index start a)
+  pub fits : (n : ℕ) → n < length b.nodes → slice_index plan.out n ≤ spill_most b method n
+
+-- no spill carries more than a river
+spills_small : (b : Basin) (method : Method) (n : ℕ) → spill_most b method n ≤ 10 ^ 15
+spills_small b Method.Tree n = omega arith
+spills_small b Method.Searches n = of_node (is_outlet b n)
+  where
+    of_node : (t : Bool) → when t (10 ^ 15) ≤ 10 ^ 15
+    of_node true = omega arith
+    of_node false = omega arith
+
+-- a month may start with them
+pub begins : (b : Basin) (method : Method) (month : Month) (supply want upper start : List ℕ) (c : Contents) →
+    IsValidBasin b → IsMonth month → HasBasinEnds (spilled b) (network c) → AreSupplies b supply →
+    AreWants b month want → length upper ≡ arc_count (spilled b) → length start ≡ arc_count (spilled b) →
+    AreBounds (spilled b) month want (spill_most b method) (λ a. slice_index upper a) →
+    IsStartOf b method month supply want start → IsStart c supply upper start
+begins b method month supply want upper start c valid is_month ends given wants uppers starts are s =
+    let count = spilled_count b in
     record {
-      supplies = supplies ∙ sym ends.nodes;
+      supplies = given.count ∙ sym count ∙ sym ends.nodes;
       uppers = uppers ∙ sym ends.arcs;
       amounts = starts ∙ sym ends.arcs;
-      small = λ a l. begun_small b month want upper carries are mosts wants.small uppers a (let n = ends.arcs in
-          omega arith);
-      flow = begun_flow b month supply want upper start c p ends are plan laid small;
+      small = λ a l. begun_small (spilled b) month want upper (λ e k. carry_most b month e valid is_month k) are
+          (λ n k. spills_small b method n) wants.small uppers a (let n = ends.arcs in omega arith);
+      flow = begun_flow (spilled b) month supply want upper start c s.plan ends are s.is_plan s.laid
+          (λ n l. s.fits n (omega (arith, l, count)));
+    }
+
+-- and then it is begun
+pub begun : (b : Basin) (method : Method) (month : Month) (supply want upper start : List ℕ) (c new : Contents) →
+    HasBasinEnds (spilled b) (network c) →
+    AreBounds (spilled b) month want (spill_most b method) (λ a. slice_index upper a) →
+    IsStartOf b method month supply want start →
+    new ≡ record (month_contents c supply upper start) { scratch = new.scratch } →
+    IsBegun b method month supply want new
+begun b method month supply want upper start c new ends are s is =
+    let count = spilled_count b in
+    let d : Contents = record c { scratch = new.scratch } in
+    subst (λ (x : Contents). IsBegun b method month supply want x) (sym is) record {
+      net = begun_net (spilled b) month supply want upper start d ends are;
+      is_flow = begun_flow (spilled b) month supply want upper start d s.plan ends are s.is_plan s.laid
+          (λ n l. s.fits n (omega (arith, l, count)));
+      size = length-replicate {A = ℕ} (length c.from) 0 ∙ ends.arcs;
+      free = λ a l. get_or-replicate {A = ℕ} (length c.from) a 0 0 (let n = ends.arcs in omega arith);
+      spills = λ n l. ap (slice_index upper) (sym (spill_is b n (omega arith)))
+          ∙ are.on_outs n (omega (arith, l, count)) (spilled_outlet b n l);
     }
 
 -- what lies on the outlets is what the plan lets out
@@ -87,57 +128,22 @@ outs_same b p g size all laid =
     each n l = list_get (length b.nodes) gone n l
         ∙ (ap (λ t. when t (g (out_arc b n))) (all n l) ∙ laid.on_outs n l (all n l))
 
--- a month that starts with these bounds and amounts
-pub begun : (b : Basin) (month : Month) (supply want upper start : List ℕ) (c new : Contents) (p : Plan)
-    (most : ℕ → ℕ) → HasBasinEnds (spilled b) (network c) →
-    AreBounds (spilled b) month want most (λ a. slice_index upper a) → IsPlan (spilled b) month supply want p →
-    AreAmounts (spilled b) p (λ a. slice_index start a) →
-    ((n : ℕ) → n < length (spilled b).nodes → slice_index p.out n ≤ most n) →
-    new ≡ month_contents c supply upper start → IsBegun b month supply want new
-begun b month supply want upper start c new p most ends are plan laid small is =
-    subst (λ (x : Contents). IsBegun b month supply want x) (sym is) record {
-      net = begun_net (spilled b) month supply want upper start c ends are;
-      is_flow = begun_flow (spilled b) month supply want upper start c p ends are plan laid small;
-      size = length-replicate {A = ℕ} (length c.from) 0 ∙ ends.arcs;
-      free = λ a l. get_or-replicate {A = ℕ} (length c.from) a 0 0 (let n = ends.arcs in omega arith);
-    }
-
--- the most that a node may spill
-pub spill_upper : (b : Basin) (month : Month) (want upper start supply : List ℕ) (c new : Contents) (most : ℕ → ℕ)
-    (n : ℕ) → AreBounds (spilled b) month want most (λ a. slice_index upper a) → n < length b.nodes →
-    new ≡ month_contents c supply upper start → slice_index new.upper (spill_arc b n) ≡ most n
-spill_upper b month want upper start supply c new most n are l is =
-    ap (λ (x : Contents). slice_index x.upper (spill_arc b n)) is
-    ∙ (ap (slice_index upper) (sym (spill_is b n (omega arith)))
-    ∙ are.on_outs n (omega (arith, l, spilled_count b)) (spilled_outlet b n l))
-
--- and one that starts with all supply spilled
-pub spilled_start : (b : Basin) (month : Month) (supply want upper start : List ℕ) (c new : Contents) (p : Plan)
-    (most : ℕ → ℕ) → HasBasinEnds (spilled b) (network c) →
-    AreBounds (spilled b) month want most (λ a. slice_index upper a) →
-    ((n : ℕ) → n < length b.nodes → most n ≡ 10 ^ 15) → IsPlan (spilled b) month supply want p →
-    AreAmounts (spilled b) p (λ a. slice_index start a) →
-    ((n : ℕ) → n < length b.nodes → slice_index p.out n ≤ 10 ^ 15) →
-    ((e : ℕ) → e < length b.links → slice_index p.flow e ≡ 0) → p.out ≡ supply →
-    new ≡ month_contents c supply upper start → IsSpilledStart b month supply want new
-spilled_start b month supply want upper start c new p most ends are mosts plan laid small still all is = record {
-  begun = begun b month supply want upper start c new p most ends are plan laid
-      (λ n l. omega (
-        arith,
-        small n (omega (arith, l, spilled_count b)),
-        mosts n (omega (arith, l, spilled_count b)),
-      )) is;
-  still = λ e l. ap (λ (x : Contents). flow_of x e) is ∙ (laid.on_links e l ∙ still e l);
-  all = ap (λ (x : Contents). spills_of b (flow_of x)) is
+-- amounts of a plan without flows spill what it lets out
+pub spilled_start : (b : Basin) (month : Month) (supply want start : List ℕ) (c : Contents) (p : Plan) →
+    IsPlan (spilled b) month supply want p → AreAmounts (spilled b) p (λ a. slice_index start a) → c.flow ≡ start →
+    ((e : ℕ) → e < length b.links → slice_index p.flow e ≡ 0) → p.out ≡ supply → IsSpilledStart b supply c
+spilled_start b month supply want start c p plan laid is still all = record {
+  still = λ e l. ap (λ (xs : List ℕ). slice_index xs e) is ∙ (laid.on_links e l ∙ still e l);
+  all = ap (λ (xs : List ℕ). spills_of b (λ a. slice_index xs a)) is
       ∙ (outs_same (spilled b) p (λ a. slice_index start a) plan.out_len
       (λ n l. spilled_outlet b n (omega (arith, l, spilled_count b))) laid ∙ all);
 }
 
 -- a month stands so before any right is served
-pub standing_begun : (b : Basin) (month : Month) (supply want order : List ℕ) (c : Contents) (p : Plan)
-    (cuts : CutSets) → IsBegun b month supply want c → IsGiven b month supply want p cuts →
+pub standing_begun : (b : Basin) (method : Method) (month : Month) (supply want order : List ℕ) (c : Contents)
+    (p : Plan) (cuts : CutSets) → IsBegun b method month supply want c → IsGiven b month supply want p cuts →
     IsStanding (spilled b) month supply want order 0 c cuts
-standing_begun b month supply want order c p cuts start given =
+standing_begun b method month supply want order c p cuts start given =
     standing_first (spilled b) month supply want order c cuts start.net start.is_flow start.size start.free
     (record { nodes = given.fits_cuts.nodes ∙ sym (spilled_count b); rights = given.fits_cuts.rights }) given.no_sets
 

@@ -309,7 +309,7 @@ settled_delivers b month supply want g p cuts kinds plan s settled r l =
 pub sweep_solved : (b : Basin) (month : Month) (supply want order : List ℕ) (c : Contents) (cuts : CutSets)
     (p : Plan) → IsValidBasin b → IsSeniorityOrder b.rights order → total (length b.nodes)
     (λ v. slice_index supply v) ≤ 10 ^ 15 → IsStanding (spilled b) month supply want order (length b.rights) c cuts →
-    IsSettledPlan b (flow_of c) p → (length b.rights ≡ 0 → IsSpilledStart b month supply want c) →
+    IsSettledPlan b (flow_of c) p → (length b.rights ≡ 0 → IsSpilledStart b supply c) →
     IsSolved b month supply want p cuts
 sweep_solved b month supply want order c cuts p valid o bounded now s start = record {
   greatest = cuts_make_plan_greatest b month supply want d p plan

@@ -38,13 +38,6 @@ pub record HasSpills (c : Contents) (first : ℕ) : Type 0 where
   pub from : (n : ℕ) → n < c.nodes → slice_index c.from (first + n) ≡ n
   pub to : (n : ℕ) → n < c.nodes → slice_index c.to (first + n) ≡ c.nodes
 
--- a month that is begun, with no arc held
-pub record IsBegun (b : Basin) (month : Month) (supply want : List ℕ) (c : Contents) : Type 0 where
-  pub net : IsMonthNetwork (spilled b) month supply want (network c)
-  pub is_flow : IsFlow (network c) (flow_of c)
-  pub size : length c.lower ≡ arc_count (spilled b)
-  pub free : (a : ℕ) → a < arc_count (spilled b) → slice_index c.lower a ≡ 0
-
 -- the most that a node may spill: as much as a river carries, by searches at outlets alone
 abbrev pub spill_most : Basin → Method → ℕ → ℕ
 spill_most b Method.Tree node = 10 ^ 15
@@ -53,8 +46,15 @@ spill_most b Method.Searches node = when (is_outlet b node) (10 ^ 15)
 abbrev pub SpillsAreOf : Basin → Method → Contents → Type 0
 SpillsAreOf b method c = (n : ℕ) → n < length b.nodes → slice_index c.upper (spill_arc b n) ≡ spill_most b method n
 
--- a month that starts with all supply spilled where it comes in
-pub record IsSpilledStart (b : Basin) (month : Month) (supply want : List ℕ) (c : Contents) : Type 0 where
-  pub begun : IsBegun b month supply want c
+-- a month that is begun by a method, with no arc held
+pub record IsBegun (b : Basin) (method : Method) (month : Month) (supply want : List ℕ) (c : Contents) : Type 0 where
+  pub net : IsMonthNetwork (spilled b) month supply want (network c)
+  pub is_flow : IsFlow (network c) (flow_of c)
+  pub size : length c.lower ≡ arc_count (spilled b)
+  pub free : (a : ℕ) → a < arc_count (spilled b) → slice_index c.lower a ≡ 0
+  pub spills : SpillsAreOf b method c
+
+-- all supply is spilled where it comes in
+pub record IsSpilledStart (b : Basin) (supply : List ℕ) (c : Contents) : Type 0 where
   pub still : (e : ℕ) → e < length b.links → flow_of c e ≡ 0
   pub all : spills_of b (flow_of c) ≡ supply

@@ -20,7 +20,7 @@ ghost use Rattle.senior_hold.specs.Serving.{IsServed, KeepsShape, FillsExit};
 ghost use Rattle.senior_hold.specs.Solved.{FitsPlan, FitsCuts, AreSupplies, AreWants, IsGiven, IsSolved};
 ghost use Rattle.senior_hold.specs.Layouts.{IsLayout, FitsRoom};
 ghost use Rattle.senior_hold.specs.Places.{HasArcs, HasParts};
-ghost use Rattle.senior_hold.specs.Spilled.{spilled, spills_of, spill_most, HasSpills, SpillsAreOf, IsBegun};
+ghost use Rattle.senior_hold.specs.Spilled.{spilled, spills_of, spill_most, HasSpills, IsBegun};
 ghost use Rattle.senior_hold.specs.Spilled.{IsSpilledStart, IsSettledPlan};
 
 use crate::amounts::{
@@ -113,9 +113,8 @@ fn begin<'r>(
     requires want { AreWants basin.now month want.now }
     requires plan { method ≡ Method.Searches → IsPlan basin.now month supply.now want.now plan.now }
     ensures room { FitsRoom basin.now room.new }
-    ensures begun { IsBegun basin.now month supply.now want.now result }
-    ensures spills { SpillsAreOf basin.now method result }
-    ensures start { method ≡ Method.Tree → IsSpilledStart basin.now month supply.now want.now result }
+    ensures begun { IsBegun basin.now method month supply.now want.now result }
+    ensures start { method ≡ Method.Tree → IsSpilledStart basin.now supply.now result }
 {
     write_uppers(method, basin, layout, room, month, want);
     match method {

@@ -46,13 +46,13 @@ pub loop-turn-init : goal.loop-turn-init
 loop-turn-init g c =
     let o = order_of_roll c.args.basin.now c.args.layout.now.roll c.requires.valid c.requires.layout.is_roll in
     record {
-      standing = standing_begun c.args.basin.now c.args.month c.args.supply.now c.args.want.now
+      standing = standing_begun c.args.basin.now c.args.method c.args.month c.args.supply.now c.args.want.now
           c.args.layout.now.roll.order c.begin-circ.result c.args.plan.now c.args.cuts.now c.begin-circ.ensures.begun
           c.requires.given;
       tree = λ h. c.plant-tree.ensures;
       first = λ e. refl;
       cost = λ h. omega (arith, ap length c.by_seniority-order.ensures, o.count);
-      spills = c.begin-circ.ensures.spills;
+      spills = c.begin-circ.ensures.begun.spills;
       used = λ h. omega (arith, ap length c.by_seniority-order.ensures, o.count);
       search_cost = λ h. omega arith;
       room = c.begin-circ.ensures.room;
@@ -243,7 +243,7 @@ returns-clause-solved g c =
     (subst (λ n. IsStanding (spilled b) c.args.month c.args.supply.now c.args.want.now c.args.layout.now.roll.order n
     c.loop-turn.circ c.loop-turn.cuts) all inv.standing) c.settle_plan-2.ensures.settled
     (λ none. elim (cases c.args.method) [
-      | inl h ↦ subst (IsSpilledStart b c.args.month c.args.supply.now c.args.want.now) (sym (inv.first (all ∙ none)))
+      | inl h ↦ subst (IsSpilledStart b c.args.supply.now) (sym (inv.first (all ∙ none)))
           (c.begin-circ.ensures.start h)
       | inr h ↦ absurd (let some = c.requires.some h in omega (arith, none))
     ])
