@@ -1,5 +1,5 @@
 -- No spill gets full, so that each turn loses at most one push of the budget.
-use Rattle.std.proofs.Common.{◌≡◌, ℕ, ◌+◌, ◌-◌, ◌^◌, ◌<◌, ◌≤◌, sym, ◌∙◌, ap, subst, arith, List, length}
+use Rattle.std.proofs.Common.{◌≡◌, ℕ, ◌+◌, ◌-◌, ◌^◌, ◌<◌, ◌≤◌, sym, ◌∙◌, ap, arith, List, length}
 use Rattle.std.specs.Prelude.{slice_index}
 use Rattle.finite_sums.specs.Sums.{total, when}
 use Rattle.finite_sums.proofs.Totals.{term_le_total}
@@ -13,10 +13,11 @@ use Rattle.residual_tree.proofs.Overs.{over_forward}
 use Rattle.senior_hold.specs.MonthNetwork.{out_arc, spill_arc, IsMonthNetwork}
 use Rattle.senior_hold.specs.Serving.{FillsExit}
 use Rattle.senior_hold.specs.Solved.{AreSupplies}
-use Rattle.senior_hold.specs.Spilled.{spilled, spills_of, SpillsAreWide}
+use Rattle.senior_hold.specs.declared.sweep.Method.{Method}
+use Rattle.senior_hold.specs.Spilled.{spilled, spills_of, SpillsAreOf}
 use Rattle.senior_hold.proofs.Plans.{list_get, list_len}
 use Rattle.senior_hold.proofs.SettledPlans.{spills_bounded}
-use Rattle.senior_hold.proofs.Solves.{net_kept}
+use Rattle.senior_hold.proofs.TreeServes.{raised_net}
 use Rattle.senior_hold.proofs.Spilled.{spill_read}
 use Rattle.senior_hold.proofs.SpilledArcs.{spilled_count}
 
@@ -35,14 +36,13 @@ spill_most b g n l =
 -- no raise fills a spill, which may have more than all supply
 pub never_full : (b : Basin) (month : Month) (supply want : List ℕ) (c : Contents) (arc exit first : ℕ) →
     IsValidBasin b → AreSupplies b supply → IsMonthNetwork (spilled b) month supply want (network c) →
-    SpillsAreWide b c → first ≡ spill_arc b 0 → first ≤ exit → exit < first + c.nodes → FillsExit c arc exit → ⊥
+    SpillsAreOf b Method.Tree c → first ≡ spill_arc b 0 → first ≤ exit → exit < first + c.nodes → FillsExit c arc exit → ⊥
 never_full b month supply want c arc exit first valid supplies net wide start above below fills =
     let d = fills.then in
     let node = exit - first in
     let inside : node < length b.nodes = omega (arith, spilled_count b, net.ends.nodes) in
     let is : spill_arc b node ≡ exit = omega arith in
-    let now = subst (λ (x : Contents). IsMonthNetwork (spilled b) month supply want (network x)) (sym fills.rest.rest)
-    (net_kept (spilled b) month supply want c d.flow d.scratch d.lower net) in
+    let now = raised_net (spilled b) month supply want c d arc fills.rest net in
     let small : total (length b.nodes) (λ v. slice_index supply v) < 10 ^ 15 = let bounded = supplies.small in
     omega arith in
     let bounded = spills_bounded b month supply want (network d) (flow_of d) valid now fills.kept.flow small in

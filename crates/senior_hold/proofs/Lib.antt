@@ -20,6 +20,6 @@ pub mod SpilledStarts
 pub mod TreeServes
 pub mod SettledPlans
 pub mod Budget
-pub mod SearchedPlans
+pub mod ShutStarts
 pub mod Placing
 pub mod Preferred

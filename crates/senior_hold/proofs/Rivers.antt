@@ -1,27 +1,11 @@
 -- The run of the river as a plan.
-use Rattle.std.proofs.Common.{◌≡◌, ℕ, ◌<◌, ◌≤◌, ◌++◌, take, drop, sym, ◌∙◌, ap, ap₂, arith, List, length, replicate}
+use Rattle.std.proofs.Common.{◌≡◌, ℕ, ◌++◌, take, drop, sym, ◌∙◌, ap, ap₂, arith, List, length, replicate}
 use Rattle.std.proofs.lemmas.List.{get_or-replicate}
-use Rattle.std.specs.Prelude.{◌^◌, slice_index}
-use Rattle.finite_sums.specs.Sums.{total}
-use Rattle.finite_sums.proofs.Totals.{term_le_total}
-use Rattle.water_model.specs.Valid.{IsValidBasin}
+use Rattle.std.specs.Prelude.{slice_index}
 use Rattle.water_model.specs.RunOfRiver.{IsRunOfRiver, RunsNaturally}
 use Rattle.water_model.specs.declared.types.Basin.{Basin}
 use Rattle.water_model.specs.declared.types.Plan.{Plan}
-use Rattle.river_net.specs.NetView.{NetView}
-use Rattle.river_net.specs.Net.{IsNet, IsNetOfSome, total_of}
-use Rattle.senior_hold.specs.Solved.{AreSupplies}
 use Rattle.water_model.proofs.Lists.{whole_rows}
-
-pub net_of_some : (b : Basin) (net : NetView) → IsValidBasin b → IsNet b.nodes b.links net → IsNetOfSome net
-net_of_some b net valid is = record { nodes = b.nodes; links = b.links; is_net = is; sound = valid.network }
-
--- the supplies may all run down one river
-pub supply_small : (b : Basin) (supply : List ℕ) → AreSupplies b supply → total_of supply < 10 ^ 15
-supply_small b supply given =
-    let same = ap (λ n. total n (λ k. slice_index supply k)) given.count in
-    let bounded = given.small in
-    omega arith
 
 abbrev pub made : List ℕ → List ℕ → List ℕ → Plan
 made flow taken out = record { flow = flow; take = taken; out = out }
@@ -42,8 +26,3 @@ river_is b supply f t o n none size len run = record {
   take_len = len;
   takes = λ r l. ap (λ (xs : List ℕ). slice_index xs r) none ∙ get_or-replicate {A = ℕ} n r 0 0 (omega arith);
 }
-
--- no node lets out more than all have
-pub out_small : (supply out : List ℕ) → total_of out ≡ total_of supply → total_of supply < 10 ^ 15 → (n : ℕ) →
-    n < length out → slice_index out n ≤ 10 ^ 15
-out_small supply out all bounded n l = omega (arith, term_le_total (length out) (λ v. slice_index out v) n l)

@@ -306,19 +306,19 @@ settled_delivers b month supply want g p cuts kinds plan s settled r l =
         )
 
 -- when all are served the month is solved
-pub tree_solved : (b : Basin) (month : Month) (supply want order : List ℕ) (c first : Contents) (cuts : CutSets)
+pub sweep_solved : (b : Basin) (month : Month) (supply want order : List ℕ) (c : Contents) (cuts : CutSets)
     (p : Plan) → IsValidBasin b → IsSeniorityOrder b.rights order → total (length b.nodes)
     (λ v. slice_index supply v) ≤ 10 ^ 15 → IsStanding (spilled b) month supply want order (length b.rights) c cuts →
-    IsSettledPlan b (flow_of c) p → IsSpilledStart b month supply want first → (length b.rights ≡ 0 → c ≡ first) →
+    IsSettledPlan b (flow_of c) p → (length b.rights ≡ 0 → IsSpilledStart b supply c) →
     IsSolved b month supply want p cuts
-tree_solved b month supply want order c first cuts p valid o bounded now s start none = record {
+sweep_solved b month supply want order c cuts p valid o bounded now s start = record {
   greatest = cuts_make_plan_greatest b month supply want d p plan
       (record { each = λ r l. got b want (flow_of c) r l ∙ sym (delivers r l) })
       (λ r l. met_or_tight b month supply want d cuts r (settled r l));
   settled = λ delivered are r l. settled_stays b month supply want d delivered cuts cuts r l (same delivered are r l)
       (λ q m senior. same delivered are q m) refl (settled r l);
   river = λ h. record {
-    run = subst (λ (xs : List ℕ). RunsNaturally b.nodes b.links xs p.flow p.out) (spilled_all h)
+    run = subst (λ (xs : List ℕ). RunsNaturally b.nodes b.links xs p.flow p.out) (start h).all
         (subst (λ (xs : List ℕ). RunsNaturally b.nodes b.links (spills_of b (flow_of c)) xs p.out) (sym (run_is h))
         s.natural);
     take_len = plan.take_len;
@@ -345,12 +345,9 @@ tree_solved b month supply want order c first cuts p valid o bounded now s start
         slice_index d r ≡ slice_index delivered r
     same delivered are r l = got b want (flow_of c) r l ∙ (sym (delivers r l) ∙ sym (are.each r l))
 
-    spilled_all : length b.rights ≡ 0 → spills_of b (flow_of c) ≡ supply
-    spilled_all h = ap (λ (x : Contents). spills_of b (flow_of x)) (none h) ∙ start.all
-
     run_is : length b.rights ≡ 0 → p.flow ≡ s.run
     run_is h = same_number_lists p.flow s.run (s.flow_len ∙ sym s.natural.flow_len)
         (λ e l. still h e (omega (arith, l, s.flow_len)))
       where
         still : length b.rights ≡ 0 → (e : ℕ) → e < length b.links → slice_index p.flow e ≡ slice_index s.run e
-        still h e l = omega (arith, s.flow e l, ap (λ (x : Contents). flow_of x e) (none h), start.still e l)
+        still h e l = omega (arith, s.flow e l, (start h).still e l)

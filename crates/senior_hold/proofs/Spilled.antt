@@ -1,6 +1,6 @@
 -- A basin with an outlet at each node.
-use Rattle.std.proofs.Common.{◌≡◌, ℕ, ◌+◌, ◌<◌, ◌≤◌, Bool, true, false, refl, sym, ◌∙◌, ap, subst, arith}
-use Rattle.std.proofs.Common.{List, length, replicate, ◌^◌}
+use Rattle.std.proofs.Common.{◌≡◌, ℕ, ◌+◌, ◌<◌, Bool, true, false, refl, sym, ◌∙◌, ap, arith}
+use Rattle.std.proofs.Common.{List, length, replicate}
 use Rattle.std.proofs.lemmas.List.{length-map, length-replicate, get_or-replicate}
 use Rattle.std.proofs.lemmas.Bool.{false≢true}
 use Rattle.std.specs.Prelude.{◌==◌, slice_index, Option, Some, None, if◌then◌else◌}
@@ -8,20 +8,17 @@ use Rattle.finite_sums.specs.Sums.{when}
 use Rattle.finite_sums.proofs.Totals.{total_where_start, total_zero}
 use Rattle.water_model.specs.Basin.{is_outlet, tail_of, head_of, takes_at}
 use Rattle.water_model.specs.declared.types.Basin.{Basin}
-use Rattle.circulation.specs.Contents.{Contents, network, month_contents}
+use Rattle.circulation.specs.Contents.{Contents, network}
 use Rattle.senior_hold.specs.MonthNetwork.{out_arc, spill_arc, HasBasinEnds}
-use Rattle.senior_hold.specs.Arcs.{AreEndsOf, AreBounds, AreAmounts}
-use Rattle.senior_hold.specs.Spilled.{spilled, HasSpills, IsSpilledStart}
+use Rattle.senior_hold.specs.Arcs.{AreEndsOf}
+use Rattle.senior_hold.specs.Spilled.{spilled, HasSpills}
 use Rattle.senior_hold.proofs.Laid.{end_at}
 use Rattle.water_model.specs.declared.types.Plan.{Plan}
 use Rattle.water_model.specs.Plans.{IsPlan}
 use Rattle.water_text.specs.declared.month.Month.{Month}
 use Rattle.senior_hold.proofs.Rivers.{made}
-use Rattle.senior_hold.proofs.Begins.{begun_net, begun_flow, plan_same}
 use Rattle.senior_hold.specs.Solved.{AreWants, FitsPlan, IsGiven, FitsCuts}
 use Rattle.water_model.specs.CutSets.{CutSets, set_of, without_sets}
-use Rattle.senior_hold.proofs.Solves.{IsStanding, standing_first}
-use Rattle.senior_hold.proofs.Turns.{IsTurn}
 use Rattle.circulation.specs.declared.Ends.{Ends}
 use Rattle.senior_hold.proofs.SpilledArcs.{spilled_count, spilled_outlet, spill_is, spilled_arcs}
 use Rattle.water_model.proofs.SetEntries.{emptied}
@@ -104,46 +101,6 @@ spilled_plan b month supply want f t o n m fs fn ts tn os count = record {
 pub spilled_wants : (b : Basin) (month : Month) (want : List ℕ) → AreWants b month want →
     AreWants (spilled b) month want
 spilled_wants b month want w = record { count = w.count; small = w.small; instream = w.instream }
-
--- a month that begins with all supply spilled
-pub spilled_start : (b : Basin) (month : Month) (supply want upper start : List ℕ) (c new : Contents) (p : Plan)
-    (most : ℕ → ℕ) → HasBasinEnds (spilled b) (network c) →
-    AreBounds (spilled b) month want most (λ a. slice_index upper a) →
-    ((n : ℕ) → n < length b.nodes → most n ≡ 10 ^ 15) → FitsPlan b p → IsPlan (spilled b) month supply want p →
-    AreAmounts (spilled b) p (λ a. slice_index start a) →
-    ((n : ℕ) → n < length b.nodes → slice_index p.out n ≤ 10 ^ 15) →
-    ((e : ℕ) → e < length b.links → slice_index p.flow e ≡ 0) → p.out ≡ supply →
-    new ≡ month_contents c supply upper start → IsSpilledStart b month supply want new
-spilled_start b month supply want upper start c new p most ends are mosts fits plan laid small still all is =
-    subst (λ (x : Contents). IsSpilledStart b month supply want x) (sym is) record {
-      net = begun_net (spilled b) month supply want upper start c ends are;
-      is_flow = begun_flow (spilled b) month supply want upper start c p ends are plan laid
-          (λ n l. omega (
-            arith,
-            small n (omega (arith, l, spilled_count b)),
-            mosts n (omega (arith, l, spilled_count b)),
-          ));
-      size = length-replicate {A = ℕ} (length c.from) 0 ∙ ends.arcs;
-      free = λ a l. get_or-replicate {A = ℕ} (length c.from) a 0 0 (let n = ends.arcs in omega arith);
-      still = λ e l. laid.on_links e l ∙ still e l;
-      all = ap (λ (q : Plan). q.out) (plan_same (spilled b) month supply want p (λ a. slice_index start a)
-          (record { flow = fits.flow; take = fits.take; out = fits.out ∙ sym (spilled_count b) }) plan laid) ∙ all;
-      wide = λ n l. ap (slice_index upper) (sym (spill_is b n (omega arith)))
-          ∙ (are.on_outs n (omega (arith, l, spilled_count b)) (spilled_outlet b n l) ∙ mosts n l);
-    }
-
--- a turn is one of it as well
-pub spilled_turn : (b : Basin) (order : List ℕ) (k r arc : ℕ) → IsTurn b order k r arc →
-    IsTurn (spilled b) order k r arc
-spilled_turn b order k r arc t = record { below = t.below; is = t.is; in_range = t.in_range; arc_is = t.arc_is }
-
--- a month stands so before any right is served
-pub spilled_standing : (b : Basin) (month : Month) (supply want order : List ℕ) (c : Contents) (p : Plan)
-    (cuts : CutSets) → IsSpilledStart b month supply want c → IsGiven b month supply want p cuts →
-    IsStanding (spilled b) month supply want order 0 c cuts
-spilled_standing b month supply want order c p cuts start given =
-    standing_first (spilled b) month supply want order c cuts start.net start.is_flow start.size start.free
-    (record { nodes = given.fits_cuts.nodes ∙ sym (spilled_count b); rights = given.fits_cuts.rights }) given.no_sets
 
 -- a month may be given again after a sweep gave up, once its sets are given up
 pub given_again : (b : Basin) (month : Month) (supply want : List ℕ) (p q : Plan) (cuts swept cleared : CutSets) →

@@ -1,26 +1,24 @@
 -- A month that starts with each node's supply on its spill: the spills are the last arcs.
-use Rattle.std.proofs.Common.{◌≡◌, ℕ, ◌+◌, ◌-◌, ◌^◌, ◌<◌, ◌≤◌, List, ◌++◌, length, replicate, refl, ap, sym, arith, ◌∙◌}
+use Rattle.std.proofs.Common.{◌≡◌, ℕ, ◌+◌, ◌-◌, ◌^◌, ◌<◌, ◌≤◌, List, ◌++◌, length, replicate, refl, ap, sym, subst, arith, ◌∙◌}
 use Rattle.std.specs.Prelude.{slice_index}
 use Rattle.std.proofs.lemmas.Grind.{common_steps}
-use Rattle.std.proofs.lemmas.List.{get_or-replicate, length-replicate}
+use Rattle.std.proofs.lemmas.List.{get_or-replicate}
 use Rattle.water_model.specs.declared.types.Basin.{Basin}
 use Rattle.water_model.specs.declared.types.Plan.{Plan}
 use Rattle.finite_sums.proofs.Totals.{term_le_total}
-use Rattle.water_text.specs.Months.{IsMonth}
 use Rattle.water_text.specs.declared.month.Month.{Month}
 use Rattle.water_model.specs.Plans.{IsPlan}
-use Rattle.water_model.specs.Valid.{IsValidBasin}
-use Rattle.water_model.proofs.Carries.{carry_most}
-use Rattle.circulation.specs.Contents.{Contents, network, month_contents, on_last, IsStart}
+use Rattle.circulation.specs.Contents.{Contents, on_last}
 use Rattle.circulation.specs.declared.Circulation.{Circulation}
 use Rattle.circulation.proofs.Starts.{frame_arcs}
-use Rattle.senior_hold.specs.Arcs.{AreAmounts, AreBounds}
-use Rattle.senior_hold.specs.MonthNetwork.{taker_count, arc_count, HasBasinEnds}
+use Rattle.senior_hold.specs.Arcs.{AreAmounts}
+use Rattle.senior_hold.specs.MonthNetwork.{taker_count, arc_count}
 use Rattle.senior_hold.specs.Places.{HasArcs}
-use Rattle.senior_hold.specs.Solved.{AreSupplies, AreWants}
-use Rattle.senior_hold.specs.Spilled.{spilled, IsSpilledStart}
-use Rattle.senior_hold.proofs.Begins.{start_is}
-use Rattle.senior_hold.proofs.Spilled.{spilled_plan, spilled_wants, spilled_start}
+use Rattle.senior_hold.specs.Solved.{AreSupplies}
+use Rattle.senior_hold.specs.Spilled.{spilled, spill_most, IsSpilledStart}
+use Rattle.senior_hold.specs.declared.sweep.Method.{Method}
+use Rattle.senior_hold.proofs.Begins.{IsStartOf, spilled_start}
+use Rattle.senior_hold.proofs.Spilled.{spilled_plan}
 use Rattle.senior_hold.proofs.MonthArcs.{take_arc_below}
 use Rattle.senior_hold.proofs.SpilledArcs.{spilled_count, spilled_arcs, spill_is}
 
@@ -88,38 +86,20 @@ spilled_small b supply given n l =
     omega (arith, term_le_total (length b.nodes) (λ n. slice_index supply n) n l, given.small)
 
 -- a month may start so
-pub spilled_begins : (b : Basin) (month : Month) (supply want upper : List ℕ) (c : Contents) (arcs : ℕ)
-    (most : ℕ → ℕ) → HasBasinEnds (spilled b) (network c) → arcs ≡ arc_count (spilled b) → IsValidBasin b →
-    IsMonth month → AreSupplies b supply → AreWants b month want → length upper ≡ arc_count (spilled b) →
-    AreBounds (spilled b) month want most (λ a. slice_index upper a) →
-    ((n : ℕ) → n < length b.nodes → most n ≡ 10 ^ 15) → IsStart c supply upper (on_last arcs supply)
-spilled_begins b month supply want upper c arcs most ends all valid is_month given wants long are mosts =
-    start_is (spilled b) month supply want upper (on_last arcs supply) c (spilled_of b supply)
-    (λ e l. carry_most b month e valid is_month l) ends (given.count ∙ sym (spilled_count b))
-    (spilled_wants b month want wants) long
-    (length-on_last arcs supply (supplies_bounded b supply arcs all given) ∙ all) are
-    (spilled_laid b supply arcs all given.count) (spilled_is b month supply want given)
-    (λ n l. omega (arith, mosts n (omega (arith, l, spilled_count b))))
-    (λ n l. omega (
-      arith,
-      mosts n (omega (arith, l, spilled_count b)),
-      spilled_small b supply given n (omega (arith, l, spilled_count b)),
-    ))
+pub spilled_starts : (b : Basin) (method : Method) (month : Month) (supply want : List ℕ) (arcs : ℕ) →
+    method ≡ Method.Tree → arcs ≡ arc_count (spilled b) → AreSupplies b supply →
+    IsStartOf b method month supply want (on_last arcs supply)
+spilled_starts b method month supply want arcs is all given = record {
+  plan = spilled_of b supply;
+  is_plan = spilled_is b month supply want given;
+  laid = spilled_laid b supply arcs all given.count;
+  fits = λ n l. subst (λ m. slice_index supply n ≤ spill_most b m n) (sym is) (spilled_small b supply given n l);
+}
 
--- and then it is one that starts with all supply spilled
-pub spilled_begun : (b : Basin) (month : Month) (supply want upper : List ℕ) (c new : Contents) (arcs : ℕ)
-    (most : ℕ → ℕ) → HasBasinEnds (spilled b) (network c) → arcs ≡ arc_count (spilled b) → AreSupplies b supply →
-    AreBounds (spilled b) month want most (λ a. slice_index upper a) →
-    ((n : ℕ) → n < length b.nodes → most n ≡ 10 ^ 15) →
-    new ≡ record (month_contents c supply upper (on_last arcs supply)) { scratch = new.scratch } →
-    IsSpilledStart b month supply want new
-spilled_begun b month supply want upper c new arcs most ends all given are mosts is =
-    spilled_start b month supply want upper (on_last arcs supply) (record c { scratch = new.scratch }) new
-    (spilled_of b supply) most ends are mosts
-    record {
-      flow = length-replicate {A = ℕ} (length b.links) 0;
-      take = length-replicate {A = ℕ} (length b.rights) 0;
-      out = given.count;
-    }
-    (spilled_is b month supply want given) (spilled_laid b supply arcs all given.count)
-    (spilled_small b supply given) (λ e l. get_or-replicate {A = ℕ} (length b.links) e 0 0 l) refl is
+-- and starts with all supply spilled
+pub spilled_begun : (b : Basin) (month : Month) (supply want : List ℕ) (c : Contents) (arcs : ℕ) →
+    arcs ≡ arc_count (spilled b) → AreSupplies b supply → c.flow ≡ on_last arcs supply → IsSpilledStart b supply c
+spilled_begun b month supply want c arcs all given is =
+    spilled_start b month supply want (on_last arcs supply) c (spilled_of b supply)
+    (spilled_is b month supply want given) (spilled_laid b supply arcs all given.count) is
+    (λ e l. get_or-replicate {A = ℕ} (length b.links) e 0 0 l) refl

@@ -16,11 +16,13 @@ use Rattle.augment.specs.Raised.{IsGreatestCut}
 use Rattle.augment.specs.Search.{SameButScratch}
 use Rattle.residual_tree.specs.Raised.{IsRaisedOver}
 use Rattle.residual_tree.specs.Tree.{label_of, unlabeled}
-use Rattle.senior_hold.specs.MonthNetwork.{list_of}
+use Rattle.senior_hold.specs.MonthNetwork.{list_of, IsMonthNetwork}
 use Rattle.senior_hold.specs.Serving.{IsServed}
 use Rattle.senior_hold.proofs.Bridge.{has_list}
 use Rattle.senior_hold.proofs.Marks.{list_size}
-use Rattle.senior_hold.proofs.Solves.{changed}
+use Rattle.senior_hold.proofs.Solves.{changed, net_kept}
+use Rattle.water_model.specs.declared.types.Basin.{Basin}
+use Rattle.water_text.specs.declared.month.Month.{Month}
 
 abbrev with_lower : Network → (ℕ → ℕ) → Network
 with_lower w lower = record w { lower = lower }
@@ -66,6 +68,14 @@ pub raised_cut : (old mid : Contents) (g : ℕ → ℕ) (r : ℕ) (y : ℕ → B
 raised_cut old mid g r y raised greatest =
     cut_moved (network old) (λ a. slice_index mid.lower a) g r y raised.lowers
     (subst (λ (x : Contents). IsGreatestCut (network x) g r y) raised.rest greatest)
+
+-- and the network of a month one of the month
+pub raised_net : (b : Basin) (month : Month) (supply want : List ℕ) (old new : Contents) (r : ℕ) →
+    IsRaisedOver old new r → IsMonthNetwork b month supply want (network old) →
+    IsMonthNetwork b month supply want (network new)
+raised_net b month supply want old new r raised net =
+    subst (λ (x : Contents). IsMonthNetwork b month supply want (network x)) (sym raised.rest)
+    (net_kept b month supply want old new.flow new.scratch new.lower net)
 
 -- a raise holds what the arc has then
 pub raised_lower : (old mid : Contents) (arc want : ℕ) → IsCirculation old → IsCirculation mid →

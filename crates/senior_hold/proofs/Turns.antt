@@ -16,8 +16,12 @@ use Rattle.senior_hold.proofs.PathOut.{path_out}
 use Rattle.senior_hold.proofs.Solves.{IsStanding}
 use Rattle.rights_roll.specs.SeniorityOrder.{IsSeniorityOrder}
 use Rattle.senior_hold.specs.Arcs.{AreArcs}
-use Rattle.senior_hold.specs.Spilled.{spilled}
-use Rattle.senior_hold.specs.Layouts.{OutletsAlone}
+use Rattle.senior_hold.specs.Spilled.{spilled, SpillsAreOf}
+use Rattle.senior_hold.specs.declared.sweep.Method.{Method}
+use Rattle.senior_hold.specs.Layouts.{IsLayout}
+use Rattle.senior_hold.specs.declared.solver.Layout.{Layout}
+use Rattle.senior_hold.proofs.SpilledArcs.{spilled_kinds}
+use Rattle.senior_hold.proofs.Spilled.{spilled_wants}
 use Rattle.senior_hold.specs.declared.arcs.Arcs.{Arcs}
 use Rattle.rights_roll.specs.RollView.{RollView}
 use Rattle.rights_roll.specs.Rolls.{IsRollOf}
@@ -37,7 +41,7 @@ pub record IsTurn (b : Basin) (order : List ℕ) (k r arc : ℕ) : Type 0 where
   pub in_range : r < length b.rights
   pub arc_is : arc ≡ right_arc b r
 
-pub turn : (b : Basin) (order items : List ℕ) (all : Arcs) (o : IsSeniorityOrder b.rights order) (k arc : ℕ) →
+turn : (b : Basin) (order items : List ℕ) (all : Arcs) (o : IsSeniorityOrder b.rights order) (k arc : ℕ) →
     AreArcs b all → items ≡ order → k < length items → arc ≡ get_or all.rights.items (slice_index items k) arc →
     IsTurn b order k (slice_index items k) arc
 turn b order items all o k arc are same l at = record {
@@ -56,32 +60,46 @@ turn b order items all o k arc are same l at = record {
     in_range : slice_index items k < length b.rights
     in_range = let n = o.below k below in omega (arith, is)
 
-pub turn_arc : (b : Basin) (month : Month) (supply want order : List ℕ) (k r arc : ℕ) (c : Contents) (cuts : CutSets) →
-    AreKinds b → IsTurn b order k r arc → IsStanding b month supply want order k c cuts → arc < length c.from
-turn_arc b month supply want order k r arc c cuts kinds t now = let n = now.net.ends.arcs in
-    omega (arith, t.arc_is, right_arc_in b r t.in_range (kinds r t.in_range))
+-- and what it needs, in the network with a spill at each node
+pub record IsAtTurn (b : Basin) (want order : List ℕ) (k r arc : ℕ) (c : Contents) (cuts : CutSets) : Type 0 where
+  pub order_is : IsSeniorityOrder b.rights order
+  pub own : IsTurn b order k r arc
+  pub kinds : AreKinds (spilled b)
+  pub arc_in : arc < length c.from
+  pub fits : slice_index want r ≤ slice_index c.upper arc
+  pub free : set_of cuts r ≡ None
 
-pub turn_want : (b : Basin) (month : Month) (supply want order : List ℕ) (k r arc : ℕ) (c : Contents) (cuts : CutSets) →
-    AreKinds b → IsTurn b order k r arc → AreWants b month want → IsStanding b month supply want order k c cuts →
-    slice_index want r ≤ slice_index c.upper arc
-turn_want b month supply want order k r arc c cuts kinds t fit now =
-    subst (λ a. slice_index want r ≤ slice_index c.upper a) (sym t.arc_is)
-    (want_fits b month supply want (network c) r now.net fit t.in_range (kinds r t.in_range))
+pub at_turn : (b : Basin) (l : Layout) (month : Month) (supply want items : List ℕ) (k arc : ℕ) (c : Contents)
+    (cuts : CutSets) → IsValidBasin b → IsLayout b l → items ≡ l.roll.order → k < length items →
+    arc ≡ get_or l.arcs.rights.items (slice_index items k) arc → AreWants b month want →
+    IsStanding (spilled b) month supply want l.roll.order k c cuts →
+    IsAtTurn b want l.roll.order k (slice_index items k) arc c cuts
+at_turn b l month supply want items k arc c cuts valid is same below at wants now =
+    let o = order_of_roll b l.roll valid is.is_roll in
+    let own = turn b l.roll.order items l.arcs o k arc is.are_arcs same below at in
+    let kinds = spilled_kinds b (right_kind b valid) in
+    let r : ℕ = slice_index items k in
+    record {
+      order_is = o;
+      own = own;
+      kinds = kinds;
+      arc_in = let n = now.net.ends.arcs in
+          omega (arith, own.arc_is, right_arc_in (spilled b) r own.in_range (kinds r own.in_range));
+      fits = subst (λ a. slice_index want r ≤ slice_index c.upper a) (sym own.arc_is)
+          (want_fits (spilled b) month supply want (network c) r now.net (spilled_wants b month want wants) own.in_range
+          (kinds r own.in_range));
+      free = (now.swept o).others r own.in_range
+          (let p = ap o.place own.is ∙ o.placed k own.below in omega arith);
+    }
 
 pub turn_path_out : (b : Basin) (month : Month) (supply want order : List ℕ) (k r arc : ℕ) (c : Contents)
     (cuts : CutSets) → IsValidBasin b → IsTurn b order k r arc → total (length b.nodes)
-    (λ v. slice_index supply v) < 4 * 10 ^ 13 → OutletsAlone b c →
+    (λ v. slice_index supply v) < 4 * 10 ^ 13 → SpillsAreOf b Method.Searches c →
     IsStanding (spilled b) month supply want order k c cuts → HasPathOut (network c) arc
 turn_path_out b month supply want order k r arc c cuts valid t bounded outlets now =
     subst (λ a. HasPathOut (network c) a) (sym t.arc_is)
     (path_out b month supply want (network c) r valid now.net (λ n l h. outlets n l ∙ ap (λ o. when o (10 ^ 15)) h)
     (omega arith) t.in_range (right_kind b valid r t.in_range))
-
-pub turn_free : (b : Basin) (month : Month) (supply want order : List ℕ) (o : IsSeniorityOrder b.rights order)
-    (k r arc : ℕ) (c : Contents) (cuts : CutSets) → IsTurn b order k r arc →
-    IsStanding b month supply want order k c cuts → set_of cuts r ≡ None
-turn_free b month supply want order o k r arc c cuts t now =
-    (now.swept o).others r t.in_range (let p = ap o.place t.is ∙ o.placed k t.below in omega arith)
 
 -- the cost of one more turn
 pub one_more : (a arcs k before now after : ℕ) → arcs ≤ a → now ≤ before + k * (30 * (2 * a + 1)) →

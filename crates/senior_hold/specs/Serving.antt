@@ -17,12 +17,6 @@ pub record IsServed (old new : Contents) (arc want : ℕ) (before after : CutSet
       ⊎ ((flow_of new arc < want) × ((cut : List Bool) × ((after ≡ with_set before right (Some cut))
       × ((length cut ≡ old.nodes) × IsGreatestCut (network old) (flow_of new) arc (has cut)))))
 
--- the nodes and the ends of arcs are as before
-pub record SameEnds (old new : Contents) : Type 0 where
-  pub nodes : new.nodes ≡ old.nodes
-  pub from : new.from ≡ old.from
-  pub to : new.to ≡ old.to
-
 -- there are as many nodes and sets as before
 pub record KeepsShape (old new : CutSets) : Type 0 where
   pub nodes : new.nodes ≡ old.nodes

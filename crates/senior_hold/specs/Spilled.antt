@@ -1,5 +1,7 @@
 -- A month's network with a spill at each node: what it is to the network of a basin, and how its flows become plans.
 use Rattle.std.specs.Prelude.{◌≡◌, ℕ, ◌+◌, ◌^◌, ◌<◌, true, List, map, length, slice_index}
+use Rattle.finite_sums.specs.Sums.{when}
+use Rattle.water_model.specs.Basin.{is_outlet}
 use Rattle.water_model.specs.RunOfRiver.{RunsNaturally}
 use Rattle.water_model.specs.declared.types.Basin.{Basin}
 use Rattle.water_model.specs.declared.types.Node.{Node}
@@ -7,6 +9,7 @@ use Rattle.water_model.specs.declared.types.Plan.{Plan}
 use Rattle.water_text.specs.declared.month.Month.{Month}
 use Rattle.circulation.specs.Contents.{Contents, arcs, network, flow_of}
 use Rattle.circulation.specs.Network.{IsFlow}
+use Rattle.senior_hold.specs.declared.sweep.Method.{Method}
 use Rattle.senior_hold.specs.MonthNetwork.{plan_of, arc_count, spill_arc, IsMonthNetwork}
 
 -- the node lets water out
@@ -35,16 +38,23 @@ pub record HasSpills (c : Contents) (first : ℕ) : Type 0 where
   pub from : (n : ℕ) → n < c.nodes → slice_index c.from (first + n) ≡ n
   pub to : (n : ℕ) → n < c.nodes → slice_index c.to (first + n) ≡ c.nodes
 
--- a node spills at most as much as a river carries
-abbrev pub SpillsAreWide : Basin → Contents → Type 0
-SpillsAreWide b c = (n : ℕ) → n < length b.nodes → slice_index c.upper (spill_arc b n) ≡ 10 ^ 15
+-- the most that a node may spill: as much as a river carries, by searches at outlets alone
+abbrev pub spill_most : Basin → Method → ℕ → ℕ
+spill_most b Method.Tree node = 10 ^ 15
+spill_most b Method.Searches node = when (is_outlet b node) (10 ^ 15)
 
--- a month that starts with all supply spilled where it comes in, with no arc held
-pub record IsSpilledStart (b : Basin) (month : Month) (supply want : List ℕ) (c : Contents) : Type 0 where
+abbrev pub SpillsAreOf : Basin → Method → Contents → Type 0
+SpillsAreOf b method c = (n : ℕ) → n < length b.nodes → slice_index c.upper (spill_arc b n) ≡ spill_most b method n
+
+-- a month that is begun by a method, with no arc held
+pub record IsBegun (b : Basin) (method : Method) (month : Month) (supply want : List ℕ) (c : Contents) : Type 0 where
   pub net : IsMonthNetwork (spilled b) month supply want (network c)
   pub is_flow : IsFlow (network c) (flow_of c)
   pub size : length c.lower ≡ arc_count (spilled b)
   pub free : (a : ℕ) → a < arc_count (spilled b) → slice_index c.lower a ≡ 0
+  pub spills : SpillsAreOf b method c
+
+-- all supply is spilled where it comes in
+pub record IsSpilledStart (b : Basin) (supply : List ℕ) (c : Contents) : Type 0 where
   pub still : (e : ℕ) → e < length b.links → flow_of c e ≡ 0
   pub all : spills_of b (flow_of c) ≡ supply
-  pub wide : SpillsAreWide b c

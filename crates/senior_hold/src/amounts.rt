@@ -7,7 +7,6 @@ ghost use Rattle.water_model.specs.Plans.{carry_of};
 ghost use Rattle.water_model.specs.Valid.{IsValidBasin};
 ghost use Rattle.circulation.specs.Contents.{network, flow_of, arcs};
 ghost use Rattle.senior_hold.specs.MonthNetwork.{arc_count, taker_count, take_arc, spill_arc, takes, list_of};
-ghost use Rattle.senior_hold.specs.MonthNetwork.{plan_of, HasBasinEnds};
 ghost use Rattle.senior_hold.specs.Arcs.{AreArcs, AreAmounts, AreAmountsOf, AreBounds};
 ghost use Rattle.senior_hold.specs.Solved.{FitsPlan};
 ghost use Rattle.senior_hold.specs.Spilled.{spilled, spills_of};
@@ -167,17 +166,4 @@ pub fn read_spills(basin: &Basin, circ: &CirculationMut<'_>, arcs: &Arcs, into: 
     for node in 0..basin.nodes.len() {
         into[node] = circ.flow(first + node as u32);
     }
-}
-
-/// Reads the plan of a flow, which may let water out at each node.
-pub fn read_plan(basin: &Basin, circ: &CirculationMut<'_>, arcs: &Arcs, plan: &mut Plan)
-    requires valid { IsValidBasin basin.now }
-    requires ends { HasBasinEnds (spilled basin.now) (network circ.now) }
-    requires arcs { AreArcs basin.now arcs.now }
-    requires plan { FitsPlan basin.now plan.old }
-    ensures { plan.new ≡ plan_of (spilled basin.now) (flow_of circ.now) }
-{
-    read_links(circ, plan.flow.as_mut_slice());
-    read_takes(basin, circ, arcs, plan.take.as_mut_slice());
-    read_spills(basin, circ, arcs, plan.out.as_mut_slice());
 }

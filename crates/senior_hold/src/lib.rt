@@ -10,11 +10,10 @@ mod amounts;
 mod arcs;
 pub mod laws;
 mod places;
-mod search_sweep;
 mod serving;
 mod solver;
+mod sweep;
 mod tree_raises;
-mod tree_sweep;
 
 pub use solver::Solver;
-pub use tree_sweep::Sweep;
+pub use sweep::{Method, Sweep};

@@ -2,17 +2,17 @@
 //! borrows both.
 ghost use Rattle.std.specs.Prelude.{◌≡◌, ◌+◌, ◌*◌, ◌<◌, ◌≤◌, length, replicate};
 ghost use Rattle.water_text.specs.Months.{IsMonth};
+ghost use Rattle.water_model.specs.Plans.{IsPlan};
 ghost use Rattle.water_model.specs.Valid.{IsValidBasin};
 ghost use Rattle.senior_hold.specs.MonthNetwork.{arc_count};
 ghost use Rattle.senior_hold.specs.Arcs.{AreEnds};
 ghost use Rattle.senior_hold.specs.Solved.{FitsPlan, FitsCuts, IsGiven, IsSolved};
 ghost use Rattle.senior_hold.specs.Layouts.{IsLayout, FitsRoom};
 ghost use Rattle.senior_hold.specs.Spilled.{spilled};
-ghost use Rattle.senior_hold.specs.Places.{month_words, HasParts, HasPlaces};
+ghost use Rattle.senior_hold.specs.Places.{month_words, HasPlaces};
 
-use crate::search_sweep::solve_by_searches;
 use crate::solver::{Layout, Room};
-use crate::tree_sweep::{Sweep, solve_by_tree};
+use crate::sweep::{Method, Sweep, sweep_month};
 use circulation::{Circulation, Ends, words};
 use residual_tree::tree_words;
 use std::sync::ledger::Ledger;
@@ -27,15 +27,6 @@ use word_region::{Full, Place, Region};
 pub struct Places {
     pub circ: Circulation,
     pub tree: Place,
-}
-
-/// A way to solve a month.
-#[derive(Clone, Copy, PartialEq, Eq)]
-pub enum Method {
-    /// By the residual tree.
-    Tree,
-    /// By searches.
-    Searches,
 }
 
 /// How many words the circulation and the tree of a basin take, with this many arcs.
@@ -69,57 +60,7 @@ pub fn open_places(basin: &Basin, ends: &[Ends], region: &mut Region) -> Places
     Places { circ, tree }
 }
 
-/// Solves a month in words that are lent: those of the circulation that never change, those of it that do, and the
-/// tree's.
-fn sweep_lent<L: Ledger>(
-    method: Method,
-    basin: &Basin,
-    layout: &Layout,
-    room: &mut Room,
-    circ: &Circulation,
-    fixed: &[u64],
-    moving: &mut [u64],
-    tree: &mut [u64],
-    month: Month,
-    supply: &[u64],
-    want: &[u64],
-    plan: &mut Plan,
-    cuts: &mut CutList,
-    searches: &mut Steps<L>,
-) -> Sweep
-    requires valid { IsValidBasin basin.now }
-    requires layout { IsLayout basin.now layout.now }
-    requires room { FitsRoom basin.now room.old }
-    requires parts { HasParts basin.now circ.now fixed.now moving.old tree.old }
-    requires month { IsMonth month }
-    requires given { IsGiven basin.now month supply.now want.now plan.old cuts.old }
-    ensures room { FitsRoom basin.now room.new }
-    ensures plan { FitsPlan basin.now plan.new }
-    ensures cuts { FitsCuts basin.now cuts.new }
-    ensures solved { result ≡ Sweep.Solved → IsSolved basin.now month supply.now want.now plan.new cuts.new }
-    ensures pushes { method ≡ Method.Tree → searches.new ≤ searches.old + 30 * length basin.now.rights }
-    ensures gave_up { result ≡ Sweep.GaveUp → searches.old + 29 * length basin.now.rights < searches.new }
-    ensures searched { method ≡ Method.Searches → result ≡ Sweep.Solved }
-    ensures search_pushes { method ≡ Method.Searches →
-        searches.new ≤ searches.old + length basin.now.rights * (30 * (2 * arc_count basin.now + 1)) }
-{
-    match method {
-        Method::Tree => {
-            solve_by_tree(
-                basin, layout, room, circ, fixed, moving, tree, month, supply, want, plan, cuts,
-                searches,
-            )
-        }
-        Method::Searches => {
-            solve_by_searches(
-                basin, layout, room, circ, fixed, moving, month, supply, want, plan, cuts, searches,
-            );
-            Sweep::Solved
-        }
-    }
-}
-
-/// Solves a month in the words of a region.
+/// Sweeps a month in the words of a region.
 pub fn sweep<L: Ledger>(
     method: Method,
     basin: &Basin,
@@ -140,10 +81,13 @@ pub fn sweep<L: Ledger>(
     requires places { HasPlaces basin.now region.old places.now }
     requires month { IsMonth month }
     requires given { IsGiven basin.now month supply.now want.now plan.old cuts.old }
+    requires plan { method ≡ Method.Searches → IsPlan basin.now month supply.now want.now plan.old }
+    requires some { method ≡ Method.Searches → 0 < length basin.now.rights }
     ensures room { FitsRoom basin.now room.new }
     ensures places { HasPlaces basin.now region.new places.now }
-    ensures plan { FitsPlan basin.now plan.new }
+    ensures fits { FitsPlan basin.now plan.new }
     ensures cuts { FitsCuts basin.now cuts.new }
+    ensures plan { IsPlan basin.now month supply.now want.now plan.new }
     ensures solved { result ≡ Sweep.Solved → IsSolved basin.now month supply.now want.now plan.new cuts.new }
     ensures pushes { method ≡ Method.Tree → searches.new ≤ searches.old + 30 * length basin.now.rights }
     ensures gave_up { result ≡ Sweep.GaveUp → searches.old + 29 * length basin.now.rights < searches.new }
@@ -159,7 +103,7 @@ pub fn sweep<L: Ledger>(
     let words = region.words_mut(both);
     let (held, tree) = words.split_at_mut(circ.place.len);
     let (fixed, moving) = held.split_at_mut(circ.fixed());
-    sweep_lent(
+    sweep_month(
         method, basin, layout, room, circ, fixed, moving, tree, month, supply, want, plan, cuts,
         searches,
     )

@@ -4,7 +4,7 @@ ghost use Rattle.water_model.specs.CutSets.{set_of, with_set};
 ghost use Rattle.circulation.specs.Contents.{network, arcs, IsCirculation};
 ghost use Rattle.augment.specs.Raised.{HasPathOut, open_arcs, not_reached};
 ghost use Rattle.senior_hold.specs.MonthNetwork.{list_of};
-ghost use Rattle.senior_hold.specs.Serving.{IsServed, SameEnds, KeepsShape};
+ghost use Rattle.senior_hold.specs.Serving.{IsServed, KeepsShape};
 
 use augment::{Raised, raise, reached};
 use circulation::CirculationMut;
@@ -45,7 +45,6 @@ pub fn serve<L: Ledger>(
     requires free { set_of cuts.old right ≡ None }
     ensures served { IsServed circ.old circ.new arc want cuts.old cuts.new right }
     ensures kept { IsCirculation circ.new }
-    ensures ends { SameEnds circ.old circ.new }
     ensures shape { KeepsShape cuts.old cuts.new }
     ensures cost { searches.new ≤ searches.old + 30 * (2 * open_arcs (network circ.old) + 1) }
 {

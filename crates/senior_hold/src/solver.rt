@@ -2,11 +2,12 @@
 //!
 //! There are two ways. By the residual tree a month costs what changes in it, but a push can be small, and there can be
 //! many. So that way has a budget of 30 pushes for each right, for the month as a whole. By searches a month has a
-//! bound on its pushes, whatever its amounts. Where the budget gives out, the month is solved from its beginning by
-//! searches. Both ways go over one network.
+//! bound on its pushes, whatever its amounts. Where the budget gives out, searches go on from the plan that the tree
+//! came to: the rights that were served have in it what they get. Both ways go over one network.
 ghost use Rattle.std.specs.Prelude.{◌≡◌, ◌+◌, ◌*◌, ◌<◌, ◌≤◌, length, IfOk};
 ghost use Rattle.rights_roll.specs.Rolls.{IsRollOf};
 ghost use Rattle.water_text.specs.Months.{IsMonth};
+ghost use Rattle.water_model.specs.Plans.{IsPlan};
 ghost use Rattle.water_model.specs.Valid.{IsValidBasin};
 ghost use Rattle.senior_hold.specs.MonthNetwork.{arc_count, month_pushes};
 ghost use Rattle.senior_hold.specs.Solved.{FitsPlan, FitsCuts, IsGiven, IsSolved};
@@ -14,8 +15,8 @@ ghost use Rattle.senior_hold.specs.Layouts.{IsLayout, FitsRoom};
 ghost use Rattle.senior_hold.specs.Spilled.{spilled};
 
 use crate::arcs::{Arcs, arcs_of, ends_of_arcs};
-use crate::places::{Method, Places, open_places, sweep, words_of};
-use crate::tree_sweep::Sweep;
+use crate::places::{Places, open_places, sweep, words_of};
+use crate::sweep::{Method, Sweep};
 use rights_roll::roll::Roll;
 use river_net::Net;
 use rivers_first::Rounds;
@@ -128,11 +129,12 @@ impl<'b> Solver<'b> {
         &self.layout.roll
     }
 
-    /// Solves a month as `solve_month` does, by the residual tree, with at most 30 pushes for each right on average.
-    /// GaveUp comes only after more than 29 for each were made, and then the plan and the sets say nothing of the
-    /// month.
-    pub fn sweep_by_tree<L: Ledger>(
+    /// Solves a month as `solve_month` does, by one method. By the tree it makes at most 30 pushes for each right on
+    /// average, and GaveUp comes only after more than 29 for each: then the plan is one of the month, and the sets say
+    /// nothing of it. By searches it begins with the plan, and always ends.
+    pub fn sweep<L: Ledger>(
         &mut self,
+        method: Method,
         month: Month,
         supply: &[u64],
         want: &[u64],
@@ -142,15 +144,21 @@ impl<'b> Solver<'b> {
     ) -> Sweep
         requires month { IsMonth month }
         requires given { IsGiven self.old month supply.now want.now plan.old cuts.old }
+        requires plan { method ≡ Method.Searches → IsPlan self.old month supply.now want.now plan.old }
+        requires some { method ≡ Method.Searches → 0 < length self.old.rights }
         ensures same { self.new ≡ self.old }
-        ensures plan { FitsPlan self.old plan.new }
+        ensures fits { FitsPlan self.old plan.new }
         ensures cuts { FitsCuts self.old cuts.new }
+        ensures plan { IsPlan self.old month supply.now want.now plan.new }
         ensures solved { result ≡ Sweep.Solved → IsSolved self.old month supply.now want.now plan.new cuts.new }
-        ensures pushes { searches.new ≤ searches.old + 30 * length self.old.rights }
+        ensures pushes { method ≡ Method.Tree → searches.new ≤ searches.old + 30 * length self.old.rights }
         ensures gave_up { result ≡ Sweep.GaveUp → searches.old + 29 * length self.old.rights < searches.new }
+        ensures searched { method ≡ Method.Searches → result ≡ Sweep.Solved }
+        ensures search_pushes { method ≡ Method.Searches →
+            searches.new ≤ searches.old + length self.old.rights * (30 * (2 * arc_count self.old + 1)) }
     {
         sweep(
-            Method::Tree,
+            method,
             self.basin,
             &self.layout,
             &mut self.room,
@@ -165,41 +173,8 @@ impl<'b> Solver<'b> {
         )
     }
 
-    /// Solves a month as `solve_month` does, by searches alone.
-    pub fn sweep_by_searches<L: Ledger>(
-        &mut self,
-        month: Month,
-        supply: &[u64],
-        want: &[u64],
-        plan: &mut Plan,
-        cuts: &mut CutList,
-        searches: &mut Steps<L>,
-    )
-        requires month { IsMonth month }
-        requires given { IsGiven self.old month supply.now want.now plan.old cuts.old }
-        ensures same { self.new ≡ self.old }
-        ensures plan { FitsPlan self.old plan.new }
-        ensures cuts { FitsCuts self.old cuts.new }
-        ensures solved { IsSolved self.old month supply.now want.now plan.new cuts.new }
-        ensures pushes { searches.new ≤ searches.old + length self.old.rights * (30 * (2 * arc_count self.old + 1)) }
-    {
-        sweep(
-            Method::Searches,
-            self.basin,
-            &self.layout,
-            &mut self.room,
-            &mut self.region,
-            &self.places,
-            month,
-            supply,
-            want,
-            plan,
-            cuts,
-            searches,
-        );
-    }
-
-    /// Finds a plan for a month as `solve_month` does, by the tree if its pushes last.
+    /// Finds a plan for a month as `solve_month` does, by the tree if its pushes last, and else by searches from where
+    /// the tree came.
     fn find_plan<L: Ledger>(
         &mut self,
         month: Month,
@@ -217,10 +192,10 @@ impl<'b> Solver<'b> {
         ensures solved { IsSolved self.old month supply.now want.now plan.new cuts.new }
         ensures pushes { searches.new ≤ searches.old + month_pushes self.old }
     {
-        let sweep = self.sweep_by_tree(month, supply, want, plan, cuts, searches);
-        if sweep == Sweep::GaveUp {
+        let swept = self.sweep(Method::Tree, month, supply, want, plan, cuts, searches);
+        if swept == Sweep::GaveUp {
             cuts.clear();
-            self.sweep_by_searches(month, supply, want, plan, cuts, searches);
+            self.sweep(Method::Searches, month, supply, want, plan, cuts, searches);
         }
     }
 

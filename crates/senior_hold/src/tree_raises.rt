@@ -6,7 +6,7 @@ ghost use Rattle.augment.specs.Raised.{IsGreatestCut};
 ghost use Rattle.residual_tree.specs.Tree.{IsResidualTree, unlabeled};
 ghost use Rattle.residual_tree.specs.Repair.{HasArtificialStep};
 ghost use Rattle.residual_tree.specs.Raised.{IsExit, IsFull, IsRaisedOver};
-ghost use Rattle.senior_hold.specs.Serving.{IsServed, SameEnds, KeepsShape, FillsExit};
+ghost use Rattle.senior_hold.specs.Serving.{IsServed, KeepsShape, FillsExit};
 
 use circulation::CirculationMut;
 use residual_tree::{ResidualTree, TreeRaised, raise_by_tree, raise_within_unlabeled};
@@ -136,9 +136,8 @@ pub fn serve_by_tree<L: Ledger>(
     requires free { set_of cuts.old right ≡ None }
     ensures served { result ≡ Turn.Served → IsServed circ.old circ.new arc want cuts.old cuts.new right }
     ensures tree { result ≡ Turn.Served → IsResidualTree circ.new tree.new }
-    ensures words { length tree.new ≡ circ.old.nodes + 1 }
+    ensures raised { result ≡ Turn.GaveUp → IsRaisedOver circ.old circ.new arc }
     ensures kept { IsCirculation circ.new }
-    ensures ends { SameEnds circ.old circ.new }
     ensures shape { KeepsShape cuts.old cuts.new }
     ensures cost { searches.new + left.new ≤ searches.old + left.old }
     ensures used { (searches.old + left.old ≤ searches.new + left.new + 1) ⊎ FillsExit circ.old arc exit }

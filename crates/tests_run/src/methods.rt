@@ -125,7 +125,7 @@ fn result(alloc: Global, canal: u64, river: u64, juniors: &str) -> Result<String
 #[test]
 fn solves_by_searches_where_the_budget_gives_out(rt: HostRuntime) -> Result<(), Fail> {
     let basin = basin(rt.alloc(), false)?;
-    let want = result(rt.alloc(), 0, 40, "")?;
+    let want = result(rt.alloc(), 30, 10, "")?;
     let set = files(rt.alloc(), basin.as_str(), "")?;
     expect(
         rt.alloc(),

@@ -2,8 +2,8 @@ use Rattle.std.proofs.Common.{ℕ, take, drop, arith, ap, ◌∙◌}
 use Rattle.senior_hold.proofs.Placing.{parts_lent, places_again}
 use Rattle.senior_hold.proofs.places.sweep.Goals as goal
 
-pub sweep_lent-requires-clause-parts : goal.sweep_lent-requires-clause-parts
-sweep_lent-requires-clause-parts g c = parts_lent c.args.basin.now c.args.region.now c.args.places.now
+pub sweep_month-requires-clause-parts : goal.sweep_month-requires-clause-parts
+sweep_month-requires-clause-parts g c = parts_lent c.args.basin.now c.args.region.now c.args.places.now
     c.split_at_mut-fixed.result.0.now c.split_at_mut-fixed.result.1.now c.split_at_mut-held.result.1.now
     c.requires.places
     record {
@@ -36,16 +36,16 @@ returns-clause-places g c =
       rest = c.split_at_mut-fixed.ensures.back
           ∙ ap (λ (n : ℕ). drop n c.split_at_mut-held.result.0.now) c.fixed.ensures;
     } in
-    let moved = c.sweep_lent.auto.moving in
+    let moved = c.sweep_month.auto.moving in
     let long = c.split_at_mut-held.ensures.front_len in
     let prefix = c.split_at_mut-fixed.ensures.front_len in
     let back = c.split_at_mut-fixed.ensures.back_len in
     places_again c.args.basin.now c.args.region.now c.args.places.now c.split_at_mut-fixed.result.0.now
-    c.split_at_mut-fixed.result.1.now c.sweep_lent.new.moving c.sweep_lent.new.tree c.requires.places parts.arcs
+    c.split_at_mut-fixed.result.1.now c.sweep_month.new.moving c.sweep_month.new.words c.requires.places parts.arcs
     (prefix ∙ c.fixed.ensures) (omega (arith, moved, long, prefix, back))
     (omega (
       arith,
-      c.sweep_lent.auto.tree,
+      c.sweep_month.auto.words,
       c.split_at_mut-held.ensures.back_len,
       c.words_mut-words.ensures.count,
     ))

@@ -7,7 +7,7 @@ use Rattle.senior_hold.proofs.Plans.{list_get}
 use Rattle.senior_hold.proofs.Rivers.{made_whole}
 use Rattle.senior_hold.proofs.SpilledArcs.{spilled_arcs}
 use Rattle.water_model.proofs.Lists.{whole_rows}
-use Rattle.senior_hold.proofs.tree_sweep.settle_plan.Goals as goal
+use Rattle.senior_hold.proofs.sweep.settle_plan.Goals as goal
 
 pub read_spills-requires-clause-spills : goal.read_spills-requires-clause-spills
 read_spills-requires-clause-spills c = omega (arith, spilled_arcs c.args.basin.now, c.requires.ends.arcs)
