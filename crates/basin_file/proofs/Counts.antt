@@ -1,7 +1,7 @@
 -- Counts of entries and of return rows.
-use Rattle.std.proofs.Common.{nat_lt, ◌≡◌, ℕ, zero, suc, ◌+◌, ◌<◌, ◌≤◌, List, [], ◌∷◌, length, map, take, Bool}
-use Rattle.std.proofs.Common.{true, Option}
-use Rattle.std.proofs.Common.{false, Some, slice_get, if◌then◌else◌, count_by, refl, sym, ap, ◌∙◌, arith, nat_lt}
+use Rattle.std.proofs.Common.{nat_lt, ◌≡◌, ℕ, zero, suc, ◌+◌, ◌<◌, ◌≤◌, List, [], ◌∷◌, length, map, take, Bool, true}
+use Rattle.std.proofs.Common.{All, Option, false, Some, slice_get, if◌then◌else◌, count_by, refl, sym, ap, ◌∙◌, arith}
+use Rattle.std.proofs.lemmas.List.Elements.{All-tail}
 use Rattle.std.proofs.lemmas.List.Sums.{sum_by-cons}
 use Rattle.std.proofs.lemmas.Bool.{ltb-false}
 use Rattle.std.proofs.lemmas.Option.{slice_get-map}
@@ -10,7 +10,6 @@ use Rattle.finite_sums.specs.Sums.{count_where}
 use Rattle.finite_sums.proofs.Totals.{total_start, total_first}
 use Rattle.water_model.specs.Lookups.{of_entry}
 use Rattle.water_model.proofs.Valid.{entry_at}
-use Rattle.basin_file.proofs.Lists.{Each}
 
 pub count_by-cons : {X : Type 0} (p : X → Bool) (x : X) (xs : List X) →
     count_by p (x ∷ xs) ≡ (if p x then 1 else 0) + count_by p xs
@@ -62,13 +61,13 @@ earlier_at f xs n k x q same at text =
     rw (same, slice_get-map f xs k, at, text) (count_taken f (is_the_text q) k xs)
 
 -- at most as many pass one test as another, where each that passes the first passes the other
-pub counts_within : {X : Type 0} (p q : X → Bool) (n : ℕ) (xs : List X) → Each (λ x. p x ≡ true → q x ≡ true) xs →
+pub counts_within : {X : Type 0} (p q : X → Bool) (n : ℕ) (xs : List X) → All (λ x. p x ≡ true → q x ≡ true) xs →
     count_by p (take n xs) ≤ count_by q (take n xs)
-counts_within p q zero xs each = omega arith
-counts_within p q (suc n) [] each = omega arith
-counts_within p q (suc n) (x ∷ xs) each =
-    let rest : count_by p (take n xs) ≤ count_by q (take n xs) = counts_within p q n xs each.1 in
-    rw (count_by-cons p x (take n xs), count_by-cons q x (take n xs)) (by (p x) (q x) each.0 rest)
+counts_within p q zero xs all = omega arith
+counts_within p q (suc n) [] all = omega arith
+counts_within p q (suc n) (x ∷ xs) all =
+    let rest = counts_within p q n xs (All-tail (λ x. p x ≡ true → q x ≡ true) x xs all) in
+    rw (count_by-cons p x (take n xs), count_by-cons q x (take n xs)) (by (p x) (q x) (all 0 x (omega arith)) rest)
   where
     by : (b c : Bool) {m k : ℕ} → (b ≡ true → c ≡ true) → m ≤ k → (if b then 1 else 0) + m ≤ (if c then 1 else 0) + k
     by true true h low = omega arith

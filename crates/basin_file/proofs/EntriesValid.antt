@@ -1,7 +1,7 @@
 -- Each entry of a clean document is valid.
 use Rattle.std.proofs.Common.{◌≡◌, ℕ, zero, suc, ◌+◌, ◌*◌, ◌^◌, ◌<◌, ◌≤◌, ◌==◌, List, [], ◌∷◌, ◌++◌, length, map, Bool}
-use Rattle.std.proofs.Common.{true, false, Option, Some, None, option_map, option_and_then, ap, unwrap_or, is_some}
-use Rattle.std.proofs.Common.{slice_get, refl, sym, ◌∙◌, arith, codes, length-append, zero-add, not, IsTrue}
+use Rattle.std.proofs.Common.{nat_lt, true, false, Option, Some, None, option_map, option_and_then, ap, unwrap_or}
+use Rattle.std.proofs.Common.{is_some, slice_get, refl, sym, ◌∙◌, arith, codes, length-append, zero-add, not, IsTrue}
 use Rattle.std.proofs.lemmas.Bool.Decides.{nat_tests}
 use Rattle.std.proofs.lemmas.List.{length-map}
 use Rattle.std.proofs.lemmas.Option.{slice_get-map}
@@ -33,9 +33,10 @@ use Rattle.basin_file.specs.Spelled.{name_at, rows_in, number_at, node_of, link_
 use Rattle.basin_file.specs.Spelled.{diversion_of, instream_of, zone_of, return_of, rights_of, basin_of}
 use Rattle.basin_file.proofs.Counts.{bounded_by}
 use Rattle.basin_file.proofs.Listed.{item_listing}
-use Rattle.basin_file.proofs.Ranges.{series_wants, whole_in, volume_valid, monthly_in}
-use Rattle.basin_file.proofs.Ranges.{points_valid, bounded_points, inflow_valid, carry_valid}
-use Rattle.basin_file.proofs.Passed.{AreClean, Fits, IsClean, IsListed, entry_of, fits_at, rest_of, top_entry}
+use Rattle.basin_file.proofs.Ranges.{series_wants, whole_in, volume_valid, monthly_in, points_valid, bounded_points}
+use Rattle.basin_file.proofs.Ranges.{inflow_valid, carry_valid}
+use Rattle.basin_file.proofs.Passed.{AreClean, Fits, IsClean, IsListed, IsRest, clean_at, entry_of, fits_at, rest_of}
+use Rattle.basin_file.proofs.Passed.{top_entry}
 use Rattle.basin_file.proofs.OwnNames.{name_there, refers_there, texts_in-rows, length-rows_in, number_within}
 use Rattle.basin_file.proofs.OwnNames.{number_is}
 
@@ -59,35 +60,30 @@ module _ (tree : Members) (clean : AreClean tree) where
   length_texts t h =
       ap (λ ts. length ts) (texts_in-rows tree clean t h) ∙ length-map (rows_in tree t) (text_at (own_key t))
 
-  pub clean_at : (t : BasinTable) → IsListed t → (k : ℕ) (row : Members) → slice_get (rows_in tree t) k ≡ Some row →
-      IsClean tree (entry_of t k row)
-  clean_at t h = (clean.tidy t h).clean
+  bounded_table : (limit before : ℕ) (t : BasinTable) → IsListed t →
+      ((k : ℕ) (row : Members) → IsRest tree (entry_of t k row) → nat_lt limit (before + (k + 1)) ≡ false) →
+      before ≤ limit → before + length (rows_in tree t) ≤ limit
+  bounded_table limit before t h many = bounded_by limit before (rows_in tree t)
+      (λ k row at. many k row (rest_of tree (entry_of t k row) (clean_at tree clean t h k row at)))
 
   pub bounded_nodes : length (rows_in tree Node) ≤ 2000
   bounded_nodes =
-      let h = bounded_by 2000 0 (rows_in tree Node) (λ k row at. rw zero-add
-      (rest_of tree (entry_of Node k row) (clean_at Node tt k row at)).many) (omega arith) in
-      omega arith
+      let h = bounded_table 2000 0 Node tt (λ k row rest. rw zero-add rest.many) (omega arith) in omega arith
 
   pub bounded_links : length (rows_in tree Link) ≤ 4000
   bounded_links =
-      let h = bounded_by 4000 0 (rows_in tree Link) (λ k row at. rw zero-add
-      (rest_of tree (entry_of Link k row) (clean_at Link tt k row at)).many) (omega arith) in
-      omega arith
+      let h = bounded_table 4000 0 Link tt (λ k row rest. rw zero-add rest.many) (omega arith) in omega arith
 
   pub bounded_diversions : 0 + length (rows_in tree Diversion) ≤ 2000
-  bounded_diversions = bounded_by 2000 0 (rows_in tree Diversion)
-      (λ k row at. (rest_of tree (entry_of Diversion k row) (clean_at Diversion tt k row at)).many) (omega arith)
+  bounded_diversions = bounded_table 2000 0 Diversion tt (λ k row rest. rest.many) (omega arith)
 
   pub bounded_rights : length (rights_of tree) ≤ 2000
   bounded_rights =
       let diversions = length-rows_in tree clean Diversion tt in
       let instreams = length-rows_in tree clean Instream tt in
       let low = bounded_diversions in
-      let more = bounded_by 2000 (rights_before tree Instream) (rows_in tree Instream)
-      (λ k row at. (rest_of tree (entry_of Instream k row) (clean_at Instream tt k row at)).many) (omega arith) in
-      let most = bounded_by 2000 (rights_before tree Zone) (rows_in tree Zone)
-      (λ k row at. (rest_of tree (entry_of Zone k row) (clean_at Zone tt k row at)).many) (omega arith) in
+      let more = bounded_table 2000 (rights_before tree Instream) Instream tt (λ k row rest. rest.many) (omega arith) in
+      let most = bounded_table 2000 (rights_before tree Zone) Zone tt (λ k row rest. rest.many) (omega arith) in
       rw (
         length-append,
         length-append,

@@ -1,17 +1,18 @@
 -- The entries that the table of a basin lists: their rows, the indices of their names, and the rights by their tables.
 use Rattle.std.proofs.Common.{◌≡◌, ◌≢◌, ℕ, zero, suc, ◌+◌, ◌<◌, ◌≤◌, ◌∙◌, Bool, true, false, cond, ap, sym, refl}
-use Rattle.std.proofs.Common.{inl, inr}
-use Rattle.std.proofs.Common.{arith, List, [], ◌∷◌, ◌++◌, length, map, filter, All, slice_get, append_assoc}
-use Rattle.std.specs.Prelude.{Option, Some, option_and_then, option_map, unwrap_or}
+use Rattle.std.proofs.Common.{get_or, inl, inr, arith, List, [], ◌∷◌, ◌++◌, length, map, All, slice_get, append_assoc}
+use Rattle.std.specs.Prelude.{None, Option, Some, option_and_then, option_map, unwrap_or}
 use Rattle.std.specs.Option.{option_map_or}
 use Rattle.std.specs.Str.{bytes_eq}
 use Rattle.std.proofs.lemmas.Bool.{cases_Bool}
 use Rattle.std.proofs.lemmas.Bool.Decides.{nat_tests}
-use Rattle.std.proofs.lemmas.List.Elements.{All-tail}
-use Rattle.std.proofs.lemmas.Option.{slice_get_within}
+use Rattle.std.proofs.lemmas.List.Elements.{All-append, filter_passes}
+use Rattle.std.proofs.lemmas.List.Quantifiers.{position-Some}
+use Rattle.std.proofs.lemmas.Option.{slice_get-get_or, slice_get_within}
 use Rattle.std.proofs.lemmas.Slice.Eq.{bytes_eq-Decides}
 use Rattle.toml.specs.Data.{Data, table, Items, no_items, item, get_item, Members, as_array}
 use Rattle.toml.specs.View.{items_of}
+use Rattle.first_index.proofs.First.{first_is_position}
 use Rattle.first_index.specs.Indices.{first_from}
 use Rattle.toml_tree.specs.Items.{items_len}
 use Rattle.toml_tree.specs.Texts.{texts_after, is_the_text}
@@ -21,7 +22,7 @@ use Rattle.water_model.specs.Valid.{AreRanked, is_diversion_kind, rank_of_kind}
 use Rattle.water_model.specs.declared.types.Right.{Right}
 use Rattle.water_model.specs.declared.types.RightKind.{RightKind}
 use Rattle.water_model.specs.declared.types.RightKind.TheVariants as kind
-use Rattle.water_model.proofs.Lists.{get_before}
+use Rattle.water_model.proofs.Lists.{all_at, get_before}
 use Rattle.water_model.proofs.Valid.{entry_at}
 use Rattle.basin_tree.specs.declared.tables.BasinTable.{BasinTable}
 use Rattle.basin_tree.specs.declared.tables.BasinTable.TheVariants.{Diversion, Instream, Zone}
@@ -30,7 +31,6 @@ use Rattle.basin_tree.specs.Indices.{named_at}
 use Rattle.basin_file.specs.BasinFaults.{is_in_table}
 use Rattle.basin_file.specs.Spelled.{rows_after, small}
 use Rattle.basin_file.specs.Upgraded.{listed, rights_in}
-use Rattle.basin_file.proofs.Lists.{Each, each_any, each_append}
 use Rattle.basin_file.proofs.Passed.{listing}
 
 -- the items of a list at a key, and none where there is no list
@@ -66,11 +66,6 @@ pub texts_listing : (key : List ℕ) (rows : List Members) → texts_after key (
 texts_listing key [] = refl
 texts_listing key (row ∷ rows) = ap (λ rest. text_at key row ∷ rest) (texts_listing key rows)
 
-pub map_alike : {X Y Z : Type 0} (f : Y → Z) (g : X → Y) (h : X → Z) (xs : List X) → Each (λ x. f (g x) ≡ h x) xs →
-    map f (map g xs) ≡ map h xs
-map_alike f g h [] each = refl
-map_alike f g h (x ∷ xs) each = λ i. each.0 i ∷ map_alike f g h xs each.1 i
-
 pub len_items : {X : Type 0} (f : X → Data) (xs : List X) → items_len (items_of (map f xs)) ≡ length xs
 len_items f [] = refl
 len_items f (x ∷ xs) = ap suc (len_items f xs)
@@ -90,16 +85,16 @@ first_le p n (y ∷ xs) (suc i) x there passes =
           (rest.0, rw other rest.1, omega arith))
     ]
 
--- the first index passes
-pub first_at : {X : Type 0} (p : X → Bool) (n : ℕ) (xs : List X) (at : ℕ) → first_from p n xs ≡ Some at →
-    (k : ℕ) × (x : X) × (at ≡ n + k) × (slice_get xs k ≡ Some x) × (p x ≡ true)
-first_at p n [] at e = cc
-first_at p n (y ∷ xs) at e =
-    elim (cases_Bool (p y)) [
-      | inl here ↦ (let same : n ≡ at = (let w = rw here at e in cc) in (0, y, omega arith, refl, here))
-      | inr other ↦
-          (let rest = first_at p (n + 1) xs at (rw other at e) in (suc rest.0, rest.1, omega arith, rest.3, rest.4))
-    ]
+-- the text stands at its first index
+pub text_first : (q : List ℕ) (texts : List (Option (List ℕ))) (at : ℕ) → first_from (is_the_text q) 0 texts ≡ Some at →
+    slice_get texts at ≡ Some (Some q)
+text_first q texts at e =
+    let found = position-Some (is_the_text q) texts at None (sym (first_is_position (is_the_text q) texts) ∙ e) in
+    slice_get-get_or texts at None found.0 ∙ ap (λ t. Some t) (is_text (get_or texts at None) found.1)
+  where
+    is_text : (t : Option (List ℕ)) → is_the_text q t ≡ true → t ≡ Some q
+    is_text None e = cc
+    is_text (Some t) e = ap (λ s. Some s) (sym ((bytes_eq-Decides q t).0 e))
 
 -- no two of some entries have one name
 abbrev pub HaveOwn : {X : Type 0} → (X → List ℕ) → List X → Type 0
@@ -127,24 +122,6 @@ index_read tree space q k named bounded = rw named (fits k bounded)
   where
     fits : (n : ℕ) → n < 4000 → small n ≡ n
     fits n h = grind (arith, nat_tests)
-
--- facts of each of a list
-pub all_each : {X : Type 0} (P : X → Type 0) (xs : List X) → All P xs → Each P xs
-all_each P [] h = tt
-all_each P (x ∷ xs) h = (h 0 x (omega arith), all_each P xs (All-tail P x xs h))
-
-pub each_filter : {X : Type 0} (p : X → Bool) (P : X → Type 0) (xs : List X) → Each (λ x. p x ≡ true → P x) xs →
-    Each P (filter p xs)
-each_filter p P [] each = tt
-each_filter p P (x ∷ xs) each = by (p x) refl (each_filter p P xs each.1)
-  where
-    by : (t : Bool) → p x ≡ t → Each P (filter p xs) → Each P (cond t (x ∷ filter p xs) (filter p xs))
-    by true e rest = (each.0 e, rest)
-    by false e rest = rest
-
-pub map_back : {X Y : Type 0} (f : Y → X) (g : X → Y) (xs : List X) → Each (λ x. f (g x) ≡ x) xs → map f (map g xs) ≡ xs
-map_back f g [] each = refl
-map_back f g (x ∷ xs) each = ap (λ y. y ∷ map f (map g xs)) each.0 ∙ ap (λ ys. x ∷ ys) (map_back f g xs each.1)
 
 -- where no kind of a rank that may come is of a table, none of the rights is
 none_in : (t : BasinTable) (least : ℕ) (rights : List Right) →
@@ -202,12 +179,13 @@ diversion_same rights ranked k within =
     ∙ get_before (d ++ i) z k it.0 (get_before d i k it.0 it.1))
 
 -- and stands among them, as no other right is one
-within_first : {X : Type 0} (p : X → Bool) (xs ys : List X) (k : ℕ) → Each (λ y. p y ≡ false) ys →
+within_first : {X : Type 0} (p : X → Bool) (xs ys : List X) (k : ℕ) → All (λ y. p y ≡ false) ys →
     of_entry (xs ++ ys) k p false ≡ true → k < length xs
-within_first p [] [] k none is = cc
-within_first p [] (y ∷ ys) zero none is = let never : true ≡ false = sym is ∙ none.0 in cc
-within_first {X = X} p [] (y ∷ ys) (suc k) none is =
-    let no : List X = [] in let h : k < length no = within_first p no ys k none.1 is in absurd (omega arith)
+within_first {X = X} p [] ys k none is = by (slice_get ys k) refl is
+  where
+    by : (o : Option X) → slice_get ys k ≡ o → unwrap_or (option_map p o) false ≡ true → k < 0
+    by None at is = cc
+    by (Some y) at is = let never : true ≡ false = sym is ∙ all_at (λ y. p y ≡ false) ys k y none at in cc
 within_first p (x ∷ xs) ys zero none is = omega arith
 within_first p (x ∷ xs) ys (suc k) none is = let h : k < length xs = within_first p xs ys k none is in omega arith
 
@@ -217,7 +195,7 @@ diversion_within rights ranked k is =
     let i = rights_in Instream rights in
     let z = rights_in Zone rights in
     within_first (λ r. is_diversion_kind r.kind) (rights_in Diversion rights) (i ++ z) k
-    (each_append (λ r. is_diversion_kind r.kind ≡ false) i z (others Instream instream) (others Zone zone))
+    (All-append (λ r. is_diversion_kind r.kind ≡ false) i z (others Instream instream) (others Zone zone))
     (ap (λ rs. of_entry rs k (λ r. is_diversion_kind r.kind) false)
     (sym (append_assoc (rights_in Diversion rights) i z) ∙ rights_by_table 0 rights ranked) ∙ is)
   where
@@ -230,10 +208,8 @@ diversion_within rights ranked k is =
     zone _ is = refl
 
     others : (t : BasinTable) → ((its : RightKind) → is_in_table t its ≡ true → is_diversion_kind its ≡ false) →
-        Each (λ r. is_diversion_kind r.kind ≡ false) (rights_in t rights)
-    others t f =
-        each_filter (λ r. is_in_table t r.kind) (λ r. is_diversion_kind r.kind ≡ false) rights
-        (each_any (λ r. is_in_table t r.kind ≡ true → is_diversion_kind r.kind ≡ false) rights (λ r. f r.kind))
+        All (λ r. is_diversion_kind r.kind ≡ false) (rights_in t rights)
+    others t f = λ j d h. f _ (filter_passes (λ r. is_in_table t r.kind) rights j d h)
 
 -- so no two diversions have one name where no two rights have
 pub diversions_own : (rights : List Right) → AreRanked 0 rights → HaveOwn (λ r. r.name) rights →

@@ -26,8 +26,8 @@ use Rattle.water_model.proofs.Valid.{entry_at}
 use Rattle.basin_tree.specs.declared.tables.BasinTable.TheVariants.{Diversion, Instream, Zone}
 use Rattle.basin_tree.specs.declared.tables.Space.TheVariants.{Rights}
 use Rattle.basin_tree.specs.NameFaults.{own_space, rights_before}
-use Rattle.basin_file.proofs.Listed.{first_at, index_read, len_listing, texts_listing, HaveOwn, first_le}
-use Rattle.basin_file.proofs.Passed.{AreClean, Fits, IsClean, IsListed, entry_of, fits_at, rest_of}
+use Rattle.basin_file.proofs.Listed.{text_first, index_read, len_listing, texts_listing, HaveOwn, first_le}
+use Rattle.basin_file.proofs.Passed.{AreClean, Fits, IsClean, IsListed, clean_at, entry_of, fits_at, rest_of}
 
 -- a text at a required key
 some_text : {format : ℕ} {tree : Members} (key : List ℕ) (o : Option Data) → Fits format tree (required key Name) o →
@@ -67,9 +67,7 @@ names_by tree key space (Some d) fits = by (as_str d) fits.kinds fits.refers
 pub at_within : {tree : Members} {space : Space} {text : Option (List ℕ)} → (its : Names tree space text) →
     its.at < length (texts_of tree space)
 at_within {tree = tree} {space = space} its =
-    let first = first_at (is_the_text its.q) 0 (texts_of tree space) its.at its.named in
-    let within = slice_get_within (texts_of tree space) first.0 first.1 first.3 in
-    omega (arith, first.2)
+    slice_get_within (texts_of tree space) its.at (Some its.q) (text_first its.q (texts_of tree space) its.at its.named)
 
 pub number_within : {tree : Members} {space : Space} (key : List ℕ) (row : Members) →
     Names tree space (text_at key row) → number_at tree space key row < length (texts_of tree space)
@@ -148,16 +146,7 @@ own_texts texts own i j q before one other =
 pub same_text : (tree : Members) (space : Space) (q r : List ℕ) (at : ℕ) → named_at tree space q ≡ Some at →
     named_at tree space r ≡ Some at → q ≡ r
 same_text tree space q r at one other =
-    let a = first_at (is_the_text q) 0 (texts_of tree space) at one in
-    let b = first_at (is_the_text r) 0 (texts_of tree space) at other in
-    let index : a.0 ≡ b.0 = omega (arith, a.2, b.2) in
-    let text : slice_get (texts_of tree space) a.0 ≡ Some b.1 = rw index b.3 in
-    let same : a.1 ≡ b.1 = cc (a.3, text) in
-    by a.1 a.4 (rw same b.4)
-  where
-    by : (text : Option (List ℕ)) → is_the_text q text ≡ true → is_the_text r text ≡ true → q ≡ r
-    by None one other = cc
-    by (Some t) one other = (bytes_eq-Decides q t).0 one ∙ sym ((bytes_eq-Decides r t).0 other)
+    let a = text_first q (texts_of tree space) at one in let b = text_first r (texts_of tree space) at other in cc
 
 -- where the names of entries are such texts, no two of them have one name
 pub own_names : {X : Type 0} (name : X → List ℕ) (entries : List X) (texts : List (Option (List ℕ))) →
@@ -187,7 +176,7 @@ module _ (tree : Members) (clean : AreClean tree) where
           let its : text_at (own_key t) row ≡ Some q = cc in
           let same : k + 1 - 1 ≡ k = omega arith in
           subst (λ (n : ℕ). IsFirst (texts_of tree space) (rights_before tree t + n) q) same
-          (rw (is, its) at (rest_of tree (entry_of t k row) ((clean.tidy t h).clean k row there)).same)
+          (rw (is, its) at (rest_of tree (entry_of t k row) (clean_at tree clean t h k row there)).same)
 
   -- the names of rights, over their three tables
   pub rights_own : AreOwn (texts_of tree Rights) 0 (texts_of tree Rights)

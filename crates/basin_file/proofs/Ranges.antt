@@ -1,15 +1,13 @@
 -- Each number that is spelled lies in its range, calendar months are twelve, and wants in the series are zeros.
 use Rattle.std.proofs.Common.{◌≡◌, ◌+◌, ◌^◌, List, [], ◌∷◌, length, Bool, true, false, ◌||◌, Option, Some, None}
-use Rattle.std.proofs.Common.{is_some, refl, ap, ◌∙◌, ℕ, suc, ◌*◌, ◌-◌, ◌/◌, ◌≤◌, map, ◌&&◌, option_and_then, unwrap_or}
-use Rattle.std.proofs.Common.{is_none, inl, inr, arith, All, nat_le, nat_lt, ℤ, pos, negsuc, codes, slice_range}
-use Rattle.std.proofs.Common.{if◌then◌else◌}
+use Rattle.std.proofs.Common.{is_some, refl, ap, ◌∙◌, ℕ, suc, ◌*◌, ◌-◌, ◌/◌, ◌≤◌, ◌&&◌, option_and_then, unwrap_or}
+use Rattle.std.proofs.Common.{is_none, inl, inr, arith, All, nat_le, nat_lt, ℤ, pos, negsuc, if◌then◌else◌}
 use Rattle.std.specs.Prelude.{replicate}
 use Rattle.std.specs.List.{list_any, range_with_len}
 use Rattle.std.specs.Option.{option_map_or}
 use Rattle.std.proofs.lemmas.List.FromFn.{length-map-range_with_len}
 use Rattle.std.proofs.lemmas.Bool.{cases_Bool}
 use Rattle.std.proofs.lemmas.Bool.Decides.{nat_tests}
-use Rattle.std.specs.Str.Parse.{digits_value}
 use Rattle.toml.specs.Data.{Data, as_array, as_str, Items, no_items, item, get_item, as_integer}
 use Rattle.toml.specs.Data as toml
 use Rattle.toml.specs.View.{view, items_view}
@@ -21,13 +19,12 @@ use Rattle.water_model.specs.Valid.{is_diversion_kind}
 use Rattle.basin_file.specs.Spelled.{items_any, lists_month, shut_of, carry_of, is_series, inflow_of, volume_of}
 use Rattle.basin_file.specs.Spelled.{point_in, points_in, no_area, area_of, first_of}
 use Rattle.toml_tree.specs.Items.{items_len}
-use Rattle.water_text.specs.Shapes.{has_shape}
-use Rattle.water_text.specs.Months.{IsMonth, is_month, read_month, month_after, month_within}
+use Rattle.water_text.specs.Months.{IsMonth, read_month, month_after, month_within}
 use Rattle.water_text.specs.declared.month.Month.{Month}
 use Rattle.water_model.specs.declared.types.Inflow.TheVariants.{Monthly, Gauged}
 use Rattle.water_model.specs.declared.types.RightKind.{RightKind}
-use Rattle.water_text.proofs.MonthLaws.{is_within}
-use Rattle.basin_file.proofs.Lists.{Each, each_all, each_any, each_map}
+use Rattle.water_text.proofs.MonthLaws.{month_is_read}
+use Rattle.std.proofs.lemmas.List.Elements.{All-cons, All-map, All-nil}
 
 items_any-view : (test : Data → Bool) (vs : List Value) →
     items_any test (items_view vs) ≡ list_any (λ v. test (view v)) vs
@@ -101,9 +98,8 @@ pub monthly_in : (most : ℕ) (value : Option Data) → IsMonthly most (monthly_
 unfolding monthly_of
 monthly_in most value = record {
   twelve = length-map-range_with_len (month_number most value) 0 12;
-  each = each_all (λ n. n ≤ most) (map (month_number most value) (range_with_len 0 12))
-      (each_map (λ n. n ≤ most) (month_number most value) (range_with_len 0 12)
-      (each_any (λ m. month_number most value m ≤ most) (range_with_len 0 12) (month_number_most most value)));
+  each = All-map (λ n. n ≤ most) (month_number most value) (range_with_len 0 12)
+      (λ k d h. month_number_most most value _);
 }
 
 point_valid : (pair : Items) → IsValidPoint (point_in pair)
@@ -113,14 +109,16 @@ point_valid pair = record {
 }
 
 pub points_valid : (value : Option Data) → All IsValidPoint (area_of value)
-points_valid value = each_all IsValidPoint (area_of value) (by (option_and_then as_array value))
+points_valid value = by (option_and_then as_array value)
   where
-    points : (items : Items) → Each IsValidPoint (points_in items)
-    points no_items = tt
-    points (item d ds) = (point_valid (unwrap_or (as_array d) no_items), points ds)
+    points : (items : Items) → All IsValidPoint (points_in items)
+    points no_items = All-nil IsValidPoint
+    points (item d ds) =
+        All-cons IsValidPoint _ (points_in ds) (point_valid (unwrap_or (as_array d) no_items)) (points ds)
 
-    by : (o : Option Items) → Each IsValidPoint (option_map_or points_in o no_area)
-    by None = (record { storage = omega arith; area = omega arith }, tt)
+    by : (o : Option Items) → All IsValidPoint (option_map_or points_in o no_area)
+    by None =
+        All-cons IsValidPoint _ [] (record { storage = omega arith; area = omega arith }) (All-nil IsValidPoint)
     by (Some items) = points items
 
 -- an area table has at most 64 points where its list has
@@ -157,28 +155,13 @@ pub carry_valid : (per_day closed : Option Data) → IsValidCarry (carry_of per_
 carry_valid None closed = tt
 carry_valid (Some d) closed = ((whole_in 0 (10 ^ 9) 0 (Some d) (omega arith) (omega arith)).1, length-shut closed)
 
-read_is_month : (text : List ℕ) (m : Month) → read_month text ≡ Some m → IsMonth m
-unfolding read_month
-read_is_month text m e = by (has_shape (codes "dddd-dd") text) e
-  where
-    spelled : Month
-    spelled = record { year = digits_value 10 (slice_range text 0 4); month = digits_value 10 (slice_range text 5 7) }
-
-    good : (b : Bool) → is_month spelled ≡ b → (if b then Some spelled else None) ≡ Some m → IsMonth m
-    good true is e = let same : spelled ≡ m = cc in rw (← same) (is_within spelled is)
-    good false is e = cc
-
-    by : (shape : Bool) → (if shape && is_month spelled then Some spelled else None) ≡ Some m → IsMonth m
-    by true e = good (is_month spelled) refl e
-    by false e = cc
-
 -- the first month of the run is one, and the run ends by 2999-12
 pub first_valid : (text : List ℕ) → IsMonth (first_of text)
 first_valid text = by (read_month text) refl
   where
     by : (o : Option Month) → read_month text ≡ o → IsMonth (unwrap_or o (record { year = 1800; month = 1 }))
     by None e = record { year = (omega arith, omega arith); month = (omega arith, omega arith) }
-    by (Some m) e = read_is_month text m e
+    by (Some m) e = (month_is_read text m e).month
 
 pub run_ends : (text : List ℕ) (months : ℕ) → 1 ≤ months → months ≤ 1200 →
     option_map_or (λ first. is_none (month_within first (months - 1))) (read_month text) false ≡ false →
@@ -202,4 +185,4 @@ run_ends text months low high e = by (read_month text) refl e
         12 * (unwrap_or o (record { year = 1800; month = 1 })).year +
         (unwrap_or o (record { year = 1800; month = 1 })).month + months ≤ 36001
     by None same e = omega arith
-    by (Some m) same e = ends m.year m.month (read_is_month text m same).month.0 (within m _ refl e)
+    by (Some m) same e = ends m.year m.month (month_is_read text m same).month.month.0 (within m _ refl e)

@@ -1,15 +1,14 @@
 -- Values that stand in the table of a basin are read back: numbers, lists of them, texts of ASCII bytes and dates.
-use Rattle.std.proofs.Common.{◌≡◌, ℕ, ◌+◌, ◌/◌, ◌%◌, ◌<◌, ◌≤◌, Bool, true, false, arith, List, [], ◌∷◌, ◌++◌, length}
-use Rattle.std.proofs.Common.{get_or, ◌≢◌, zero, suc, ◌*◌, ◌^◌, ◌∙◌, ap, sym, refl, map, nat_le, pos, ◌&&◌, ◌==◌, codes}
+use Rattle.std.proofs.Common.{◌≡◌, ℕ, ◌+◌, ◌/◌, ◌%◌, ◌<◌, ◌≤◌, Bool, true, false, arith, List, [], ◌∷◌, length, get_or}
+use Rattle.std.proofs.Common.{nat_lt, ◌≢◌, zero, suc, ◌*◌, ◌^◌, ◌∙◌, ap, sym, refl, map, nat_le, pos, ◌&&◌, ◌==◌, codes}
 use Rattle.std.proofs.Common.{All}
 use Rattle.std.specs.Prelude.{Option, Some, None, option_map}
-use Rattle.std.specs.Fmt.{decimal}
 use Rattle.std.specs.List.{list_all}
 use Rattle.std.specs.Str.{IsAscii}
+use Rattle.std.proofs.lemmas.Bool.{and_parts}
 use Rattle.std.proofs.lemmas.Bool.Decides.{nat_tests}
-use Rattle.std.proofs.lemmas.Fmt.{IsAscii-decimal}
 use Rattle.std.proofs.lemmas.List.Sums.{AllPass-from_list_all}
-use Rattle.std.proofs.lemmas.Str.{IsAscii-append, digit_value_digit}
+use Rattle.std.proofs.lemmas.Str.{digit_value_digit}
 use Rattle.std.proofs.lemmas.Str.Ascii.{IsAscii-cons, IsAscii-from_all, IsAscii-nil}
 use Rattle.std.proofs.lemmas.List.Elements.{All-tail}
 use Rattle.std.proofs.lemmas.List.FromFn.{fill_by_all}
@@ -17,17 +16,17 @@ use Rattle.std.specs.Char.{digit_value}
 use Rattle.std.specs.Option.{option_map_or}
 use Rattle.std.specs.Str.Parse.{digits_value}
 use Rattle.water_text.specs.Days.{is_date, read_day}
-use Rattle.water_text.specs.Months.{IsMonth, month_digits, days_in}
+use Rattle.water_text.specs.Months.{IsMonth, month_digits, days_in, read_month}
 use Rattle.water_text.specs.Names.{is_name, is_name_byte}
 use Rattle.water_text.proofs.DayNumbers.{days_in-days_in_month, days_in_month-le}
-use Rattle.basin_file.specs.Upgraded.{day_text, two_digits, closed_data, inflow_data, number, numbers, per_day_data}
-use Rattle.basin_file.specs.Upgraded.{point_data, shut_months, some_items}
+use Rattle.basin_file.specs.Upgraded.{day_text, closed_data, inflow_data, number, numbers, per_day_data, point_data}
+use Rattle.basin_file.specs.Upgraded.{shut_months, some_items}
 use Rattle.water_text.specs.declared.day.Day.{Day}
 use Rattle.water_text.specs.declared.month.Month.{Month}
 use Rattle.toml.specs.Data.{array, Items, no_items, item, get_item}
 use Rattle.toml.specs.View.{items_of}
 use Rattle.toml_tree.specs.Values.{integer_of, is_between, month_number, monthly_of}
-use Rattle.water_text.specs.Shapes.{has_shape}
+use Rattle.water_text.specs.Shapes.{fits_at, has_shape}
 use Rattle.water_text.proofs.MonthLaws.{read_month-month_digits, is_digit, two_digits as two_read}
 use Rattle.water_model.specs.Valid.{IsMonthly, IsValidCarry, IsValidInflow, IsValidPoint, IsValidVolume}
 use Rattle.water_model.specs.declared.types.AreaPoint.{AreaPoint}
@@ -55,18 +54,20 @@ name_ascii text h =
     (last_of (nat_le 1 (length text)) (nat_le (length text) 32) (list_all is_name_byte text) h) in
     IsAscii-from_all text (λ k d l. low (get_or text k d) (each k d l))
 
-two_ascii : (n : ℕ) → n < 100 → IsAscii (two_digits n)
-two_ascii n l =
-    IsAscii-cons (48 + n / 10) ((48 + n % 10) ∷ []) (omega arith)
-    (IsAscii-cons (48 + n % 10) [] (omega arith) IsAscii-nil)
-
-dash_ascii : (n : ℕ) → n < 100 → IsAscii (45 ∷ two_digits n)
-dash_ascii n l = IsAscii-cons 45 (two_digits n) (omega arith) (two_ascii n l)
-
-pub month_ascii : (m : Month) → IsMonth m → IsAscii (month_digits m)
-month_ascii m h =
-    IsAscii-append (decimal m.year) (45 ∷ two_digits m.month) (IsAscii-decimal m.year (omega (arith, h.year)))
-    (dash_ascii m.month (omega (arith, h.month)))
+-- a text of a shape
+shape_ascii : (shape text : List ℕ) → list_all (λ p. nat_lt p 128) shape ≡ true → has_shape shape text ≡ true →
+    IsAscii text
+unfolding has_shape
+shape_ascii [] [] l h = IsAscii-nil
+shape_ascii [] (byte ∷ text) l h = cc
+shape_ascii (p ∷ shape) [] l h = cc
+shape_ascii (p ∷ shape) (byte ∷ text) l h =
+    let ascii = and_parts (nat_lt p 128) (list_all (λ p. nat_lt p 128) shape) l in
+    let fits = and_parts (fits_at p byte) (has_shape shape text) h in
+    IsAscii-cons byte text (low_at p byte ascii.0 fits.0) (shape_ascii shape text ascii.1 fits.1)
+  where
+    low_at : (p byte : ℕ) → nat_lt p 128 ≡ true → fits_at p byte ≡ true → byte < 128
+    low_at p byte l h = grind (arith, nat_tests)
 
 -- the numbers of a date have as many digits as their texts
 pub record HasShortNumbers (d : Day) : Type 0 where
@@ -89,18 +90,6 @@ short_date d h = record { year = its.0; month = its.2; day = omega (arith, its.3
 
     most : days_in d.year d.month ≤ 31
     most = rw (days_in-days_in_month d.year d.month its.1 its.2) (days_in_month-le (pos d.year) d.month)
-
-pub day_ascii : (d : Day) → is_date d ≡ true → IsAscii (day_text d)
-unfolding day_text
-day_ascii d h =
-    let its = short_date d h in
-    IsAscii-append (two_digits (d.year / 100) ++ two_digits (d.year % 100) ++ 45 ∷ two_digits d.month)
-    (45 ∷ two_digits d.day)
-    (IsAscii-append (two_digits (d.year / 100) ++ two_digits (d.year % 100)) (45 ∷ two_digits d.month)
-    (IsAscii-append (two_digits (d.year / 100)) (two_digits (d.year % 100))
-    (two_ascii (d.year / 100) (omega (arith, its.year))) (two_ascii (d.year % 100) (omega arith)))
-    (dash_ascii d.month (omega (arith, its.month))))
-    (dash_ascii d.day (omega (arith, its.day)))
 
 pub between : (least n most : ℕ) → least ≤ n → n ≤ most → is_between least most (pos n) ≡ true
 between least n most low high = test least n most low high
@@ -200,6 +189,17 @@ carry_read River h = refl
 carry_read (Canal per_day shut) h = rw (whole_read 0 (10 ^ 9) 0 per_day (omega arith) h.0, shut_read shut h.1) refl
 
 -- texts
+pub month_shape : (m : Month) → IsMonth m → has_shape (codes "dddd-dd") (month_digits m) ≡ true
+unfolding read_month
+month_shape m h = by (has_shape (codes "dddd-dd") (month_digits m)) refl (read_month-month_digits m h)
+  where
+    by : (t : Bool) → has_shape (codes "dddd-dd") (month_digits m) ≡ t → read_month (month_digits m) ≡ Some m → t ≡ true
+    by true e read = refl
+    by false e read = (let none = rw e at read in cc)
+
+pub month_ascii : (m : Month) → IsMonth m → IsAscii (month_digits m)
+month_ascii m h = shape_ascii (codes "dddd-dd") (month_digits m) refl (month_shape m h)
+
 pub name_read : (text : List ℕ) → is_name text ≡ true → name_of text ≡ text
 name_read text h = rw h refl
 
@@ -244,6 +244,9 @@ date_shape d h =
     (d.month % 10) (d.day / 10) (d.day % 10)
     (omega (arith, its.year)) (omega arith) (omega arith) (omega arith) (omega (arith, its.month)) (omega arith)
     (omega (arith, its.day)) (omega arith)
+
+pub day_ascii : (d : Day) → is_date d ≡ true → IsAscii (day_text d)
+day_ascii d h = shape_ascii (codes "dddd-dd-dd") (day_text d) refl (date_shape d h)
 
 day_read : (d : Day) → is_date d ≡ true → read_day (day_text d) ≡ Some d
 unfolding read_day day_text

@@ -1,10 +1,10 @@
 -- What a clean document spells is sound.
-use Rattle.std.proofs.Common.{◌≡◌, ℕ, ◌+◌, ◌<◌, ◌≤◌, ◌==◌, List, [], ◌∷◌, ◌++◌, length, map, Bool}
-use Rattle.std.proofs.Common.{true, false, Option, Some, None, ap}
-use Rattle.std.proofs.Common.{slice_get, refl, sym, ◌∙◌, arith, codes, not, ◌≢◌, ◌-◌}
-use Rattle.std.proofs.Common.{take, count_by, nat_le, append_assoc, subst, All}
+use Rattle.std.proofs.Common.{◌≡◌, ℕ, ◌+◌, ◌<◌, ◌≤◌, ◌==◌, List, [], ◌∷◌, ◌++◌, length, map, Bool, true, false, Option}
+use Rattle.std.proofs.Common.{Some, None, ap, slice_get, refl, sym, ◌∙◌, arith, codes, not, ◌≢◌, ◌-◌, take, count_by}
+use Rattle.std.proofs.Common.{nat_le, append_assoc, subst, All}
 use Rattle.std.proofs.lemmas.Bool.Decides.{nat_tests}
 use Rattle.std.proofs.lemmas.List.{length-map, append-nil, map-append}
+use Rattle.std.proofs.lemmas.List.Elements.{All-append, All-map}
 use Rattle.std.proofs.lemmas.Option.{slice_get-map, slice_get_within}
 use Rattle.std.specs.Option.{option_map_or}
 use Rattle.std.proofs.lemmas.Slice.Eq.{bytes_eq-Decides}
@@ -12,9 +12,8 @@ use Rattle.std.proofs.lemmas.Bool.{eqb-true, not-false}
 use Rattle.toml.specs.Data.{Data, Members, get_member}
 use Rattle.toml_tree.specs.Values.{text_at, integer_at, text_or_empty, integer_of}
 use Rattle.water_model.specs.Basin.{node_of_reservoir}
-use Rattle.water_model.specs.Valid.{IsValidNode, IsValidLink, IsValidRight, IsValidReturn}
-use Rattle.water_model.specs.Valid.{HasValidFormat, IsValidRun, HasBoundedEntries, AreRanked}
-use Rattle.water_model.specs.Valid.{rank_of_kind, rows_of, IsAlwaysOpen}
+use Rattle.water_model.specs.Valid.{IsValidNode, IsValidLink, IsValidRight, IsValidReturn, HasValidFormat, IsValidRun}
+use Rattle.water_model.specs.Valid.{HasBoundedEntries, AreRanked, rank_of_kind, rows_of, IsAlwaysOpen}
 use Rattle.water_model.specs.declared.types.Right.{Right}
 use Rattle.basin_tree.specs.declared.tables.BasinTable.{BasinTable}
 use Rattle.basin_tree.specs.declared.tables.BasinTable.TheVariants.{Node, Link, Reservoir, Diversion, Instream, Zone}
@@ -24,25 +23,23 @@ use Rattle.basin_tree.specs.declared.tables.Space.TheVariants.{Nodes, Links, Res
 use Rattle.basin_tree.specs.Indices.{own_key, texts_in, texts_of, named_at}
 use Rattle.basin_tree.specs.Tables.{keys_of, required}
 use Rattle.basin_file.specs.Sound.{IsSoundReservoir, IsSoundBasin}
-use Rattle.basin_file.specs.Spelled.{rows_in, node_of, link_of, reservoir_of, volume_of}
-use Rattle.basin_file.specs.Spelled.{diversion_of, instream_of, zone_of, return_of, rights_of, basin_of, is_series}
+use Rattle.basin_file.specs.Spelled.{rows_in, node_of, link_of, reservoir_of, volume_of, diversion_of, instream_of}
+use Rattle.basin_file.specs.Spelled.{zone_of, return_of, rights_of, basin_of, is_series}
 use Rattle.toml_tree.specs.Texts.{texts_after, is_the_text, earlier_like}
 use Rattle.water_model.specs.declared.types.ReturnRow.{ReturnRow}
 use Rattle.water_model.proofs.Valid.{entry_at}
 use Rattle.basin_tree.specs.Entries.{Entry, items_at}
 use Rattle.basin_tree.specs.KeyFaults.{format_of, is_known}
 use Rattle.basin_tree.specs.Kinds.{has_kind}
-use Rattle.basin_file.proofs.Counts.{bounded_pass, count_taken, count_where-entries, counts_within}
-use Rattle.basin_file.proofs.Counts.{earlier_at}
-use Rattle.basin_file.proofs.Listed.{HaveOwn, map_alike, texts_listing}
-use Rattle.basin_file.proofs.Ranges.{always_open, no_text, whole_in}
-use Rattle.basin_file.proofs.Ranges.{first_valid, run_ends}
-use Rattle.basin_file.proofs.Passed.{AreClean, IsClean, IsListed, entry_of, fits_at, rest_of, top_entry, absent}
-use Rattle.basin_file.proofs.OwnNames.{refers_there, texts_in-rows}
-use Rattle.basin_file.proofs.OwnNames.{number_is, own_names, own_texts, rights_own, same_text, table_own}
-use Rattle.basin_file.proofs.Lists.{Each, each_all, each_append, each_by, each_map}
-use Rattle.basin_file.proofs.EntriesValid.{name_of_row, length_texts, clean_at}
-use Rattle.basin_file.proofs.EntriesValid.{bounded_nodes, bounded_links, bounded_diversions}
+use Rattle.basin_file.proofs.Counts.{bounded_pass, count_taken, count_where-entries, counts_within, earlier_at}
+use Rattle.basin_file.proofs.Listed.{HaveOwn, texts_listing}
+use Rattle.basin_file.proofs.Ranges.{always_open, no_text, whole_in, first_valid, run_ends}
+use Rattle.basin_file.proofs.Passed.{AreClean, IsClean, IsListed, clean_at, entry_of, fits_at, rest_of, top_entry}
+use Rattle.basin_file.proofs.Passed.{absent}
+use Rattle.basin_file.proofs.OwnNames.{refers_there, texts_in-rows, number_is, own_names, own_texts, rights_own}
+use Rattle.basin_file.proofs.OwnNames.{same_text, table_own}
+use Rattle.basin_file.proofs.Lists.{all_by, map_alike}
+use Rattle.basin_file.proofs.EntriesValid.{name_of_row, length_texts, bounded_nodes, bounded_links, bounded_diversions}
 use Rattle.basin_file.proofs.EntriesValid.{bounded_rights, some_node, bounded_node_texts, node_valid, link_valid}
 use Rattle.basin_file.proofs.EntriesValid.{reservoir_sound, diversion_valid, instream_valid, zone_valid, return_valid}
 
@@ -87,7 +84,7 @@ module _ (tree : Members) (clean : AreClean tree) where
       let ours = count_taken (return_of tree) (is_row_of right) k (rows_in tree Return) in
       let within = counts_within (λ row. is_row_of right (return_of tree row))
       (λ row. is_the_text text.0 (text_at (codes "diversion") row)) k (rows_in tree Return)
-      (each_by (λ row. is_row_of right (return_of tree row) ≡ true →
+      (all_by (λ row. is_row_of right (return_of tree row) ≡ true →
       is_the_text text.0 (text_at (codes "diversion") row) ≡ true) (rows_in tree Return)
       (λ j other at. alike j other at text.0 (rw its at text.2))) in
       let earlier : earlier_like (texts_after (codes "diversion") (items_at tree Return)) (k + 1 - 1) ≡ count_by
@@ -130,7 +127,7 @@ module _ (tree : Members) (clean : AreClean tree) where
       map (λ x. Some (name x)) (map spells (rows_in tree t)) ≡ texts_in tree t
   names t h spells name same =
       map_alike (λ x. Some (name x)) spells (text_at (own_key t)) (rows_in tree t)
-      (each_by (λ row. Some (name (spells row)) ≡ text_at (own_key t) row) (rows_in tree t)
+      (all_by (λ row. Some (name (spells row)) ≡ text_at (own_key t) row) (rows_in tree t)
       (λ k row at. same k row (clean_at tree clean t h k row at)))
       ∙ sym (texts_in-rows tree clean t h)
 
@@ -193,24 +190,22 @@ module _ (tree : Members) (clean : AreClean tree) where
           rw (texts_in-rows tree clean Reservoir tt)
           (rw (slice_get-map (text_at (codes "node")) (rows_in tree Reservoir) k) (rw there (rw text refl)))
 
-  each_valid : {X : Type 0} (P : X → Type 0) (t : BasinTable) → IsListed t → (spells : Members → X) →
+  all_valid : {X : Type 0} (P : X → Type 0) (t : BasinTable) → IsListed t → (spells : Members → X) →
       ((k : ℕ) (row : Members) → IsClean tree (entry_of t k row) → P (spells row)) →
-      Each P (map spells (rows_in tree t))
-  each_valid P t h spells valid =
-      each_map P spells (rows_in tree t)
-      (each_by (λ row. P (spells row)) (rows_in tree t)
-      (λ k row at. valid k row (clean_at tree clean t h k row at)))
+      All P (map spells (rows_in tree t))
+  all_valid P t h spells valid =
+      All-map P spells (rows_in tree t)
+      (all_by (λ row. P (spells row)) (rows_in tree t) (λ k row at. valid k row (clean_at tree clean t h k row at)))
 
   -- the same of all rights
-  each_right : (P : Right → Type 0) → ((k : ℕ) (row : Members) → IsClean tree (entry_of Diversion k row) →
+  all_rights : (P : Right → Type 0) → ((k : ℕ) (row : Members) → IsClean tree (entry_of Diversion k row) →
       P (diversion_of tree row)) →
       ((k : ℕ) (row : Members) → IsClean tree (entry_of Instream k row) → P (instream_of tree row)) →
       ((k : ℕ) (row : Members) → IsClean tree (entry_of Zone k row) → P (zone_of tree row)) →
       All P (rights_of tree)
-  each_right P d i z =
-      each_all P (rights_of tree)
-      (each_append P _ _ (each_append P _ _ (each_valid P Diversion tt (diversion_of tree) d)
-      (each_valid P Instream tt (instream_of tree) i)) (each_valid P Zone tt (zone_of tree) z))
+  all_rights P d i z =
+      All-append P _ _ (All-append P _ _ (all_valid P Diversion tt (diversion_of tree) d)
+      (all_valid P Instream tt (instream_of tree) i)) (all_valid P Zone tt (zone_of tree) z)
 
   run_valid : IsValidRun (basin_of tree)
   run_valid =
@@ -261,14 +256,13 @@ module _ (tree : Members) (clean : AreClean tree) where
     year_start = whole_in 1 12 10 (get_member (codes "year_start") tree) (omega arith) (omega arith);
     first = λ first. record {
       year_start = ap (integer_of 1 12 10) (lacks first (top_entry tree) (codes "year_start") clean.top refl);
-      open_canals = each_all (λ l. IsAlwaysOpen l.carry) _
-          (each_valid (λ l. IsAlwaysOpen l.carry) Link tt (link_of tree)
+      open_canals = all_valid (λ l. IsAlwaysOpen l.carry) Link tt (link_of tree)
           (λ k row its. always_open (get_member (codes "per_day") row) (get_member (codes "closed") row)
-          (lacks first (entry_of Link k row) (codes "closed") its refl)));
-      volumes = each_right (λ r. r.volume ≡ None)
+          (lacks first (entry_of Link k row) (codes "closed") its refl));
+      volumes = all_rights (λ r. r.volume ≡ None)
           (λ k row its. ap volume_of (lacks first (entry_of Diversion k row) (codes "volume") its refl))
           (λ k row its. refl) (λ k row its. refl);
-      no_series = each_right (λ r. r.series ≡ false)
+      no_series = all_rights (λ r. r.series ≡ false)
           (λ k row its. plain_wants Diversion k row 3 refl first its)
           (λ k row its. plain_wants Instream k row 3 refl first its)
           (λ k row its. plain_wants Zone k row 4 refl first its);
@@ -280,19 +274,13 @@ module _ (tree : Members) (clean : AreClean tree) where
     format = format_valid;
     run = run_valid;
     bounded = bounded_entries;
-    nodes = each_all _ _ (each_valid IsValidNode Node tt node_of (node_valid tree clean));
-    links =
-        each_all _ _ (each_valid (λ l. IsValidLink (basin_of tree) l) Link tt (link_of tree) (link_valid tree clean));
-    reservoirs =
-        each_all _ _
-        (each_valid (λ v. IsSoundReservoir (basin_of tree) v) Reservoir tt (reservoir_of tree)
-        (reservoir_sound tree clean));
-    rights = each_right (λ r. IsValidRight (basin_of tree) r) (diversion_valid tree clean) (instream_valid tree clean)
+    nodes = all_valid IsValidNode Node tt node_of (node_valid tree clean);
+    links = all_valid (IsValidLink (basin_of tree)) Link tt (link_of tree) (link_valid tree clean);
+    reservoirs = all_valid (IsSoundReservoir (basin_of tree)) Reservoir tt (reservoir_of tree)
+        (reservoir_sound tree clean);
+    rights = all_rights (λ r. IsValidRight (basin_of tree) r) (diversion_valid tree clean) (instream_valid tree clean)
         (zone_valid tree clean);
     ranked = ranked;
-    returns =
-        each_all _ _
-        (each_valid (λ row. IsValidReturn (basin_of tree) row) Return tt (return_of tree)
-        (return_valid tree clean));
+    returns = all_valid (IsValidReturn (basin_of tree)) Return tt (return_of tree) (return_valid tree clean);
     names = record { nodes = nodes_own; links = links_own; rights = own_rights; reservoirs = reservoirs_own };
   }

@@ -1,7 +1,6 @@
 use Rattle.std.proofs.Common.{refl}
-use Rattle.basin_file.specs.Upgraded.{basin_table}
+use Rattle.basin_file.specs.Upgraded.{basin_table, top_keys}
 use Rattle.basin_file.proofs.Fields.{put_in_order}
-use Rattle.basin_file.proofs.TableSpells.{top_keys}
 use Rattle.basin_file.proofs.upgrade.spelled.Goals as goal
 
 pub returns : goal.returns
