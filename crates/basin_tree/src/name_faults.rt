@@ -154,10 +154,8 @@ fn is_outlet_node(node: &Value) -> bool
     ensures { result ≡ option_map_or
         (λ outlet. outlet) (option_and_then as_bool (get (codes "outlet") (view node.now))) false }
 {
-    match node.get("outlet") {
-        Some(outlet) => outlet.as_bool().unwrap_or(false),
-        None => false,
-    }
+    node.get("outlet")
+        .is_some_and(|outlet| outlet.as_bool().unwrap_or(false))
 }
 
 fn is_outlet(document: &Document, at: u64) -> bool

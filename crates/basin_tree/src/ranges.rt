@@ -98,10 +98,7 @@ fn pair_in(values: &[Value]) -> bool
 fn point_in(value: &Value) -> bool
     ensures { result ≡ option_map_or pair_in (as_array (view value.now)) true }
 {
-    match items_of(value) {
-        Some(values) => pair_in(values),
-        None => true,
-    }
+    items_of(value).is_none_or(|values| pair_in(values))
 }
 
 fn all_points_in(values: &[Value]) -> bool
