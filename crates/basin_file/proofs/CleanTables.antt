@@ -68,8 +68,7 @@ use Rattle.basin_file.proofs.Counts.{before_less, count_where-entries, counts_wi
 use Rattle.basin_file.proofs.Fitting.{ArePlain, Field, clean_fields, closed_in, dated, in_field, inflow_in, month}
 use Rattle.basin_file.proofs.Fitting.{named, per_day_in, plain_fields, points, rate, refers, tables, truth, volume_in}
 use Rattle.basin_file.proofs.Fitting.{want_in, whole}
-use Rattle.basin_file.proofs.Listed.{item_listing, len_items, len_listing, rows_listing}
-use Rattle.basin_file.proofs.Lists.{all_by}
+use Rattle.basin_file.proofs.Listed.{item_listing, len_items, len_listing, rows_listing, all_by}
 use Rattle.basin_file.proofs.Passed.{IsClean, IsListed, IsTidy, entries_are, entry_of, listing, no_tree_fault}
 use Rattle.basin_file.proofs.Passed.{top_entry}
 use Rattle.basin_file.proofs.TableSpells.{IsRightIn, all_rights, diversion_named, link_at, link_named, lists}

@@ -1,10 +1,8 @@
 pub mod Fields
-pub mod Lists
 pub mod Ranges
 pub mod Passed
 pub mod OwnNames
 pub mod Counts
-pub mod EntriesValid
 pub mod Whole
 pub mod Faultless
 pub mod ReadBack

@@ -6,7 +6,7 @@ use Rattle.std.specs.Option.{option_map_or}
 use Rattle.std.specs.Str.{bytes_eq}
 use Rattle.std.proofs.lemmas.Bool.{cases_Bool}
 use Rattle.std.proofs.lemmas.Bool.Decides.{nat_tests}
-use Rattle.std.proofs.lemmas.List.Elements.{All-append, filter_passes}
+use Rattle.std.proofs.lemmas.List.Elements.{All-append, All-head, All-tail, filter_passes}
 use Rattle.std.proofs.lemmas.List.Quantifiers.{position-Some}
 use Rattle.std.proofs.lemmas.Option.{slice_get-get_or, slice_get_within}
 use Rattle.std.proofs.lemmas.Slice.Eq.{bytes_eq-Decides}
@@ -32,6 +32,19 @@ use Rattle.basin_file.specs.BasinFaults.{is_in_table}
 use Rattle.basin_file.specs.Spelled.{rows_after, small}
 use Rattle.basin_file.specs.Upgraded.{listed, rights_in}
 use Rattle.basin_file.proofs.Passed.{listing}
+
+-- what holds of the one at each index holds of each
+pub all_by : {X : Type 0} (P : X → Type 0) (xs : List X) →
+    ((k : ℕ) (x : X) → slice_get xs k ≡ Some x → P x) → All P xs
+all_by P xs f k d h = f k (get_or xs k d) (slice_get-get_or xs k d h)
+
+pub map_alike : {X Y Z : Type 0} (f : Y → Z) (g : X → Y) (h : X → Z) (xs : List X) → All (λ x. f (g x) ≡ h x) xs →
+    map f (map g xs) ≡ map h xs
+map_alike f g h [] all = refl
+map_alike {X = X} f g h (x ∷ xs) all = λ i. All-head same x xs all i ∷ map_alike f g h xs (All-tail same x xs all) i
+  where
+    same : X → Type 0
+    same x = f (g x) ≡ h x
 
 -- the items of a list at a key, and none where there is no list
 abbrev pub items_in : Option Data → Items

@@ -45,8 +45,8 @@ use Rattle.basin_file.specs.Upgraded.{return_row, right_row, rights_in, row_of_k
 use Rattle.basin_file.specs.Upgraded.{want_data}
 use Rattle.basin_file.proofs.Fields.{looked_up, value_at}
 use Rattle.basin_file.proofs.Listed.{HaveOwn, diversion_same, diversion_within, diversions_own, index_found, index_read}
-use Rattle.basin_file.proofs.Listed.{items_in, items_listed, rights_by_table, rows_listing, texts_listing}
-use Rattle.basin_file.proofs.Lists.{all_by, map_alike}
+use Rattle.basin_file.proofs.Listed.{items_in, items_listed, rights_by_table, rows_listing, texts_listing, all_by}
+use Rattle.basin_file.proofs.Listed.{map_alike}
 use Rattle.basin_file.proofs.Ranges.{series_wants}
 use Rattle.basin_file.proofs.Passed.{IsListed, listing}
 use Rattle.basin_file.proofs.ReadBack.{area_read, carry_read, date_read, first_read, inflow_read, monthly_read}

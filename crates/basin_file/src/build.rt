@@ -48,11 +48,8 @@ fn no_area(alloc: Global) -> Result<Vec<AreaPoint>, AllocError>
 fn area_at(alloc: Global, row: &Table) -> Result<Vec<AreaPoint>, AllocError>
     ensures { IfOk result (λ points. points.items ≡ area_of (get_member (codes "area") (table_view row.now))) }
 {
-    match member(row, "area") {
-        Some(value) => match items_of(value) {
-            Some(items) => points_in(alloc, items),
-            None => no_area(alloc),
-        },
+    match member(row, "area").and_then(|value| items_of(value)) {
+        Some(items) => points_in(alloc, items),
         None => no_area(alloc),
     }
 }

@@ -60,10 +60,9 @@ fn count_in_table(rights: &[Right], table: BasinTable) -> usize
 fn table_at(rights: &[Right], at: usize) -> BasinTable
     ensures { result ≡ of_entry rights.now at (λ r. table_of r.kind) BasinTable.Top }
 {
-    match rights.get(at) {
-        Some(right) => table_of(&right.kind),
-        None => BasinTable::Top,
-    }
+    rights
+        .get(at)
+        .map_or(BasinTable::Top, |right| table_of(&right.kind))
 }
 
 /// The rights up to one.

@@ -43,12 +43,10 @@ fn truth_at(row: &Table, key: &str) -> bool
 fn inflow_at(row: &Table) -> Inflow
     ensures { result ≡ inflow_of (get_member (codes "inflow") (table_view row.now)) }
 {
-    match member(row, "inflow") {
-        Some(value) => match value.as_str() {
-            Some(_) => Inflow::Gauged,
-            None => Inflow::Monthly(monthly_at(row, "inflow", MAX_AMOUNT)),
-        },
-        None => Inflow::Monthly(monthly_at(row, "inflow", MAX_AMOUNT)),
+    if member(row, "inflow").is_some_and(|value| value.is_str()) {
+        Inflow::Gauged
+    } else {
+        Inflow::Monthly(monthly_at(row, "inflow", MAX_AMOUNT))
     }
 }
 

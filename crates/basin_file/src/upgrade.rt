@@ -456,24 +456,6 @@ fn put_rights(
     put_list(alloc, top, key, rights_of(alloc, basin, which)?)
 }
 
-/// Adds the keys of the whole table that come last in its order.
-fn put_last(alloc: Global, top: &mut Table, basin: &Basin) -> Result<(), AllocError>
-    requires { IsValidBasin basin.now }
-    ensures { OnOk result
-        (table_view top.new ≡ with_option (codes "reservoir") (listed (reservoir_row basin.now) basin.now.reservoirs)
-        (with_option (codes "return") (listed (return_row basin.now) basin.now.returns)
-        (with_member (codes "year_start") (number basin.now.year_start)
-        (with_option (codes "zone") (listed (right_row basin.now) (rights_in BasinTable.Zone basin.now.rights))
-        (table_view top.old))))) }
-{
-    put_rights(alloc, top, "zone", basin, BasinTable::Zone)?;
-    put_number(alloc, top, "year_start", u64::from(basin.year_start))?;
-    let returns = basin.returns.as_slice();
-    put_rows::<ReturnRow, ReturnWriter>(alloc, top, "return", basin, returns)?;
-    let reservoirs = basin.reservoirs.as_slice();
-    put_rows::<Reservoir, ReservoirWriter>(alloc, top, "reservoir", basin, reservoirs)
-}
-
 /// The table of format 2 that stands for a basin: every key with its value, monthly values as lists of twelve. What a
 /// river, a canal that is never shut and a right without a volume don't have is left out, and so is an empty list.
 ///
@@ -483,7 +465,12 @@ pub fn spelled(alloc: Global, basin: &Basin) -> Result<Table, AllocError>
     ensures { IfOk result (λ made. table_view made ≡ basin_table basin.now) }
 {
     let mut top = Table::new(alloc);
-    put_last(alloc, &mut top, basin)?;
+    put_rights(alloc, &mut top, "zone", basin, BasinTable::Zone)?;
+    put_number(alloc, &mut top, "year_start", u64::from(basin.year_start))?;
+    let returns = basin.returns.as_slice();
+    put_rows::<ReturnRow, ReturnWriter>(alloc, &mut top, "return", basin, returns)?;
+    let reservoirs = basin.reservoirs.as_slice();
+    put_rows::<Reservoir, ReservoirWriter>(alloc, &mut top, "reservoir", basin, reservoirs)?;
     let nodes = basin.nodes.as_slice();
     put_rows::<Node, NodeWriter>(alloc, &mut top, "node", basin, nodes)?;
     put_number(alloc, &mut top, "months", u64::from(basin.months))?;
