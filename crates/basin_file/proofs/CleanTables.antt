@@ -1,10 +1,10 @@
 -- The table of a valid basin has no fault: its rows are fields that fit, each of its entries is clean, and it can be
 -- printed and read back.
+use Rattle.std.proofs.lemmas.Bool.{and_right, le-leb, lt-leb, eq-eqb, le-ltb}
 use Rattle.std.proofs.Common.{◌≡◌, ℕ, suc, ◌+◌, ◌-◌, ◌*◌, ◌/◌, ◌^◌, ◌<◌, ◌≤◌, ◌∙◌, Bool, true, false, not, ◌&&◌, ◌==◌}
 use Rattle.std.proofs.Common.{nat_le, nat_lt, ap, sym, subst, refl, arith, List, [], ◌∷◌, ◌++◌, length, length-append}
 use Rattle.std.proofs.Common.{All, map, take, slice_get, count_by, is_none, is_some, codes}
 use Rattle.std.specs.Prelude.{Option, Some, None, option_map, option_and_then, unwrap_or, if◌then◌else◌}
-use Rattle.std.proofs.lemmas.Bool.{eq-eqb, le-ltb}
 use Rattle.std.proofs.lemmas.List.{length-map}
 use Rattle.std.proofs.lemmas.List.Elements.{All-head, All-tail}
 use Rattle.std.proofs.lemmas.Bool.Decides.{nat_tests}
@@ -243,13 +243,9 @@ module _ (b : Basin) (valid : IsValidBasin b) where
       (text_there (codes "name") (link_row b l) l.name (link_at b l (codes "name")))
       (named_there tree Links (λ l. l.name) b.links k l at (link_named b valid k within)) (omega arith)) refl
     where
-      and_false : (t : Bool) → (t && false) ≡ false
-      and_false true = refl
-      and_false false = refl
-
       canal : (c : Carry) → (is_some (closed_data c) && not (is_some (per_day_data c))) ≡ false
       canal River = refl
-      canal (Canal per_day shut) = and_false (is_some (closed_data (Canal per_day shut)))
+      canal (Canal per_day shut) = and_right (is_some (closed_data (Canal per_day shut))) false refl
 
   outlet_same : (at : ℕ) → is_outlet_at tree at ≡ is_outlet b at
   outlet_same at =
@@ -347,7 +343,7 @@ module _ (b : Basin) (valid : IsValidBasin b) where
       (record { rising = refl; known = refl; found = refl }) refl refl refl
       (ap (λ (ts : List (Option (List ℕ))). nat_le 8 (earlier_like ts (k + 1 - 1))) (return_texts b valid)
       ∙ (ap (nat_le 8) (earlier_at text b.returns (k + 1 - 1) k row (right_name b row.right) (omega arith) at refl)
-      ∙ below _ less)) refl refl
+      ∙ lt-leb 8 _ less)) refl refl
     where
       h : IsValidReturn b row
       h = all_at (IsValidReturn b) b.returns k row valid.returns at
@@ -372,9 +368,6 @@ module _ (b : Basin) (valid : IsValidBasin b) where
           (valid.bounded.rows row.right h.right) in
           omega arith
 
-      below : (m : ℕ) → m < 8 → nat_le 8 m ≡ false
-      below m l = grind (arith, nat_tests)
-
   top_clean : IsClean tree (top_entry tree)
   unfolding basin_table
   top_clean =
@@ -394,12 +387,9 @@ module _ (b : Basin) (valid : IsValidBasin b) where
           y + (m - 1 + (months - 1)) / 12 ≤ 2999
       ends y m months first some h = omega arith
 
-      is_within : (n : ℕ) → n ≤ 2999 → nat_le n 2999 ≡ true
-      is_within n l = grind (arith, nat_tests)
-
       in_time : is_none (month_within b.first (b.months - 1)) ≡ false
       in_time =
-          rw (is_within (month_after b.first (b.months - 1)).year
+          rw (le-leb (month_after b.first (b.months - 1)).year 2999
           (ends b.first.year b.first.month b.months valid.run.first.month.0 valid.run.months.0 valid.run.ends)) refl
 
       late : runs_late which.Top (basin_table b) ≡ false

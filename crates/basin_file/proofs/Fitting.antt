@@ -1,8 +1,8 @@
 -- Keys with values that fit them, and entries whose rows are such keys: the fields of format 2.
-use Rattle.std.proofs.Common.{◌≡◌, ℕ, ◌+◌, ◌*◌, ◌^◌, ◌≤◌, ◌∙◌, Bool, true, false, not, ◌&&◌, ap, sym, subst, refl}
-use Rattle.std.proofs.Common.{arith, List, [], ◌∷◌, length, map, is_some, codes, All, nat_cmp, get_or}
+use Rattle.std.proofs.lemmas.Bool.{and_right, and_from, and_parts, or_from}
+use Rattle.std.proofs.Common.{◌≡◌, ℕ, ◌+◌, ◌*◌, ◌^◌, ◌≤◌, ◌∙◌, Bool, true, false, not, ap, sym, subst, refl, arith}
+use Rattle.std.proofs.Common.{List, [], ◌∷◌, length, map, is_some, codes, All, nat_cmp, get_or}
 use Rattle.std.specs.Prelude.{Option, Some, None, option_map, if◌then◌else◌}
-use Rattle.std.proofs.lemmas.Bool.{and_from, and_parts, or_from}
 use Rattle.std.proofs.lemmas.List.Elements.{All-cons, All-head, All-nil, All-tail}
 use Rattle.std.specs.Cmp.Lexicographic.{slice_cmp}
 use Rattle.std.specs.List.{list_all}
@@ -43,7 +43,7 @@ use Rattle.basin_file.specs.Upgraded.{point_data, row_of, shut_months, some_item
 use Rattle.basin_file.proofs.Fields.{ascend, looked_up, value_at}
 use Rattle.basin_file.proofs.Listed.{len_items}
 use Rattle.basin_file.proofs.Passed.{Fits, IsClean, clean_by}
-use Rattle.basin_file.proofs.ReadBack.{between, date_shape, month_shape}
+use Rattle.basin_file.proofs.Values.{between, date_shape, month_shape}
 
 -- data that is shallow, with no date of TOML that can't be printed
 pub record IsPlain (n : ℕ) (d : Data) : Type 0 where
@@ -126,11 +126,8 @@ module _ (tree : Members) where
   pub fits_by : (key : KeyRow) (d : Data) → has_kind 2 key.kind d ≡ true → in_range key.kind d ≡ true →
       is_bad_name key.kind d ≡ false → names_none tree key.kind d ≡ false → Fits 2 tree key (Some d)
   fits_by key d p q r s =
-      record { present = and_false key.is_required; kinds = ap not p; ranges = ap not q; names = r; refers = s }
-    where
-      and_false : (t : Bool) → (t && false) ≡ false
-      and_false true = refl
-      and_false false = refl
+      let present = and_right key.is_required false refl in
+      record { present = present; kinds = ap not p; ranges = ap not q; names = r; refers = s }
 
   abbrev field : {n : ℕ} (key : KeyRow) (d : Data) → has_kind 2 key.kind d ≡ true → in_range key.kind d ≡ true →
       is_bad_name key.kind d ≡ false → names_none tree key.kind d ≡ false → IsPlain n d → Field tree n

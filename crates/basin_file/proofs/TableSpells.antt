@@ -47,10 +47,9 @@ use Rattle.basin_file.proofs.Fields.{looked_up, value_at}
 use Rattle.basin_file.proofs.Listed.{HaveOwn, diversion_same, diversion_within, diversions_own, index_found, index_read}
 use Rattle.basin_file.proofs.Listed.{items_in, items_listed, rights_by_table, rows_listing, texts_listing, all_by}
 use Rattle.basin_file.proofs.Listed.{map_alike}
-use Rattle.basin_file.proofs.Ranges.{series_wants}
+use Rattle.basin_file.proofs.Values.{series_wants, area_read, carry_read, date_read, first_read, inflow_read}
+use Rattle.basin_file.proofs.Values.{monthly_read, name_read, volume_read, whole_read}
 use Rattle.basin_file.proofs.Passed.{IsListed, listing}
-use Rattle.basin_file.proofs.ReadBack.{area_read, carry_read, date_read, first_read, inflow_read, monthly_read}
-use Rattle.basin_file.proofs.ReadBack.{name_read, volume_read, whole_read}
 
 -- the values at the keys of the whole table, of a link and of a diversion, some of which may lack their values
 pub top_at : (b : Basin) (key : List ℕ) → get_member key (basin_table b) ≡ value_at key (top_keys b)

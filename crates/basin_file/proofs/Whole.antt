@@ -1,8 +1,9 @@
 -- What a clean document spells is sound: each entry is valid, and so are all together.
+use Rattle.std.proofs.lemmas.Bool.{leb-false, eqb-true, not-false}
 use Rattle.std.proofs.Common.{◌≡◌, ℕ, zero, suc, ◌+◌, ◌*◌, ◌^◌, ◌<◌, ◌≤◌, ◌==◌, List, [], ◌∷◌, ◌++◌, length, map, Bool}
 use Rattle.std.proofs.Common.{nat_lt, true, false, Option, Some, None, option_map, option_and_then, ap, unwrap_or}
 use Rattle.std.proofs.Common.{is_some, slice_get, refl, sym, ◌∙◌, arith, codes, length-append, zero-add, not, IsTrue}
-use Rattle.std.proofs.Common.{◌≢◌, ◌-◌, take, count_by, nat_le, append_assoc, subst, All}
+use Rattle.std.proofs.Common.{◌≢◌, ◌-◌, take, count_by, append_assoc, subst, All}
 use Rattle.std.proofs.lemmas.Bool.Decides.{nat_tests}
 use Rattle.std.proofs.lemmas.List.{length-map, append-nil, map-append, take_all}
 use Rattle.std.proofs.lemmas.Option.{slice_get-map, slice_get_within}
@@ -35,16 +36,15 @@ use Rattle.basin_file.specs.Spelled.{name_at, rows_in, number_at, node_of, link_
 use Rattle.basin_file.specs.Spelled.{diversion_of, instream_of, zone_of, return_of, rights_of, basin_of, is_series}
 use Rattle.basin_file.proofs.Counts.{bounded_by, bounded_pass, count_taken, count_where-entries, counts_within}
 use Rattle.basin_file.proofs.Counts.{earlier_at}
-use Rattle.basin_file.proofs.Listed.{item_listing, HaveOwn, texts_listing, all_by, map_alike}
-use Rattle.basin_file.proofs.Ranges.{series_wants, whole_in, volume_valid, monthly_in, points_valid, bounded_points}
-use Rattle.basin_file.proofs.Ranges.{inflow_valid, carry_valid, always_open, no_text, first_valid, run_ends}
+use Rattle.basin_file.proofs.Listed.{item_listing, HaveOwn, texts_listing, all_by, map_alike, name_there, refers_there}
+use Rattle.basin_file.proofs.Listed.{texts_in-rows, length-rows_in, number_within, number_is, own_names, own_texts}
+use Rattle.basin_file.proofs.Listed.{rights_own, same_text, table_own}
+use Rattle.basin_file.proofs.Values.{series_wants, whole_in, volume_valid, monthly_in, points_valid, bounded_points}
+use Rattle.basin_file.proofs.Values.{inflow_valid, carry_valid, always_open, no_text, first_valid, run_ends}
 use Rattle.basin_file.proofs.Passed.{AreClean, Fits, IsClean, IsListed, IsRest, clean_at, entry_of, fits_at, rest_of}
 use Rattle.basin_file.proofs.Passed.{top_entry, absent}
-use Rattle.basin_file.proofs.OwnNames.{name_there, refers_there, texts_in-rows, length-rows_in, number_within}
-use Rattle.basin_file.proofs.OwnNames.{number_is, own_names, own_texts, rights_own, same_text, table_own}
 use Rattle.std.proofs.lemmas.List.Elements.{All-append, All-map}
 use Rattle.std.proofs.lemmas.Slice.Eq.{bytes_eq-Decides}
-use Rattle.std.proofs.lemmas.Bool.{eqb-true, not-false}
 use Rattle.toml_tree.specs.Texts.{texts_after, is_the_text, earlier_like}
 use Rattle.water_model.specs.declared.types.ReturnRow.{ReturnRow}
 use Rattle.water_model.proofs.Valid.{entry_at}
@@ -120,14 +120,9 @@ module _ (tree : Members) (clean : AreClean tree) where
       (some_items (get_member (codes "node") tree) (fits_at tree (top_entry tree) clean.top 3 _ refl)
       (rest_of tree (top_entry tree) clean.top).nodes)
 
-  node_texts : length (texts_of tree Nodes) ≡ length (basin_of tree).nodes
-  node_texts = length_texts Node tt ∙ sym (length-map (rows_in tree Node) node_of)
-
-  link_texts : length (texts_of tree Links) ≡ length (basin_of tree).links
-  link_texts = length_texts Link tt ∙ sym (length-map (rows_in tree Link) (link_of tree))
-
-  reservoir_texts : length (texts_of tree Reservoirs) ≡ length (basin_of tree).reservoirs
-  reservoir_texts = length_texts Reservoir tt ∙ sym (length-map (rows_in tree Reservoir) (reservoir_of tree))
+  counted : {X : Type 0} (t : BasinTable) → IsListed t → (spells : Members → X) →
+      length (texts_in tree t) ≡ length (map spells (rows_in tree t))
+  counted t h spells = length_texts t h ∙ sym (length-map (rows_in tree t) spells)
 
   bounded_node_texts : length (texts_of tree Nodes) ≤ 4000
   bounded_node_texts = let same = length_texts Node tt in let bounded = bounded_nodes in omega arith
@@ -186,8 +181,8 @@ module _ (tree : Members) (clean : AreClean tree) where
   link_valid k row its = record {
     name = (name_of_row Link k row its refl).1;
     ends = record {
-      from = number Link k row its 1 (codes "from") Nodes _ refl node_texts;
-      to = number Link k row its 2 (codes "to") Nodes _ refl node_texts;
+      from = number Link k row its 1 (codes "from") Nodes _ refl (counted Node tt node_of);
+      to = number Link k row its 2 (codes "to") Nodes _ refl (counted Node tt node_of);
     };
     carry = carry_valid (get_member (codes "per_day") row) (get_member (codes "closed") row);
   }
@@ -195,7 +190,7 @@ module _ (tree : Members) (clean : AreClean tree) where
   reservoir_sound : (k : ℕ) (row : Members) → IsClean tree (entry_of Reservoir k row) →
       IsSoundReservoir (basin_of tree) (reservoir_of tree row)
   reservoir_sound k row its = record {
-    node = number Reservoir k row its 0 (codes "node") Nodes _ refl node_texts;
+    node = number Reservoir k row its 0 (codes "node") Nodes _ refl (counted Node tt node_of);
     inner =
         (let there = refers_there tree Reservoir k row 0 (codes "node") Nodes refl its in
         let named = number_is (codes "node") row there bounded_node_texts in
@@ -227,14 +222,14 @@ module _ (tree : Members) (clean : AreClean tree) where
   diversion_valid k row its =
       let value = get_member (codes "volume") row in
       right_valid Diversion k row (kind.Diversion (number_at tree Nodes (codes "node") row)) (volume_of value) its refl
-      (number Diversion k row its 1 (codes "node") Nodes _ refl node_texts)
+      (number Diversion k row its 1 (codes "node") Nodes _ refl (counted Node tt node_of))
       (volume_valid (kind.Diversion (number_at tree Nodes (codes "node") row)) refl value)
 
   instream_valid : (k : ℕ) (row : Members) → IsClean tree (entry_of Instream k row) →
       IsValidRight (basin_of tree) (instream_of tree row)
   instream_valid k row its =
       right_valid Instream k row (kind.Instream (number_at tree Links (codes "link") row)) None its refl
-      (number Instream k row its 1 (codes "link") Links _ refl link_texts) tt
+      (number Instream k row its 1 (codes "link") Links _ refl (counted Link tt (link_of tree))) tt
 
   zone_valid : (k : ℕ) (row : Members) → IsClean tree (entry_of Zone k row) →
       IsValidRight (basin_of tree) (zone_of tree row)
@@ -242,7 +237,7 @@ module _ (tree : Members) (clean : AreClean tree) where
       let level = whole_in 1 16 1 (get_member (codes "level") row) (omega arith) (omega arith) in
       right_valid Zone k row (kind.Zone (number_at tree Reservoirs (codes "reservoir") row)
       (integer_at (codes "level") 1 16 1 row)) None its refl
-      (number Zone k row its 1 (codes "reservoir") Reservoirs _ refl reservoir_texts, level.0, level.1) tt
+      (number Zone k row its 1 (codes "reservoir") Reservoirs _ refl (counted Reservoir tt (reservoir_of tree)), level.0, level.1) tt
 
   own_diversion : (k : ℕ) (row : Members) → IsClean tree (entry_of Return k row) →
       number_at tree Diversions (codes "diversion") row < length (rows_in tree Diversion)
@@ -257,7 +252,7 @@ module _ (tree : Members) (clean : AreClean tree) where
         let same = length-map (rows_in tree Diversion) (diversion_of tree) in
         rw (length-append, length-append) (omega arith));
     diversion = prefix_diversion (rows_in tree Diversion) _ _ _ (own_diversion k row its);
-    node = number Return k row its 1 (codes "node") Nodes _ refl node_texts;
+    node = number Return k row its 1 (codes "node") Nodes _ refl (counted Node tt node_of);
     part = whole_in 1 10000 1 (get_member (codes "part") row) (omega arith) (omega arith);
     lag = whole_in 1 120 1 (get_member (codes "lag") row) (omega arith) (omega arith);
   }
@@ -300,7 +295,7 @@ module _ (tree : Members) (clean : AreClean tree) where
       ap (λ ts. earlier_like ts (k + 1 - 1)) texts
       ∙ earlier_at (text_at (codes "diversion")) (rows_in tree Return) (k + 1 - 1) k row.0 text.0 (omega arith) row.1
       text.1 in
-      let few = below (earlier_like (texts_after (codes "diversion") (items_at tree Return)) (k + 1 - 1))
+      let few = leb-false 8 (earlier_like (texts_after (codes "diversion") (items_at tree Return)) (k + 1 - 1))
       (rest_of tree (entry_of Return k row.0) (clean_at tree clean Return tt k row.0 row.1)).many in
       omega arith
     where
@@ -317,9 +312,6 @@ module _ (tree : Members) (clean : AreClean tree) where
           ≡ map (text_at (codes "diversion")) (rows_in tree Return)
       texts = ap (texts_after (codes "diversion")) (clean.tidy Return tt).lists
           ∙ texts_listing (codes "diversion") (rows_in tree Return)
-
-      below : (n : ℕ) → nat_le 8 n ≡ false → n < 8
-      below n e = grind (arith, nat_tests)
 
   bounded_rows : (right : ℕ) → rows_of (basin_of tree) right ≤ 8
   bounded_rows right =

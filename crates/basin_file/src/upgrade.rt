@@ -8,7 +8,7 @@ ghost use Rattle.toml_tree.specs.Document.{document_of};
 ghost use Rattle.water_text.specs.Days.{is_date};
 ghost use Rattle.water_text.specs.Months.{IsMonth, month_digits};
 ghost use Rattle.water_text.specs.Names.{is_name};
-ghost use Rattle.water_model.specs.Basin.{node_name, link_name, right_name, reservoir_name};
+ghost use Rattle.water_model.specs.Basin.{node_name};
 ghost use Rattle.water_model.specs.Valid.{IsValidBasin, IsValidInflow, IsValidNode, IsValidLink, IsValidReservoir};
 ghost use Rattle.water_model.specs.Valid.{IsValidPoint, IsValidRight, IsValidReturn, IsMonthly};
 ghost use Rattle.water_model.specs.declared.types.Basin.{Basin};
@@ -51,6 +51,7 @@ fn put_text(alloc: Global, row: &mut Table, key: &str, text: &[u8]) -> Result<()
 }
 
 /// Adds a name.
+#[tactic(auto, using(crate::proofs::Values::name_ascii))]
 fn put_name(alloc: Global, row: &mut Table, key: &str, name: &[u8]) -> Result<(), AllocError>
     requires { is_name name.now ≡ true }
     ensures { OnOk result (table_view row.new ≡ with_member key.now (string name.now) (table_view row.old)) }
@@ -66,36 +67,6 @@ fn node_name(basin: &Basin, node: u32) -> &[u8]
     ensures name { is_name result.now ≡ true }
 {
     basin.nodes[node as usize].name.bytes()
-}
-
-/// The name of a link.
-fn link_name(basin: &Basin, link: u32) -> &[u8]
-    requires basin { IsValidBasin basin.now }
-    requires link { link < length basin.now.links }
-    ensures value { result.now ≡ link_name basin.now link }
-    ensures name { is_name result.now ≡ true }
-{
-    basin.links[link as usize].name.bytes()
-}
-
-/// The name of a right.
-fn right_name(basin: &Basin, right: u32) -> &[u8]
-    requires basin { IsValidBasin basin.now }
-    requires right { right < length basin.now.rights }
-    ensures value { result.now ≡ right_name basin.now right }
-    ensures name { is_name result.now ≡ true }
-{
-    basin.rights[right as usize].name.bytes()
-}
-
-/// The name of a reservoir, which is its node's.
-fn reservoir_name(basin: &Basin, reservoir: u32) -> &[u8]
-    requires basin { IsValidBasin basin.now }
-    requires reservoir { reservoir < length basin.now.reservoirs }
-    ensures value { result.now ≡ reservoir_name basin.now reservoir }
-    ensures name { is_name result.now ≡ true }
-{
-    node_name(basin, basin.reservoirs[reservoir as usize].node)
 }
 
 fn number(n: u64) -> Value
@@ -275,15 +246,12 @@ fn right_row(alloc: Global, basin: &Basin, right: &Right) -> Result<Table, Alloc
             put_volume(alloc, &mut row, right.volume)?;
         }
         RightKind::Instream { link } => {
-            put_name(alloc, &mut row, "link", link_name(basin, link))?;
+            let name = basin.links[link as usize].name.bytes();
+            put_name(alloc, &mut row, "link", name)?;
         }
         RightKind::Zone { reservoir, level } => {
-            put_name(
-                alloc,
-                &mut row,
-                "reservoir",
-                reservoir_name(basin, reservoir),
-            )?;
+            let node = basin.reservoirs[reservoir as usize].node;
+            put_name(alloc, &mut row, "reservoir", node_name(basin, node))?;
             put_number(alloc, &mut row, "level", u64::from(level))?;
         }
     }
@@ -381,7 +349,7 @@ impl RowWriter<ReturnRow> for ReturnWriter {
 
     fn write(alloc: Global, basin: &Basin, entry: &ReturnRow) -> Result<Table, AllocError> {
         let mut row = Table::new(alloc);
-        let right = right_name(basin, entry.right);
+        let right = basin.rights[entry.right as usize].name.bytes();
         put_name(alloc, &mut row, "diversion", right)?;
         put_name(alloc, &mut row, "node", node_name(basin, entry.node))?;
         put_number(alloc, &mut row, "part", u64::from(entry.part))?;
