@@ -3,10 +3,10 @@ use Rattle.std.proofs.lemmas.Bool.{leb-false, eqb-true, not-false}
 use Rattle.std.proofs.Common.{◌≡◌, ℕ, zero, suc, ◌+◌, ◌*◌, ◌^◌, ◌<◌, ◌≤◌, ◌==◌, List, [], ◌∷◌, ◌++◌, length, map, Bool}
 use Rattle.std.proofs.Common.{nat_lt, true, false, Option, Some, None, option_map, option_and_then, ap, unwrap_or}
 use Rattle.std.proofs.Common.{is_some, slice_get, refl, sym, ◌∙◌, arith, codes, length-append, zero-add, not, IsTrue}
-use Rattle.std.proofs.Common.{◌≢◌, ◌-◌, take, count_by, append_assoc, subst, All}
+use Rattle.std.proofs.Common.{◌≢◌, ◌-◌, take, count_by, append_assoc, All}
 use Rattle.std.proofs.lemmas.Bool.Decides.{nat_tests}
 use Rattle.std.proofs.lemmas.List.{length-map, append-nil, map-append, take_all}
-use Rattle.std.proofs.lemmas.Option.{slice_get-map, slice_get_within}
+use Rattle.std.proofs.lemmas.Option.{slice_get-map}
 use Rattle.std.specs.Option.{option_map_or}
 use Rattle.toml.specs.Data.{Data, Items, Members, get, get_item, get_member, as_array, as_bool, as_table, no_items}
 use Rattle.toml.specs.Data.{table}
@@ -235,9 +235,10 @@ module _ (tree : Members) (clean : AreClean tree) where
       IsValidRight (basin_of tree) (zone_of tree row)
   zone_valid k row its =
       let level = whole_in 1 16 1 (get_member (codes "level") row) (omega arith) (omega arith) in
+      let count = counted Reservoir tt (reservoir_of tree) in
+      let at = number Zone k row its 1 (codes "reservoir") Reservoirs _ refl count in
       right_valid Zone k row (kind.Zone (number_at tree Reservoirs (codes "reservoir") row)
-      (integer_at (codes "level") 1 16 1 row)) None its refl
-      (number Zone k row its 1 (codes "reservoir") Reservoirs _ refl (counted Reservoir tt (reservoir_of tree)), level.0, level.1) tt
+      (integer_at (codes "level") 1 16 1 row)) None its refl (at, level.0, level.1) tt
 
   own_diversion : (k : ℕ) (row : Members) → IsClean tree (entry_of Return k row) →
       number_at tree Diversions (codes "diversion") row < length (rows_in tree Diversion)
@@ -267,41 +268,36 @@ module _ (tree : Members) (clean : AreClean tree) where
       let bounded = bounded_diversions in
       (there.q, there.text_is, number_is (codes "diversion") row there (omega arith))
 
-  abbrev is_row_of : ℕ → ReturnRow → Bool
-  is_row_of right row = row.right == right
+  abbrev is_of : ℕ → ReturnRow → Bool
+  is_of right entry = entry.right == right
+
+  abbrev is_row_of : ℕ → Members → Bool
+  is_row_of right row = is_of right (return_of tree row)
+
+  abbrev names_it : List ℕ → Members → Bool
+  names_it q row = is_the_text q (text_at (codes "diversion") row)
 
   -- fewer than 8 rows of its diversion stand before a row
-  bounded_before : (right k : ℕ) (entry : ReturnRow) →
-      slice_get (map (return_of tree) (rows_in tree Return)) k ≡ Some entry → is_row_of right entry ≡ true →
-      count_by (is_row_of right) (take k (map (return_of tree) (rows_in tree Return))) < 8
-  bounded_before right k entry there is_row =
-      let len = length-map (rows_in tree Return) (return_of tree) in
-      let row = entry_at (rows_in tree Return) k (let h =
-      slice_get_within (map (return_of tree) (rows_in tree Return)) k entry there in omega arith) in
-      let text = right_is k row.0 (clean_at tree clean Return tt k row.0 row.1) in
-      let spelled : Some (return_of tree row.0) ≡ Some entry =
-      (rw (slice_get-map (return_of tree) (rows_in tree Return) k, row.1) at there) in
-      let its : (return_of tree row.0).right ≡ right =
-      eqb-true (return_of tree row.0).right right (let same : return_of tree row.0 ≡ entry = cc in
-      subst (λ (r : ReturnRow). is_row_of right r ≡ true) (sym same) is_row) in
-      let ours = count_taken (return_of tree) (is_row_of right) k (rows_in tree Return) in
-      let within = counts_within (λ row. is_row_of right (return_of tree row))
-      (λ row. is_the_text text.0 (text_at (codes "diversion") row)) k (rows_in tree Return)
-      (all_by (λ row. is_row_of right (return_of tree row) ≡ true →
-      is_the_text text.0 (text_at (codes "diversion") row) ≡ true) (rows_in tree Return)
-      (λ j other at. alike j other at text.0 (rw its at text.2))) in
-      let earlier : earlier_like (texts_after (codes "diversion") (items_at tree Return)) (k + 1 - 1) ≡ count_by
-      (λ row. is_the_text text.0 (text_at (codes "diversion") row)) (take k (rows_in tree Return)) =
+  bounded_before : (right k : ℕ) (row : Members) → slice_get (rows_in tree Return) k ≡ Some row →
+      is_row_of right row ≡ true → count_by (is_row_of right) (take k (rows_in tree Return)) < 8
+  bounded_before right k row at is_row =
+      let its = clean_at tree clean Return tt k row at in
+      let text = right_is k row its in
+      let same : (return_of tree row).right ≡ right = eqb-true (return_of tree row).right right is_row in
+      let within = counts_within (is_row_of right) (names_it text.0) k (rows_in tree Return)
+      (all_by (λ other. is_row_of right other ≡ true → names_it text.0 other ≡ true) (rows_in tree Return)
+      (λ j other there. alike j other there text.0 (rw same at text.2))) in
+      let earlier : earlier_like (texts_after (codes "diversion") (items_at tree Return)) (k + 1 - 1)
+      ≡ count_by (names_it text.0) (take k (rows_in tree Return)) =
       ap (λ ts. earlier_like ts (k + 1 - 1)) texts
-      ∙ earlier_at (text_at (codes "diversion")) (rows_in tree Return) (k + 1 - 1) k row.0 text.0 (omega arith) row.1
-      text.1 in
+      ∙ earlier_at (text_at (codes "diversion")) (rows_in tree Return) (k + 1 - 1) k row text.0 (omega arith) at text.1
+      in
       let few = leb-false 8 (earlier_like (texts_after (codes "diversion") (items_at tree Return)) (k + 1 - 1))
-      (rest_of tree (entry_of Return k row.0) (clean_at tree clean Return tt k row.0 row.1)).many in
+      (rest_of tree (entry_of Return k row) its).many in
       omega arith
     where
       alike : (j : ℕ) (other : Members) → slice_get (rows_in tree Return) j ≡ Some other → (q : List ℕ) →
-          named_at tree Diversions q ≡ Some right →
-          is_row_of right (return_of tree other) ≡ true → is_the_text q (text_at (codes "diversion") other) ≡ true
+          named_at tree Diversions q ≡ Some right → is_row_of right other ≡ true → names_it q other ≡ true
       alike j other at q named is_row =
           let text = right_is j other (clean_at tree clean Return tt j other at) in
           let its : (return_of tree other).right ≡ right = eqb-true (return_of tree other).right right is_row in
@@ -315,10 +311,12 @@ module _ (tree : Members) (clean : AreClean tree) where
 
   bounded_rows : (right : ℕ) → rows_of (basin_of tree) right ≤ 8
   bounded_rows right =
-      let entries = map (return_of tree) (rows_in tree Return) in
-      let h = bounded_pass (is_row_of right) 8 entries (bounded_before right) (length entries) (omega arith) in
-      let all = ap (count_by (is_row_of right)) (take_all (length entries) entries (omega arith)) in
-      rw (count_where-entries (is_row_of right) (map (return_of tree) (rows_in tree Return))) (omega arith)
+      let rows = rows_in tree Return in
+      let few = bounded_pass (is_row_of right) 8 rows (bounded_before right) (length rows) (omega arith) in
+      let same = count_taken (return_of tree) (is_of right) (length rows) rows in
+      let all = ap (count_by (is_of right)) (take_all (length rows) (map (return_of tree) rows)
+      (omega (arith, length-map rows (return_of tree)))) in
+      rw (count_where-entries (is_of right) (map (return_of tree) rows)) (omega arith)
 
   -- the names of what a table's rows spell are their texts
   names : {X : Type 0} (t : BasinTable) (h : IsListed t) (spells : Members → X) (name : X → List ℕ) →
