@@ -1,11 +1,12 @@
 -- The table of a valid basin has no fault: its rows are fields that fit, each of its entries is clean, and it can be
 -- printed and read back.
+use Rattle.std.proofs.lemmas.Bool.{and_right, le-leb, lt-leb, eq-eqb, le-ltb}
 use Rattle.std.proofs.Common.{◌≡◌, ℕ, suc, ◌+◌, ◌-◌, ◌*◌, ◌/◌, ◌^◌, ◌<◌, ◌≤◌, ◌∙◌, Bool, true, false, not, ◌&&◌, ◌==◌}
 use Rattle.std.proofs.Common.{nat_le, nat_lt, ap, sym, subst, refl, arith, List, [], ◌∷◌, ◌++◌, length, length-append}
-use Rattle.std.proofs.Common.{map, take, slice_get, count_by, is_none, is_some, codes}
+use Rattle.std.proofs.Common.{All, map, take, slice_get, count_by, is_none, is_some, codes}
 use Rattle.std.specs.Prelude.{Option, Some, None, option_map, option_and_then, unwrap_or, if◌then◌else◌}
-use Rattle.std.proofs.lemmas.Bool.{eq-eqb, le-ltb}
 use Rattle.std.proofs.lemmas.List.{length-map}
+use Rattle.std.proofs.lemmas.List.Elements.{All-head, All-tail}
 use Rattle.std.proofs.lemmas.Bool.Decides.{nat_tests}
 use Rattle.std.proofs.lemmas.Option.{slice_get-map, slice_get_within}
 use Rattle.std.proofs.lemmas.Slice.Eq.{bytes_eq-Decides}
@@ -50,14 +51,14 @@ use Rattle.basin_tree.specs.declared.tables.Kind.TheVariants.{CalendarMonths, In
 use Rattle.basin_tree.specs.declared.tables.Space.{Space}
 use Rattle.basin_tree.specs.declared.tables.Space.TheVariants.{Nodes, Links, Reservoirs, Diversions, Rights}
 use Rattle.basin_tree.specs.declared.walk.Finding.{Finding}
-use Rattle.basin_tree.specs.Entries.{items_at}
+use Rattle.basin_tree.specs.Entries.{Entry, entries_in, items_at}
 use Rattle.basin_tree.specs.Indices.{named_at, own_key}
 use Rattle.basin_tree.specs.KeyFaults.{format_of, runs_late}
 use Rattle.basin_tree.specs.NameFaults.{is_outlet_at, own_space, repeats_name, rights_before, same_name, stands_before}
 use Rattle.basin_tree.specs.Tables.{optional, required, second, table_name}
 use Rattle.basin_file.specs.BasinFaults.{area_finding, areas_fault, basin_fault, document_fault, is_in_table}
 use Rattle.basin_file.specs.BasinFaults.{net_finding, roll_finding}
-use Rattle.basin_file.specs.Spelled.{basin_of, rows_after, rows_in}
+use Rattle.basin_file.specs.Spelled.{basin_of, rows_after}
 use Rattle.basin_file.specs.Upgraded.{basin_table, closed_data, inflow_data, link_row, listed, node_row, number}
 use Rattle.basin_file.specs.Upgraded.{per_day_data, point_data, reservoir_row, return_row, right_row, rights_in}
 use Rattle.basin_file.specs.Upgraded.{row_of_kind, want_data}
@@ -67,9 +68,9 @@ use Rattle.basin_file.proofs.Counts.{before_less, count_where-entries, counts_wi
 use Rattle.basin_file.proofs.Fitting.{ArePlain, Field, clean_fields, closed_in, dated, in_field, inflow_in, month}
 use Rattle.basin_file.proofs.Fitting.{named, per_day_in, plain_fields, points, rate, refers, tables, truth, volume_in}
 use Rattle.basin_file.proofs.Fitting.{want_in, whole}
-use Rattle.basin_file.proofs.Listed.{all_each, item_listing, len_items, len_listing, rows_listing}
-use Rattle.basin_file.proofs.Lists.{Each, each_all, each_at, each_then}
-use Rattle.basin_file.proofs.Passed.{IsClean, IsListed, IsTidy, entry_of, listing, no_tree_fault, top_entry}
+use Rattle.basin_file.proofs.Listed.{item_listing, len_items, len_listing, rows_listing, all_by}
+use Rattle.basin_file.proofs.Passed.{IsClean, IsListed, IsTidy, entries_are, entry_of, listing, no_tree_fault}
+use Rattle.basin_file.proofs.Passed.{top_entry}
 use Rattle.basin_file.proofs.TableSpells.{IsRightIn, all_rights, diversion_named, link_at, link_named, lists}
 use Rattle.basin_file.proofs.TableSpells.{node_named, reservoir_named, return_texts, right_named, rights_sound}
 use Rattle.basin_file.proofs.TableSpells.{rows_for, table_spells, text_there, top_at, whole_there}
@@ -101,19 +102,16 @@ tidy_rows : {X : Type 0} {tree : Members} (t : BasinTable) (row : X → Members)
     items_at tree t ≡ listing (map row xs) →
     ((k : ℕ) (x : X) → slice_get xs k ≡ Some x → IsClean tree (entry_of t k (row x))) → IsTidy tree t
 tidy_rows {X = X} {tree = tree} t row xs its clean = record {
-  lists = its ∙ ap listing (sym rows);
-  clean = λ k r at. by k r (slice_get xs k) refl
-      (sym (slice_get-map row xs k) ∙ (ap (λ rs. slice_get rs k) (sym rows) ∙ at));
+  lists = its ∙ ap listing (sym (ap rows_after its ∙ rows_listing (map row xs)));
+  clean = all_by (IsClean tree) (entries_in tree t) (λ k e at. by k e (slice_get xs k) refl
+      (sym (ap (option_map (entry_of t k)) (slice_get-map row xs k))
+      ∙ (sym (entries_are tree t (map row xs) its k) ∙ at)));
 }
   where
-    rows : rows_in tree t ≡ map row xs
-    rows = ap rows_after its ∙ rows_listing (map row xs)
-
-    by : (k : ℕ) (r : Members) (o : Option X) → slice_get xs k ≡ o → option_map row o ≡ Some r →
-        IsClean tree (entry_of t k r)
-    by k r None e same = cc
-    by k r (Some x) e same =
-        let is : row x ≡ r = cc in subst (λ (r : Members). IsClean tree (entry_of t k r)) is (clean k x e)
+    by : (k : ℕ) (e : Entry) (o : Option X) → slice_get xs k ≡ o →
+        option_map (entry_of t k) (option_map row o) ≡ Some e → IsClean tree e
+    by k e None there is = cc
+    by k e (Some x) there is = let same : entry_of t k (row x) ≡ e = cc in subst (IsClean tree) same (clean k x there)
 
 -- an entry of the second of two lists
 there_right : {X : Type 0} (xs ys : List X) (k : ℕ) (x : X) → slice_get ys k ≡ Some x →
@@ -199,7 +197,7 @@ module _ (b : Basin) (valid : IsValidBasin b) where
 
   abbrev right_table : BasinTable → Field tree 4
   right_table t = tables tree (table_name t) false (right_row b) (IsRightIn b t) (rights_in t b.rights) (never _)
-      (each_all (IsRightIn b t) (rights_in t b.rights) (rights_sound b valid t)) (plain_right t)
+      (rights_sound b valid t) (plain_right t)
 
   abbrev top_fields : List (Field tree 4)
   top_fields =
@@ -245,13 +243,9 @@ module _ (b : Basin) (valid : IsValidBasin b) where
       (text_there (codes "name") (link_row b l) l.name (link_at b l (codes "name")))
       (named_there tree Links (λ l. l.name) b.links k l at (link_named b valid k within)) (omega arith)) refl
     where
-      and_false : (t : Bool) → (t && false) ≡ false
-      and_false true = refl
-      and_false false = refl
-
       canal : (c : Carry) → (is_some (closed_data c) && not (is_some (per_day_data c))) ≡ false
       canal River = refl
-      canal (Canal per_day shut) = and_false (is_some (closed_data (Canal per_day shut)))
+      canal (Canal per_day shut) = and_right (is_some (closed_data (Canal per_day shut))) false refl
 
   outlet_same : (at : ℕ) → is_outlet_at tree at ≡ is_outlet b at
   outlet_same at =
@@ -287,7 +281,7 @@ module _ (b : Basin) (valid : IsValidBasin b) where
   right_clean : (t : BasinTable) (k : ℕ) (r : Right) → slice_get (rights_in t b.rights) k ≡ Some r →
       IsClean tree (entry_of t k (right_row b r))
   right_clean t k r at =
-      let h = each_at (IsRightIn b t) (rights_in t b.rights) k r at (rights_sound b valid t) in
+      let h = all_at (IsRightIn b t) (rights_in t b.rights) k r (rights_sound b valid t) at in
       by t r.kind h h.0.site h.2 at
     where
       d : List Right
@@ -349,7 +343,7 @@ module _ (b : Basin) (valid : IsValidBasin b) where
       (record { rising = refl; known = refl; found = refl }) refl refl refl
       (ap (λ (ts : List (Option (List ℕ))). nat_le 8 (earlier_like ts (k + 1 - 1))) (return_texts b valid)
       ∙ (ap (nat_le 8) (earlier_at text b.returns (k + 1 - 1) k row (right_name b row.right) (omega arith) at refl)
-      ∙ below _ less)) refl refl
+      ∙ lt-leb 8 _ less)) refl refl
     where
       h : IsValidReturn b row
       h = all_at (IsValidReturn b) b.returns k row valid.returns at
@@ -357,30 +351,22 @@ module _ (b : Basin) (valid : IsValidBasin b) where
       text : ReturnRow → Option (List ℕ)
       text entry = Some (right_name b entry.right)
 
-      each : Each (λ entry. is_the_text (right_name b row.right) (Some (right_name b entry.right)) ≡ true →
-          (entry.right == row.right) ≡ true) b.returns
-      each =
-          each_then (IsValidReturn b)
-          (λ entry. is_the_text (right_name b row.right) (Some (right_name b entry.right)) ≡ true →
-          (entry.right == row.right) ≡ true) b.returns
-          (λ entry its e. eq-eqb entry.right row.right
+      alike : (entry : ReturnRow) → IsValidReturn b entry →
+          is_the_text (right_name b row.right) (text entry) ≡ true → (entry.right == row.right) ≡ true
+      alike entry its e = eq-eqb entry.right row.right
           (once (right_name b) (length b.rights) valid.names.rights entry.right row.right its.right h.right
-          (sym ((bytes_eq-Decides (right_name b row.right) (right_name b entry.right)).0 e))))
-          (all_each (IsValidReturn b) b.returns valid.returns)
+          (sym ((bytes_eq-Decides (right_name b row.right) (right_name b entry.right)).0 e)))
 
       less : count_by (λ entry. is_the_text (right_name b row.right) (text entry)) (take k b.returns) < 8
       less =
           let prefix = counts_within (λ (entry : ReturnRow). is_the_text (right_name b row.right) (text entry))
-          (λ (entry : ReturnRow). entry.right == row.right) k b.returns each in
+          (λ (entry : ReturnRow). entry.right == row.right) k b.returns (λ j d l. alike _ (valid.returns j d l)) in
           let before = before_less (λ (entry : ReturnRow). entry.right == row.right) b.returns k row at
           (eq-eqb row.right row.right refl) in
           let most : count_by (λ (entry : ReturnRow). entry.right == row.right) b.returns ≤ 8 =
           subst (λ (n : ℕ). n ≤ 8) (count_where-entries (λ (entry : ReturnRow). entry.right == row.right) b.returns)
           (valid.bounded.rows row.right h.right) in
           omega arith
-
-      below : (m : ℕ) → m < 8 → nat_le 8 m ≡ false
-      below m l = grind (arith, nat_tests)
 
   top_clean : IsClean tree (top_entry tree)
   unfolding basin_table
@@ -401,12 +387,9 @@ module _ (b : Basin) (valid : IsValidBasin b) where
           y + (m - 1 + (months - 1)) / 12 ≤ 2999
       ends y m months first some h = omega arith
 
-      is_within : (n : ℕ) → n ≤ 2999 → nat_le n 2999 ≡ true
-      is_within n l = grind (arith, nat_tests)
-
       in_time : is_none (month_within b.first (b.months - 1)) ≡ false
       in_time =
-          rw (is_within (month_after b.first (b.months - 1)).year
+          rw (le-leb (month_after b.first (b.months - 1)).year 2999
           (ends b.first.year b.first.month b.months valid.run.first.month.0 valid.run.months.0 valid.run.ends)) refl
 
       late : runs_late which.Top (basin_table b) ≡ false
@@ -430,13 +413,13 @@ module _ (b : Basin) (valid : IsValidBasin b) where
   tidy t h = tidy_rows t (right_row b) (rights_in t b.rights) (lists b valid t h) (right_clean t)
 
 -- a valid basin has no fault
-areas_none : (n : ℕ) (reservoirs : List Reservoir) → Each (λ v. IsAreaTable v.area) reservoirs →
+areas_none : (n : ℕ) (reservoirs : List Reservoir) → All (λ v. IsAreaTable v.area) reservoirs →
     areas_fault n reservoirs ≡ None
-areas_none n [] each = refl
-areas_none n (v ∷ reservoirs) each =
+areas_none n [] all = refl
+areas_none n (v ∷ reservoirs) all =
     ap (λ (o : Option TableRefused). option_or (option_and_then (area_finding (n + 1)) o)
-    (areas_fault (n + 1) reservoirs)) (no_fault v.area each.0)
-    ∙ areas_none (n + 1) reservoirs each.1
+    (areas_fault (n + 1) reservoirs)) (no_fault v.area (All-head (λ v. IsAreaTable v.area) v reservoirs all))
+    ∙ areas_none (n + 1) reservoirs (All-tail (λ v. IsAreaTable v.area) v reservoirs all)
 
 basin_none : (b : Basin) → IsValidBasin b → basin_fault (record b { format = 2 }) ≡ None
 unfolding basin_fault
@@ -447,9 +430,7 @@ basin_none b valid =
     (sound_faultless b.nodes b.links (λ k l h. (valid.links k l h).ends) valid.network)
     ∙ (ap (λ (o : Option RollRefused). option_or (option_and_then (roll_finding b.rights) o)
     (areas_fault 0 b.reservoirs)) (roll_fault-sound b.rights b.returns valid.roll)
-    ∙ areas_none 0 b.reservoirs
-    (each_then (IsValidReservoir b) (λ v. IsAreaTable v.area) b.reservoirs (λ v h. h.table)
-    (all_each (IsValidReservoir b) b.reservoirs valid.reservoirs)))
+    ∙ areas_none 0 b.reservoirs (λ k d h. (valid.reservoirs k d h).table))
 
 -- so its table has none
 pub table_is_sound : (b : Basin) → IsValidBasin b → document_fault (Some (basin_table b)) ≡ None

@@ -13,7 +13,7 @@ use Rattle.std.proofs.lemmas.Slice.Eq.{bytes_eq-Decides}
 use Rattle.toml.specs.Data.{array, Members, member, Data, no_members, get_member, is_before}
 use Rattle.toml.specs.View.{view, items_view, members_view}
 use Rattle.toml.specs.declared.value.Value.{Value}
-use Rattle.basin_file.specs.Upgraded.{some_items, with_member, with_option, with_some}
+use Rattle.basin_file.specs.Upgraded.{Keyed, row_of, some_items, with_member, with_option, with_some}
 
 -- a key that is put into the map of a table
 pub view-insert : (k : String Global) (v : Value) (es : List (String Global × Value)) →
@@ -37,15 +37,7 @@ pub listed-put : (key : List ℕ) (values : List Value) (ms : Members) → (leng
 listed-put key [] ms h = cc
 listed-put key (v ∷ values) ms h = refl
 
--- a key, and its value if it has one
-abbrev pub Keyed : Type 0
-Keyed = List ℕ × Option Data
-
-abbrev pub row_of : List Keyed → Members
-row_of [] = no_members
-row_of (f ∷ fs) = with_some f.0 f.1 (row_of fs)
-
--- the same, put from the last to the first
+-- the keys of a row, put from the last to the first
 abbrev pub put_of : List Keyed → Members
 put_of [] = no_members
 put_of (f ∷ fs) = with_option f.0 f.1 (put_of fs)

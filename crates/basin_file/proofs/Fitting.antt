@@ -1,10 +1,9 @@
 -- Keys with values that fit them, and entries whose rows are such keys: the fields of format 2.
-use Rattle.std.proofs.Common.{◌≡◌, ℕ, ◌+◌, ◌*◌, ◌^◌, ◌≤◌, ◌∙◌, Bool, true, false, not, ◌&&◌}
-use Rattle.std.proofs.Common.{ap, sym, subst, refl, arith, List, [], ◌∷◌, length, map, is_some, pos, codes, All}
-use Rattle.std.proofs.Common.{nat_cmp}
+use Rattle.std.proofs.lemmas.Bool.{and_right, and_from, and_parts, or_from}
+use Rattle.std.proofs.Common.{◌≡◌, ℕ, ◌+◌, ◌*◌, ◌^◌, ◌≤◌, ◌∙◌, Bool, true, false, not, ap, sym, subst, refl, arith}
+use Rattle.std.proofs.Common.{List, [], ◌∷◌, length, map, is_some, codes, All, nat_cmp, get_or}
 use Rattle.std.specs.Prelude.{Option, Some, None, option_map, if◌then◌else◌}
-use Rattle.std.proofs.lemmas.Bool.{and_parts}
-use Rattle.std.proofs.lemmas.List.Elements.{All-tail}
+use Rattle.std.proofs.lemmas.List.Elements.{All-cons, All-head, All-nil, All-tail}
 use Rattle.std.specs.Cmp.Lexicographic.{slice_cmp}
 use Rattle.std.specs.List.{list_all}
 use Rattle.std.specs.Option.{option_map_or}
@@ -14,10 +13,8 @@ use Rattle.toml.specs.Data.{as_table, depth, items_depth, members_depth, has_val
 use Rattle.toml.specs.Data.{members_have_valid_dates}
 use Rattle.toml.specs.View.{items_of}
 use Rattle.toml_tree.specs.Items.{items_all}
-use Rattle.toml_tree.specs.Values.{is_between}
-use Rattle.water_text.specs.Months.{IsMonth, month_digits, read_month}
+use Rattle.water_text.specs.Months.{IsMonth, month_digits}
 use Rattle.water_text.specs.Names.{is_name}
-use Rattle.water_text.specs.Shapes.{has_shape}
 use Rattle.water_text.proofs.MonthLaws.{read_month-month_digits}
 use Rattle.water_text.specs.declared.month.Month.{Month}
 use Rattle.water_text.specs.Days.{is_date}
@@ -35,20 +32,18 @@ use Rattle.basin_tree.specs.declared.tables.Kind.TheVariants.{Tables, Integer, T
 use Rattle.basin_tree.specs.declared.tables.Kind.TheVariants.{Monthly, Want, CalendarMonths, Inflow, Points}
 use Rattle.basin_tree.specs.declared.tables.Space.{Space}
 use Rattle.basin_tree.specs.Entries.{Entry}
-use Rattle.basin_tree.specs.KeyFaults.{format_of, has_no_nodes, has_unknown, is_known, runs_late}
-use Rattle.basin_tree.specs.KeyFaults.{shuts_no_canal}
+use Rattle.basin_tree.specs.KeyFaults.{format_of, has_no_nodes, has_unknown, is_known, runs_late, shuts_no_canal}
 use Rattle.basin_tree.specs.Kinds.{has_kind, is_listed, is_integer_value}
 use Rattle.basin_tree.specs.NameFaults.{is_bad_name, names_none, same_name, stands_at_outlet, too_many}
 use Rattle.basin_tree.specs.Indices.{named_at}
 use Rattle.basin_tree.specs.Ranges.{in_range, number_in, pair_in}
 use Rattle.basin_tree.specs.Tables.{KeyRow, keys_of, required, optional, second}
-use Rattle.basin_file.specs.Upgraded.{closed_data, day_text, inflow_data, listed, number, numbers, per_day_data}
-use Rattle.basin_file.specs.Upgraded.{point_data, shut_months, some_items, with_some}
-use Rattle.basin_file.proofs.Fields.{Keyed, ascend, looked_up, row_of, value_at}
-use Rattle.basin_file.proofs.Listed.{all_each, len_items}
-use Rattle.basin_file.proofs.Lists.{Each, each_any, each_then}
-use Rattle.basin_file.proofs.Passed.{Fits, IsClean, clean_by, or_false}
-use Rattle.basin_file.proofs.ReadBack.{between, date_shape}
+use Rattle.basin_file.specs.Upgraded.{closed_data, day_text, inflow_data, listed, number, numbers, per_day_data, Keyed}
+use Rattle.basin_file.specs.Upgraded.{point_data, row_of, shut_months, some_items, with_some}
+use Rattle.basin_file.proofs.Fields.{ascend, looked_up, value_at}
+use Rattle.basin_file.proofs.Listed.{len_items}
+use Rattle.basin_file.proofs.Passed.{Fits, IsClean, clean_by}
+use Rattle.basin_file.proofs.Values.{between, date_shape, month_shape}
 
 -- data that is shallow, with no date of TOML that can't be printed
 pub record IsPlain (n : ℕ) (d : Data) : Type 0 where
@@ -73,72 +68,51 @@ plain_text s n = record { shallow = omega arith; dates = refl }
 pub plain_number : (k n : ℕ) → IsPlain n (number k)
 plain_number k n = record { shallow = omega arith; dates = refl }
 
-pub plain_items : {X : Type 0} (n : ℕ) (f : X → Data) (xs : List X) → Each (λ x. IsPlain n (f x)) xs →
+pub plain_items : {X : Type 0} (n : ℕ) (f : X → Data) (xs : List X) → All (λ x. IsPlain n (f x)) xs →
     ArePlainItems n (items_of (map f xs))
-plain_items n f [] each = record { shallow = omega arith; dates = refl }
-plain_items n f (x ∷ xs) each =
-    let here = each.0 in
-    let rest = plain_items n f xs each.1 in
+plain_items n f [] all = record { shallow = omega arith; dates = refl }
+plain_items n f (x ∷ xs) all =
+    let here = All-head (λ x. IsPlain n (f x)) x xs all in
+    let rest = plain_items n f xs (All-tail (λ x. IsPlain n (f x)) x xs all) in
     record { shallow = omega (arith, here.shallow, rest.shallow); dates = rw here.dates rest.dates }
 
 pub plain_array : (n : ℕ) (ds : Items) → ArePlainItems n ds → IsPlain (n + 1) (array ds)
 plain_array n ds h = record { shallow = omega (arith, h.shallow); dates = h.dates }
 
 pub plain_numbers : (n : ℕ) (ns : List ℕ) → ArePlainItems n (numbers ns)
-plain_numbers n ns = plain_items n number ns (each_any (λ k. IsPlain n (number k)) ns (λ k. plain_number k n))
+plain_numbers n ns = plain_items n number ns (λ k d h. plain_number _ n)
 
--- items of lists of numbers
+-- items that pass a test
+pub items_pass : {X : Type 0} (test : Data → Bool) (f : X → Data) (xs : List X) → All (λ x. test (f x) ≡ true) xs →
+    items_all test (items_of (map f xs)) ≡ true
+items_pass test f [] all = refl
+items_pass test f (x ∷ xs) all = rw (All-head (λ x. test (f x) ≡ true) x xs all)
+    (items_pass test f xs (All-tail (λ x. test (f x) ≡ true) x xs all))
+
 whole_items : (ns : List ℕ) → items_all is_integer_value (numbers ns) ≡ true
-whole_items [] = refl
-whole_items (n ∷ ns) = whole_items ns
+whole_items ns = items_pass is_integer_value number ns (λ k d h. refl)
 
-ranged_items : (least most : ℕ) (ns : List ℕ) → Each (λ n. is_between least most (pos n) ≡ true) ns →
-    items_all (number_in least most) (numbers ns) ≡ true
-ranged_items least most [] each = refl
-ranged_items least most (n ∷ ns) each = rw (each.0) (ranged_items least most ns each.1)
-
-pub monthly_items : (most : ℕ) (ns : List ℕ) → IsMonthly most ns →
-    items_all (number_in 0 most) (numbers ns) ≡ true
+pub monthly_items : (most : ℕ) (ns : List ℕ) → IsMonthly most ns → items_all (number_in 0 most) (numbers ns) ≡ true
 monthly_items most ns h =
-    ranged_items 0 most ns (each_then (λ n. n ≤ most) (λ n. is_between 0 most (pos n) ≡ true) ns
-    (λ n l. between 0 n most (omega arith) l) (all_each (λ n. n ≤ most) ns h.each))
+    items_pass (number_in 0 most) number ns (λ k d l. between 0 (get_or ns k d) most (omega arith) (h.each k d l))
 
 pub twelve_items : (most : ℕ) (ns : List ℕ) → IsMonthly most ns →
     is_listed is_integer_value 12 (array (numbers ns)) ≡ true
 twelve_items most ns h = rw (len_items number ns, h.twelve, whole_items ns) refl
 
-months_each : (from : ℕ) (shut : List Bool) → 1 ≤ from → from + length shut ≤ 13 →
-    Each (λ n. is_between 1 12 (pos n) ≡ true) (shut_months from shut)
-months_each from [] low high = tt
-months_each from (true ∷ shut) low high =
-    (between 1 from 12 low (omega arith), months_each (from + 1) shut (omega arith) (omega arith))
-months_each from (false ∷ shut) low high = months_each (from + 1) shut (omega arith) (omega arith)
-
-pub pair_items : (area : List AreaPoint) →
-    items_all (is_listed is_integer_value 2) (items_of (map point_data area)) ≡ true
-pair_items [] = refl
-pair_items (p ∷ area) = pair_items area
+months_in : (from : ℕ) (shut : List Bool) → 1 ≤ from → from + length shut ≤ 13 →
+    items_all (number_in 1 12) (numbers (shut_months from shut)) ≡ true
+months_in from [] low high = refl
+months_in from (true ∷ shut) low high =
+    rw (between 1 from 12 low (omega arith)) (months_in (from + 1) shut (omega arith) (omega arith))
+months_in from (false ∷ shut) low high = months_in (from + 1) shut (omega arith) (omega arith)
 
 pub point_items : (area : List AreaPoint) → All IsValidPoint area →
     items_all (λ x. option_map_or pair_in (as_array x) true) (items_of (map point_data area)) ≡ true
-point_items [] h = refl
-point_items (p ∷ area) h =
-    let here = h 0 p (omega arith) in
-    rw (between 0 p.storage (16 * 10 ^ 9) (omega arith) here.storage, between 0 p.area (10 ^ 9) (omega arith) here.area)
-    (point_items area (All-tail IsValidPoint p area h))
-
-table_items : {X : Type 0} (row : X → Members) (xs : List X) →
-    items_all (λ x. is_some (as_table x)) (items_of (map (λ x. table (row x)) xs)) ≡ true
-table_items row [] = refl
-table_items row (x ∷ xs) = table_items row xs
-
-pub month_shape : (m : Month) → IsMonth m → has_shape (codes "dddd-dd") (month_digits m) ≡ true
-unfolding read_month
-month_shape m h = by (has_shape (codes "dddd-dd") (month_digits m)) refl (read_month-month_digits m h)
-  where
-    by : (t : Bool) → has_shape (codes "dddd-dd") (month_digits m) ≡ t → read_month (month_digits m) ≡ Some m → t ≡ true
-    by true e read = refl
-    by false e read = (let none = rw e at read in cc)
+point_items area all = items_pass (λ x. option_map_or pair_in (as_array x) true) point_data area
+    (λ k d h. and_from _ _
+    (between 0 (get_or area k d).storage (16 * 10 ^ 9) (omega arith) (all k d h).storage)
+    (between 0 (get_or area k d).area (10 ^ 9) (omega arith) (all k d h).area))
 
 -- a key of format 2 with its value, if it has one, which fits it and is plain
 pub record Field (tree : Members) (n : ℕ) : Type 0 where
@@ -152,11 +126,8 @@ module _ (tree : Members) where
   pub fits_by : (key : KeyRow) (d : Data) → has_kind 2 key.kind d ≡ true → in_range key.kind d ≡ true →
       is_bad_name key.kind d ≡ false → names_none tree key.kind d ≡ false → Fits 2 tree key (Some d)
   fits_by key d p q r s =
-      record { present = and_false key.is_required; kinds = ap not p; ranges = ap not q; names = r; refers = s }
-    where
-      and_false : (t : Bool) → (t && false) ≡ false
-      and_false true = refl
-      and_false false = refl
+      let present = and_right key.is_required false refl in
+      record { present = present; kinds = ap not p; ranges = ap not q; names = r; refers = s }
 
   abbrev field : {n : ℕ} (key : KeyRow) (d : Data) → has_kind 2 key.kind d ≡ true → in_range key.kind d ≡ true →
       is_bad_name key.kind d ≡ false → names_none tree key.kind d ≡ false → IsPlain n d → Field tree n
@@ -198,11 +169,10 @@ module _ (tree : Members) where
 
   abbrev pub points : (area : List AreaPoint) → All IsValidPoint area → Field tree 2
   points area h =
-      field (optional (codes "area") Points) (array (items_of (map point_data area))) (pair_items area)
-      (point_items area h) refl refl
+      field (optional (codes "area") Points) (array (items_of (map point_data area)))
+      (items_pass (is_listed is_integer_value 2) point_data area (λ k d h. refl)) (point_items area h) refl refl
       (plain_array 1 (items_of (map point_data area)) (plain_items 1 point_data area
-      (each_any (λ p. IsPlain 1 (point_data p)) area
-      (λ p. plain_array 0 _ (plain_numbers 0 (p.storage ∷ p.area ∷ []))))))
+      (λ k d l. plain_array 0 _ (plain_numbers 0 ((get_or area k d).storage ∷ (get_or area k d).area ∷ [])))))
 
   -- fields whose value depends on what is written
   abbrev pub InField : KeyRow → ℕ → Option Data → Type 0
@@ -242,7 +212,7 @@ module _ (tree : Members) where
   pub closed_in : (c : Carry) → IsValidCarry c → InField (second (codes "closed") CalendarMonths) 2 (closed_data c)
   closed_in River h = no_field 2 (codes "closed") CalendarMonths 2
   closed_in (Canal per_day shut) h = by (numbers (shut_months 1 shut)) (whole_items (shut_months 1 shut))
-      (ranged_items 1 12 (shut_months 1 shut) (months_each 1 shut (omega arith) (omega (arith, h.1))))
+      (months_in 1 shut (omega arith) (omega (arith, h.1)))
       (plain_numbers 1 (shut_months 1 shut))
     where
       by : (ds : Items) → items_all is_integer_value ds ≡ true → items_all (number_in 1 12) ds ≡ true →
@@ -259,15 +229,15 @@ module _ (tree : Members) where
 
   -- a table of entries, of which there has to be one where it is required
   pub tables_in : {X : Type 0} (key : List ℕ) (needed : Bool) (row : X → Members) (xs : List X) →
-      (needed ≡ true → 1 ≤ length xs) → Each (λ x. ArePlain 2 (row x)) xs →
+      (needed ≡ true → 1 ≤ length xs) → All (λ x. ArePlain 2 (row x)) xs →
       InField (record { name = key; is_required = needed; kind = Tables; since = 1 }) 4 (listed row xs)
-  tables_in key false row [] some each = no_field 4 key Tables 1
-  tables_in key true row [] some each = let none = some refl in absurd (omega arith)
-  tables_in {X = X} key needed row (x ∷ xs) some each =
+  tables_in key false row [] some all = no_field 4 key Tables 1
+  tables_in key true row [] some all = let none = some refl in absurd (omega arith)
+  tables_in {X = X} key needed row (x ∷ xs) some all =
       of_field (field (record { name = key; is_required = needed; kind = Tables; since = 1 })
-      (array (items_of (map (λ x. table (row x)) (x ∷ xs)))) (table_items row (x ∷ xs)) refl refl refl
-      (plain_array 3 _ (plain_items 3 (λ x. table (row x)) (x ∷ xs)
-      (each_then (λ x. ArePlain 2 (row x)) (λ x. IsPlain 3 (table (row x))) (x ∷ xs) deeper each))))
+      (array (items_of (map (λ x. table (row x)) (x ∷ xs))))
+      (items_pass (λ x. is_some (as_table x)) (λ x. table (row x)) (x ∷ xs) (λ k d h. refl)) refl refl refl
+      (plain_array 3 _ (plain_items 3 (λ x. table (row x)) (x ∷ xs) (λ k d h. deeper _ (all k d h)))))
     where
       deeper : (x : X) → ArePlain 2 (row x) → IsPlain 3 (table (row x))
       deeper x h = record { shallow = omega (arith, h.shallow); dates = h.dates }
@@ -276,7 +246,7 @@ module _ (tree : Members) where
       (needed ≡ true → 1 ≤ length xs) → All P xs → ((x : X) → P x → ArePlain 2 (row x)) → Field tree 4
   tables key needed row P xs some all plain =
       in_field (record { name = key; is_required = needed; kind = Tables; since = 1 }) (listed row xs)
-      (tables_in key needed row xs some (each_then P (λ x. ArePlain 2 (row x)) xs plain (all_each P xs all)))
+      (tables_in key needed row xs some (λ k d h. plain _ (all k d h)))
 
   module _ {n : ℕ} where
     abbrev pub keyed : List (Field tree n) → List Keyed
@@ -316,7 +286,7 @@ module _ (tree : Members) where
             has_unknown 2 t (with_some f.key.name o (row_of (keyed fs))) ≡ false
         by None known rest = rest
         by (Some d) known rest =
-            or_false (not (is_known 2 (keys_of t) f.key.name)) (has_unknown 2 t (row_of (keyed fs))) (ap not known) rest
+            or_from (not (is_known 2 (keys_of t) f.key.name)) (has_unknown 2 t (row_of (keyed fs))) (ap not known) rest
 
     -- the value at a key fits it
     fits_key : (key : KeyRow) (fields : List (Field tree n)) → key_at key.name fields ≡ Some key →
@@ -330,18 +300,20 @@ module _ (tree : Members) where
         by true e rest = let same : f.key ≡ key = cc in subst (λ (k : KeyRow). Fits 2 tree k f.value) same f.fits
         by false e rest = rest e
 
+    abbrev FitsIn : List (Field tree n) → KeyRow → Type 0
+    FitsIn fields key = Fits (format_of tree) tree key (get_member key.name (row_of (keyed fields)))
+
     fits_keys : (fields : List (Field tree n)) (keys : List KeyRow) → format_of tree ≡ 2 →
         ascend (keyed fields) ≡ true →
-        map (λ key. key_at key.name fields) keys ≡ map (λ key. Some key) keys →
-        Each (λ key. Fits (format_of tree) tree key (get_member key.name (row_of (keyed fields)))) keys
-    fits_keys fields [] format rising e = tt
+        map (λ key. key_at key.name fields) keys ≡ map (λ key. Some key) keys → All (FitsIn fields) keys
+    fits_keys fields [] format rising e = All-nil (FitsIn fields)
     fits_keys fields (key ∷ keys) format rising e =
         let here : key_at key.name fields ≡ Some key = cc in
-        let rest : map (λ key. key_at key.name fields) keys ≡ map (λ key. Some key) keys = cc in (
-          subst (λ (f : ℕ). Fits f tree key (get_member key.name (row_of (keyed fields)))) (sym format)
-              (subst (Fits 2 tree key) (sym (looked_up key.name (keyed fields) rising)) (fits_key key fields here)),
-          fits_keys fields keys format rising rest,
-        )
+        let rest : map (λ key. key_at key.name fields) keys ≡ map (λ key. Some key) keys = cc in
+        All-cons (FitsIn fields) key keys
+        (subst (λ (f : ℕ). Fits f tree key (get_member key.name (row_of (keyed fields)))) (sym format)
+        (subst (Fits 2 tree key) (sym (looked_up key.name (keyed fields) rising)) (fits_key key fields here)))
+        (fits_keys fields keys format rising rest)
 
     -- an entry of such fields is clean where it keeps what else an entry has to
     abbrev filled : BasinTable → ℕ → List (Field tree n) → Entry

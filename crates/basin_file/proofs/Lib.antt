@@ -1,13 +1,9 @@
 pub mod Fields
-pub mod Lists
-pub mod Ranges
+pub mod Values
 pub mod Passed
-pub mod OwnNames
 pub mod Counts
-pub mod EntriesValid
 pub mod Whole
 pub mod Faultless
-pub mod ReadBack
 pub mod CleanTables
 pub mod Listed
 pub mod TableSpells

@@ -1,13 +1,17 @@
 -- A document has no fault by itself exactly where its top and its entries are clean.
 use Rattle.std.proofs.Common.{◌≡◌, ℕ, zero, suc, ◌+◌, List, [], ◌∷◌, ◌++◌, map, Bool, true, false, not, ◌&&◌, ◌||◌}
 use Rattle.std.proofs.Common.{Option, Some, None, option_map, option_and_then, unwrap_or, is_some, slice_get, Ordering}
-use Rattle.std.proofs.Common.{Less, Equal, Greater, refl, sym, subst, ap, ◌∙◌, inl, inr, option_to_list, arith}
-use Rattle.std.proofs.Common.{zero-add}
-use Rattle.std.proofs.lemmas.Bool.{cases_Bool, and_parts, not-false, or_parts}
+use Rattle.std.proofs.Common.{Less, Equal, Greater, refl, sym, ap, ◌∙◌, inl, inr, option_to_list, arith, zero-add, All}
+use Rattle.std.proofs.Common.{get_or, length}
+use Rattle.std.proofs.lemmas.Bool.{and_parts, both_ways, cases_Bool, false_from_ne_true, not-false, or_from, or_parts}
+use Rattle.std.proofs.lemmas.List.{drop_at, take_at}
+use Rattle.std.proofs.lemmas.List.Elements.{All-append, All-cons, All-drop, All-head, All-nil, All-same, All-tail}
+use Rattle.std.proofs.lemmas.List.Elements.{All-take}
+use Rattle.std.proofs.lemmas.List.Folds.{list_any_at, list_any_none}
 use Rattle.std.proofs.lemmas.Map.Text.{is_eq-slice_cmp}
 use Rattle.std.proofs.lemmas.Slice.Eq.{bytes_eq-Decides}
 use Rattle.std.specs.Cmp.Lexicographic.{slice_cmp}
-use Rattle.std.specs.List.{find, flat_map, list_any}
+use Rattle.std.specs.List.{AllByRecursion as Each, find, flat_map, list_any}
 use Rattle.std.specs.Option.{option_or, option_map_or}
 use Rattle.std.specs.Ordering.{nat_cmp, is_eq, match_ordering}
 use Rattle.std.specs.Str.{bytes_eq}
@@ -21,15 +25,15 @@ use Rattle.basin_tree.specs.declared.tables.BasinTable.TheVariants.{Zone, Return
 use Rattle.basin_tree.specs.declared.tables.Kind.{Kind}
 use Rattle.basin_tree.specs.declared.tables.Kind.TheVariants.{Tables}
 use Rattle.basin_tree.specs.Entries.{Entry, entries_after, entries_in, entries_of, items_at, found_at}
-use Rattle.basin_tree.specs.KeyFaults.{any_value, format_of, has_no_nodes, has_unknown, is_known, lacks_key}
-use Rattle.basin_tree.specs.KeyFaults.{runs_late, shuts_no_canal}
+use Rattle.basin_tree.specs.KeyFaults.{any_value, format_of, has_no_nodes, has_unknown, is_known, lacks_key, runs_late}
+use Rattle.basin_tree.specs.KeyFaults.{shuts_no_canal}
 use Rattle.basin_tree.specs.Kinds.{has_kind}
 use Rattle.basin_tree.specs.NameFaults.{is_bad_name, names_none, same_name, stands_at_outlet, too_many}
 use Rattle.basin_tree.specs.Order.{Pass, found_by, first_fault, passes, tree_fault}
 use Rattle.basin_tree.specs.Ranges.{in_range}
 use Rattle.basin_tree.specs.Tables.{KeyRow, keys_of, table_name, listed}
 use Rattle.basin_file.specs.Spelled.{rows_after, rows_in}
-use Rattle.basin_file.proofs.Lists.{Each, each_any, each_append, each_at, each_parts, each_then, each_with}
+use Rattle.water_model.proofs.Lists.{all_at}
 
 pub or_none : {X : Type 0} (a b : Option X) → option_or a b ≡ None → (a ≡ None) × (b ≡ None)
 or_none None b e = (refl, e)
@@ -39,53 +43,45 @@ map_none : {X Y : Type 0} (f : X → Y) (a : Option X) → option_map f a ≡ No
 map_none f None e = refl
 map_none f (Some x) e = cc
 
-pub or_false : (p q : Bool) → p ≡ false → q ≡ false → (p || q) ≡ false
-or_false p q h k = rw (h, k) refl
+-- a test that none of a list passes
+none_any : {X : Type 0} (p : X → Bool) (xs : List X) → list_any p xs ≡ false → All (λ x. p x ≡ false) xs
+none_any p xs e = λ k d h. false_from_ne_true (p (get_or xs k d))
+    (λ is. both_ways (list_any p xs) e (list_any_at p xs k d h is))
 
--- a test that holds of none of a list
-any_each : {X : Type 0} (p : X → Bool) (xs : List X) → Each (λ x. p x ≡ false) xs → list_any p xs ≡ false
-any_each p [] each = refl
-any_each p (x ∷ xs) each = rw (each.0) (any_each p xs each.1)
+none_found : {X : Type 0} (p : X → Bool) (xs : List X) → All (λ x. p x ≡ false) xs → find p xs ≡ None
+none_found p [] all = refl
+none_found p (x ∷ xs) all =
+    rw (All-head (λ x. p x ≡ false) x xs all) (none_found p xs (All-tail (λ x. p x ≡ false) x xs all))
 
-each_none : {X : Type 0} (p : X → Bool) (xs : List X) → list_any p xs ≡ false → Each (λ x. p x ≡ false) xs
-each_none p [] e = tt
-each_none p (x ∷ xs) e = let both = or_parts (p x) (list_any p xs) e in (both.0, each_none p xs both.1)
-
-find_each : {X : Type 0} (p : X → Bool) (xs : List X) → Each (λ x. p x ≡ false) xs → find p xs ≡ None
-find_each p [] each = refl
-find_each p (x ∷ xs) each = rw (each.0) (find_each p xs each.1)
-
-each_unfound : {X : Type 0} (p : X → Bool) (xs : List X) → find p xs ≡ None → Each (λ x. p x ≡ false) xs
-each_unfound p [] e = tt
-each_unfound p (x ∷ xs) e =
+all_unfound : {X : Type 0} (p : X → Bool) (xs : List X) → find p xs ≡ None → All (λ x. p x ≡ false) xs
+all_unfound p [] e = All-nil (λ x. p x ≡ false)
+all_unfound p (x ∷ xs) e =
     elim (cases_Bool (p x)) [
       | inl there ↦ (let h = rw there at e in cc)
-      | inr other ↦ (other, each_unfound p xs (rw other at e))
+      | inr other ↦ All-cons (λ x. p x ≡ false) x xs other (all_unfound p xs (rw other at e))
     ]
 
 -- an entry that no test of a list finds
 abbrev PassesAll : List Pass → Members → Entry → Type 0
 PassesAll list tree e = Each (λ pass. pass.1 tree e ≡ false) list
 
-each_passes : (list : List Pass) (tree : Members) → first_fault list tree ≡ None →
-    Each (PassesAll list tree) (entries_of tree)
-each_passes [] tree e = each_any (PassesAll [] tree) (entries_of tree) (λ e. tt)
-each_passes (pass ∷ list) tree e =
+all_pass : (list : List Pass) (tree : Members) → first_fault list tree ≡ None →
+    All (PassesAll list tree) (entries_of tree)
+all_pass [] tree e = λ k d h. tt
+all_pass (pass ∷ list) tree e =
     let both = or_none (found_by pass tree) (first_fault list tree) e in
-    each_with (λ e. pass.1 tree e ≡ false) (PassesAll list tree) (entries_of tree)
-    (each_unfound (pass.1 tree) (entries_of tree)
-    (map_none (found_at pass.0) (find (pass.1 tree) (entries_of tree)) both.0))
-    (each_passes list tree both.1)
+    let here = all_unfound (pass.1 tree) (entries_of tree)
+    (map_none (found_at pass.0) (find (pass.1 tree) (entries_of tree)) both.0) in
+    let rest = all_pass list tree both.1 in
+    λ k d h. (here k d h, rest k d h)
 
-none_first : (list : List Pass) (tree : Members) → Each (PassesAll list tree) (entries_of tree) →
+none_first : (list : List Pass) (tree : Members) → All (PassesAll list tree) (entries_of tree) →
     first_fault list tree ≡ None
-none_first [] tree each = refl
-none_first (pass ∷ list) tree each =
+none_first [] tree all = refl
+none_first (pass ∷ list) tree all =
     ap (λ (o : Option Entry). option_or (option_map (found_at pass.0) o) (first_fault list tree))
-    (find_each (pass.1 tree) (entries_of tree)
-    (each_then (PassesAll (pass ∷ list) tree) (λ e. pass.1 tree e ≡ false) (entries_of tree) (λ e c. c.0) each))
-    ∙ none_first list tree
-    (each_then (PassesAll (pass ∷ list) tree) (PassesAll list tree) (entries_of tree) (λ e c. c.1) each)
+    (none_found (pass.1 tree) (entries_of tree) (λ k d h. (all k d h).0))
+    ∙ none_first list tree (λ k d h. (all k d h).1)
 
 abbrev pub IsClean : Members → Entry → Type 0
 IsClean tree e = PassesAll passes tree e
@@ -113,15 +109,14 @@ module _ (tree : Members) (e : Entry) where
   FitsKey key = Fits (format_of tree) tree key (get_member key.name e.row)
 
   -- an entry is clean where its values fit and it keeps the rest
-  pub clean_by : Each FitsKey (keys_of e.table) → IsRest tree e → IsClean tree e
+  pub clean_by : All FitsKey (keys_of e.table) → IsRest tree e → IsClean tree e
   clean_by fits rest =
-      let missing = or_false (lacks_key e.table e.row || has_no_nodes e.table e.row) (shuts_no_canal e.table e.row)
-      (or_false (lacks_key e.table e.row) (has_no_nodes e.table e.row)
-      (any_each (λ key. key.is_required && not (is_some (get_member key.name e.row))) (keys_of e.table)
-      (each_then FitsKey (λ key. (key.is_required && not (is_some (get_member key.name e.row))) ≡ false)
-      (keys_of e.table) (λ key f. f.present) fits)) rest.nodes) rest.canal in
+      let missing = or_from (lacks_key e.table e.row || has_no_nodes e.table e.row) (shuts_no_canal e.table e.row)
+      (or_from (lacks_key e.table e.row) (has_no_nodes e.table e.row)
+      (list_any_none (λ key. key.is_required && not (is_some (get_member key.name e.row))) (keys_of e.table)
+      (λ k d h. (fits k d h).present)) rest.nodes) rest.canal in
       let kinds = value (λ kind d. not (has_kind (format_of tree) kind d)) (λ key f. f.kinds) in
-      let ranges = or_false (any_value (λ kind d. not (in_range kind d)) e.table e.row) (runs_late e.table e.row)
+      let ranges = or_from (any_value (λ kind d. not (in_range kind d)) e.table e.row) (runs_late e.table e.row)
       (value (λ kind d. not (in_range kind d)) (λ key f. f.ranges)) rest.late in
       let names = value is_bad_name (λ key f. f.names) in
       let refers = value (names_none tree) (λ key f. f.refers) in
@@ -131,9 +126,8 @@ module _ (tree : Members) (e : Entry) where
           ((key : KeyRow) → FitsKey key → option_map_or (test key.kind) (get_member key.name e.row) false ≡ false) →
           any_value test e.table e.row ≡ false
       value test f =
-          any_each (λ key. option_map_or (test key.kind) (get_member key.name e.row) false) (keys_of e.table)
-          (each_then FitsKey (λ key. option_map_or (test key.kind) (get_member key.name e.row) false ≡ false)
-          (keys_of e.table) f fits)
+          list_any_none (λ key. option_map_or (test key.kind) (get_member key.name e.row) false) (keys_of e.table)
+          (λ k d h. f _ (fits k d h))
 
   -- and the other way round
   module _ (clean : IsClean tree e) where
@@ -158,22 +152,19 @@ module _ (tree : Members) (e : Entry) where
     }
 
     pub fits_at : (i : ℕ) (key : KeyRow) → slice_get (keys_of e.table) i ≡ Some key → FitsKey key
-    fits_at i key at = record {
-      present = each_at (λ key. (key.is_required && not (is_some (get_member key.name e.row))) ≡ false)
-          (keys_of e.table) i key at (each_none (λ key. key.is_required && not (is_some (get_member key.name e.row)))
-          (keys_of e.table) lacks.0);
-      kinds = value (λ kind d. not (has_kind (format_of tree) kind d)) clean.1.1.0;
-      ranges = value (λ kind d. not (in_range kind d)) in_time.0;
-      names = value is_bad_name clean.1.1.1.1.0;
-      refers = value (names_none tree) clean.1.1.1.1.1.1.1.0;
-    }
+    fits_at i key at = all_at FitsKey (keys_of e.table) i key (λ k d h. record {
+      present = none_any (λ key. key.is_required && not (is_some (get_member key.name e.row))) (keys_of e.table) lacks.0
+          k d h;
+      kinds = value (λ kind d. not (has_kind (format_of tree) kind d)) clean.1.1.0 k d h;
+      ranges = value (λ kind d. not (in_range kind d)) in_time.0 k d h;
+      names = value is_bad_name clean.1.1.1.1.0 k d h;
+      refers = value (names_none tree) clean.1.1.1.1.1.1.1.0 k d h;
+    }) at
       where
         value : (test : Kind → Data → Bool) → any_value test e.table e.row ≡ false →
-            option_map_or (test key.kind) (get_member key.name e.row) false ≡ false
-        value test none =
-            each_at (λ key. option_map_or (test key.kind) (get_member key.name e.row) false ≡ false) (keys_of e.table)
-            i key at (each_none (λ key. option_map_or (test key.kind) (get_member key.name e.row) false)
-            (keys_of e.table) none)
+            All (λ key. option_map_or (test key.kind) (get_member key.name e.row) false ≡ false) (keys_of e.table)
+        value test =
+            none_any (λ key. option_map_or (test key.kind) (get_member key.name e.row) false) (keys_of e.table)
 
 -- the items of a list of tables
 abbrev pub listing : List Members → Items
@@ -194,40 +185,34 @@ listing_all (item d ds) e =
 abbrev pub entry_of : BasinTable → ℕ → Members → Entry
 entry_of t k row = record { table = t; number = k + 1; row = row }
 
-entry_there : (P : Entry → Type 0) (t : BasinTable) (n : ℕ) (rows : List Members) →
-    Each P (entries_after t n (listing rows)) → (k : ℕ) (row : Members) → slice_get rows k ≡ Some row →
-    P (entry_of t (n + k) row)
-entry_there P t n [] each k row at = cc
-entry_there P t n (first ∷ rows) each zero row at =
-    let same : first ≡ row = cc in
-    let here : Members → Type 0 = λ r. P (entry_of t (n + 0) r) in
-    let there : ℕ → Type 0 = λ m. P (entry_of t m first) in
-    subst here same (subst there (omega arith) each.0)
-entry_there P t n (first ∷ rows) each (suc k) row at =
-    let there : ℕ → Type 0 = λ m. P (entry_of t m row) in
-    subst there (omega arith) (entry_there P t (n + 1) rows each.1 k row at)
+entries_listing : (t : BasinTable) (n : ℕ) (rows : List Members) (k : ℕ) →
+    slice_get (entries_after t n (listing rows)) k ≡ option_map (entry_of t (n + k)) (slice_get rows k)
+entries_listing t n [] k = refl
+entries_listing t n (row ∷ rows) zero =
+    let same : n ≡ n + 0 = omega arith in ap (λ (m : ℕ). Some (entry_of t m row)) same
+entries_listing t n (row ∷ rows) (suc k) =
+    let same : n + 1 + k ≡ n + suc k = omega arith in
+    entries_listing t (n + 1) rows k ∙ ap (λ (m : ℕ). option_map (entry_of t m) (slice_get rows k)) same
 
-each_entry : (P : Entry → Type 0) (t : BasinTable) (n : ℕ) (rows : List Members) →
-    ((k : ℕ) (row : Members) → slice_get rows k ≡ Some row → P (entry_of t (n + k) row)) →
-    Each P (entries_after t n (listing rows))
-each_entry P t n [] f = tt
-each_entry P t n (first ∷ rows) f =
-    let there : ℕ → Type 0 = λ m. P (entry_of t m first) in
-    (subst there (omega arith) (f 0 first refl), each_entry P t (n + 1) rows rest)
-  where
-    rest : (k : ℕ) (row : Members) → slice_get rows k ≡ Some row → P (entry_of t (n + 1 + k) row)
-    rest k row at = let there : ℕ → Type 0 = λ m. P (entry_of t m row) in subst there (omega arith) (f (suc k) row at)
+pub entries_are : (tree : Members) (t : BasinTable) (rows : List Members) → items_at tree t ≡ listing rows → (k : ℕ) →
+    slice_get (entries_in tree t) k ≡ option_map (entry_of t k) (slice_get rows k)
+entries_are tree t rows lists k =
+    ap (λ items. slice_get (entries_after t 0 items) k) lists
+    ∙ (entries_listing t 0 rows k ∙ ap (λ (m : ℕ). option_map (entry_of t m) (slice_get rows k)) (zero-add k))
 
-each_lists : {A X : Type 0} (P : X → Type 0) (g : A → List X) (lists : List A) → Each P (flat_map g lists) →
-    Each (λ a. Each P (g a)) lists
-each_lists P g [] each = tt
-each_lists P g (a ∷ lists) each =
-    let both = each_parts P (g a) (flat_map g lists) each in (both.0, each_lists P g lists both.1)
+all_lists : {A X : Type 0} (P : X → Type 0) (g : A → List X) (lists : List A) → All P (flat_map g lists) →
+    All (λ a. All P (g a)) lists
+all_lists P g [] all = All-nil (λ a. All P (g a))
+all_lists P g (a ∷ lists) all =
+    All-cons (λ a. All P (g a)) a lists
+    (All-same P (g a) _ (sym (take_at (g a) (flat_map g lists) _ refl)) (All-take P (length (g a)) _ all))
+    (all_lists P g lists
+    (All-same P (flat_map g lists) _ (sym (drop_at (g a) (flat_map g lists) _ refl)) (All-drop P (length (g a)) _ all)))
 
-each_flat : {A X : Type 0} (P : X → Type 0) (g : A → List X) (lists : List A) → Each (λ a. Each P (g a)) lists →
-    Each P (flat_map g lists)
-each_flat P g [] each = tt
-each_flat P g (a ∷ lists) each = each_append P (g a) (flat_map g lists) each.0 (each_flat P g lists each.1)
+all_flat : {A X : Type 0} (P : X → Type 0) (g : A → List X) (lists : List A) → Each (λ a. All P (g a)) lists →
+    All P (flat_map g lists)
+all_flat P g [] each = All-nil P
+all_flat P g (a ∷ lists) each = All-append P (g a) (flat_map g lists) each.0 (all_flat P g lists each.1)
 
 -- the tables that the top lists, with their places
 abbrev pub IsListed : BasinTable → Type 0
@@ -249,7 +234,7 @@ place Return h = (6, false, refl, refl)
 -- a table lists tables, and they are clean
 pub record IsTidy (tree : Members) (t : BasinTable) : Type 0 where
   pub lists : items_at tree t ≡ listing (rows_in tree t)
-  pub clean : (k : ℕ) (row : Members) → slice_get (rows_in tree t) k ≡ Some row → IsClean tree (entry_of t k row)
+  pub clean : All (IsClean tree) (entries_in tree t)
 
 abbrev pub top_entry : Members → Entry
 top_entry tree = record { table = Top; number = 0; row = tree }
@@ -272,48 +257,48 @@ tables_in format (Some d) k = by (as_array d) (not-false _ k)
 pub all_clean : (tree : Members) → tree_fault tree ≡ None → AreClean tree
 unfolding tree_fault
 all_clean tree e =
-    let each = each_passes passes tree e in
+    let all = all_pass passes tree e in
+    let top = all 0 (top_entry tree) (omega arith) in
     record {
-      top = each.0;
+      top = top;
       tidy = λ t is_listed.
           (let at = place t is_listed in
-          let fits = fits_at tree (top_entry tree) each.0 (at.0 + 3) _ at.3 in
-          let lists = listing_all (items_at tree t)
-          (tables_in (format_of tree) (get_member (table_name t) tree) fits.kinds)
-          in
+          let fits = fits_at tree (top_entry tree) top (at.0 + 3) _ at.3 in
           record {
-            lists = lists;
-            clean = λ k row there. subst (λ (m : ℕ). IsClean tree (entry_of t m row)) (zero-add k)
-                (entry_there (IsClean tree) t 0 (rows_in tree t)
-                (subst (λ (items : Items). Each (IsClean tree) (entries_after t 0 items)) lists
-                (each_at (λ t. Each (IsClean tree) (entries_in tree t)) listed at.0 t at.2
-                (each_lists (IsClean tree) (entries_in tree) listed each.1))) k row there);
+            lists = listing_all (items_at tree t)
+                (tables_in (format_of tree) (get_member (table_name t) tree) fits.kinds);
+            clean = all_at (λ t. All (IsClean tree) (entries_in tree t)) listed at.0 t
+                (all_lists (IsClean tree) (entries_in tree) listed (All-tail (IsClean tree) (top_entry tree) _ all))
+                at.2;
           });
     }
 
 pub no_tree_fault : (tree : Members) → AreClean tree → tree_fault tree ≡ None
 unfolding tree_fault
 no_tree_fault tree are =
-    none_first passes tree (
-      are.top,
-      each_flat (IsClean tree) (entries_in tree) listed (
-        each Node tt,
+    none_first passes tree
+    (All-cons (IsClean tree) (top_entry tree) _ are.top
+    (all_flat (IsClean tree) (entries_in tree) listed (
+      each Node tt,
+      (
+        each Link tt,
         (
-          each Link tt,
-          (
-            each Reservoir tt,
-            (each Diversion tt, (each Instream tt, (each Zone tt, (each Return tt, tt)))),
-          ),
+          each Reservoir tt,
+          (each Diversion tt, (each Instream tt, (each Zone tt, (each Return tt, tt)))),
         ),
       ),
-    )
+    )))
   where
-    each : (t : BasinTable) → IsListed t → Each (IsClean tree) (entries_in tree t)
-    each t is_listed =
-        let its = are.tidy t is_listed in
-        subst (λ (items : Items). Each (IsClean tree) (entries_after t 0 items)) (sym its.lists)
-        (each_entry (IsClean tree) t 0 (rows_in tree t)
-        (λ k row there. subst (λ (m : ℕ). IsClean tree (entry_of t m row)) (sym (zero-add k)) (its.clean k row there)))
+    each : (t : BasinTable) → IsListed t → All (IsClean tree) (entries_in tree t)
+    each t is_listed = (are.tidy t is_listed).clean
+
+-- a row of a clean document
+pub clean_at : (tree : Members) → AreClean tree → (t : BasinTable) → IsListed t → (k : ℕ) (row : Members) →
+    slice_get (rows_in tree t) k ≡ Some row → IsClean tree (entry_of t k row)
+clean_at tree are t is_listed k row at =
+    let its = are.tidy t is_listed in
+    all_at (IsClean tree) (entries_in tree t) k (entry_of t k row) its.clean
+    (entries_are tree t (rows_in tree t) its.lists k ∙ ap (option_map (entry_of t k)) at)
 
 -- a key that a table doesn't have in the format isn't there
 pub absent : (format : ℕ) (t : BasinTable) (key : List ℕ) (row : Members) → has_unknown format t row ≡ false →

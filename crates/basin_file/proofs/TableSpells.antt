@@ -1,16 +1,17 @@
 -- The table of a basin spells the basin: each entry is read back from its row.
-use Rattle.std.proofs.Common.{◌≡◌, ℕ, suc, ◌+◌, ◌*◌, ◌^◌, ◌<◌, ◌≤◌, ◌∙◌, ◌++◌, Bool, true, false, ap, sym, refl, arith}
-use Rattle.std.proofs.Common.{List, [], ◌∷◌, length, map, slice_get, replicate, codes}
+use Rattle.std.proofs.Common.{◌≡◌, ℕ, ◌+◌, ◌*◌, ◌^◌, ◌<◌, ◌≤◌, ◌∙◌, ◌++◌, Bool, true, false, ap, sym, refl, arith, All}
+use Rattle.std.proofs.Common.{List, [], length, map, slice_get, replicate, codes}
 use Rattle.std.specs.Prelude.{Option, Some, None, option_map, option_and_then, unwrap_or, if◌then◌else◌}
 use Rattle.std.specs.Option.{option_map_or}
 use Rattle.std.proofs.lemmas.Bool.{not-false}
-use Rattle.std.proofs.lemmas.List.{map-append}
+use Rattle.std.proofs.lemmas.List.{map-append, map-id}
+use Rattle.std.proofs.lemmas.List.Elements.{All-filter, filter_passes}
+use Rattle.std.proofs.lemmas.Option.{slice_get_within}
 use Rattle.toml.specs.Data.{Data, string, array, Members, get_member, as_str}
 use Rattle.first_index.specs.Indices.{first_from}
 use Rattle.toml_tree.specs.Texts.{texts_after, is_the_text}
 use Rattle.toml_tree.specs.Values.{monthly_of, text_at, integer_at, integer_of}
 use Rattle.water_text.specs.Days.{is_date}
-use Rattle.water_text.specs.Months.{month_digits}
 use Rattle.water_text.specs.Names.{is_name}
 use Rattle.water_model.specs.Basin.{node_name, link_name, reservoir_name, right_name}
 use Rattle.water_model.specs.Lookups.{of_entry}
@@ -39,52 +40,28 @@ use Rattle.basin_file.specs.BasinFaults.{is_in_table}
 use Rattle.basin_file.specs.Spelled.{basin_of, carry_of, date_of, diversion_of, first_of, instream_of, is_series}
 use Rattle.basin_file.specs.Spelled.{link_of, name_at, name_of, node_of, number_at, reservoir_of, return_of, right_of}
 use Rattle.basin_file.specs.Spelled.{rows_after, rows_in, small, volume_of, zone_of}
-use Rattle.basin_file.specs.Upgraded.{basin_table, closed_data, day_text, link_row, listed, node_row, number, numbers}
-use Rattle.basin_file.specs.Upgraded.{per_day_data, reservoir_row, return_row, right_row, rights_in, row_of_kind}
+use Rattle.basin_file.specs.Upgraded.{basin_table, day_text, link_row, node_row, number, numbers, reservoir_row}
+use Rattle.basin_file.specs.Upgraded.{return_row, right_row, rights_in, row_of_kind, keys_of_kind, link_keys, top_keys}
 use Rattle.basin_file.specs.Upgraded.{want_data}
-use Rattle.basin_file.proofs.Fields.{Keyed, looked_up, value_at}
-use Rattle.basin_file.proofs.Listed.{HaveOwn, all_each, diversion_same, diversion_within, diversions_own, each_filter}
-use Rattle.basin_file.proofs.Listed.{index_found, index_read, items_in, items_listed, map_alike, map_back}
-use Rattle.basin_file.proofs.Listed.{rights_by_table, rows_listing, texts_listing}
-use Rattle.basin_file.proofs.Lists.{Each, each_any, each_then, each_with}
-use Rattle.basin_file.proofs.Ranges.{series_wants}
+use Rattle.basin_file.proofs.Fields.{looked_up, value_at}
+use Rattle.basin_file.proofs.Listed.{HaveOwn, diversion_same, diversion_within, diversions_own, index_found, index_read}
+use Rattle.basin_file.proofs.Listed.{items_in, items_listed, rights_by_table, rows_listing, texts_listing, all_by}
+use Rattle.basin_file.proofs.Listed.{map_alike}
+use Rattle.basin_file.proofs.Values.{series_wants, area_read, carry_read, date_read, first_read, inflow_read}
+use Rattle.basin_file.proofs.Values.{monthly_read, name_read, volume_read, whole_read}
 use Rattle.basin_file.proofs.Passed.{IsListed, listing}
-use Rattle.basin_file.proofs.ReadBack.{area_read, carry_read, date_read, first_read, inflow_read, monthly_read}
-use Rattle.basin_file.proofs.ReadBack.{name_read, volume_read, whole_read}
 
--- the keys of the whole table, of a link and of a diversion, some of which may lack their values
-abbrev pub top_keys : Basin → List Keyed
-top_keys b =
-    (codes "diversion", listed (right_row b) (rights_in Diversion b.rights))
-    ∷ (codes "first_month", Some (string (month_digits b.first))) ∷ (codes "format", Some (number 2))
-    ∷ (codes "instream", listed (right_row b) (rights_in Instream b.rights))
-    ∷ (codes "link", listed (link_row b) b.links) ∷ (codes "months", Some (number b.months))
-    ∷ (codes "node", listed node_row b.nodes) ∷ (codes "reservoir", listed (reservoir_row b) b.reservoirs)
-    ∷ (codes "return", listed (return_row b) b.returns) ∷ (codes "year_start", Some (number b.year_start))
-    ∷ (codes "zone", listed (right_row b) (rights_in Zone b.rights)) ∷ []
-
+-- the values at the keys of the whole table, of a link and of a diversion, some of which may lack their values
 pub top_at : (b : Basin) (key : List ℕ) → get_member key (basin_table b) ≡ value_at key (top_keys b)
 unfolding basin_table
 top_at b key = looked_up key (top_keys b) refl
 
-abbrev pub link_keys : Basin → link.Link → List Keyed
-link_keys b l =
-    (codes "closed", closed_data l.carry) ∷ (codes "from", Some (string (node_name b l.from)))
-    ∷ (codes "name", Some (string l.name)) ∷ (codes "per_day", per_day_data l.carry)
-    ∷ (codes "to", Some (string (node_name b l.to))) ∷ []
-
 pub link_at : (b : Basin) (l : link.Link) (key : List ℕ) → get_member key (link_row b l) ≡ value_at key (link_keys b l)
 link_at b l key = looked_up key (link_keys b l) refl
 
-abbrev diversion_keys : Basin → Right → ℕ → List Keyed
-diversion_keys b r node =
-    (codes "date", Some (string (day_text r.date))) ∷ (codes "name", Some (string r.name))
-    ∷ (codes "node", Some (string (node_name b node))) ∷ (codes "order", Some (number r.order))
-    ∷ (codes "volume", option_map number r.volume) ∷ (codes "want", Some (want_data r)) ∷ []
-
 diversion_at : (b : Basin) (r : Right) (node : ℕ) (key : List ℕ) →
-    get_member key (row_of_kind b r (kind.Diversion node)) ≡ value_at key (diversion_keys b r node)
-diversion_at b r node key = looked_up key (diversion_keys b r node) refl
+    get_member key (row_of_kind b r (kind.Diversion node)) ≡ value_at key (keys_of_kind b r (kind.Diversion node))
+diversion_at b r node key = looked_up key (keys_of_kind b r (kind.Diversion node)) refl
 
 -- a text, a name and a number at a key
 pub text_there : (key : List ℕ) (row : Members) (text : List ℕ) → get_member key row ≡ Some (string text) →
@@ -148,13 +125,6 @@ kind_name b r (kind.Diversion node) = refl
 kind_name b r (kind.Instream link) = refl
 kind_name b r (kind.Zone reservoir level) = refl
 
--- every date of a valid basin is a day
-each_date : (rights : List Right) → ((k : ℕ) → k < length rights → of_entry rights k has_bad_date false ≡ false) →
-    Each (λ r. is_date r.date ≡ true) rights
-each_date [] h = tt
-each_date (r ∷ rights) h =
-    (not-false (is_date r.date) (h 0 (omega arith)), each_date rights (λ k l. h (suc k) (omega arith)))
-
 -- a right that stands in a table
 abbrev pub IsRightIn : Basin → BasinTable → Right → Type 0
 IsRightIn b t r = IsValidRight b r × (is_date r.date ≡ true) × (is_in_table t r.kind ≡ true)
@@ -193,8 +163,7 @@ module _ (b : Basin) (valid : IsValidBasin b) where
   texts t key row name xs its each =
       ap (texts_after key) its
       ∙ (texts_listing key (map row xs)
-      ∙ map_alike (text_at key) row (λ x. Some (name x)) xs
-      (each_any (λ x. text_at key (row x) ≡ Some (name x)) xs each))
+      ∙ map_alike (text_at key) row (λ x. Some (name x)) xs (λ k d h. each _))
 
   pub return_texts : texts_after (codes "diversion") (items_at (basin_table b) Return)
       ≡ map (λ row. Some (right_name b row.right)) b.returns
@@ -349,23 +318,26 @@ module _ (b : Basin) (valid : IsValidBasin b) where
           (no_volume (kind.Zone reservoir level) r.volume refl volume)
       by _ _ e index volume is = cc
 
-  pub rights_sound : (t : BasinTable) → Each (IsRightIn b t) (rights_in t b.rights)
-  rights_sound t =
-      each_filter (λ r. is_in_table t r.kind) (IsRightIn b t) b.rights
-      (each_then (λ r. IsValidRight b r × (is_date r.date ≡ true)) (λ r. is_in_table t r.kind ≡ true → IsRightIn b t r)
-      b.rights (λ r h is. (h.0, h.1, is))
-      (each_with (IsValidRight b) (λ r. is_date r.date ≡ true) b.rights
-      (all_each (IsValidRight b) b.rights valid.rights)
-      (each_date b.rights valid.roll.dates)))
+  pub rights_sound : (t : BasinTable) → All (IsRightIn b t) (rights_in t b.rights)
+  rights_sound t k d h =
+      let its = All-filter (λ r. is_in_table t r.kind) (λ r. IsValidRight b r × (is_date r.date ≡ true)) b.rights
+      (λ j e l. (valid.rights j e l, dates j e l)) k d h in
+      (its.0, its.1, filter_passes (λ r. is_in_table t r.kind) b.rights k d h)
+    where
+      dates : All (λ r. is_date r.date ≡ true) b.rights
+      dates = all_by (λ r. is_date r.date ≡ true) b.rights
+          (λ j r at. not-false (is_date r.date)
+          (sym (ap (λ (o : Option Right). unwrap_or (option_map has_bad_date o) false) at)
+          ∙ valid.roll.dates j (slice_get_within b.rights j r at)))
 
   -- the entries of a table
   back : {X : Type 0} (t : BasinTable) (row : X → Members) (spells : Members → X) (P : X → Type 0) (xs : List X) →
-      items_at (basin_table b) t ≡ listing (map row xs) → Each P xs → ((x : X) → P x → spells (row x) ≡ x) →
+      items_at (basin_table b) t ≡ listing (map row xs) → All P xs → ((x : X) → P x → spells (row x) ≡ x) →
       map spells (rows_in (basin_table b) t) ≡ xs
-  back t row spells P xs its each f =
+  back t row spells P xs its all f =
       ap (λ items. map spells (rows_after items)) its
       ∙ (ap (map spells) (rows_listing (map row xs))
-      ∙ map_back spells row xs (each_then P (λ x. spells (row x) ≡ x) xs f each))
+      ∙ (map_alike spells row (λ x. x) xs (λ k d h. f _ (all k d h)) ∙ map-id xs))
 
   rights_back : (t : BasinTable) → items_at (basin_table b) t ≡ listing (map (right_row b) (rights_in t b.rights)) →
       map (spells_of t (basin_table b)) (rows_in (basin_table b) t) ≡ rights_in t b.rights
@@ -384,15 +356,14 @@ table_spells b valid = λ i. record {
   year_start = whole_there (codes "year_start") 1 12 10 (basin_table b) b.year_start (top_at b (codes "year_start"))
       valid.format.year_start.0 valid.format.year_start.1 i;
   nodes = back b valid Node node_row node_of IsValidNode b.nodes (lists b valid Node tt)
-      (all_each IsValidNode b.nodes valid.nodes) (node_back b valid) i;
+      valid.nodes (node_back b valid) i;
   links = back b valid Link (link_row b) (link_of (basin_table b)) (IsValidLink b) b.links (lists b valid Link tt)
-      (all_each (IsValidLink b) b.links valid.links) (link_back b valid) i;
+      valid.links (link_back b valid) i;
   reservoirs = back b valid Reservoir (reservoir_row b) (reservoir_of (basin_table b)) (IsValidReservoir b) b.reservoirs
-      (lists b valid Reservoir tt) (all_each (IsValidReservoir b) b.reservoirs valid.reservoirs)
-      (reservoir_back b valid) i;
+      (lists b valid Reservoir tt) valid.reservoirs (reservoir_back b valid) i;
   rights = ((λ j. rights_back b valid Diversion (lists b valid Diversion tt) j
       ++ rights_back b valid Instream (lists b valid Instream tt) j
       ++ rights_back b valid Zone (lists b valid Zone tt) j) ∙ all_rights b valid) i;
   returns = back b valid Return (return_row b) (return_of (basin_table b)) (IsValidReturn b) b.returns
-      (lists b valid Return tt) (all_each (IsValidReturn b) b.returns valid.returns) (return_back b valid) i;
+      (lists b valid Return tt) valid.returns (return_back b valid) i;
 }

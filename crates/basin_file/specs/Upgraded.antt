@@ -43,6 +43,15 @@ abbrev pub with_some : List ℕ → Option Data → Members → Members
 with_some key None rest = rest
 with_some key (Some d) rest = member key d rest
 
+-- a key, and its value if it has one
+abbrev pub Keyed : Type 0
+Keyed = List ℕ × Option Data
+
+-- the table of some keys, in their order
+abbrev pub row_of : List Keyed → Members
+row_of [] = no_members
+row_of (f ∷ fs) = with_some f.0 f.1 (row_of fs)
+
 abbrev pub two_digits : ℕ → List ℕ
 two_digits n = (48 + n / 10) ∷ (48 + n % 10) ∷ []
 
@@ -61,9 +70,9 @@ inflow_data (Monthly amounts) = array (numbers amounts)
 inflow_data Gauged = string (codes "gauged")
 
 abbrev pub node_row : node.Node → Members
-node_row n =
-    member (codes "inflow") (inflow_data n.inflow)
-    (member (codes "name") (string n.name) (member (codes "outlet") (boolean n.outlet) no_members))
+node_row n = row_of (
+    (codes "inflow", Some (inflow_data n.inflow)) ∷ (codes "name", Some (string n.name))
+    ∷ (codes "outlet", Some (boolean n.outlet)) ∷ [])
 
 -- the calendar months in which a canal is shut, in rising order, where the list begins with this month
 abbrev pub shut_months : ℕ → List Bool → List ℕ
@@ -85,48 +94,52 @@ abbrev pub per_day_data : Carry → Option Data
 per_day_data River = None
 per_day_data (Canal per_day shut) = Some (number per_day)
 
+abbrev pub link_keys : Basin → link.Link → List Keyed
+link_keys b l =
+    (codes "closed", closed_data l.carry) ∷ (codes "from", Some (string (node_name b l.from)))
+    ∷ (codes "name", Some (string l.name)) ∷ (codes "per_day", per_day_data l.carry)
+    ∷ (codes "to", Some (string (node_name b l.to))) ∷ []
+
 abbrev pub link_row : Basin → link.Link → Members
-link_row b l =
-    with_some (codes "closed") (closed_data l.carry)
-    (member (codes "from") (string (node_name b l.from)) (member (codes "name") (string l.name)
-    (with_some (codes "per_day") (per_day_data l.carry) (member (codes "to") (string (node_name b l.to)) no_members))))
+link_row b l = row_of (link_keys b l)
 
 abbrev pub point_data : AreaPoint → Data
 point_data p = array (numbers (p.storage ∷ p.area ∷ []))
 
 -- a reservoir is named by its node
 abbrev pub reservoir_row : Basin → reservoir.Reservoir → Members
-reservoir_row b v =
-    member (codes "area") (array (items_of (map point_data v.area)))
-    (member (codes "node") (string (node_name b v.node))
-    (member (codes "opening") (number v.opening) (member (codes "rate") (array (numbers v.rate)) no_members)))
+reservoir_row b v = row_of (
+    (codes "area", Some (array (items_of (map point_data v.area))))
+    ∷ (codes "node", Some (string (node_name b v.node))) ∷ (codes "opening", Some (number v.opening))
+    ∷ (codes "rate", Some (array (numbers v.rate))) ∷ [])
 
 abbrev pub want_data : Right → Data
 want_data r = if r.series then string (codes "series") else array (numbers r.want)
 
+abbrev pub keys_of_kind : Basin → Right → RightKind → List Keyed
+keys_of_kind b r (kind.Diversion node) =
+    (codes "date", Some (string (day_text r.date))) ∷ (codes "name", Some (string r.name))
+    ∷ (codes "node", Some (string (node_name b node))) ∷ (codes "order", Some (number r.order))
+    ∷ (codes "volume", option_map number r.volume) ∷ (codes "want", Some (want_data r)) ∷ []
+keys_of_kind b r (kind.Instream link) =
+    (codes "date", Some (string (day_text r.date))) ∷ (codes "link", Some (string (link_name b link)))
+    ∷ (codes "name", Some (string r.name)) ∷ (codes "order", Some (number r.order))
+    ∷ (codes "want", Some (want_data r)) ∷ []
+keys_of_kind b r (kind.Zone reservoir level) =
+    (codes "date", Some (string (day_text r.date))) ∷ (codes "level", Some (number level))
+    ∷ (codes "name", Some (string r.name)) ∷ (codes "order", Some (number r.order))
+    ∷ (codes "reservoir", Some (string (reservoir_name b reservoir))) ∷ (codes "want", Some (want_data r)) ∷ []
+
 abbrev pub row_of_kind : Basin → Right → RightKind → Members
-row_of_kind b r (kind.Diversion node) =
-    member (codes "date") (string (day_text r.date))
-    (member (codes "name") (string r.name) (member (codes "node") (string (node_name b node))
-    (member (codes "order") (number r.order)
-    (with_some (codes "volume") (option_map number r.volume) (member (codes "want") (want_data r) no_members)))))
-row_of_kind b r (kind.Instream link) =
-    member (codes "date") (string (day_text r.date))
-    (member (codes "link") (string (link_name b link)) (member (codes "name") (string r.name)
-    (member (codes "order") (number r.order) (member (codes "want") (want_data r) no_members))))
-row_of_kind b r (kind.Zone reservoir level) =
-    member (codes "date") (string (day_text r.date))
-    (member (codes "level") (number level) (member (codes "name") (string r.name)
-    (member (codes "order") (number r.order) (member (codes "reservoir") (string (reservoir_name b reservoir))
-    (member (codes "want") (want_data r) no_members)))))
+row_of_kind b r its = row_of (keys_of_kind b r its)
 
 abbrev pub right_row : Basin → Right → Members
 right_row b r = row_of_kind b r r.kind
 
 abbrev pub return_row : Basin → ReturnRow → Members
-return_row b row =
-    member (codes "diversion") (string (right_name b row.right)) (member (codes "lag") (number row.lag)
-    (member (codes "node") (string (node_name b row.node)) (member (codes "part") (number row.part) no_members)))
+return_row b row = row_of (
+    (codes "diversion", Some (string (right_name b row.right))) ∷ (codes "lag", Some (number row.lag))
+    ∷ (codes "node", Some (string (node_name b row.node))) ∷ (codes "part", Some (number row.part)) ∷ [])
 
 -- the rights of a table, in their order
 abbrev pub rights_in : BasinTable → List Right → List Right
@@ -137,16 +150,15 @@ abbrev pub listed : {X : Type 0} → (X → Members) → List X → Option Data
 listed row entries = some_items (items_of (map (λ x. table (row x)) entries))
 
 -- the whole table
+abbrev pub top_keys : Basin → List Keyed
+top_keys b =
+    (codes "diversion", listed (right_row b) (rights_in Diversion b.rights))
+    ∷ (codes "first_month", Some (string (month_digits b.first))) ∷ (codes "format", Some (number 2))
+    ∷ (codes "instream", listed (right_row b) (rights_in Instream b.rights))
+    ∷ (codes "link", listed (link_row b) b.links) ∷ (codes "months", Some (number b.months))
+    ∷ (codes "node", listed node_row b.nodes) ∷ (codes "reservoir", listed (reservoir_row b) b.reservoirs)
+    ∷ (codes "return", listed (return_row b) b.returns) ∷ (codes "year_start", Some (number b.year_start))
+    ∷ (codes "zone", listed (right_row b) (rights_in Zone b.rights)) ∷ []
+
 unfoldable pub basin_table : Basin → Members
-basin_table b =
-    with_some (codes "diversion") (listed (right_row b) (rights_in Diversion b.rights))
-    (member (codes "first_month") (string (month_digits b.first))
-    (member (codes "format") (number 2)
-    (with_some (codes "instream") (listed (right_row b) (rights_in Instream b.rights))
-    (with_some (codes "link") (listed (link_row b) b.links)
-    (member (codes "months") (number b.months)
-    (with_some (codes "node") (listed node_row b.nodes)
-    (with_some (codes "reservoir") (listed (reservoir_row b) b.reservoirs)
-    (with_some (codes "return") (listed (return_row b) b.returns)
-    (member (codes "year_start") (number b.year_start)
-    (with_some (codes "zone") (listed (right_row b) (rights_in Zone b.rights)) no_members))))))))))
+basin_table b = row_of (top_keys b)

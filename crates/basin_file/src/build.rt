@@ -21,10 +21,7 @@ use water_model::types::{AreaPoint, Basin, Link, Node, Reservoir, ReturnRow, Rig
 fn point_of(value: &Value) -> AreaPoint
     ensures { result ≡ point_in (unwrap_or (as_array (view value.now)) no_items) }
 {
-    match items_of(value) {
-        Some(pair) => point_in(pair),
-        None => point_in(&[]),
-    }
+    point_in(items_of(value).unwrap_or(&[]))
 }
 
 fn points_in(alloc: Global, items: &[Value]) -> Result<Vec<AreaPoint>, AllocError>
@@ -51,11 +48,8 @@ fn no_area(alloc: Global) -> Result<Vec<AreaPoint>, AllocError>
 fn area_at(alloc: Global, row: &Table) -> Result<Vec<AreaPoint>, AllocError>
     ensures { IfOk result (λ points. points.items ≡ area_of (get_member (codes "area") (table_view row.now))) }
 {
-    match member(row, "area") {
-        Some(value) => match items_of(value) {
-            Some(items) => points_in(alloc, items),
-            None => no_area(alloc),
-        },
+    match member(row, "area").and_then(|value| items_of(value)) {
+        Some(items) => points_in(alloc, items),
         None => no_area(alloc),
     }
 }
@@ -79,20 +73,6 @@ fn add_entries<E: Drop, R: EntryReader<E>>(
     Ok(())
 }
 
-/// Adds the entries of a table.
-fn add_table<E: Drop, R: EntryReader<E>>(
-    into: &mut Vec<E>,
-    alloc: Global,
-    document: &Document,
-    table: BasinTable,
-) -> Result<(), AllocError>
-    ensures { OnOk result
-        (into.new.items ≡ into.old.items ++ map (R.spells (tree_of document.now))
-        (rows_in (tree_of document.now) table)) }
-{
-    add_entries::<E, R>(into, alloc, document, document.items_at(table))
-}
-
 fn table_of<E: Drop, R: EntryReader<E>>(
     alloc: Global,
     document: &Document,
@@ -102,7 +82,7 @@ fn table_of<E: Drop, R: EntryReader<E>>(
         (λ rows. rows ≡ map (R.spells (tree_of document.now)) (rows_in (tree_of document.now) table)) }
 {
     let mut entries = Vec::new(alloc);
-    add_table::<E, R>(&mut entries, alloc, document, table)?;
+    add_entries::<E, R>(&mut entries, alloc, document, document.items_at(table))?;
     Ok(Rows::from_vec(entries))
 }
 
@@ -127,9 +107,12 @@ fn rights_of(alloc: Global, document: &Document) -> Result<Rows<Right>, AllocErr
     ensures { IfOk result (λ rights. rights ≡ rights_of (tree_of document.now)) }
 {
     let mut rights = Vec::new(alloc);
-    add_table::<Right, DiversionReader>(&mut rights, alloc, document, BasinTable::Diversion)?;
-    add_table::<Right, InstreamReader>(&mut rights, alloc, document, BasinTable::Instream)?;
-    add_table::<Right, ZoneReader>(&mut rights, alloc, document, BasinTable::Zone)?;
+    let diversions = document.items_at(BasinTable::Diversion);
+    add_entries::<Right, DiversionReader>(&mut rights, alloc, document, diversions)?;
+    let instreams = document.items_at(BasinTable::Instream);
+    add_entries::<Right, InstreamReader>(&mut rights, alloc, document, instreams)?;
+    let zones = document.items_at(BasinTable::Zone);
+    add_entries::<Right, ZoneReader>(&mut rights, alloc, document, zones)?;
     Ok(Rows::from_vec(rights))
 }
 

@@ -13,35 +13,18 @@ use rights_roll::RollRefused;
 use river_net::NetRefused;
 use water_model::types::{Right, RightKind};
 
-fn found_after(fault: BasinFault, table: BasinTable, before: u32) -> Finding
-    ensures { result ≡ found fault table (before + 1) }
-{
-    found(fault, table, u64::from(before) + 1)
-}
-
 /// The fault that a refused network is reported as, or `None` for want of memory.
 pub fn net_finding(e: NetRefused) -> Option<Finding>
     ensures { result ≡ net_finding e }
 {
-    match e {
-        NetRefused::SelfLink(link) => Some(found_after(
-            BasinFault::SelfLink,
-            BasinTable::Link,
-            link,
-        )),
-        NetRefused::LinkFromOutlet(link) => Some(found_after(
-            BasinFault::LinkFromOutlet,
-            BasinTable::Link,
-            link,
-        )),
-        NetRefused::NoRiver(node) => Some(found_after(BasinFault::NoRiver, BasinTable::Node, node)),
-        NetRefused::DirectedCycle(node) => Some(found_after(
-            BasinFault::DirectedCycle,
-            BasinTable::Node,
-            node,
-        )),
-        NetRefused::OutOfMemory => None,
-    }
+    let (fault, table, before) = match e {
+        NetRefused::SelfLink(link) => (BasinFault::SelfLink, BasinTable::Link, link),
+        NetRefused::LinkFromOutlet(link) => (BasinFault::LinkFromOutlet, BasinTable::Link, link),
+        NetRefused::NoRiver(node) => (BasinFault::NoRiver, BasinTable::Node, node),
+        NetRefused::DirectedCycle(node) => (BasinFault::DirectedCycle, BasinTable::Node, node),
+        NetRefused::OutOfMemory => return None,
+    };
+    Some(found(fault, table, u64::from(before) + 1))
 }
 
 fn table_of(kind: &RightKind) -> BasinTable
@@ -77,10 +60,9 @@ fn count_in_table(rights: &[Right], table: BasinTable) -> usize
 fn table_at(rights: &[Right], at: usize) -> BasinTable
     ensures { result ≡ of_entry rights.now at (λ r. table_of r.kind) BasinTable.Top }
 {
-    match rights.get(at) {
-        Some(right) => table_of(&right.kind),
-        None => BasinTable::Top,
-    }
+    rights
+        .get(at)
+        .map_or(BasinTable::Top, |right| table_of(&right.kind))
 }
 
 /// The rights up to one.
@@ -127,12 +109,12 @@ pub fn roll_finding(rights: &[Right], e: RollRefused) -> Option<Finding>
 pub fn area_finding(number: u64, e: TableRefused) -> Option<Finding>
     ensures { result ≡ area_finding number e }
 {
-    let table = BasinTable::Reservoir;
-    match e {
-        TableRefused::Empty => Some(found(BasinFault::TableEmpty, table, number)),
-        TableRefused::FirstNotZero => Some(found(BasinFault::TableFirst, table, number)),
-        TableRefused::NotRising(_) => Some(found(BasinFault::TableRising, table, number)),
-        TableRefused::AreaFalls(_) => Some(found(BasinFault::TableArea, table, number)),
-        TableRefused::OutOfMemory => None,
-    }
+    let fault = match e {
+        TableRefused::Empty => BasinFault::TableEmpty,
+        TableRefused::FirstNotZero => BasinFault::TableFirst,
+        TableRefused::NotRising(_) => BasinFault::TableRising,
+        TableRefused::AreaFalls(_) => BasinFault::TableArea,
+        TableRefused::OutOfMemory => return None,
+    };
+    Some(found(fault, BasinTable::Reservoir, number))
 }

@@ -25,10 +25,7 @@ use water_text::name::Name;
 fn name_of(text: &[u8]) -> Name
     ensures { result ≡ name_of text.now }
 {
-    match Name::read(text) {
-        Some(name) => name,
-        None => Name::dash(),
-    }
+    Name::read(text).unwrap_or(Name::dash())
 }
 
 fn name_at(row: &Table, key: &str) -> Name
@@ -40,21 +37,16 @@ fn name_at(row: &Table, key: &str) -> Name
 fn truth_at(row: &Table, key: &str) -> bool
     ensures { result ≡ truth_at key.now (table_view row.now) }
 {
-    match member(row, key) {
-        Some(value) => value.as_bool().unwrap_or(false),
-        None => false,
-    }
+    member(row, key).is_some_and(|value| value.as_bool().unwrap_or(false))
 }
 
 fn inflow_at(row: &Table) -> Inflow
     ensures { result ≡ inflow_of (get_member (codes "inflow") (table_view row.now)) }
 {
-    match member(row, "inflow") {
-        Some(value) => match value.as_str() {
-            Some(_) => Inflow::Gauged,
-            None => Inflow::Monthly(monthly_at(row, "inflow", MAX_AMOUNT)),
-        },
-        None => Inflow::Monthly(monthly_at(row, "inflow", MAX_AMOUNT)),
+    if member(row, "inflow").is_some_and(|value| value.is_str()) {
+        Inflow::Gauged
+    } else {
+        Inflow::Monthly(monthly_at(row, "inflow", MAX_AMOUNT))
     }
 }
 
@@ -79,10 +71,7 @@ fn lists_month(value: &Value, month: u64) -> bool
 fn is_shut(closed: Option<&Value>, month: u64) -> bool
     ensures { result ≡ option_map_or (lists_month month) (option_map (λ x. view x.now) closed.entry) false }
 {
-    match closed {
-        Some(value) => lists_month(value, month),
-        None => false,
-    }
+    closed.is_some_and(|value| lists_month(value, month))
 }
 
 /// For each calendar month whether a canal is shut in it.
@@ -133,46 +122,34 @@ pub fn point_in(pair: &[Value]) -> AreaPoint
 fn date_of(text: &[u8]) -> Day
     ensures { result ≡ date_of text.now }
 {
-    match Day::read(text) {
-        Some(day) => day,
-        None => Day {
-            year: 0,
-            month: 0,
-            day: 0,
-        },
-    }
+    Day::read(text).unwrap_or(Day {
+        year: 0,
+        month: 0,
+        day: 0,
+    })
 }
 
 /// The first month of the run.
 pub fn first_of(text: &[u8]) -> Month
     ensures { result ≡ first_of text.now }
 {
-    match Month::read(text) {
-        Some(month) => month,
-        None => Month {
-            year: 1800,
-            month: 1,
-        },
-    }
+    Month::read(text).unwrap_or(Month {
+        year: 1800,
+        month: 1,
+    })
 }
 
 fn volume_at(row: &Table) -> Option<u64>
     ensures { result ≡ volume_of (get_member (codes "volume") (table_view row.now)) }
 {
-    match member(row, "volume") {
-        Some(value) => Some(integer_of(Some(value), 0, MAX_STORED, 0)),
-        None => None,
-    }
+    member(row, "volume").map(|value| integer_of(Some(value), 0, MAX_STORED, 0))
 }
 
 /// Whether a right's wants stand in the series.
 fn series_at(row: &Table) -> bool
     ensures { result ≡ is_series (get_member (codes "want") (table_view row.now)) }
 {
-    match member(row, "want") {
-        Some(value) => value.is_str(),
-        None => false,
-    }
+    member(row, "want").is_some_and(|value| value.is_str())
 }
 
 fn right_of(kind: RightKind, volume: Option<u64>, row: &Table) -> Right

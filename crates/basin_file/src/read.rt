@@ -1,9 +1,7 @@
 //! Reads a basin.
-ghost use Rattle.std.specs.Prelude.{◌≡◌, ◌≤◌, length, All, None, Some, IfOk, IfErr, IfNone, OnOk, option_and_then};
+ghost use Rattle.std.specs.Prelude.{◌≡◌, ◌≤◌, length, All, None, Some, IfOk, IfErr, OnOk, option_and_then};
 ghost use Rattle.toml.specs.View.{table_view};
-ghost use Rattle.water_model.specs.Network.{IsSoundNetwork};
-ghost use Rattle.water_model.specs.Rights.{IsSoundRoll};
-ghost use Rattle.water_model.specs.Valid.{IsValidBasin, IsAreaTable};
+ghost use Rattle.water_model.specs.Valid.{IsValidBasin};
 ghost use Rattle.river_net.specs.NetFaults.{net_fault};
 ghost use Rattle.rights_roll.specs.RollFaults.{roll_fault, IsRollRefusal};
 ghost use Rattle.reservoirs.specs.AreaFaults.{table_fault};
@@ -34,23 +32,18 @@ use water_model::types::{Basin, Reservoir};
 /// The fault of a basin's network, if it has one.
 fn network_fault(alloc: Global, basin: &Basin) -> Result<Option<Finding>, AllocError>
     requires { IsSoundBasin basin.now }
-    ensures first { IfOk result
+    ensures { IfOk result
         (λ fault. fault ≡ option_and_then net_finding (net_fault basin.now.nodes basin.now.links)) }
-    ensures sound { IfOk result (λ fault. fault ≡ None → IsSoundNetwork basin.now.nodes basin.now.links) }
 {
     match Net::build(alloc, basin.nodes.as_slice(), basin.links.as_slice()) {
         Ok(_) => Ok(None),
-        Err(e) => match net_finding(e) {
-            Some(finding) => Ok(Some(finding)),
-            None => Err(AllocError),
-        },
+        Err(e) => net_finding(e).map(Some).ok_or(AllocError),
     }
 }
 
 /// Whether a basin's rights are a roll.
 fn check_rights(alloc: Global, basin: &Basin) -> Result<(), RollRefused>
     requires { IsSoundBasin basin.now }
-    ensures sound { OnOk result (IsSoundRoll basin.now.rights basin.now.returns) }
     ensures faultless { OnOk result (roll_fault basin.now.rights basin.now.returns ≡ None) }
     ensures refused { IfErr result (λ e. IsRollRefusal e basin.now.rights basin.now.returns) }
 {
@@ -61,10 +54,9 @@ fn check_rights(alloc: Global, basin: &Basin) -> Result<(), RollRefused>
 /// The fault of a basin's rights, if they have one.
 fn rights_fault(alloc: Global, basin: &Basin) -> Result<Option<Finding>, AllocError>
     requires { IsSoundBasin basin.now }
-    ensures first { IfOk result
+    ensures { IfOk result
         (λ fault. fault ≡ option_and_then (roll_finding basin.now.rights)
         (roll_fault basin.now.rights basin.now.returns)) }
-    ensures sound { IfOk result (λ fault. fault ≡ None → IsSoundRoll basin.now.rights basin.now.returns) }
 {
     match check_rights(alloc, basin) {
         Ok(()) => Ok(None),
@@ -79,13 +71,11 @@ fn area_fault(number: u64, reservoir: &Reservoir) -> Option<Finding>
     requires { length reservoir.now.area ≤ 64 }
     ensures { result ≡ option_and_then (area_finding number) (table_fault reservoir.now.area) }
 {
-    match table_fault(reservoir.area.as_slice()) {
-        Some(e) => area_finding(number, e),
-        None => None,
-    }
+    table_fault(reservoir.area.as_slice()).and_then(|e| area_finding(number, e))
 }
 
-fn first_area_fault(reservoirs: &[Reservoir]) -> Option<Finding>
+/// The fault of the first reservoir whose area table has one.
+fn areas_fault(reservoirs: &[Reservoir]) -> Option<Finding>
     requires { All (λ v. length v.area ≤ 64) reservoirs.now }
     ensures { result ≡ areas_fault 0 reservoirs.now }
 {
@@ -97,43 +87,19 @@ fn first_area_fault(reservoirs: &[Reservoir]) -> Option<Finding>
     None
 }
 
-/// The fault of the first reservoir whose area table has one.
-#[tactic(auto, using(crate::proofs::Faultless::areas_sound))]
-fn areas_fault(reservoirs: &[Reservoir]) -> Option<Finding>
-    requires { All (λ v. length v.area ≤ 64) reservoirs.now }
-    ensures first { result ≡ areas_fault 0 reservoirs.now }
-    ensures sound { IfNone result (All (λ v. IsAreaTable v.area) reservoirs.now) }
-{
-    first_area_fault(reservoirs)
-}
-
 /// The first fault of a basin by its network, its rights and its area tables.
-#[tactic(auto, using(crate::proofs::Faultless::valid_by), unfolding(crate::specs::BasinFaults::basin_fault))]
+#[tactic(auto, unfolding(crate::specs::BasinFaults::basin_fault))]
 fn basin_fault(alloc: Global, basin: &Basin) -> Result<Option<Finding>, AllocError>
     requires { IsSoundBasin basin.now }
-    ensures first { IfOk result (λ fault. fault ≡ basin_fault basin.now) }
-    ensures valid { IfOk result (λ fault. fault ≡ None → IsValidBasin basin.now) }
+    ensures { IfOk result (λ fault. fault ≡ basin_fault basin.now) }
 {
-    match network_fault(alloc, basin) {
-        Ok(None) => {}
-        Ok(Some(finding)) => return Ok(Some(finding)),
-        Err(e) => return Err(e),
+    if let Some(finding) = network_fault(alloc, basin)? {
+        return Ok(Some(finding));
     }
-    match rights_fault(alloc, basin) {
-        Ok(None) => {}
-        Ok(Some(finding)) => return Ok(Some(finding)),
-        Err(e) => return Err(e),
+    if let Some(finding) = rights_fault(alloc, basin)? {
+        return Ok(Some(finding));
     }
     Ok(areas_fault(basin.reservoirs.as_slice()))
-}
-
-/// The basin of a document that has no fault by itself.
-fn sound_basin(alloc: Global, document: &Document) -> Result<Basin, AllocError>
-    requires { tree_fault (tree_of document.now) ≡ None }
-    ensures basin { IfOk result (λ basin. basin ≡ basin_of (tree_of document.now)) }
-    ensures sound { IfOk result IsSoundBasin }
-{
-    basin_of(alloc, document)
 }
 
 fn refused(finding: Finding) -> BasinRefused
@@ -149,20 +115,17 @@ fn refused(finding: Finding) -> BasinRefused
 /// The basin that a document spells, or the first fault that the document has by itself.
 fn unchecked_basin(alloc: Global, document: &Document) -> Result<Basin, BasinRefused>
     ensures basin { IfOk result (λ basin. basin ≡ basin_of (tree_of document.now)) }
-    ensures sound { IfOk result IsSoundBasin }
     ensures faultless { OnOk result (tree_fault (tree_of document.now) ≡ None) }
     ensures refused { IfErr result (IsRefusalOf (document_fault (Some (tree_of document.now)))) }
 {
     if let Some(finding) = tree_fault(document) {
         return Err(refused(finding));
     }
-    match sound_basin(alloc, document) {
-        Ok(basin) => Ok(basin),
-        Err(_) => Err(BasinRefused::OutOfMemory),
-    }
+    basin_of(alloc, document).map_err(|_| BasinRefused::OutOfMemory)
 }
 
 /// The basin that the top table of a document spells, or the first fault that the document has by itself.
+#[tactic(auto, using(crate::proofs::Faultless::sound_at))]
 fn tree_basin(alloc: Global, tree: &Table) -> Result<Basin, BasinRefused>
     ensures basin { IfOk result (λ basin. basin ≡ basin_of (table_view tree.now)) }
     ensures sound { IfOk result IsSoundBasin }
@@ -176,6 +139,7 @@ fn tree_basin(alloc: Global, tree: &Table) -> Result<Basin, BasinRefused>
 }
 
 /// Refuses a basin that has a fault by its network, its rights or its area tables.
+#[tactic(auto, using(crate::proofs::Faultless::valid_of))]
 fn check_basin(alloc: Global, basin: &Basin) -> Result<(), BasinRefused>
     requires { IsSoundBasin basin.now }
     ensures valid { OnOk result (IsValidBasin basin.now) }

@@ -8,7 +8,7 @@ ghost use Rattle.toml_tree.specs.Document.{document_of};
 ghost use Rattle.water_text.specs.Days.{is_date};
 ghost use Rattle.water_text.specs.Months.{IsMonth, month_digits};
 ghost use Rattle.water_text.specs.Names.{is_name};
-ghost use Rattle.water_model.specs.Basin.{node_name, link_name, right_name, reservoir_name};
+ghost use Rattle.water_model.specs.Basin.{node_name};
 ghost use Rattle.water_model.specs.Valid.{IsValidBasin, IsValidInflow, IsValidNode, IsValidLink, IsValidReservoir};
 ghost use Rattle.water_model.specs.Valid.{IsValidPoint, IsValidRight, IsValidReturn, IsMonthly};
 ghost use Rattle.water_model.specs.declared.types.Basin.{Basin};
@@ -51,6 +51,7 @@ fn put_text(alloc: Global, row: &mut Table, key: &str, text: &[u8]) -> Result<()
 }
 
 /// Adds a name.
+#[tactic(auto, using(crate::proofs::Values::name_ascii))]
 fn put_name(alloc: Global, row: &mut Table, key: &str, name: &[u8]) -> Result<(), AllocError>
     requires { is_name name.now ≡ true }
     ensures { OnOk result (table_view row.new ≡ with_member key.now (string name.now) (table_view row.old)) }
@@ -66,36 +67,6 @@ fn node_name(basin: &Basin, node: u32) -> &[u8]
     ensures name { is_name result.now ≡ true }
 {
     basin.nodes[node as usize].name.bytes()
-}
-
-/// The name of a link.
-fn link_name(basin: &Basin, link: u32) -> &[u8]
-    requires basin { IsValidBasin basin.now }
-    requires link { link < length basin.now.links }
-    ensures value { result.now ≡ link_name basin.now link }
-    ensures name { is_name result.now ≡ true }
-{
-    basin.links[link as usize].name.bytes()
-}
-
-/// The name of a right.
-fn right_name(basin: &Basin, right: u32) -> &[u8]
-    requires basin { IsValidBasin basin.now }
-    requires right { right < length basin.now.rights }
-    ensures value { result.now ≡ right_name basin.now right }
-    ensures name { is_name result.now ≡ true }
-{
-    basin.rights[right as usize].name.bytes()
-}
-
-/// The name of a reservoir, which is its node's.
-fn reservoir_name(basin: &Basin, reservoir: u32) -> &[u8]
-    requires basin { IsValidBasin basin.now }
-    requires reservoir { reservoir < length basin.now.reservoirs }
-    ensures value { result.now ≡ reservoir_name basin.now reservoir }
-    ensures name { is_name result.now ≡ true }
-{
-    node_name(basin, basin.reservoirs[reservoir as usize].node)
 }
 
 fn number(n: u64) -> Value
@@ -275,15 +246,12 @@ fn right_row(alloc: Global, basin: &Basin, right: &Right) -> Result<Table, Alloc
             put_volume(alloc, &mut row, right.volume)?;
         }
         RightKind::Instream { link } => {
-            put_name(alloc, &mut row, "link", link_name(basin, link))?;
+            let name = basin.links[link as usize].name.bytes();
+            put_name(alloc, &mut row, "link", name)?;
         }
         RightKind::Zone { reservoir, level } => {
-            put_name(
-                alloc,
-                &mut row,
-                "reservoir",
-                reservoir_name(basin, reservoir),
-            )?;
+            let node = basin.reservoirs[reservoir as usize].node;
+            put_name(alloc, &mut row, "reservoir", node_name(basin, node))?;
             put_number(alloc, &mut row, "level", u64::from(level))?;
         }
     }
@@ -381,7 +349,7 @@ impl RowWriter<ReturnRow> for ReturnWriter {
 
     fn write(alloc: Global, basin: &Basin, entry: &ReturnRow) -> Result<Table, AllocError> {
         let mut row = Table::new(alloc);
-        let right = right_name(basin, entry.right);
+        let right = basin.rights[entry.right as usize].name.bytes();
         put_name(alloc, &mut row, "diversion", right)?;
         put_name(alloc, &mut row, "node", node_name(basin, entry.node))?;
         put_number(alloc, &mut row, "part", u64::from(entry.part))?;
@@ -456,24 +424,6 @@ fn put_rights(
     put_list(alloc, top, key, rights_of(alloc, basin, which)?)
 }
 
-/// Adds the keys of the whole table that come last in its order.
-fn put_last(alloc: Global, top: &mut Table, basin: &Basin) -> Result<(), AllocError>
-    requires { IsValidBasin basin.now }
-    ensures { OnOk result
-        (table_view top.new ≡ with_option (codes "reservoir") (listed (reservoir_row basin.now) basin.now.reservoirs)
-        (with_option (codes "return") (listed (return_row basin.now) basin.now.returns)
-        (with_member (codes "year_start") (number basin.now.year_start)
-        (with_option (codes "zone") (listed (right_row basin.now) (rights_in BasinTable.Zone basin.now.rights))
-        (table_view top.old))))) }
-{
-    put_rights(alloc, top, "zone", basin, BasinTable::Zone)?;
-    put_number(alloc, top, "year_start", u64::from(basin.year_start))?;
-    let returns = basin.returns.as_slice();
-    put_rows::<ReturnRow, ReturnWriter>(alloc, top, "return", basin, returns)?;
-    let reservoirs = basin.reservoirs.as_slice();
-    put_rows::<Reservoir, ReservoirWriter>(alloc, top, "reservoir", basin, reservoirs)
-}
-
 /// The table of format 2 that stands for a basin: every key with its value, monthly values as lists of twelve. What a
 /// river, a canal that is never shut and a right without a volume don't have is left out, and so is an empty list.
 ///
@@ -483,7 +433,12 @@ pub fn spelled(alloc: Global, basin: &Basin) -> Result<Table, AllocError>
     ensures { IfOk result (λ made. table_view made ≡ basin_table basin.now) }
 {
     let mut top = Table::new(alloc);
-    put_last(alloc, &mut top, basin)?;
+    put_rights(alloc, &mut top, "zone", basin, BasinTable::Zone)?;
+    put_number(alloc, &mut top, "year_start", u64::from(basin.year_start))?;
+    let returns = basin.returns.as_slice();
+    put_rows::<ReturnRow, ReturnWriter>(alloc, &mut top, "return", basin, returns)?;
+    let reservoirs = basin.reservoirs.as_slice();
+    put_rows::<Reservoir, ReservoirWriter>(alloc, &mut top, "reservoir", basin, reservoirs)?;
     let nodes = basin.nodes.as_slice();
     put_rows::<Node, NodeWriter>(alloc, &mut top, "node", basin, nodes)?;
     put_number(alloc, &mut top, "months", u64::from(basin.months))?;

@@ -1,7 +1,7 @@
 -- The entries of a document in their order, and the fault that a test finds.
-use Rattle.std.specs.Prelude.{ℕ, ◌+◌, ◌-◌, ◌^◌, min, List, [], ◌∷◌, ◌++◌, unwrap_or, option_and_then}
+use Rattle.std.specs.Prelude.{ℕ, ◌+◌, ◌-◌, ◌^◌, min, List, [], ◌∷◌, ◌++◌, unwrap_or, option_and_then, Option, None}
 use Rattle.std.specs.List.{flat_map}
-use Rattle.std.specs.Option.{option_map_or}
+use Rattle.std.specs.Option.{option_map_or, option_or}
 use Rattle.toml.specs.Data.{Data, Items, no_items, item, Members, get_member, as_array, as_table}
 use Rattle.basin_tree.specs.declared.fault.BasinFault.{BasinFault}
 use Rattle.basin_tree.specs.declared.tables.BasinTable.{BasinTable}
@@ -42,3 +42,8 @@ found fault table number = record { fault = fault; table = table; entry = min nu
 
 abbrev pub found_at : BasinFault → Entry → Finding
 found_at fault e = found fault e.table e.number
+
+-- the first that a function gives at one of a list
+abbrev pub first_some : {A B : Type 0} → (A → Option B) → List A → Option B
+first_some f [] = None
+first_some f (x ∷ xs) = option_or (f x) (first_some f xs)

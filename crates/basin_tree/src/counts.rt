@@ -61,17 +61,11 @@ pub fn rights_before(document: &Document, table: BasinTable) -> u64
 fn is_long_list(value: &Value) -> bool
     ensures { result ≡ option_map_or (λ points. nat_lt 64 (items_len points)) (as_array (view value.now)) false }
 {
-    match items_of(value) {
-        Some(points) => count_of(points) > 64,
-        None => false,
-    }
+    items_of(value).is_some_and(|points| count_of(points) > 64)
 }
 
 fn has_many_points(row: &Table) -> bool
     ensures { result ≡ has_many_points (table_view row.now) }
 {
-    match member(row, "area") {
-        Some(value) => is_long_list(value),
-        None => false,
-    }
+    member(row, "area").is_some_and(|value| is_long_list(value))
 }

@@ -87,41 +87,6 @@ fn right_indices<'a>(alloc: Global, tree: &'a Table) -> Result<IndexMap<&'a [u8]
     Ok(indices)
 }
 
-/// The indices of nodes and of links.
-fn network_indices<'a>(
-    alloc: Global,
-    tree: &'a Table,
-) -> Result<(IndexMap<&'a [u8], u64>, IndexMap<&'a [u8], u64>), AllocError>
-    ensures { IfOk result (λ indices. KeepsIndices indices.0 (texts_in (table_view tree.now) BasinTable.Node)
-        × KeepsIndices indices.1 (texts_in (table_view tree.now) BasinTable.Link)) }
-{
-    let nodes = table_indices(alloc, tree, BasinTable::Node)?;
-    let links = table_indices(alloc, tree, BasinTable::Link)?;
-    Ok((nodes, links))
-}
-
-/// The indices of reservoirs, of diversions and of rights.
-fn use_indices<'a>(
-    alloc: Global,
-    tree: &'a Table,
-) -> Result<
-    (
-        IndexMap<&'a [u8], u64>,
-        IndexMap<&'a [u8], u64>,
-        IndexMap<&'a [u8], u64>,
-    ),
-    AllocError,
->
-    ensures { IfOk result (λ indices. KeepsIndices indices.0 (texts_in (table_view tree.now) BasinTable.Reservoir)
-        × KeepsIndices indices.1 (texts_in (table_view tree.now) BasinTable.Diversion)
-        × KeepsIndices indices.2 (texts_of (table_view tree.now) Space.Rights)) }
-{
-    let reservoirs = table_indices(alloc, tree, BasinTable::Reservoir)?;
-    let diversions = table_indices(alloc, tree, BasinTable::Diversion)?;
-    let rights = right_indices(alloc, tree)?;
-    Ok((reservoirs, diversions, rights))
-}
-
 fn index_of(indices: &IndexMap<&[u8], u64>, name: &str) -> Option<u64>
     ensures { result ≡ index_at indices.now name.now }
 {
@@ -136,9 +101,11 @@ impl<'a> Document<'a> {
         ensures { IfOk result (λ document. tree_of document ≡ table_view tree.now) }
     {
         let earlier = earlier_of(alloc, listed_at(tree, BasinTable::Return), "diversion")?;
-        let network = network_indices(alloc, tree)?;
-        let (reservoirs, diversions, rights) = use_indices(alloc, tree)?;
-        let (nodes, links) = network;
+        let nodes = table_indices(alloc, tree, BasinTable::Node)?;
+        let links = table_indices(alloc, tree, BasinTable::Link)?;
+        let reservoirs = table_indices(alloc, tree, BasinTable::Reservoir)?;
+        let diversions = table_indices(alloc, tree, BasinTable::Diversion)?;
+        let rights = right_indices(alloc, tree)?;
         Ok(Document {
             tree,
             nodes,

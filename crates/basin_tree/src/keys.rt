@@ -75,20 +75,14 @@ fn lacks_key(table: BasinTable, row: &Table) -> bool
 fn is_empty_list(value: &Value) -> bool
     ensures { result ≡ option_map_or (λ items. items_len items == 0) (as_array (view value.now)) false }
 {
-    match items_of(value) {
-        Some(items) => count_of(items) == 0,
-        None => false,
-    }
+    items_of(value).is_some_and(|items| count_of(items) == 0)
 }
 
 fn has_no_nodes(table: BasinTable, row: &Table) -> bool
     ensures { result ≡ has_no_nodes table (table_view row.now) }
 {
     match table {
-        BasinTable::Top => match member(row, "node") {
-            Some(value) => is_empty_list(value),
-            None => false,
-        },
+        BasinTable::Top => member(row, "node").is_some_and(|value| is_empty_list(value)),
         _ => false,
     }
 }

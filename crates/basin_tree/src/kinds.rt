@@ -1,13 +1,12 @@
 //! Values of the wrong kind.
-ghost use Rattle.std.specs.Prelude.{◌≡◌, ◌==◌, ◌&&◌, not, false, is_some, codes, length};
+ghost use Rattle.std.specs.Prelude.{◌≡◌, ◌==◌, ◌&&◌, not, false, is_some, length};
 ghost use Rattle.std.specs.List.{list_all};
 ghost use Rattle.std.specs.Option.{option_map_or};
 ghost use Rattle.std.specs.Str.{bytes_eq};
 ghost use Rattle.toml.specs.Data.{as_array, as_table};
 ghost use Rattle.toml.specs.View.{view};
-ghost use Rattle.water_text.specs.Shapes.{has_shape};
 ghost use Rattle.toml_tree.specs.Items.{items_all};
-ghost use Rattle.basin_tree.specs.Kinds.{has_kind, is_integer_value, is_listed, is_monthly, is_text, is_want};
+ghost use Rattle.basin_tree.specs.Kinds.{has_kind, is_integer_value, is_listed, is_monthly, is_text};
 ghost use Rattle.basin_tree.specs.Kinds.{is_integer_list};
 ghost use Rattle.basin_tree.specs.KeyFaults.{format_of, wrong_kind};
 
@@ -39,16 +38,10 @@ impl EntryTest for WrongKind {
     }
 }
 
-fn is_integer_value(value: &Value) -> bool
-    ensures { result ≡ is_integer_value (view value.now) }
-{
-    value.is_integer()
-}
-
 fn are_integer(values: &[Value]) -> bool
     ensures { result ≡ list_all (λ v. is_integer_value (view v)) values.now }
 {
-    values.iter().all(|value| is_integer_value(value))
+    values.iter().all(|value| value.is_integer())
 }
 
 fn are_so_many_integer(values: &[Value], count: usize) -> bool
@@ -78,7 +71,7 @@ fn is_list_of(value: &Value, count: usize) -> bool
 fn is_monthly(value: &Value) -> bool
     ensures { result ≡ is_monthly (view value.now) }
 {
-    is_integer_value(value) || is_list_of(value, 12)
+    value.is_integer() || is_list_of(value, 12)
 }
 
 fn are_tables(values: &[Value]) -> bool
@@ -111,46 +104,11 @@ fn is_pair_list(value: &Value) -> bool
     }
 }
 
-fn is_month_text(value: &Value) -> bool
-    ensures { result ≡ is_text (has_shape (codes "dddd-dd")) (view value.now) }
+/// Whether a value is this text.
+fn is_text(value: &Value, wanted: &str) -> bool
+    ensures { result ≡ is_text (bytes_eq wanted.now) (view value.now) }
 {
-    match value.as_str() {
-        Some(text) => has_month_shape(text.as_bytes()),
-        None => false,
-    }
-}
-
-fn is_date_text(value: &Value) -> bool
-    ensures { result ≡ is_text (has_shape (codes "dddd-dd-dd")) (view value.now) }
-{
-    match value.as_str() {
-        Some(text) => has_day_shape(text.as_bytes()),
-        None => false,
-    }
-}
-
-fn is_gauged(value: &Value) -> bool
-    ensures { result ≡ is_text (bytes_eq (codes "gauged")) (view value.now) }
-{
-    match value.as_str() {
-        Some(text) => "gauged" == text,
-        None => false,
-    }
-}
-
-fn is_series(value: &Value) -> bool
-    ensures { result ≡ is_text (bytes_eq (codes "series")) (view value.now) }
-{
-    match value.as_str() {
-        Some(text) => "series" == text,
-        None => false,
-    }
-}
-
-fn is_want(format: u64, value: &Value) -> bool
-    ensures { result ≡ is_want format (view value.now) }
-{
-    is_monthly(value) || (2 <= format && is_series(value))
+    value.as_str().is_some_and(|text| wanted == text)
 }
 
 fn has_kind(format: u64, kind: Kind, value: &Value) -> bool
@@ -158,16 +116,20 @@ fn has_kind(format: u64, kind: Kind, value: &Value) -> bool
 {
     match kind {
         Kind::Tables => is_table_list(value),
-        Kind::Integer(..) => is_integer_value(value),
+        Kind::Integer(..) => value.is_integer(),
         Kind::Truth => value.is_bool(),
         Kind::Name => value.is_str(),
         Kind::Refers(_) => value.is_str(),
-        Kind::MonthText => is_month_text(value),
-        Kind::DateText => is_date_text(value),
+        Kind::MonthText => value
+            .as_str()
+            .is_some_and(|text| has_month_shape(text.as_bytes())),
+        Kind::DateText => value
+            .as_str()
+            .is_some_and(|text| has_day_shape(text.as_bytes())),
         Kind::Monthly(_) => is_monthly(value),
-        Kind::Want => is_want(format, value),
+        Kind::Want => is_monthly(value) || (2 <= format && is_text(value, "series")),
         Kind::CalendarMonths => is_integer_list(value),
-        Kind::Inflow => is_monthly(value) || is_gauged(value),
+        Kind::Inflow => is_monthly(value) || is_text(value, "gauged"),
         Kind::Points => is_pair_list(value),
     }
 }

@@ -39,20 +39,11 @@ impl EntryTest for BadName {
     }
 }
 
-fn is_other_text(value: &Value) -> bool
-    ensures { result ≡ option_map_or (λ text. not (is_name text)) (as_str (view value.now)) false }
-{
-    match value.as_str() {
-        Some(text) => !is_name(text.as_bytes()),
-        None => false,
-    }
-}
-
 fn is_bad_name(kind: Kind, value: &Value) -> bool
     ensures { result ≡ is_bad_name kind (view value.now) }
 {
     match kind {
-        Kind::Name => is_other_text(value),
+        Kind::Name => value.as_str().is_some_and(|text| !is_name(text.as_bytes())),
         _ => false,
     }
 }
@@ -91,10 +82,9 @@ fn own_space(table: BasinTable) -> Option<Space>
 fn stands_before(document: &Document, space: Space, first: u64, more: u64, text: &str) -> bool
     ensures { result ≡ stands_before (tree_of document.now) space (first + more) text.now }
 {
-    match document.named_at(space, text) {
-        Some(at) => is_below_sum(at, first, more),
-        None => false,
-    }
+    document
+        .named_at(space, text)
+        .is_some_and(|at| is_below_sum(at, first, more))
 }
 
 fn repeats_name(
@@ -164,10 +154,8 @@ fn is_outlet_node(node: &Value) -> bool
     ensures { result ≡ option_map_or
         (λ outlet. outlet) (option_and_then as_bool (get (codes "outlet") (view node.now))) false }
 {
-    match node.get("outlet") {
-        Some(outlet) => outlet.as_bool().unwrap_or(false),
-        None => false,
-    }
+    node.get("outlet")
+        .is_some_and(|outlet| outlet.as_bool().unwrap_or(false))
 }
 
 fn is_outlet(document: &Document, at: u64) -> bool

@@ -1,10 +1,9 @@
 //! Numbers and months out of their range.
-ghost use Rattle.std.specs.Prelude.{◌≡◌, not, true, is_some};
+ghost use Rattle.std.specs.Prelude.{◌≡◌, not, true};
 ghost use Rattle.std.specs.List.{list_all};
 ghost use Rattle.std.specs.Option.{option_map_or};
-ghost use Rattle.toml.specs.Data.{as_array, as_str};
+ghost use Rattle.toml.specs.Data.{as_array};
 ghost use Rattle.toml.specs.View.{view, table_view, items_view};
-ghost use Rattle.water_text.specs.Months.{read_month};
 ghost use Rattle.basin_tree.specs.Ranges.{number_in, listed_in, numbers_in, pair_in, points_in, in_range, ends_late};
 ghost use Rattle.basin_tree.specs.KeyFaults.{out_of_range, runs_late};
 
@@ -56,22 +55,12 @@ fn runs_late(table: BasinTable, row: &Table) -> bool
     }
 }
 
-fn month_in(value: &Value) -> bool
-    ensures { result ≡ option_map_or (λ text. is_some (read_month text)) (as_str (view value.now)) true }
-{
-    match value.as_str() {
-        Some(text) => Month::read(text.as_bytes()).is_some(),
-        None => true,
-    }
-}
-
 fn number_in(value: &Value, least: u64, most: u64) -> bool
     ensures { result ≡ number_in least most (view value.now) }
 {
-    match value.as_integer() {
-        Some(z) => is_between(z, least, most),
-        None => true,
-    }
+    value
+        .as_integer()
+        .is_none_or(|z| is_between(z, least, most))
 }
 
 fn all_in(values: &[Value], least: u64, most: u64) -> bool
@@ -109,10 +98,7 @@ fn pair_in(values: &[Value]) -> bool
 fn point_in(value: &Value) -> bool
     ensures { result ≡ option_map_or pair_in (as_array (view value.now)) true }
 {
-    match items_of(value) {
-        Some(values) => pair_in(values),
-        None => true,
-    }
+    items_of(value).is_none_or(|values| pair_in(values))
 }
 
 fn all_points_in(values: &[Value]) -> bool
@@ -139,7 +125,9 @@ fn in_range(kind: Kind, value: &Value) -> bool
         Kind::Want => numbers_in(value, MAX_AMOUNT),
         Kind::CalendarMonths => items_in(value, 1, 12),
         Kind::Inflow => numbers_in(value, MAX_AMOUNT),
-        Kind::MonthText => month_in(value),
+        Kind::MonthText => value
+            .as_str()
+            .is_none_or(|text| Month::read(text.as_bytes()).is_some()),
         Kind::Points => points_in(value),
         _ => true,
     }

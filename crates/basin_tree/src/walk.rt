@@ -1,11 +1,12 @@
 //! The first entry that fails a test, for any test of an entry.
 ghost use Rattle.std.specs.Prelude.{◌≡◌, Bool, option_map};
-ghost use Rattle.std.specs.List.{find, flat_map};
+ghost use Rattle.std.specs.List.{find};
 ghost use Rattle.toml.specs.Data.{Members};
 ghost use Rattle.toml.specs.View.{table_view, items_view};
 ghost use Rattle.basin_tree.specs.Documents.{tree_of};
-ghost use Rattle.basin_tree.specs.Entries.{Entry, entries_after, entries_in, found, found_at};
+ghost use Rattle.basin_tree.specs.Entries.{Entry, entries_after, entries_in, first_some, found, found_at};
 ghost use Rattle.basin_tree.specs.Order.{found_by};
+ghost use Rattle.basin_tree.specs.Tables.{listed};
 
 use crate::document::Document;
 use crate::fault::BasinFault;
@@ -29,16 +30,6 @@ pub trait EntryTest {
         ensures { result ≡ fails
             (tree_of document.now) (record { table = table; number = number; row = table_view row.now }) };
 }
-
-const LISTED: [BasinTable; 7] = [
-    BasinTable::Node,
-    BasinTable::Link,
-    BasinTable::Reservoir,
-    BasinTable::Diversion,
-    BasinTable::Instream,
-    BasinTable::Zone,
-    BasinTable::Return,
-];
 
 /// A fault at the entry of a table and number.
 pub fn found(fault: BasinFault, table: BasinTable, number: u64) -> Finding
@@ -82,20 +73,19 @@ fn first_in<T: EntryTest>(
     first_in_rows::<T>(document, fault, table, document.items_at(table))
 }
 
-fn first_listed<T: EntryTest>(
-    document: &Document,
-    fault: BasinFault,
-    tables: &[BasinTable],
-) -> Option<Finding>
-    ensures { result ≡ option_map (found_at fault)
-        (find (T.fails (tree_of document.now)) (flat_map (entries_in (tree_of document.now)) tables.now)) }
+/// The first entry below the top that fails the test.
+fn first_listed<T: EntryTest>(document: &Document, fault: BasinFault) -> Option<Finding>
+    ensures { result ≡ first_some
+        (λ table. option_map (found_at fault)
+        (find (T.fails (tree_of document.now)) (entries_in (tree_of document.now) table))) listed }
 {
-    for table in tables {
-        if let Some(finding) = first_in::<T>(document, fault, *table) {
-            return Some(finding);
-        }
-    }
-    None
+    first_in::<T>(document, fault, BasinTable::Node)
+        .or_else(|| first_in::<T>(document, fault, BasinTable::Link))
+        .or_else(|| first_in::<T>(document, fault, BasinTable::Reservoir))
+        .or_else(|| first_in::<T>(document, fault, BasinTable::Diversion))
+        .or_else(|| first_in::<T>(document, fault, BasinTable::Instream))
+        .or_else(|| first_in::<T>(document, fault, BasinTable::Zone))
+        .or_else(|| first_in::<T>(document, fault, BasinTable::Return))
 }
 
 /// The first entry that fails the test, in the order of tables and entries.
@@ -105,5 +95,5 @@ pub fn first_finding<T: EntryTest>(document: &Document, fault: BasinFault) -> Op
     if T::fails_at(document, BasinTable::Top, 0, document.tree) {
         return Some(found(fault, BasinTable::Top, 0));
     }
-    first_listed::<T>(document, fault, &LISTED)
+    first_listed::<T>(document, fault)
 }

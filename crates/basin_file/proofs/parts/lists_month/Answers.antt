@@ -1,5 +1,5 @@
 use Rattle.std.proofs.Common.{sym, ◌∙◌}
-use Rattle.basin_file.proofs.Ranges.{any_or}
+use Rattle.basin_file.proofs.Values.{any_or}
 use Rattle.basin_file.proofs.parts.lists_month.Goals as goal
 
 pub returns-in-Some : goal.returns-in-Some

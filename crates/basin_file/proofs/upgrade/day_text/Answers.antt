@@ -1,5 +1,5 @@
 use Rattle.std.proofs.Common.{arith}
-use Rattle.basin_file.proofs.ReadBack.{short_date}
+use Rattle.basin_file.proofs.Values.{short_date}
 use Rattle.basin_file.proofs.upgrade.day_text.Goals as goal
 
 pub two_digits-requires : goal.two_digits-requires

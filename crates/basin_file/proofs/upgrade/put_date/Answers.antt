@@ -1,6 +1,6 @@
 use Rattle.std.proofs.Common.{sym, subst}
 use Rattle.std.specs.Str.{IsAscii}
-use Rattle.basin_file.proofs.ReadBack.{day_ascii}
+use Rattle.basin_file.proofs.Values.{day_ascii}
 use Rattle.basin_file.proofs.upgrade.put_date.Goals as goal
 
 pub put_text-requires : goal.put_text-requires

@@ -1,7 +1,7 @@
 use Rattle.std.proofs.Common.{◌∙◌, ◌++◌, ap, sym, subst}
 use Rattle.std.specs.Str.{IsAscii}
 use Rattle.water_text.specs.Months.{month_digits}
-use Rattle.basin_file.proofs.ReadBack.{month_ascii}
+use Rattle.basin_file.proofs.Values.{month_ascii}
 use Rattle.basin_file.proofs.upgrade.put_month.Goals as goal
 
 pub put_text-requires : goal.put_text-requires
