@@ -2,12 +2,15 @@
 use Rattle.std.proofs.Common.{◌≡◌, ℕ, zero, suc, ◌+◌, ◌-◌, ◌<◌, ◌≤◌, Bool, true, false, refl, sym, ap, ◌∙◌, arith, List}
 use Rattle.std.proofs.Common.{[], ◌∷◌, ◌++◌, length, get_or, slice_index, filter, if◌then◌else◌, inl, inr, add-one}
 use Rattle.std.proofs.Common.{zero-add}
-use Rattle.std.specs.Prelude.{◌==◌, nat_lt}
-use Rattle.std.proofs.lemmas.Bool.{cases_lt, eq-eqb, lt-ltb}
-use Rattle.std.proofs.lemmas.Bool.Decides.{nat_tests}
-use Rattle.std.proofs.lemmas.List.{get_or_append_left, get_or_push, length-append}
+use Rattle.std.proofs.lemmas.Bool.{cases_lt, lt-ltb, le-ltb}
+use Rattle.std.proofs.lemmas.List.{get_or_append_left, get_or_push, length-append, get_or_at}
 use Rattle.std.proofs.lemmas.List.Elements.{filter-append}
+use Rattle.std.proofs.lemmas.List.Kept.{IsStrictlyIncreasing-filter, AllPairs-from_increasing}
+use Rattle.std.proofs.lemmas.Option.{get_or_from_slice_get}
+use Rattle.std.specs.List.Sorted.{IsStrictlyIncreasing}
 use Rattle.water_model.proofs.Lists.{numbers_more}
+use Rattle.water_model.proofs.Gauges.{index_is, filter_short}
+use Rattle.water_model.proofs.Order.{numbers_from-get, length-numbers_from}
 use Rattle.water_model.specs.Hydrology.{index_in}
 use Rattle.water_model.specs.Indices.{numbers_from}
 use Rattle.water_model.specs.Valid.{is_gauged, gauged_nodes, is_in_series, rights_in_series}
@@ -133,13 +136,13 @@ unfolding numbers_from
 moved_on p q n from zero h = refl
 moved_on p q n from (suc count) h =
     let next : suc (n + from) ≡ n + suc from = omega arith in
-    rw (h from) (by_test (q from) (ap (λ k. length (filter p (numbers_from k count))) next
+    rw (h from) (by_test (q from) _ _ (ap (λ k. length (filter p (numbers_from k count))) next
     ∙ moved_on p q n (suc from) count h))
   where
-    by_test : (t : Bool) {xs ys : List ℕ} → length xs ≡ length ys →
+    by_test : (t : Bool) (xs ys : List ℕ) → length xs ≡ length ys →
         length (if t then (n + from) ∷ xs else xs) ≡ length (if t then from ∷ ys else ys)
-    by_test true e = ap suc e
-    by_test false e = e
+    by_test true xs ys e = ap suc e
+    by_test false xs ys e = e
 
 -- the columns below the number of a right: all gauges, and the wants before it
 below_right : (b : Basin) (right : ℕ) →

@@ -2,8 +2,8 @@ use Rattle.std.proofs.Common.{◌≡◌, ◌∙◌, ◌+◌, ◌++◌, ◌∷◌
 use Rattle.std.proofs.lemmas.List.{length_push}
 use Rattle.std.proofs.lemmas.Nat.{mul-le}
 use Rattle.inflow_file.specs.Cells.{cell_in}
-use Rattle.inflow_file.proofs.DueLaws.{small_table, width}
-use Rattle.inflow_file.proofs.GapLaws.{cell_below, part_more, some_column}
+use Rattle.inflow_file.proofs.DueLaws.{small_table, some_column, width}
+use Rattle.inflow_file.proofs.GapLaws.{cell_below, part_more}
 use Rattle.inflow_file.proofs.cells.part_of.Goals as goal
 
 pub overflow_mul-end : goal.overflow_mul-end
