@@ -4,7 +4,7 @@ use Rattle.std.proofs.Common.{[], ◌∷◌, ◌++◌, length, get_or, slice_ind
 use Rattle.std.proofs.Common.{zero-add}
 use Rattle.std.proofs.lemmas.Bool.{cases_lt, lt-ltb, le-ltb}
 use Rattle.std.proofs.lemmas.List.{get_or_append_left, get_or_push, length-append, get_or_at}
-use Rattle.std.proofs.lemmas.List.Elements.{filter-append}
+use Rattle.std.proofs.lemmas.List.Elements.{filter-append, filter_agree}
 use Rattle.std.proofs.lemmas.List.Kept.{IsStrictlyIncreasing-filter, AllPairs-from_increasing}
 use Rattle.std.proofs.lemmas.Option.{get_or_from_slice_get}
 use Rattle.std.specs.List.Sorted.{IsStrictlyIncreasing}
@@ -15,7 +15,7 @@ use Rattle.water_model.specs.Hydrology.{index_in}
 use Rattle.water_model.specs.Indices.{numbers_from}
 use Rattle.water_model.specs.Valid.{is_gauged, gauged_nodes, is_in_series, rights_in_series}
 use Rattle.water_model.specs.declared.types.Basin.{Basin}
-use Rattle.inflow_file.specs.Columns.{IsColumn, column_numbers, count_of_both, is_column, right_number}
+use Rattle.inflow_file.specs.Columns.{IsColumn, column_numbers, count_of_both, is_column, right_number, columns_from}
 
 -- how many of the numbers below another pass a test
 abbrev pub passed_below : (ℕ → Bool) → ℕ → ℕ
@@ -143,6 +143,15 @@ moved_on p q n from (suc count) h =
         length (if t then (n + from) ∷ xs else xs) ≡ length (if t then from ∷ ys else ys)
     by_test true xs ys e = ap suc e
     by_test false xs ys e = e
+
+-- the gauges, and the rights whose wants stand in the series, as the columns among nodes and among rights
+pub gauges_are : (b : Basin) → columns_from b 0 (length b.nodes) ≡ gauged_nodes b
+gauges_are b = same_passed _ _ 0 (length b.nodes) (λ k l. rw zero-add (gauge_column b k (omega arith)))
+
+pub wants_are : (b : Basin) → columns_from b (length b.nodes) (length b.rights) ≡ rights_in_series b
+wants_are b = filter_agree _ _ (λ k. want_column b k) (numbers_from 0 (length b.rights))
+
+pub ruleset filters = (filter_next, none_below)
 
 -- the columns below the number of a right: all gauges, and the wants before it
 below_right : (b : Basin) (right : ℕ) →
