@@ -12,7 +12,7 @@ ghost use Rattle.inflow_file.specs.CsvRecords.{with_kind};
 ghost use Rattle.inflow_file.specs.Entries.{IsEntry, column_of, gauge_of, read_record, wanted_of};
 
 use crate::entry::SeriesRecord;
-use crate::records::{four_fields, three_fields};
+use crate::records::fields_with_kind;
 use crate::refused::SeriesFault;
 use basin_names::SpaceNames;
 use csv::ByteRecord;
@@ -241,42 +241,14 @@ impl<'a> Columns<'a> {
         })
     }
 
-    /// What a record of four fields says.
-    fn read_with_kind(&self, row: &ByteRecord) -> Result<SeriesRecord, SeriesFault>
-        ensures reads { result ≡ read_record self.now.basin.now (with_kind true (fields_of row.now)) }
-        ensures entry { IfOk result (IsEntry self.now.basin.now) }
-    {
-        match four_fields(row) {
-            Some((month, kind, name, amount)) => self.read_fields(month, kind, name, amount),
-            None => Err(SeriesFault::Csv),
-        }
-    }
-
-    /// What a record of three fields says, which is an inflow.
-    fn read_inflow(&self, row: &ByteRecord) -> Result<SeriesRecord, SeriesFault>
-        ensures reads { result ≡ read_record self.now.basin.now (with_kind false (fields_of row.now)) }
-        ensures entry { IfOk result (IsEntry self.now.basin.now) }
-    {
-        match three_fields(row) {
-            Some((month, name, amount)) => self.read_fields(
-                month,
-                b"inflow".as_slice(),
-                name,
-                amount,
-            ),
-            None => Err(SeriesFault::Csv),
-        }
-    }
-
     /// What a record says after a header with kinds or without, or the first fault that it has by itself.
     pub fn read_record(&self, kinds: bool, row: &ByteRecord) -> Result<SeriesRecord, SeriesFault>
         ensures reads { result ≡ read_record self.now.basin.now (with_kind kinds (fields_of row.now)) }
         ensures entry { IfOk result (IsEntry self.now.basin.now) }
     {
-        if kinds {
-            self.read_with_kind(row)
-        } else {
-            self.read_inflow(row)
+        match fields_with_kind(row, kinds) {
+            Some((month, kind, name, amount)) => self.read_fields(month, kind, name, amount),
+            None => Err(SeriesFault::Csv),
         }
     }
 }
