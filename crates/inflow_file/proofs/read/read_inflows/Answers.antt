@@ -14,8 +14,7 @@ complete-requires-clause-count c =
 
 pub returns : goal.returns
 returns c =
-    let read = series_read c.args.basin.now c.in_ok-columns.columns.basin.now c.args.text.now
-    c.in_ok-amounts.amounts.items c.complete.result c.in_ok-columns.ensures c.in_ok-amounts.ensures.ok
+    let read = series_read _ _ _ _ _ c.in_ok-columns.ensures c.in_ok-amounts.ensures.ok
     (c.complete.ensures (body_of c.in_ok-columns.columns.basin.now (records_of c.args.text.now))
     (c.as_slice.ensures.value ∙ c.in_ok-amounts.ensures.ok.given)) in
     record { spelled = read.spelled; valid = read.valid; faultless = read.faultless; refused = read.refused }
