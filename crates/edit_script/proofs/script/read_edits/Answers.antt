@@ -11,7 +11,8 @@ use Rattle.edit_script.proofs.script.read_edits.Goals as goal
 pub returns-then-eq-clause-reads : goal.returns-then-eq-clause-reads
 returns-then-eq-clause-reads c =
     answered _ _ c.end_of.result
-    (end_taken _ _ _ _ _ _ _ _ c.loop-line.invariant.so_far c.in-Some.ensures.some
+    (end_taken _ _ _ c.loop-line.edits.items _ c.loop-line.rest.now _ c.in-Some.after.now
+    c.loop-line.invariant.so_far c.in-Some.ensures.some
     (sym (ap (bytes_eq c.in-Some.line.now) c.as_slice.ensures) ∙ (sym c.eq.ensures ∙ c.if-eq.true)))
     c.end_of.ensures
 
@@ -20,7 +21,8 @@ returns-in_err-edit-clause-reads c =
     let p = err_from_is_err_and c.from_residual.result c.from_residual.ensures.1 in
     rw (p.1, p.2)
     (refusal_of _ _
-    (line_refused _ _ _ _ _ _ _ _ _ c.loop-line.invariant.so_far c.in-Some.ensures.some
+    (line_refused _ _ _ c.loop-line.edits.items _ c.loop-line.rest.now _ c.in-Some.after.now _
+    c.loop-line.invariant.so_far c.in-Some.ensures.some
     (sym (ap (bytes_eq c.in-Some.line.now) c.as_slice.ensures) ∙ (sym c.eq.ensures ∙ c.if-eq.false))
     c.in_err-edit.ensures.reads))
 
@@ -29,7 +31,8 @@ loop-line-preserved c =
     let items = c.in_ok-push.ensures.items in
     record {
       so_far = rw items
-          (line_taken _ _ _ _ _ _ _ _ _ c.loop-line.invariant.so_far c.in-Some.ensures.some
+          (line_taken _ _ _ c.loop-line.edits.items _ c.loop-line.rest.now _ c.in-Some.after.now _
+          c.loop-line.invariant.so_far c.in-Some.ensures.some
           (sym (ap (bytes_eq c.in-Some.line.now) c.as_slice.ensures) ∙ (sym c.eq.ensures ∙ c.if-eq.false))
           c.in_ok-edit.ensures.reads);
       placed = subst (λ (es : List Edit). All (IsValidEdit c.args.names.now.basin.now c.args.series.now) es) (sym items)
@@ -39,4 +42,4 @@ loop-line-preserved c =
     }
 
 pub returns-clause-reads : goal.returns-clause-reads
-returns-clause-reads c = early_end _ _ _ _ _ _ c.loop-line.invariant.so_far c.in_default.ensures.none
+returns-clause-reads c = early_end _ _ _ c.loop-line.edits.items _ c.loop-line.rest.now c.loop-line.invariant.so_far c.in_default.ensures.none
