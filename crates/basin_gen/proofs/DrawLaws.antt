@@ -1,12 +1,13 @@
 -- Draws one after the other, and lists by index.
-use Rattle.std.proofs.Common.{◌≡◌, ℕ, zero, suc, ◌+◌, ◌*◌, ◌/◌, ◌%◌, ◌^◌, ◌<◌, true, false, refl, sym, ap, ◌∙◌, arith}
-use Rattle.std.proofs.Common.{List, [], ◌∷◌, ◌++◌, add-one, add-zero, add-suc, append_assoc, append-nil}
-use Rattle.std.specs.Prelude.{◌==◌}
+use Rattle.std.proofs.Common.{◌≡◌, ℕ, zero, suc, ◌+◌, ◌*◌, ◌/◌, ◌%◌, ◌^◌, ◌<◌, refl, sym, ap, ◌∙◌, arith, [], ◌∷◌, ◌++◌}
+use Rattle.std.proofs.Common.{add-one, add-zero, add-suc, append_assoc, append-nil}
 use Rattle.std.proofs.Math.Nat.{mod-add-mod}
 use Rattle.std.proofs.lemmas.Bool.Decides.{nat_tests}
+use Rattle.std.proofs.lemmas.Bool.{ne_eqb, eq-eqb}
 use Rattle.basin_gen.specs.Entries.{lower_zone_at, upper_zone_at, zone_at}
 use Rattle.basin_gen.specs.Generator.{draws_of_node, draws_of_nodes}
 use Rattle.basin_gen.specs.Draws.{next, drawn, later, list_of}
+use Rattle.water_model.specs.declared.types.Right.{Right}
 
 pub later_none : (x : ℕ) → later x 0 ≡ x
 unfolding later
@@ -45,57 +46,41 @@ drawn_below x k h = omega arith
 
 -- a node more
 pub node_draws : (x i : ℕ) → later (later x (draws_of_nodes i)) (draws_of_node i) ≡ later x (draws_of_nodes (i + 1))
-node_draws x i = later_later x (draws_of_nodes i) (draws_of_node i) ∙ ap (later x) (counts i)
-  where
-    counts : (i : ℕ) → draws_of_nodes i + draws_of_node i ≡ draws_of_nodes (i + 1)
-    counts i = grind (arith, nat_tests)
+node_draws x i =
+    let counts : draws_of_nodes i + draws_of_node i ≡ draws_of_nodes (i + 1) = grind (arith, nat_tests) in
+    later_later x (draws_of_nodes i) (draws_of_node i) ∙ ap (later x) counts
 
 -- two draws more
 pub later_two : (x j : ℕ) → next (next (later x (2 * j))) ≡ later x (2 * (j + 1))
 unfolding later
-later_two x j = sym (ap (later x) (two j))
-  where
-    two : (j : ℕ) → 2 * (j + 1) ≡ suc (suc (2 * j))
-    two j = omega arith
-
-pub later_one : (x j : ℕ) → next (later x (2 * j)) ≡ later x (2 * j + 1)
-later_one x j = sym (later_more x (2 * j))
-
-pub one_and_two : (j : ℕ) → 2 * j + 1 + 1 ≡ 2 * (j + 1)
-one_and_two j = omega arith
+later_two x j = let two : suc (suc (2 * j)) ≡ 2 * (j + 1) = omega arith in ap (later x) two
 
 -- the zones of a reservoir
 pub zone_even : (j x : ℕ) → lower_zone_at j x ≡ zone_at (2 * j) x
 unfolding zone_at
-zone_even j x = let even : (2 * j % 2 == 0) ≡ true = tests j in let half : 2 * j / 2 ≡ j = omega arith in
-    rw (even, half) refl
-  where
-    tests : (j : ℕ) → (2 * j % 2 == 0) ≡ true
-    tests j = grind (arith, nat_tests)
+zone_even j x = let half : 2 * j / 2 ≡ j = omega arith in rw (eq-eqb (2 * j % 2) 0 (omega arith), half) refl
 
 pub zone_odd : (j x : ℕ) → upper_zone_at j x ≡ zone_at (2 * j + 1) x
 unfolding zone_at
-zone_odd j x = let odd : ((2 * j + 1) % 2 == 0) ≡ false = tests j in let half : (2 * j + 1) / 2 ≡ j = omega arith in
-    rw (odd, half) refl
-  where
-    tests : (j : ℕ) → ((2 * j + 1) % 2 == 0) ≡ false
-    tests j = grind (arith, nat_tests)
+zone_odd j x =
+    let half : (2 * j + 1) / 2 ≡ j = omega arith in
+    rw (ne_eqb ((2 * j + 1) % 2) 0 (λ e. omega arith), half) refl
 
-pub ruleset draws = (later_none, later_more, list_of_none, list_of_more)
+pub zones_more : (j : ℕ) (f : ℕ → Right) →
+    list_of (2 * (j + 1)) f ≡ list_of (2 * j) f ++ f (2 * j) ∷ [] ++ f (2 * j + 1) ∷ []
+zones_more j f =
+    let two : 2 * (j + 1) ≡ 2 * j + 1 + 1 = omega arith in
+    rw two (list_of_more (2 * j + 1) f ∙ ap (λ l. l ++ f (2 * j + 1) ∷ []) (list_of_more (2 * j) f))
 
--- an entry more
-pub pushed : {X : Type 0} → (f : ℕ → X) (n : ℕ) (old new : List X) (x : X) → old ≡ list_of n f → x ≡ f n →
-    new ≡ old ++ x ∷ [] →
-    new ≡ list_of (n + 1) f
-pushed f n old new x so_far here more = rw (list_of_more n f, ← here, ← so_far) more
-
--- after other entries
-pub pushed_after : {X : Type 0} → (f : ℕ → X) (n : ℕ) (prefix old new : List X) (x : X) → old ≡ prefix ++ list_of n f →
-    x ≡ f n →
-    new ≡ old ++ x ∷ [] → new ≡ prefix ++ list_of (n + 1) f
-pushed_after f n prefix old new x so_far here more =
-    more ∙ ap (λ l. l ++ x ∷ []) so_far ∙ append_assoc prefix (list_of n f) (x ∷ [])
-    ∙ ap (λ y. prefix ++ (list_of n f ++ y ∷ [])) here ∙ ap (λ l. prefix ++ l) (sym (list_of_more n f))
-
-pub none_after : {X : Type 0} → (f : ℕ → X) (prefix : List X) → prefix ≡ prefix ++ list_of 0 f
-none_after f prefix = sym (ap (λ l. prefix ++ l) (list_of_none f) ∙ append-nil prefix)
+pub ruleset draws
+    = (
+      later_none,
+      later_more,
+      later_two,
+      node_draws,
+      list_of_none,
+      list_of_more,
+      zones_more,
+      append_assoc,
+      append-nil,
+    )

@@ -1,5 +1,5 @@
 -- The lists of a generated basin, whatever was drawn.
-use Rattle.std.proofs.Common.{ℕ, ◌+◌, ◌-◌, ◌*◌, ◌/◌, ◌<◌, sym, arith, inl, inr, subst}
+use Rattle.std.proofs.Common.{ℕ, ◌+◌, ◌-◌, ◌*◌, ◌/◌, ◌<◌, sym, arith, inl, inr, subst, All}
 use Rattle.std.proofs.lemmas.Bool.{cases_lt}
 use Rattle.water_model.specs.declared.types.Basin.{Basin}
 use Rattle.water_model.specs.declared.types.Link.{Link}
@@ -12,7 +12,7 @@ use Rattle.basin_gen.specs.Generator.{instreams_of, zones_of, returns_of, draws_
 use Rattle.basin_gen.specs.Generator.{turn_of_diversion, count_of_canals, count_of_reservoirs, count_of_turns}
 use Rattle.basin_gen.specs.Generator.{before_nodes, before_rivers, before_canals, before_reservoirs, before_rights}
 use Rattle.basin_gen.specs.Generator.{before_zones}
-use Rattle.basin_gen.proofs.Places.{IsListOf, join, joined, joined_left, joined_right, listed}
+use Rattle.basin_gen.proofs.Places.{IsListOf, join, joined, joined_left, joined_right, listed, all_of}
 
 -- what was drawn where the generator was there
 pub record States : Type 0 where
@@ -37,6 +37,12 @@ zone_count size = 2 * count_of_reservoirs size
 abbrev pub return_count : ℕ → ℕ
 return_count size = (count_of_turns size + 3) / 4
 
+abbrev pub link_count : ℕ → ℕ
+link_count size = size - 1 + count_of_canals size
+
+abbrev pub right_count : ℕ → ℕ
+right_count size = diversion_count size + (instream_count size + zone_count size)
+
 abbrev pub link_made : ℕ → States → ℕ → Link
 link_made size s = joined (size - 1) (λ i. river_at size i (s.rivers i)) (λ j. canal_at size (4 * j + 1) (s.canals j))
 
@@ -57,9 +63,9 @@ right_made size s = joined (diversion_count size) (diversion_made size s) (other
 
 pub record IsMade (b : Basin) (size : ℕ) (s : States) : Type 0 where
   pub nodes : IsListOf b.nodes size (λ i. node_at size i (s.nodes i))
-  pub links : IsListOf b.links (size - 1 + count_of_canals size) (link_made size s)
+  pub links : IsListOf b.links (link_count size) (link_made size s)
   pub reservoirs : IsListOf b.reservoirs (count_of_reservoirs size) (λ j. reservoir_at (40 * j + 20) (s.reservoirs j))
-  pub rights : IsListOf b.rights (diversion_count size + (instream_count size + zone_count size)) (right_made size s)
+  pub rights : IsListOf b.rights (right_count size) (right_made size s)
   pub returns : IsListOf b.returns (return_count size) (λ j. return_at size (3 * j) (s.returns j))
 
 pub states_of : ℕ → ℕ → States
@@ -116,3 +122,27 @@ joined_pairs Q n m f g left across right i j before l = elim (cases_lt j n) [
         (right (i - n) (j - n) (omega arith) (omega arith))
   ])
 ]
+
+-- what holds of each diversion, instream right and zone holds of each right
+pub each_right : (P : Right → Type 0) (size : ℕ) (s : States) →
+    ((d : ℕ) → d < diversion_count size → P (diversion_made size s d)) →
+    ((j : ℕ) → j < instream_count size → P (instream_made size s j)) →
+    ((z : ℕ) → z < zone_count size → P (zone_made s z)) →
+    (i : ℕ) → i < right_count size → P (right_made size s i)
+each_right P size s diversions instreams zones =
+    joined_each P (diversion_count size) (instream_count size + zone_count size) (diversion_made size s)
+    (other_made size s) diversions
+    (joined_each P (instream_count size) (zone_count size) (instream_made size s) (zone_made s) instreams zones)
+
+pub all_rights : (P : Right → Type 0) (b : Basin) (size : ℕ) (s : States) → IsMade b size s →
+    ((i : ℕ) → i < right_count size → P (right_made size s i)) → All P b.rights
+all_rights P b size s made each = all_of P b.rights (right_count size) (right_made size s) made.rights each
+
+-- and what holds of each river and canal, of each link
+pub all_links : (P : Link → Type 0) (b : Basin) (size : ℕ) (s : States) → IsMade b size s →
+    ((i : ℕ) → i < size - 1 → P (river_at size i (s.rivers i))) →
+    ((j : ℕ) → j < count_of_canals size → P (canal_at size (4 * j + 1) (s.canals j))) → All P b.links
+all_links P b size s made rivers canals =
+    all_of P b.links (link_count size) (link_made size s) made.links
+    (joined_each P (size - 1) (count_of_canals size) (λ i. river_at size i (s.rivers i))
+    (λ j. canal_at size (4 * j + 1) (s.canals j)) rivers canals)

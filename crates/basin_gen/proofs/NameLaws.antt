@@ -53,3 +53,5 @@ pub read_name : (text : List ℕ) (read : Option (List ℕ)) → read ≡ (if is
     is_name text ≡ true →
     read ≡ None → ⊥
 read_name text read is good none = let some : read ≡ Some text = rw good at is in cc
+
+pub ruleset names = (numbered_is_name, zone_is_name, read_name, decimal_short)

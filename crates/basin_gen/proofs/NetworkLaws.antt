@@ -1,24 +1,25 @@
 -- A generated network is sound, and its nodes, links and reservoirs are valid.
 use Rattle.std.proofs.Common.{◌≡◌, ◌≢◌, ℕ, zero, suc, ◌+◌, ◌-◌, ◌*◌, ◌%◌, ◌^◌, ◌<◌, ◌≤◌, Bool, true, false, refl, sym}
-use Rattle.std.proofs.Common.{ap, ◌∙◌, arith, List, [], ◌∷◌, length, get_or, inl, inr}
+use Rattle.std.proofs.Common.{ap, ◌∙◌, arith, List, [], ◌∷◌, length, inl, inr}
 use Rattle.std.specs.Prelude.{Some, None, slice_get, if◌then◌else◌, ◌==◌, All, ◌||◌, ◌&&◌, min, replicate}
 use Rattle.std.specs.Fmt.{decimal}
 use Rattle.std.specs.List.{list_any}
-use Rattle.std.proofs.lemmas.Bool.{cases_Bool}
-use Rattle.std.proofs.lemmas.Bool.Decides.{nat_tests}
+use Rattle.std.proofs.lemmas.Bool.{cases_Bool, eqb-true, eqb-false, ne_eqb}
 use Rattle.std.proofs.lemmas.Fmt.{decimal_injective}
+use Rattle.std.proofs.lemmas.List.Elements.{All-replicate}
 use Rattle.water_model.specs.Lookups.{of_entry}
 use Rattle.water_model.specs.Network.{walks, tail_in, is_outlet_in, is_on_cycle, HasRiverOut, IsSoundNetwork}
 use Rattle.water_model.specs.Valid.{IsMonthly, IsValidNode, IsValidLink, IsValidReservoir, IsValidPoint, IsAlwaysOpen}
 use Rattle.water_model.specs.declared.types.Basin.{Basin}
 use Rattle.water_model.specs.declared.types.Link.{Link}
+use Rattle.water_model.proofs.Lists.{all_at}
 use Rattle.basin_gen.specs.Draws.{next, drawn, later, list_of}
 use Rattle.basin_gen.specs.Entries.{twelve_drawn, inflow_at, node_at, node_after, river_at, canal_at, reservoir_at}
 use Rattle.basin_gen.specs.Generator.{count_of_canals, count_of_reservoirs}
 use Rattle.basin_gen.proofs.DrawLaws.{drawn_below}
 use Rattle.basin_gen.proofs.NameLaws.{numbered_is_name}
-use Rattle.basin_gen.proofs.Places.{joined_left, entry_is, all_of, one_of, own_names, listed}
-use Rattle.basin_gen.proofs.Lists.{IsMade, States, joined_each, joined_pairs, link_made}
+use Rattle.basin_gen.proofs.Places.{joined_left, entry_is, all_of, own_names, listed}
+use Rattle.basin_gen.proofs.Lists.{IsMade, States, joined_pairs, link_made, link_count, all_links}
 
 -- a link leads to a later node
 pub node_after_within : (size reach i x : ℕ) → i + 1 < size → 0 < reach → (i < node_after size reach i x) ×
@@ -29,17 +30,9 @@ node_after_within size reach i x within some =
     let below = drawn_below x (min reach (size - 1 - i)) some_further in
     (omega arith, omega arith)
 
-all_same : (P : ℕ → Type 0) (m n : ℕ) → P n → All P (replicate m n)
-all_same P zero n h = λ k d l. absurd (omega arith)
-all_same P (suc m) n h = by (all_same P m n h)
-  where
-    by : All P (replicate m n) → (k d : ℕ) → k < suc (length (replicate m n)) → P (get_or (n ∷ replicate m n) k d)
-    by rest zero d l = h
-    by rest (suc k) d l = rest k d (omega arith)
-
 -- twelve numbers
 pub same_for_months : (most n : ℕ) → n ≤ most → IsMonthly most (replicate 12 n)
-same_for_months most n h = record { twelve = refl; each = all_same (λ k. k ≤ most) 12 n h }
+same_for_months most n h = record { twelve = refl; each = All-replicate (λ k. k ≤ most) 12 n h }
 
 pub drawn_for_months : (most k x : ℕ) → 0 < k → k ≤ most → IsMonthly most (twelve_drawn x k)
 unfolding twelve_drawn
@@ -74,27 +67,22 @@ canal_within size j h = omega arith
 
 pub links_lead_on : (b : Basin) (size : ℕ) (s : States) → IsMade b size s → All (LeadsOn size) b.links
 links_lead_on b size s made =
-    all_of (LeadsOn size) b.links (size - 1 + count_of_canals size) (link_made size s) made.links
-    (joined_each (LeadsOn size) (size - 1) (count_of_canals size) (λ i. river_at size i (s.rivers i))
-    (λ j. canal_at size (4 * j + 1) (s.canals j))
+    all_links (LeadsOn size) b size s made
     (λ i l. let to = node_after_within size 3 i (s.rivers i) (omega arith) (omega arith) in
     record { from = omega arith; forward = to.0; to = to.1 })
     (λ j l. let within = canal_within size j l in
     let to = node_after_within size 5 (4 * j + 1) (s.canals j) within (omega arith) in
-    record { from = within; forward = to.0; to = to.1 }))
+    record { from = within; forward = to.0; to = to.1 })
 
 pub links_valid : (b : Basin) (size : ℕ) (s : States) → size ≤ 2000 → IsMade b size s →
     All (λ l. IsValidLink b l) b.links
 links_valid b size s bounded made =
     let len = made.nodes.count in
-    all_of (λ l. IsValidLink b l) b.links (size - 1 + count_of_canals size) (link_made size s) made.links
-    (joined_each (λ l. IsValidLink b l) (size - 1) (count_of_canals size) (λ i. river_at size i (s.rivers i))
-    (λ j. canal_at size (4 * j + 1) (s.canals j))
+    all_links (λ l. IsValidLink b l) b size s made
     (λ i l. let to = node_after_within size 3 i (s.rivers i) (omega arith) (omega arith) in
     record {
       name = numbered_is_name 114 i refl (omega arith);
-      ends =
-          record { from = omega arith; to = omega arith };
+      ends = record { from = omega arith; to = omega arith };
       carry = tt;
     })
     (λ j l. let within = canal_within size j l in
@@ -102,19 +90,13 @@ links_valid b size s bounded made =
     let small = drawn_below (next (s.canals j)) 20 (omega arith) in
     record {
       name = numbered_is_name 99 (4 * j + 1) refl (omega arith);
-      ends =
-          record { from = omega arith; to = omega arith };
+      ends = record { from = omega arith; to = omega arith };
       carry = (omega arith, refl);
-    }))
+    })
 
 -- no canal is ever shut
 pub open_canals : (b : Basin) (size : ℕ) (s : States) → IsMade b size s → All (λ l. IsAlwaysOpen l.carry) b.links
-open_canals b size s made =
-    all_of (λ l. IsAlwaysOpen l.carry) b.links (size - 1 + count_of_canals size) (link_made size s) made.links
-    (joined_each (λ l. IsAlwaysOpen l.carry) (size - 1) (count_of_canals size) (λ i. river_at size i (s.rivers i))
-    (λ j. canal_at size (4 * j + 1) (s.canals j))
-    (λ i l. tt)
-    (λ j l. refl))
+open_canals b size s made = all_links (λ l. IsAlwaysOpen l.carry) b size s made (λ i l. tt) (λ j l. refl)
 
 -- only the last node is an outlet
 pub outlet_is : (b : Basin) (size : ℕ) (s : States) → IsMade b size s → (v : ℕ) → v < size →
@@ -122,15 +104,9 @@ pub outlet_is : (b : Basin) (size : ℕ) (s : States) → IsMade b size s → (v
 outlet_is b size s made v l =
     entry_is b.nodes size (λ i. node_at size i (s.nodes i)) made.nodes (λ n. n.outlet) false v l
 
-not_last : (v size : ℕ) → v + 1 < size → (v + 1 == size) ≡ false
-not_last v size h = grind (arith, nat_tests)
-
-before_last : (v size : ℕ) → v < size → (v + 1 == size) ≡ false → v + 1 < size
-before_last v size l h = grind (arith, nat_tests)
-
 pub inner : (b : Basin) (size : ℕ) (s : States) → IsMade b size s → (v : ℕ) → v + 1 < size →
     is_outlet_in b.nodes v ≡ false
-inner b size s made v l = outlet_is b size s made v (omega arith) ∙ not_last v size l
+inner b size s made v l = outlet_is b size s made v (omega arith) ∙ ne_eqb (v + 1) size (λ e. omega arith)
 
 -- a walk along links that lead on ends after its start
 pub walk_on : (size : ℕ) (links : List Link) → All (LeadsOn size) links → (k from to : ℕ) →
@@ -143,15 +119,12 @@ walk_on size links all (suc k) from to h = any (λ via. walk_on size links all k
         l.from == from && (l.to == to || walks links k l.to to) ≡ true → from < to
     step rest l on e = by (l.from == from) (l.to == to) (walks links k l.to to) refl refl refl e
       where
-        equal : (n m : ℕ) → (n == m) ≡ true → n ≡ m
-        equal n m h = grind (arith, nat_tests)
-
         by : (p q r : Bool) → (l.from == from) ≡ p → (l.to == to) ≡ q → walks links k l.to to ≡ r →
             p && (q || r) ≡ true → from < to
         by false q r a c d e = cc
-        by true true r a c d e = let f = on.forward in let g = equal l.from from a in let h = equal l.to to c in
+        by true true r a c d e = let f = on.forward in let g = eqb-true l.from from a in let h = eqb-true l.to to c in
             omega arith
-        by true false true a c d e = let f = on.forward in let g = equal l.from from a in let h = rest l.to d in
+        by true false true a c d e = let f = on.forward in let g = eqb-true l.from from a in let h = rest l.to d in
             omega arith
         by true false false a c d e = cc
 
@@ -168,8 +141,9 @@ network_sound b size s made =
     let len = made.nodes.count in
     let links = links_lead_on b size s made in record {
       outlets_end = λ e l. ends e (link_at e l) links;
-      rivers = λ v l inner_node. river v
-          (before_last v size (omega arith) (sym (outlet_is b size s made v (omega arith)) ∙ inner_node));
+      rivers = λ v l inner_node.
+          let apart = eqb-false (v + 1) size (sym (outlet_is b size s made v (omega arith)) ∙ inner_node) in
+          river v (omega arith);
       acyclic = λ v l. no_way v links;
     }
   where
@@ -179,7 +153,7 @@ network_sound b size s made =
     ends : (e : ℕ) → (x : Link) × (slice_get b.links e ≡ Some x) → All (LeadsOn size) b.links →
         is_outlet_in b.nodes (tail_in b.links e) ≡ false
     ends e at links =
-        let on = one_of (LeadsOn size) b.links links e at.0 at.1 in
+        let on = all_at (LeadsOn size) b.links e at.0 links at.1 in
         let tail : tail_in b.links e ≡ at.0.from = rw at.1 refl in
         rw tail (inner b size s made at.0.from on.from)
 
@@ -214,7 +188,7 @@ nodes_own b size s bounded made =
 pub links_own : (b : Basin) (size : ℕ) (s : States) → size ≤ 2000 → IsMade b size s →
     (i j : ℕ) → i < j → j < length b.links → of_entry b.links i (λ l. l.name) [] ≢ of_entry b.links j (λ l. l.name) []
 links_own b size s bounded made =
-    own_names b.links (size - 1 + count_of_canals size) (link_made size s) made.links (λ l. l.name) []
+    own_names b.links (link_count size) (link_made size s) made.links (λ l. l.name) []
     (joined_pairs (λ l m. l.name ≡ m.name → ⊥) (size - 1) (count_of_canals size) (λ i. river_at size i (s.rivers i))
     (λ j. canal_at size (4 * j + 1) (s.canals j))
     (λ i j before within e. let same = letter_number 114 114 i j (omega arith) (omega arith) e in omega arith)

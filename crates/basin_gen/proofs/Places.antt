@@ -1,25 +1,22 @@
 -- Lists by index: the entry at each index is known.
 use Rattle.std.proofs.Common.{◌≡◌, ◌≢◌, ℕ, zero, suc, ◌+◌, ◌-◌, ◌<◌, ◌≤◌, Bool, true, false, refl, sym, ap, subst, ◌∙◌}
 use Rattle.std.proofs.Common.{arith, List, [], ◌∷◌, ◌++◌, length, take, length-append, inl, inr}
-use Rattle.std.specs.Prelude.{Some, slice_get, nat_lt, if◌then◌else◌, ◌⊎◌, All, ◌||◌}
+use Rattle.std.specs.Prelude.{Some, slice_get, nat_lt, if◌then◌else◌, ◌⊎◌, All}
 use Rattle.std.specs.List.{list_any}
-use Rattle.std.proofs.lemmas.Bool.{cases_lt}
-use Rattle.std.proofs.lemmas.Bool.Decides.{nat_tests}
+use Rattle.std.proofs.lemmas.Bool.{cases_lt, lt-ltb, le-ltb}
 use Rattle.std.proofs.lemmas.Option.{slice_get_within, get_or_from_slice_get}
+use Rattle.std.proofs.lemmas.List.{get_or-take, length-take}
+use Rattle.std.proofs.lemmas.List.Folds.{list_any_none, list_any-from_Any}
 use Rattle.finite_sums.specs.Sums.{total}
 use Rattle.finite_sums.proofs.Totals.{total_zero}
 use Rattle.water_model.specs.Lookups.{of_entry}
+use Rattle.water_model.proofs.Lists.{get_before, get_after}
 use Rattle.basin_gen.specs.Draws.{list_of}
 
 -- a list has this many entries, and this one at each index
 pub record IsListOf {X : Type 0} (xs : List X) (n : ℕ) (f : ℕ → X) : Type 0 where
   pub count : length xs ≡ n
   pub at : (i : ℕ) → i < n → slice_get xs i ≡ Some (f i)
-
-pub get_left : {X : Type 0} → (xs ys : List X) (i : ℕ) → i < length xs → slice_get (xs ++ ys) i ≡ slice_get xs i
-get_left [] ys i l = absurd (omega arith)
-get_left (x ∷ xs) ys zero l = refl
-get_left (x ∷ xs) ys (suc i) l = get_left xs ys i (omega arith)
 
 pub get_right : {X : Type 0} → (xs ys : List X) (i : ℕ) → length xs ≤ i →
     slice_get (xs ++ ys) i ≡ slice_get ys (i - length xs)
@@ -32,25 +29,17 @@ abbrev pub joined : {X : Type 0} → ℕ → (ℕ → X) → (ℕ → X) → ℕ
 joined n f g i = if nat_lt i n then f i else g (i - n)
 
 pub joined_left : {X : Type 0} → (n : ℕ) (f g : ℕ → X) (i : ℕ) → i < n → joined n f g i ≡ f i
-joined_left n f g i l = ap (λ t. if t then f i else g (i - n)) (less i n l)
-  where
-    less : (i n : ℕ) → i < n → nat_lt i n ≡ true
-    less i n l = grind (arith, nat_tests)
+joined_left n f g i l = ap (λ t. if t then f i else g (i - n)) (lt-ltb i n l)
 
 pub joined_right : {X : Type 0} → (n : ℕ) (f g : ℕ → X) (i : ℕ) → n ≤ i → joined n f g i ≡ g (i - n)
-joined_right n f g i l = ap (λ t. if t then f i else g (i - n)) (not_less i n l)
-  where
-    not_less : (i n : ℕ) → n ≤ i → nat_lt i n ≡ false
-    not_less i n l = grind (arith, nat_tests)
+joined_right n f g i l = ap (λ t. if t then f i else g (i - n)) (le-ltb i n l)
 
 pub join : {X : Type 0} → (xs ys : List X) (n m : ℕ) (f g : ℕ → X) → IsListOf xs n f → IsListOf ys m g →
     IsListOf (xs ++ ys) (n + m) (joined n f g)
 join xs ys n m f g left right = record {
   count = length-append xs ys ∙ (let a = left.count in let b = right.count in omega arith);
   at = λ i l. elim (cases_lt i n) [
-    | inl below ↦
-        (let a = left.count in
-        get_left xs ys i (omega arith) ∙ left.at i below ∙ ap (λ x. Some x) (sym (joined_left n f g i below)))
+    | inl below ↦ get_before xs ys i (f i) (left.at i below) ∙ ap (λ x. Some x) (sym (joined_left n f g i below))
     | inr above ↦ (let a = left.count in
         get_right xs ys i (omega arith) ∙ ap (λ k. slice_get ys (i - k)) a ∙ right.at (i - n) (omega arith)
         ∙ ap (λ x. Some x) (sym (joined_right n f g i above)))
@@ -66,10 +55,10 @@ listed (suc n) f =
     let len = before.count in record {
       count = length-append (list_of n f) (f n ∷ []) ∙ omega arith;
       at = λ i l. elim (cases_lt i n) [
-        | inl below ↦ get_left (list_of n f) (f n ∷ []) i (omega arith) ∙ before.at i below
-        | inr above ↦ (let same : i ≡ n = omega arith in let first : i - length (list_of n f) ≡ 0 = omega arith in
-            get_right (list_of n f) (f n ∷ []) i (omega arith) ∙ ap (slice_get (f n ∷ [])) first
-            ∙ ap (λ k. Some (f k)) (sym same))
+        | inl below ↦ get_before (list_of n f) (f n ∷ []) i (f i) (before.at i below)
+        | inr above ↦ (let same : i ≡ length (list_of n f) = omega arith in
+            ap (slice_get (list_of n f ++ f n ∷ [])) same ∙ get_after (list_of n f) [] (f n)
+            ∙ ap (λ k. Some (f k)) (omega arith))
       ];
     }
 
@@ -82,9 +71,6 @@ pub all_of : {X : Type 0} → (P : X → Type 0) (xs : List X) (n : ℕ) (f : �
     ((i : ℕ) → i < n → P (f i)) → All P xs
 all_of P xs n f is each = λ k d l. let len = is.count in
     subst P (sym (get_or_from_slice_get xs k (f k) d (is.at k (omega arith)))) (each k (omega arith))
-
-pub one_of : {X : Type 0} → (P : X → Type 0) (xs : List X) → All P xs → (k : ℕ) (x : X) → slice_get xs k ≡ Some x → P x
-one_of P xs all k x at = subst P (get_or_from_slice_get xs k x x at) (all k x (slice_get_within xs k x at))
 
 -- no two entries have one name
 pub own_names : {X Y : Type 0} → (xs : List X) (n : ℕ) (f : ℕ → X) → IsListOf xs n f → (name : X → Y) (d : Y) →
@@ -99,28 +85,15 @@ own_names xs n f is name d apart i j before within equal =
 pub none_before : {X : Type 0} → (p : X → Bool) (xs : List X) (n : ℕ) (f : ℕ → X) (i : ℕ) → i < n → IsListOf xs n f →
     ((k : ℕ) → k < i → p (f k) ≡ false) →
     list_any p (take i xs) ≡ false
-none_before p xs n f i within is each = by xs i (λ k x l at. by_entry k x l (sym at ∙ is.at k (omega arith)))
-  where
-    by_entry : (k : ℕ) (x : _) → k < i → Some x ≡ Some (f k) → p x ≡ false
-    by_entry k x l e = let same : x ≡ f k = cc in ap p same ∙ each k l
-
-    by : (ys : List _) (i : ℕ) → ((k : ℕ) (x : _) → k < i → slice_get ys k ≡ Some x → p x ≡ false) →
-        list_any p (take i ys) ≡ false
-    by [] zero h = refl
-    by [] (suc i) h = refl
-    by (y ∷ ys) zero h = refl
-    by (y ∷ ys) (suc i) h = rw (h 0 y (omega arith) refl) (by ys i (λ k x l at. h (suc k) x (omega arith) at))
+none_before p xs n f i within is each = list_any_none p (take i xs) (λ k d l.
+    let low : k < i = omega (arith, length-take i xs) in
+    ap p (get_or-take i xs k d low ∙ get_or_from_slice_get xs k (f k) d (is.at k (omega arith))) ∙ each k low)
 
 -- an entry passes a test
 pub some_entry : {X : Type 0} → (p : X → Bool) (xs : List X) (k : ℕ) (x : X) → slice_get xs k ≡ Some x → p x ≡ true →
     list_any p xs ≡ true
-some_entry p [] k x at h = cc
-some_entry p (y ∷ ys) zero x at h = let same : y ≡ x = cc in let here : p y ≡ true = ap p same ∙ h in rw here refl
-some_entry p (y ∷ ys) (suc k) x at h = rw (some_entry p ys k x at h) (or_true (p y))
-  where
-    or_true : (b : Bool) → b || true ≡ true
-    or_true true = refl
-    or_true false = refl
+some_entry p xs k x at h =
+    list_any-from_Any p xs (k, x, slice_get_within xs k x at, get_or_from_slice_get xs k x x at, h)
 
 -- a sum of which at most one term isn't 0
 pub one_term : (n : ℕ) (f : ℕ → ℕ) (most : ℕ) → ((k : ℕ) → k < n → f k ≤ most) →

@@ -1,13 +1,15 @@
 -- A generated roll of rights is sound.
-use Rattle.std.proofs.Common.{◌≡◌, ◌≢◌, ℕ, ◌+◌, ◌-◌, ◌*◌, ◌/◌, ◌%◌, ◌^◌, ◌<◌, ◌≤◌, Bool, true, false, refl, sym}
-use Rattle.std.proofs.Common.{ap, subst, ◌∙◌, arith, List, [], ◌∷◌, ◌++◌, length, length-append, take, inl, inr}
-use Rattle.std.specs.Prelude.{Option, Some, None, slice_get, nat_lt, if◌then◌else◌, ◌==◌, ◌||◌, ◌&&◌, not, ◌⊎◌}
-use Rattle.std.specs.Prelude.{nat_le, unwrap_or, option_map}
+use Rattle.std.proofs.Common.{◌≡◌, ◌≢◌, ℕ, ◌+◌, ◌-◌, ◌*◌, ◌/◌, ◌%◌, ◌^◌, ◌<◌, ◌≤◌, Bool, true, false, refl, sym, ap}
+use Rattle.std.proofs.Common.{subst, ◌∙◌, arith, List, [], ◌∷◌, ◌++◌, length, take, inl, inr}
+use Rattle.std.specs.Prelude.{Option, Some, None, slice_get, nat_lt, if◌then◌else◌, ◌==◌, ◌||◌, ◌&&◌, not, ◌⊎◌, nat_le}
+use Rattle.std.specs.Prelude.{unwrap_or, option_map}
 use Rattle.std.specs.Fmt.{decimal}
 use Rattle.std.specs.List.{list_any}
-use Rattle.std.proofs.lemmas.Bool.{cases_lt, cases_Bool, or_left}
+use Rattle.std.proofs.lemmas.Bool.{cases_lt, cases_Bool, or_left, lt-ltb, le-ltb, eqb-true, eqb-false, ne_eqb, eq-eqb}
+use Rattle.std.proofs.lemmas.Bool.{and_right, and_from}
 use Rattle.std.proofs.lemmas.Bool.Decides.{nat_tests}
 use Rattle.std.proofs.lemmas.Fmt.{decimal_injective}
+use Rattle.std.proofs.lemmas.List.{same_from_push}
 use Rattle.finite_sums.specs.Sums.{total}
 use Rattle.finite_sums.proofs.Totals.{total_same}
 use Rattle.water_text.specs.Days.{is_date}
@@ -27,7 +29,7 @@ use Rattle.basin_gen.proofs.DrawLaws.{drawn_below}
 use Rattle.basin_gen.proofs.Places.{joined_left, joined_right, entry_is, own_names, none_before, some_entry, one_term}
 use Rattle.basin_gen.proofs.Lists.{IsMade, States, joined_each, joined_pairs, diversion_count, instream_count}
 use Rattle.basin_gen.proofs.Lists.{zone_count, return_count, diversion_made, instream_made, zone_made, other_made}
-use Rattle.basin_gen.proofs.Lists.{right_made}
+use Rattle.basin_gen.proofs.Lists.{right_made, each_right, right_count}
 
 -- a zone is the lower or the upper one of its reservoir
 pub zone_by : (P : Right → Type 0) (z x : ℕ) → (z % 2 ≡ 0 → P (lower_zone_at (z / 2) x)) →
@@ -35,15 +37,9 @@ pub zone_by : (P : Right → Type 0) (z x : ℕ) → (z % 2 ≡ 0 → P (lower_z
 unfolding zone_at
 zone_by P z x lower upper = by (z % 2 == 0) refl
   where
-    even : (n : ℕ) → (n == 0) ≡ true → n ≡ 0
-    even n h = grind (arith, nat_tests)
-
-    odd : (n : ℕ) → (n == 0) ≡ false → n < 2 → n ≡ 1
-    odd n h l = grind (arith, nat_tests)
-
     by : (t : Bool) → (z % 2 == 0) ≡ t → P (if t then lower_zone_at (z / 2) x else upper_zone_at (z / 2) x)
-    by true h = lower (even (z % 2) h)
-    by false h = upper (odd (z % 2) h (omega arith))
+    by true h = lower (eqb-true (z % 2) 0 h)
+    by false h = let odd = eqb-false (z % 2) 0 h in upper (omega arith)
 
 -- what a zone has
 pub record IsZone (z : ℕ) (r : Right) : Type 0 where
@@ -73,7 +69,7 @@ abbrev OtherOrder : Right → Right → Type 0
 OtherOrder r s = r.order ≡ s.order → ⊥
 
 pub orders_apart : (size : ℕ) (s : States) → size ≤ 2000 → (i j : ℕ) → i < j →
-    j < diversion_count size + (instream_count size + zone_count size) →
+    j < right_count size →
     OtherOrder (right_made size s i) (right_made size s j)
 orders_apart size s bounded =
     joined_pairs OtherOrder (diversion_count size) (instream_count size + zone_count size) (diversion_made size s)
@@ -99,19 +95,6 @@ IsNamed r = ((letter : ℕ) × (letter < 122) × (r.order < 2 ^ 64) × (r.name �
     ⊎ ((j : ℕ) × (odd : ℕ) × (j < 2 ^ 64) × (r.order ≡ 10000 + 10000 * odd + j) ×
     (r.name ≡ 122 ∷ decimal j ++ (97 + odd) ∷ []))
 
-last_equal : (xs ys : List ℕ) (a c : ℕ) → xs ++ a ∷ [] ≡ ys ++ c ∷ [] → (xs ≡ ys) × (a ≡ c)
-last_equal [] [] a c e = let same : a ≡ c = cc in (refl, same)
-last_equal [] (y ∷ ys) a c e = let tails : [] ≡ ys ++ c ∷ [] = cc in let len =
-    ap length tails ∙ length-append ys (c ∷ []) in absurd (omega arith)
-last_equal (x ∷ xs) [] a c e = let tails : xs ++ a ∷ [] ≡ [] = cc in let len =
-    sym (length-append xs (a ∷ [])) ∙ ap length tails in absurd (omega arith)
-last_equal (x ∷ xs) (y ∷ ys) a c e =
-    let heads : x ≡ y = cc in
-    let tails : xs ++ a ∷ [] ≡ ys ++ c ∷ [] = cc in
-    let rest = last_equal xs ys a c tails in
-    let same : xs ≡ ys = rest.0 in
-    (cc, rest.1)
-
 same_order : (r t : Right) → IsNamed r → IsNamed t → r.name ≡ t.name → r.order ≡ t.order
 same_order r t r_named t_named e = elim r_named [
   | inl a ↦ elim t_named [
@@ -126,28 +109,24 @@ same_order r t r_named t_named e = elim r_named [
     | inr c ↦
         (let names : 122 ∷ decimal a.0 ++ (97 + a.1) ∷ [] ≡ 122 ∷ decimal c.0 ++ (97 + c.1) ∷ [] = sym a.4 ∙ e ∙ c.4 in
         let tails : decimal a.0 ++ (97 + a.1) ∷ [] ≡ decimal c.0 ++ (97 + c.1) ∷ [] = cc in
-        let parts = last_equal (decimal a.0) (decimal c.0) (97 + a.1) (97 + c.1) tails in
+        let parts = same_from_push (decimal a.0) (decimal c.0) (97 + a.1) (97 + c.1) tails in
         let number : a.0 ≡ c.0 = decimal_injective a.0 c.0 a.2 c.2 parts.0 in
         omega (arith, a.3, c.3, parts.1))
   ]
 ]
 
-right_named : (size : ℕ) (s : States) → size ≤ 2000 → (i : ℕ) →
-    i < diversion_count size + (instream_count size + zone_count size) → IsNamed (right_made size s i)
+right_named : (size : ℕ) (s : States) → size ≤ 2000 → (i : ℕ) → i < right_count size → IsNamed (right_made size s i)
 right_named size s bounded =
-    joined_each IsNamed (diversion_count size) (instream_count size + zone_count size) (diversion_made size s)
-    (other_made size s)
+    each_right IsNamed size s
     (λ i l. inl (100, omega arith, omega arith, refl))
-    (joined_each IsNamed (instream_count size) (zone_count size) (instream_made size s) (zone_made s)
     (λ i l. inl (115, omega arith, omega arith, refl))
-    (λ i l. let z = is_zone i (s.zones i) in inr (i / 2, i % 2, omega arith, z.order, z.name)))
+    (λ i l. let z = is_zone i (s.zones i) in inr (i / 2, i % 2, omega arith, z.order, z.name))
 
 pub rights_own : (b : Basin) (size : ℕ) (s : States) → size ≤ 2000 → IsMade b size s →
     (i j : ℕ) → i < j → j < length b.rights →
     of_entry b.rights i (λ r. r.name) [] ≢ of_entry b.rights j (λ r. r.name) []
 rights_own b size s bounded made =
-    own_names b.rights (diversion_count size + (instream_count size + zone_count size)) (right_made size s) made.rights
-    (λ r. r.name) []
+    own_names b.rights (right_count size) (right_made size s) made.rights (λ r. r.name) []
     (λ i j before within e. orders_apart size s bounded i j before within
     (same_order (right_made size s i) (right_made size s j) (right_named size s bounded i (omega arith))
     (right_named size s bounded j within) e))
@@ -156,8 +135,7 @@ rights_own b size s bounded made =
 pub priorities_apart : (b : Basin) (size : ℕ) (s : States) → size ≤ 2000 → IsMade b size s →
     (i j : ℕ) → i < j → j < length b.rights → priority_in b.rights i ≢ priority_in b.rights j
 priorities_apart b size s bounded made =
-    own_names b.rights (diversion_count size + (instream_count size + zone_count size)) (right_made size s) made.rights
-    priority []
+    own_names b.rights (right_count size) (right_made size s) made.rights priority []
     (λ i j before within e. orders_apart size s bounded i j before within
     (last (right_made size s i) (right_made size s j) e))
   where
@@ -181,17 +159,14 @@ HasDay r = has_bad_date r ≡ false
 drawn_year : (x : ℕ) → is_date (record { year = 1850 + drawn x 100; month = 1; day = 1 }) ≡ true
 drawn_year x = let below = drawn_below x 100 (omega arith) in new_year (1850 + drawn x 100) (omega arith) (omega arith)
 
-right_dated : (size : ℕ) (s : States) (i : ℕ) → i < diversion_count size + (instream_count size + zone_count size) →
-    HasDay (right_made size s i)
+right_dated : (size : ℕ) (s : States) (i : ℕ) → i < right_count size → HasDay (right_made size s i)
 right_dated size s =
-    joined_each HasDay (diversion_count size) (instream_count size + zone_count size) (diversion_made size s)
-    (other_made size s)
+    each_right HasDay size s
     (λ d l. ap not (drawn_year (next (s.diversions d))))
-    (joined_each HasDay (instream_count size) (zone_count size) (instream_made size s) (zone_made s)
     (λ j l. ap not (drawn_year (next (s.instreams j))))
     (λ z l. zone_by HasDay z (s.zones z)
     (λ h. ap not (new_year 1880 (omega arith) (omega arith)))
-    (λ h. ap not (new_year 1940 (omega arith) (omega arith)))))
+    (λ h. ap not (new_year 1940 (omega arith) (omega arith))))
 
 -- which right stands at an index
 pub first_right : (size : ℕ) (s : States) (i : ℕ) → i < diversion_count size →
@@ -219,13 +194,10 @@ last_right size s i l m =
 other_zone : (y z : ℕ) → y < z → (y / 2 == z / 2 && 1 + y % 2 == 1 + z % 2) ≡ false
 other_zone y z l = by (y / 2 == z / 2) (1 + y % 2 == 1 + z % 2) refl refl
   where
-    equal : (n m : ℕ) → (n == m) ≡ true → n ≡ m
-    equal n m h = grind (arith, nat_tests)
-
     by : (p q : Bool) → (y / 2 == z / 2) ≡ p → (1 + y % 2 == 1 + z % 2) ≡ q → p && q ≡ false
     by false q a c = refl
     by true false a c = refl
-    by true true a c = let h = equal (y / 2) (z / 2) a in let k = equal (1 + y % 2) (1 + z % 2) c in
+    by true true a c = let h = eqb-true (y / 2) (z / 2) a in let k = eqb-true (1 + y % 2) (1 + z % 2) c in
         absurd (omega arith)
 
 -- of the rights before zone z none is a zone of its reservoir and level
@@ -253,18 +225,10 @@ lower_is_senior y z x w e odd =
     let senior : is_lower (priority (zone_at y x)) (priority (zone_at z w)) ≡ true =
     ap (λ (p : List ℕ). is_lower p (priority (zone_at z w))) lower.priority
     ∙ ap (λ (p : List ℕ). is_lower ((1880 + 60 * (y % 2)) ∷ 1 ∷ 1 ∷ (zone_at y x).order ∷ []) p) upper.priority
-    ∙ or_left _ _ (less (1880 + 60 * (y % 2)) (1880 + 60 * (z % 2)) (omega arith)) in
-    both _ _ (is_it ∙ both _ _ (equal (y / 2) (z / 2) (omega arith)) (equal (1 + y % 2) (1 + z % 2 - 1) (omega arith)))
+    ∙ or_left _ _ (lt-ltb (1880 + 60 * (y % 2)) (1880 + 60 * (z % 2)) (omega arith)) in
+    and_from _ _
+    (is_it ∙ and_from _ _ (eq-eqb (y / 2) (z / 2) (omega arith)) (eq-eqb (1 + y % 2) (1 + z % 2 - 1) (omega arith)))
     senior
-  where
-    equal : (n m : ℕ) → n ≡ m → (n == m) ≡ true
-    equal n m h = grind (arith, nat_tests)
-
-    less : (n m : ℕ) → n < m → nat_lt n m ≡ true
-    less n m h = grind (arith, nat_tests)
-
-    both : (p q : Bool) → p ≡ true → q ≡ true → p && q ≡ true
-    both p q a c = rw (a, c) refl
 
 -- whether a right would be a zone at fault at an index
 abbrev fault_at : Basin → ℕ → Right → Bool
@@ -275,8 +239,7 @@ zone_is_fine : (b : Basin) (size : ℕ) (s : States) → IsMade b size s → (i 
 zone_is_fine b size s made i z e l =
     let is = is_zone z (s.zones z) in
     let none : list_any (λ r. is_zone_kind (z / 2) (1 + z % 2) r.kind) (take i b.rights) ≡ false =
-    none_before (λ r. is_zone_kind (z / 2) (1 + z % 2) r.kind) b.rights
-    (diversion_count size + (instream_count size + zone_count size)) (right_made size s) i
+    none_before (λ r. is_zone_kind (z / 2) (1 + z % 2) r.kind) b.rights (right_count size) (right_made size s) i
     (omega arith) made.rights (λ k m. no_such_zone size s z k (omega arith)) in
     ap (λ k. is_zone_fault b.rights (take i b.rights) (priority (zone_made s z)) k) is.kind
     ∙ by_level (z % 2) _ _ none refl (λ odd. below odd)
@@ -284,16 +247,9 @@ zone_is_fine b size s made i z e l =
     by_level : (odd : ℕ) (repeated has : Bool) → repeated ≡ false → z % 2 ≡ odd → (z % 2 ≡ 1 → has ≡ true) →
         repeated || (nat_lt 1 (1 + odd) && not has) ≡ false
     by_level odd repeated has none same lower = elim (cases_lt 0 odd) [
-      | inl some ↦ rw (none, lower (omega arith)) (and_false (nat_lt 1 (1 + odd)))
-      | inr even ↦ rw (none, not_less 1 (1 + odd) (omega arith)) refl
+      | inl some ↦ rw (none, lower (omega arith)) (and_right (nat_lt 1 (1 + odd)) false refl)
+      | inr even ↦ rw (none, le-ltb 1 (1 + odd) (omega arith)) refl
     ]
-      where
-        and_false : (t : Bool) → t && false ≡ false
-        and_false true = refl
-        and_false false = refl
-
-        not_less : (n m : ℕ) → m ≤ n → nat_lt n m ≡ false
-        not_less n m h = grind (arith, nat_tests)
 
     below : z % 2 ≡ 1 → list_any (is_senior_zone (z / 2) (1 + z % 2 - 1) (priority (zone_made s z))) b.rights ≡ true
     below odd =
@@ -307,11 +263,10 @@ zone_is_fine b size s made i z e l =
         odd)
 
 -- zones stand in order
-no_zone_fault : (b : Basin) (size : ℕ) (s : States) → IsMade b size s → (i : ℕ) →
-    i < diversion_count size + (instream_count size + zone_count size) → has_zone_fault b.rights i ≡ false
+no_zone_fault : (b : Basin) (size : ℕ) (s : States) → IsMade b size s → (i : ℕ) → i < right_count size →
+    has_zone_fault b.rights i ≡ false
 no_zone_fault b size s made i l =
-    entry_is b.rights (diversion_count size + (instream_count size + zone_count size)) (right_made size s) made.rights
-    (fault_at b i) false i l
+    entry_is b.rights (right_count size) (right_made size s) made.rights (fault_at b i) false i l
     ∙ elim (cases_lt i (diversion_count size)) [
       | inl first ↦ ap (fault_at b i) (first_right size s i first)
       | inr after ↦ elim (cases_lt (i - diversion_count size) (instream_count size)) [
@@ -331,10 +286,9 @@ one_row b size s made right most amount small =
     (λ k l. subst (λ n. n ≤ most) (sym (term k l))
     (at_most (3 * k == right) (amount (return_at size (3 * k) (s.returns k))) (small k)))
     (λ i j before l. elim (cases_Bool (3 * i == right)) [
-      | inl here ↦
-          inr (term j l
-          ∙ other (3 * j == right) _ (not_equal j (λ e. let same = equal (3 * i) right here in omega arith)))
-      | inr none ↦ inl (term i (omega arith) ∙ other (3 * i == right) _ none)
+      | inl here ↦ (let same = eqb-true (3 * i) right here in
+          inr (term j l ∙ rw (ne_eqb (3 * j) right (λ e. omega arith)) refl))
+      | inr none ↦ inl (term i (omega arith) ∙ rw none refl)
     ])
   where
     term : (k : ℕ) → k < length b.returns →
@@ -347,18 +301,6 @@ one_row b size s made right most amount small =
     at_most : (t : Bool) (x : ℕ) → x ≤ most → (if t then x else 0) ≤ most
     at_most true x h = h
     at_most false x h = omega arith
-
-    other : (t : Bool) (x : ℕ) → t ≡ false → (if t then x else 0) ≡ 0
-    other t x h = rw h refl
-
-    equal : (n m : ℕ) → (n == m) ≡ true → n ≡ m
-    equal n m h = grind (arith, nat_tests)
-
-    not_equal : (j : ℕ) → (3 * j ≡ right → ⊥) → (3 * j == right) ≡ false
-    not_equal j h = differ (3 * j) right h
-      where
-        differ : (n m : ℕ) → (n ≡ m → ⊥) → (n == m) ≡ false
-        differ n m h = grind (arith, nat_tests)
 
 bounded_parts : (b : Basin) (size : ℕ) (s : States) → IsMade b size s → (right : ℕ) → parts_in b.returns right ≤ 10000
 bounded_parts b size s made right =
@@ -384,8 +326,8 @@ bounded_rows b size s made right =
 pub roll_sound : (b : Basin) (size : ℕ) (s : States) → size ≤ 2000 → IsMade b size s → IsSoundRoll b.rights b.returns
 roll_sound b size s bounded made =
     let len = made.rights.count in record {
-      dates = λ r l. entry_is b.rights (diversion_count size + (instream_count size + zone_count size))
-          (right_made size s) made.rights has_bad_date false r (omega arith)
+      dates = λ r l.
+          entry_is b.rights (right_count size) (right_made size s) made.rights has_bad_date false r (omega arith)
           ∙ right_dated size s r (omega arith);
       strict = priorities_apart b size s bounded made;
       zones = λ r l. no_zone_fault b size s made r (omega arith);

@@ -1,6 +1,6 @@
 -- The rights and return rows of a generated basin are valid, and stand with their wants.
-use Rattle.std.proofs.Common.{◌≡◌, ℕ, suc, ◌+◌, ◌-◌, ◌*◌, ◌/◌, ◌^◌, ◌<◌, ◌≤◌, false, refl, sym}
-use Rattle.std.proofs.Common.{ap, subst, ◌∙◌, arith, List, [], ◌∷◌, ◌++◌, append-nil}
+use Rattle.std.proofs.Common.{◌≡◌, ℕ, suc, ◌+◌, ◌-◌, ◌*◌, ◌/◌, ◌^◌, ◌<◌, ◌≤◌, false, refl, sym, ap, subst, ◌∙◌, arith}
+use Rattle.std.proofs.Common.{List, [], ◌∷◌, ◌++◌, append-nil}
 use Rattle.std.specs.Prelude.{None, All}
 use Rattle.std.proofs.lemmas.Bool.{false≢true}
 use Rattle.water_model.specs.Valid.{IsValidRight, IsValidReturn, AreRanked, rank_of_kind, is_diversion_kind}
@@ -14,9 +14,8 @@ use Rattle.basin_gen.proofs.DrawLaws.{drawn_below}
 use Rattle.basin_gen.proofs.NameLaws.{numbered_is_name, zone_is_name}
 use Rattle.basin_gen.proofs.NetworkLaws.{same_for_months}
 use Rattle.basin_gen.proofs.Places.{entry_is, all_of, listed}
-use Rattle.basin_gen.proofs.Lists.{IsMade, States, joined_each, diversion_count, instream_count}
-use Rattle.basin_gen.proofs.Lists.{zone_count, return_count, diversion_made, instream_made, zone_made, other_made}
-use Rattle.basin_gen.proofs.Lists.{right_made}
+use Rattle.basin_gen.proofs.Lists.{IsMade, States, diversion_count, zone_count, return_count, right_made, right_count}
+use Rattle.basin_gen.proofs.Lists.{each_right, all_rights}
 use Rattle.basin_gen.proofs.RightsLaws.{zone_by, is_zone, first_right}
 
 -- rights of one kind before rights that may not stand before them
@@ -61,10 +60,8 @@ rights_valid b size s some bounded made =
     let nodes = made.nodes.count in
     let links = made.links.count in
     let reservoirs = made.reservoirs.count in
-    all_of (λ r. IsValidRight b r) b.rights (diversion_count size + (instream_count size + zone_count size))
-    (right_made size s) made.rights
-    (joined_each (λ r. IsValidRight b r) (diversion_count size) (instream_count size + zone_count size)
-    (diversion_made size s) (other_made size s)
+    all_rights (λ r. IsValidRight b r) b size s made
+    (each_right (λ r. IsValidRight b r) size s
     (λ d l. let node = drawn_below (s.diversions d) size (omega arith) in
     let want = drawn_below (next (next (s.diversions d))) 300 (omega arith) in record {
       name = numbered_is_name 100 (d + d / 3) refl (omega arith);
@@ -74,7 +71,6 @@ rights_valid b size s some bounded made =
       volume = tt;
       series = λ e. absurd (false≢true e);
     })
-    (joined_each (λ r. IsValidRight b r) (instream_count size) (zone_count size) (instream_made size s) (zone_made s)
     (λ j l. let link = drawn_below (s.instreams j) (size - 1) (omega arith) in
     let want = drawn_below (next (next (s.instreams j))) 300 (omega arith) in record {
       name = numbered_is_name 115 (4 * j + 3) refl (omega arith);
@@ -100,7 +96,7 @@ rights_valid b size s some bounded made =
       want = same_for_months (10 ^ 9) (drawn (s.zones z) 400) (omega arith);
       volume = tt;
       series = λ e. absurd (false≢true e);
-    }))))
+    })))
 
 pub returns_valid : (b : Basin) (size : ℕ) (s : States) → 2 ≤ size → size ≤ 2000 → IsMade b size s →
     All (λ row. IsValidReturn b row) b.returns
@@ -115,8 +111,7 @@ returns_valid b size s some bounded made =
     let own : 3 * j < diversion_count size = omega arith in record {
       right = omega arith;
       diversion =
-          entry_is b.rights (diversion_count size + (instream_count size + zone_count size)) (right_made size s)
-          made.rights
+          entry_is b.rights (right_count size) (right_made size s) made.rights
           (λ r. is_diversion_kind r.kind) false (3 * j) (omega arith)
           ∙ ap (λ r. is_diversion_kind r.kind) (first_right size s (3 * j) own);
       node = omega arith;
@@ -125,37 +120,14 @@ returns_valid b size s some bounded made =
     })
 
 -- the wants stand with the rights
-abbrev HasWants : Right → Type 0
-HasWants r = r.series ≡ false
-
-pub right_has_wants : (size : ℕ) (s : States) (i : ℕ) →
-    i < diversion_count size + (instream_count size + zone_count size) → (right_made size s i).series ≡ false
+pub right_has_wants : (size : ℕ) (s : States) (i : ℕ) → i < right_count size → (right_made size s i).series ≡ false
 right_has_wants size s =
-    joined_each HasWants (diversion_count size) (instream_count size + zone_count size) (diversion_made size s)
-    (other_made size s) (λ d l. refl)
-    (joined_each HasWants (instream_count size) (zone_count size) (instream_made size s) (zone_made s) (λ j l. refl)
-    (λ z l. zone_by HasWants z (s.zones z) (λ h. refl) (λ h. refl)))
+    each_right (λ r. r.series ≡ false) size s (λ d l. refl) (λ j l. refl)
+    (λ z l. zone_by (λ r. r.series ≡ false) z (s.zones z) (λ h. refl) (λ h. refl))
 
 -- no right has a volume
 pub no_volumes : (b : Basin) (size : ℕ) (s : States) → IsMade b size s → All (λ r. r.volume ≡ None) b.rights
 no_volumes b size s made =
-    all_of (λ r. r.volume ≡ None) b.rights (diversion_count size + (instream_count size + zone_count size))
-    (right_made size s) made.rights
-    (joined_each (λ r. r.volume ≡ None) (diversion_count size) (instream_count size + zone_count size)
-    (diversion_made size s) (other_made size s)
-    (λ d l. refl)
-    (joined_each (λ r. r.volume ≡ None) (instream_count size) (zone_count size) (instream_made size s) (zone_made s)
-    (λ j l. refl)
-    (λ z l. zone_by (λ r. r.volume ≡ None) z (s.zones z) (λ even. refl) (λ odd. refl))))
-
--- and none has its wants in the series
-pub not_in_series : (b : Basin) (size : ℕ) (s : States) → IsMade b size s → All (λ r. r.series ≡ false) b.rights
-not_in_series b size s made =
-    all_of (λ r. r.series ≡ false) b.rights (diversion_count size + (instream_count size + zone_count size))
-    (right_made size s) made.rights
-    (joined_each (λ r. r.series ≡ false) (diversion_count size) (instream_count size + zone_count size)
-    (diversion_made size s) (other_made size s)
-    (λ d l. refl)
-    (joined_each (λ r. r.series ≡ false) (instream_count size) (zone_count size) (instream_made size s) (zone_made s)
-    (λ j l. refl)
-    (λ z l. zone_by (λ r. r.series ≡ false) z (s.zones z) (λ even. refl) (λ odd. refl))))
+    all_rights (λ r. r.volume ≡ None) b size s made
+    (each_right (λ r. r.volume ≡ None) size s (λ d l. refl) (λ j l. refl)
+    (λ z l. zone_by (λ r. r.volume ≡ None) z (s.zones z) (λ h. refl) (λ h. refl)))

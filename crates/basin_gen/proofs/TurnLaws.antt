@@ -1,8 +1,8 @@
 -- What turns make, one turn after the other.
 use Rattle.std.proofs.Common.{◌≡◌, ℕ, ◌+◌, ◌-◌, ◌*◌, ◌/◌, ◌%◌, Bool, true, false, refl, sym, ap, ◌∙◌, arith, List, []}
 use Rattle.std.proofs.Common.{◌∷◌, ◌++◌, append-nil}
+use Rattle.std.proofs.lemmas.Bool.{eqb-true, eqb-false}
 use Rattle.std.specs.Prelude.{◌==◌, if◌then◌else◌}
-use Rattle.std.proofs.lemmas.Bool.Decides.{nat_tests}
 use Rattle.water_model.specs.declared.types.ReturnRow.{ReturnRow}
 use Rattle.water_model.specs.declared.types.Right.{Right}
 use Rattle.basin_gen.specs.Draws.{later, list_of}
@@ -18,16 +18,7 @@ pub record AreMade (size x turns : ℕ) (ds ss : List Right) (rows : List Return
 
 -- the turn that makes a diversion
 diversion_turn : (k : ℕ) → (k % 4 == 3) ≡ false → turn_of_diversion (k - k / 4) ≡ k
-diversion_turn k h = let other : k % 4 ≡ 3 → ⊥ = tests (k % 4) h in omega arith
-  where
-    tests : (n : ℕ) → (n == 3) ≡ false → n ≡ 3 → ⊥
-    tests n h e = grind (arith, nat_tests)
-
-when_equal : (n m : ℕ) → (n == m) ≡ true → n ≡ m
-when_equal n m h = grind (arith, nat_tests)
-
-when_other : (n m : ℕ) → (n == m) ≡ false → n ≡ m → ⊥
-when_other n m h e = grind (arith, nat_tests)
+diversion_turn k h = let other = eqb-false (k % 4) 3 h in omega arith
 
 -- an entry more, or none, as a test says
 more_where : {X : Type 0} → (f : ℕ → X) (test : Bool) (n m : ℕ) (old new : List X) (x : X) → old ≡ list_of n f →
@@ -65,33 +56,33 @@ turn_more size x k y diversions diversions' instreams instreams' returns returns
       less_where (λ d. diversion_at size (turn_of_diversion d) (later x (draws_of_turns (turn_of_diversion d))))
       (k % 4 == 3) (k - k / 4) (k + 1 - (k + 1) / 4)
       diversions diversions' (diversion_at size k y) so_far.diversions d
-      (λ h. let other = when_other (k % 4) 3 h in (
+      (λ h. let other = eqb-false (k % 4) 3 h in (
         ap (diversion_at size k) state
             ∙ sym (ap (λ n. diversion_at size n (later x (draws_of_turns n))) (diversion_turn k h)),
         omega arith,
       ))
-      (λ h. let same = when_equal (k % 4) 3 h in omega arith);
+      (λ h. let same = eqb-true (k % 4) 3 h in omega arith);
   instreams =
       more_where (λ j. instream_at size (4 * j + 3) (later x (draws_of_turns (4 * j + 3)))) (k % 4 == 3) (k / 4)
       ((k + 1) / 4)
       instreams instreams' (instream_at size k y) so_far.instreams s
-      (λ h. let same = when_equal (k % 4) 3 h in let turn : 4 * (k / 4) + 3 ≡ k = omega arith in (
+      (λ h. let same = eqb-true (k % 4) 3 h in let turn : 4 * (k / 4) + 3 ≡ k = omega arith in (
         ap (instream_at size k) state ∙ sym (ap (λ n. instream_at size n (later x (draws_of_turns n))) turn),
         omega arith,
       ))
-      (λ h. let other = when_other (k % 4) 3 h in omega arith);
+      (λ h. let other = eqb-false (k % 4) 3 h in omega arith);
   returns =
       more_where (λ j. return_at size (3 * j) (later x (draws_of_turns (4 * j) + 3))) (k % 4 == 0) ((k + 3) / 4)
       ((k + 1 + 3) / 4)
       returns returns' (return_at size (3 * (k / 4)) (later y 3)) so_far.returns r
-      (λ h. let same = when_equal (k % 4) 0 h in let turn : 4 * ((k + 3) / 4) ≡ k = omega arith in
+      (λ h. let same = eqb-true (k % 4) 0 h in let turn : 4 * ((k + 3) / 4) ≡ k = omega arith in
       let at : k / 4 ≡ (k + 3) / 4 = omega arith in (
         ap (return_at size (3 * (k / 4))) (ap (λ z. later z 3) state ∙ later_later x (draws_of_turns k) 3
             ∙ sym (ap (λ n. later x (draws_of_turns n + 3)) turn))
             ∙ ap (λ n. return_at size (3 * n) (later x (draws_of_turns (4 * ((k + 3) / 4)) + 3))) at,
         omega arith,
       ))
-      (λ h. let other = when_other (k % 4) 0 h in omega arith);
+      (λ h. let other = eqb-false (k % 4) 0 h in omega arith);
 }
 
 -- the draws of one turn more
@@ -102,5 +93,5 @@ turn_draws x k =
     ∙ later_later x (draws_of_turns k) (3 + (if k % 4 == 0 then 3 else 0)) ∙ ap (later x) (counts (k % 4 == 0) refl)
   where
     counts : (t : Bool) → (k % 4 == 0) ≡ t → draws_of_turns k + (3 + (if t then 3 else 0)) ≡ draws_of_turns (k + 1)
-    counts true h = let same = when_equal (k % 4) 0 h in omega arith
-    counts false h = let other = when_other (k % 4) 0 h in omega arith
+    counts true h = let same = eqb-true (k % 4) 0 h in omega arith
+    counts false h = let other = eqb-false (k % 4) 0 h in omega arith

@@ -6,12 +6,12 @@ use Rattle.water_model.specs.Indices.{numbers_from}
 use Rattle.water_model.specs.Valid.{IsValidBasin, IsSeriesOf, is_gauged, is_gauged_kind}
 use Rattle.basin_gen.specs.Entries.{node_at}
 use Rattle.basin_gen.specs.Generator.{generated}
-use Rattle.basin_gen.proofs.Lists.{states_of, generated_made, right_made, diversion_count, instream_count, zone_count}
+use Rattle.basin_gen.proofs.Lists.{states_of, generated_made, right_made, right_count, all_rights}
 use Rattle.basin_gen.proofs.Places.{entry_is}
 use Rattle.basin_gen.proofs.NetworkLaws.{nodes_valid, links_valid, open_canals, reservoirs_valid, nodes_own, links_own}
 use Rattle.basin_gen.proofs.NetworkLaws.{reservoirs_own, network_sound}
 use Rattle.basin_gen.proofs.RightsLaws.{rights_own, roll_sound, bounded_rows}
-use Rattle.basin_gen.proofs.RightsValid.{rights_valid, no_volumes, not_in_series, returns_valid}
+use Rattle.basin_gen.proofs.RightsValid.{rights_valid, no_volumes, returns_valid}
 use Rattle.basin_gen.proofs.RightsValid.{rights_ranked, right_has_wants}
 
 pub generated_valid : (number size : ℕ) → 2 ≤ size → size ≤ 2000 → IsValidBasin (generated number size)
@@ -30,13 +30,12 @@ generated_valid number size some bounded =
           year_start = refl;
           open_canals = open_canals b size s made;
           volumes = no_volumes b size s made;
-          no_series = not_in_series b size s made;
+          no_series = all_rights (λ r. r.series ≡ false) b size s made (right_has_wants size s);
         };
       };
       run = record {
         first = record { year = (omega arith, omega arith); month = (omega arith, omega arith) };
-        months =
-            (omega arith, omega arith);
+        months = (omega arith, omega arith);
         ends = omega arith;
       };
       bounded = record {
@@ -44,8 +43,7 @@ generated_valid number size some bounded =
         nodes = omega arith;
         links = omega arith;
         rights = omega arith;
-        rows =
-            λ right l. bounded_rows b size s made right;
+        rows = λ right l. bounded_rows b size s made right;
       };
       nodes = nodes_valid b size s bounded made;
       links = links_valid b size s bounded made;
@@ -56,8 +54,7 @@ generated_valid number size some bounded =
       names = record {
         nodes = nodes_own b size s bounded made;
         links = links_own b size s bounded made;
-        rights =
-            rights_own b size s bounded made;
+        rights = rights_own b size s bounded made;
         reservoirs = reservoirs_own b size s made;
       };
       network = network_sound b size s made;
@@ -85,8 +82,8 @@ no_series number size =
       small_amounts = λ k d l. absurd (omega arith);
       wanted = sym (none_of (λ r. of_entry b.rights r (λ right. right.series) false) 0 (length b.rights)
           (λ k l. let len = made.rights.count in
-          entry_is b.rights (diversion_count size + (instream_count size + zone_count size)) (right_made size s)
-          made.rights (λ right. right.series) false k (omega arith)
+          entry_is b.rights (right_count size) (right_made size s) made.rights (λ right. right.series) false k
+          (omega arith)
           ∙ right_has_wants size s k (omega arith)));
       wants = omega arith;
       small_wants = λ k d l. absurd (omega arith);

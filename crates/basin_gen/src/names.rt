@@ -7,6 +7,7 @@ use water_text::line::Line;
 use water_text::name::Name;
 
 /// The name that has a letter and a number.
+#[tactic(auto, using(crate::proofs::NameLaws::names))]
 pub(crate) fn numbered(letter: u8, number: u32) -> Name
     requires { is_name_byte letter ≡ true }
     ensures { result ≡ letter ∷ decimal number }
@@ -21,6 +22,7 @@ pub(crate) fn numbered(letter: u8, number: u32) -> Name
 }
 
 /// The name of a zone of a reservoir: `z`, the reservoir's number and a mark.
+#[tactic(auto, using(crate::proofs::NameLaws::names))]
 pub(crate) fn zone_name(number: u32, mark: u8) -> Name
     requires { is_name_byte mark ≡ true }
     ensures { result ≡ 122 ∷ decimal number ++ mark ∷ [] }

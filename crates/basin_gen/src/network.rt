@@ -38,6 +38,7 @@ fn node(size: u32, i: u32, draws: &mut Draws) -> Node
 }
 
 /// All nodes, from the first to the outlet.
+#[tactic(auto, using(crate::proofs::DrawLaws::draws), unfolding(crate::specs::Generator::nodes_of))]
 pub(crate) fn nodes(alloc: Global, size: u32, draws: &mut Draws) -> Result<Vec<Node>, AllocError>
     requires size { size ≤ 2000 }
     ensures value { IfOk result (λ made. made.items ≡ nodes_of size draws.old.state) }
@@ -78,6 +79,7 @@ fn river(size: u32, i: u32, draws: &mut Draws) -> Link
 }
 
 /// A river from each node but the last.
+#[tactic(auto, using(crate::proofs::DrawLaws::draws), unfolding(crate::specs::Generator::rivers_of))]
 pub(crate) fn rivers(alloc: Global, size: u32, draws: &mut Draws) -> Result<Vec<Link>, AllocError>
     requires some { 1 ≤ size }
     requires size { size ≤ 2000 }
@@ -110,6 +112,7 @@ fn canal(size: u32, i: u32, draws: &mut Draws) -> Link
 }
 
 /// Appends the canals to the rivers.
+#[tactic(auto, using(crate::proofs::DrawLaws::draws), unfolding(crate::specs::Generator::canals_of))]
 pub(crate) fn add_canals(
     links: &mut Vec<Link>,
     size: u32,

@@ -38,6 +38,7 @@ fn reservoir(alloc: Global, node: u32, draws: &mut Draws) -> Result<Reservoir, A
 }
 
 /// All reservoirs, by their nodes.
+#[tactic(auto, using(crate::proofs::DrawLaws::draws), unfolding(crate::specs::Generator::reservoirs_of))]
 pub(crate) fn reservoirs(
     alloc: Global,
     size: u32,
@@ -86,6 +87,7 @@ fn upper_zone(j: u32, draws: &mut Draws) -> Right
 }
 
 /// Appends both zones of each reservoir to the other rights.
+#[tactic(auto, using(crate::proofs::DrawLaws::draws), unfolding(crate::specs::Generator::zones_of))]
 pub(crate) fn add_zones(
     rights: &mut Vec<Right>,
     size: u32,

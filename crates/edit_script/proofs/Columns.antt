@@ -1,21 +1,16 @@
 -- A series has at most 2,000 gauges and at most 2,000 rights with wants.
 use Rattle.std.proofs.Common.{◌≡◌, ℕ, ◌≤◌, Bool, arith, List, length, filter}
-use Rattle.std.proofs.lemmas.List.Sums.{length-filter, count_by-le-length}
 use Rattle.water_model.specs.Indices.{numbers_from}
 use Rattle.water_model.specs.Valid.{IsValidBasin, IsSeriesOf, is_gauged, is_in_series}
 use Rattle.water_model.specs.declared.types.Basin.{Basin}
 use Rattle.water_model.specs.declared.types.Inflows.{Inflows}
 use Rattle.water_model.proofs.Order.{length-numbers_from}
+use Rattle.water_model.proofs.Gauges.{filter_short}
 
 bounded_columns : (p : ℕ → Bool) (count : ℕ) (keys : List ℕ) → keys ≡ filter p (numbers_from 0 count) →
     length keys ≤ count
 bounded_columns p count keys e =
-    rw e (omega (
-      arith,
-      length-filter p (numbers_from 0 count),
-      count_by-le-length p (numbers_from 0 count),
-      length-numbers_from 0 count,
-    ))
+    rw e (omega (arith, filter_short p (numbers_from 0 count), length-numbers_from 0 count))
 
 pub bounded_gauges : (b : Basin) (series : Inflows) → IsValidBasin b → IsSeriesOf b series → length series.gauged ≤ 2000
 bounded_gauges b series valid fits =

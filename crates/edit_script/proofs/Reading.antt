@@ -1,6 +1,7 @@
 -- The lines that were read, and those to come.
 use Rattle.std.proofs.Common.{◌≡◌, ℕ, ◌+◌, ◌≤◌, Bool, true, false, refl, sym, ap, subst, ◌∙◌, arith, List, [], ◌∷◌}
 use Rattle.std.proofs.Common.{◌++◌, length, append_assoc, cond}
+use Rattle.std.proofs.lemmas.List.{append-nil}
 use Rattle.std.specs.Prelude.{◌==◌, codes, Result, Ok, Err, MatchResult, Vec}
 use Rattle.std.specs.List.{slice_split, onto_first}
 use Rattle.std.specs.Str.{bytes_eq}
@@ -11,9 +12,9 @@ use Rattle.edit_script.specs.Scripts.{IsRefusalOf, Reading, ended, edits_from, e
 use Rattle.edit_script.specs.Scripts.{numbered, script_of}
 use Rattle.edit_script.specs.declared.edit.Edit.{Edit}
 use Rattle.edit_script.specs.declared.refused.ScriptRefused.{ScriptRefused}
+use Rattle.water_text.proofs.Splits.{some_piece}
 use Rattle.edit_script.specs.declared.refused.ScriptRefused.TheVariants as refused
 use Rattle.edit_script.specs.declared.refused.ScriptFault.TheVariants as fault
-use Rattle.water_text.proofs.Splits.{some_piece}
 
 -- what was read, and after it the answer to the lines to come
 abbrev pub after : List Edit → Reading → Reading
@@ -70,11 +71,7 @@ line_refused b series whole edits number rest line text why so_far at other is =
 ended_after : (edits : List Edit) (number : ℕ) (lines : List (List ℕ)) →
     after edits (ended [] number lines) ≡ ended edits number lines
 ended_after edits number [] = refl
-ended_after edits number ([] ∷ []) = ap (λ (es : List Edit). Ok es) (no_more edits)
-  where
-    no_more : (es : List Edit) → es ++ [] ≡ es
-    no_more [] = refl
-    no_more (e ∷ es) = ap (λ (x : List Edit). e ∷ x) (no_more es)
+ended_after edits number ([] ∷ []) = ap (λ (es : List Edit). Ok es) (append-nil edits)
 ended_after edits number ([] ∷ (line ∷ lines)) = refl
 ended_after edits number ((c ∷ cs) ∷ lines) = refl
 

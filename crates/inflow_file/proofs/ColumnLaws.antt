@@ -2,17 +2,20 @@
 use Rattle.std.proofs.Common.{◌≡◌, ℕ, zero, suc, ◌+◌, ◌-◌, ◌<◌, ◌≤◌, Bool, true, false, refl, sym, ap, ◌∙◌, arith, List}
 use Rattle.std.proofs.Common.{[], ◌∷◌, ◌++◌, length, get_or, slice_index, filter, if◌then◌else◌, inl, inr, add-one}
 use Rattle.std.proofs.Common.{zero-add}
-use Rattle.std.specs.Prelude.{◌==◌, nat_lt}
-use Rattle.std.proofs.lemmas.Bool.{cases_lt, eq-eqb, lt-ltb}
-use Rattle.std.proofs.lemmas.Bool.Decides.{nat_tests}
-use Rattle.std.proofs.lemmas.List.{get_or_append_left, get_or_push, length-append}
-use Rattle.std.proofs.lemmas.List.Elements.{filter-append}
+use Rattle.std.proofs.lemmas.Bool.{cases_lt, lt-ltb, le-ltb}
+use Rattle.std.proofs.lemmas.List.{get_or_append_left, get_or_push, length-append, get_or_at}
+use Rattle.std.proofs.lemmas.List.Elements.{filter-append, filter_agree}
+use Rattle.std.proofs.lemmas.List.Kept.{IsStrictlyIncreasing-filter, AllPairs-from_increasing}
+use Rattle.std.proofs.lemmas.Option.{get_or_from_slice_get}
+use Rattle.std.specs.List.Sorted.{IsStrictlyIncreasing}
 use Rattle.water_model.proofs.Lists.{numbers_more}
+use Rattle.water_model.proofs.Gauges.{index_is, filter_short}
+use Rattle.water_model.proofs.Order.{numbers_from-get, length-numbers_from}
 use Rattle.water_model.specs.Hydrology.{index_in}
 use Rattle.water_model.specs.Indices.{numbers_from}
 use Rattle.water_model.specs.Valid.{is_gauged, gauged_nodes, is_in_series, rights_in_series}
 use Rattle.water_model.specs.declared.types.Basin.{Basin}
-use Rattle.inflow_file.specs.Columns.{IsColumn, column_numbers, count_of_both, is_column, right_number}
+use Rattle.inflow_file.specs.Columns.{IsColumn, column_numbers, count_of_both, is_column, right_number, columns_from}
 
 -- how many of the numbers below another pass a test
 abbrev pub passed_below : (ℕ → Bool) → ℕ → ℕ
@@ -25,124 +28,63 @@ filter_next p n =
     (ap (filter p) (numbers_more 0 n) ∙ (filter-append p (numbers_from 0 n) ((0 + n) ∷ []) ∙ rw zero-add refl))
 
 pub passed_most : (p : ℕ → Bool) (n : ℕ) → passed_below p n ≤ n
-unfolding numbers_from
-passed_most p zero = omega arith
-passed_most p (suc n) =
-    let next : passed_below p (suc n) ≡ passed_below p n + length (if p n then n ∷ [] else []) =
-    rw add-one at
-    (ap length (filter_next p n) ∙ length-append (filter p (numbers_from 0 n)) (if p n then n ∷ [] else [])) in
-    rw next (by_test (p n) (passed_most p n))
-  where
-    by_test : (t : Bool) → passed_below p n ≤ n → passed_below p n + length (if t then n ∷ [] else []) ≤ suc n
-    by_test true h = omega arith
-    by_test false h = omega arith
+passed_most p n = omega (arith, filter_short p (numbers_from 0 n), length-numbers_from 0 n)
 
-other_test : (a c : ℕ) → a < c → a == c ≡ false
-other_test a c h = grind (arith, nat_tests)
-
--- the index of a number among those that pass a test: as many stand before it as pass below it
-index_from : (p : ℕ → Bool) (from count k x : ℕ) → k < count → x ≡ from + k → p x ≡ true →
-    index_in (filter p (numbers_from from count)) x ≡ length (filter p (numbers_from from k))
+numbers_parted : (from a c : ℕ) → numbers_from from (a + c) ≡ numbers_from from a ++ numbers_from (from + a) c
 unfolding numbers_from
-index_from p from zero k x l e h = absurd (omega arith)
-index_from p from (suc count) zero x l e h =
-    let same : from ≡ x = omega arith in
-    let passes : p from ≡ true = ap p same ∙ h in
-    let here : from == x ≡ true = eq-eqb from x same in
-    rw (passes, here) refl
-index_from p from (suc count) (suc k) x l e h =
-    by_test (p from) (other_test from x (omega arith)) (index_from p (suc from) count k x (omega arith) (omega arith) h)
-  where
-    by_test : (t : Bool) → from == x ≡ false →
-        index_in (filter p (numbers_from (suc from) count)) x ≡ length (filter p (numbers_from (suc from) k)) →
-        index_in (if t then from ∷ filter p (numbers_from (suc from) count) else filter p
-        (numbers_from (suc from) count)) x
-        ≡ length (if t then from ∷ filter p (numbers_from (suc from) k) else filter p (numbers_from (suc from) k))
-    by_test true f h = rw f (omega arith)
-    by_test false f h = h
+numbers_parted from zero c = let start : from ≡ from + zero = omega arith in
+    rw zero-add (ap (λ k. numbers_from k c) start)
+numbers_parted from (suc a) c =
+    let more : suc a + c ≡ suc (a + c) = omega arith in
+    let on : suc from + a ≡ from + suc a = omega arith in
+    rw more (ap (λ ns. from ∷ ns)
+    (numbers_parted (suc from) a c ∙ ap (λ k. numbers_from (suc from) a ++ numbers_from k c) on))
 
--- a number that passes stands at its index
-pub index_holds : (p : ℕ → Bool) (from count k x : ℕ) → k < count → x ≡ from + k → p x ≡ true →
-    (index_in (filter p (numbers_from from count)) x < length (filter p (numbers_from from count)))
-    × (get_or (filter p (numbers_from from count)) (index_in (filter p (numbers_from from count)) x) 0 ≡ x)
-unfolding numbers_from
-index_holds p from zero k x l e h = absurd (omega arith)
-index_holds p from (suc count) zero x l e h =
-    let same : from ≡ x = omega arith in
-    let passes : p from ≡ true = ap p same ∙ h in
-    let here : from == x ≡ true = eq-eqb from x same in
-    rw (passes, here) (omega arith, same)
-index_holds p from (suc count) (suc k) x l e h =
-    by_test (p from) (other_test from x (omega arith))
-    (index_holds p (suc from) count k x (omega arith) (omega arith) h)
+-- those that pass rise
+passed_rise : (p : ℕ → Bool) (n : ℕ) → IsStrictlyIncreasing (filter p (numbers_from 0 n))
+passed_rise p n = IsStrictlyIncreasing-filter p (numbers_from 0 n) (λ k l.
+    let within : k + 1 < n = omega (arith, length-numbers_from 0 n) in
+    let here = read k (omega arith) in
+    let next = read (k + 1) within in
+    omega arith)
   where
-    by_test : (t : Bool) → from == x ≡ false →
-        (index_in (filter p (numbers_from (suc from) count)) x < length (filter p (numbers_from (suc from) count)))
-        × (get_or (filter p (numbers_from (suc from) count)) (index_in (filter p (numbers_from (suc from) count)) x)
-        0 ≡ x) →
-        (index_in
-        (if t then from ∷ filter p (numbers_from (suc from) count) else filter p (numbers_from (suc from) count)) x
-        < length (if t then from ∷ filter p (numbers_from (suc from) count) else filter p
-        (numbers_from (suc from) count)))
-        × (get_or
-        (if t then from ∷ filter p (numbers_from (suc from) count) else filter p (numbers_from (suc from) count))
-        (index_in
-        (if t then from ∷ filter p (numbers_from (suc from) count) else filter p (numbers_from (suc from) count)) x)
-        0 ≡ x)
-    by_test true f h =
-        let next : 1 + index_in (filter p (numbers_from (suc from) count)) x ≡ suc
-        (index_in (filter p (numbers_from (suc from) count)) x) = omega arith in
-        rw (f, next) (omega (arith, h.0), h.1)
-    by_test false f h = h
-
-passing_from : (p : ℕ → Bool) (from count g : ℕ) → g < length (filter p (numbers_from from count)) →
-    from ≤ get_or (filter p (numbers_from from count)) g 0
-unfolding numbers_from
-passing_from p from zero g l = absurd (omega arith)
-passing_from p from (suc count) g l = by_test (p from) g l (passing_from p (suc from) count)
-  where
-    by_test : (t : Bool) (g : ℕ) →
-        g < length
-        (if t then from ∷ filter p (numbers_from (suc from) count) else filter p (numbers_from (suc from) count)) →
-        ((k : ℕ) → k < length (filter p (numbers_from (suc from) count)) →
-        suc from ≤ get_or (filter p (numbers_from (suc from) count)) k 0) →
-        from ≤ get_or
-        (if t then from ∷ filter p (numbers_from (suc from) count) else filter p (numbers_from (suc from) count)) g
-        0
-    by_test true zero l further = omega arith
-    by_test true (suc g) l further = let h = further g (omega arith) in omega (arith, h)
-    by_test false g l further = let h = further g l in omega (arith, h)
+    read : (k : ℕ) → k < n → get_or (numbers_from 0 n) k 0 ≡ k
+    read k l = get_or_from_slice_get (numbers_from 0 n) k k 0 (numbers_from-get 0 n k k l (omega arith))
 
 -- the index of the number that stands at an index
-pub index_of_passing : (p : ℕ → Bool) (from count g : ℕ) → g < length (filter p (numbers_from from count)) →
-    index_in (filter p (numbers_from from count)) (get_or (filter p (numbers_from from count)) g 0) ≡ g
-unfolding numbers_from
-index_of_passing p from zero g l = absurd (omega arith)
-index_of_passing p from (suc count) g l =
-    by_test (p from) g l (index_of_passing p (suc from) count) (passing_from p (suc from) count)
-  where
-    by_test : (t : Bool) (g : ℕ) →
-        g < length
-        (if t then from ∷ filter p (numbers_from (suc from) count) else filter p (numbers_from (suc from) count)) →
-        ((k : ℕ) → k < length (filter p (numbers_from (suc from) count)) →
-        index_in (filter p (numbers_from (suc from) count))
-        (get_or (filter p (numbers_from (suc from) count)) k 0) ≡ k) →
-        ((k : ℕ) → k < length (filter p (numbers_from (suc from) count)) →
-        suc from ≤ get_or (filter p (numbers_from (suc from) count)) k 0) →
-        index_in (if t then from ∷ filter p (numbers_from (suc from) count) else filter p
-        (numbers_from (suc from) count))
-        (get_or (if t then from ∷ filter p (numbers_from (suc from) count) else filter p
-        (numbers_from (suc from) count)) g 0) ≡ g
-    by_test true zero l further least = rw (eq-eqb from from refl) refl
-    by_test true (suc g) l further least =
-        let h = least g (omega arith) in
-        rw (other_test from (get_or (filter p (numbers_from (suc from) count)) g 0) h, further g (omega arith))
-        (omega arith)
-    by_test false g l further least = further g l
+pub index_of_passing : (p : ℕ → Bool) (count g : ℕ) → g < passed_below p count →
+    index_in (filter p (numbers_from 0 count)) (get_or (filter p (numbers_from 0 count)) g 0) ≡ g
+index_of_passing p count g l =
+    sym (index_is (filter p (numbers_from 0 count)) (get_or (filter p (numbers_from 0 count)) g 0) g (omega arith)
+    (λ k m e. let less = AllPairs-from_increasing _ (passed_rise p count) k g 0 m l in omega arith) (λ m. refl))
 
+-- a number that passes stands where as many are before it as pass below it
+stands : (p : ℕ → Bool) (count x : ℕ) → x < count → p x ≡ true →
+    (passed_below p x < passed_below p count) × (get_or (filter p (numbers_from 0 count)) (passed_below p x) 0 ≡ x)
+unfolding numbers_from
+stands p count x l h =
+    let rest : ℕ = count - suc x in
+    let all : count ≡ x + suc rest = omega arith in
+    let parted : filter p (numbers_from 0 count) ≡ filter p (numbers_from 0 x) ++ x ∷ filter p
+    (numbers_from (suc x) rest) =
+    ap (λ n. filter p (numbers_from 0 n)) all ∙ ap (filter p) (numbers_parted 0 x (suc rest))
+    ∙ filter-append p (numbers_from 0 x) (numbers_from (0 + x) (suc rest)) ∙ rw (zero-add, h) refl in
+    rw parted (
+      omega (arith, length-append (filter p (numbers_from 0 x)) (x ∷ filter p (numbers_from (suc x) rest))),
+      get_or_at (filter p (numbers_from 0 x)) x (filter p (numbers_from (suc x) rest)) 0 _ refl,
+    )
+
+-- which is its index
 pub index_passed : (p : ℕ → Bool) (count x : ℕ) → x < count → p x ≡ true →
     index_in (filter p (numbers_from 0 count)) x ≡ passed_below p x
-index_passed p count x l h = index_from p 0 count x x l (omega arith) h
+index_passed p count x l h =
+    let there = stands p count x l h in
+    ap (index_in (filter p (numbers_from 0 count))) (sym there.1) ∙ index_of_passing p count (passed_below p x) there.0
+
+pub index_holds : (p : ℕ → Bool) (count x : ℕ) → x < count → p x ≡ true →
+    (index_in (filter p (numbers_from 0 count)) x < length (filter p (numbers_from 0 count)))
+    × (get_or (filter p (numbers_from 0 count)) (index_in (filter p (numbers_from 0 count)) x) 0 ≡ x)
+index_holds p count x l h = rw (index_passed p count x l h) (stands p count x l h)
 
 pub none_below : (p : ℕ → Bool) → filter p (numbers_from 0 0) ≡ []
 unfolding numbers_from
@@ -163,17 +105,12 @@ index_added p indices passing n k count is each l =
 -- Gauges come first among the columns, and wants after them.
 
 pub gauge_column : (b : Basin) (node : ℕ) → node < length b.nodes → is_column b node ≡ is_gauged b node
-gauge_column b node l = let below : nat_lt node (length b.nodes) ≡ true = lt-ltb node (length b.nodes) l in
-    rw below refl
+gauge_column b node l = rw (lt-ltb node (length b.nodes) l) refl
 
 pub want_column : (b : Basin) (right : ℕ) → is_column b (right_number b right) ≡ is_in_series b right
 want_column b right =
-    let after : nat_lt (length b.nodes + right) (length b.nodes) ≡ false = not_below (length b.nodes) right in
     let cell : length b.nodes + right - length b.nodes ≡ right = omega arith in
-    rw (after, cell) refl
-  where
-    not_below : (n k : ℕ) → nat_lt (n + k) n ≡ false
-    not_below n k = grind (arith, nat_tests)
+    rw (le-ltb (length b.nodes + right) (length b.nodes) (omega arith), cell) refl
 
 pub is_gauge : (b : Basin) (node : ℕ) → node < length b.nodes → is_gauged b node ≡ true → IsColumn b node
 is_gauge b node l h = record { within = omega arith; due = gauge_column b node l ∙ h }
@@ -199,26 +136,22 @@ unfolding numbers_from
 moved_on p q n from zero h = refl
 moved_on p q n from (suc count) h =
     let next : suc (n + from) ≡ n + suc from = omega arith in
-    by_test (p (n + from)) (q from) (filter p (numbers_from (suc (n + from)) count))
-    (filter q (numbers_from (suc from) count)) (h from) (ap (λ k. length (filter p (numbers_from k count))) next
-    ∙ moved_on p q n (suc from) count h)
+    rw (h from) (by_test (q from) _ _ (ap (λ k. length (filter p (numbers_from k count))) next
+    ∙ moved_on p q n (suc from) count h))
   where
-    by_test : (s t : Bool) (xs ys : List ℕ) → s ≡ t → length xs ≡ length ys →
-        length (if s then (n + from) ∷ xs else xs) ≡ length (if t then from ∷ ys else ys)
-    by_test true true xs ys e f = ap suc f
-    by_test false false xs ys e f = f
-    by_test true false xs ys e f = cc
-    by_test false true xs ys e f = cc
+    by_test : (t : Bool) (xs ys : List ℕ) → length xs ≡ length ys →
+        length (if t then (n + from) ∷ xs else xs) ≡ length (if t then from ∷ ys else ys)
+    by_test true xs ys e = ap suc e
+    by_test false xs ys e = e
 
-numbers_parted : (from a c : ℕ) → numbers_from from (a + c) ≡ numbers_from from a ++ numbers_from (from + a) c
-unfolding numbers_from
-numbers_parted from zero c = let start : from ≡ from + zero = omega arith in
-    rw zero-add (ap (λ k. numbers_from k c) start)
-numbers_parted from (suc a) c =
-    let more : suc a + c ≡ suc (a + c) = omega arith in
-    let on : suc from + a ≡ from + suc a = omega arith in
-    rw more (ap (λ ns. from ∷ ns)
-    (numbers_parted (suc from) a c ∙ ap (λ k. numbers_from (suc from) a ++ numbers_from k c) on))
+-- the gauges, and the rights whose wants stand in the series, as the columns among nodes and among rights
+pub gauges_are : (b : Basin) → columns_from b 0 (length b.nodes) ≡ gauged_nodes b
+gauges_are b = same_passed _ _ 0 (length b.nodes) (λ k l. rw zero-add (gauge_column b k (omega arith)))
+
+pub wants_are : (b : Basin) → columns_from b (length b.nodes) (length b.rights) ≡ rights_in_series b
+wants_are b = filter_agree _ _ (λ k. want_column b k) (numbers_from 0 (length b.rights))
+
+pub ruleset filters = (filter_next, none_below)
 
 -- the columns below the number of a right: all gauges, and the wants before it
 below_right : (b : Basin) (right : ℕ) →

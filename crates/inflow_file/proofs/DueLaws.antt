@@ -5,9 +5,10 @@ use Rattle.std.proofs.Common.{Option, Some, None, if◌then◌else◌, is_some, 
 use Rattle.std.specs.Prelude.{◌==◌, ◌&&◌}
 use Rattle.std.specs.List.{find, flat_map}
 use Rattle.std.specs.Option.{option_or}
-use Rattle.std.proofs.lemmas.Bool.{cases_Bool, cases_eq, false≢true, eqb-true, and_parts}
+use Rattle.std.proofs.lemmas.Bool.{cases_Bool, cases_eq, false≢true, eqb-true, and_parts, eq-eqb}
 use Rattle.std.proofs.lemmas.List.{ext_get_or, length-map, length-append, length-set, get_or_append_left}
 use Rattle.std.proofs.lemmas.List.{get_or-append-add, get_or-map, get_or-set_same, get_or-set_other}
+use Rattle.std.proofs.lemmas.List.Folds.{find-append}
 use Rattle.std.proofs.lemmas.Nat.{div-add-mod', div_below, mod_below, mul-le}
 use Rattle.water_text.specs.Months.{IsMonth, is_same_month}
 use Rattle.water_text.specs.declared.month.Month.{Month}
@@ -21,8 +22,8 @@ use Rattle.inflow_file.specs.Given.{given}
 use Rattle.inflow_file.specs.SeriesFaults.{amount_for, due, months_of, repeats, is_in_run}
 use Rattle.inflow_file.specs.declared.entry.SeriesRecord.{SeriesRecord}
 use Rattle.inflow_file.proofs.ColumnLaws.{passed_most, index_holds, index_of_passing}
-use Rattle.inflow_file.proofs.RunLaws.{same_itself, length-months, month_there, month_in_run}
-use Rattle.inflow_file.proofs.RunLaws.{same_index, same_month_is, same_month_itself}
+use Rattle.inflow_file.proofs.RunLaws.{length-months, month_there, month_in_run, same_index, same_month_is}
+use Rattle.inflow_file.proofs.RunLaws.{same_month_itself}
 
 or_none : {X : Type 0} (r : Option X) → option_or r None ≡ r
 or_none None = refl
@@ -36,14 +37,7 @@ abbrev grid : List Month → List ℕ → List (Month × ℕ)
 grid months nodes = flat_map (row_of nodes) months
 
 length-row : (nodes : List ℕ) (m : Month) → length (row_of nodes m) ≡ length nodes
-length-row [] m = refl
-length-row (n ∷ nodes) m = ap suc (length-row nodes m)
-
-row_at : (nodes : List ℕ) (m other : Month) (g n : ℕ) → g < length nodes →
-    get_or (row_of nodes m) g (other, n) ≡ (m, get_or nodes g n)
-row_at [] m other g n l = absurd (omega arith)
-row_at (x ∷ nodes) m other zero n l = refl
-row_at (x ∷ nodes) m other (suc g) n l = row_at nodes m other g n (omega arith)
+length-row nodes m = length-map nodes (λ node. (m, node))
 
 length-grid : (months : List Month) (nodes : List ℕ) → length (grid months nodes) ≡ length months * length nodes
 length-grid [] nodes = omega arith
@@ -58,7 +52,7 @@ grid_at (first ∷ months) nodes zero g m n l k =
     let len = length-row nodes first in
     ap (λ j. get_or (grid (first ∷ months) nodes) j (m, n)) at
     ∙ (get_or_append_left (row_of nodes first) (grid months nodes) (m, n) g (omega (arith, len))
-    ∙ row_at nodes first m g n k)
+    ∙ get_or-map (λ node. (first, node)) nodes g n (m, n) k)
 grid_at (first ∷ months) nodes (suc i) g m n l k =
     let len = length-row nodes first in
     let at : suc i * length nodes + g ≡ length (row_of nodes first) + (i * length nodes + g) = omega (arith, len) in
@@ -85,15 +79,12 @@ bounded_columns b bounded = omega
 
 -- the table is small enough for numbers of the machine
 pub small_table : (b : Basin) → b.months ≤ 1200 → HasBoundedEntries b → b.months * width b ≤ 4800000
-small_table b months bounded = small b.months (width b) months (bounded_columns b bounded)
-  where
-    small : (m g : ℕ) → m ≤ 1200 → g ≤ 4000 → m * g ≤ 4800000
-    small m g h k = mul-le m g 1200 4000 h k
+small_table b months bounded = mul-le b.months (width b) 1200 4000 months (bounded_columns b bounded)
 
 -- the index of a column
 pub column_there : (b : Basin) (n : ℕ) → IsColumn b n →
     (index_in (column_numbers b) n < width b) × (get_or (column_numbers b) (index_in (column_numbers b) n) 0 ≡ n)
-column_there b n h = index_holds (λ k. is_column b k) 0 (count_of_both b) n n h.within (omega arith) h.due
+column_there b n h = index_holds (λ k. is_column b k) (count_of_both b) n h.within h.due
 
 pub small_index : (b : Basin) (i n : ℕ) → b.months ≤ 1200 → HasBoundedEntries b → i < b.months → IsColumn b n →
     (i * width b ≤ 4800000) × (i * width b + index_in (column_numbers b) n < b.months * width b)
@@ -107,19 +98,19 @@ pub record IsSplit (b : Basin) (k : ℕ) : Type 0 where
   pub gauge : k % width b < width b
   pub cell : k / width b * width b + k % width b ≡ k
 
+-- a cell of some months and columns is one of some column
+pub some_column : (k m g : ℕ) → k < m * g → 0 < g
+some_column k m zero h = absurd (omega arith)
+some_column k m (suc g) h = omega arith
+
 pub split : (b : Basin) (k : ℕ) → k < b.months * width b → IsSplit b k
 split b k l =
-    let some : 0 < width b = some_gauge b.months (width b) l in
+    let some = some_column k b.months (width b) l in
     record {
       row = div_below k (width b) b.months some l;
       gauge = mod_below k (width b) some;
-      cell =
-          div-add-mod' k (width b);
+      cell = div-add-mod' k (width b);
     }
-  where
-    some_gauge : (m g : ℕ) → k < m * g → 0 < g
-    some_gauge m zero h = absurd (omega arith)
-    some_gauge m (suc g) h = omega arith
 
 pub length-given : (b : Basin) (entries : List SeriesRecord) → length (given b entries) ≡ b.months * width b
 unfolding given
@@ -140,29 +131,22 @@ is_for month node e = is_same_month month e.month && e.column == node
 pub one_entry_more : (entries : List SeriesRecord) (e : SeriesRecord) (month : Month) (node : ℕ) →
     amount_for (entries ++ e ∷ []) month node ≡ option_or (amount_for entries month node)
     (if is_for month node e then Some e.amount else None)
-one_entry_more [] e month node = by_test (is_for month node e)
+one_entry_more entries e month node =
+    ap (option_map (λ (x : SeriesRecord). x.amount)) (find-append (is_for month node) entries (e ∷ []))
+    ∙ by_test (find (is_for month node) entries) (is_for month node e)
   where
-    by_test : (t : Bool) →
-        option_map (λ (x : SeriesRecord). x.amount) (if t then Some e else None) ≡ (if t then Some e.amount else None)
-    by_test true = refl
-    by_test false = refl
-one_entry_more (x ∷ entries) e month node = by_test (is_for month node x) (one_entry_more entries e month node)
-  where
-    by_test : (t : Bool) →
-        amount_for (entries ++ e ∷ []) month node ≡ option_or (amount_for entries month node)
-        (if is_for month node e then Some e.amount else None) →
-        option_map (λ (y : SeriesRecord). y.amount) (if t then Some x else find (is_for month node) (entries ++ e ∷ []))
-        ≡ option_or (option_map (λ (y : SeriesRecord). y.amount)
-        (if t then Some x else find (is_for month node) entries))
-        (if is_for month node e then Some e.amount else None)
-    by_test true h = refl
-    by_test false h = h
+    by_test : (o : Option SeriesRecord) (t : Bool) →
+        option_map (λ (x : SeriesRecord). x.amount) (option_or o (if t then Some e else None))
+        ≡ option_or (option_map (λ (x : SeriesRecord). x.amount) o) (if t then Some e.amount else None)
+    by_test (Some x) t = refl
+    by_test None true = refl
+    by_test None false = refl
 
 -- each column has its own index
 pub own_gauge : (b : Basin) (g node : ℕ) → g < width b → get_or (column_numbers b) g 0 ≡ node →
     index_in (column_numbers b) node ≡ g
 own_gauge b g node l e =
-    ap (index_in (column_numbers b)) (sym e) ∙ index_of_passing (λ n. is_column b n) 0 (count_of_both b) g l
+    ap (index_in (column_numbers b)) (sym e) ∙ index_of_passing (λ n. is_column b n) (count_of_both b) g l
 
 abbrev pub index_for : Basin → ℕ → ℕ → ℕ
 index_for b i node = i * width b + index_in (column_numbers b) node
@@ -186,7 +170,7 @@ added_here : (b : Basin) (earlier : List SeriesRecord) (e : SeriesRecord) (i : �
 added_here b earlier e i entry l month absent =
     let there = column_there b e.column entry.column in
     let for_it : is_for (run_month b i) e.column e ≡ true =
-    rw (month, same_month_itself (run_month b i), same_itself e.column) refl in
+    rw (month, same_month_itself (run_month b i), eq-eqb e.column e.column refl) refl in
     given_at b (earlier ++ e ∷ []) i (index_in (column_numbers b) e.column) l there.0
     ∙ (ap (amount_for (earlier ++ e ∷ []) (run_month b i)) there.1
     ∙ (one_entry_more earlier e (run_month b i) e.column ∙ rw (absent, for_it) refl))

@@ -31,12 +31,13 @@ use Rattle.inflow_file.specs.SeriesFaults.{IsRefusalOf, IsSeriesRefusal, SpellsA
 use Rattle.inflow_file.specs.SeriesFaults.{body_of, series_fault, due, entries_of, missing, missing_of}
 use Rattle.inflow_file.specs.declared.entry.SeriesRecord.{SeriesRecord}
 use Rattle.inflow_file.specs.declared.refused.SeriesFault.{SeriesFault}
-use Rattle.inflow_file.specs.declared.refused.SeriesFault.TheVariants as fault
 use Rattle.inflow_file.specs.declared.refused.SeriesRefused.{SeriesRefused}
-use Rattle.inflow_file.specs.declared.refused.SeriesRefused.TheVariants as refused
 use Rattle.inflow_file.proofs.ColumnLaws.{count_of_columns, is_gauge, is_want, index_holds, index_of_gauge}
 use Rattle.inflow_file.proofs.ColumnLaws.{index_of_want}
 use Rattle.inflow_file.proofs.DueLaws.{IsSplit, column_there, due_at, given_at, length-due, length-given, split, width}
+use Rattle.inflow_file.proofs.DueLaws.{some_column}
+use Rattle.inflow_file.specs.declared.refused.SeriesFault.TheVariants as fault
+use Rattle.inflow_file.specs.declared.refused.SeriesRefused.TheVariants as refused
 
 -- the first element that passes a test, by its index
 find_first : {X : Type 0} (p : X → Bool) (xs : List X) (k : ℕ) (d : X) → k < length xs →
@@ -94,81 +95,51 @@ first_missing b entries amounts k is l before here =
     pair s = ap (λ j. get_or (due b) j (b.first, 0)) (sym s.cell)
         ∙ due_at b (k / width b) (k % width b) b.first s.row s.gauge
 
-abbrev AreSmall : List SeriesRecord → Type 0
-AreSmall [] = Unit {0}
-AreSmall (e ∷ entries) = (e.amount ≤ 10 ^ 9) × AreSmall entries
+-- what is made of an amount that was read is small
+abbrev IsSmall : Result SeriesRecord SeriesFault → Type 0
+IsSmall r = IfOk r (λ e. e.amount ≤ 10 ^ 9)
 
--- what a value that was needed gave
-record IsNeeded {X Y : Type 0} (o : Option X) (next : X → Result Y SeriesFault) (y : Y) : Type 0 where
-  value : X
-  there : o ≡ Some value
-  gave : next value ≡ Ok y
+need_small : {X : Type 0} (f : SeriesFault) (o : Option X) (next : X → Result SeriesRecord SeriesFault) →
+    ((x : X) → o ≡ Some x → IsSmall (next x)) → IsSmall (need f o next)
+need_small f None next small = tt
+need_small f (Some x) next small = small x refl
 
-needed : {X Y : Type 0} (f : SeriesFault) (o : Option X) (next : X → Result Y SeriesFault) (y : Y) →
-    need f o next ≡ Ok y → IsNeeded o next y
-needed f None next y e = cc
-needed f (Some x) next y e = record { value = x; there = refl; gave = e }
+go_on_small : {X : Type 0} (r : Result X SeriesFault) (next : X → Result SeriesRecord SeriesFault) →
+    ((x : X) → IsSmall (next x)) → IsSmall (go_on r next)
+go_on_small (Err f) next small = tt
+go_on_small (Ok x) next small = small x
 
-same_ok : (x y : SeriesRecord) → ◌≡◌ {A = Result SeriesRecord SeriesFault} (Ok x) (Ok y) → x ≡ y
-same_ok x y e = cc
-
--- what came of what was found
-record IsGoneOn {X Y : Type 0} (r : Result X SeriesFault) (next : X → Result Y SeriesFault) (y : Y) : Type 0 where
-  value : X
-  gave : next value ≡ Ok y
-
-gone_on : {X Y : Type 0} (r : Result X SeriesFault) (next : X → Result Y SeriesFault) (y : Y) → go_on r next ≡ Ok y →
-    IsGoneOn r next y
-gone_on (Err f) next y e = cc
-gone_on (Ok x) next y e = record { value = x; gave = e }
-
--- the last steps of reading a record
-abbrev amount_in : List ℕ → Month → ℕ → Result SeriesRecord SeriesFault
-amount_in amount m n =
-    need fault.BadAmount (read_amount amount (10 ^ 9)) (λ a. Ok (record { month = m; column = n; amount = a }))
-
-small_in : (amount : List ℕ) (m : Month) (n : ℕ) (e : SeriesRecord) → amount_in amount m n ≡ Ok e → e.amount ≤ 10 ^ 9
-small_in amount m n e h =
-    let a = needed fault.BadAmount (read_amount amount (10 ^ 9))
-    (λ a. Ok (record { month = m; column = n; amount = a })) e h in
-    let same : record { month = m; column = n; amount = a.value } ≡ e =
-    same_ok (record { month = m; column = n; amount = a.value }) e a.gave in
-    rw (← ap (λ (x : SeriesRecord). x.amount) same) (amount_is_read amount (10 ^ 9) a.value a.there).within
-
-small_record : (b : Basin) (row : List (List ℕ)) (e : SeriesRecord) → read_record b row ≡ Ok e → e.amount ≤ 10 ^ 9
+small_record : (b : Basin) (row : List (List ℕ)) → IsSmall (read_record b row)
 unfolding read_record
-small_record b [] e h = cc
-small_record b (month ∷ []) e h = cc
-small_record b (month ∷ kind ∷ []) e h = cc
-small_record b (month ∷ kind ∷ name ∷ []) e h = cc
-small_record b (month ∷ kind ∷ name ∷ amount ∷ other ∷ row) e h = cc
-small_record b (month ∷ kind ∷ name ∷ amount ∷ []) e h =
-    let m = needed fault.BadMonth (read_month month) (λ m. go_on (column_of b kind name) (λ n. amount_in amount m n)) e
-    h in
-    let n = gone_on (column_of b kind name) (λ n. amount_in amount m.value n) e m.gave in
-    small_in amount m.value n.value e n.gave
+small_record b [] = tt
+small_record b (month ∷ []) = tt
+small_record b (month ∷ kind ∷ []) = tt
+small_record b (month ∷ kind ∷ name ∷ []) = tt
+small_record b (month ∷ kind ∷ name ∷ amount ∷ other ∷ row) = tt
+small_record b (month ∷ kind ∷ name ∷ amount ∷ []) =
+    need_small fault.BadMonth (read_month month) _ (λ m at. go_on_small (column_of b kind name) _ (λ n.
+    need_small fault.BadAmount (read_amount amount (10 ^ 9)) _ (λ a read.
+    (amount_is_read amount (10 ^ 9) a read).within)))
 
-small_entries : (b : Basin) (rows : List (List (List ℕ))) → AreSmall (entries_of b rows)
-small_entries b [] = tt
-small_entries b (row ∷ rows) = by_read (read_record b row) refl (small_entries b rows)
+-- and so is every amount that records give
+small_given : (b : Basin) (rows : List (List (List ℕ))) (month : Month) (n a : ℕ) →
+    amount_for (entries_of b rows) month n ≡ Some a → a ≤ 10 ^ 9
+small_given b [] month n a e = cc
+small_given b (row ∷ rows) month n a e =
+    by_read (read_record b row) (small_record b row) e (small_given b rows month n a)
   where
-    by_read : (r : Result SeriesRecord SeriesFault) → read_record b row ≡ r → AreSmall (entries_of b rows) →
-        AreSmall (cons_option (result_ok r) (entries_of b rows))
-    by_read (Ok e) h further = (small_record b row e h, further)
-    by_read (Err f) h further = further
+    by_test : (t : Bool) (x : SeriesRecord) → x.amount ≤ 10 ^ 9 →
+        option_map (λ (y : SeriesRecord). y.amount) (if t then Some x else find
+        (λ y. is_same_month month y.month && y.column == n) (entries_of b rows)) ≡ Some a →
+        (amount_for (entries_of b rows) month n ≡ Some a → a ≤ 10 ^ 9) → a ≤ 10 ^ 9
+    by_test true x small h further = rw (← same_Some x.amount a h) small
+    by_test false x small h further = further h
 
-small_given : (entries : List SeriesRecord) (month : Month) (n a : ℕ) → AreSmall entries →
-    amount_for entries month n ≡ Some a → a ≤ 10 ^ 9
-small_given [] month n a small e = cc
-small_given (x ∷ entries) month n a small e =
-    by_test (is_same_month month x.month && x.column == n) e (small_given entries month n a small.1)
-  where
-    by_test : (t : Bool) →
-        option_map (λ (y : SeriesRecord). y.amount)
-        (if t then Some x else find (λ y. is_same_month month y.month && y.column == n) entries) ≡ Some a →
-        (amount_for entries month n ≡ Some a → a ≤ 10 ^ 9) → a ≤ 10 ^ 9
-    by_test true h further = rw (← same_Some x.amount a h) small.0
-    by_test false h further = further h
+    by_read : (r : Result SeriesRecord SeriesFault) → IsSmall r →
+        amount_for (cons_option (result_ok r) (entries_of b rows)) month n ≡ Some a →
+        (amount_for (entries_of b rows) month n ≡ Some a → a ≤ 10 ^ 9) → a ≤ 10 ^ 9
+    by_read (Ok x) small h further = by_test (is_same_month month x.month && x.column == n) x small h further
+    by_read (Err f) small h further = further h
 
 -- the inflow of a gauged node
 pub inflow_gauged : (b : Basin) (series : Inflows) (node i : ℕ) → is_gauged b node ≡ true →
@@ -204,11 +175,6 @@ part_more f part n k x count each is l =
       | inr past ↦ let same : k ≡ n = omega arith in rw same (get_or_push part x 0 n count ∙ is)
     ]
 
--- a cell of some months and columns is one of some column
-pub some_column : (k m g : ℕ) → k < m * g → 0 < g
-some_column k m zero h = absurd (omega arith)
-some_column k m (suc g) h = omega arith
-
 -- where the amount of a cell of a part stands among all
 pub cell_below : (k all from months count : ℕ) → from + count ≤ all → k < months * count →
     k / count * all + from + k % count < months * all
@@ -240,8 +206,7 @@ small_part b rows amounts from count part is all fits h =
         let cell : ℕ = k / count * width b + from + k % count in
         let below : cell < b.months * width b = cell_below k (width b) from b.months count fits l in
         let within : cell < length (due b) = omega (arith, length-due b) in
-        small_given (entries_of b rows) (get_or (due b) cell (b.first, 0)).0 (get_or (due b) cell (b.first, 0)).1
-        (get_or part k 0) (small_entries b rows)
+        small_given b rows (get_or (due b) cell (b.first, 0)).0 (get_or (due b) cell (b.first, 0)).1 (get_or part k 0)
         (sym (given_there b (entries_of b rows) cell (b.first, 0) within) ∙ (ap (λ xs. get_or xs cell None) (sym is)
         ∙ part_at amounts (width b) from b.months count part k all (ap length is ∙ length-given b (entries_of b rows))
         fits h l))
@@ -313,11 +278,11 @@ complete_series b rows amounts series is parts = (
 
     gauge_there : (node : ℕ) → node < length b.nodes → is_gauged b node ≡ true →
         index_in (gauged_nodes b) node < length (gauged_nodes b)
-    gauge_there node l g = (index_holds (λ n. is_gauged b n) 0 (length b.nodes) node node l (omega arith) g).0
+    gauge_there node l g = (index_holds (λ n. is_gauged b n) (length b.nodes) node l g).0
 
     want_within : (right : ℕ) → right < length b.rights → is_in_series b right ≡ true →
         index_in (rights_in_series b) right < length (rights_in_series b)
-    want_within right l w = (index_holds (λ r. is_in_series b r) 0 (length b.rights) right right l (omega arith) w).0
+    want_within right l w = (index_holds (λ r. is_in_series b r) (length b.rights) right l w).0
 
 pub missing_found : (b : Basin) (rows : List (List (List ℕ))) (amounts : List (Option ℕ)) (k : ℕ) (e : SeriesRefused) →
     amounts ≡ given_by b rows → k < length amounts →

@@ -21,6 +21,10 @@ is_column b n = if nat_lt n (length b.nodes) then is_gauged b n else is_in_serie
 abbrev pub column_numbers : Basin → List ℕ
 column_numbers b = filter (λ n. is_column b n) (numbers_from 0 (count_of_both b))
 
+-- those of some numbers from one on, counted from there
+abbrev pub columns_from : Basin → ℕ → ℕ → List ℕ
+columns_from b from count = filter (λ n. is_column b (from + n)) (numbers_from 0 count)
+
 pub record IsColumn (b : Basin) (n : ℕ) : Type 0 where
   pub within : n < count_of_both b
   pub due : is_column b n ≡ true

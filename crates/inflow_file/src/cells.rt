@@ -11,7 +11,7 @@ ghost use Rattle.inflow_file.specs.Columns.{IsColumn, column_numbers};
 ghost use Rattle.inflow_file.specs.SeriesFaults.{missing_of, repeats};
 ghost use Rattle.inflow_file.specs.declared.entry.SeriesRecord.{SeriesRecord};
 
-use crate::columns::{Columns, gauged_of, wanted_of};
+use crate::columns::{Columns, columns_from};
 use crate::entry::SeriesRecord;
 use crate::refused::{SeriesFault, SeriesRefused};
 use std::alloc::{AllocError, Global};
@@ -158,8 +158,10 @@ pub(crate) fn complete(
     if gap < amounts.len() {
         return Err(missing_at(columns, gap));
     }
-    let gauged = gauged_of(alloc, columns.basin)?;
-    let wanted = wanted_of(alloc, columns.basin)?;
+    let nodes = columns.basin.nodes.len() as u32;
+    let rights = columns.basin.rights.len() as u32;
+    let gauged = columns_from(alloc, columns.basin, 0, nodes)?;
+    let wanted = columns_from(alloc, columns.basin, nodes, rights)?;
     let gauges = gauged.len();
     let wants = wanted.len();
     let amount = part_of(alloc, columns, amounts, 0, gauges)?;

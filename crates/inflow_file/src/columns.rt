@@ -4,14 +4,15 @@ ghost use Rattle.std.specs.Prelude.{if◌then◌else◌, IfOk, IfSome, OnOk};
 ghost use Rattle.basin_names.specs.Named.{node_named, right_named};
 ghost use Rattle.csv.specs.Records.{fields_of};
 ghost use Rattle.water_model.specs.Hydrology.{index_in};
-ghost use Rattle.water_model.specs.Valid.{IsValidBasin, is_gauged, is_in_series, gauged_nodes, rights_in_series};
+ghost use Rattle.water_model.specs.Valid.{IsValidBasin};
 ghost use Rattle.water_model.specs.declared.space.Space.TheVariants.{Nodes, Rights};
-ghost use Rattle.inflow_file.specs.Columns.{IsColumn, AreIndices, column_numbers, count_of_both, is_column};
+ghost use Rattle.inflow_file.specs.Columns.{IsColumn, AreIndices, column_numbers, columns_from, count_of_both};
+ghost use Rattle.inflow_file.specs.Columns.{is_column};
 ghost use Rattle.inflow_file.specs.CsvRecords.{with_kind};
 ghost use Rattle.inflow_file.specs.Entries.{IsEntry, column_of, gauge_of, read_record, wanted_of};
 
 use crate::entry::SeriesRecord;
-use crate::records::{four_fields, three_fields};
+use crate::records::fields_with_kind;
 use crate::refused::SeriesFault;
 use basin_names::SpaceNames;
 use csv::ByteRecord;
@@ -60,13 +61,19 @@ fn is_column(basin: &Basin, number: u32) -> bool
     }
 }
 
-fn add_column(numbers: &mut Vec<u32>, basin: &Basin, number: u32) -> Result<(), AllocError>
+/// Appends a number, where another one is that of a column.
+fn add_column(
+    numbers: &mut Vec<u32>,
+    basin: &Basin,
+    column: u32,
+    number: u32,
+) -> Result<(), AllocError>
     requires basin { IsValidBasin basin.now }
-    requires number { number < count_of_both basin.now }
+    requires column { column < count_of_both basin.now }
     ensures { OnOk result
-        (numbers.new.items ≡ numbers.old.items ++ (if is_column basin.now number then number ∷ [] else [])) }
+        (numbers.new.items ≡ numbers.old.items ++ (if is_column basin.now column then number ∷ [] else [])) }
 {
-    if is_column(basin, number) {
+    if is_column(basin, column) {
         numbers.push(number)?;
     }
     Ok(())
@@ -89,55 +96,29 @@ fn indices_of(alloc: Global, basin: &Basin) -> Result<Indices, AllocError>
     let mut of_number = Vec::new(alloc);
     for number in 0..count_of_both(basin) {
         of_number.push(numbers.len() as u32)?;
-        add_column(&mut numbers, basin, number)?;
+        add_column(&mut numbers, basin, number, number)?;
     }
     Ok(Indices { numbers, of_number })
 }
 
-fn add_gauge(gauged: &mut Vec<u32>, basin: &Basin, node: u32) -> Result<(), AllocError>
-    requires { node < length basin.now.nodes }
-    ensures { OnOk result
-        (gauged.new.items ≡ gauged.old.items ++ (if is_gauged basin.now node then node ∷ [] else [])) }
+/// The columns among `count` numbers from one on, counted from there: the gauged nodes from 0 on, and from the number of
+/// nodes on the rights whose wants stand in the series. AllocError comes where memory is lacking.
+#[tactic(auto, using(crate::proofs::ColumnLaws::filters))]
+pub(crate) fn columns_from(
+    alloc: Global,
+    basin: &Basin,
+    from: u32,
+    count: u32,
+) -> Result<Vec<u32>, AllocError>
+    requires basin { IsValidBasin basin.now }
+    requires numbers { from + count ≤ count_of_both basin.now }
+    ensures { IfOk result (λ listed. listed.items ≡ columns_from basin.now from count) }
 {
-    if is_gauged(basin, node) {
-        gauged.push(node)?;
+    let mut listed = Vec::new(alloc);
+    for number in 0..count {
+        add_column(&mut listed, basin, from + number, number)?;
     }
-    Ok(())
-}
-
-/// The gauged nodes of a basin, in its order. AllocError comes where memory is lacking.
-pub(crate) fn gauged_of(alloc: Global, basin: &Basin) -> Result<Vec<u32>, AllocError>
-    requires { IsValidBasin basin.now }
-    ensures { IfOk result (λ gauged. gauged.items ≡ gauged_nodes basin.now) }
-{
-    let mut gauged = Vec::new(alloc);
-    for node in 0..basin.nodes.len() as u32 {
-        add_gauge(&mut gauged, basin, node)?;
-    }
-    Ok(gauged)
-}
-
-fn add_wanted(wanted: &mut Vec<u32>, basin: &Basin, right: u32) -> Result<(), AllocError>
-    requires { right < length basin.now.rights }
-    ensures { OnOk result
-        (wanted.new.items ≡ wanted.old.items ++ (if is_in_series basin.now right then right ∷ [] else [])) }
-{
-    if is_in_series(basin, right) {
-        wanted.push(right)?;
-    }
-    Ok(())
-}
-
-/// The rights of a basin whose wants stand in the series, in its order. AllocError comes where memory is lacking.
-pub(crate) fn wanted_of(alloc: Global, basin: &Basin) -> Result<Vec<u32>, AllocError>
-    requires { IsValidBasin basin.now }
-    ensures { IfOk result (λ wanted. wanted.items ≡ rights_in_series basin.now) }
-{
-    let mut wanted = Vec::new(alloc);
-    for right in 0..basin.rights.len() as u32 {
-        add_wanted(&mut wanted, basin, right)?;
-    }
-    Ok(wanted)
+    Ok(listed)
 }
 
 impl<'a> Columns<'a> {
@@ -260,42 +241,14 @@ impl<'a> Columns<'a> {
         })
     }
 
-    /// What a record of four fields says.
-    fn read_with_kind(&self, row: &ByteRecord) -> Result<SeriesRecord, SeriesFault>
-        ensures reads { result ≡ read_record self.now.basin.now (with_kind true (fields_of row.now)) }
-        ensures entry { IfOk result (IsEntry self.now.basin.now) }
-    {
-        match four_fields(row) {
-            Some((month, kind, name, amount)) => self.read_fields(month, kind, name, amount),
-            None => Err(SeriesFault::Csv),
-        }
-    }
-
-    /// What a record of three fields says, which is an inflow.
-    fn read_inflow(&self, row: &ByteRecord) -> Result<SeriesRecord, SeriesFault>
-        ensures reads { result ≡ read_record self.now.basin.now (with_kind false (fields_of row.now)) }
-        ensures entry { IfOk result (IsEntry self.now.basin.now) }
-    {
-        match three_fields(row) {
-            Some((month, name, amount)) => self.read_fields(
-                month,
-                b"inflow".as_slice(),
-                name,
-                amount,
-            ),
-            None => Err(SeriesFault::Csv),
-        }
-    }
-
     /// What a record says after a header with kinds or without, or the first fault that it has by itself.
     pub fn read_record(&self, kinds: bool, row: &ByteRecord) -> Result<SeriesRecord, SeriesFault>
         ensures reads { result ≡ read_record self.now.basin.now (with_kind kinds (fields_of row.now)) }
         ensures entry { IfOk result (IsEntry self.now.basin.now) }
     {
-        if kinds {
-            self.read_with_kind(row)
-        } else {
-            self.read_inflow(row)
+        match fields_with_kind(row, kinds) {
+            Some((month, kind, name, amount)) => self.read_fields(month, kind, name, amount),
+            None => Err(SeriesFault::Csv),
         }
     }
 }

@@ -1,7 +1,7 @@
 //! The records of a table, read one after the other.
-ghost use Rattle.std.specs.Prelude.{◌≡◌, true, IfOk};
+ghost use Rattle.std.specs.Prelude.{◌≡◌, ◌<◌, [], length, slice_index_or, true, IfOk};
 ghost use Rattle.csv.specs.Records.{fields_of};
-ghost use Rattle.inflow_file.specs.CsvRecords.{records_of, is_header, is_kind_header, IsThree, IsFour};
+ghost use Rattle.inflow_file.specs.CsvRecords.{records_of, is_header, is_kind_header, with_kind, IsThree, IsFour};
 ghost use Rattle.inflow_file.specs.RecordsLeft.{records_left, IsReading, TakesFirst};
 
 use csv::{ByteRecord, Reader, ReaderBuilder};
@@ -32,45 +32,52 @@ pub(crate) fn read_row(reader: &mut Reader<&[u8]>, row: &mut ByteRecord) -> Resu
     Ok(found)
 }
 
+/// The field at an index that a record has.
+fn field(row: &ByteRecord, index: usize) -> &[u8]
+    requires { index < length (fields_of row.now) }
+    ensures { result.now ≡ slice_index_or (fields_of row.now) index [] }
+{
+    match row.get(index) {
+        Some(field) => field,
+        None => unreachable!(),
+    }
+}
+
 /// The three fields of a record, or `None` where it has another number of fields.
-pub(crate) fn three_fields(row: &ByteRecord) -> Option<(&[u8], &[u8], &[u8])>
+fn three_fields(row: &ByteRecord) -> Option<(&[u8], &[u8], &[u8])>
     ensures { IsThree (fields_of row.now) result }
 {
     if row.len() != 3 {
         return None;
     }
-    let Some(first) = row.get(0) else {
-        return None;
-    };
-    let Some(second) = row.get(1) else {
-        return None;
-    };
-    let Some(third) = row.get(2) else {
-        return None;
-    };
-    Some((first, second, third))
+    Some((field(row, 0), field(row, 1), field(row, 2)))
 }
 
 /// The four fields of a record, or `None` where it has another number of fields.
-pub(crate) fn four_fields(row: &ByteRecord) -> Option<(&[u8], &[u8], &[u8], &[u8])>
+fn four_fields(row: &ByteRecord) -> Option<(&[u8], &[u8], &[u8], &[u8])>
     ensures { IsFour (fields_of row.now) result }
 {
     if row.len() != 4 {
         return None;
     }
-    let Some(first) = row.get(0) else {
-        return None;
-    };
-    let Some(second) = row.get(1) else {
-        return None;
-    };
-    let Some(third) = row.get(2) else {
-        return None;
-    };
-    let Some(fourth) = row.get(3) else {
-        return None;
-    };
-    Some((first, second, third, fourth))
+    Some((field(row, 0), field(row, 1), field(row, 2), field(row, 3)))
+}
+
+/// The month, the kind, the name and the amount in a record after a header with kinds, or without, where the kind is
+/// `inflow`. `None` where the record has another number of fields than the header.
+pub(crate) fn fields_with_kind(
+    row: &ByteRecord,
+    kinds: bool,
+) -> Option<(&[u8], &[u8], &[u8], &[u8])>
+    ensures { IsFour (with_kind kinds (fields_of row.now)) result }
+{
+    if kinds {
+        return four_fields(row);
+    }
+    match three_fields(row) {
+        Some((month, name, amount)) => Some((month, b"inflow".as_slice(), name, amount)),
+        None => None,
+    }
 }
 
 /// Whether a record is the header with kinds.

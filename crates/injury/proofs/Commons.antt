@@ -1,6 +1,6 @@
 -- The pairs of common rights are those of one name.
-use Rattle.std.proofs.Common.{◌≡◌, ℕ, zero, suc, ◌<◌, refl, sym, ◌∙◌, ap, subst, arith, List, [], ◌∷◌}
-use Rattle.std.proofs.Common.{length, get_or, inl, inr}
+use Rattle.std.proofs.Common.{◌≡◌, ℕ, suc, refl, sym, ◌∙◌, ap, subst, arith, List, [], ◌∷◌, inl, inr}
+use Rattle.std.proofs.lemmas.List.Elements.{All-contains}
 use Rattle.std.specs.List.{cons_option}
 use Rattle.std.specs.Prelude.{Option, Some, None, option_map, filter_map, Contains}
 use Rattle.water_model.specs.Basin.{right_name}
@@ -14,14 +14,7 @@ use Rattle.basin_names.proofs.Names.{named-at}
 use Rattle.injury.specs.Common.{HaveOneName, pair_of, common_rights}
 use Rattle.injury.specs.Laws.{CommonRightsHaveOneName}
 use Rattle.injury.specs.declared.pair.Pair.{Pair}
-use Rattle.injury.proofs.Pairs.{Each, IsPair, common_have_one_name}
-
--- what holds of each element holds of one
-each_at : {X : Type 0} (P : X → Type 0) (xs : List X) (x : X) (k : ℕ) → Each P xs → k < length xs → get_or xs k x ≡ x →
-    P x
-each_at P [] x k h l e = absurd (omega arith)
-each_at P (y ∷ ys) x zero h l e = subst P e h.0
-each_at P (y ∷ ys) x (suc k) h l e = each_at P ys x k h.1 (omega arith) e
+use Rattle.injury.proofs.Pairs.{IsPair, common_have_one_name}
 
 module _ (first second : Basin) where
   -- by its name the right of the second basin is found
@@ -55,6 +48,6 @@ module _ (first second : Basin) where
 pub common_rights_have_one_name : CommonRightsHaveOneName
 common_rights_have_one_name first second r s valid = (
   (λ one. among_common first second r s valid one),
-  λ c. each_at (IsPair first second) (common_rights first second) (record { first = r; second = s }) c.0
-      (common_have_one_name first second) c.1 c.2,
+  λ c. All-contains (IsPair first second) (common_rights first second) (record { first = r; second = s })
+      (common_have_one_name first second) c,
 )

@@ -1,7 +1,7 @@
 -- What a comparison needs that goes on month by month.
-use Rattle.std.proofs.Common.{◌≡◌, ℕ, zero, suc, ◌+◌, ◌*◌, ◌<◌, ◌≤◌, sym, ◌∙◌, ap, arith, List, [], ◌∷◌, ◌++◌, length}
+use Rattle.std.proofs.Common.{◌≡◌, ℕ, suc, ◌+◌, ◌*◌, ◌<◌, ◌≤◌, sym, ◌∙◌, ap, arith, List, [], ◌∷◌, ◌++◌, length}
 use Rattle.std.proofs.Common.{append-nil, append_assoc, length-append}
-use Rattle.std.specs.Prelude.{All}
+use Rattle.std.proofs.lemmas.List.Elements.{All-weaker}
 use Rattle.water_model.specs.History.{FitsBasin}
 use Rattle.water_model.specs.Indices.{seniors_first}
 use Rattle.water_model.specs.Valid.{IsValidBasin}
@@ -10,23 +10,18 @@ use Rattle.water_model.specs.declared.types.MonthRecord.{MonthRecord}
 use Rattle.water_model.proofs.Order.{length-by_seniority}
 use Rattle.injury.specs.Common.{HaveDeliveries, common_rights}
 use Rattle.injury.specs.Injuries.{injuries_of, injuries}
-use Rattle.injury.proofs.Pairs.{Each, IsPair, common_have_one_name, pairs_bounded}
+use Rattle.injury.proofs.Pairs.{IsPair, common_have_one_name, pairs_bounded}
 use Rattle.injury.proofs.Put.{injuries-count}
 
 -- the records of two basins have deliveries of their common rights
-each_all : {X : Type 0} (P Q : X → Type 0) (xs : List X) → ((x : X) → P x → Q x) → Each P xs → All Q xs
-each_all P Q [] f h k d l = absurd (omega arith)
-each_all P Q (x ∷ xs) f h zero d l = f x h.0
-each_all P Q (x ∷ xs) f h (suc k) d l = each_all P Q xs f h.1 k d (omega arith)
-
 pub common_deliver : (first second : Basin) (m n : MonthRecord) → FitsBasin first m → FitsBasin second n →
     HaveDeliveries (common_rights first second) m n
 common_deliver first second m n f g =
-    each_all (IsPair first second) (λ p. (p.first < length m.delivered) × (p.second < length n.delivered))
-    (common_rights first second) (λ p one. (
+    All-weaker (IsPair first second) (λ p. (p.first < length m.delivered) × (p.second < length n.delivered))
+    (λ p one. (
       (let l = one.in_first in let e = f.delivered in omega arith),
       (let l = one.in_second in let e = g.delivered in omega arith),
-    )) (common_have_one_name first second)
+    )) (common_rights first second) (common_have_one_name first second)
 
 pub common_bounded : (first second : Basin) → IsValidBasin first → length (common_rights first second) ≤ 2000
 unfolding common_rights

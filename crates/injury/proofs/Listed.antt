@@ -1,10 +1,9 @@
 -- The list of injuries has each of them, and nothing else.
-use Rattle.std.proofs.Common.{◌≡◌, ℕ, zero, suc, ◌<◌, Bool, true, false, refl, ◌∙◌, ap, subst, arith, List, []}
-use Rattle.std.proofs.Common.{◌∷◌, map, inl, inr, if◌then◌else◌}
-use Rattle.std.proofs.lemmas.Bool.Decides.{nat_tests}
+use Rattle.std.proofs.Common.{◌≡◌, ℕ, zero, suc, ◌<◌, Bool, true, false, refl, ◌∙◌, ap, subst, arith, List, [], ◌∷◌}
+use Rattle.std.proofs.Common.{map, inl, inr, if◌then◌else◌}
 use Rattle.std.proofs.lemmas.List.Elements.{Contains-append_left, Contains-append_right, Contains-append_cases}
-use Rattle.std.specs.Prelude.{slice_get, slice_index, Some, filter, nat_lt, Contains}
-use Rattle.std.proofs.lemmas.Bool.{lt-ltb}
+use Rattle.std.specs.Prelude.{slice_get, slice_index, Some, filter, Contains}
+use Rattle.std.proofs.lemmas.Bool.{lt-ltb, ltb-true}
 use Rattle.water_model.specs.Valid.{IsValidBasin}
 use Rattle.water_model.specs.declared.types.Basin.{Basin}
 use Rattle.water_model.specs.declared.types.MonthRecord.{MonthRecord}
@@ -93,12 +92,9 @@ module _ (first second : Basin) (valid : IsValidBasin second) where
         month = refl;
         delivered = refl;
         left = refl;
-        less = less (slice_index n.delivered from.source.second) (slice_index m.delivered from.source.first)
+        less = ltb-true (slice_index n.delivered from.source.second) (slice_index m.delivered from.source.first)
             from.passes;
       })
-    where
-      less : (y z : ℕ) → nat_lt y z ≡ true → y < z
-      less y z l = grind (arith, nat_tests)
 
   next : (m n : MonthRecord) (records others : List MonthRecord) (injury : Injury) →
       IsInjury first second records others injury →

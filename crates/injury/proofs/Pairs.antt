@@ -1,11 +1,11 @@
 -- The pairs of common rights.
-use Rattle.std.proofs.Common.{◌≡◌, ℕ, suc, ◌+◌, ◌<◌, ◌≤◌, Bool, false, refl, sym, ◌∙◌, ap, arith, List, [], ◌∷◌}
-use Rattle.std.proofs.Common.{◌++◌, length, map, inl, inr, take, get_or}
+use Rattle.std.proofs.Common.{◌≡◌, ℕ, suc, ◌+◌, ◌<◌, ◌≤◌, Bool, false, refl, sym, ◌∙◌, ap, arith, List, [], ◌∷◌, ◌++◌}
+use Rattle.std.proofs.Common.{length, map, inl, inr, take, get_or, All}
 use Rattle.std.proofs.lemmas.List.{take_all, take_more}
-use Rattle.std.proofs.lemmas.List.Elements.{filter_map-append}
-use Rattle.std.proofs.lemmas.Bool.Decides.{nat_tests}
+use Rattle.std.proofs.lemmas.List.Elements.{filter_map-append, All-weaker, All-cons, All-nil, All-tail}
+use Rattle.std.proofs.lemmas.Bool.{le-ltb}
 use Rattle.std.specs.List.{cons_option}
-use Rattle.std.specs.Prelude.{slice_index, slice_get, option_to_list, Option, Some, None, filter, filter_map, nat_lt}
+use Rattle.std.specs.Prelude.{slice_index, slice_get, option_to_list, Option, Some, None, filter, filter_map}
 use Rattle.water_model.specs.Basin.{right_name}
 use Rattle.water_model.specs.Indices.{seniors_first}
 use Rattle.water_model.specs.declared.space.Space.TheVariants.{Rights}
@@ -20,44 +20,33 @@ use Rattle.injury.specs.Laws.{JuniorLeavesNoInjury}
 use Rattle.injury.specs.declared.pair.Pair.{Pair}
 use Rattle.injury.proofs.Runs.{junior_injures_nobody}
 
--- what holds of each element
-abbrev pub Each : {X : Type 0} → (X → Type 0) → List X → Type 0
-Each P [] = Unit {0}
-Each P (x ∷ xs) = P x × Each P xs
-
 module _ (first second : Basin) where
   abbrev pub IsPair : Pair → Type 0
   IsPair p = HaveOneName first second p.first p.second
 
   pairs_of : (xs : List ℕ) → ((r : ℕ) → Has xs r → r < length first.rights) →
-      Each IsPair (filter_map (pair_of first second) xs)
-  pairs_of [] within = tt
+      All IsPair (filter_map (pair_of first second) xs)
+  pairs_of [] within = All-nil IsPair
   pairs_of (r ∷ xs) within =
       one (right_named second (right_name first r)) refl (pairs_of xs (λ s h. within s (inr h)))
     where
       one : (o : Option ℕ) → right_named second (right_name first r) ≡ o →
-          Each IsPair (filter_map (pair_of first second) xs) →
-          Each IsPair (filter_map (pair_of first second) (r ∷ xs))
+          All IsPair (filter_map (pair_of first second) xs) →
+          All IsPair (filter_map (pair_of first second) (r ∷ xs))
       one None e rest = rw e rest
       one (Some s) e rest =
-          rw e (
-            (let found = named_is second Rights (right_name first r) s e in
-                record { in_first = within r (inl refl); in_second = found.1; name = sym found.0 }),
-            rest,
-          )
+          let found = named_is second Rights (right_name first r) s e in
+          rw e (All-cons IsPair (record { first = r; second = s }) (filter_map (pair_of first second) xs)
+          (record { in_first = within r (inl refl); in_second = found.1; name = sym found.0 }) rest)
 
   -- each pair of common rights has one name
-  pub common_have_one_name : Each IsPair (common_rights first second)
+  pub common_have_one_name : All IsPair (common_rights first second)
   unfolding common_rights
   common_have_one_name = pairs_of (seniors_first first) (λ r h. seniors_below first.rights r h)
 
-filter_none : {X : Type 0} (p : X → Bool) (xs : List X) → Each (λ x. p x ≡ false) xs → filter p xs ≡ []
+filter_none : {X : Type 0} (p : X → Bool) (xs : List X) → All (λ x. p x ≡ false) xs → filter p xs ≡ []
 filter_none p [] h = refl
-filter_none p (x ∷ xs) h = rw h.0 (filter_none p xs h.1)
-
-each_then : {X : Type 0} (P Q : X → Type 0) (xs : List X) → ((x : X) → P x → Q x) → Each P xs → Each Q xs
-each_then P Q [] f h = tt
-each_then P Q (x ∷ xs) f h = (f x h.0, each_then P Q xs f h.1)
+filter_none p (x ∷ xs) h = rw (h 0 x (omega arith)) (filter_none p xs (All-tail (λ y. p y ≡ false) x xs h))
 
 -- a month in which each pair is delivered the same has no injury
 no_injury_in : (first second : Basin) (m n : MonthRecord) →
@@ -65,12 +54,10 @@ no_injury_in : (first second : Basin) (m n : MonthRecord) →
     injuries_of (common_rights first second) m n ≡ []
 no_injury_in first second m n same =
     ap (map (injury_of m n)) (filter_none (is_injured m n) (common_rights first second)
-    (each_then (IsPair first second) (λ p. is_injured m n p ≡ false) (common_rights first second)
-    (λ p one. not_less (slice_index m.delivered p.first) (slice_index n.delivered p.second) (same p.first p.second one))
-    (common_have_one_name first second)))
-  where
-    not_less : (y z : ℕ) → y ≡ z → nat_lt z y ≡ false
-    not_less y z e = grind (arith, nat_tests)
+    (All-weaker (IsPair first second) (λ p. is_injured m n p ≡ false)
+    (λ p one. le-ltb (slice_index n.delivered p.second) (slice_index m.delivered p.first)
+    (let e = same p.first p.second one in omega arith))
+    (common_rights first second) (common_have_one_name first second)))
 
 no_injury : (first second : Basin) (records others : List MonthRecord) →
     ((i : ℕ) (m n : MonthRecord) → slice_get records i ≡ Some m → slice_get others i ≡ Some n →

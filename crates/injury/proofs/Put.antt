@@ -1,10 +1,11 @@
 -- The rows of a month's injuries, put one after another.
-use Rattle.std.proofs.Common.{◌≡◌, ℕ, ◌+◌, ◌≤◌, Bool, true, false, cond, refl, sym, ◌∙◌, ap, subst, arith, List, []}
-use Rattle.std.proofs.Common.{◌∷◌, ◌++◌, length, map, take, drop, length-append, length-take}
-use Rattle.std.proofs.lemmas.List.{map-append, take_all, take_more, take-append-drop}
+use Rattle.std.proofs.Common.{◌≡◌, ℕ, ◌+◌, ◌≤◌, refl, sym, ◌∙◌, ap, subst, arith, List, [], ◌∷◌, ◌++◌, length, map}
+use Rattle.std.proofs.Common.{take, drop, length-append, length-take}
+use Rattle.std.proofs.lemmas.List.{map-append, take_all, take_more, take-append-drop, length-map}
 use Rattle.std.proofs.lemmas.List.Elements.{filter-append}
+use Rattle.std.proofs.lemmas.List.Sums.{length-filter, count_by-le-length}
 use Rattle.std.proofs.lemmas.Option.{get_or_from_slice_get, slice_get_within}
-use Rattle.std.specs.Prelude.{slice_get, filter, flat_map, Option, Some, Result, Ok, Err, IsErr}
+use Rattle.std.specs.Prelude.{slice_get, filter, flat_map, Some, Result, Ok, Err, IsErr}
 use Rattle.std.proofs.lemmas.Grind.{flat_map-append}
 use Rattle.water_edge.specs.Edge.{Extends, Output}
 use Rattle.water_edge.proofs.Outputs.{Extends-nil, Extends-trans}
@@ -13,6 +14,7 @@ use Rattle.water_model.specs.declared.types.MonthRecord.{MonthRecord}
 use Rattle.water_edge.proofs.Puts.{PutsPrefix, PutsPrefix-then, PutsPrefix-cut}
 use Rattle.injury.specs.Injuries.{is_injured, injury_of, injuries_of, injured_row, PutsInjuries}
 use Rattle.injury.specs.declared.pair.Pair.{Pair}
+use Rattle.injury.specs.declared.injuries.Injury.{Injury}
 
 -- the injuries of two runs of pairs
 injuries-append : (ps qs : List Pair) (m n : MonthRecord) →
@@ -28,14 +30,13 @@ pub record SoFar (b : Basin) (m n : MonthRecord) (pairs : List Pair) (i : ℕ) (
   pub number : count ≡ length (injuries_of (take i pairs) m n)
 
 pub injuries-count : (ps : List Pair) (m n : MonthRecord) → length (injuries_of ps m n) ≤ length ps
-injuries-count [] m n = omega arith
-injuries-count (p ∷ ps) m n = one (is_injured m n p) (injuries-count ps m n)
-  where
-    one : (t : Bool) → length (injuries_of ps m n) ≤ length ps →
-        length (map (injury_of m n) (cond t (p ∷ filter (is_injured m n) ps) (filter (is_injured m n) ps))) ≤ length
-        (p ∷ ps)
-    one true l = omega arith
-    one false l = omega arith
+injuries-count ps m n =
+    omega (
+      arith,
+      length-map {B = Injury} (filter (is_injured m n) ps) (injury_of m n),
+      length-filter (is_injured m n) ps,
+      count_by-le-length (is_injured m n) ps,
+    )
 
 -- one more pair, and one that failed
 module _ (b : Basin) (m n : MonthRecord) (pairs : List Pair) (i : ℕ) (p : Pair) (at : slice_get pairs i ≡ Some p) where

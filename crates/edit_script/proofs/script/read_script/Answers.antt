@@ -6,21 +6,18 @@ use Rattle.edit_script.proofs.Reading.{first_bad, first_good, given_on, no_first
 use Rattle.edit_script.proofs.script.read_script.Goals as goal
 
 pub returns-in_default-clause-reads : goal.returns-in_default-clause-reads
-returns-in_default-clause-reads c =
-    no_first c.args.basin.now c.args.series.now c.args.text.now c.in_default.ensures.none
+returns-in_default-clause-reads c = no_first _ _ _ c.in_default.ensures.none
 
 pub returns-then-ne-clause-reads : goal.returns-then-ne-clause-reads
 returns-then-ne-clause-reads c =
-    first_bad c.args.basin.now c.args.series.now c.args.text.now c.in-Some.first.now c.in-Some.after.now
-    c.in-Some.ensures.some (sym (ap (bytes_eq c.in-Some.first.now) c.as_slice.ensures)
-    ∙ not-true _ (sym c.ne.ensures ∙ c.if-ne.true))
+    first_bad _ _ _ _ c.in-Some.after.now c.in-Some.ensures.some
+    (sym (ap (bytes_eq c.in-Some.first.now) c.as_slice.ensures) ∙ not-true _ (sym c.ne.ensures ∙ c.if-ne.true))
 
 pub returns-clause-reads : goal.returns-clause-reads
 returns-clause-reads c =
     given_on _ _ c.read_edits.result
-    (first_good c.args.basin.now c.args.series.now c.args.text.now c.in-Some.first.now c.in-Some.after.now
-    c.in-Some.ensures.some (sym (ap (bytes_eq c.in-Some.first.now) c.as_slice.ensures)
-    ∙ not-false _ (sym c.ne.ensures ∙ c.if-ne.false))
+    (first_good _ _ _ _ c.in-Some.after.now c.in-Some.ensures.some
+    (sym (ap (bytes_eq c.in-Some.first.now) c.as_slice.ensures) ∙ not-false _ (sym c.ne.ensures ∙ c.if-ne.false))
     ∙ ap (λ b. edits_from b c.args.series.now 2 (lines_of c.in-Some.after.now)) (sym c.in_ok-names.ensures))
     c.read_edits.ensures.reads
 

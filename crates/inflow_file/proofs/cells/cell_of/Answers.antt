@@ -4,27 +4,18 @@ use Rattle.inflow_file.proofs.cells.cell_of.Goals as goal
 
 pub overflow_mul-result : goal.overflow_mul-result
 overflow_mul-result c =
-    let small =
-    small_index c.args.columns.now.basin.now c.args.index c.args.number c.requires.basin.run.months.1
-    c.requires.basin.bounded c.requires.index c.requires.column in
+    let small = small_index _ _ _ c.requires.basin.run.months.1 c.requires.basin.bounded c.requires.index
+    c.requires.column in
     rw c.count.ensures (omega (arith, small.0))
 
 pub overflow_add-result : goal.overflow_add-result
 overflow_add-result c =
-    let small =
-    small_index c.args.columns.now.basin.now c.args.index c.args.number c.requires.basin.run.months.1
-    c.requires.basin.bounded c.requires.index c.requires.column in
-    rw (c.count.ensures, c.index_of.ensures)
-    (omega (
-      arith,
-      small.1,
-      small_table c.args.columns.now.basin.now c.requires.basin.run.months.1
-          c.requires.basin.bounded,
-    ))
+    let small = small_index _ _ _ c.requires.basin.run.months.1 c.requires.basin.bounded c.requires.index
+    c.requires.column in
+    let table = small_table _ c.requires.basin.run.months.1 c.requires.basin.bounded in
+    rw (c.count.ensures, c.index_of.ensures) (omega (arith, small.1, table))
 
 pub returns-clause-within : goal.returns-clause-within
 returns-clause-within c =
-    let small =
-    small_index c.args.columns.now.basin.now c.args.index c.args.number c.requires.basin.run.months.1
-    c.requires.basin.bounded c.requires.index c.requires.column in
-    rw (c.count.ensures, c.index_of.ensures) small.1
+    rw (c.count.ensures, c.index_of.ensures) (small_index _ _ _ c.requires.basin.run.months.1
+    c.requires.basin.bounded c.requires.index c.requires.column).1

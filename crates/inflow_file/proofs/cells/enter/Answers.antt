@@ -1,35 +1,26 @@
-use Rattle.std.proofs.Common.{◌≡◌, ◌∙◌, refl, sym, ap, get_or, None, is_some, false}
+use Rattle.std.proofs.Common.{◌∙◌, refl, sym, ap, get_or, None, is_some}
 use Rattle.std.specs.Prelude.{slice_set, Some}
-use Rattle.inflow_file.proofs.DueLaws.{outside_is, repeated_is, entered_is, index_for}
+use Rattle.inflow_file.proofs.DueLaws.{outside_is, repeated_is, entered_is}
 use Rattle.inflow_file.proofs.RunLaws.{month_inside, month_outside}
 use Rattle.inflow_file.proofs.cells.enter.Goals as goal
 
 pub returns-in_default : goal.returns-in_default
 returns-in_default c =
-    λ earlier is. outside_is c.args.columns.now.basin.now earlier c.args.entry.now c.args.amounts.now
-    (month_outside c.args.columns.now.basin.now c.args.entry.now.month c.requires.basin c.requires.entry.month
+    λ earlier is. outside_is _ _ _ _ (month_outside _ _ c.requires.basin c.requires.entry.month
     (sym c.index_in_run.ensures.value ∙ c.in_default.is)) is
 
 pub returns-then-is_some : goal.returns-then-is_some
 returns-then-is_some c = λ earlier is.
-    let inside = month_inside c.args.columns.now.basin.now c.args.entry.now.month c.in-Some.index c.requires.basin
-    c.requires.entry.month (sym c.in-Some.ensures.value) in (
+    let inside = month_inside _ _ _ c.requires.basin c.requires.entry.month (sym c.in-Some.ensures.value) in (
       refl,
-      sym (repeated_is c.args.columns.now.basin.now earlier c.args.entry.now c.in-Some.index c.args.amounts.now
-          c.requires.entry inside.0 inside.1 is)
+      sym (repeated_is _ _ _ _ _ c.requires.entry inside.0 inside.1 is)
           ∙ (ap (λ k. is_some (get_or c.args.amounts.now k None)) (sym c.cell_of-cell.ensures.cell)
           ∙ sym c.if-is_some.ensures),
     )
 
 pub returns : goal.returns
 returns c = λ earlier is.
-    let inside = month_inside c.args.columns.now.basin.now c.args.entry.now.month c.in-Some.index c.requires.basin
-    c.requires.entry.month (sym c.in-Some.ensures.value) in
-    let free : is_some
-    (get_or c.args.amounts.now (index_for c.args.columns.now.basin.now c.in-Some.index c.args.entry.now.column)
-    None) ≡ false =
-    ap (λ k. is_some (get_or c.args.amounts.now k None)) (sym c.cell_of-cell.ensures.cell)
-    ∙ sym c.if-is_some.ensures in
-    let h = entered_is c.args.columns.now.basin.now earlier c.args.entry.now c.in-Some.index c.args.amounts.now
-    c.requires.basin.run.first c.requires.entry inside.0 inside.1 is free in
+    let inside = month_inside _ _ _ c.requires.basin c.requires.entry.month (sym c.in-Some.ensures.value) in
+    let h = entered_is _ _ _ _ _ c.requires.basin.run.first c.requires.entry inside.0 inside.1 is
+    (ap (λ k. is_some (get_or c.args.amounts.now k None)) (sym c.cell_of-cell.ensures.cell) ∙ sym c.if-is_some.ensures) in
     (h.0, ap (λ k. slice_set c.args.amounts.now k (Some c.args.entry.now.amount)) c.cell_of-cell.ensures.cell ∙ h.1)

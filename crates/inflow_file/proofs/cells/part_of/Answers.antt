@@ -1,48 +1,35 @@
-use Rattle.std.proofs.Common.{◌≡◌, ◌∙◌, ◌+◌, ◌++◌, ◌∷◌, [], ap, arith, length}
+use Rattle.std.proofs.Common.{◌∙◌, ◌+◌, ap, arith, length}
 use Rattle.std.proofs.lemmas.List.{length_push}
 use Rattle.std.proofs.lemmas.Nat.{mul-le}
 use Rattle.inflow_file.specs.Cells.{cell_in}
-use Rattle.inflow_file.proofs.DueLaws.{small_table, width}
-use Rattle.inflow_file.proofs.GapLaws.{cell_below, part_more, some_column}
+use Rattle.inflow_file.proofs.DueLaws.{small_table, some_column, width}
+use Rattle.inflow_file.proofs.GapLaws.{cell_below, part_more}
 use Rattle.inflow_file.proofs.cells.part_of.Goals as goal
 
 pub overflow_mul-end : goal.overflow_mul-end
 overflow_mul-end c =
-    let most =
-    mul-le c.args.columns.now.basin.now.months c.args.count c.args.columns.now.basin.now.months
-    (width c.args.columns.now.basin.now) (omega arith) (omega (arith, c.requires.columns)) in
-    omega (arith, most, small_table c.args.columns.now.basin.now c.requires.basin.run.months.1 c.requires.basin.bounded)
+    let b = c.args.columns.now.basin.now in
+    let most = mul-le b.months c.args.count b.months (width b) (omega arith) (omega (arith, c.requires.columns)) in
+    omega (arith, most, small_table b c.requires.basin.run.months.1 c.requires.basin.bounded)
 
 pub cell_in-requires-clause-count : goal.cell_in-requires-clause-count
-cell_in-requires-clause-count c =
-    some_column c.loop-cell.cell c.args.columns.now.basin.now.months c.args.count
-    (omega (arith, c.loop-cell-test.true))
+cell_in-requires-clause-count c = some_column _ _ _ c.loop-cell-test.true
 
 pub cell_in-requires-clause-within : goal.cell_in-requires-clause-within
 cell_in-requires-clause-within c =
-    let below =
-    cell_below c.loop-cell.cell (width c.args.columns.now.basin.now) c.args.from
-    c.args.columns.now.basin.now.months c.args.count c.requires.columns (omega (arith, c.loop-cell-test.true)) in
+    let below = cell_below _ _ _ _ _ c.requires.columns c.loop-cell-test.true in
     rw c.count-width.ensures (omega (arith, below, c.requires.cells))
 
 pub cell_in-requires-clause-small : goal.cell_in-requires-clause-small
 cell_in-requires-clause-small c =
-    omega (
-      arith,
-      c.requires.cells,
-      small_table c.args.columns.now.basin.now c.requires.basin.run.months.1
-          c.requires.basin.bounded,
-    )
+    omega (arith, c.requires.cells, small_table _ c.requires.basin.run.months.1 c.requires.basin.bounded)
 
 pub loop-cell-preserved : goal.loop-cell-preserved
 loop-cell-preserved c =
-    let pushed : c.push.new.self.items ≡ c.loop-cell.part.items ++ c.cell_in.result ∷ [] =
-    c.in_ok-push.ensures.items in
+    let pushed = c.in_ok-push.ensures.items in
     record {
       count = ap length pushed
           ∙ (length_push c.loop-cell.part.items c.cell_in.result ∙ ap (λ n. n + 1) c.loop-cell.invariant.count);
-      each = λ k l. rw pushed
-          (part_more (cell_in c.args.cells.now c.count-width.result c.args.from c.args.count) c.loop-cell.part.items
-          c.loop-cell.cell k c.cell_in.result
+      each = λ k l. rw pushed (part_more (cell_in c.args.cells.now c.count-width.result c.args.from c.args.count) _ _ _ _
           c.loop-cell.invariant.count c.loop-cell.invariant.each c.cell_in.ensures l);
     }

@@ -1,25 +1,14 @@
-use Rattle.std.proofs.Common.{◌≡◌, ◌∙◌, ◌*◌, ap, sym, rules, arith, replicate, [], None, IfOk, Option, ℕ}
-use Rattle.std.proofs.lemmas.Result.{IfOk-weaker}
-use Rattle.inflow_file.specs.Given.{given_by}
+use Rattle.std.proofs.Common.{◌≡◌, ◌*◌, rules, arith, replicate, None, IfOk, Option, ℕ}
 use Rattle.inflow_file.proofs.DueLaws.{none_given, small_table}
 use Rattle.inflow_file.proofs.read.no_amounts.Goals as goal
 
 pub overflow_mul-due : goal.overflow_mul-due
 overflow_mul-due c =
-    rw c.count.ensures (omega (
-      arith,
-      small_table c.args.columns.now.basin.now c.requires.run.months.1
-          c.requires.bounded,
-    ))
+    rw c.count.ensures (omega (arith, small_table _ c.requires.run.months.1 c.requires.bounded))
 
 pub returns : goal.returns
 returns c =
     let items : IfOk c.vec.result
     (λ v. v.items ≡ replicate {A = Option ℕ} (c.args.columns.now.basin.now.months * c.count.result) None) =
     search rules in
-    IfOk-weaker c.vec.result
-    (λ v. v.items ≡ replicate {A = Option ℕ} (c.args.columns.now.basin.now.months * c.count.result) None)
-    (λ v. v.items ≡ given_by c.args.columns.now.basin.now [])
-    (λ v is. is
-    ∙ (ap (λ n. replicate {A = Option ℕ} (c.args.columns.now.basin.now.months * n) None) c.count.ensures ∙ sym
-    (none_given c.args.columns.now.basin.now))) items
+    rw (none_given c.args.columns.now.basin.now, ← c.count.ensures) items

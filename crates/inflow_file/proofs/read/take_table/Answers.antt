@@ -1,30 +1,21 @@
-use Rattle.std.proofs.Common.{◌≡◌, ◌∷◌, ◌∙◌, ap, sym, arith, length}
-use Rattle.csv.specs.Records.{fields_of}
-use Rattle.inflow_file.specs.CsvRecords.{records_of}
-use Rattle.inflow_file.specs.RecordsLeft.{records_left}
+use Rattle.std.proofs.Common.{◌∙◌, ap, sym, arith, length}
 use Rattle.inflow_file.proofs.RecordLaws.{bounded_records}
 use Rattle.inflow_file.proofs.TableLaws.{no_header, table_taken}
 use Rattle.inflow_file.proofs.read.take_table.Goals as goal
 
 pub take_all-requires-clause-bounded : goal.take_all-requires-clause-bounded
 take_all-requires-clause-bounded c =
-    let took : records_left c.reader_of-reader.result ≡ fields_of c.read_row.new.row ∷ records_left
-    c.read_row.new.reader = rw c.if-not-found.false at c.in_ok-found.ensures.takes in
+    let took = rw c.if-not-found.false at c.in_ok-found.ensures.takes in
     omega (arith, bounded_records c.args.text.now, ap length (sym c.reader_of-reader.ensures.all ∙ took))
 
 pub returns-then-not-has_header : goal.returns-then-not-has_header
 returns-then-not-has_header c =
-    let took : records_left c.reader_of-reader.result ≡ fields_of c.read_row.new.row ∷ records_left
-    c.read_row.new.reader = rw c.if-not-found.false at c.in_ok-found.ensures.takes in
-    rw c.no_header-then-not-has_header.ensures (no_header c.args.columns.now.basin.now (fields_of c.read_row.new.row)
-    (records_left c.read_row.new.reader) (records_of c.args.text.now) c.has_kinds-kinds.result
-    (sym c.reader_of-reader.ensures.all ∙ took) c.has_kinds-kinds.ensures (sym c.if-not-has_header.ensures))
+    let took = rw c.if-not-found.false at c.in_ok-found.ensures.takes in
+    rw c.no_header-then-not-has_header.ensures (no_header _ _ _ _ _ (sym c.reader_of-reader.ensures.all ∙ took)
+    c.has_kinds-kinds.ensures (sym c.if-not-has_header.ensures))
 
 pub returns : goal.returns
 returns c =
-    let took : records_left c.reader_of-reader.result ≡ fields_of c.read_row.new.row ∷ records_left
-    c.read_row.new.reader = rw c.if-not-found.false at c.in_ok-found.ensures.takes in
-    table_taken c.args.columns.now.basin.now (fields_of c.read_row.new.row) (records_left c.read_row.new.reader)
-    (records_of c.args.text.now) c.has_kinds-kinds.result _ _
-    (sym c.reader_of-reader.ensures.all ∙ took) c.has_kinds-kinds.ensures (sym c.if-not-has_header.ensures)
-    c.take_all.ensures
+    let took = rw c.if-not-found.false at c.in_ok-found.ensures.takes in
+    table_taken _ _ _ _ _ _ _ (sym c.reader_of-reader.ensures.all ∙ took) c.has_kinds-kinds.ensures
+    (sym c.if-not-has_header.ensures) c.take_all.ensures

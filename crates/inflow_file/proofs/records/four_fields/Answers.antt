@@ -1,23 +1,7 @@
-use Rattle.std.proofs.Common.{rules, arith}
+use Rattle.std.proofs.Common.{rules}
 use Rattle.csv.specs.Records.{fields_of}
-use Rattle.inflow_file.proofs.FieldLaws.{has_field, four_are}
+use Rattle.inflow_file.proofs.FieldLaws.{four_are}
 use Rattle.inflow_file.proofs.records.four_fields.Goals as goal
 
-pub returns-in_default : goal.returns-in_default
-returns-in_default c = λ four. has_field (fields_of c.args.row.now) 0 c.in_default.ensures.value (omega arith)
-
-pub returns-in_default-get : goal.returns-in_default-get
-returns-in_default-get c = λ four. has_field (fields_of c.args.row.now) 1 c.in_default-get.ensures.value (omega arith)
-
-pub returns-in_default-get-2 : goal.returns-in_default-get-2
-returns-in_default-get-2 c =
-    λ four. has_field (fields_of c.args.row.now) 2 c.in_default-get-2.ensures.value (omega arith)
-
-pub returns-in_default-get-3 : goal.returns-in_default-get-3
-returns-in_default-get-3 c =
-    λ four. has_field (fields_of c.args.row.now) 3 c.in_default-get-3.ensures.value (omega arith)
-
 pub returns : goal.returns
-returns c =
-    four_are (fields_of c.args.row.now) _ _ _ _ (search rules) c.in-Some.ensures.value c.in-Some-get.ensures.value
-    c.in-Some-get-2.ensures.value c.in-Some-get-3.ensures.value
+returns c = let are = four_are (fields_of c.args.row.now) (search rules) in cc

@@ -16,32 +16,22 @@ overflow_add-count g c =
     omega (
       arith,
       c.common-pairs.ensures.bounded,
-      fits c.args.basin.now c.args.first.now c.args.second.now c.common-pairs.result.now c.loop-pair.pair-index _
-          (slice_get-get_or c.common-pairs.result.now c.loop-pair.pair-index _ c.loop-pair-test.true)
-          (g.K.Sink.output c.args.sink.now) (g.K.Sink.output c.loop-pair.sink) (g.K.Sink.faults c.args.sink.now)
-          (g.K.Sink.faults c.loop-pair.sink)
-          c.loop-pair.count c.in_ok-count.field-0 c.loop-pair.invariant c.in_ok-count.ensures.text.0,
+      fits _ _ _ _ _ _ (slice_get-get_or c.common-pairs.result.now c.loop-pair.pair-index _ c.loop-pair-test.true)
+          _ _ _ _ _ _ c.loop-pair.invariant c.in_ok-count.ensures.text.0,
     )
 
 pub loop-pair-preserved : goal.loop-pair-preserved
 loop-pair-preserved g c =
-    more c.args.basin.now c.args.first.now c.args.second.now c.common-pairs.result.now c.loop-pair.pair-index _
-    (slice_get-get_or c.common-pairs.result.now c.loop-pair.pair-index _ c.loop-pair-test.true)
-    (g.K.Sink.output c.args.sink.now) (g.K.Sink.output c.loop-pair.sink) (g.K.Sink.output c.put_injury.new.sink)
-    (g.K.Sink.faults c.args.sink.now) (g.K.Sink.faults c.loop-pair.sink) (g.K.Sink.faults c.put_injury.new.sink)
-    c.loop-pair.count c.in_ok-count.field-0 c.loop-pair.invariant c.in_ok-count.ensures.text
-    c.in_ok-count.ensures.cause.later
+    more _ _ _ _ _ _ (slice_get-get_or c.common-pairs.result.now c.loop-pair.pair-index _ c.loop-pair-test.true)
+    _ _ _ _ _ _ _ _ c.loop-pair.invariant c.in_ok-count.ensures.text c.in_ok-count.ensures.cause.later
 
 pub returns-in_err-count-clause-text : goal.returns-in_err-count-clause-text
 returns-in_err-count-clause-text g c =
     subst (λ (pairs : List Pair). PutsInjuries c.args.basin.now (injuries_of pairs c.args.first.now c.args.second.now)
     (g.K.Sink.output c.args.sink.now) (g.K.Sink.output c.put_injury.new.sink) c.from_residual.result)
     c.common-pairs.ensures.pairs
-    (fails c.args.basin.now c.args.first.now c.args.second.now c.common-pairs.result.now c.loop-pair.pair-index _
-    (slice_get-get_or c.common-pairs.result.now c.loop-pair.pair-index _ c.loop-pair-test.true)
-    (g.K.Sink.output c.args.sink.now) (g.K.Sink.output c.loop-pair.sink) (g.K.Sink.output c.put_injury.new.sink)
-    (g.K.Sink.faults c.args.sink.now) (g.K.Sink.faults c.loop-pair.sink) c.loop-pair.count c.from_residual.result
-    c.loop-pair.invariant c.in_err-count.ensures.text c.from_residual.ensures.0)
+    (fails _ _ _ _ _ _ (slice_get-get_or c.common-pairs.result.now c.loop-pair.pair-index _ c.loop-pair-test.true)
+    _ _ _ _ _ _ _ c.loop-pair.invariant c.in_err-count.ensures.text c.from_residual.ensures.0)
 
 pub returns-clause-text : goal.returns-clause-text
 returns-clause-text g c =
@@ -49,7 +39,4 @@ returns-clause-text g c =
     (injuries_of pairs c.args.first.now c.args.second.now)
     (g.K.Sink.output c.args.sink.now) (g.K.Sink.output c.loop-pair.sink) (Ok c.loop-pair.count))
     c.common-pairs.ensures.pairs
-    (whole c.args.basin.now c.args.first.now c.args.second.now c.common-pairs.result.now c.loop-pair.pair-index
-    (g.K.Sink.output c.args.sink.now) (g.K.Sink.output c.loop-pair.sink) (g.K.Sink.faults c.args.sink.now)
-    (g.K.Sink.faults c.loop-pair.sink)
-    c.loop-pair.count c.loop-pair.invariant c.loop-pair-test.false)
+    (whole _ _ _ _ _ _ _ _ _ _ c.loop-pair.invariant c.loop-pair-test.false)
