@@ -10,10 +10,10 @@ ghost use Rattle.plan_residual.specs.Next.{AreNext};
 ghost use Rattle.plan_residual.specs.declared.steps.Direction.TheVariants.{ToRight};
 
 use crate::finding::node_of;
+use crate::order::right_at;
 use crate::scene::Scene;
 use crate::spread::spread_on;
 use crate::steps::Direction;
-use crate::sweep::right_at;
 use crate::visits::Queue;
 
 /// Claims for a right the nodes from which its own is reached.

@@ -20,6 +20,7 @@ mod claims;
 mod deciding;
 mod finding;
 pub mod laws;
+pub mod order;
 pub mod rows;
 pub mod scene;
 mod sources;

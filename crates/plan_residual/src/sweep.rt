@@ -4,9 +4,7 @@ ghost use Rattle.std.specs.Prelude.{◌≡◌, ℕ, ◌+◌, ◌*◌, ◌<◌, �
 ghost use Rattle.std.specs.Bool.{OnTrue, OnFalse};
 ghost use Rattle.water_model.specs.Basin.{head_of, instream_link};
 ghost use Rattle.water_model.specs.History.{IsShort};
-ghost use Rattle.water_model.specs.Valid.{IsValidBasin};
 ghost use Rattle.water_model.specs.Lookups.{has};
-ghost use Rattle.rights_roll.specs.Rolls.{IsRollOf};
 ghost use Rattle.plan_residual.specs.Scene.{IsScene};
 ghost use Rattle.plan_residual.specs.Queue.{IsQueueIn};
 ghost use Rattle.plan_residual.specs.Search.{AreReachedApart, IsFollowed, IsReaching, ReachesOn};
@@ -15,13 +13,13 @@ ghost use Rattle.plan_residual.specs.Sweep.{ArePassed, IsAt, IsBetween, IsPassed
 ghost use Rattle.plan_residual.specs.declared.steps.Direction.TheVariants.{FromSources};
 
 use crate::deciding::covers;
+use crate::order::right_at;
 use crate::scene::Scene;
 use crate::sources::{see_junior, spread_apart, spread_own};
 use crate::spread::{follow, spread_on};
 use crate::steps::Direction;
 use crate::visits::Queue;
-use rights_roll::roll::Roll;
-use water_model::types::{Basin, RightKind};
+use water_model::types::RightKind;
 
 /// Follows the step back over a link from its head, if that was seen.
 fn fall(scene: &Scene, right: u32, link: u32, queue: &mut Queue)
@@ -87,17 +85,6 @@ fn pass_all(scene: &Scene, right: u32, from: usize, to: usize, queue: &mut Queue
             queue,
         );
     }
-}
-
-/// The right at an index of the order.
-pub fn right_at(basin: &Basin, roll: &Roll, position: usize) -> u32
-    requires basin { IsValidBasin basin.now }
-    requires roll { IsRollOf basin.now.rights roll.now }
-    requires position { position < length basin.now.rights }
-    ensures value { result ≡ right_at basin.now position }
-    ensures within { result < length basin.now.rights }
-{
-    roll.by_seniority()[position]
 }
 
 /// Goes on from the nodes that are reached as seen from a short right to those as seen from a more senior one. Their
