@@ -14,13 +14,14 @@ use Rattle.rights_roll.specs.SeniorityOrder.{IsSeniorityOrder}
 use Rattle.plan_residual.specs.declared.steps.Direction.TheVariants.{ToRight}
 use Rattle.plan_residual.specs.Residual.{HasPlan}
 use Rattle.plan_residual.specs.Core.{node_of, IsCore}
-use Rattle.plan_residual.specs.Search.{HasGrown, IsClosedAlong, IsVisit}
+use Rattle.plan_residual.specs.Queue.{QueueView, IsEmpty, IsVisit}
+use Rattle.plan_residual.specs.Search.{HasGrown, IsClosedAlong}
 use Rattle.plan_residual.specs.Sweep.{IsShortRight, right_at}
 use Rattle.plan_residual.specs.Next.{CouldUseAt, IsNextAt, IsNextOrFree, AreNext}
 use Rattle.plan_residual.specs.Claims.{AreClaimed, AreMarked, IsClaim}
 use Rattle.plan_residual.proofs.Along.{along_from_backward, backward_from_along}
 use Rattle.plan_residual.proofs.Cores.{core_of}
-use Rattle.plan_residual.proofs.Queues.{extends_then, nowhere, queue_none}
+use Rattle.plan_residual.proofs.Queues.{extends_then, seen_none}
 use Rattle.plan_residual.proofs.Sweeping.{along_for_junior, senior_at}
 
 -- the nodes of two sets
@@ -70,23 +71,22 @@ along_together b m r set other one two = record {
 }
 
 -- a right's node and what a search goes on to from it and from what was claimed
-pub claim_made : (b : Basin) (m : MonthRecord) (r node : ℕ) (seen one seen' : List Bool) (queue q1 queue' : List ℕ)
-    (size s1 size' : ℕ) → node_of b r ≡ Some node → IsClosedAlong b m r ToRight seen →
-    IsVisit seen one queue q1 size s1 node → HasGrown b m r ToRight one seen' q1 queue' s1 size' →
-    IsClosedAlong b m r ToRight seen' → IsClaim b m r seen seen' queue queue' size size'
-claim_made b m r node seen one seen' queue q1 queue' size s1 size' at closed visit grown along = record {
+pub claim_made : {b : Basin} {m : MonthRecord} {r node : ℕ} {q one q' : QueueView} → node_of b r ≡ Some node →
+    IsClosedAlong b m r ToRight q.seen → IsVisit q one node → HasGrown b m r ToRight one q' →
+    IsClosedAlong b m r ToRight q'.seen → IsClaim b m r q q'
+claim_made {b = b} {m = m} {r = r} {node = node} {q = q} {q' = q'} at closed visit grown along = record {
   in_queue = grown.in_queue;
   count = grown.count ∙ visit.count;
   extends = extends_then visit.extends grown.extends;
   closed = along;
-  holds = λ core is n h. is.upstream.least seen' (backward_from_along b m r seen' along)
-      (ap (has seen') (itself core is) ∙ grown.extends.kept node visit.on) n h;
-  only = λ core is n h. in_either seen core n
-      (grown.least (together seen core)
-      (along_together b m r seen core closed (along_from_backward b m r core is.upstream.closed))
+  holds = λ core is n h. is.upstream.least q'.seen (backward_from_along b m r q'.seen along)
+      (ap (has q'.seen) (itself core is) ∙ grown.extends.kept node visit.on) n h;
+  only = λ core is n h. in_either q.seen core n
+      (grown.least (together q.seen core)
+      (along_together b m r q.seen core closed (along_from_backward b m r core is.upstream.closed))
       (λ v saw. elim (visit.only v saw) [
-        | inl same ↦ in_second seen core v (ap (has core) (same ∙ sym (itself core is)) ∙ is.upstream.holds)
-        | inr old ↦ in_first seen core v old
+        | inl same ↦ in_second q.seen core v (ap (has core) (same ∙ sym (itself core is)) ∙ is.upstream.holds)
+        | inr old ↦ in_first q.seen core v old
       ]) n h);
 }
   where
@@ -94,61 +94,56 @@ claim_made b m r node seen one seen' queue q1 queue' size s1 size' at closed vis
     itself core is = let same : Some is.node ≡ Some node = sym is.at ∙ at in cc
 
 -- one more index is marked
-pub marked_more : (queue : List ℕ) (from position right : ℕ) (next next' : List (Option ℕ)) → from ≤ position →
-    slice_index queue position < length next → AreMarked queue from position right next next' →
-    AreMarked queue from (position + 1) right next (slice_set next' (slice_index queue position) (Some right))
-marked_more queue from position right next next' above below now = record {
-  count = length-set next' (slice_index queue position) (Some right) ∙ now.count;
-  marked = λ j a l. elim (cases_eq (slice_index queue j) (slice_index queue position)) [
-    | inl same ↦ ap (λ (v : ℕ). slice_index_or (slice_set next' (slice_index queue position) (Some right)) v None) same
-        ∙ get_or-set_same next' (slice_index queue position) (Some right) None (let c = now.count in omega arith)
-    | inr other ↦ get_or-set_other next' (slice_index queue position) (slice_index queue j) (Some right) None other
+pub marked_more : (q : QueueView) (from position right : ℕ) (next next' : List (Option ℕ)) → from ≤ position →
+    slice_index q.nodes position < length next → AreMarked q from position right next next' →
+    AreMarked q from (position + 1) right next (slice_set next' (slice_index q.nodes position) (Some right))
+marked_more q from position right next next' above below now = record {
+  count = length-set next' (slice_index q.nodes position) (Some right) ∙ now.count;
+  marked = λ j a l. elim (cases_eq (slice_index q.nodes j) (slice_index q.nodes position)) [
+    | inl same ↦ ap (λ v. slice_index_or (slice_set next' (slice_index q.nodes position) (Some right)) v None) same
+        ∙ get_or-set_same next' (slice_index q.nodes position) (Some right) None (let c = now.count in omega arith)
+    | inr other ↦ get_or-set_other next' (slice_index q.nodes position) (slice_index q.nodes j) (Some right) None other
         ∙ now.marked j a (earlier j l other)
   ];
-  kept = λ v apart. get_or-set_other next' (slice_index queue position) v (Some right) None
+  kept = λ v apart. get_or-set_other next' (slice_index q.nodes position) v (Some right) None
       (λ same. apart position above (omega arith) (sym same))
       ∙ now.kept v (λ j a l. apart j a (omega arith));
 }
   where
-    earlier : (j : ℕ) → j < position + 1 → slice_index queue j ≢ slice_index queue position → j < position
+    earlier : (j : ℕ) → j < position + 1 → slice_index q.nodes j ≢ slice_index q.nodes position → j < position
     earlier j l other = elim (cases_lt j position) [
       | inl less ↦ less
-      | inr last ↦ absurd (other (ap (slice_index queue) (let at : j ≡ position = omega arith in at)))
+      | inr last ↦ absurd (other (ap (slice_index q.nodes) (let at : j ≡ position = omega arith in at)))
     ]
 
 -- at the start nothing was claimed
 abbrev no_marks : ℕ → List (Option ℕ)
 no_marks n = replicate n None
 
-pub none_claimed : (b : Basin) (m : MonthRecord) (seen : List Bool) (queue : List ℕ) (next : List (Option ℕ)) →
-    seen ≡ replicate (length b.nodes) false → next ≡ no_marks (length b.nodes) →
-    length queue ≡ length b.nodes → length b.nodes ≤ 2000 → AreClaimed b m 0 seen queue 0 next
-none_claimed b m seen queue next is none room bounded = record {
-  in_queue = queue_none (length b.nodes) seen queue is room bounded;
-  count = ap (λ (xs : List Bool). length xs) is ∙ length-replicate (length b.nodes) false;
+pub none_claimed : (b : Basin) (m : MonthRecord) (q : QueueView) (next : List (Option ℕ)) →
+    IsEmpty (length b.nodes) q → next ≡ no_marks (length b.nodes) → AreClaimed b m 0 q next
+none_claimed b m q next empty none = record {
+  in_queue = empty.in_queue;
+  count = empty.count;
   one_each = ap (λ (xs : List (Option ℕ)). length xs) none ∙ length-replicate {A = Option ℕ} (length b.nodes) None;
-  closed = λ i a l short. record { steps = λ s l from room. absurd (both_ways _ (off _) from) };
-  claimed = λ n h. absurd (both_ways _ (off n) h);
+  closed = λ i a l short. record { steps = λ s l from room. absurd (both_ways _ (seen_none empty _) from) };
+  claimed = λ n h. absurd (both_ways _ (seen_none empty n) h);
   free = λ n l out. (
     ap (λ (xs : List (Option ℕ)). slice_index_or xs n None) none ∙ nothing (length b.nodes) n,
     λ i a could. absurd (omega arith),
   );
 }
   where
-    off : (n : ℕ) → has seen n ≡ false
-    off n = ap (λ (xs : List Bool). has xs n) is ∙ nowhere (length b.nodes) n
-
     nothing : (k n : ℕ) → slice_index_or (no_marks k) n None ≡ None
     nothing zero n = refl
     nothing (suc k) zero = refl
     nothing (suc k) (suc n) = nothing k n
 
 -- a right that is not short claims nothing
-pub passed_over : (b : Basin) (m : MonthRecord) (position : ℕ) (seen : List Bool) (queue : List ℕ) (size : ℕ)
-    (next : List (Option ℕ)) → slice_index m.want (right_at b position) ≤ slice_index m.delivered
-    (right_at b position) →
-    AreClaimed b m position seen queue size next → AreClaimed b m (position + 1) seen queue size next
-passed_over b m position seen queue size next met now = record {
+pub passed_over : (b : Basin) (m : MonthRecord) (position : ℕ) (q : QueueView) (next : List (Option ℕ)) →
+    slice_index m.want (right_at b position) ≤ slice_index m.delivered (right_at b position) →
+    AreClaimed b m position q next → AreClaimed b m (position + 1) q next
+passed_over b m position q next met now = record {
   in_queue = now.in_queue;
   count = now.count;
   one_each = now.one_each;
@@ -164,28 +159,26 @@ passed_over b m position seen queue size next met now = record {
 }
 
 -- a short one claims the nodes of its core that no senior claimed
-pub claimed_more : (b : Basin) (m : MonthRecord) (position : ℕ) (seen seen' : List Bool) (queue queue' : List ℕ)
-    (size size' : ℕ) (next next' : List (Option ℕ)) → HasPlan b m → IsSeniorityOrder b.rights (seniors_first b) →
-    position < length b.rights → IsShortRight b m (right_at b position) → AreClaimed b m position seen queue size next →
-    IsClaim b m (right_at b position) seen seen' queue queue' size size' →
-    AreMarked queue' size size' (right_at b position) next next' → AreClaimed b m (position + 1) seen' queue' size'
-    next'
-claimed_more b m position seen seen' queue queue' size size' next next' given o below short now claim mark = record {
+pub claimed_more : (b : Basin) (m : MonthRecord) (position : ℕ) (q q' : QueueView) (next next' : List (Option ℕ)) →
+    HasPlan b m → IsSeniorityOrder b.rights (seniors_first b) → position < length b.rights →
+    IsShortRight b m (right_at b position) → AreClaimed b m position q next → IsClaim b m (right_at b position) q q' →
+    AreMarked q' q.size q'.size (right_at b position) next next' → AreClaimed b m (position + 1) q' next'
+claimed_more b m position q q' next next' given o below short now claim mark = record {
   in_queue = claim.in_queue;
   count = claim.count ∙ now.count;
   one_each = mark.count ∙ now.one_each;
-  closed = λ i a l short_i. along_for_junior b m r (right_at b i) ToRight seen' given short
+  closed = λ i a l short_i. along_for_junior b m r (right_at b i) ToRight q'.seen given short
       (senior_at b position i o l (omega arith)) claim.closed;
-  claimed = λ n h. elim (cases_Bool (has seen n)) [
+  claimed = λ n h. elim (cases_Bool (has q.seen n)) [
     | inl old ↦ (let was = now.claimed n old in (was.0, kept n old ∙ was.1, was.2))
     | inr fresh ↦ (r, added n h fresh, owned n h fresh)
   ];
   free = λ n l out. (
-    mark.kept n (λ j a k same. both_ways (has seen' n) out (ap (has seen') (sym same) ∙ claim.in_queue.queued j k))
+    mark.kept n (λ j a k same. both_ways (has q'.seen n) out (ap (has q'.seen) (sym same) ∙ claim.in_queue.queued j k))
         ∙ (now.free n l (apart n out)).0,
     λ i a could. elim (cases_eq i position) [
       | inl same ↦ (let takes = subst (λ (k : ℕ). CouldUseAt b m n (right_at b k)) same could in
-          both_ways (has seen' n) out (claim.holds takes.core takes.is_core n takes.here))
+          both_ways (has q'.seen n) out (claim.holds takes.core takes.is_core n takes.here))
       | inr other ↦ (now.free n l (apart n out)).1 i (omega arith) could
     ],
   );
@@ -194,30 +187,30 @@ claimed_more b m position seen seen' queue queue' size size' next next' given o 
     r : ℕ
     r = right_at b position
 
-    apart : (n : ℕ) → has seen' n ≡ false → has seen n ≡ false
-    apart n out = elim (cases_Bool (has seen n)) [
-      | inl old ↦ absurd (both_ways (has seen' n) out (claim.extends.kept n old))
+    apart : (n : ℕ) → has q'.seen n ≡ false → has q.seen n ≡ false
+    apart n out = elim (cases_Bool (has q.seen n)) [
+      | inl old ↦ absurd (both_ways (has q'.seen n) out (claim.extends.kept n old))
       | inr fresh ↦ fresh
     ]
 
     -- a node that was there keeps its mark
-    kept : (n : ℕ) → has seen n ≡ true → slice_index_or next' n None ≡ slice_index_or next n None
+    kept : (n : ℕ) → has q.seen n ≡ true → slice_index_or next' n None ≡ slice_index_or next n None
     kept n old =
-        let q = now.in_queue.each n old in
-        let inside = q.1 in
-        mark.kept n (λ j a k same. claim.in_queue.once q.0 j (omega arith) k
-        (claim.extends.prefix q.0 q.1 ∙ (q.2 ∙ sym same)))
+        let at = now.in_queue.each n old in
+        let inside = at.1 in
+        mark.kept n (λ j a k same. claim.in_queue.once at.0 j (omega arith) k
+        (claim.extends.prefix at.0 at.1 ∙ (at.2 ∙ sym same)))
 
-    added : (n : ℕ) → has seen' n ≡ true → has seen n ≡ false → slice_index_or next' n None ≡ Some r
+    added : (n : ℕ) → has q'.seen n ≡ true → has q.seen n ≡ false → slice_index_or next' n None ≡ Some r
     added n h fresh =
-        let q = claim.in_queue.each n h in
-        ap (λ (v : ℕ). slice_index_or next' v None) (sym q.2) ∙ mark.marked q.0 (elim (cases_lt q.0 size) [
-          | inl before ↦ absurd (both_ways (has seen n) fresh
-              (ap (has seen) (sym q.2 ∙ claim.extends.prefix q.0 before) ∙ now.in_queue.queued q.0 before))
+        let at = claim.in_queue.each n h in
+        ap (λ (v : ℕ). slice_index_or next' v None) (sym at.2) ∙ mark.marked at.0 (elim (cases_lt at.0 q.size) [
+          | inl before ↦ absurd (both_ways (has q.seen n) fresh
+              (ap (has q.seen) (sym at.2 ∙ claim.extends.prefix at.0 before) ∙ now.in_queue.queued at.0 before))
           | inr after ↦ after
-        ]) q.1
+        ]) at.1
 
-    owned : (n : ℕ) → has seen' n ≡ true → has seen n ≡ false → IsNextAt b m n r
+    owned : (n : ℕ) → has q'.seen n ≡ true → has q.seen n ≡ false → IsNextAt b m n r
     owned n h fresh =
         let core = core_of b m r given short.in_range in
         record {
@@ -227,7 +220,7 @@ claimed_more b m position seen seen' queue queue' size size' next next' given o 
             core = core.0;
             is_core = core.1;
             here = elim (claim.only core.0 core.1 n h) [
-              | inl old ↦ absurd (both_ways (has seen n) fresh old)
+              | inl old ↦ absurd (both_ways (has q.seen n) fresh old)
               | inr held ↦ held
             ];
           };
@@ -235,18 +228,18 @@ claimed_more b m position seen seen' queue queue' size size' next next' given o 
               let at = o.placed position below in
               let before = ltb-true (o.place s) (o.place r)
               (sym (o.senior s r could.in_range short.in_range) ∙ senior) in
-              (now.free n (let k = has_below seen' n h in let c = claim.count in let d = now.count in omega arith)
+              (now.free n (let k = has_below q'.seen n h in let c = claim.count in let d = now.count in omega arith)
               fresh).1 (o.place s) (omega arith)
               (subst (λ (t : ℕ). CouldUseAt b m n t) (sym (o.each s could.in_range)) could);
         }
 
 -- all rights had their turn
-pub all_served : (b : Basin) (m : MonthRecord) (position : ℕ) (seen : List Bool) (queue : List ℕ) (size : ℕ)
+pub all_served : (b : Basin) (m : MonthRecord) (position : ℕ) (q : QueueView)
     (next : List (Option ℕ)) → IsSeniorityOrder b.rights (seniors_first b) → length b.rights ≤ position →
-    AreClaimed b m position seen queue size next → AreNext b m next
-all_served b m position seen queue size next o all now = record {
+    AreClaimed b m position q next → AreNext b m next
+all_served b m position q next o all now = record {
   one_each = now.one_each;
-  each = λ n l. elim (cases_Bool (has seen n)) [
+  each = λ n l. elim (cases_Bool (has q.seen n)) [
     | inl held ↦ (let was = now.claimed n held in subst (IsNextOrFree b m n) (sym was.1) was.2)
     | inr out ↦ subst (IsNextOrFree b m n) (sym (now.free n l out).0) (λ s could.
         (now.free n l out).1 (o.place s) (let p = o.in_range s could.in_range in omega arith)

@@ -1,5 +1,5 @@
 -- The most senior right whose set is not its reach.
-use Rattle.std.proofs.Common.{◌≡◌, ℕ, ◌<◌, Bool, refl, sym, ap, subst, arith, List, [], length, get_or}
+use Rattle.std.proofs.Common.{◌≡◌, ℕ, ◌<◌, Bool, refl, sym, ap, subst, List, [], length}
 use Rattle.std.specs.Prelude.{Option, Some, None, IsSome, unwrap_or}
 use Rattle.cut_cert.specs.Sets.{cut_at, HasCut}
 use Rattle.water_model.specs.CutSets.{set_of}
@@ -7,9 +7,6 @@ use Rattle.water_model.specs.Cuts.{IsTight}
 use Rattle.water_model.specs.History.{FitsBasin, IsShort}
 use Rattle.water_model.specs.declared.types.Basin.{Basin}
 use Rattle.water_model.specs.declared.types.MonthRecord.{MonthRecord}
-use Rattle.water_model.specs.Indices.{seniors_first}
-use Rattle.water_model.specs.Valid.{IsValidBasin}
-use Rattle.rights_roll.proofs.Seniors.{by_seniority_order}
 use Rattle.plan_residual.specs.Reaches.{HaveTightSets}
 
 -- the set of a short right, and that it is tight
@@ -34,11 +31,3 @@ set_tight b m r sets l short =
     let s = sets.each r l short in
     subst (λ (set : List Bool). IsTight b m.month m.supply m.delivered r set)
     (sym (ap (λ o. unwrap_or o []) s.1)) s.2
-
--- the right at an index of the order
-pub order_below : (b : Basin) (order : List ℕ) (position : ℕ) → IsValidBasin b → order ≡ seniors_first b →
-    position < length order → get_or order position 0 < length b.rights
-order_below b order position valid is below =
-    let o = by_seniority_order b.rights valid.roll.strict in
-    let at = o.below position (let n = o.count in let same = ap length is in omega arith) in
-    subst (λ (xs : List ℕ). get_or xs position 0 < length b.rights) (sym is) at

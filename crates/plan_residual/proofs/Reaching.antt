@@ -1,8 +1,7 @@
 -- The nodes that were seen are in every set that is closed but for the end of the right's own link.
-use Rattle.std.proofs.Common.{◌≡◌, ℕ, ◌+◌, ◌<◌, ◌≤◌, Bool, true, false, sym, ◌∙◌, ap, subst, arith, List, length}
-use Rattle.std.proofs.Common.{replicate, inl, inr}
+use Rattle.std.proofs.Common.{◌≡◌, ℕ, ◌+◌, ◌<◌, Bool, true, sym, ◌∙◌, ap, subst, arith, List, length}
+use Rattle.std.proofs.Common.{inl, inr}
 use Rattle.std.proofs.lemmas.Bool.{both_ways, cases_eq}
-use Rattle.std.proofs.lemmas.List.{length-replicate}
 use Rattle.std.specs.Prelude.{Option, Some, None, slice_index}
 use Rattle.water_model.specs.Lookups.{has}
 use Rattle.water_model.specs.Basin.{taking_node, is_senior}
@@ -11,44 +10,57 @@ use Rattle.water_model.specs.declared.types.Basin.{Basin}
 use Rattle.water_model.specs.declared.types.MonthRecord.{MonthRecord}
 use Rattle.plan_residual.specs.declared.steps.Direction.TheVariants.{FromSources}
 use Rattle.plan_residual.specs.Residual.{AreReached}
-use Rattle.plan_residual.specs.Search.{AreReachedApart, Extends, HasGrown, HasJuniors, HasOutlets, IsClosedAlong}
-use Rattle.plan_residual.specs.Search.{IsClosedApart, IsOwnVisit, IsReaching, IsVisit}
+use Rattle.plan_residual.specs.Queue.{QueueView, IsEmpty, IsVisit}
+use Rattle.plan_residual.specs.Search.{AreReachedApart, HasGrown, HasJuniors, HasOutlets, IsClosedAlong, IsClosedApart}
+use Rattle.plan_residual.specs.Search.{IsOwnVisit, IsReaching, ReachesOn}
 use Rattle.plan_residual.proofs.Along.{apart_from_closed, closed_from_apart}
-use Rattle.plan_residual.proofs.Queues.{nowhere, queue_none}
+use Rattle.plan_residual.proofs.Queues.{extends_same, extends_then, seen_none}
 
 -- at the start nothing is seen
-pub reaching_none : (b : Basin) (m : MonthRecord) (r n : ℕ) (seen : List Bool) (queue : List ℕ) →
-    seen ≡ replicate n false → n ≡ length b.nodes → length queue ≡ length b.nodes → length b.nodes ≤ 2000 →
-    IsReaching b m r seen queue 0
-reaching_none b m r n seen queue is count room bounded = record {
-  in_queue = queue_none n seen queue is (room ∙ sym count) (omega (arith, count, bounded));
-  count = ap (λ (xs : List Bool). length xs) is ∙ (length-replicate n false ∙ count);
-  least = λ other closed v h. absurd (both_ways (has seen v)
-      (ap (λ (xs : List Bool). has xs v) is ∙ nowhere n v) h);
+pub reaching_none : (b : Basin) (m : MonthRecord) (r : ℕ) (q : QueueView) → IsEmpty (length b.nodes) q →
+    IsReaching b m r q
+reaching_none b m r q empty = record {
+  in_queue = empty.in_queue;
+  count = empty.count;
+  least = λ other closed v h. absurd (both_ways (has q.seen v) (seen_none empty v) h);
 }
 
 -- one more node that is in every such set
-pub reaching_more : (b : Basin) (m : MonthRecord) (r : ℕ) (seen seen' : List Bool) (queue queue' : List ℕ)
-    (size size' node : ℕ) → IsReaching b m r seen queue size → IsVisit seen seen' queue queue' size size' node →
-    ((other : List Bool) → IsClosedApart b m r other → has other node ≡ true) → IsReaching b m r seen' queue' size'
-reaching_more b m r seen seen' queue queue' size size' node now visit each = record {
-  in_queue = visit.in_queue;
-  count = visit.count ∙ now.count;
-  least = λ other closed n h. elim (visit.only n h) [
-    | inl same ↦ ap (has other) same ∙ each other closed
-    | inr old ↦ now.least other closed n old
-  ];
+pub reaching_more : {b : Basin} {m : MonthRecord} {r node : ℕ} {q q' : QueueView} → IsReaching b m r q →
+    IsVisit q q' node → ((other : List Bool) → IsClosedApart b m r other → has other node ≡ true) →
+    ReachesOn b m r q q'
+reaching_more now visit each = record {
+  reaching = record {
+    in_queue = visit.in_queue;
+    count = visit.count ∙ now.count;
+    least = λ other closed n h. elim (visit.only n h) [
+      | inl same ↦ ap (has other) same ∙ each other closed
+      | inr old ↦ now.least other closed n old
+    ];
+  };
+  extends = visit.extends;
 }
 
 -- and all that a search goes on to
-pub reaching_grown : (b : Basin) (m : MonthRecord) (r : ℕ) (seen seen' : List Bool) (queue queue' : List ℕ)
-    (size size' : ℕ) → IsReaching b m r seen queue size →
-    HasGrown b m r FromSources seen seen' queue queue' size size' → IsReaching b m r seen' queue' size'
-reaching_grown b m r seen seen' queue queue' size size' now grown = record {
-  in_queue = grown.in_queue;
-  count = grown.count ∙ now.count;
-  least = λ other closed n h. grown.least other closed.along (now.least other closed) n h;
+pub reaching_grown : {b : Basin} {m : MonthRecord} {r : ℕ} {q q' : QueueView} → IsReaching b m r q →
+    HasGrown b m r FromSources q q' → ReachesOn b m r q q'
+reaching_grown now grown = record {
+  reaching = record {
+    in_queue = grown.in_queue;
+    count = grown.count ∙ now.count;
+    least = λ other closed n h. grown.least other closed.along (now.least other closed) n h;
+  };
+  extends = grown.extends;
 }
+
+-- nothing more
+pub reaching_still : {b : Basin} {m : MonthRecord} {r : ℕ} {q : QueueView} → IsReaching b m r q → ReachesOn b m r q q
+reaching_still {q = q} now = record { reaching = now; extends = extends_same q }
+
+-- one addition after another
+pub reaching_then : {b : Basin} {m : MonthRecord} {r : ℕ} {q one two : QueueView} → ReachesOn b m r q one →
+    ReachesOn b m r one two → ReachesOn b m r q two
+reaching_then x y = record { reaching = y.reaching; extends = extends_then x.extends y.extends }
 
 -- a set that grows keeps what takes within it
 pub within_grows : (b : Basin) (seen seen' : List Bool) (s : ℕ) → ((v : ℕ) → has seen v ≡ true → has seen' v ≡ true) →
@@ -88,45 +100,39 @@ juniors_more b m r n seen seen' grows juniors one = λ s l senior takes. elim (c
 ]
 
 -- the outlets below a bound, or the juniors, were seen since a search had come so far
-pub record SawOutlets (b : Basin) (m : MonthRecord) (r : ℕ) (seen seen' : List Bool) (queue queue' : List ℕ)
-    (size size' bound : ℕ) : Type 0 where
-  pub reaching : IsReaching b m r seen' queue' size'
-  pub extends : Extends seen seen' queue queue' size size'
-  pub outlets : HasOutlets m bound seen'
+pub record SawOutlets (b : Basin) (m : MonthRecord) (r : ℕ) (q q' : QueueView) (bound : ℕ) : Type 0 where
+  pub on : ReachesOn b m r q q'
+  pub outlets : HasOutlets m bound q'.seen
 
-pub record SawJuniors (b : Basin) (m : MonthRecord) (r : ℕ) (seen seen' : List Bool) (queue queue' : List ℕ)
-    (size size' bound : ℕ) : Type 0 where
-  pub reaching : IsReaching b m r seen' queue' size'
-  pub extends : Extends seen seen' queue queue' size size'
-  pub juniors : HasJuniors b m r bound seen'
+pub record SawJuniors (b : Basin) (m : MonthRecord) (r : ℕ) (q q' : QueueView) (bound : ℕ) : Type 0 where
+  pub on : ReachesOn b m r q q'
+  pub juniors : HasJuniors b m r bound q'.seen
 
 -- where no search goes on from what was seen, that is what is reached but for the end of the right's own link
-pub reached_apart : (b : Basin) (m : MonthRecord) (r : ℕ) (seen seen' : List Bool) (queue queue' : List ℕ)
-    (size size' : ℕ) → IsReaching b m r seen queue size → HasOutlets m (length b.nodes) seen →
-    HasJuniors b m r (length b.rights) seen → HasGrown b m r FromSources seen seen' queue queue' size size' →
-    IsClosedAlong b m r FromSources seen' → AreReachedApart b m r seen'
-reached_apart b m r seen seen' queue queue' size size' now outlets juniors grown along =
-    let more = reaching_grown b m r seen seen' queue queue' size size' now grown in
+pub reached_apart : {b : Basin} {m : MonthRecord} {r : ℕ} {q q' : QueueView} → IsReaching b m r q →
+    HasOutlets m (length b.nodes) q.seen → HasJuniors b m r (length b.rights) q.seen →
+    HasGrown b m r FromSources q q' → IsClosedAlong b m r FromSources q'.seen → AreReachedApart b m r q'.seen
+reached_apart {b = b} {m = m} {r = r} {q = q} {q' = q'} now outlets juniors grown along =
+    let more = reaching_grown now grown in
     record {
-      one_each = more.count;
+      one_each = more.reaching.count;
       closed = record {
-        outlets = outlets_grow m (length b.nodes) seen seen' grown.extends.kept outlets;
-        juniors = juniors_grow b m r (length b.rights) seen seen' grown.extends.kept juniors;
+        outlets = outlets_grow m (length b.nodes) q.seen q'.seen grown.extends.kept outlets;
+        juniors = juniors_grow b m r (length b.rights) q.seen q'.seen grown.extends.kept juniors;
         along = along;
       };
-      least = more.least;
+      least = more.reaching.least;
     }
 
 -- and what is reached, where the search went on from that end too
-pub reached_own : (b : Basin) (m : MonthRecord) (r : ℕ) (seen one seen' : List Bool) (queue q1 queue' : List ℕ)
-    (size s1 size' : ℕ) → AreReachedApart b m r seen → IsOwnVisit b r seen one queue q1 size s1 →
-    HasGrown b m r FromSources one seen' q1 queue' s1 size' → IsClosedAlong b m r FromSources seen' →
-    AreReached b m r seen'
-reached_own b m r seen one seen' queue q1 queue' size s1 size' now own grown along = record {
+pub reached_own : {b : Basin} {m : MonthRecord} {r : ℕ} {q one q' : QueueView} → AreReachedApart b m r q.seen →
+    IsOwnVisit b r q one → HasGrown b m r FromSources one q' → IsClosedAlong b m r FromSources q'.seen →
+    AreReached b m r q'.seen
+reached_own {b = b} {m = m} {r = r} {q = q} {q' = q'} now own grown along = record {
   one_each = grown.count ∙ (own.count ∙ now.one_each);
-  closed = closed_from_apart b m r seen' record {
-    outlets = outlets_grow m (length b.nodes) seen seen' kept now.closed.outlets;
-    juniors = juniors_grow b m r (length b.rights) seen seen' kept now.closed.juniors;
+  closed = closed_from_apart b m r q'.seen record {
+    outlets = outlets_grow m (length b.nodes) q.seen q'.seen kept now.closed.outlets;
+    juniors = juniors_grow b m r (length b.rights) q.seen q'.seen kept now.closed.juniors;
     along = along;
   } (λ e l is. grown.extends.kept _ (own.own e l is));
   least = λ other closed n h.
@@ -136,7 +142,7 @@ reached_own b m r seen one seen' queue q1 queue' size s1 size' now own grown alo
       ]) n h;
 }
   where
-    kept : (v : ℕ) → has seen v ≡ true → has seen' v ≡ true
+    kept : (v : ℕ) → has q.seen v ≡ true → has q'.seen v ≡ true
     kept v h = grown.extends.kept v (own.extends.kept v h)
 
 -- the same of a set with the same nodes

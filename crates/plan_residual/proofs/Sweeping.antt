@@ -19,8 +19,9 @@ use Rattle.plan_residual.specs.declared.steps.Direction.{Direction}
 use Rattle.plan_residual.specs.declared.steps.Direction.TheVariants.{FromSources}
 use Rattle.plan_residual.specs.Residual.{HasPlan, start_of, end_of, is_back, link_of, can_fall, has_room}
 use Rattle.plan_residual.specs.Rows.{step_count}
-use Rattle.plan_residual.specs.Search.{asked, AreFollowed, Extends, HasJuniors, IsClosedApart}
-use Rattle.plan_residual.specs.Search.{IsClosedAlong, IsFollowed, IsReaching}
+use Rattle.plan_residual.specs.Queue.{QueueView, Extends, IsQueue, IsQueueIn}
+use Rattle.plan_residual.specs.Search.{asked, AreFollowed, HasJuniors, IsClosedAlong, IsClosedApart, IsFollowed}
+use Rattle.plan_residual.specs.Search.{IsReaching}
 use Rattle.plan_residual.specs.Sweep.{IsBetween, IsShortRight, IsPassed, ArePassed, right_at}
 use Rattle.plan_residual.proofs.Overs.{over, over_backward, link_below}
 use Rattle.plan_residual.proofs.Reaching.{within_grows}
@@ -142,15 +143,14 @@ senior_at b position before o within less =
     ∙ lt-ltb (o.place (right_at b position)) (o.place (right_at b before)) (omega arith)
 
 -- what was seen for the one is in every closed set of the more senior
-pub reaching_before : (b : Basin) (m : MonthRecord) (position before : ℕ) (seen : List Bool) (queue : List ℕ)
-    (size : ℕ) →
-    IsSeniorityOrder b.rights (seniors_first b) → IsBetween b m position before seen queue size →
-    IsReaching b m (right_at b position) seen queue size
-reaching_before b m position before seen queue size o now = record {
-  in_queue = now.in_queue;
-  count = now.reached.one_each;
+pub reaching_before : {b : Basin} {m : MonthRecord} {position before : ℕ} {q : QueueView} → HasPlan b m →
+    IsSeniorityOrder b.rights (seniors_first b) → IsQueueIn b q → IsBetween b m position before q.seen →
+    IsReaching b m (right_at b position) q
+reaching_before {b = b} {m = m} {position = position} {before = before} given o queue now = record {
+  in_queue = queue.in_queue;
+  count = queue.count;
   least = λ other closed n h. now.reached.least other
-      (closed_for_junior b m (right_at b position) (right_at b before) other now.given now.short
+      (closed_for_junior b m (right_at b position) (right_at b before) other given now.short
       (senior_at b position before o now.within now.less) closed) n h;
 }
 
@@ -164,12 +164,12 @@ passed_at b m position before seen seen' o passed s l above below =
     (passed (o.place s) (omega arith) (omega arith))
 
 -- once the rights between two indices of the order were passed, all juniors of the one were seen
-pub juniors_passed : (b : Basin) (m : MonthRecord) (position before : ℕ) (seen seen' : List Bool) (queue : List ℕ)
-    (size : ℕ) → IsSeniorityOrder b.rights (seniors_first b) → IsBetween b m position before seen queue size →
+pub juniors_passed : (b : Basin) (m : MonthRecord) (position before : ℕ) (seen seen' : List Bool) →
+    IsSeniorityOrder b.rights (seniors_first b) → IsBetween b m position before seen →
     ((v : ℕ) → has seen v ≡ true → has seen' v ≡ true) →
     ArePassed b m (right_at b position) seen seen' (position + 1) (before + 1) →
     HasJuniors b m (right_at b position) (length b.rights) seen'
-juniors_passed b m position before seen seen' queue size o now kept passed =
+juniors_passed b m position before seen seen' o now kept passed =
     λ s l senior takes. elim (cases_Bool (is_senior b (right_at b before) s)) [
       | inl older ↦ within_grows b seen seen' s kept (now.reached.closed.juniors s l older takes)
       | inr new ↦ (let one = o.placed position (let a = now.less in let c = now.within in omega arith) in
@@ -182,14 +182,19 @@ juniors_passed b m position before seen seen' queue size o now kept passed =
     ]
 
 -- and the steps from the nodes that were seen before were followed
-pub advanced : (b : Basin) (m : MonthRecord) (position before : ℕ) (seen seen' : List Bool) (queue queue' : List ℕ)
-    (size size' : ℕ) → IsSeniorityOrder b.rights (seniors_first b) → IsBetween b m position before seen queue size →
-    Extends seen seen' queue queue' size size' →
-    ArePassed b m (right_at b position) seen seen' (position + 1) (before + 1) →
-    AreFollowed b m (right_at b position) FromSources seen' queue' size
-advanced b m position before seen seen' queue queue' size size' o now more passed =
-    λ j s l below at. step s below (ap (has seen) (at ∙ more.prefix j l) ∙ now.in_queue.queued j l)
+pub advanced : (b : Basin) (m : MonthRecord) (position before : ℕ) (q1 q2 : QueueView) →
+    IsSeniorityOrder b.rights (seniors_first b) → IsQueue q1 → IsBetween b m position before q1.seen →
+    Extends q1 q2 → ArePassed b m (right_at b position) q1.seen q2.seen (position + 1) (before + 1) →
+    AreFollowed b m (right_at b position) FromSources q2 q1.size
+advanced b m position before q1 q2 o queue now more passed =
+    λ j s l below at. step s below (ap (has seen) (at ∙ more.prefix j l) ∙ queue.queued j l)
   where
+    seen : List Bool
+    seen = q1.seen
+
+    seen' : List Bool
+    seen' = q2.seen
+
     r : ℕ
     r = right_at b position
 

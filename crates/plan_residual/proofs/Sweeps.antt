@@ -12,11 +12,10 @@ use Rattle.plan_residual.specs.Reaches.{HasReach, IsFirstOther}
 use Rattle.plan_residual.specs.Sweep.{IsAt, IsFirstFrom, right_at}
 
 -- what is known from an index on is known from a later one on
-pub at_lower : (b : Basin) (m : MonthRecord) (seen : List Bool) (queue : List ℕ) (position : ℕ) (before : Option ℕ)
-    (size : ℕ) →
-    IsAt b m seen queue (position + 1) before size → IsAt b m seen queue position before size
-at_lower b m seen queue position None size now = now
-at_lower b m seen queue position (Some before) size now = (let l = now.0 in omega arith, now.1, now.2, now.3, now.4)
+pub at_lower : (b : Basin) (m : MonthRecord) (seen : List Bool) (position : ℕ) (before : Option ℕ) →
+    IsAt b m seen (position + 1) before → IsAt b m seen position before
+at_lower b m seen position None now = now
+at_lower b m seen position (Some before) now = (let l = now.0 in omega arith, now.1, now.2, now.3)
 
 -- one more right was judged
 pub judged_more : (b : Basin) (m : MonthRecord) (position right : ℕ) (other : Bool) (answer : Option ℕ) →

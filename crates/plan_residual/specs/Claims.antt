@@ -8,36 +8,36 @@ use Rattle.water_model.specs.declared.types.MonthRecord.{MonthRecord}
 use Rattle.plan_residual.specs.declared.steps.Direction.TheVariants.{ToRight}
 use Rattle.plan_residual.specs.Core.{IsCore}
 use Rattle.plan_residual.specs.Next.{CouldUseAt, IsNextAt}
-use Rattle.plan_residual.specs.Search.{Extends, IsClosedAlong, IsQueue}
+use Rattle.plan_residual.specs.Search.{IsClosedAlong}
+use Rattle.plan_residual.specs.Queue.{QueueView, IsQueue, Extends}
 use Rattle.plan_residual.specs.Sweep.{right_at}
 
 -- the nodes of a right's core were added, or were there, and no others
-pub record IsClaim (b : Basin) (m : MonthRecord) (right : ℕ) (seen seen' : List Bool) (queue queue' : List ℕ)
-    (size size' : ℕ) : Type 0 where
-  pub in_queue : IsQueue seen' queue' size'
-  pub count : length seen' ≡ length seen
-  pub extends : Extends seen seen' queue queue' size size'
-  pub closed : IsClosedAlong b m right ToRight seen'
-  pub holds : (core : List Bool) → IsCore b m right core → (n : ℕ) → has core n ≡ true → has seen' n ≡ true
-  pub only : (core : List Bool) → IsCore b m right core → (n : ℕ) → has seen' n ≡ true →
-      (has seen n ≡ true) ⊎ (has core n ≡ true)
+pub record IsClaim (b : Basin) (m : MonthRecord) (right : ℕ) (q q' : QueueView) : Type 0 where
+  pub in_queue : IsQueue q'
+  pub count : length q'.seen ≡ length q.seen
+  pub extends : Extends q q'
+  pub closed : IsClosedAlong b m right ToRight q'.seen
+  pub holds : (core : List Bool) → IsCore b m right core → (n : ℕ) → has core n ≡ true → has q'.seen n ≡ true
+  pub only : (core : List Bool) → IsCore b m right core → (n : ℕ) → has q'.seen n ≡ true →
+      (has q.seen n ≡ true) ⊎ (has core n ≡ true)
 
--- the nodes at some indices of the queue were marked as a right's, and no others
-pub record AreMarked (queue : List ℕ) (from to right : ℕ) (next next' : List (Option ℕ)) : Type 0 where
+-- the nodes from an index of the queue on were marked as a right's, and no others
+pub record AreMarked (q : QueueView) (from to right : ℕ) (next next' : List (Option ℕ)) : Type 0 where
   pub count : length next' ≡ length next
-  pub marked : (j : ℕ) → from ≤ j → j < to → slice_index_or next' (slice_index queue j) None ≡ Some right
-  pub kept : (v : ℕ) → ((j : ℕ) → from ≤ j → j < to → slice_index queue j ≢ v) →
+  pub marked : (j : ℕ) → from ≤ j → j < to → slice_index_or next' (slice_index q.nodes j) None ≡ Some right
+  pub kept : (v : ℕ) → ((j : ℕ) → from ≤ j → j < to → slice_index q.nodes j ≢ v) →
       slice_index_or next' v None ≡ slice_index_or next v None
 
 -- The nodes in the queue are those at which a short right before an index of the order could use one more unit, each
 -- marked as the most senior one's. As seen from the short rights after, no step with room leads to them.
-pub record AreClaimed (b : Basin) (m : MonthRecord) (position : ℕ) (seen : List Bool) (queue : List ℕ) (size : ℕ)
-    (next : List (Option ℕ)) : Type 0 where
-  pub in_queue : IsQueue seen queue size
-  pub count : length seen ≡ length b.nodes
-  pub one_each : length next ≡ length b.nodes
-  pub closed : (i : ℕ) → position ≤ i → i < length b.rights → IsShort m (right_at b i) →
-      IsClosedAlong b m (right_at b i) ToRight seen
-  pub claimed : (n : ℕ) → has seen n ≡ true → (r : ℕ) × (slice_index_or next n None ≡ Some r) × IsNextAt b m n r
-  pub free : (n : ℕ) → n < length b.nodes → has seen n ≡ false → (slice_index_or next n None ≡ None)
-      × ((i : ℕ) → i < position → CouldUseAt b m n (right_at b i) → ⊥)
+pub record AreClaimed (b : Basin) (m : MonthRecord) (position : ℕ) (q : QueueView) (next : List (Option ℕ)) : Type 0
+  where
+    pub in_queue : IsQueue q
+    pub count : length q.seen ≡ length b.nodes
+    pub one_each : length next ≡ length b.nodes
+    pub closed : (i : ℕ) → position ≤ i → i < length b.rights → IsShort m (right_at b i) →
+        IsClosedAlong b m (right_at b i) ToRight q.seen
+    pub claimed : (n : ℕ) → has q.seen n ≡ true → (r : ℕ) × (slice_index_or next n None ≡ Some r) × IsNextAt b m n r
+    pub free : (n : ℕ) → n < length b.nodes → has q.seen n ≡ false → (slice_index_or next n None ≡ None)
+        × ((i : ℕ) → i < position → CouldUseAt b m n (right_at b i) → ⊥)

@@ -2,6 +2,8 @@ pub mod Residual
 pub mod Slack
 pub mod Laws
 pub mod Rows
+pub mod Scene
+pub mod Queue
 pub mod Search
 pub mod Reaches
 pub mod Sweep

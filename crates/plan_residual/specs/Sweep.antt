@@ -8,9 +8,8 @@ use Rattle.water_model.specs.History.{IsShort}
 use Rattle.water_model.specs.Indices.{seniors_first}
 use Rattle.water_model.specs.declared.types.Basin.{Basin}
 use Rattle.water_model.specs.declared.types.MonthRecord.{MonthRecord}
-use Rattle.plan_residual.specs.Residual.{HasPlan}
 use Rattle.plan_residual.specs.Reaches.{HasReach}
-use Rattle.plan_residual.specs.Search.{IsFollowed, IsQueue, AreReachedApart}
+use Rattle.plan_residual.specs.Search.{IsFollowed, AreReachedApart}
 use Rattle.plan_residual.specs.declared.steps.Direction.TheVariants.{FromSources}
 
 -- a short right
@@ -36,25 +35,20 @@ abbrev pub right_at : Basin → ℕ → ℕ
 right_at b position = slice_index_or (seniors_first b) position 0
 
 -- two short rights at indices of the order, and what is reached as seen from the junior one
-pub record IsBetween (b : Basin) (m : MonthRecord) (position before : ℕ) (seen : List Bool) (queue : List ℕ)
-    (size : ℕ) :
-    Type 0
-  where
-    pub given : HasPlan b m
-    pub within : before < length b.rights
-    pub less : position < before
-    pub short : IsShortRight b m (right_at b position)
-    pub short_before : IsShortRight b m (right_at b before)
-    pub in_queue : IsQueue seen queue size
-    pub reached : AreReachedApart b m (right_at b before) seen
+pub record IsBetween (b : Basin) (m : MonthRecord) (position before : ℕ) (seen : List Bool) : Type 0 where
+  pub within : before < length b.rights
+  pub less : position < before
+  pub short : IsShortRight b m (right_at b position)
+  pub short_before : IsShortRight b m (right_at b before)
+  pub reached : AreReachedApart b m (right_at b before) seen
 
 -- how far a sweep has come, most junior first: at a short right at an index of the order or after it, with the nodes
 -- that are reached as seen from it but for those only from the end of its own link, or at none yet
-abbrev pub IsAt : Basin → MonthRecord → List Bool → List ℕ → ℕ → Option ℕ → ℕ → Type 0
-IsAt b m seen queue from None size = ⊤
-IsAt b m seen queue from (Some before) size =
+abbrev pub IsAt : Basin → MonthRecord → List Bool → ℕ → Option ℕ → Type 0
+IsAt b m seen from None = ⊤
+IsAt b m seen from (Some before) =
     (from ≤ before) × (before < length b.rights) × IsShortRight b m (right_at b before)
-    × IsQueue seen queue size × AreReachedApart b m (right_at b before) seen
+    × AreReachedApart b m (right_at b before) seen
 
 -- of the rights from an index of the order on, the most senior short one whose set is not its reach, or none
 abbrev pub IsFirstFrom : Basin → MonthRecord → ℕ → Option ℕ → Type 0

@@ -1,112 +1,79 @@
 //! Whose the next unit of water at each node is. Seniors first, each short right claims the nodes from which its own is
 //! reached, but for those that a senior claimed: a step that has room as seen from a right has room as seen from each
 //! short senior of it, so no search comes to a node that was claimed but by one that was claimed too.
-ghost use Rattle.std.specs.Prelude.{◌≡◌, ℕ, ◌+◌, ◌<◌, ◌≤◌, length, slice_index};
-ghost use Rattle.rights_roll.specs.Rolls.{IsRollOf};
-ghost use Rattle.plan_residual.specs.Residual.{HasPlan};
-ghost use Rattle.plan_residual.specs.Rows.{AreRowsFrom};
-ghost use Rattle.plan_residual.specs.Search.{IsClosedAlong, IsQueue};
+ghost use Rattle.std.specs.Prelude.{◌≡◌, ◌+◌, ◌<◌, ◌≤◌, length};
+ghost use Rattle.plan_residual.specs.Scene.{IsScene};
+ghost use Rattle.plan_residual.specs.Queue.{IsQueue, IsQueueIn};
+ghost use Rattle.plan_residual.specs.Search.{IsClosedAlong};
 ghost use Rattle.plan_residual.specs.Claims.{AreClaimed, AreMarked, IsClaim};
 ghost use Rattle.plan_residual.specs.Next.{AreNext};
 ghost use Rattle.plan_residual.specs.declared.steps.Direction.TheVariants.{ToRight};
 
 use crate::finding::node_of;
-use crate::rows::StepRows;
+use crate::order::right_at;
+use crate::scene::Scene;
 use crate::spread::spread_on;
 use crate::steps::Direction;
-use crate::sweep::right_at;
-use crate::visits::visit;
-use rights_roll::roll::Roll;
-use water_model::types::{Basin, MonthRecord};
+use crate::visits::Queue;
 
 /// Claims for a right the nodes from which its own is reached.
-fn claim(
-    basin: &Basin,
-    roll: &Roll,
-    month: &MonthRecord,
-    right: u32,
-    rows: &StepRows,
-    seen: &mut [bool],
-    queue: &mut [u32],
-    size: usize,
-) -> usize
-    requires plan { HasPlan basin.now month.now }
-    requires roll { IsRollOf basin.now.rights roll.now }
-    requires right { right < length basin.now.rights }
-    requires rows { AreRowsFrom basin.now rows.now.first.items rows.now.next.items 0 }
-    requires seen { length seen.old ≡ length basin.now.nodes }
-    requires queue { IsQueue seen.old queue.old size }
-    requires closed { IsClosedAlong basin.now month.now right ToRight seen.old }
-    ensures { IsClaim basin.now month.now right seen.old seen.new queue.old queue.new size result }
+fn claim(scene: &Scene, right: u32, queue: &mut Queue)
+    requires scene { IsScene scene.now }
+    requires right { right < length scene.now.basin.now.rights }
+    requires queue { IsQueueIn scene.now.basin.now queue.old }
+    requires closed { IsClosedAlong scene.now.basin.now scene.now.month.now right ToRight queue.old.seen }
+    ensures { IsClaim scene.now.basin.now scene.now.month.now right queue.old queue.new }
 {
-    let own = visit(seen, queue, size, node_of(basin, right));
-    let way = Direction::ToRight;
-    spread_on(basin, roll, month, right, way, rows, seen, queue, own, size)
+    let before = queue.len();
+    queue.visit(node_of(scene.basin, right));
+    spread_on(scene, right, Direction::ToRight, queue, before);
 }
 
-/// Marks the nodes at some indices of the queue as a right's.
-fn mark(queue: &[u32], from: usize, to: usize, right: u32, next: &mut [Option<u32>])
-    requires from { from ≤ to }
-    requires to { to ≤ length queue.now }
-    requires bounded { length queue.now ≤ 2000 }
-    requires nodes { (j : ℕ) → j < to → slice_index queue.now j < length next.old }
-    ensures { AreMarked queue.now from to right next.old next.new }
+/// Marks the nodes from an index of the queue on as a right's.
+fn mark(queue: &Queue, from: usize, right: u32, next: &mut [Option<u32>])
+    requires queue { IsQueue queue.now }
+    requires from { from ≤ queue.now.size }
+    requires nodes { length next.old ≡ length queue.now.seen }
+    ensures { AreMarked queue.now from queue.now.size right next.old next.new }
 {
-    for position in from..to {
-        next[queue[position] as usize] = Some(right);
+    for position in from..queue.len() {
+        next[queue.node(position) as usize] = Some(right);
     }
 }
 
 /// Claims the nodes for the right at an index of the order, if it is short.
-fn serve(
-    basin: &Basin,
-    roll: &Roll,
-    month: &MonthRecord,
-    position: usize,
-    rows: &StepRows,
-    seen: &mut [bool],
-    queue: &mut [u32],
-    size: usize,
-    next: &mut [Option<u32>],
-) -> usize
-    requires plan { HasPlan basin.now month.now }
-    requires roll { IsRollOf basin.now.rights roll.now }
-    requires rows { AreRowsFrom basin.now rows.now.first.items rows.now.next.items 0 }
-    requires position { position < length basin.now.rights }
-    requires claimed { AreClaimed basin.now month.now position seen.old queue.old size next.old }
-    ensures { AreClaimed basin.now month.now (position + 1) seen.new queue.new result next.new }
+fn serve(scene: &Scene, position: usize, queue: &mut Queue, next: &mut [Option<u32>])
+    requires scene { IsScene scene.now }
+    requires position { position < length scene.now.basin.now.rights }
+    requires claimed { AreClaimed scene.now.basin.now scene.now.month.now position queue.old next.old }
+    ensures { AreClaimed scene.now.basin.now scene.now.month.now (position + 1) queue.new next.new }
 {
+    let Scene {
+        basin,
+        roll,
+        month,
+        ..
+    } = *scene;
     let right = right_at(basin, roll, position);
     if month.delivered[right as usize] >= month.want[right as usize] {
-        return size;
+        return;
     }
-    let more = claim(basin, roll, month, right, rows, seen, queue, size);
-    mark(queue, size, more, right, next);
-    more
+    let before = queue.len();
+    claim(scene, right, queue);
+    mark(queue, before, right, next);
 }
 
 /// Finds for each node the right to which the next unit there goes, or none.
-pub fn find_next(
-    basin: &Basin,
-    roll: &Roll,
-    month: &MonthRecord,
-    rows: &StepRows,
-    seen: &mut [bool],
-    queue: &mut [u32],
-    next: &mut [Option<u32>],
-)
-    requires plan { HasPlan basin.now month.now }
-    requires roll { IsRollOf basin.now.rights roll.now }
-    requires rows { AreRowsFrom basin.now rows.now.first.items rows.now.next.items 0 }
-    requires seen { length seen.old ≡ length basin.now.nodes }
-    requires queue { length queue.old ≡ length basin.now.nodes }
-    requires next { length next.old ≡ length basin.now.nodes }
-    ensures { AreNext basin.now month.now next.new }
+pub fn find_next(scene: &Scene, queue: &mut Queue, next: &mut [Option<u32>])
+    requires scene { IsScene scene.now }
+    requires queue { IsQueueIn scene.now.basin.now queue.old }
+    requires next { length next.old ≡ length scene.now.basin.now.nodes }
+    ensures next { AreNext scene.now.basin.now scene.now.month.now next.new }
+    ensures queue { IsQueueIn scene.now.basin.now queue.new }
 {
-    seen.fill(false);
+    queue.clear();
     next.fill(None);
-    let mut size = 0;
-    for position in 0..basin.rights.len() {
-        size = serve(basin, roll, month, position, rows, seen, queue, size, next);
+    for position in 0..scene.basin.rights.len() {
+        serve(scene, position, queue, next);
     }
 }

@@ -3,18 +3,16 @@ ghost use Rattle.std.specs.Prelude.{◌≡◌, ◌<◌, ◌≤◌, ◌↔◌, Is
 ghost use Rattle.cut_cert.specs.Sets.{cut_at, HasCut};
 ghost use Rattle.water_model.specs.Cuts.{IsTight};
 ghost use Rattle.water_model.specs.History.{IsShort};
-ghost use Rattle.rights_roll.specs.Rolls.{IsRollOf};
-ghost use Rattle.plan_residual.specs.Residual.{HasPlan};
 ghost use Rattle.plan_residual.specs.Reaches.{HasReach};
-ghost use Rattle.plan_residual.specs.Rows.{AreRowsFrom};
+ghost use Rattle.plan_residual.specs.Scene.{IsScene};
 ghost use Rattle.plan_residual.specs.Search.{Covers};
+ghost use Rattle.plan_residual.specs.Queue.{IsQueueIn};
 
-use crate::rows::StepRows;
+use crate::scene::Scene;
 use crate::sources::{spread_apart, spread_own};
+use crate::visits::Queue;
 use cut_cert::holds;
-use rights_roll::roll::Roll;
 use water_model::cut_list::CutList;
-use water_model::types::{Basin, MonthRecord};
 
 /// Whether each node was seen or is in the right's set.
 pub fn covers(seen: &[bool], cuts: &CutList, right: u32) -> bool
@@ -31,28 +29,18 @@ pub fn covers(seen: &[bool], cuts: &CutList, right: u32) -> bool
     true
 }
 
-/// Whether the set of a short right, a tight cut of it, is its reach, by a search in these words.
-pub fn search(
-    basin: &Basin,
-    roll: &Roll,
-    month: &MonthRecord,
-    right: u32,
-    rows: &StepRows,
-    seen: &mut [bool],
-    queue: &mut [u32],
-) -> bool
-    requires rows { AreRowsFrom basin.now rows.now.first.items rows.now.next.items 0 }
-    requires seen { length seen.old ≡ length basin.now.nodes }
-    requires queue { length queue.old ≡ length basin.now.nodes }
-    requires plan { HasPlan basin.now month.now }
-    requires roll { IsRollOf basin.now.rights roll.now }
-    requires cut { HasCut basin.now month.now.cuts right }
-    requires short { IsShort month.now right }
-    requires tight { let m = month.now in
-        IsTight basin.now m.month m.supply m.delivered right (cut_at m.cuts right) }
-    ensures { IsTrue result ↔ HasReach basin.now month.now right }
+/// Whether the set of a short right, a tight cut of it, is its reach, by a search in this queue.
+pub fn search(scene: &Scene, right: u32, queue: &mut Queue) -> bool
+    requires scene { IsScene scene.now }
+    requires queue { IsQueueIn scene.now.basin.now queue.old }
+    requires cut { HasCut scene.now.basin.now scene.now.month.now.cuts right }
+    requires short { IsShort scene.now.month.now right }
+    requires tight { let m = scene.now.month.now in
+        IsTight scene.now.basin.now m.month m.supply m.delivered right (cut_at m.cuts right) }
+    ensures reach { IsTrue result ↔ HasReach scene.now.basin.now scene.now.month.now right }
+    ensures queue { IsQueueIn scene.now.basin.now queue.new }
 {
-    let apart = spread_apart(basin, roll, month, right, rows, seen, queue);
-    spread_own(basin, roll, month, right, rows, seen, queue, apart);
-    covers(seen, &month.cuts, right)
+    spread_apart(scene, right, queue);
+    spread_own(scene, right, queue);
+    covers(queue.seen(), &scene.month.cuts, right)
 }

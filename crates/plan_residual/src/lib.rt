@@ -20,7 +20,9 @@ mod claims;
 mod deciding;
 mod finding;
 pub mod laws;
+pub mod order;
 pub mod rows;
+pub mod scene;
 mod sources;
 mod spread;
 pub mod steps;
@@ -31,7 +33,9 @@ use crate::claims::find_next;
 use crate::deciding::search;
 use crate::finding::{find_upstream, node_of};
 use crate::rows::{StepRows, rows_of};
+use crate::scene::Scene;
 use crate::sweep::sweep;
+use crate::visits::Queue;
 use rights_roll::roll::Roll;
 use std::alloc::{AllocError, Global};
 use std::marker::Model;
@@ -42,11 +46,8 @@ use water_model::types::{Basin, MonthRecord};
 #[derive(Drop)]
 pub struct ResidualSearch {
     rows: StepRows,
-    seen: Vec<bool>,
-    queue: Vec<u32>,
-    core: Vec<bool>,
-    core_queue: Vec<u32>,
-    core_size: usize,
+    queue: Queue,
+    core: Queue,
 }
 
 impl Model for ResidualSearch {
@@ -56,10 +57,9 @@ impl Model for ResidualSearch {
 
     ghost Value = { SearchSeen };
 
-    ghost view = { λ s. record { first = s.rows.first.items; next = s.rows.next.items; core = s.core.items } };
+    ghost view = { λ s. record { first = s.rows.first.items; next = s.rows.next.items; core = s.core.seen } };
 
-    ghost invariant = { λ s.
-        HasRoom s.rows.first.items s.seen.items s.queue.items s.core.items s.core_queue.items s.core_size };
+    ghost invariant = { λ s. HasRoom s.rows.first.items s.queue s.core };
 }
 
 impl ResidualSearch {
@@ -69,18 +69,9 @@ impl ResidualSearch {
         ensures { IfOk result (IsSearchOf basin.now) }
     {
         let rows = rows_of(alloc, basin)?;
-        let seen = vec![in alloc; false; basin.nodes.len()]?;
-        let queue = vec![in alloc; 0; basin.nodes.len()]?;
-        let core = vec![in alloc; false; basin.nodes.len()]?;
-        let core_queue = vec![in alloc; 0; basin.nodes.len()]?;
-        Ok(ResidualSearch {
-            rows,
-            seen,
-            queue,
-            core,
-            core_queue,
-            core_size: 0,
-        })
+        let queue = Queue::open(alloc, basin.nodes.len())?;
+        let core = Queue::open(alloc, basin.nodes.len())?;
+        Ok(ResidualSearch { rows, queue, core })
     }
 
     /// Whether the set of a short right, a tight cut of it, is its reach: the tight cut that contains every tight cut.
@@ -96,15 +87,13 @@ impl ResidualSearch {
         ensures reach { IsTrue result ↔ HasReach basin.now month.now right }
         ensures stays { self.new ≡ self.old }
     {
-        search(
+        let scene = Scene {
             basin,
             roll,
             month,
-            right,
-            &self.rows,
-            self.seen.as_mut_slice(),
-            self.queue.as_mut_slice(),
-        )
+            rows: &self.rows,
+        };
+        search(&scene, right, &mut self.queue)
     }
 
     /// The most senior short right of a month whose set isn't its reach, or none. Each short right has a tight cut.
@@ -119,14 +108,13 @@ impl ResidualSearch {
         ensures first { IsFirstOther basin.now month.now result }
         ensures stays { self.new ≡ self.old }
     {
-        sweep(
+        let scene = Scene {
             basin,
             roll,
             month,
-            &self.rows,
-            self.seen.as_mut_slice(),
-            self.queue.as_mut_slice(),
-        )
+            rows: &self.rows,
+        };
+        sweep(&scene, &mut self.queue)
     }
 
     /// Finds the core of a right: the nodes from which its node, where it takes or where its link begins, is reached.
@@ -138,17 +126,13 @@ impl ResidualSearch {
         ensures core { IsCore basin.now month.now right self.new.core }
         ensures search { IsSearchOf basin.now self.new }
     {
-        self.core_size = find_upstream(
+        let scene = Scene {
             basin,
             roll,
             month,
-            right,
-            node_of(basin, right),
-            &self.rows,
-            self.core.as_mut_slice(),
-            self.core_queue.as_mut_slice(),
-            self.core_size,
-        );
+            rows: &self.rows,
+        };
+        find_upstream(&scene, right, node_of(basin, right), &mut self.core);
     }
 
     /// Finds for each node the right to which one more unit of supply there would go: the most senior short right whose
@@ -168,21 +152,19 @@ impl ResidualSearch {
         ensures search { IsSearchOf basin.now self.new }
         ensures stays { self.new ≡ self.old }
     {
-        find_next(
+        let scene = Scene {
             basin,
             roll,
             month,
-            &self.rows,
-            self.seen.as_mut_slice(),
-            self.queue.as_mut_slice(),
-            next,
-        )
+            rows: &self.rows,
+        };
+        find_next(&scene, &mut self.queue, next);
     }
 
     /// The nodes of the core that was found last, a mark for each node of the basin.
     pub fn core(&self) -> &[bool]
         ensures { result.now ≡ self.now.core }
     {
-        self.core.as_slice()
+        self.core.seen()
     }
 }

@@ -4,197 +4,118 @@ ghost use Rattle.std.specs.Prelude.{◌≡◌, ◌<◌, true, length, slice_inde
 ghost use Rattle.water_model.specs.Basin.{is_senior};
 ghost use Rattle.water_model.specs.Cuts.{takes_within};
 ghost use Rattle.water_model.specs.Lookups.{has};
-ghost use Rattle.rights_roll.specs.Rolls.{IsRollOf};
-ghost use Rattle.plan_residual.specs.Residual.{HasPlan, AreReached};
-ghost use Rattle.plan_residual.specs.Rows.{AreRowsFrom};
-ghost use Rattle.plan_residual.specs.Search.{AreReachedApart, Extends, HasJuniors, HasOutlets, IsOwnVisit, IsQueue};
-ghost use Rattle.plan_residual.specs.Search.{IsReaching};
+ghost use Rattle.plan_residual.specs.Residual.{AreReached};
+ghost use Rattle.plan_residual.specs.Scene.{IsScene};
+ghost use Rattle.plan_residual.specs.Queue.{Extends, IsQueueIn};
+ghost use Rattle.plan_residual.specs.Search.{AreReachedApart, HasJuniors, HasOutlets};
+ghost use Rattle.plan_residual.specs.Search.{IsOwnVisit, IsReaching, ReachesOn};
 
-use crate::rows::StepRows;
+use crate::scene::Scene;
 use crate::spread::spread_on;
 use crate::steps::Direction;
-use crate::visits::visit;
+use crate::visits::Queue;
 use rights_roll::priority::is_senior_to;
-use rights_roll::roll::Roll;
 use water_model::calls::taking_node;
-use water_model::types::{Basin, MonthRecord, RightKind};
-
-/// Nothing is seen.
-fn clear(basin: &Basin, month: &MonthRecord, right: u32, seen: &mut [bool], queue: &mut [u32])
-    requires plan { HasPlan basin.now month.now }
-    requires seen { length seen.old ≡ length basin.now.nodes }
-    requires queue { length queue.old ≡ length basin.now.nodes }
-    ensures { IsReaching basin.now month.now right seen.new queue.new 0 }
-{
-    seen.fill(false);
-}
+use water_model::types::RightKind;
 
 /// Sees a node if water is let out there.
-fn see_outlet(
-    basin: &Basin,
-    month: &MonthRecord,
-    right: u32,
-    node: u32,
-    seen: &mut [bool],
-    queue: &mut [u32],
-    size: usize,
-) -> usize
-    requires plan { HasPlan basin.now month.now }
-    requires node { node < length basin.now.nodes }
-    requires reaching { IsReaching basin.now month.now right seen.old queue.old size }
-    ensures reaching { IsReaching basin.now month.now right seen.new queue.new result }
-    ensures extends { Extends seen.old seen.new queue.old queue.new size result }
-    ensures seen { 0 < slice_index month.now.plan.out node → has seen.new node ≡ true }
+fn see_outlet(scene: &Scene, right: u32, node: u32, queue: &mut Queue)
+    requires scene { IsScene scene.now }
+    requires node { node < length scene.now.basin.now.nodes }
+    requires reaching { IsReaching scene.now.basin.now scene.now.month.now right queue.old }
+    ensures on { ReachesOn scene.now.basin.now scene.now.month.now right queue.old queue.new }
+    ensures seen { 0 < slice_index scene.now.month.now.plan.out node → has queue.new.seen node ≡ true }
 {
-    if month.plan.out[node as usize] > 0 {
-        visit(seen, queue, size, node)
-    } else {
-        size
+    if scene.month.plan.out[node as usize] > 0 {
+        queue.visit(node);
     }
 }
 
 /// Sees the nodes at which water is let out.
-fn see_outlets(
-    basin: &Basin,
-    month: &MonthRecord,
-    right: u32,
-    seen: &mut [bool],
-    queue: &mut [u32],
-    size: usize,
-) -> usize
-    requires plan { HasPlan basin.now month.now }
-    requires reaching { IsReaching basin.now month.now right seen.old queue.old size }
-    ensures reaching { IsReaching basin.now month.now right seen.new queue.new result }
-    ensures extends { Extends seen.old seen.new queue.old queue.new size result }
-    ensures outlets { HasOutlets month.now (length basin.now.nodes) seen.new }
+fn see_outlets(scene: &Scene, right: u32, queue: &mut Queue)
+    requires scene { IsScene scene.now }
+    requires reaching { IsReaching scene.now.basin.now scene.now.month.now right queue.old }
+    ensures on { ReachesOn scene.now.basin.now scene.now.month.now right queue.old queue.new }
+    ensures outlets { HasOutlets scene.now.month.now (length scene.now.basin.now.nodes) queue.new.seen }
 {
-    let mut more = size;
-    for node in 0..basin.nodes.len() as u32 {
-        more = see_outlet(basin, month, right, node, seen, queue, more);
+    for node in 0..scene.basin.nodes.len() as u32 {
+        see_outlet(scene, right, node, queue);
     }
-    more
 }
 
 /// Sees the node at which a right takes water, if it takes some and is junior to the other.
-pub fn see_junior(
-    basin: &Basin,
-    month: &MonthRecord,
-    right: u32,
-    junior: u32,
-    seen: &mut [bool],
-    queue: &mut [u32],
-    size: usize,
-) -> usize
-    requires plan { HasPlan basin.now month.now }
-    requires right { right < length basin.now.rights }
-    requires junior { junior < length basin.now.rights }
-    requires reaching { IsReaching basin.now month.now right seen.old queue.old size }
-    ensures reaching { IsReaching basin.now month.now right seen.new queue.new result }
-    ensures extends { Extends seen.old seen.new queue.old queue.new size result }
-    ensures seen { is_senior basin.now right junior ≡ true → 0 < slice_index month.now.plan.take junior →
-        takes_within basin.now seen.new junior ≡ true }
+pub fn see_junior(scene: &Scene, right: u32, junior: u32, queue: &mut Queue)
+    requires scene { IsScene scene.now }
+    requires right { right < length scene.now.basin.now.rights }
+    requires junior { junior < length scene.now.basin.now.rights }
+    requires reaching { IsReaching scene.now.basin.now scene.now.month.now right queue.old }
+    ensures on { ReachesOn scene.now.basin.now scene.now.month.now right queue.old queue.new }
+    ensures seen { is_senior scene.now.basin.now right junior ≡ true →
+        0 < slice_index scene.now.month.now.plan.take junior →
+        takes_within scene.now.basin.now queue.new.seen junior ≡ true }
 {
+    let Scene { basin, month, .. } = *scene;
     if month.plan.take[junior as usize] > 0 && is_senior_to(basin, right, junior) {
         if let Some(node) = taking_node(basin, junior) {
-            return visit(seen, queue, size, node);
+            queue.visit(node);
         }
     }
-    size
 }
 
 /// Sees the nodes at which juniors of the right take water.
-fn see_juniors(
-    basin: &Basin,
-    month: &MonthRecord,
-    right: u32,
-    seen: &mut [bool],
-    queue: &mut [u32],
-    size: usize,
-) -> usize
-    requires plan { HasPlan basin.now month.now }
-    requires right { right < length basin.now.rights }
-    requires reaching { IsReaching basin.now month.now right seen.old queue.old size }
-    ensures reaching { IsReaching basin.now month.now right seen.new queue.new result }
-    ensures extends { Extends seen.old seen.new queue.old queue.new size result }
-    ensures juniors { HasJuniors basin.now month.now right (length basin.now.rights) seen.new }
+fn see_juniors(scene: &Scene, right: u32, queue: &mut Queue)
+    requires scene { IsScene scene.now }
+    requires right { right < length scene.now.basin.now.rights }
+    requires reaching { IsReaching scene.now.basin.now scene.now.month.now right queue.old }
+    ensures on { ReachesOn scene.now.basin.now scene.now.month.now right queue.old queue.new }
+    ensures juniors { let b = scene.now.basin.now in
+        HasJuniors b scene.now.month.now right (length b.rights) queue.new.seen }
 {
-    let mut more = size;
-    for junior in 0..basin.rights.len() as u32 {
-        more = see_junior(basin, month, right, junior, seen, queue, more);
+    for junior in 0..scene.basin.rights.len() as u32 {
+        see_junior(scene, right, junior, queue);
     }
-    more
 }
 
-/// Sees the nodes that are reached, but for those only from the end of the right's own link. Answers how many they are.
-pub fn spread_apart(
-    basin: &Basin,
-    roll: &Roll,
-    month: &MonthRecord,
-    right: u32,
-    rows: &StepRows,
-    seen: &mut [bool],
-    queue: &mut [u32],
-) -> usize
-    requires plan { HasPlan basin.now month.now }
-    requires roll { IsRollOf basin.now.rights roll.now }
-    requires right { right < length basin.now.rights }
-    requires rows { AreRowsFrom basin.now rows.now.first.items rows.now.next.items 0 }
-    requires seen { length seen.old ≡ length basin.now.nodes }
-    requires queue { length queue.old ≡ length basin.now.nodes }
-    ensures queue { IsQueue seen.new queue.new result }
-    ensures reached { AreReachedApart basin.now month.now right seen.new }
+/// Sees the nodes that are reached, but for those only from the end of the right's own link.
+pub fn spread_apart(scene: &Scene, right: u32, queue: &mut Queue)
+    requires scene { IsScene scene.now }
+    requires right { right < length scene.now.basin.now.rights }
+    requires queue { IsQueueIn scene.now.basin.now queue.old }
+    ensures queue { IsQueueIn scene.now.basin.now queue.new }
+    ensures reached { AreReachedApart scene.now.basin.now scene.now.month.now right queue.new.seen }
 {
-    clear(basin, month, right, seen, queue);
-    let outlets = see_outlets(basin, month, right, seen, queue, 0);
-    let size = see_juniors(basin, month, right, seen, queue, outlets);
-    let way = Direction::FromSources;
-    spread_on(basin, roll, month, right, way, rows, seen, queue, size, 0)
+    queue.clear();
+    see_outlets(scene, right, queue);
+    see_juniors(scene, right, queue);
+    spread_on(scene, right, Direction::FromSources, queue, 0);
 }
 
 /// Sees the node at which an instream right's link ends.
-fn see_own(
-    basin: &Basin,
-    month: &MonthRecord,
-    right: u32,
-    seen: &mut [bool],
-    queue: &mut [u32],
-    size: usize,
-) -> usize
-    requires plan { HasPlan basin.now month.now }
-    requires right { right < length basin.now.rights }
-    requires seen { length seen.old ≡ length basin.now.nodes }
-    requires queue { IsQueue seen.old queue.old size }
-    ensures { IsOwnVisit basin.now right seen.old seen.new queue.old queue.new size result }
+fn see_own(scene: &Scene, right: u32, queue: &mut Queue)
+    requires scene { IsScene scene.now }
+    requires right { right < length scene.now.basin.now.rights }
+    requires queue { IsQueueIn scene.now.basin.now queue.old }
+    ensures { IsOwnVisit scene.now.basin.now right queue.old queue.new }
 {
+    let basin = scene.basin;
     match basin.rights[right as usize].kind {
-        RightKind::Instream { link } => visit(seen, queue, size, basin.links[link as usize].to),
-        RightKind::Diversion { .. } => size,
-        RightKind::Zone { .. } => size,
+        RightKind::Instream { link } => queue.visit(basin.links[link as usize].to),
+        RightKind::Diversion { .. } => {}
+        RightKind::Zone { .. } => {}
     }
 }
 
 /// Goes on to every node that is reached.
-pub fn spread_own(
-    basin: &Basin,
-    roll: &Roll,
-    month: &MonthRecord,
-    right: u32,
-    rows: &StepRows,
-    seen: &mut [bool],
-    queue: &mut [u32],
-    size: usize,
-) -> usize
-    requires plan { HasPlan basin.now month.now }
-    requires roll { IsRollOf basin.now.rights roll.now }
-    requires right { right < length basin.now.rights }
-    requires rows { AreRowsFrom basin.now rows.now.first.items rows.now.next.items 0 }
-    requires queue { IsQueue seen.old queue.old size }
-    requires reached { AreReachedApart basin.now month.now right seen.old }
-    ensures queue { IsQueue seen.new queue.new result }
-    ensures extends { Extends seen.old seen.new queue.old queue.new size result }
-    ensures reached { AreReached basin.now month.now right seen.new }
+pub fn spread_own(scene: &Scene, right: u32, queue: &mut Queue)
+    requires scene { IsScene scene.now }
+    requires right { right < length scene.now.basin.now.rights }
+    requires queue { IsQueueIn scene.now.basin.now queue.old }
+    requires reached { AreReachedApart scene.now.basin.now scene.now.month.now right queue.old.seen }
+    ensures queue { IsQueueIn scene.now.basin.now queue.new }
+    ensures extends { Extends queue.old queue.new }
+    ensures reached { AreReached scene.now.basin.now scene.now.month.now right queue.new.seen }
 {
-    let own = see_own(basin, month, right, seen, queue, size);
-    let way = Direction::FromSources;
-    spread_on(basin, roll, month, right, way, rows, seen, queue, own, size)
+    let before = queue.len();
+    see_own(scene, right, queue);
+    spread_on(scene, right, Direction::FromSources, queue, before);
 }

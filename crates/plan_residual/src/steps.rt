@@ -1,13 +1,13 @@
 //! The steps of the residual network.
 ghost use Rattle.std.specs.Prelude.{◌≡◌, ◌<◌, length};
 ghost use Rattle.water_model.specs.Valid.{IsValidBasin};
-ghost use Rattle.rights_roll.specs.Rolls.{IsRollOf};
 ghost use Rattle.plan_residual.specs.Residual.{HasPlan, start_of, end_of, opposite, can_rise, can_fall, has_room};
 ghost use Rattle.plan_residual.specs.Rows.{step_count};
+ghost use Rattle.plan_residual.specs.Scene.{IsScene};
 ghost use Rattle.plan_residual.specs.Search.{asked};
 
+use crate::scene::Scene;
 use cut_cert::{is_on_link, kept_on};
-use rights_roll::roll::Roll;
 use water_model::calls::carry_of;
 use water_model::types::{Basin, MonthRecord};
 
@@ -61,51 +61,47 @@ pub fn can_rise(basin: &Basin, month: &MonthRecord, link: u32) -> bool
 }
 
 /// Whether a link, other than the right's own, carries more than is kept on it for the right's seniors.
-fn can_fall(basin: &Basin, roll: &Roll, month: &MonthRecord, right: u32, link: u32) -> bool
-    requires plan { HasPlan basin.now month.now }
-    requires roll { IsRollOf basin.now.rights roll.now }
-    requires right { right < length basin.now.rights }
-    requires link { link < length basin.now.links }
-    ensures { result ≡ can_fall basin.now month.now right link }
+fn can_fall(scene: &Scene, right: u32, link: u32) -> bool
+    requires scene { IsScene scene.now }
+    requires right { right < length scene.now.basin.now.rights }
+    requires link { link < length scene.now.basin.now.links }
+    ensures { result ≡ can_fall scene.now.basin.now scene.now.month.now right link }
 {
+    let Scene {
+        basin,
+        roll,
+        month,
+        ..
+    } = *scene;
     !is_on_link(basin, right, link)
         && kept_on(basin, roll, month.delivered.as_slice(), right, link)
             < month.plan.flow[link as usize]
 }
 
 /// Whether a step has room. The cost is that of the instream rights on its link.
-pub fn has_room(basin: &Basin, roll: &Roll, month: &MonthRecord, right: u32, step: u32) -> bool
-    requires plan { HasPlan basin.now month.now }
-    requires roll { IsRollOf basin.now.rights roll.now }
-    requires right { right < length basin.now.rights }
-    requires step { step < step_count basin.now }
-    ensures { result ≡ has_room basin.now month.now right step }
+pub fn has_room(scene: &Scene, right: u32, step: u32) -> bool
+    requires scene { IsScene scene.now }
+    requires right { right < length scene.now.basin.now.rights }
+    requires step { step < step_count scene.now.basin.now }
+    ensures { result ≡ has_room scene.now.basin.now scene.now.month.now right step }
 {
     let link = step / 2;
     if step % 2 == 1 {
-        can_fall(basin, roll, month, right, link)
+        can_fall(scene, right, link)
     } else {
-        can_rise(basin, month, link)
+        can_rise(scene.basin, scene.month, link)
     }
 }
 
 /// Whether a search goes on over a step: whether that has room, or the opposite one where the search goes against them.
-pub fn can_follow(
-    basin: &Basin,
-    roll: &Roll,
-    month: &MonthRecord,
-    right: u32,
-    direction: Direction,
-    step: u32,
-) -> bool
-    requires plan { HasPlan basin.now month.now }
-    requires roll { IsRollOf basin.now.rights roll.now }
-    requires right { right < length basin.now.rights }
-    requires step { step < step_count basin.now }
-    ensures { result ≡ has_room basin.now month.now right (asked direction step) }
+pub fn can_follow(scene: &Scene, right: u32, direction: Direction, step: u32) -> bool
+    requires scene { IsScene scene.now }
+    requires right { right < length scene.now.basin.now.rights }
+    requires step { step < step_count scene.now.basin.now }
+    ensures { result ≡ has_room scene.now.basin.now scene.now.month.now right (asked direction step) }
 {
     match direction {
-        Direction::FromSources => has_room(basin, roll, month, right, step),
-        Direction::ToRight => has_room(basin, roll, month, right, opposite(basin, step)),
+        Direction::FromSources => has_room(scene, right, step),
+        Direction::ToRight => has_room(scene, right, opposite(scene.basin, step)),
     }
 }

@@ -4,310 +4,171 @@ ghost use Rattle.std.specs.Prelude.{◌≡◌, ℕ, ◌+◌, ◌*◌, ◌<◌, �
 ghost use Rattle.std.specs.Bool.{OnTrue, OnFalse};
 ghost use Rattle.water_model.specs.Basin.{head_of, instream_link};
 ghost use Rattle.water_model.specs.History.{IsShort};
-ghost use Rattle.water_model.specs.Valid.{IsValidBasin};
 ghost use Rattle.water_model.specs.Lookups.{has};
-ghost use Rattle.rights_roll.specs.Rolls.{IsRollOf};
-ghost use Rattle.plan_residual.specs.Residual.{HasPlan};
-ghost use Rattle.plan_residual.specs.Rows.{AreRowsFrom};
-ghost use Rattle.plan_residual.specs.Search.{AreReachedApart, Extends, IsFollowed, IsQueue, IsReaching};
+ghost use Rattle.plan_residual.specs.Scene.{IsScene};
+ghost use Rattle.plan_residual.specs.Queue.{IsQueueIn};
+ghost use Rattle.plan_residual.specs.Search.{AreReachedApart, IsFollowed, IsReaching, ReachesOn};
 ghost use Rattle.plan_residual.specs.Reaches.{HaveTightSets, HasReach, IsFirstOther};
 ghost use Rattle.plan_residual.specs.Sweep.{ArePassed, IsAt, IsBetween, IsPassed, IsShortRight, right_at};
 ghost use Rattle.plan_residual.specs.declared.steps.Direction.TheVariants.{FromSources};
 
 use crate::deciding::covers;
-use crate::rows::StepRows;
+use crate::order::right_at;
+use crate::scene::Scene;
 use crate::sources::{see_junior, spread_apart, spread_own};
 use crate::spread::{follow, spread_on};
 use crate::steps::Direction;
-use crate::visits::forget;
-use rights_roll::roll::Roll;
-use water_model::types::{Basin, MonthRecord, RightKind};
+use crate::visits::Queue;
+use water_model::types::RightKind;
 
 /// Follows the step back over a link from its head, if that was seen.
-fn fall(
-    basin: &Basin,
-    roll: &Roll,
-    month: &MonthRecord,
-    right: u32,
-    link: u32,
-    seen: &mut [bool],
-    queue: &mut [u32],
-    size: usize,
-) -> usize
-    requires plan { HasPlan basin.now month.now }
-    requires roll { IsRollOf basin.now.rights roll.now }
-    requires right { right < length basin.now.rights }
-    requires link { link < length basin.now.links }
-    requires reaching { IsReaching basin.now month.now right seen.old queue.old size }
-    ensures reaching { IsReaching basin.now month.now right seen.new queue.new result }
-    ensures extends { Extends seen.old seen.new queue.old queue.new size result }
-    ensures followed { has seen.old (head_of basin.now link) ≡ true →
-        IsFollowed basin.now month.now right FromSources seen.new (2 * link + 1) }
+fn fall(scene: &Scene, right: u32, link: u32, queue: &mut Queue)
+    requires scene { IsScene scene.now }
+    requires right { right < length scene.now.basin.now.rights }
+    requires link { link < length scene.now.basin.now.links }
+    requires reaching { IsReaching scene.now.basin.now scene.now.month.now right queue.old }
+    ensures on { ReachesOn scene.now.basin.now scene.now.month.now right queue.old queue.new }
+    ensures followed { has queue.old.seen (head_of scene.now.basin.now link) ≡ true →
+        IsFollowed scene.now.basin.now scene.now.month.now right FromSources queue.new.seen (2 * link + 1) }
 {
-    if seen[basin.links[link as usize].to as usize] {
-        let way = Direction::FromSources;
-        follow(
-            basin,
-            roll,
-            month,
-            right,
-            way,
-            2 * link + 1,
-            seen,
-            queue,
-            size,
-        )
-    } else {
-        size
+    if queue.seen()[scene.basin.links[link as usize].to as usize] {
+        follow(scene, right, Direction::FromSources, 2 * link + 1, queue);
     }
 }
 
 /// Follows the step back over the link of an instream right.
-fn fall_on_own(
-    basin: &Basin,
-    roll: &Roll,
-    month: &MonthRecord,
-    right: u32,
-    junior: u32,
-    seen: &mut [bool],
-    queue: &mut [u32],
-    size: usize,
-) -> usize
-    requires plan { HasPlan basin.now month.now }
-    requires roll { IsRollOf basin.now.rights roll.now }
-    requires right { right < length basin.now.rights }
-    requires junior { junior < length basin.now.rights }
-    requires reaching { IsReaching basin.now month.now right seen.old queue.old size }
-    ensures reaching { IsReaching basin.now month.now right seen.new queue.new result }
-    ensures extends { Extends seen.old seen.new queue.old queue.new size result }
-    ensures followed { (e : ℕ) → instream_link basin.now junior ≡ Some e →
-        has seen.old (head_of basin.now e) ≡ true →
-        IsFollowed basin.now month.now right FromSources seen.new (2 * e + 1) }
+fn fall_on_own(scene: &Scene, right: u32, junior: u32, queue: &mut Queue)
+    requires scene { IsScene scene.now }
+    requires right { right < length scene.now.basin.now.rights }
+    requires junior { junior < length scene.now.basin.now.rights }
+    requires reaching { IsReaching scene.now.basin.now scene.now.month.now right queue.old }
+    ensures on { ReachesOn scene.now.basin.now scene.now.month.now right queue.old queue.new }
+    ensures followed { (e : ℕ) → instream_link scene.now.basin.now junior ≡ Some e →
+        has queue.old.seen (head_of scene.now.basin.now e) ≡ true →
+        IsFollowed scene.now.basin.now scene.now.month.now right FromSources queue.new.seen (2 * e + 1) }
 {
-    match basin.rights[junior as usize].kind {
-        RightKind::Instream { link } => fall(basin, roll, month, right, link, seen, queue, size),
-        RightKind::Diversion { .. } => size,
-        RightKind::Zone { .. } => size,
+    match scene.basin.rights[junior as usize].kind {
+        RightKind::Instream { link } => fall(scene, right, link, queue),
+        RightKind::Diversion { .. } => {}
+        RightKind::Zone { .. } => {}
     }
 }
 
 /// Passes a junior: it hinders the right no more.
-fn pass(
-    basin: &Basin,
-    roll: &Roll,
-    month: &MonthRecord,
-    right: u32,
-    junior: u32,
-    seen: &mut [bool],
-    queue: &mut [u32],
-    size: usize,
-) -> usize
-    requires plan { HasPlan basin.now month.now }
-    requires roll { IsRollOf basin.now.rights roll.now }
-    requires right { right < length basin.now.rights }
-    requires junior { junior < length basin.now.rights }
-    requires reaching { IsReaching basin.now month.now right seen.old queue.old size }
-    ensures reaching { IsReaching basin.now month.now right seen.new queue.new result }
-    ensures extends { Extends seen.old seen.new queue.old queue.new size result }
-    ensures passed { IsPassed basin.now month.now right seen.old seen.new junior }
+fn pass(scene: &Scene, right: u32, junior: u32, queue: &mut Queue)
+    requires scene { IsScene scene.now }
+    requires right { right < length scene.now.basin.now.rights }
+    requires junior { junior < length scene.now.basin.now.rights }
+    requires reaching { IsReaching scene.now.basin.now scene.now.month.now right queue.old }
+    ensures on { ReachesOn scene.now.basin.now scene.now.month.now right queue.old queue.new }
+    ensures passed { IsPassed scene.now.basin.now scene.now.month.now right queue.old.seen queue.new.seen junior }
 {
-    let more = see_junior(basin, month, right, junior, seen, queue, size);
-    fall_on_own(basin, roll, month, right, junior, seen, queue, more)
+    see_junior(scene, right, junior, queue);
+    fall_on_own(scene, right, junior, queue);
 }
 
 /// Passes the rights at some indices of the order.
-fn pass_all(
-    basin: &Basin,
-    roll: &Roll,
-    month: &MonthRecord,
-    right: u32,
-    from: usize,
-    to: usize,
-    seen: &mut [bool],
-    queue: &mut [u32],
-    size: usize,
-) -> usize
-    requires plan { HasPlan basin.now month.now }
-    requires roll { IsRollOf basin.now.rights roll.now }
-    requires right { right < length basin.now.rights }
+fn pass_all(scene: &Scene, right: u32, from: usize, to: usize, queue: &mut Queue)
+    requires scene { IsScene scene.now }
+    requires right { right < length scene.now.basin.now.rights }
     requires from { from ≤ to }
-    requires to { to ≤ length basin.now.rights }
-    requires reaching { IsReaching basin.now month.now right seen.old queue.old size }
-    ensures reaching { IsReaching basin.now month.now right seen.new queue.new result }
-    ensures extends { Extends seen.old seen.new queue.old queue.new size result }
-    ensures passed { ArePassed basin.now month.now right seen.old seen.new from to }
+    requires to { to ≤ length scene.now.basin.now.rights }
+    requires reaching { IsReaching scene.now.basin.now scene.now.month.now right queue.old }
+    ensures on { ReachesOn scene.now.basin.now scene.now.month.now right queue.old queue.new }
+    ensures passed { ArePassed scene.now.basin.now scene.now.month.now right queue.old.seen queue.new.seen from to }
 {
-    let order = roll.by_seniority();
-    let mut more = size;
     for position in from..to {
-        more = pass(
-            basin,
-            roll,
-            month,
+        pass(
+            scene,
             right,
-            order[position],
-            seen,
+            right_at(scene.basin, scene.roll, position),
             queue,
-            more,
         );
     }
-    more
-}
-
-/// The right at an index of the order.
-pub fn right_at(basin: &Basin, roll: &Roll, position: usize) -> u32
-    requires basin { IsValidBasin basin.now }
-    requires roll { IsRollOf basin.now.rights roll.now }
-    requires position { position < length basin.now.rights }
-    ensures value { result ≡ right_at basin.now position }
-    ensures within { result < length basin.now.rights }
-{
-    roll.by_seniority()[position]
 }
 
 /// Goes on from the nodes that are reached as seen from a short right to those as seen from a more senior one. Their
 /// indices in the order of seniority are given. The cost is that of the rights between them, and of the steps that
 /// leave the nodes that are new.
-fn advance(
-    basin: &Basin,
-    roll: &Roll,
-    month: &MonthRecord,
-    position: usize,
-    before: usize,
-    rows: &StepRows,
-    seen: &mut [bool],
-    queue: &mut [u32],
-    size: usize,
-) -> usize
-    requires roll { IsRollOf basin.now.rights roll.now }
-    requires rows { AreRowsFrom basin.now rows.now.first.items rows.now.next.items 0 }
-    requires between { IsBetween basin.now month.now position before seen.old queue.old size }
-    ensures queue { IsQueue seen.new queue.new result }
-    ensures reached { AreReachedApart basin.now month.now (right_at basin.now position) seen.new }
+fn advance(scene: &Scene, position: usize, before: usize, queue: &mut Queue)
+    requires scene { IsScene scene.now }
+    requires queue { IsQueueIn scene.now.basin.now queue.old }
+    requires between { IsBetween scene.now.basin.now scene.now.month.now position before queue.old.seen }
+    ensures queue { IsQueueIn scene.now.basin.now queue.new }
+    ensures reached { let b = scene.now.basin.now in
+        AreReachedApart b scene.now.month.now (right_at b position) queue.new.seen }
 {
-    let right = right_at(basin, roll, position);
-    let more = pass_all(
-        basin,
-        roll,
-        month,
-        right,
-        position + 1,
-        before + 1,
-        seen,
-        queue,
-        size,
-    );
-    let way = Direction::FromSources;
-    spread_on(
-        basin, roll, month, right, way, rows, seen, queue, more, size,
-    )
-}
-
-/// How far a sweep has come: the index of the last short right, and how many nodes are reached as seen from it, but for
-/// those only from the end of its own link.
-#[derive(Clone, Copy)]
-pub struct Level {
-    position: Option<usize>,
-    size: usize,
+    let right = right_at(scene.basin, scene.roll, position);
+    let known = queue.len();
+    pass_all(scene, right, position + 1, before + 1, queue);
+    spread_on(scene, right, Direction::FromSources, queue, known);
 }
 
 /// Sees the nodes that are reached as seen from the short right at an index, but for those only from the end of its own
-/// link, from where the sweep has come.
-fn rise(
-    basin: &Basin,
-    roll: &Roll,
-    month: &MonthRecord,
-    position: usize,
-    level: Level,
-    rows: &StepRows,
-    seen: &mut [bool],
-    queue: &mut [u32],
-) -> usize
-    requires plan { HasPlan basin.now month.now }
-    requires roll { IsRollOf basin.now.rights roll.now }
-    requires rows { AreRowsFrom basin.now rows.now.first.items rows.now.next.items 0 }
-    requires seen { length seen.old ≡ length basin.now.nodes }
-    requires queue { length queue.old ≡ length basin.now.nodes }
-    requires position { position < length basin.now.rights }
-    requires right { IsShortRight basin.now month.now (right_at basin.now position) }
-    requires level { IsAt basin.now month.now seen.old queue.old (position + 1) level.position level.size }
-    ensures queue { IsQueue seen.new queue.new result }
-    ensures reached { AreReachedApart basin.now month.now (right_at basin.now position) seen.new }
+/// link, from where the sweep has come: to the short right at the other index, if it came to one.
+fn rise(scene: &Scene, position: usize, before: Option<usize>, queue: &mut Queue)
+    requires scene { IsScene scene.now }
+    requires queue { IsQueueIn scene.now.basin.now queue.old }
+    requires position { position < length scene.now.basin.now.rights }
+    requires right { IsShortRight scene.now.basin.now scene.now.month.now (right_at scene.now.basin.now position) }
+    requires before { IsAt scene.now.basin.now scene.now.month.now queue.old.seen (position + 1) before }
+    ensures queue { IsQueueIn scene.now.basin.now queue.new }
+    ensures reached { let b = scene.now.basin.now in
+        AreReachedApart b scene.now.month.now (right_at b position) queue.new.seen }
 {
-    match level.position {
-        Some(before) => advance(
-            basin, roll, month, position, before, rows, seen, queue, level.size,
-        ),
-        None => {
-            let right = right_at(basin, roll, position);
-            spread_apart(basin, roll, month, right, rows, seen, queue)
-        }
+    match before {
+        Some(before) => advance(scene, position, before, queue),
+        None => spread_apart(scene, right_at(scene.basin, scene.roll, position), queue),
     }
 }
 
 /// Whether the set of a short right is its reach. The search goes on from the end of the right's own link, and forgets
 /// again what it saw from there.
-fn has_reach(
-    basin: &Basin,
-    roll: &Roll,
-    month: &MonthRecord,
-    right: u32,
-    rows: &StepRows,
-    seen: &mut [bool],
-    queue: &mut [u32],
-    size: usize,
-) -> bool
-    requires plan { HasPlan basin.now month.now }
-    requires roll { IsRollOf basin.now.rights roll.now }
-    requires sets { HaveTightSets basin.now month.now }
-    requires rows { AreRowsFrom basin.now rows.now.first.items rows.now.next.items 0 }
-    requires right { IsShortRight basin.now month.now right }
-    requires queue { IsQueue seen.old queue.old size }
-    requires reached { AreReachedApart basin.now month.now right seen.old }
-    ensures reach { IsTrue result ↔ HasReach basin.now month.now right }
-    ensures queue { IsQueue seen.new queue.new size }
-    ensures reached { AreReachedApart basin.now month.now right seen.new }
+fn has_reach(scene: &Scene, right: u32, queue: &mut Queue) -> bool
+    requires scene { IsScene scene.now }
+    requires sets { HaveTightSets scene.now.basin.now scene.now.month.now }
+    requires right { IsShortRight scene.now.basin.now scene.now.month.now right }
+    requires queue { IsQueueIn scene.now.basin.now queue.old }
+    requires reached { AreReachedApart scene.now.basin.now scene.now.month.now right queue.old.seen }
+    ensures reach { IsTrue result ↔ HasReach scene.now.basin.now scene.now.month.now right }
+    ensures queue { IsQueueIn scene.now.basin.now queue.new }
+    ensures reached { AreReachedApart scene.now.basin.now scene.now.month.now right queue.new.seen }
 {
-    let more = spread_own(basin, roll, month, right, rows, seen, queue, size);
-    let whole = covers(seen, &month.cuts, right);
-    forget(seen, queue, size, more);
+    let known = queue.len();
+    spread_own(scene, right, queue);
+    let whole = covers(queue.seen(), &scene.month.cuts, right);
+    queue.forget(known);
     whole
 }
 
 /// Whether the right at an index of the order is short and has another set than its reach. The sweep comes to it, if it
 /// is short.
-fn judge(
-    basin: &Basin,
-    roll: &Roll,
-    month: &MonthRecord,
-    position: usize,
-    level: &mut Level,
-    rows: &StepRows,
-    seen: &mut [bool],
-    queue: &mut [u32],
-) -> bool
-    requires plan { HasPlan basin.now month.now }
-    requires roll { IsRollOf basin.now.rights roll.now }
-    requires sets { HaveTightSets basin.now month.now }
-    requires rows { AreRowsFrom basin.now rows.now.first.items rows.now.next.items 0 }
-    requires seen { length seen.old ≡ length basin.now.nodes }
-    requires queue { length queue.old ≡ length basin.now.nodes }
-    requires position { position < length basin.now.rights }
-    requires level { IsAt basin.now month.now seen.old queue.old (position + 1) level.old.position level.old.size }
-    ensures yes { OnTrue result (IsShort month.now (right_at basin.now position)
-        × (HasReach basin.now month.now (right_at basin.now position) → ⊥)) }
-    ensures no { OnFalse result (IsShort month.now (right_at basin.now position) →
-        HasReach basin.now month.now (right_at basin.now position)) }
-    ensures level { IsAt basin.now month.now seen.new queue.new position level.new.position level.new.size }
+fn judge(scene: &Scene, position: usize, last: &mut Option<usize>, queue: &mut Queue) -> bool
+    requires scene { IsScene scene.now }
+    requires sets { HaveTightSets scene.now.basin.now scene.now.month.now }
+    requires queue { IsQueueIn scene.now.basin.now queue.old }
+    requires position { position < length scene.now.basin.now.rights }
+    requires last { IsAt scene.now.basin.now scene.now.month.now queue.old.seen (position + 1) last.old }
+    ensures yes { let b = scene.now.basin.now in let m = scene.now.month.now in
+        OnTrue result (IsShort m (right_at b position) × (HasReach b m (right_at b position) → ⊥)) }
+    ensures no { let b = scene.now.basin.now in let m = scene.now.month.now in
+        OnFalse result (IsShort m (right_at b position) → HasReach b m (right_at b position)) }
+    ensures queue { IsQueueIn scene.now.basin.now queue.new }
+    ensures last { IsAt scene.now.basin.now scene.now.month.now queue.new.seen position last.new }
 {
+    let Scene {
+        basin,
+        roll,
+        month,
+        ..
+    } = *scene;
     let right = right_at(basin, roll, position);
     if month.delivered[right as usize] >= month.want[right as usize] {
         return false;
     }
-    let size = rise(basin, roll, month, position, *level, rows, seen, queue);
-    level.position = Some(position);
-    level.size = size;
-    !has_reach(basin, roll, month, right, rows, seen, queue, size)
+    rise(scene, position, *last, queue);
+    *last = Some(position);
+    !has_reach(scene, right, queue)
 }
 
 /// The right, if it is the one that is looked for, or the one before.
@@ -318,29 +179,18 @@ fn pick(found: bool, right: u32, before: Option<u32>) -> Option<u32>
 }
 
 /// The most senior short right whose set isn't its reach, or none, by a sweep from the most junior right on.
-pub fn sweep(
-    basin: &Basin,
-    roll: &Roll,
-    month: &MonthRecord,
-    rows: &StepRows,
-    seen: &mut [bool],
-    queue: &mut [u32],
-) -> Option<u32>
-    requires plan { HasPlan basin.now month.now }
-    requires roll { IsRollOf basin.now.rights roll.now }
-    requires sets { HaveTightSets basin.now month.now }
-    requires rows { AreRowsFrom basin.now rows.now.first.items rows.now.next.items 0 }
-    requires seen { length seen.old ≡ length basin.now.nodes }
-    requires queue { length queue.old ≡ length basin.now.nodes }
-    ensures { IsFirstOther basin.now month.now result }
+pub fn sweep(scene: &Scene, queue: &mut Queue) -> Option<u32>
+    requires scene { IsScene scene.now }
+    requires sets { HaveTightSets scene.now.basin.now scene.now.month.now }
+    requires queue { IsQueueIn scene.now.basin.now queue.old }
+    ensures first { IsFirstOther scene.now.basin.now scene.now.month.now result }
+    ensures queue { IsQueueIn scene.now.basin.now queue.new }
 {
-    let mut level = Level {
-        position: None,
-        size: 0,
-    };
+    let Scene { basin, roll, .. } = *scene;
+    let mut last = None;
     let mut answer = None;
     for position in (0..basin.rights.len()).rev() {
-        let other = judge(basin, roll, month, position, &mut level, rows, seen, queue);
+        let other = judge(scene, position, &mut last, queue);
         answer = pick(other, right_at(basin, roll, position), answer);
     }
     answer

@@ -7,19 +7,20 @@ use Rattle.plan_residual.proofs.sources.see_own.Goals as goal
 
 pub returns-in-Instream : goal.returns-in-Instream
 returns-in-Instream c =
-    let on : instream_link c.args.basin.now c.args.right ≡ Some c.in-Instream.link = search rules in
-    let to : c.index-in-Instream.result.now.to ≡ head_of c.args.basin.now c.in-Instream.link = search rules in
+    let b = c.args.scene.now.basin.now in
+    let on : instream_link b c.args.right ≡ Some c.in-Instream.link = search rules in
+    let to : c.index-in-Instream.result.now.to ≡ head_of b c.in-Instream.link = search rules in
     record {
       in_queue = c.visit.ensures.in_queue;
       count = c.visit.ensures.count;
       extends = c.visit.ensures.extends;
       own = λ e l is.
           let same : c.in-Instream.link ≡ e = cc in
-          ap (λ (n : ℕ). has c.visit.new.seen n) (sym (to ∙ ap (head_of c.args.basin.now) same)) ∙ c.visit.ensures.on;
+          ap (λ (n : ℕ). has c.visit.new.self.seen n) (sym (to ∙ ap (head_of b) same)) ∙ c.visit.ensures.on;
       only = λ v h. elim (c.visit.ensures.only v h) [
         | inl same ↦ inl (
           c.in-Instream.link,
-          slice_get_within c.args.basin.now.links c.in-Instream.link c.index-in-Instream.result.now
+          slice_get_within b.links c.in-Instream.link c.index-in-Instream.result.now
               c.index-in-Instream.ensures,
           on,
           sym to ∙ sym same,

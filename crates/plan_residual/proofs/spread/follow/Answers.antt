@@ -1,17 +1,13 @@
 use Rattle.std.proofs.Common.{◌∙◌, ℕ, sym, subst}
-use Rattle.plan_residual.specs.Search.{IsVisit}
+use Rattle.plan_residual.specs.Queue.{IsVisit}
 use Rattle.plan_residual.proofs.Spreading.{grown_by_step, grown_none}
 use Rattle.plan_residual.proofs.spread.follow.Goals as goal
 
 pub returns-then-can_follow-clause-grown : goal.returns-then-can_follow-clause-grown
 returns-then-can_follow-clause-grown c =
-    grown_by_step c.args.basin.now c.args.month.now c.args.right c.args.direction c.args.step c.args.seen.now
-    c.visit.new.seen c.args.queue.now c.visit.new.queue c.args.size c.visit.result
-    (subst (λ (n : ℕ). IsVisit c.args.seen.now c.visit.new.seen c.args.queue.now c.visit.new.queue c.args.size
-    c.visit.result n) c.end_of.ensures.value c.visit.ensures)
+    grown_by_step c.args.step
+    (subst (λ (n : ℕ). IsVisit c.args.queue.now c.visit.new.self n) c.end_of.ensures.value c.visit.ensures)
     c.requires.step c.requires.start (sym c.can_follow.ensures ∙ c.if-can_follow.true)
 
 pub returns-else-can_follow-clause-grown : goal.returns-else-can_follow-clause-grown
-returns-else-can_follow-clause-grown c =
-    grown_none c.args.basin.now c.args.month.now c.args.right c.args.direction c.args.seen.now c.args.queue.now
-    c.args.size c.requires.queue
+returns-else-can_follow-clause-grown c = grown_none _ _ _ _ c.args.queue.now c.requires.queue.in_queue

@@ -1,51 +1,37 @@
-use Rattle.std.proofs.Common.{◌≡◌, ◌+◌, ℕ, length, subst, sym}
+use Rattle.std.proofs.Common.{length}
 use Rattle.rights_roll.proofs.Seniors.{by_seniority_order}
-use Rattle.plan_residual.specs.declared.steps.Direction.TheVariants.{FromSources}
-use Rattle.plan_residual.specs.Search.{AreFollowed, HasGrown, IsClosedAlong, IsReaching}
-use Rattle.plan_residual.specs.Sweep.{ArePassed, right_at}
 use Rattle.plan_residual.proofs.Reaching.{outlets_grow, reached_apart}
 use Rattle.plan_residual.proofs.Sweeping.{advanced, juniors_passed, reaching_before}
 use Rattle.plan_residual.proofs.sweep.advance.Goals as goal
 
-pub pass_all-more-requires-clause-reaching : goal.pass_all-more-requires-clause-reaching
-pass_all-more-requires-clause-reaching c =
-    let b = c.args.basin.now in
-    let m = c.args.month.now in
-    let o = by_seniority_order b.rights c.requires.between.given.valid.roll.strict in
-    subst (λ (r : ℕ). IsReaching b m r c.args.seen.now c.args.queue.now c.args.size)
-    (sym c.right_at-right.ensures.value)
-    (reaching_before b m c.args.position c.args.before c.args.seen.now c.args.queue.now c.args.size o
-    c.requires.between)
+pub pass_all-requires-clause-reaching : goal.pass_all-requires-clause-reaching
+pass_all-requires-clause-reaching c =
+    let b = c.args.scene.now.basin.now in
+    let plan = c.requires.scene.plan in
+    rw c.right_at-right.ensures.value (
+    reaching_before plan (by_seniority_order b.rights plan.valid.roll.strict) c.requires.queue c.requires.between
+    )
 
 pub spread_on-requires-clause-followed : goal.spread_on-requires-clause-followed
 spread_on-requires-clause-followed c =
-    let b = c.args.basin.now in
-    let m = c.args.month.now in
-    let o = by_seniority_order b.rights c.requires.between.given.valid.roll.strict in
-    subst (λ (r : ℕ). AreFollowed b m r FromSources c.pass_all-more.new.seen c.pass_all-more.new.queue c.args.size)
-    (sym c.right_at-right.ensures.value)
-    (advanced b m c.args.position c.args.before c.args.seen.now c.pass_all-more.new.seen c.args.queue.now
-    c.pass_all-more.new.queue c.args.size c.pass_all-more.result o c.requires.between c.pass_all-more.ensures.extends
-    (subst (λ (r : ℕ). ArePassed b m r c.args.seen.now c.pass_all-more.new.seen (c.args.position + 1)
-    (c.args.before + 1)) c.right_at-right.ensures.value c.pass_all-more.ensures.passed))
+    let b = c.args.scene.now.basin.now in
+    let m = c.args.scene.now.month.now in
+    let o = by_seniority_order b.rights c.requires.scene.plan.valid.roll.strict in
+    rw (c.right_at-right.ensures.value, c.len-known.ensures) (
+    advanced b m c.args.position c.args.before c.args.queue.now c.pass_all.new.queue o c.requires.queue.in_queue
+    c.requires.between c.pass_all.ensures.on.extends
+    (rw c.right_at-right.ensures.value at c.pass_all.ensures.passed)
+    )
 
 pub returns-clause-reached : goal.returns-clause-reached
 returns-clause-reached c =
-    let b = c.args.basin.now in
-    let m = c.args.month.now in
-    let o = by_seniority_order b.rights c.requires.between.given.valid.roll.strict in
-    let is : c.right_at-right.result ≡ right_at b c.args.position = c.right_at-right.ensures.value in
-    reached_apart b m (right_at b c.args.position) c.pass_all-more.new.seen c.spread_on.new.seen
-    c.pass_all-more.new.queue c.spread_on.new.queue c.pass_all-more.result c.spread_on.result
-    (subst (λ (r : ℕ). IsReaching b m r c.pass_all-more.new.seen c.pass_all-more.new.queue c.pass_all-more.result) is
-    c.pass_all-more.ensures.reaching)
-    (outlets_grow m (length b.nodes) c.args.seen.now c.pass_all-more.new.seen c.pass_all-more.ensures.extends.kept
-    c.requires.between.reached.closed.outlets)
-    (juniors_passed b m c.args.position c.args.before c.args.seen.now c.pass_all-more.new.seen c.args.queue.now
-    c.args.size o c.requires.between c.pass_all-more.ensures.extends.kept
-    (subst (λ (r : ℕ). ArePassed b m r c.args.seen.now c.pass_all-more.new.seen (c.args.position + 1)
-    (c.args.before + 1)) is c.pass_all-more.ensures.passed))
-    (subst (λ (r : ℕ). HasGrown b m r FromSources c.pass_all-more.new.seen c.spread_on.new.seen
-    c.pass_all-more.new.queue c.spread_on.new.queue c.pass_all-more.result c.spread_on.result) is
-    c.spread_on.ensures.grown)
-    (subst (λ (r : ℕ). IsClosedAlong b m r FromSources c.spread_on.new.seen) is c.spread_on.ensures.closed)
+    let b = c.args.scene.now.basin.now in
+    let m = c.args.scene.now.month.now in
+    let o = by_seniority_order b.rights c.requires.scene.plan.valid.roll.strict in
+    let is = c.right_at-right.ensures.value in
+    reached_apart (rw is at c.pass_all.ensures.on.reaching)
+    (outlets_grow m (length b.nodes) c.args.queue.now.seen c.pass_all.new.queue.seen
+    c.pass_all.ensures.on.extends.kept c.requires.between.reached.closed.outlets)
+    (juniors_passed b m c.args.position c.args.before c.args.queue.now.seen c.pass_all.new.queue.seen o
+    c.requires.between c.pass_all.ensures.on.extends.kept (rw is at c.pass_all.ensures.passed))
+    (rw is at c.spread_on.ensures.grown) (rw is at c.spread_on.ensures.closed)

@@ -1,6 +1,5 @@
-use Rattle.std.proofs.Common.{◌∙◌, ℕ, subst, sym}
+use Rattle.std.proofs.Common.{◌∙◌, sym}
 use Rattle.cut_cert.specs.Sets.{cut_at}
-use Rattle.plan_residual.specs.Search.{Covers}
 use Rattle.plan_residual.proofs.Decides.{reach_decided}
 use Rattle.plan_residual.proofs.Firsts.{set_tight}
 use Rattle.plan_residual.proofs.Queues.{same_queue}
@@ -9,21 +8,22 @@ use Rattle.plan_residual.proofs.sweep.has_reach.Goals as goal
 
 pub returns-clause-reach : goal.returns-clause-reach
 returns-clause-reach c =
-    let b = c.args.basin.now in
-    let m = c.args.month.now in
-    reach_decided b m c.args.right c.spread_own-more.new.seen (cut_at m.cuts c.args.right) c.covers-whole.result
-    c.requires.plan c.requires.right.in_range c.requires.right.short
+    let b = c.args.scene.now.basin.now in
+    let m = c.args.scene.now.month.now in
+    reach_decided b m c.args.right c.spread_own.new.queue.seen (cut_at m.cuts c.args.right) c.covers-whole.result
+    c.requires.scene.plan c.requires.right.in_range c.requires.right.short
     (set_tight b m c.args.right c.requires.sets c.requires.right.in_range c.requires.right.short)
-    c.spread_own-more.ensures.reached
-    (subst (λ (n : ℕ). Covers c.covers-whole.result c.spread_own-more.new.seen (cut_at m.cuts c.args.right) n)
-    c.requires.plan.fits.cut_nodes c.covers-whole.ensures)
+    c.spread_own.ensures.reached
+    (rw (← c.requires.scene.plan.fits.cut_nodes, ← c.seen.ensures) c.covers-whole.ensures)
 
 pub returns-clause-reached : goal.returns-clause-reached
 returns-clause-reached c =
-    apart_same c.args.basin.now c.args.month.now c.args.right c.args.seen.now c.forget.new.seen
-    (c.forget.auto.seen ∙ c.spread_own-more.auto.seen)
-    (same_queue c.args.seen.now c.forget.new.seen c.args.queue.now c.spread_own-more.new.queue c.args.size
-    c.requires.queue c.forget.ensures c.spread_own-more.ensures.extends.prefix)
-    (same_queue c.forget.new.seen c.args.seen.now c.spread_own-more.new.queue c.args.queue.now c.args.size
-    c.forget.ensures c.requires.queue (λ j l. sym (c.spread_own-more.ensures.extends.prefix j l)))
+    let size = c.forget.ensures.size ∙ c.len-known.ensures in
+    apart_same c.args.scene.now.basin.now c.args.scene.now.month.now c.args.right c.args.queue.now.seen
+    c.forget.new.self.seen
+    (c.forget.ensures.count ∙ (c.spread_own.ensures.queue.count ∙ sym c.requires.queue.count))
+    (same_queue c.requires.queue.in_queue c.forget.ensures.queue (sym size)
+    (λ j l. rw c.forget.ensures.nodes (c.spread_own.ensures.extends.prefix j l)))
+    (same_queue c.forget.ensures.queue c.requires.queue.in_queue size
+    (λ j l. rw c.forget.ensures.nodes (sym (c.spread_own.ensures.extends.prefix j (rw (← size) l)))))
     c.requires.reached

@@ -7,22 +7,23 @@ use Rattle.plan_residual.proofs.sweep.sweep.Goals as goal
 
 pub loop-position-preserved : goal.loop-position-preserved
 loop-position-preserved c =
-    let b = c.args.basin.now in
-    let m = c.args.month.now in
+    let b = c.args.scene.now.basin.now in
+    let m = c.args.scene.now.month.now in
     let position : ℕ = c.loop-position.position - 1 in
     let next : c.loop-position.position ≡ position + 1 = omega arith in
     record {
-      level = c.judge-other.ensures.level;
+      queue = c.judge-other.ensures.queue;
+      last = c.judge-other.ensures.last;
       answer = subst (λ (o : Option ℕ). IsFirstFrom b m position o) (sym c.pick-answer.ensures)
           (judged_more b m position c.right_at.result c.judge-other.result c.loop-position.answer (omega arith)
           (sym c.right_at.ensures.value) c.judge-other.ensures.yes c.judge-other.ensures.no
           (subst (λ (n : ℕ). IsFirstFrom b m n c.loop-position.answer) next c.loop-position.invariant.answer));
     }
 
-pub returns : goal.returns
-returns c =
-    let b = c.args.basin.now in
-    let m = c.args.month.now in
+pub returns-clause-first : goal.returns-clause-first
+returns-clause-first c =
+    let b = c.args.scene.now.basin.now in
+    let m = c.args.scene.now.month.now in
     let none : c.loop-position.position ≡ 0 = omega arith in
-    judged_all b m c.loop-position.answer (by_seniority_order b.rights c.requires.plan.valid.roll.strict)
+    judged_all b m c.loop-position.answer (by_seniority_order b.rights c.requires.scene.plan.valid.roll.strict)
     (subst (λ (n : ℕ). IsFirstFrom b m n c.loop-position.answer) none c.loop-position.invariant.answer)
