@@ -1,6 +1,6 @@
--- After the files of `why`: the cause of how it ends, what it leaves on out, and the months that it solves.
-use Rattle.std.proofs.Common.{◌≡◌, ℕ, ◌≤◌, sym, ◌∙◌, subst, arith, List, [], ◌∷◌, Option, Some, None, length-append}
-use Rattle.std.specs.Prelude.{IfSome, slice_index}
+-- After the files of `why`: the cause of how it ends, and what it leaves on out.
+use Rattle.std.proofs.Common.{◌≡◌, ℕ, ◌≤◌, sym, ◌∙◌, subst, arith, List, [], ◌∷◌, length-append}
+use Rattle.std.specs.Prelude.{slice_index}
 use Rattle.water_edge.specs.Edge.{Output}
 use Rattle.basin_file.specs.BasinFaults.{Spells}
 use Rattle.edit_script.specs.declared.refused.ScriptFault.TheVariants as script
@@ -10,22 +10,21 @@ use Rattle.water_model.specs.Valid.{IsValidBasin, IsSeriesOf}
 use Rattle.water_model.specs.declared.types.Basin.{Basin}
 use Rattle.water_model.specs.declared.types.Inflows.{Inflows}
 use Rattle.water_model.specs.declared.types.MonthRecord.{MonthRecord}
-use Rattle.month_fold.specs.Works.{WorkDone}
 use Rattle.basin_cli.specs.declared.explaining.Account.{Account}
 use Rattle.basin_cli.specs.declared.ending.Ending.{Ending}
 use Rattle.basin_cli.specs.declared.ending.Ending.TheVariants as ending
 use Rattle.basin_cli.specs.Actions.{EndsAsking, IsAnswered}
 use Rattle.basin_cli.specs.Command.{Files}
 use Rattle.basin_cli.specs.Ending.{status_of}
-use Rattle.basin_cli.specs.Explained.{HasMonth, HasRight, IsAbout, WorkUpTo}
-use Rattle.basin_cli.specs.Bytes.{AreSpelled, IsGoodBasin, IsGoodSeries, KnownFiles, known_series}
+use Rattle.basin_cli.specs.Explained.{HasMonth, HasRight, IsAbout}
+use Rattle.basin_cli.specs.Bytes.{AreSpelled, KnownFiles}
 use Rattle.basin_cli.specs.Out.{MayWrite}
-use Rattle.basin_cli.specs.Outcome.{HasExplainingCause, IsAsked, IsOutsideRun, IsShortIn, IsUnknownRight, WritesBook}
+use Rattle.basin_cli.specs.Outcome.{HasExplainingCause, IsAsked, IsShortIn, WritesBook}
 use Rattle.basin_cli.specs.Reading.{OfBoth}
-use Rattle.basin_cli.specs.Series.{AreLoaded, IsBasinText, IsSeriesText}
+use Rattle.basin_cli.specs.Series.{AreLoaded}
 use Rattle.water_model.proofs.Histories.{last_follows}
 use Rattle.basin_cli.proofs.Explained.{one_answer}
-use Rattle.basin_cli.proofs.Judged.{good_series, spelled_by}
+use Rattle.basin_cli.proofs.Known.{after, of_both}
 use Rattle.basin_cli.proofs.OneSeries.{one_basin, one_series, same_partial}
 
 -- After the files.
@@ -42,22 +41,6 @@ month_of b series month name right m about =
         is = sym follows.after.month ∙ is.is;
       },
     )
-
--- what holds of the bytes that are read holds as far as they are known
-after_both : (t o : Option (List ℕ)) (b : Basin) (series : Inflows) (P : List ℕ → List ℕ → Type 0) →
-    IsSeriesOf b series →
-    IfSome t (IsBasinText b) → IfSome o (IsSeriesText b series) →
-    ((bytes s : List ℕ) → AreSpelled bytes s b series → P bytes s) →
-    IfSome t (λ bytes. IsGoodBasin bytes × IfSome o (λ s. IsGoodSeries bytes s × P bytes s))
-after_both None o b series P fits from_basin from_series holds = tt
-after_both (Some bytes) None b series P fits from_basin from_series holds = (from_basin.good, tt)
-after_both (Some bytes) (Some s) b series P fits from_basin from_series holds = (
-  from_basin.good,
-  (
-    good_series bytes s b series from_basin from_series,
-    holds bytes s (spelled_by bytes s b series fits from_basin from_series),
-  ),
-)
 
 is_asked : (month : Month) (name bytes : List ℕ) (b : Basin) → Spells bytes b → HasMonth b month → HasRight b name →
     IsAsked month name bytes
@@ -86,100 +69,57 @@ not_short month name bytes s b series right m valid spelled about met is =
     let short = one_answer b series month name is.right right is.last m valid along about is.short in
     omega (arith, short, met)
 
-pub asking_cause : (known : KnownFiles) (files : Files) (month : Month) (name : List ℕ) (b : Basin) (series : Inflows)
-    (how : Ending) (read write : Type 0) →
-    IsValidBasin b → IsSeriesOf b series → AreLoaded known files b series → EndsAsking b series month name how write →
-    HasExplainingCause files month name how known read write
-asking_cause known files month name b series ending.Done read write valid fits loaded ends =
-    after_both (known files.basin) (known_series known files.series) b series (IsShortIn month name) fits
-    loaded.from_basin loaded.from_series
-    (λ bytes s spelled. record {
-      basin = b;
-      series = series;
-      spelled = spelled;
-      right = ends.0;
-      last = ends.1;
-      about =
-          ends.2;
-      short = ends.3;
-    })
-asking_cause known files month name b series ending.Met read write valid fits loaded ends =
-    after_both (known files.basin) (known_series known files.series) b series (λ bytes s. IsAsked month name bytes ×
-    (IsShortIn month name bytes s → ⊥))
-    fits loaded.from_basin loaded.from_series
-    (λ bytes s spelled. (
-      is_asked month name bytes b spelled.basin_spelled (month_of b series month name ends.0 ends.1 ends.2)
-          (ends.0, ends.2.named),
-      not_short month name bytes s b series ends.0 ends.1 valid spelled ends.2 ends.3,
-    ))
-asking_cause known files month name b series ending.WriteFault read write valid fits loaded ends = (
-  ends.0,
-  after_both (known files.basin) (known_series known files.series) b series (λ bytes _. IsAsked month name bytes) fits
-      loaded.from_basin loaded.from_series
-      (λ bytes s spelled. is_asked month name bytes b spelled.basin_spelled ends.1 ends.2),
-)
-asking_cause known files month name b series (ending.ScriptRefused script.OutsideRun line) read write valid fits loaded
-    ends = (
-      ends.0,
-      after_both (known files.basin) (known_series known files.series) b series (λ bytes _. IsOutsideRun month bytes)
-          fits
-          loaded.from_basin loaded.from_series
-          (λ bytes s spelled. record { basin = b; spelled = spelled.basin_spelled; outside = ends.1 }),
-    )
-asking_cause known files month name b series (ending.ScriptRefused script.NoSuchName line) read write valid fits loaded
-    ends = (
-      ends.0,
-      after_both (known files.basin) (known_series known files.series) b series
-          (λ bytes _. IsUnknownRight month name bytes) fits loaded.from_basin loaded.from_series
-          (λ bytes s spelled. record {
-            basin = b;
-            spelled = spelled.basin_spelled;
-            has_month = ends.1;
-            unknown = ends.2;
-          }),
-    )
-asking_cause known files month name b series ending.OutOfMemory read write valid fits loaded ends = tt
-asking_cause known files month name b series other read write valid fits loaded ends = absurd ends
+module _ (known : KnownFiles) (files : Files) (b : Basin) (series : Inflows) (fits : IsSeriesOf b series)
+    (loaded : AreLoaded known files b series) (month : Month) (name : List ℕ) where
+  pub asking_cause : (how : Ending) (read write : Type 0) → IsValidBasin b → EndsAsking b series month name how write →
+      HasExplainingCause files month name how known read write
+  asking_cause ending.Done read write valid ends = after known files b series fits loaded _ (λ bytes s spelled. record {
+    basin = b;
+    series = series;
+    spelled = spelled;
+    right = ends.0;
+    last = ends.1;
+    about = ends.2;
+    short = ends.3;
+  })
+  asking_cause ending.Met read write valid ends = after known files b series fits loaded _ (λ bytes s spelled. (
+    is_asked month name bytes b spelled.basin_spelled (month_of b series month name ends.0 ends.1 ends.2)
+        (ends.0, ends.2.named),
+    not_short month name bytes s b series ends.0 ends.1 valid spelled ends.2 ends.3,
+  ))
+  asking_cause ending.WriteFault read write valid ends = (
+    ends.0,
+    after known files b series fits loaded _
+        (λ bytes s spelled. is_asked month name bytes b spelled.basin_spelled ends.1 ends.2),
+  )
+  asking_cause (ending.ScriptRefused script.OutsideRun line) read write valid ends = (
+    ends.0,
+    after known files b series fits loaded _
+        (λ bytes s spelled. record { basin = b; spelled = spelled.basin_spelled; outside = ends.1 }),
+  )
+  asking_cause (ending.ScriptRefused script.NoSuchName line) read write valid ends = (
+    ends.0,
+    after known files b series fits loaded _ (λ bytes s spelled.
+        record { basin = b; spelled = spelled.basin_spelled; has_month = ends.1; unknown = ends.2 }),
+  )
+  asking_cause ending.OutOfMemory read write valid ends = tt
+  asking_cause other read write valid ends = absurd ends
 
--- what is left on out
-pub asking_writes : (asked : Account) (known : KnownFiles) (files : Files) (month : Month) (name : List ℕ) (b : Basin)
-    (series : Inflows)
-    (how : Ending) (old new : Output) →
-    IsSeriesOf b series → AreLoaded known files b series →
-    (MayWrite (status_of how) → IsAnswered asked b series month name how old new) →
-    OfBoth known files
-    (λ bytes s. MayWrite (status_of how) → WritesBook asked (status_of how) month name bytes s old new)
-asking_writes asked known files month name b series how old new fits loaded answers =
-    of_both (known files.basin) (known_series known files.series) loaded.from_basin loaded.from_series
-  where
-    of_both : (t o : Option (List ℕ)) → IfSome t (IsBasinText b) → IfSome o (IsSeriesText b series) →
-        IfSome t (λ bytes. IfSome o (λ s. MayWrite (status_of how) →
-        WritesBook asked (status_of how) month name bytes s old new))
-    of_both None o from_basin from_series = tt
-    of_both (Some bytes) None from_basin from_series = tt
-    of_both (Some bytes) (Some s) from_basin from_series = λ may.
-        (let answer = answers may in
-        record {
-          basin = b;
-          series = series;
-          spelled = spelled_by bytes s b series fits from_basin from_series;
-          right = answer.right;
-          last = answer.last;
-          about = answer.about;
-          text = answer.text;
-          explains = answer.explains;
-          written = answer.written;
-        })
-
--- and the months that were solved
-pub asking_solves : (known : KnownFiles) (files : Files) (month : Month) (b : Basin) (series : Inflows)
-    (before now : WorkDone) →
-    AreLoaded known files b series → WorkUpTo b month before now →
-    IfSome (known files.basin) (λ bytes. (c : Basin) → Spells bytes c → WorkUpTo c month before now)
-asking_solves known files month b series before now loaded solves = of_known (known files.basin) loaded.from_basin
-  where
-    of_known : (t : Option (List ℕ)) → IfSome t (IsBasinText b) →
-        IfSome t (λ bytes. (c : Basin) → Spells bytes c → WorkUpTo c month before now)
-    of_known None text = tt
-    of_known (Some bytes) text =
-        λ c spelled. subst (λ d. WorkUpTo d month before now) (one_basin bytes b c text.spelled spelled) solves
+  -- what is left on out
+  pub asking_writes : (asked : Account) (how : Ending) (old new : Output) →
+      (MayWrite (status_of how) → IsAnswered asked b series month name how old new) →
+      OfBoth known files
+      (λ bytes s. MayWrite (status_of how) → WritesBook asked (status_of how) month name bytes s old new)
+  asking_writes asked how old new answers = of_both known files b series fits loaded _ (λ bytes s spelled may.
+      let answer = answers may in
+      record {
+        basin = b;
+        series = series;
+        spelled = spelled;
+        right = answer.right;
+        last = answer.last;
+        about = answer.about;
+        text = answer.text;
+        explains = answer.explains;
+        written = answer.written;
+      })

@@ -1,5 +1,6 @@
 -- Scripts of changes: how a call that answers one ends, and what it leaves on out.
 use Rattle.std.proofs.Common.{◌≡◌, ℕ, ◌+◌, ◌≤◌, refl, sym, ◌∙◌, subst, List, [], ◌∷◌, length, inl, inr, Option}
+use Rattle.std.proofs.lemmas.Option.{IfSome_then}
 use Rattle.std.specs.Prelude.{IfSome, IsErr, IsOk, Ok, Err, Bool, true, false, if◌then◌else◌, Result, codes}
 use Rattle.std.specs.Str.{bytes_eq}
 use Rattle.water_edge.specs.Edge.{Output}
@@ -17,13 +18,13 @@ use Rattle.basin_cli.specs.declared.ending.Ending.TheVariants as ending
 use Rattle.basin_cli.specs.declared.ending.File.{File}
 use Rattle.basin_cli.specs.declared.ending.File.TheVariants as file
 use Rattle.basin_cli.specs.declared.status.Status.{Status}
-use Rattle.basin_cli.specs.declared.status.Status.TheVariants as status
-use Rattle.basin_cli.specs.Bytes.{AreSpelled, IsTooLong, KnownFiles, file_limit, known_series}
+use Rattle.basin_cli.specs.declared.status.Status.TheVariants as its
+use Rattle.basin_cli.specs.Bytes.{AreSpelled, IsTooLong, KnownFiles, file_limit}
 use Rattle.basin_cli.specs.Command.{Files}
 use Rattle.basin_cli.specs.Edited.{EditLeaves, EditWork, EditWrites, EndsEditing, HasEditingCause, IsGoodScript}
 use Rattle.basin_cli.specs.Edited.{IsScriptRefusedFor, LeavesScript, WorkOfScript}
 use Rattle.basin_cli.specs.Series.{AreLoaded, FileEnds}
-use Rattle.basin_cli.proofs.Judged.{accepted, after, after_known, of_both}
+use Rattle.basin_cli.proofs.Known.{accepted, after, of_both}
 use Rattle.basin_cli.proofs.OneSeries.{one_basin}
 
 -- A script asks for the same of two series of a basin: they have their gauges and wants in the same places.
@@ -81,94 +82,73 @@ refused_not_good bytes s text fault line is good =
     never_ok (Err x) y e h = cc
 
 -- After the files of `edit`.
+module _ (known : KnownFiles) (files : Files) (b : Basin) (series : Inflows) (fits : IsSeriesOf b series)
+    (loaded : AreLoaded known files b series) (script : List ℕ) where
+  -- the cause where the script is not read: `since` says that the shelf's count of faults rose since its inputs were
+  -- read
+  pub script_cause : (later : Option (List ℕ)) (how : Ending) (since read write : Type 0) → later ≡ known script →
+      (since → read) → FileEnds file.Script later since how → HasEditingCause files script how known read write
+  script_cause later (ending.ReadFault named) since read write same rose ends =
+      subst (λ (f : File). HasEditingCause files script (ending.ReadFault f) known read write) (sym ends.0)
+      (rose ends.1, accepted known files b series fits loaded)
+  script_cause later (ending.InputTooLong named) since read write same rose ends =
+      subst (λ (f : File). HasEditingCause files script (ending.InputTooLong f) known read write) (sym ends.0)
+      (after known files b series fits loaded _
+      (λ _ _ _. subst (λ (o : Option (List ℕ)). IfSome o IsTooLong) same ends.1))
+  script_cause later ending.OutOfMemory since read write same rose ends = tt
+  script_cause later other since read write same rose ends = absurd ends
 
-pub editing_cause : (known : KnownFiles) (files : Files) (script text : List ℕ) (b : Basin) (series : Inflows)
-    (how : Ending)
-    (read write : Type 0) →
-    IsSeriesOf b series → AreLoaded known files b series → length text ≤ file_limit →
-    IfSome (known script) (λ bytes. text ≡ bytes) →
-    EndsEditing b series text how write → HasEditingCause files script how known read write
-editing_cause known files script text b series ending.Done read write fits loaded within is ends =
-    after (known files.basin) (known_series known files.series) (known script) b series text IsGoodScript fits
-    loaded.from_basin loaded.from_series is
-    (λ bytes s spelled. record { within = within; basin = b; series = series; spelled = spelled; reads = ends })
-editing_cause known files script text b series ending.WriteFault read write fits loaded within is ends = (
-  ends.0,
-  after (known files.basin) (known_series known files.series) (known script) b series text IsGoodScript fits
-      loaded.from_basin loaded.from_series is
-      (λ bytes s spelled. record { within = within; basin = b; series = series; spelled = spelled; reads = ends.1 }),
-)
-editing_cause known files script text b series (ending.ScriptRefused fault line) read write fits loaded within is ends =
-    after (known files.basin) (known_series known files.series) (known script) b series text
-    (IsScriptRefusedFor fault line) fits
-    loaded.from_basin loaded.from_series is
-    (λ bytes s spelled. record { within = within; basin = b; series = series; spelled = spelled; first = ends })
-editing_cause known files script text b series ending.OutOfMemory read write fits loaded within is ends = tt
-editing_cause known files script text b series other read write fits loaded within is ends = absurd ends
+  module _ (text : List ℕ) (is : IfSome (known script) (λ bytes. text ≡ bytes)) where
+    -- what is so of the script that was read is so of the known one
+    is_known : (P : List ℕ → Type 0) → P text → IfSome (known script) P
+    is_known P h = IfSome_then (known script) is (λ bytes same. subst P same h)
 
--- the cause where the script is not read: `since` says that the shelf's count of faults rose since its inputs were read
-pub script_cause : (known : KnownFiles) (files : Files) (script : List ℕ) (b : Basin) (series : Inflows)
-    (later : Option (List ℕ)) (how : Ending) (since read write : Type 0) →
-    IsSeriesOf b series → AreLoaded known files b series → later ≡ known script → (since → read) →
-    FileEnds file.Script later since how → HasEditingCause files script how known read write
-script_cause known files script b series later (ending.ReadFault named) since read write fits loaded same rose ends =
-    subst (λ (f : File). HasEditingCause files script (ending.ReadFault f) known read write) (sym ends.0) (
-      rose ends.1,
-      accepted (known files.basin) (known_series known files.series) b series loaded.from_basin loaded.from_series,
+    pub editing_cause : (how : Ending) (read write : Type 0) → length text ≤ file_limit →
+        EndsEditing b series text how write → HasEditingCause files script how known read write
+    editing_cause ending.Done read write within ends = after known files b series fits loaded _ (λ bytes s spelled.
+        is_known (IsGoodScript bytes s)
+        (record { within = within; basin = b; series = series; spelled = spelled; reads = ends }))
+    editing_cause ending.WriteFault read write within ends = (
+      ends.0,
+      after known files b series fits loaded _ (λ bytes s spelled. is_known (IsGoodScript bytes s)
+          (record { within = within; basin = b; series = series; spelled = spelled; reads = ends.1 })),
     )
-script_cause known files script b series later (ending.InputTooLong named) since read write fits loaded same rose ends =
-    subst (λ (f : File). HasEditingCause files script (ending.InputTooLong f) known read write) (sym ends.0)
-    (after_known (known files.basin) (known_series known files.series) (known script) b series IsTooLong
-    (λ _ _ bytes. IsTooLong bytes) fits loaded.from_basin loaded.from_series
-    (subst (λ (o : Option (List ℕ)). IfSome o IsTooLong) same ends.1)
-    (λ bytes s text spelled long. long))
-script_cause known files script b series later ending.OutOfMemory since read write fits loaded same rose ends = tt
-script_cause known files script b series later other since read write fits loaded same rose ends = absurd ends
+    editing_cause (ending.ScriptRefused fault line) read write within ends =
+        after known files b series fits loaded _ (λ bytes s spelled. is_known (IsScriptRefusedFor fault line bytes s)
+        (record { within = within; basin = b; series = series; spelled = spelled; first = ends }))
+    editing_cause ending.OutOfMemory read write within ends = tt
+    editing_cause other read write within ends = absurd ends
 
--- what is left on out
-leaves_by_status : (status : Status) (bytes s : List ℕ) (b : Basin) (series : Inflows) (text : List ℕ)
-    (old new : Output) → AreSpelled bytes s b series →
-    LeavesScript status b series text old new → EditLeaves status bytes s text old new
-leaves_by_status status.OutOfMemory bytes s b series text old new spelled (inl same) = inl same
-leaves_by_status status.OutOfMemory bytes s b series text old new spelled (inr shows) =
-    inr (record { basin = b; series = series; spelled = spelled; shows = shows })
-leaves_by_status other bytes s b series text old new spelled left =
-    λ may. record { basin = b; series = series; spelled = spelled; shows = left may }
+    -- what is left on out
+    pub editing_writes : (status : Status) (old new : Output) → LeavesScript status b series text old new →
+        EditWrites known files script status old new
+    editing_writes status old new left = of_both known files b series fits loaded _ (λ bytes s spelled.
+        is_known (λ t. EditLeaves status bytes s t old new) (by_status status bytes s spelled left))
+      where
+        by_status : (status : Status) (bytes s : List ℕ) → AreSpelled bytes s b series →
+            LeavesScript status b series text old new → EditLeaves status bytes s text old new
+        by_status its.OutOfMemory bytes s spelled (inl same) = inl same
+        by_status its.OutOfMemory bytes s spelled (inr shows) =
+            inr (record { basin = b; series = series; spelled = spelled; shows = shows })
+        by_status other bytes s spelled left =
+            λ may. record { basin = b; series = series; spelled = spelled; shows = left may }
 
-pub editing_writes : (known : KnownFiles) (files : Files) (script text : List ℕ) (b : Basin) (series : Inflows)
-    (status : Status) (old new : Output) →
-    IsSeriesOf b series → AreLoaded known files b series → IfSome (known script) (λ bytes. text ≡ bytes) →
-    LeavesScript status b series text old new →
-    EditWrites known files script status old new
-editing_writes known files script text b series status old new fits loaded is left =
-    of_both (known files.basin) (known_series known files.series) (known script) b series text
-    (λ bytes s t. EditLeaves status bytes s t old new) fits
-    loaded.from_basin loaded.from_series is
-    (λ bytes s spelled. leaves_by_status status bytes s b series text old new spelled left)
-
--- and the months that were solved
-work_same : (bytes s text : List ℕ) (b : Basin) (series : Inflows) (before now : WorkDone) →
-    AreSpelled bytes s b series →
-    WorkOfScript b series text before now →
-    (c : Basin) (other : Inflows) → AreSpelled bytes s c other → WorkOfScript c other text before now
-work_same bytes s text b series before now spelled solves c other also =
-    let same : b ≡ c = one_basin bytes b c spelled.basin_spelled also.basin_spelled in
-    let moved : WorkOfScript c series text before now =
-    subst (λ d. WorkOfScript d series text before now) same solves in
-    let script : script_of c series text ≡ script_of c other text =
-    same_script c series other (subst (λ d. IsSeriesOf d series) same spelled.fits) also.fits text in
-    record {
-      asked = λ edits reads. moved.asked edits (script ∙ reads);
-      refused = λ bad. moved.refused (subst (λ (r : Reading). IsErr r) (sym script) bad);
-    }
-
-pub editing_solves : (known : KnownFiles) (files : Files) (script text : List ℕ) (b : Basin) (series : Inflows)
-    (before now : WorkDone) → IsSeriesOf b series →
-    AreLoaded known files b series → IfSome (known script) (λ bytes. text ≡ bytes) →
-    WorkOfScript b series text before now →
-    EditWork known files script before now
-editing_solves known files script text b series before now fits loaded is solves =
-    of_both (known files.basin) (known_series known files.series) (known script) b series text
-    (λ bytes s t. (c : Basin) (other : Inflows) → AreSpelled bytes s c other → WorkOfScript c other t before now) fits
-    loaded.from_basin loaded.from_series is
-    (λ bytes s spelled. work_same bytes s text b series before now spelled solves)
+    -- and the months that were solved
+    pub editing_solves : (before now : WorkDone) → WorkOfScript b series text before now →
+        EditWork known files script before now
+    editing_solves before now solves = of_both known files b series fits loaded _ (λ bytes s spelled.
+        is_known (λ t. (c : Basin) (other : Inflows) → AreSpelled bytes s c other → WorkOfScript c other t before now)
+        (same bytes s spelled))
+      where
+        same : (bytes s : List ℕ) → AreSpelled bytes s b series → (c : Basin) (other : Inflows) →
+            AreSpelled bytes s c other → WorkOfScript c other text before now
+        same bytes s spelled c other also =
+            let one : b ≡ c = one_basin bytes b c spelled.basin_spelled also.basin_spelled in
+            let moved : WorkOfScript c series text before now =
+            subst (λ d. WorkOfScript d series text before now) one solves in
+            let script : script_of c series text ≡ script_of c other text =
+            same_script c series other (subst (λ d. IsSeriesOf d series) one spelled.fits) also.fits text in
+            record {
+              asked = λ edits reads. moved.asked edits (script ∙ reads);
+              refused = λ bad. moved.refused (subst (λ (r : Reading). IsErr r) (sym script) bad);
+            }

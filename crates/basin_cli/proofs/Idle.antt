@@ -1,6 +1,5 @@
 -- Where something was refused or there was no memory, nothing is written and nothing is solved.
-use Rattle.std.proofs.Common.{ℕ, ◌+◌, ◌*◌, arith, refl, List, Option, Some, None}
-use Rattle.std.specs.Prelude.{IfSome}
+use Rattle.std.proofs.Common.{ℕ, ◌+◌, ◌*◌, arith, refl, Option, Some, None}
 use Rattle.edit_script.specs.Edits.{cost}
 use Rattle.index_seq.specs.Traces.{years_of}
 use Rattle.month_fold.specs.Works.{Solves, SolvesBoth, WorkDone}
@@ -14,6 +13,7 @@ use Rattle.basin_cli.specs.Out.{IsStopped, MayWrite}
 use Rattle.basin_cli.specs.Outcome.{WorkFor, WorkOf}
 use Rattle.basin_cli.specs.declared.status.Status.{Status}
 use Rattle.basin_cli.specs.declared.status.Status.TheVariants as its
+use Rattle.basin_cli.proofs.Known.{of_any}
 
 pub stopped_writes : (s : Status) → IsStopped s → MayWrite s → ⊥
 stopped_writes its.Done h w = h
@@ -34,14 +34,9 @@ solves_none count b w = Solves-within 0 count b w w (omega arith) (Solves-none b
 solves_neither : (count : ℕ) (b c : Basin) (w : WorkDone) → SolvesBoth count b c w w
 solves_neither count b c w = SolvesBoth-within 0 count b c w w (omega arith) (SolvesBoth-none b c w)
 
--- what holds of all bytes holds as far as they are known
-of_any : (known : Option (List ℕ)) (P : List ℕ → Type 0) → ((bytes : List ℕ) → P bytes) → IfSome known P
-of_any None P h = tt
-of_any (Some bytes) P h = h bytes
-
 run_unsolved : (known : KnownFiles) (files : Files) (w : WorkDone) → WorkOf known files w w
 run_unsolved known files w =
-    of_any (known files.basin) _ (λ bytes basin spelled. solves_none basin.months basin w)
+    of_any (known files.basin) (λ bytes basin spelled. solves_none basin.months basin w)
 
 -- where nothing is solved, no command solves more than it may
 pub unsolved : (command : Option Command) (known : KnownFiles) (w : WorkDone) → WorkFor command known w w
@@ -52,19 +47,19 @@ unsolved (Some (report files)) known w = run_unsolved known files w
 unsolved (Some (trial number size)) known w =
     solves_none (generated number size).months (generated number size) w
 unsolved (Some (compare files second)) known w =
-    of_any (known files.basin) _ (λ bytes. of_any (known second) _
+    of_any (known files.basin) (λ bytes. of_any (known second)
     (λ other b c spelled second_spelled. solves_neither b.months b c w))
 unsolved (Some (calls files)) known w = run_unsolved known files w
 unsolved (Some (why asked files month name)) known w =
-    of_any (known files.basin) _ (λ bytes basin spelled. record {
+    of_any (known files.basin) (λ bytes basin spelled. record {
       in_run = λ index at. solves_none (index + 1) basin w;
       outside = λ not. refl;
     })
 unsolved (Some (ensemble files)) known w =
-    of_any (known files.basin) _ (λ bytes basin spelled. solves_none (years_of basin * basin.months) basin w)
+    of_any (known files.basin) (λ bytes basin spelled. solves_none (years_of basin * basin.months) basin w)
 unsolved (Some (edit files script)) known w =
-    of_any (known files.basin) _ (λ bytes. of_any (known_series known files.series) _
-    (λ series. of_any (known script) _ (λ text b s spelled. record {
+    of_any (known files.basin) (λ bytes. of_any (known_series known files.series)
+    (λ series. of_any (known script) (λ text b s spelled. record {
       asked = λ edits reads. solves_none (cost edits) b w;
       refused = λ bad. refl;
     })))

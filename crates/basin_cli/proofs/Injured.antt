@@ -1,10 +1,9 @@
 -- Whether somebody is injured, as the list of injuries says.
-use Rattle.std.proofs.Common.{◌≡◌, ℕ, ◌≤◌, suc, refl, sym, ◌∙◌, subst, arith, List, [], ◌∷◌, length, Option, Some}
-use Rattle.std.proofs.Common.{None}
+use Rattle.std.proofs.Common.{◌≡◌, ℕ, ◌≤◌, suc, refl, sym, ◌∙◌, subst, arith, List, [], ◌∷◌, length}
 use Rattle.std.proofs.lemmas.Bool.Decides.{nat_tests}
-use Rattle.std.specs.Prelude.{IfSome, Contains, ◌==◌, Bool, true, false, if◌then◌else◌}
+use Rattle.std.proofs.lemmas.Option.{IfSome_then}
+use Rattle.std.specs.Prelude.{Contains, ◌==◌, Bool, true, false, if◌then◌else◌}
 use Rattle.water_edge.specs.Edge.{Output}
-use Rattle.basin_file.specs.BasinFaults.{Spells}
 use Rattle.inflow_file.specs.SeriesFaults.{SpellsSeries}
 use Rattle.water_model.specs.History.{IsHistory}
 use Rattle.water_model.specs.Valid.{IsValidBasin}
@@ -18,18 +17,18 @@ use Rattle.injury.proofs.Listed.{injuries_are_all_listed}
 use Rattle.injury.proofs.OneText.{one_list}
 use Rattle.basin_cli.specs.declared.ending.Ending.{Ending}
 use Rattle.basin_cli.specs.declared.ending.Ending.TheVariants as ending
+use Rattle.basin_cli.specs.declared.ending.SecondFinding.{SecondFinding}
 use Rattle.basin_cli.specs.declared.ending.SecondFinding.TheVariants as of_second
 use Rattle.basin_cli.specs.declared.pairs.BasinPair.{BasinPair}
-use Rattle.basin_cli.specs.Bytes.{AreSpelled, IsGoodBasin, KnownFiles, known_series}
+use Rattle.basin_cli.specs.Bytes.{AreSpelled, KnownFiles, known_series}
 use Rattle.basin_cli.specs.Command.{Files}
 use Rattle.basin_cli.specs.Compared.{Compares, ending_with}
-use Rattle.basin_cli.specs.Comparison.{IsGoodSecond, IsGoodForBoth, SomebodyIsInjured, AfterBoth, HasComparingCause}
-use Rattle.basin_cli.specs.Comparison.{WritesComparison, ComparisonWrites, ComparisonWork}
-use Rattle.basin_cli.specs.Ending.{status_of}
+use Rattle.basin_cli.specs.Comparison.{AfterBoth, ComparisonWork, ComparisonWrites, HasComparingCause, IsGoodForBoth}
+use Rattle.basin_cli.specs.Comparison.{OfThree, SomebodyIsInjured}
+use Rattle.basin_cli.specs.Ending.{status_of, status_of_second}
 use Rattle.basin_cli.specs.Out.{MayWrite}
 use Rattle.basin_cli.specs.Pairs.{ArePaired}
-use Rattle.basin_cli.specs.Series.{IsBasinText, IsSeriesText}
-use Rattle.basin_cli.proofs.Judged.{spelled_by}
+use Rattle.basin_cli.proofs.Known.{both_known, good_series, spelled_by}
 use Rattle.basin_cli.proofs.OneSeries.{one_basin, one_series, same_history}
 
 -- a history of what bytes spell is one of any basin and series that they spell
@@ -119,173 +118,111 @@ ends_not how n e not_done not_injured = by_test (n == 0) e
     by_test true f = not_done f
     by_test false f = not_injured f
 
+second_silent : (finding : SecondFinding) → MayWrite (status_of_second finding) → ⊥
+second_silent (of_second.Basin finding) may = may
+second_silent of_second.OtherRun may = may
+second_silent (of_second.Series finding) may = may
+
 -- what holds of what is known of the files
 module _ (known : KnownFiles) (files : Files) (second : List ℕ) (pair : BasinPair)
     (paired : ArePaired known files second pair) where
-  after : (t o s : Option (List ℕ)) (P : List ℕ → List ℕ → List ℕ → Type 0) → IfSome t (IsBasinText pair.first.basin) →
-      IfSome o (IsBasinText pair.second.basin) →
-      IfSome s (IsSeriesText pair.first.basin pair.first.series) →
-      IfSome s (IsSeriesText pair.second.basin pair.second.series) →
-      ((x y z : List ℕ) → IsGoodForBoth x y z → AreSpelled x z pair.first.basin pair.first.series →
-      AreSpelled y z pair.second.basin pair.second.series → P x y z) →
-      IfSome t (λ x. IsGoodBasin x × IfSome o (λ y. IsGoodSecond x y × IfSome s (P x y)))
-  after None o s P first other series other_series holds = tt
-  after (Some x) None s P first other series other_series holds = (first.good, tt)
-  after (Some x) (Some y) s P first other series other_series holds =
-      (first.good, (good_second, by_series s series other_series))
-    where
-      good_second : IsGoodSecond x y
-      good_second = record {
-        good = other.good;
-        one_run = record {
-          first = pair.first.basin;
-          second = pair.second.basin;
-          first_spelled = first.spelled;
-          second_spelled = other.spelled;
-          same = paired.months;
-        };
-      }
+  -- what holds of all bytes that spell them
+  of_all : (P : List ℕ → List ℕ → List ℕ → Type 0) →
+      ((x y z : List ℕ) → AreSpelled x z pair.first.basin pair.first.series →
+      AreSpelled y z pair.second.basin pair.second.series → P x y z) → OfThree known files second P
+  of_all P holds = IfSome_then (known files.basin) paired.loaded.from_basin (λ x text.
+      IfSome_then (known second) paired.second_loaded.from_basin (λ y other.
+      IfSome_then (known_series known files.series)
+      (both_known (known_series known files.series) _ _ paired.loaded.from_series paired.second_loaded.from_series)
+      (λ z tables. holds x y z (spelled_by x z pair.first.basin pair.first.series paired.fits text tables.0)
+      (spelled_by y z pair.second.basin pair.second.series paired.second_fits other tables.1))))
 
-      by_series : (s : Option (List ℕ)) → IfSome s (IsSeriesText pair.first.basin pair.first.series) →
-          IfSome s (IsSeriesText pair.second.basin pair.second.series) →
-          IfSome s (P x y)
-      by_series None one two = tt
-      by_series (Some z) one two =
-          holds x y z
-          (record {
-            first = record {
-              basin = pair.first.basin;
-              spelled = first.spelled;
-              within = one.within;
-              sound =
-                  one.sound;
-            };
-            second = record {
-              basin = pair.second.basin;
-              spelled = other.spelled;
-              within = two.within;
-              sound =
-                  two.sound;
-            };
-          })
-          (spelled_by x z pair.first.basin pair.first.series paired.fits first one)
-          (spelled_by y z pair.second.basin pair.second.series paired.second_fits other two)
-
+  -- and the files are good
   after_both : (P : List ℕ → List ℕ → List ℕ → Type 0) →
       ((x y z : List ℕ) → IsGoodForBoth x y z → AreSpelled x z pair.first.basin pair.first.series →
       AreSpelled y z pair.second.basin pair.second.series → P x y z) →
       AfterBoth known files second P
-  after_both P holds =
-      after (known files.basin) (known second) (known_series known files.series) P paired.loaded.from_basin
-      paired.second_loaded.from_basin
-      paired.loaded.from_series paired.second_loaded.from_series holds
+  after_both P holds = IfSome_then (known files.basin) paired.loaded.from_basin (λ x text. (
+    text.good,
+    IfSome_then (known second) paired.second_loaded.from_basin (λ y other. (
+      record {
+        good = other.good;
+        one_run = record {
+          first = pair.first.basin;
+          second = pair.second.basin;
+          first_spelled = text.spelled;
+          second_spelled = other.spelled;
+          same = paired.months;
+        };
+      },
+      IfSome_then (known_series known files.series)
+          (both_known (known_series known files.series) _ _ paired.loaded.from_series paired.second_loaded.from_series)
+          (λ z tables. holds x y z
+          (record {
+            first = good_series x z pair.first.basin pair.first.series text tables.0;
+            second = good_series y z pair.second.basin pair.second.series other tables.1;
+          })
+          (spelled_by x z pair.first.basin pair.first.series paired.fits text tables.0)
+          (spelled_by y z pair.second.basin pair.second.series paired.second_fits other tables.1)),
+    )),
+  ))
 
   -- the cause of how a comparison ends
   pub cause : (how : Ending) (read write : Type 0) (old new : Output) →
       (MayWrite (status_of how) →
       Compares pair.first.basin pair.second.basin pair.first.series pair.second.series how write old new) →
       ((MayWrite (status_of how) → ⊥) → how ≡ ending.OutOfMemory) → HasComparingCause files second how known read write
-  cause ending.Done read write old new compares memory =
-      let all = compares tt in
+  cause ending.Done read write old new compares memory = let all = compares tt in
       after_both _ (λ x y z good spelled second_spelled. (
         good,
         nobody x y z pair.first.basin pair.second.basin pair.first.series pair.second.series all.records all.others
-            paired.valid paired.second_valid
-            spelled second_spelled all.first_keeps.history all.second_keeps.history
+            paired.valid paired.second_valid spelled second_spelled all.first_keeps.history all.second_keeps.history
             (ends_done (injuries pair.first.basin pair.second.basin all.records all.others) all.ends),
       ))
-  cause ending.Injured read write old new compares memory =
-      let all = compares tt in
+  cause ending.Injured read write old new compares memory = let all = compares tt in
       let found = ends_injured (injuries pair.first.basin pair.second.basin all.records all.others) all.ends in
       after_both _ (λ x y z good spelled second_spelled. (
         good,
         somebody x y z pair.first.basin pair.second.basin pair.first.series pair.second.series all.records all.others
-            paired.valid paired.second_valid
-            spelled second_spelled all.first_keeps.history all.second_keeps.history found.1.0 found.0 found.1.1,
+            paired.valid paired.second_valid spelled second_spelled all.first_keeps.history all.second_keeps.history
+            found.1.0 found.0 found.1.1,
       ))
   cause ending.WriteFault read write old new compares memory =
       ((compares tt).ends, after_both IsGoodForBoth (λ _ _ _ good _ _. good))
   cause ending.OutOfMemory read write old new compares memory = tt
-  cause (ending.Refuted refuted) read write old new compares memory =
-      let all = compares tt in
+  cause (ending.Refuted refuted) read write old new compares memory = let all = compares tt in
       absurd (ends_not (ending.Refuted refuted)
       (length (injuries pair.first.basin pair.second.basin all.records all.others)) all.ends (λ e. cc) (λ e. cc))
-  cause ending.Met read write old new compares memory =
-      let all = compares tt in
+  cause ending.Met read write old new compares memory = let all = compares tt in
       absurd (ends_not ending.Met (length (injuries pair.first.basin pair.second.basin all.records all.others)) all.ends
       (λ e. cc) (λ e. cc))
-  cause ending.Usage read write old new compares memory = let e = memory (λ may. may) in cc
-  cause ending.PartYear read write old new compares memory = let e = memory (λ may. may) in cc
-  cause (ending.ScriptRefused fault line) read write old new compares memory = let e = memory (λ may. may) in cc
-  cause (ending.BasinRefused finding) read write old new compares memory = let e = memory (λ may. may) in cc
-  cause (ending.SeriesRefused finding) read write old new compares memory = let e = memory (λ may. may) in cc
-  cause (ending.SecondRefused (of_second.Basin finding)) read write old new compares memory = let e =
-      memory (λ may. may) in cc
-  cause (ending.SecondRefused of_second.OtherRun) read write old new compares memory = let e = memory (λ may. may) in cc
-  cause (ending.SecondRefused (of_second.Series finding)) read write old new compares memory = let e =
-      memory (λ may. may) in cc
-  cause (ending.ReadFault file) read write old new compares memory = absurd (no_memory (memory (λ may. may)))
-    where
-      no_memory : ending.ReadFault file ≡ ending.OutOfMemory → ⊥
-      no_memory e = cc
-  cause (ending.InputTooLong file) read write old new compares memory = absurd (no_memory (memory (λ may. may)))
-    where
-      no_memory : ending.InputTooLong file ≡ ending.OutOfMemory → ⊥
-      no_memory e = cc
+  cause (ending.SecondRefused finding) read write old new compares memory =
+      absurd (let e = memory (second_silent finding) in cc)
+  cause other read write old new compares memory = absurd (let e = memory (λ may. may) in cc)
 
   -- what a comparison leaves on out
   pub writes : (how : Ending) (write : Type 0) (old new : Output) →
       (MayWrite (status_of how) →
       Compares pair.first.basin pair.second.basin pair.first.series pair.second.series how write old new) →
       ComparisonWrites known files second (status_of how) old new
-  writes how write old new compares =
-      by_known (known files.basin) (known second) (known_series known files.series) paired.loaded.from_basin
-      paired.second_loaded.from_basin
-      paired.loaded.from_series paired.second_loaded.from_series
-    where
-      by_known : (t o s : Option (List ℕ)) → IfSome t (IsBasinText pair.first.basin) →
-          IfSome o (IsBasinText pair.second.basin) →
-          IfSome s (IsSeriesText pair.first.basin pair.first.series) →
-          IfSome s (IsSeriesText pair.second.basin pair.second.series) →
-          IfSome t (λ x. IfSome o
-          (λ y. IfSome s (λ z. MayWrite (status_of how) → WritesComparison (status_of how) x y z old new)))
-      by_known None o s first other series other_series = tt
-      by_known (Some x) None s first other series other_series = tt
-      by_known (Some x) (Some y) None first other series other_series = tt
-      by_known (Some x) (Some y) (Some z) first other series other_series = λ may.
-          let all = compares may in
-          record {
-            first = pair.first.basin;
-            second = pair.second.basin;
-            records = all.records;
-            others = all.others;
-            first_run = record {
-              series = pair.first.series;
-              spelled = spelled_by x z pair.first.basin pair.first.series paired.fits first series;
-              keeps = all.first_keeps;
-            };
-            second_run = record {
-              series = pair.second.series;
-              spelled = spelled_by y z pair.second.basin pair.second.series paired.second_fits other other_series;
-              keeps = all.second_keeps;
-            };
-            written = all.written;
-          }
+  writes how write old new compares = of_all _ (λ x y z spelled second_spelled may.
+      let all = compares may in
+      record {
+        first = pair.first.basin;
+        second = pair.second.basin;
+        records = all.records;
+        others = all.others;
+        first_run = record { series = pair.first.series; spelled = spelled; keeps = all.first_keeps };
+        second_run = record { series = pair.second.series; spelled = second_spelled; keeps = all.second_keeps };
+        written = all.written;
+      })
 
   -- and the months that it solves
   pub work : (before now : WorkDone) →
       SolvesBoth pair.first.basin.months pair.first.basin pair.second.basin before now →
       ComparisonWork known files second before now
-  work before now solves =
-      by_known (known files.basin) (known second) paired.loaded.from_basin paired.second_loaded.from_basin
-    where
-      by_known : (t o : Option (List ℕ)) → IfSome t (IsBasinText pair.first.basin) →
-          IfSome o (IsBasinText pair.second.basin) →
-          IfSome t (λ x. IfSome o (λ y. (first second : Basin) → Spells x first → Spells y second →
-          SolvesBoth first.months first second before now))
-      by_known None o first other = tt
-      by_known (Some x) None first other = tt
-      by_known (Some x) (Some y) first other = λ b c spelled second_spelled.
-          let same : pair.first.basin ≡ b = one_basin x pair.first.basin b first.spelled spelled in
-          let same_second : pair.second.basin ≡ c = one_basin y pair.second.basin c other.spelled second_spelled in
-          rw (← same, ← same_second) solves
+  work before now solves = IfSome_then (known files.basin) paired.loaded.from_basin (λ x text.
+      IfSome_then (known second) paired.second_loaded.from_basin (λ y other b c spelled second_spelled.
+      let same : pair.first.basin ≡ b = one_basin x pair.first.basin b text.spelled spelled in
+      let same_second : pair.second.basin ≡ c = one_basin y pair.second.basin c other.spelled second_spelled in
+      rw (← same, ← same_second) solves))

@@ -1,5 +1,6 @@
 -- What the verdict on a result's bytes says of them.
 use Rattle.std.proofs.Common.{◌≡◌, ℕ, subst, sym, List, Option, Some, None}
+use Rattle.std.proofs.lemmas.Option.{IfSome_then}
 use Rattle.std.specs.Prelude.{Result, Ok, Err, IsOk, IfSome}
 use Rattle.water_edge.specs.Edge.{Output}
 use Rattle.inflow_file.specs.SeriesFaults.{SpellsSeries}
@@ -25,13 +26,13 @@ use Rattle.basin_cli.specs.Actions.{EndsChecking}
 use Rattle.basin_cli.specs.Answer.{EndsAnswer, IsAnswerFor, IsAnswerTo, LeavesAnswer, answered, ending_of}
 use Rattle.basin_cli.specs.Command.{Files}
 use Rattle.basin_cli.specs.Ending.{status_of}
-use Rattle.basin_cli.specs.Bytes.{AreSpelled, IsGoodBasin, IsGoodSeries, KnownFiles, known_series}
+use Rattle.basin_cli.specs.Bytes.{AreSpelled, KnownFiles}
 use Rattle.basin_cli.specs.Out.{Leaves, MayWrite}
 use Rattle.basin_cli.specs.Outcome.{IsHistoryText, IsReachesText, IsRefuted, IsYes, HasCheckingCause, WritesAnswer}
 use Rattle.basin_cli.specs.Reading.{OfBoth}
-use Rattle.basin_cli.specs.Series.{AreLoaded, IsBasinText, IsSeriesText}
-use Rattle.basin_file.specs.BasinFaults.{Spells}
-use Rattle.basin_file.proofs.Faultless.{faultless_files_are_valid}
+use Rattle.basin_cli.specs.Series.{AreLoaded}
+use Rattle.basin_cli.specs.declared.status.Status.{Status}
+use Rattle.basin_cli.proofs.Known.{accepted, after, of_both}
 use Rattle.basin_cli.proofs.OneSeries.{one_basin, one_series, same_history}
 
 -- bytes on which the verdict is a yes are the text of a history
@@ -133,63 +134,6 @@ is_no asked bytes s text b series refuted valid spelled is =
     no_yes question.Check h = is_no_text bytes s text b series refuted valid spelled h
     no_yes question.Audit h = is_not_audited bytes s text b series refuted valid spelled h
 
--- After the files of a command.
-
--- what a file without a fault spells is valid
-pub spelled_by : (bytes s : List ℕ) (b : Basin) (series : Inflows) → IsSeriesOf b series → IsBasinText b bytes →
-    IsSeriesText b series s →
-    AreSpelled bytes s b series
-spelled_by bytes s b series fits basin_text series_text = record {
-  basin_spelled = basin_text.spelled;
-  series_spelled = series_text.spelled;
-  valid = valid (faultless_files_are_valid bytes basin_text.good.sound);
-  fits = fits;
-}
-  where
-    valid : ((c : Basin) × Spells bytes c × IsValidBasin c) → IsValidBasin b
-    valid found = subst IsValidBasin (one_basin bytes found.0 b found.1 basin_text.spelled) found.2
-
-pub good_series : (bytes s : List ℕ) (b : Basin) (series : Inflows) → IsBasinText b bytes → IsSeriesText b series s →
-    IsGoodSeries bytes s
-good_series bytes s b series basin_text series_text =
-    record { basin = b; spelled = basin_text.spelled; within = series_text.within; sound = series_text.sound }
-
--- what follows for known bytes from what is known of them holds as far as they are known
-pub after_known : (t o r : Option (List ℕ)) (b : Basin) (series : Inflows) (Q : List ℕ → Type 0) (P : List ℕ → List ℕ →
-    List ℕ → Type 0) →
-    IsSeriesOf b series → IfSome t (IsBasinText b) → IfSome o (IsSeriesText b series) → IfSome r Q →
-    ((bytes s text : List ℕ) → AreSpelled bytes s b series → Q text → P bytes s text) →
-    IfSome t (λ bytes. IsGoodBasin bytes × IfSome o (λ s. IsGoodSeries bytes s × IfSome r (P bytes s)))
-after_known None o r b series Q P fits from_basin from_series is_known holds = tt
-after_known (Some bytes) None r b series Q P fits from_basin from_series is_known holds = (from_basin.good, tt)
-after_known (Some bytes) (Some s) None b series Q P fits from_basin from_series is_known holds =
-    (from_basin.good, (good_series bytes s b series from_basin from_series, tt))
-after_known (Some bytes) (Some s) (Some text) b series Q P fits from_basin from_series is_known holds = (
-  from_basin.good,
-  (
-    good_series bytes s b series from_basin from_series,
-    holds bytes s text (spelled_by bytes s b series fits from_basin from_series) is_known,
-  ),
-)
-
--- what holds of the bytes that are read holds as far as they are known
-pub after : (t o r : Option (List ℕ)) (b : Basin) (series : Inflows) (text : List ℕ) (P : List ℕ → List ℕ → List ℕ →
-    Type 0) → IsSeriesOf b series →
-    IfSome t (IsBasinText b) → IfSome o (IsSeriesText b series) → IfSome r (λ bytes. text ≡ bytes) →
-    ((bytes s : List ℕ) → AreSpelled bytes s b series → P bytes s text) →
-    IfSome t (λ bytes. IsGoodBasin bytes × IfSome o (λ s. IsGoodSeries bytes s × IfSome r (P bytes s)))
-after t o r b series text P fits from_basin from_series is holds =
-    after_known t o r b series (λ bytes. text ≡ bytes) P fits from_basin from_series is
-    (λ bytes s known spelled same. subst (P bytes s) same (holds bytes s spelled))
-
-pub accepted : (t o : Option (List ℕ)) (b : Basin) (series : Inflows) → IfSome t (IsBasinText b) →
-    IfSome o (IsSeriesText b series) →
-    IfSome t (λ bytes. IsGoodBasin bytes × IfSome o (IsGoodSeries bytes))
-accepted None o b series from_basin from_series = tt
-accepted (Some bytes) None b series from_basin from_series = (from_basin.good, tt)
-accepted (Some bytes) (Some s) b series from_basin from_series =
-    (from_basin.good, good_series bytes s b series from_basin from_series)
-
 -- The answer to a result, which is read as it is checked.
 
 -- how a check ends that has an answer
@@ -247,64 +191,27 @@ ends_later asked b series known ending.WriteFault read later write since h = h
 ends_later asked b series known ending.OutOfMemory read later write since h = tt
 ends_later asked b series known other read later write since h = absurd h
 
--- the cause of how a check or an audit ends
-pub checking_cause : (asked : Question) (known : KnownFiles) (files : Files) (result : List ℕ) (b : Basin)
-    (series : Inflows)
-    (how : Ending) (read write : Type 0) →
-    IsValidBasin b → IsSeriesOf b series → AreLoaded known files b series →
-    EndsChecking asked b series (known result) how read write →
-    HasCheckingCause asked files result how known read write
-checking_cause asked known files result b series ending.Done read write valid fits loaded ends =
-    after_known (known files.basin) (known_series known files.series) (known result) b series
-    (λ text. IsAnswerFor asked b series text (Ok ends.0)) (IsYes asked)
-    fits loaded.from_basin loaded.from_series ends.1
-    (λ bytes s text spelled good. is_yes asked bytes s text b series ends.0 valid spelled good)
-checking_cause asked known files result b series (ending.Refuted refuted) read write valid fits loaded ends =
-    after_known (known files.basin) (known_series known files.series) (known result) b series
-    (λ text. IsAnswerFor asked b series text (Err refuted)) (IsRefuted asked refuted)
-    fits loaded.from_basin loaded.from_series ends
-    (λ bytes s text spelled bad. is_no asked bytes s text b series refuted valid spelled bad)
-checking_cause asked known files result b series (ending.ReadFault file.Result) read write valid fits loaded ends =
-    (ends, accepted (known files.basin) (known_series known files.series) b series loaded.from_basin loaded.from_series)
-checking_cause asked known files result b series ending.WriteFault read write valid fits loaded ends =
-    (ends, accepted (known files.basin) (known_series known files.series) b series loaded.from_basin loaded.from_series)
-checking_cause asked known files result b series ending.OutOfMemory read write valid fits loaded ends = tt
-checking_cause asked known files result b series other read write valid fits loaded ends = absurd ends
+-- After the files of a check or an audit, the cause of how it ends.
+module _ (known : KnownFiles) (files : Files) (b : Basin) (series : Inflows) (valid : IsValidBasin b)
+    (fits : IsSeriesOf b series) (loaded : AreLoaded known files b series) (asked : Question) (result : List ℕ) where
+  pub checking_cause : (how : Ending) (read write : Type 0) →
+      EndsChecking asked b series (known result) how read write →
+      HasCheckingCause asked files result how known read write
+  checking_cause ending.Done read write ends = after known files b series fits loaded _ (λ bytes s spelled.
+      IfSome_then (known result) ends.1 (λ text good. is_yes asked bytes s text b series ends.0 valid spelled good))
+  checking_cause (ending.Refuted refuted) read write ends =
+      after known files b series fits loaded _ (λ bytes s spelled.
+      IfSome_then (known result) ends (λ text bad. is_no asked bytes s text b series refuted valid spelled bad))
+  checking_cause (ending.ReadFault file.Result) read write ends = (ends, accepted known files b series fits loaded)
+  checking_cause ending.WriteFault read write ends = (ends, accepted known files b series fits loaded)
+  checking_cause ending.OutOfMemory read write ends = tt
+  checking_cause other read write ends = absurd ends
 
--- what a check leaves on out
-pub of_known : (t o r : Option (List ℕ)) (b : Basin) (series : Inflows) (Q : List ℕ → Type 0) (P : List ℕ → List ℕ →
-    List ℕ → Type 0) →
-    IsSeriesOf b series → IfSome t (IsBasinText b) → IfSome o (IsSeriesText b series) → IfSome r Q →
-    ((bytes s text : List ℕ) → AreSpelled bytes s b series → Q text → P bytes s text) →
-    IfSome t (λ bytes. IfSome o (λ s. IfSome r (P bytes s)))
-of_known None o r b series Q P fits from_basin from_series is_known holds = tt
-of_known (Some bytes) None r b series Q P fits from_basin from_series is_known holds = tt
-of_known (Some bytes) (Some s) None b series Q P fits from_basin from_series is_known holds = tt
-of_known (Some bytes) (Some s) (Some text) b series Q P fits from_basin from_series is_known holds =
-    holds bytes s text (spelled_by bytes s b series fits from_basin from_series) is_known
-
-pub of_both : (t o r : Option (List ℕ)) (b : Basin) (series : Inflows) (text : List ℕ) (P : List ℕ → List ℕ → List ℕ →
-    Type 0) → IsSeriesOf b series →
-    IfSome t (IsBasinText b) → IfSome o (IsSeriesText b series) → IfSome r (λ bytes. text ≡ bytes) →
-    ((bytes s : List ℕ) → AreSpelled bytes s b series → P bytes s text) →
-    IfSome t (λ bytes. IfSome o (λ s. IfSome r (P bytes s)))
-of_both t o r b series text P fits from_basin from_series is holds =
-    of_known t o r b series (λ bytes. text ≡ bytes) P fits from_basin from_series is
-    (λ bytes s known spelled same. subst (P bytes s) same (holds bytes s spelled))
-
-pub checking_writes : (asked : Question) (known : KnownFiles) (files : Files) (result : List ℕ) (b : Basin)
-    (series : Inflows)
-    (how : Ending) (old new : Output) →
-    IsSeriesOf b series → AreLoaded known files b series →
-    IfSome (known result) (λ text. MayWrite (status_of how) →
-    LeavesAnswer asked b series text (status_of how) old new) →
-    OfBoth known files
-    (λ bytes s. IfSome (known result) (λ r. MayWrite (status_of how) →
-    WritesAnswer asked (status_of how) bytes s r old new))
-checking_writes asked known files result b series how old new fits loaded leaves =
-    of_known (known files.basin) (known_series known files.series) (known result) b series
-    (λ text. MayWrite (status_of how) → LeavesAnswer asked b series text (status_of how) old new)
-    (λ bytes s r. MayWrite (status_of how) → WritesAnswer asked (status_of how) bytes s r old new) fits
-    loaded.from_basin loaded.from_series leaves
-    (λ bytes s text spelled left may.
-    record { basin = b; series = series; spelled = spelled; written = left may })
+  -- and what it leaves on out
+  pub checking_writes : (status : Status) (old new : Output) →
+      IfSome (known result) (λ text. MayWrite status → LeavesAnswer asked b series text status old new) →
+      OfBoth known files
+      (λ bytes s. IfSome (known result) (λ text. MayWrite status → WritesAnswer asked status bytes s text old new))
+  checking_writes status old new leaves = of_both known files b series fits loaded _ (λ bytes s spelled.
+      IfSome_then (known result) leaves (λ text left may.
+      record { basin = b; series = series; spelled = spelled; written = left may }))

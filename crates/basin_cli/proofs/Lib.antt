@@ -5,16 +5,15 @@ pub mod Missing
 pub mod Failing
 pub mod Reading
 pub mod OneSeries
+pub mod Known
 pub mod Judged
 pub mod Outcomes
 pub mod Compared
-pub mod Comparisons
 pub mod Stops
 pub mod Injured
 pub mod Asked
 pub mod Explained
 pub mod Accounts
-pub mod Gathering
 pub mod Edited
 pub mod FoundBytes
 pub mod Idle

@@ -1,5 +1,6 @@
 -- How the reading of a comparison's files ends.
 use Rattle.std.proofs.Common.{◌≡◌, refl, sym, subst, ℕ, ◌≤◌, List, Option, Some, None, length, arith}
+use Rattle.std.proofs.lemmas.Option.{IfSome_then}
 use Rattle.std.specs.Prelude.{IfSome, IfErr, Result, Ok, Err}
 use Rattle.water_edge.specs.Edge.{Output, Rose}
 use Rattle.water_model.specs.declared.types.Basin.{Basin}
@@ -8,14 +9,15 @@ use Rattle.basin_cli.specs.declared.ending.Ending.{Ending}
 use Rattle.basin_cli.specs.declared.ending.Ending.TheVariants as ending
 use Rattle.basin_cli.specs.declared.ending.File.TheVariants as file
 use Rattle.basin_cli.specs.declared.ending.SecondFinding.TheVariants as of_second
-use Rattle.basin_cli.specs.Bytes.{IsGoodBasin, IsTooLong, KnownFiles, file_limit, known_series}
+use Rattle.basin_cli.specs.Bytes.{IsTooLong, KnownFiles, file_limit, known_series}
 use Rattle.basin_cli.specs.Command.{Files}
 use Rattle.basin_cli.specs.Comparison.{HaveSameMonths, IsGoodSecond, StopsComparing, AfterFirst, AfterBoth}
-use Rattle.basin_cli.specs.Comparison.{ComparisonWrites, WritesComparison}
+use Rattle.basin_cli.specs.Comparison.{ComparisonWrites}
 use Rattle.basin_cli.specs.Ending.{status_of}
 use Rattle.basin_cli.specs.Out.{MayWrite}
 use Rattle.basin_cli.specs.Pairs.{BothSeriesEnd, BothSeriesReadEnd, IsOtherRun}
 use Rattle.basin_cli.specs.Series.{IsBasinText}
+use Rattle.basin_cli.proofs.Known.{of_any}
 
 -- bytes that were read are refused as they are
 both_read : (first second : Basin) (bytes : List ℕ) (name : Option (List ℕ)) (read : Type 0) (how : Ending) →
@@ -31,12 +33,6 @@ pub both_read_result : (first second : Basin) (bytes : List ℕ) (name : Option 
     IfErr r (BothSeriesEnd first second bytes) → IfErr r (BothSeriesReadEnd first second name (Some bytes) read)
 both_read_result first second bytes name read (Ok both) within h = tt
 both_read_result first second bytes name read (Err how) within h = both_read first second bytes name read how within h
-
--- what is known of the first file and of the second together
-joined : (t : Option (List ℕ)) (A : List ℕ → Type 0) (B : List ℕ → Type 0) → ((bytes : List ℕ) → A bytes → B bytes) →
-    IfSome t A → IfSome t B
-joined None A B f h = tt
-joined (Some bytes) A B f h = f bytes h
 
 -- of a later shelf the same is known, and a count that rose since then rose since the beginning
 same_series : (known later : KnownFiles) (name : Option (List ℕ)) → ((n : List ℕ) → later n ≡ known n) →
@@ -63,10 +59,8 @@ module _ (files : Files) (second : List ℕ) (known : KnownFiles) (read : Type 0
         ((bytes other : List ℕ) → IsBasinText b bytes → IsBasinText c other → G bytes other) →
         AfterFirst known files second G
     both_known G f =
-        joined (known files.basin) (IsBasinText b) (λ bytes. IsGoodBasin bytes × IfSome (known second) (G bytes))
-        (λ bytes is.
-        (is.good, joined (known second) (IsBasinText c) (G bytes) (λ other also. f bytes other is also) second_text))
-        first_text
+        IfSome_then (known files.basin) first_text
+        (λ bytes is. (is.good, IfSome_then (known second) second_text (λ other also. f bytes other is also)))
 
     good_second : HaveSameMonths b c → AfterFirst known files second IsGoodSecond
     good_second same = both_known IsGoodSecond (λ bytes other text other_text. record {
@@ -110,8 +104,7 @@ module _ (files : Files) (second : List ℕ) (known : KnownFiles) (read : Type 0
               same = same;
             };
           },
-          joined (known_series known files.series) S (Q bytes other)
-              (λ series is. f bytes other series text other_text is) h,
+          IfSome_then (known_series known files.series) h (λ series is. f bytes other series text other_text is),
         ))
 
     series_stops : (how : Ending) → HaveSameMonths b c →
@@ -163,13 +156,5 @@ pub refused_writes : (known : KnownFiles) (files : Files) (second : List ℕ) (h
     (old new : Output) →
     StopsComparing files second how known read → ComparisonWrites known files second (status_of how) old new
 refused_writes known files second how read old new h =
-    by_known (known files.basin) (known second) (known_series known files.series)
-  where
-    by_known : (t o s : Option (List ℕ)) →
-        IfSome t (λ bytes. IfSome o
-        (λ other. IfSome s (λ series. MayWrite (status_of how) →
-        WritesComparison (status_of how) bytes other series old new)))
-    by_known None o s = tt
-    by_known (Some bytes) None s = tt
-    by_known (Some bytes) (Some other) None = tt
-    by_known (Some bytes) (Some other) (Some series) = λ may. absurd (never_writes known files second how read h may)
+    of_any (known files.basin) (λ _. of_any (known second) (λ _. of_any (known_series known files.series)
+    (λ _ may. absurd (never_writes known files second how read h may))))

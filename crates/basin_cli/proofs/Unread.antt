@@ -11,21 +11,10 @@ use Rattle.basin_cli.specs.declared.status.Status.TheVariants as its
 
 pub unread : (P : Type 0) (how : Ending) → (how ≡ ending.OutOfMemory → P) → WithoutMemory (status_of how) P
 unread P ending.OutOfMemory not = not refl
-unread P ending.Done not = tt
-unread P (ending.Refuted refuted) not = tt
-unread P ending.Injured not = tt
-unread P ending.Met not = tt
-unread P ending.Usage not = tt
-unread P (ending.BasinRefused finding) not = tt
-unread P ending.PartYear not = tt
-unread P (ending.SeriesRefused finding) not = tt
 unread P (ending.SecondRefused (of_second.Basin finding)) not = tt
 unread P (ending.SecondRefused of_second.OtherRun) not = tt
 unread P (ending.SecondRefused (of_second.Series finding)) not = tt
-unread P (ending.ReadFault file) not = tt
-unread P ending.WriteFault not = tt
-unread P (ending.InputTooLong file) not = tt
-unread P (ending.ScriptRefused fault line) not = tt
+unread P other not = tt
 
 -- and so does what follows from it
 pub WithoutMemory-then : (status : Status) (P Q : Type 0) → (P → Q) → WithoutMemory status P → WithoutMemory status Q

@@ -118,13 +118,13 @@ abbrev pub IsComparedAs : Status → Type 0 → Type 0
 IsComparedAs how injured =
     (how ≡ status.OutOfMemory) ⊎ (((how ≡ status.Done) × (injured → ⊥)) ⊎ ((how ≡ status.No) × injured))
 
--- known bytes that are accepted, and no fault of the shelf or of out: the basins are compared, unless memory ran out
-abbrev pub ComparesAfter : KnownFiles → Files → List ℕ → Status → Type 0 → Type 0 → Type 0
-ComparesAfter known files second how read write =
+-- known bytes that are accepted: the basins are compared, unless memory ran out
+abbrev pub ComparesAfter : KnownFiles → Files → List ℕ → Status → Type 0
+ComparesAfter known files second how =
     IfSome (known files.basin) (λ bytes. IsGoodBasin bytes →
     IfSome (known second) (λ other. IsGoodSecond bytes other →
     IfSome (known_series known files.series) (λ series. IsGoodForBoth bytes other series →
-    (read → ⊥) → (write → ⊥) → IsComparedAs how (SomebodyIsInjured bytes other series))))
+    IsComparedAs how (SomebodyIsInjured bytes other series))))
 
 -- What `compare` leaves on out: the comparison of a run of the first basin with one of the second, each with the
 -- series. Both keep the priority of rights.

@@ -48,11 +48,11 @@ HasEditingCause files script (ending.InputTooLong file.Script) known read write 
     AfterSeries known files script (λ _ _ bytes. IsTooLong bytes)
 HasEditingCause files script other known read write = StopsReading files other known read
 
--- known bytes that are accepted, and no fault of the shelf or of out: the call is done, unless memory ran out
-abbrev pub EditsAfter : KnownFiles → Files → List ℕ → Status → Type 0 → Type 0 → Type 0
-EditsAfter known files script status read write =
+-- known bytes that are accepted: the call is done, unless memory ran out
+abbrev pub EditsAfter : KnownFiles → Files → List ℕ → Status → Type 0
+EditsAfter known files script status =
     CompletesAfter known files (λ bytes series. IfSome (known script) (λ text. IsGoodScript bytes series text →
-    (read → ⊥) → (write → ⊥) → IsDone status))
+    IsDone status))
 
 -- What is left on out: for each `show` the lines of its month, of the series as it is by then, and after them how many
 -- were shown. After a fault of out a prefix is left of the months shown so far, or of the whole; and where memory ran

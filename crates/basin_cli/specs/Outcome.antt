@@ -206,26 +206,29 @@ pub record Ends (command : Option Command) (status : Status) (known : KnownFiles
   pub asked : HaveAsked command how asked_old asked_new
   pub writes_line : WritesErrLine err_old err_new err_before err_now (line_of how)
 
+-- how a call answers if neither the shelf nor out fails: where the bytes that are known of its files are accepted, it
+-- is done or says what is so, unless memory ran out
+abbrev pub Answers : Command → Status → KnownFiles → Type 0
+Answers (run files) status known = CompletesAfter known files (λ _ _. IsDone status)
+Answers (check asked files result) status known =
+    CompletesAfter known files (λ bytes series. IfSome (known result) (λ text.
+    IsJudged status (IsYes asked bytes series text)))
+Answers (report files) status known = CompletesAfter known files (λ _ _. IsDone status)
+Answers (trial number size) status known = IsDone status
+Answers (compare files second) status known = ComparesAfter known files second status
+Answers (why asked files month name) status known =
+    CompletesAfter known files (λ bytes series. IsAsked month name bytes →
+    IsJudged status (IsShortIn month name bytes series))
+Answers (calls files) status known = CompletesAfter known files (λ _ _. IsDone status)
+Answers (ensemble files) status known = CompletesAfter known files (λ bytes _. IsOfYears bytes → IsDone status)
+Answers (edit files script) status known = EditsAfter known files script status
+Answers (upgrade basin) status known = UpgradesAfter known basin status
+
+-- and so it does where no reading failed, of which a trial has none, and out did not fail
 abbrev pub Completes : Option Command → Status → KnownFiles → Type 0 → Type 0 → Type 0
 Completes None status known read write = ⊤
-Completes (Some (run files)) status known read write =
-    CompletesAfter known files (λ _ _. (read → ⊥) → (write → ⊥) → IsDone status)
-Completes (Some (report files)) status known read write =
-    CompletesAfter known files (λ _ _. (read → ⊥) → (write → ⊥) → IsDone status)
-Completes (Some (trial number size)) status known read write = (write → ⊥) → IsDone status
-Completes (Some (check asked files result)) status known read write =
-    CompletesAfter known files (λ bytes series. IfSome (known result) (λ text.
-    (read → ⊥) → (write → ⊥) → IsJudged status (IsYes asked bytes series text)))
-Completes (Some (compare files second)) status known read write = ComparesAfter known files second status read write
-Completes (Some (calls files)) status known read write =
-    CompletesAfter known files (λ _ _. (read → ⊥) → (write → ⊥) → IsDone status)
-Completes (Some (why asked files month name)) status known read write =
-    CompletesAfter known files (λ bytes series. IsAsked month name bytes →
-    (read → ⊥) → (write → ⊥) → IsJudged status (IsShortIn month name bytes series))
-Completes (Some (ensemble files)) status known read write =
-    CompletesAfter known files (λ bytes _. IsOfYears bytes → (read → ⊥) → (write → ⊥) → IsDone status)
-Completes (Some (edit files script)) status known read write = EditsAfter known files script status read write
-Completes (Some (upgrade basin)) status known read write = UpgradesAfter known basin status read write
+Completes (Some (trial number size)) status known read write = (write → ⊥) → Answers (trial number size) status known
+Completes (Some command) status known read write = (read → ⊥) → (write → ⊥) → Answers command status known
 
 -- what `run` leaves on out: the text of a run of what the bytes spell, or after a fault of out as far as it was written
 pub record WritesRun (status : Status) (bytes series_bytes : List ℕ) (old new : Output)

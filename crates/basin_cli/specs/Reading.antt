@@ -46,8 +46,7 @@ IsDone status = (status ≡ Done) ⊎ (status ≡ OutOfMemory)
 abbrev pub IsJudged : Status → Type 0 → Type 0
 IsJudged status asked = (status ≡ OutOfMemory) ⊎ (((status ≡ Done) × asked) ⊎ ((status ≡ No) × (asked → ⊥)))
 
--- right words, known bytes that are accepted, and no fault of the shelf or of out: the call is done, unless memory ran
--- out
+-- where both files are good, as far as their bytes are known, this holds of the bytes
 abbrev pub CompletesAfter : KnownFiles → Files → (List ℕ → List ℕ → Type 0) → Type 0
 CompletesAfter known files P =
     IfSome (known files.basin) (λ bytes. IsGoodBasin bytes →

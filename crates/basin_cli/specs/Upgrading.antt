@@ -32,10 +32,9 @@ HasUpgradingCause name (ending.InputTooLong file.Basin) known read write = IfSom
 HasUpgradingCause name ending.OutOfMemory known read write = ⊤
 HasUpgradingCause name other known read write = ⊥
 
--- known bytes that are accepted, and no fault of the shelf or of out: the call is done, unless memory ran out
-abbrev pub UpgradesAfter : KnownFiles → List ℕ → Status → Type 0 → Type 0 → Type 0
-UpgradesAfter known name status read write =
-    IfSome (known name) (λ bytes. IsGoodBasin bytes → (read → ⊥) → (write → ⊥) → IsDone status)
+-- known bytes that are accepted: the call is done, unless memory ran out
+abbrev pub UpgradesAfter : KnownFiles → List ℕ → Status → Type 0
+UpgradesAfter known name status = IfSome (known name) (λ bytes. IsGoodBasin bytes → IsDone status)
 
 -- out was left with such a text, or after a fault of out with a prefix of it
 abbrev pub UpgradeWrites : KnownFiles → List ℕ → Status → Output → Output → Type 0

@@ -50,9 +50,8 @@ returns g c = λ count.
     let new = g.K.Sink.output c.check_file.new.out in
     record {
       cause =
-          checking_cause c.args.question known files result b series how read write c.in-Ok.ensures.valid
-          c.in-Ok.ensures.fits
-          c.in-Ok.ensures.loaded
+          checking_cause known files b series c.in-Ok.ensures.valid c.in-Ok.ensures.fits c.in-Ok.ensures.loaded
+          c.args.question result how read write
           (ends_later c.args.question b series (known result) how mid read write
           (rose_since _ _ _ c.in-Ok.ensures.later)
           (subst (λ (o : Option (List ℕ)). EndsChecking c.args.question b series o how mid write)
@@ -64,8 +63,8 @@ returns g c = λ count.
           c.in-Ok.ensures.reads c.check_file.ensures.reads;
       can_be_printed = search rules;
       writes =
-          checking_writes c.args.question known files result b series how old new c.in-Ok.ensures.fits
-          c.in-Ok.ensures.loaded
+          checking_writes known files b series c.in-Ok.ensures.valid c.in-Ok.ensures.fits c.in-Ok.ensures.loaded
+          c.args.question result (status_of how) old new
           (subst (λ (o : Option (List ℕ)). IfSome o (λ text. MayWrite (status_of how) →
           LeavesAnswer c.args.question b series text (status_of how) old new))
           (c.in-Ok.ensures.same.known result) c.check_file.ensures.leaves);

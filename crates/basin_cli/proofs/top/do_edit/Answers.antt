@@ -26,23 +26,23 @@ returns g c =
     (c.in-Ok.ensures.same.known script) c.in-Ok-read_file.ensures.bytes) in
     record {
       cause =
-          editing_cause known files script text b series how _ _ c.in-Ok.ensures.fits c.in-Ok.ensures.loaded
-          (rw c.deref.ensures.value c.in-Ok-read_file.ensures.within) is c.edit_basin.ensures.ends;
+          editing_cause known files b series c.in-Ok.ensures.fits c.in-Ok.ensures.loaded script text is how _ _
+          (rw c.deref.ensures.value c.in-Ok-read_file.ensures.within) c.edit_basin.ensures.ends;
       asked =
           editing_stops (files_to (edit files script)) (g.S.Shelf.asked c.args.shelf.now)
           (g.S.Shelf.asked c.read_file.new.shelf) b series text how _ c.edit_basin.ensures.ends;
       can_be_printed = search rules;
       writes =
-          editing_writes known files script text b series (status_of how) _ _ c.in-Ok.ensures.fits
-          c.in-Ok.ensures.loaded is c.edit_basin.ensures.leaves;
+          editing_writes known files b series c.in-Ok.ensures.fits c.in-Ok.ensures.loaded script text is
+          (status_of how) _ _ c.edit_basin.ensures.leaves;
       out_stays = c.edit_basin.ensures.out_stays;
       flushed = c.edit_basin.ensures.flushed;
       shown = c.edit_basin.ensures.shown;
       unread = tt;
       idle = c.edit_basin.ensures.idle;
       work =
-          editing_solves known files script text b series c.args.work.now c.edit_basin.new.work
-          c.in-Ok.ensures.fits c.in-Ok.ensures.loaded is c.edit_basin.ensures.work;
+          editing_solves known files b series c.in-Ok.ensures.fits c.in-Ok.ensures.loaded script text is
+          c.args.work.now c.edit_basin.new.work c.edit_basin.ensures.work;
     }
 
 pub returns-in-Err-read_file : goal.returns-in-Err-read_file
@@ -53,8 +53,8 @@ returns-in-Err-read_file g c =
     let ending = c.in-Err-read_file.ending in
     record {
       cause =
-          script_cause known files script c.in-Ok.files.basin c.in-Ok.files.series
-          (g.S.Shelf.known c.read_inputs.new.shelf script) ending _ _ _ c.in-Ok.ensures.fits c.in-Ok.ensures.loaded
+          script_cause known files c.in-Ok.files.basin c.in-Ok.files.series c.in-Ok.ensures.fits
+          c.in-Ok.ensures.loaded script (g.S.Shelf.known c.read_inputs.new.shelf script) ending _ _ _
           (c.in-Ok.ensures.same.known script) (rose_since _ _ _ c.in-Ok.ensures.later)
           c.in-Err-read_file.ensures.ends;
       asked =

@@ -1,8 +1,11 @@
-use Rattle.std.proofs.Common.{rules}
+use Rattle.std.proofs.Common.{◌*◌, rules}
+use Rattle.index_seq.specs.Traces.{years_of}
+use Rattle.month_fold.specs.Works.{Solves}
 use Rattle.basin_cli.specs.Command.{ensemble, named}
 use Rattle.basin_cli.specs.Failed.{files_to}
 use Rattle.basin_cli.proofs.Failing.{solving_stops}
-use Rattle.basin_cli.proofs.Gathering.{gathering_cause, gathering_solves, gathering_writes}
+use Rattle.basin_cli.proofs.Known.{of_basin}
+use Rattle.basin_cli.proofs.Solved.{gathering_cause, gathering_writes}
 use Rattle.basin_cli.proofs.top.do_ensemble.Goals as goal
 
 pub returns : goal.returns
@@ -14,14 +17,14 @@ returns g c =
     let how = c.ensemble_basin.result in
     record {
       cause =
-          gathering_cause known files b series how _ _ c.in-Ok.ensures.whole c.in-Ok.ensures.loaded
-          c.ensemble_basin.ensures.ends;
+          gathering_cause known files b series c.in-Ok.ensures.fits c.in-Ok.ensures.loaded how _ _
+          c.in-Ok.ensures.whole c.ensemble_basin.ensures.ends;
       asked =
           solving_stops (files_to (ensemble files)) (g.S.Shelf.asked c.args.shelf.now)
           (g.S.Shelf.asked c.read_record.new.shelf) how _ c.ensemble_basin.ensures.ends;
       can_be_printed = search rules;
       writes =
-          gathering_writes known files b series how _ _ c.in-Ok.ensures.fits c.in-Ok.ensures.loaded
+          gathering_writes known files b series c.in-Ok.ensures.fits c.in-Ok.ensures.loaded how _ _
           c.ensemble_basin.ensures.leaves;
       out_stays = c.ensemble_basin.ensures.out_stays;
       flushed = c.ensemble_basin.ensures.flushed;
@@ -29,6 +32,7 @@ returns g c =
       unread = tt;
       idle = λ refused. absurd (c.ensemble_basin.ensures.idle refused);
       work =
-          gathering_solves (known files.basin) b c.args.work.now c.ensemble_basin.new.work
+          of_basin (known files.basin) b
+          (λ d. Solves (years_of d * d.months) d c.args.work.now c.ensemble_basin.new.work)
           c.in-Ok.ensures.loaded.from_basin c.ensemble_basin.ensures.work;
     }

@@ -1,9 +1,11 @@
+use Rattle.month_fold.specs.Works.{SolvesRun}
 use Rattle.basin_cli.specs.Command.{named, report}
 use Rattle.basin_cli.specs.Ending.{status_of}
 use Rattle.basin_cli.specs.Failed.{files_to}
 use Rattle.basin_cli.proofs.Failing.{solving_stops}
 use Rattle.basin_cli.proofs.Idle.{stopped_writes}
-use Rattle.basin_cli.proofs.Solved.{report_writes, solving_cause, solving_prints, solving_solves}
+use Rattle.basin_cli.proofs.Known.{of_basin}
+use Rattle.basin_cli.proofs.Solved.{report_writes, solving_cause, solving_prints}
 use Rattle.basin_cli.proofs.top.do_report.Goals as goal
 
 pub returns : goal.returns
@@ -14,21 +16,22 @@ returns g c =
     let series = c.in-Ok.files.series in
     let how = c.report_basin.result in
     record {
-      cause = solving_cause known files b series how _ _ c.in-Ok.ensures.loaded c.report_basin.ensures.ends;
+      cause =
+          solving_cause known files b series c.in-Ok.ensures.fits c.in-Ok.ensures.loaded how _ _
+          c.report_basin.ensures.ends;
       asked =
           solving_stops (files_to (report files)) (g.S.Shelf.asked c.args.shelf.now)
           (g.S.Shelf.asked c.read_inputs.new.shelf) how _ c.report_basin.ensures.ends;
       can_be_printed = solving_prints how _ c.report_basin.ensures.ends;
       writes =
-          report_writes known files b series how (g.K.Sink.output c.args.out.now)
-          (g.K.Sink.output c.report_basin.new.out) c.in-Ok.ensures.fits c.in-Ok.ensures.loaded
-          c.report_basin.ensures.leaves;
+          report_writes known files b series c.in-Ok.ensures.fits c.in-Ok.ensures.loaded how
+          (g.K.Sink.output c.args.out.now) (g.K.Sink.output c.report_basin.new.out) c.report_basin.ensures.leaves;
       out_stays = c.report_basin.ensures.out_stays;
       flushed = c.report_basin.ensures.flushed;
       shown = tt;
       unread = tt;
       idle = λ stopped. c.report_basin.ensures.idle (stopped_writes (status_of how) stopped);
       work =
-          solving_solves known files b c.args.work.now c.report_basin.new.work c.in-Ok.ensures.loaded.from_basin
-          c.report_basin.ensures.work;
+          of_basin (known files.basin) b (λ d. SolvesRun d c.args.work.now c.report_basin.new.work)
+          c.in-Ok.ensures.loaded.from_basin c.report_basin.ensures.work;
     }

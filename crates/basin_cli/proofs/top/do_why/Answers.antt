@@ -1,10 +1,12 @@
 use Rattle.std.proofs.Common.{rules}
 use Rattle.basin_cli.specs.Command.{named, why}
 use Rattle.basin_cli.specs.Ending.{status_of}
+use Rattle.basin_cli.specs.Explained.{WorkUpTo}
 use Rattle.basin_cli.specs.Failed.{files_to}
 use Rattle.basin_cli.proofs.Idle.{stopped_writes}
 use Rattle.basin_cli.proofs.Failing.{asking_stops}
-use Rattle.basin_cli.proofs.Accounts.{asking_cause, asking_solves, asking_writes}
+use Rattle.basin_cli.proofs.Accounts.{asking_cause, asking_writes}
+use Rattle.basin_cli.proofs.Known.{of_basin}
 use Rattle.basin_cli.proofs.top.do_why.Goals as goal
 
 pub returns : goal.returns
@@ -17,24 +19,22 @@ returns g c =
     let how = c.explain_right.result in
     record {
       cause =
-          asking_cause known files c.args.month right b series how _ _ c.in-Ok.ensures.valid c.in-Ok.ensures.fits
-          c.in-Ok.ensures.loaded
-          (rw c.as_bytes.ensures.value at c.explain_right.ensures.ends);
+          asking_cause known files b series c.in-Ok.ensures.fits c.in-Ok.ensures.loaded c.args.month right how _ _
+          c.in-Ok.ensures.valid (rw c.as_bytes.ensures.value at c.explain_right.ensures.ends);
       asked =
           asking_stops (files_to (why c.args.account files c.args.month right)) (g.S.Shelf.asked c.args.shelf.now)
           (g.S.Shelf.asked c.read_inputs.new.shelf) b series c.args.month right how _
           (rw c.as_bytes.ensures.value at c.explain_right.ensures.ends);
       can_be_printed = search rules;
       writes =
-          asking_writes c.args.account known files c.args.month right b series how _ _ c.in-Ok.ensures.fits
-          c.in-Ok.ensures.loaded
-          (rw c.as_bytes.ensures.value at c.explain_right.ensures.answers);
+          asking_writes known files b series c.in-Ok.ensures.fits c.in-Ok.ensures.loaded c.args.month right
+          c.args.account how _ _ (rw c.as_bytes.ensures.value at c.explain_right.ensures.answers);
       out_stays = c.explain_right.ensures.out_stays;
       flushed = c.explain_right.ensures.flushed;
       shown = tt;
       unread = tt;
       idle = λ stopped. c.explain_right.ensures.idle (stopped_writes (status_of how) stopped);
       work =
-          asking_solves known files c.args.month b series c.args.work.now c.explain_right.new.work
-          c.in-Ok.ensures.loaded c.explain_right.ensures.work;
+          of_basin (known files.basin) b (λ d. WorkUpTo d c.args.month c.args.work.now c.explain_right.new.work)
+          c.in-Ok.ensures.loaded.from_basin c.explain_right.ensures.work;
     }
