@@ -14,6 +14,7 @@ use crate::opening::{blank_state, last_outlet};
 use crate::progress::{CheckProgress, take_line};
 use crate::refuted::{Refuted, RefutedKind};
 use crate::state::Context;
+use cut_cert::rows::NodeRows;
 use month_terms::evaporation::tables_of;
 use result_reader::ResultReader;
 use rights_roll::roll::Roll;
@@ -63,6 +64,7 @@ impl<'b> Checker<'b> {
         ensures audit { IfOk result (λ checker. checker.progress.audit ≡ audit) }
     {
         let roll = Roll::of_basin(alloc, basin)?;
+        let rows = NodeRows::of(alloc, basin, &roll)?;
         let tables = tables_of(alloc, basin)?;
         let state = blank_state(alloc, basin)?;
         let reader = ResultReader::open(alloc, basin, &roll)?;
@@ -70,6 +72,7 @@ impl<'b> Checker<'b> {
             basin,
             series,
             roll,
+            rows,
             tables,
             last_outlet: last_outlet(basin),
         };

@@ -38,6 +38,7 @@ fn is_loose(context: &Context, state: &CheckState, right: u32) -> bool
     !tight(
         context.basin,
         &context.roll,
+        &context.rows,
         state.month.month,
         state.month.supply.as_slice(),
         state.month.delivered.as_slice(),

@@ -1,17 +1,19 @@
 //! What a checker keeps of a text.
+use cut_cert::rows::NodeRows;
 use lag_returns::Lags;
 use reservoirs::AreaTable;
 use rights_roll::roll::Roll;
 use water_model::rows::Rows;
 use water_model::types::{Basin, Inflows, MAX_NODES, MonthRecord};
 
-/// A basin and its series, and what is derived from the basin once: the roll of its rights, the area table of each
-/// reservoir, and the last outlet in the order of the file.
+/// A basin and its series, and what is derived from the basin once: the roll of its rights, its rows by node, the area
+/// table of each reservoir, and the last outlet in the order of the file.
 #[derive(Drop)]
 pub struct Context<'b> {
     pub basin: &'b Basin,
     pub series: &'b Inflows,
     pub roll: Roll,
+    pub rows: NodeRows,
     pub tables: Vec<AreaTable>,
     pub last_outlet: u32,
 }

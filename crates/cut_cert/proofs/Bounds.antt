@@ -1,10 +1,10 @@
 -- Sums that fit their type.
-use Rattle.std.proofs.Common.{◌≡◌, ℕ, ◌+◌, ◌-◌, ◌*◌, ◌<◌, ◌≤◌, Bool, true, false, ap, sym}
+use Rattle.std.proofs.Common.{◌≡◌, ℕ, ◌-◌, ◌*◌, ◌≤◌, Bool, true, false, ap, sym}
 use Rattle.std.proofs.Common.{◌∙◌, arith, List, length, get_or}
 use Rattle.std.specs.Prelude.{slice_index, All, if◌then◌else◌, ◌&&◌}
 use Rattle.std.proofs.lemmas.Option.{unwrap_or-slice_get}
-use Rattle.finite_sums.specs.Sums.{total, total_where, when}
-use Rattle.finite_sums.proofs.Totals.{total_most, total_where_fits, total_le, greatest_where_le}
+use Rattle.finite_sums.specs.Sums.{total, total_where}
+use Rattle.finite_sums.proofs.Totals.{total_le, greatest_where_le}
 use Rattle.water_text.specs.Months.{days_of}
 use Rattle.water_text.specs.declared.month.Month.{Month}
 use Rattle.water_model.specs.Basin.{is_on_link, is_senior}
@@ -13,20 +13,6 @@ use Rattle.water_model.specs.Plans.{carry_of_kind}
 use Rattle.water_model.specs.declared.types.Basin.{Basin}
 use Rattle.water_model.specs.declared.types.Carry.TheVariants.{Canal}
 use Rattle.water_model.proofs.Wants.{entry_most}
-
--- the terms so far that pass, and the next one
-pub next_fits : (k n m : ℕ) (p : ℕ → Bool) (f : ℕ → ℕ) → k < n → ((i : ℕ) → i < n → f i ≤ m) →
-    total_where k p f + f k ≤ n * m
-next_fits k n m p f l h = omega (arith, total_where_fits k n p f l, total_most n m f h)
-
--- and if it passes
-pub next_within : (k n m : ℕ) (p : ℕ → Bool) (f : ℕ → ℕ) → k < n → ((i : ℕ) → i < n → f i ≤ m) →
-    total_where k p f + when (p k) (f k) ≤ n * m
-next_within k n m p f l h = omega (arith, next_fits k n m p f l h, at_most (p k) (f k))
-  where
-    at_most : (b : Bool) (x : ℕ) → when b x ≤ x
-    at_most true x = omega arith
-    at_most false x = omega arith
 
 -- the terms that pass are at most all terms
 pub some_of_all : (n : ℕ) (p : ℕ → Bool) (f : ℕ → ℕ) → total_where n p f ≤ total n f

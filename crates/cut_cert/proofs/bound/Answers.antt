@@ -1,8 +1,7 @@
-use Rattle.std.proofs.Common.{◌≡◌, ℕ, ◌+◌, ◌^◌, ◌<◌, ◌∙◌, ap, sym, length, arith, pos, ◌-ℤ◌, to_z, of_z, w64}
+use Rattle.std.proofs.Common.{◌≡◌, ℕ, ◌^◌, ◌<◌, ◌∙◌, ap, sym, arith, pos, ◌-ℤ◌, to_z, of_z, w64}
 use Rattle.std.proofs.lemmas.Int.{ints}
 use Rattle.bit_words.specs.Marks.{marks}
 use Rattle.cut_cert.specs.Sets.{cut_at, marked_nodes}
-use Rattle.cut_cert.proofs.Supplies.{supplied}
 use Rattle.cut_cert.proofs.bound.Goals as goal
 
 -- the difference of two numbers of 63 bits
@@ -18,14 +17,8 @@ returns c =
     ap (λ (n : ℕ). marks n words) (sym c.requires.cut.nodes) ∙ c.words_of-words.ensures.set in
     record {
       value =
-          difference (c.supply_in.result + c.crossings-carry.result.carry)
-          (c.crossings-carry.result.kept + c.kept_by_takes.result) (omega arith) (omega arith)
-          ∙ rw (
-            supplied (length c.args.supply.now) (length b.nodes) c.supply_in.result words c.args.supply.now
-                (cut_at c.args.cuts.now c.args.right) c.supply_in.ensures.sum c.requires.amounts.supplies set,
-            c.crossings-carry.ensures.carry,
-            c.crossings-carry.ensures.kept,
-            c.kept_by_takes.ensures.sum,
-            set,
-          );
+          difference c.sides_of-sides.result.capacity c.sides_of-sides.result.kept
+          (omega (arith, c.sides_of-sides.ensures.small_capacity))
+          (omega (arith, c.sides_of-sides.ensures.small_kept))
+          ∙ rw (c.sides_of-sides.ensures.capacity, c.sides_of-sides.ensures.kept, set);
     }

@@ -13,6 +13,7 @@ invariant_of-result c = record {
     valid = c.requires.basin;
     series = c.requires.series;
     roll = c.in_ok-roll.ensures;
+    rows = c.in_ok-rows.ensures;
     tables = c.in_ok-tables.ensures;
     last = c.last_outlet.ensures;
   };

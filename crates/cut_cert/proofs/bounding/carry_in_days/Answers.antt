@@ -3,7 +3,7 @@ use Rattle.water_model.specs.Valid.{IsValidCarry}
 use Rattle.water_model.specs.declared.types.Carry.TheVariants.{Canal}
 use Rattle.water_model.proofs.Carries.{days_carry}
 use Rattle.cut_cert.proofs.Bounds.{canal_carries}
-use Rattle.cut_cert.proofs.carry_in_days.Goals as goal
+use Rattle.cut_cert.proofs.bounding.carry_in_days.Goals as goal
 
 pub overflow_mul-result : goal.overflow_mul-result
 overflow_mul-result c =

@@ -1,0 +1,187 @@
+-- Sums over the indices that pass a test, from one that passes to the next.
+use Rattle.std.proofs.Common.{◌≡◌, ℕ, ◌+◌, ◌-◌, ◌<◌, ◌≤◌, Bool, true, false, refl, sym, ap, ◌∙◌, arith}
+use Rattle.std.proofs.Common.{List, subst, zero, suc, inl, inr}
+use Rattle.std.specs.Prelude.{Option, Some, None, IfSome, IfNone, ◌==◌, ◌≢◌, ◌&&◌, if◌then◌else◌, unwrap_or}
+use Rattle.std.specs.Prelude.{slice_index_or, ◌⊎◌}
+use Rattle.std.proofs.lemmas.Bool.Decides.{nat_tests}
+use Rattle.bit_words.specs.Marks.{in_both, is_marked, marks, IsNextInBoth}
+use Rattle.bit_words.proofs.Marks.{get_or-marks}
+use Rattle.finite_sums.specs.Sums.{total, total_where, when}
+use Rattle.finite_sums.proofs.Totals.{total_grows, total_where_start, total_where_more}
+use Rattle.water_model.specs.Basin.{is_at}
+use Rattle.water_model.specs.Lookups.{has}
+use Rattle.cut_cert.specs.Rows.{AreAllChains, IsNextOf}
+use Rattle.cut_cert.specs.declared.rows.Chains.{Chains}
+
+-- indices that don't pass may be left out of a sum
+total_skips : (m n : ℕ) (p : ℕ → Bool) (f : ℕ → ℕ) → m ≤ n → ((k : ℕ) → m ≤ k → k < n → p k ≡ false) →
+    total_where n p f ≡ total_where m p f
+unfolding total
+total_skips m zero p f h none = let e : 0 ≡ m = omega arith in ap (λ k. total_where k p f) e
+total_skips m (suc n) p f h none = elim (at_or_below m n h) [
+  | inl same ↦ ap (λ k. total_where k p f) (sym same)
+  | inr below ↦
+      let last : (if p n then f n else 0) ≡ 0 = ap (λ t. if t then f n else 0) (none n below (omega arith)) in
+      omega (arith, last, total_skips m n p f below (λ k a c. none k a (omega arith)))
+]
+  where
+    at_or_below : (m n : ℕ) → m ≤ suc n → (m ≡ suc n) ⊎ (m ≤ n)
+    at_or_below m n h = grind arith
+
+-- the answer is the first index from one on, and below a count, that passes a test, or none
+abbrev pub IsNextPassing : (ℕ → Bool) → ℕ → ℕ → Option ℕ → Type 0
+IsNextPassing p count from None = (s : ℕ) → from ≤ s → s < count → p s ≡ false
+IsNextPassing p count from (Some at) =
+    (from ≤ at) × (at < count) × (p at ≡ true) × ((s : ℕ) → from ≤ s → s < at → p s ≡ false)
+
+-- how far a sum has come, at the next index that passes
+pub record IsSummedSoFar (p : ℕ → Bool) (count : ℕ) (f : ℕ → ℕ) (sum : ℕ) (next : Option ℕ) : Type 0 where
+  pub start : ℕ
+  pub within : start ≤ count
+  pub at : IsNextPassing p count start next
+  pub so_far : sum ≡ total_where start p f
+
+pub sum_start : (p : ℕ → Bool) (count : ℕ) (f : ℕ → ℕ) (next : Option ℕ) → IsNextPassing p count 0 next →
+    IsSummedSoFar p count f 0 next
+sum_start p count f next at = record {
+  start = 0;
+  within = omega arith;
+  at = at;
+  so_far = sym (total_where_start p f);
+}
+
+-- up to the next index, and with it
+before_next : (p : ℕ → Bool) (count : ℕ) (f : ℕ → ℕ) (sum at : ℕ) → IsSummedSoFar p count f sum (Some at) →
+    total_where at p f ≡ sum
+before_next p count f sum at so =
+    total_skips so.start at p f so.at.0 (λ k l u. so.at.3 k l u) ∙ sym so.so_far
+
+with_next : (p : ℕ → Bool) (count : ℕ) (f : ℕ → ℕ) (sum at : ℕ) → IsSummedSoFar p count f sum (Some at) →
+    total_where (at + 1) p f ≡ sum + f at
+with_next p count f sum at so = total_where_more at p f ∙ rw (before_next p count f sum at so, so.at.2) refl
+
+-- one index more
+pub sum_more : (p : ℕ → Bool) (count : ℕ) (f : ℕ → ℕ) (sum at one : ℕ) (next : Option ℕ) →
+    IsSummedSoFar p count f sum (Some at) → one ≡ f at → IsNextPassing p count (at + 1) next →
+    IsSummedSoFar p count f (sum + one) next
+sum_more p count f sum at one next so is further = record {
+  start = at + 1;
+  within = omega (arith, so.at.1);
+  at = further;
+  so_far = ap (λ t. sum + t) is ∙ sym (with_next p count f sum at so);
+}
+
+-- and the sum is within the whole
+pub sum_fits : (p : ℕ → Bool) (count : ℕ) (f : ℕ → ℕ) (sum at : ℕ) → IsSummedSoFar p count f sum (Some at) →
+    sum + f at ≤ total_where count p f
+sum_fits p count f sum at so =
+    omega (
+      arith,
+      with_next p count f sum at so,
+      so.at.1,
+      total_grows (at + 1) count (λ k. if p k then f k else 0) (omega (arith, so.at.1)),
+    )
+
+-- all indices that pass
+pub sum_all : (p : ℕ → Bool) (count : ℕ) (f : ℕ → ℕ) (sum : ℕ) → IsSummedSoFar p count f sum None →
+    sum ≡ total_where count p f
+sum_all p count f sum so =
+    so.so_far ∙ sym (total_skips so.start count p f so.within (λ k l u. so.at k l u))
+
+-- there are fewer and fewer indices left
+pub fewer_left : (p : ℕ → Bool) (count at : ℕ) (next : Option ℕ) → at < count → IsNextPassing p count (at + 1) next →
+    count - unwrap_or next count < count - at
+fewer_left p count at None below further = omega arith
+fewer_left p count at (Some further) below next = let after = next.0 in let l = next.1 in omega arith
+
+-- a part of a term is small
+pub when_most : (t : Bool) (x m : ℕ) → x ≤ m → when t x ≤ m
+when_most true x m h = h
+when_most false x m h = omega arith
+
+-- Along the chain of a node.
+
+off_node : (o : Option ℕ) (node : ℕ) → o ≢ Some node → is_at o node ≡ false
+off_node None node off = refl
+off_node (Some at) node off = not_same (at == node) refl
+  where
+    same : (x y : ℕ) → x == y ≡ true → x ≡ y
+    same x y h = grind (arith, nat_tests)
+
+    not_same : (t : Bool) → at == node ≡ t → t ≡ false
+    not_same true h = absurd (off (ap Some (same at node h)))
+    not_same false h = refl
+
+at_node : (o : Option ℕ) (node : ℕ) → o ≡ Some node → is_at o node ≡ true
+at_node o node e = ap (λ o. is_at o node) e ∙ itself node
+  where
+    itself : (x : ℕ) → x == x ≡ true
+    itself x = grind (arith, nat_tests)
+
+belongs : (o : Option ℕ) (node : ℕ) → is_at o node ≡ true → o ≡ Some node
+belongs None node h = cc
+belongs (Some at) node h = ap Some (same at node h)
+  where
+    same : (x y : ℕ) → x == y ≡ true → x ≡ y
+    same x y h = grind (arith, nat_tests)
+
+of_chain : (node_of : ℕ → Option ℕ) (count node from : ℕ) (o : Option ℕ) → IsNextOf node_of count node from o →
+    IsNextPassing (λ s. is_at (node_of s) node) count from o
+of_chain node_of count node from None h = λ s l u. off_node (node_of s) node (h s l u)
+of_chain node_of count node from (Some at) h =
+    (h.0, h.1, at_node (node_of at) node h.2, λ s l u. off_node (node_of s) node (h.3 s l u))
+
+-- Over marked nodes.
+
+single : (t : Bool) → t && t ≡ false → t ≡ false
+single true h = h
+single false h = refl
+
+both : (t : Bool) → t && t ≡ true → t ≡ true
+both true h = refl
+both false h = h
+
+of_marks_below : (words : List ℕ) (nodes from : ℕ) (o : Option ℕ) →
+    IfSome o (λ p. IsNextInBoth words words from nodes p) →
+    IfNone o ((q : ℕ) → from ≤ q → q < nodes → in_both words words q ≡ false) →
+    IsNextPassing (λ n. has (marks nodes words) n) nodes from o
+of_marks_below words nodes from None some none = λ q l u.
+    get_or-marks nodes words q false u ∙ single (is_marked words q) (none q l u)
+of_marks_below words nodes from (Some p) some none = (
+  some.after,
+  some.below,
+  get_or-marks nodes words p false some.below ∙ both (is_marked words p) some.marked,
+  λ q l u. get_or-marks nodes words q false (let b = some.below in omega arith)
+      ∙ single (is_marked words q) (some.least q l u),
+)
+
+pub of_marks : (words : List ℕ) (nodes count from : ℕ) (o : Option ℕ) → nodes ≡ count →
+    IfSome o (λ p. IsNextInBoth words words from nodes p) →
+    IfNone o ((q : ℕ) → from ≤ q → q < nodes → in_both words words q ≡ false) →
+    IsNextPassing (λ n. has (marks count words) n) count from o
+of_marks words nodes count from o same some none =
+    subst (λ m. IsNextPassing (λ n. has (marks m words) n) m from o) same (of_marks_below words nodes from o some none)
+
+-- Along the chain of a node: its first index, and the next ones.
+pub chain_begins : (node_of : ℕ → Option ℕ) (count nodes node : ℕ) (chains : Chains) (f : ℕ → ℕ) (next : Option ℕ) →
+    AreAllChains node_of count nodes chains → node < nodes → next ≡ slice_index_or chains.first.items node None →
+    IsSummedSoFar (λ s. is_at (node_of s) node) count f 0 next
+chain_begins node_of count nodes node chains f next are inside is =
+    sum_start (λ s. is_at (node_of s) node) count f next
+    (of_chain node_of count node 0 next (rw is (are.firsts node inside)))
+
+pub chain_goes_on : (node_of : ℕ → Option ℕ) (count nodes node : ℕ) (chains : Chains) (f : ℕ → ℕ) (sum at : ℕ)
+    (next : Option ℕ) →
+    AreAllChains node_of count nodes chains → IsSummedSoFar (λ s. is_at (node_of s) node) count f sum (Some at) →
+    next ≡ slice_index_or chains.next.items at None → IsNextPassing (λ s. is_at (node_of s) node) count (at + 1) next
+chain_goes_on node_of count nodes node chains f sum at next are so is =
+    of_chain node_of count node (at + 1) next
+    (rw is (are.nexts at node (omega arith) so.at.1 (belongs (node_of at) node so.at.2)))
+
+pub chain_smaller : (node_of : ℕ → Option ℕ) (count nodes node : ℕ) (chains : Chains) (f : ℕ → ℕ) (sum at : ℕ)
+    (next : Option ℕ) →
+    AreAllChains node_of count nodes chains → IsSummedSoFar (λ s. is_at (node_of s) node) count f sum (Some at) →
+    next ≡ slice_index_or chains.next.items at None → count - unwrap_or next count < count - at
+chain_smaller node_of count nodes node chains f sum at next are so is =
+    fewer_left (λ s. is_at (node_of s) node) count at next so.at.1
+    (chain_goes_on node_of count nodes node chains f sum at next are so is)

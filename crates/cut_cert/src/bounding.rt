@@ -1,0 +1,262 @@
+//! The bound of a set, summed over the rows of its nodes.
+ghost use Rattle.std.specs.Prelude.{◌≡◌, ◌*◌, ◌<◌, ◌≤◌, ◌^◌, All, length};
+ghost use Rattle.bit_words.specs.Marks.{words_for};
+ghost use Rattle.water_text.specs.Months.{IsMonth, days_of};
+ghost use Rattle.water_model.specs.Basin.{taking_node};
+ghost use Rattle.water_model.specs.Plans.{carry_of_kind};
+ghost use Rattle.water_model.specs.Cuts.{cut_capacity, cut_kept};
+ghost use Rattle.water_model.specs.Valid.{IsValidBasin, IsValidCarry};
+ghost use Rattle.rights_roll.specs.Rolls.{IsRollOf};
+ghost use Rattle.cut_cert.specs.Sets.{marked_nodes, AreAmounts};
+ghost use Rattle.cut_cert.specs.Rows.{AreAllChains, AreNodeRows, brought_to, carry_in, ends_at, held_at, kept_from};
+ghost use Rattle.cut_cert.specs.Rows.{kept_out, node_capacity, node_kept, senior_take, taken_at};
+
+use crate::marked::is_in;
+use crate::rows::{Chains, NodeRows};
+use crate::{is_on_link, kept_on};
+use bit_words::next_marked_in_both;
+use rights_roll::priority::is_senior_to;
+use rights_roll::roll::Roll;
+use water_model::types::{Basin, Carry};
+use water_text::month::Month;
+
+/// What can come into a set, and what seniors keep in it and on the links that leave it, or the part of that at a node.
+#[derive(Clone, Copy)]
+pub struct Sides {
+    pub capacity: u64,
+    pub kept: u64,
+}
+
+/// What a link of this kind carries in a month of this many days.
+fn carry_in_days(carry: &Carry, month: Month, days: u64) -> u64
+    requires carry { IsValidCarry carry.now }
+    requires month { IsMonth month }
+    requires days { days ≡ days_of month }
+    ensures { result ≡ carry_of_kind carry.now month }
+{
+    match carry {
+        Carry::River => 1_000_000_000_000_000,
+        Carry::Canal { per_day, shut } => {
+            if shut[month.month as usize - 1] {
+                0
+            } else {
+                *per_day * days
+            }
+        }
+    }
+}
+
+/// What a link brings in from outside the set.
+fn carry_in(basin: &Basin, month: Month, days: u64, words: &[u64], link: u32) -> u64
+    requires basin { IsValidBasin basin.now }
+    requires month { IsMonth month }
+    requires days { days ≡ days_of month }
+    requires words { length words.now ≡ words_for (length basin.now.nodes) }
+    requires link { link < length basin.now.links }
+    ensures { result ≡ carry_in basin.now month (marked_nodes basin.now words.now) link }
+{
+    let entry = &basin.links[link as usize];
+    if is_in(words, entry.from) {
+        0
+    } else {
+        carry_in_days(&entry.carry, month, days)
+    }
+}
+
+/// What the links that end at a node bring in from outside the set.
+fn brought_to(
+    basin: &Basin,
+    rows: &Chains,
+    month: Month,
+    days: u64,
+    words: &[u64],
+    node: u32,
+) -> u64
+    requires basin { IsValidBasin basin.now }
+    requires rows { AreAllChains (ends_at basin.now) (length basin.now.links) (length basin.now.nodes)
+        rows.now }
+    requires month { IsMonth month }
+    requires days { days ≡ days_of month }
+    requires words { length words.now ≡ words_for (length basin.now.nodes) }
+    requires node { node < length basin.now.nodes }
+    ensures { result ≡ brought_to basin.now month (marked_nodes basin.now words.now) node }
+{
+    let mut sum = 0;
+    let mut next = rows.first_of(node);
+    while let Some(link) = next {
+        let one = carry_in(basin, month, days, words, link);
+        sum += one;
+        next = rows.next_of(link);
+    }
+    sum
+}
+
+/// What seniors keep on a link to outside the set, or 0 where it is the right's own.
+fn kept_out(
+    basin: &Basin,
+    roll: &Roll,
+    delivered: &[u64],
+    right: u32,
+    words: &[u64],
+    link: u32,
+) -> u64
+    requires basin { IsValidBasin basin.now }
+    requires roll { IsRollOf basin.now.rights roll.now }
+    requires delivered { length delivered.now ≡ length basin.now.rights }
+    requires right { right < length basin.now.rights }
+    requires words { length words.now ≡ words_for (length basin.now.nodes) }
+    requires link { link < length basin.now.links }
+    ensures { result ≡ kept_out basin.now delivered.now right (marked_nodes basin.now words.now) link }
+{
+    if is_in(words, basin.links[link as usize].to) || is_on_link(basin, right, link) {
+        0
+    } else {
+        kept_on(basin, roll, delivered, right, link)
+    }
+}
+
+/// What seniors keep on the links from a node to outside the set, other than the right's own.
+fn kept_from(
+    basin: &Basin,
+    roll: &Roll,
+    rows: &Chains,
+    delivered: &[u64],
+    right: u32,
+    words: &[u64],
+    node: u32,
+) -> u64
+    requires basin { IsValidBasin basin.now }
+    requires roll { IsRollOf basin.now.rights roll.now }
+    requires rows { AreAllChains (held_at basin.now roll.now) (length basin.now.links) (length basin.now.nodes)
+        rows.now }
+    requires delivered { length delivered.now ≡ length basin.now.rights }
+    requires most { All (λ d. d ≤ 10 ^ 9) delivered.now }
+    requires right { right < length basin.now.rights }
+    requires words { length words.now ≡ words_for (length basin.now.nodes) }
+    requires node { node < length basin.now.nodes }
+    ensures { result ≡ kept_from basin.now delivered.now right (marked_nodes basin.now words.now) node }
+{
+    let mut sum = 0;
+    let mut next = rows.first_of(node);
+    while let Some(link) = next {
+        let one = kept_out(basin, roll, delivered, right, words, link);
+        sum += one;
+        next = rows.next_of(link);
+    }
+    sum
+}
+
+/// What a right that is senior to another is delivered, or 0.
+fn senior_take(basin: &Basin, delivered: &[u64], right: u32, taker: u32) -> u64
+    requires delivered { length delivered.now ≡ length basin.now.rights }
+    requires right { right < length basin.now.rights }
+    requires taker { taker < length basin.now.rights }
+    ensures { result ≡ senior_take basin.now delivered.now right taker }
+{
+    if is_senior_to(basin, taker, right) {
+        delivered[taker as usize]
+    } else {
+        0
+    }
+}
+
+/// What seniors take at a node.
+fn taken_at(basin: &Basin, rows: &Chains, delivered: &[u64], right: u32, node: u32) -> u64
+    requires basin { IsValidBasin basin.now }
+    requires rows { AreAllChains (taking_node basin.now) (length basin.now.rights) (length basin.now.nodes)
+        rows.now }
+    requires delivered { length delivered.now ≡ length basin.now.rights }
+    requires most { All (λ d. d ≤ 10 ^ 9) delivered.now }
+    requires right { right < length basin.now.rights }
+    requires node { node < length basin.now.nodes }
+    ensures { result ≡ taken_at basin.now delivered.now right node }
+{
+    let mut sum = 0;
+    let mut next = rows.first_of(node);
+    while let Some(taker) = next {
+        let one = senior_take(basin, delivered, right, taker);
+        sum += one;
+        next = rows.next_of(taker);
+    }
+    sum
+}
+
+/// The part of a node of the set.
+fn sides_at(
+    basin: &Basin,
+    roll: &Roll,
+    rows: &NodeRows,
+    month: Month,
+    days: u64,
+    supply: &[u64],
+    delivered: &[u64],
+    right: u32,
+    words: &[u64],
+    node: u32,
+) -> Sides
+    requires basin { IsValidBasin basin.now }
+    requires roll { IsRollOf basin.now.rights roll.now }
+    requires rows { AreNodeRows basin.now roll.now rows.now }
+    requires month { IsMonth month }
+    requires days { days ≡ days_of month }
+    requires amounts { AreAmounts basin.now supply.now delivered.now }
+    requires right { right < length basin.now.rights }
+    requires words { length words.now ≡ words_for (length basin.now.nodes) }
+    requires node { node < length basin.now.nodes }
+    ensures capacity { result.capacity
+        ≡ node_capacity basin.now month supply.now (marked_nodes basin.now words.now) node }
+    ensures kept { result.kept ≡ node_kept basin.now delivered.now right (marked_nodes basin.now words.now) node }
+{
+    let brought = brought_to(basin, &rows.enter, month, days, words, node);
+    let kept = kept_from(basin, roll, &rows.held, delivered, right, words, node);
+    let taken = taken_at(basin, &rows.takers, delivered, right, node);
+    let here = supply[node as usize];
+    Sides {
+        capacity: here + brought,
+        kept: kept + taken,
+    }
+}
+
+/// What can come into the set of the nodes that the words mark, and what seniors keep in it and on the links that leave
+/// it. It goes over these nodes alone.
+#[inline(never)]
+pub fn sides_of(
+    basin: &Basin,
+    roll: &Roll,
+    rows: &NodeRows,
+    month: Month,
+    supply: &[u64],
+    delivered: &[u64],
+    right: u32,
+    words: &[u64],
+) -> Sides
+    requires basin { IsValidBasin basin.now }
+    requires roll { IsRollOf basin.now.rights roll.now }
+    requires rows { AreNodeRows basin.now roll.now rows.now }
+    requires month { IsMonth month }
+    requires amounts { AreAmounts basin.now supply.now delivered.now }
+    requires right { right < length basin.now.rights }
+    requires words { length words.now ≡ words_for (length basin.now.nodes) }
+    ensures capacity { result.capacity
+        ≡ cut_capacity basin.now month supply.now (marked_nodes basin.now words.now) }
+    ensures kept { result.kept ≡ cut_kept basin.now delivered.now right (marked_nodes basin.now words.now) }
+    ensures small_capacity { result.capacity < 4001 * 10 ^ 15 }
+    ensures small_kept { result.kept ≤ 6000 * 10 ^ 9 }
+{
+    let days = u64::from(month.days());
+    let nodes = basin.nodes.len() as u32;
+    let mut sides = Sides {
+        capacity: 0,
+        kept: 0,
+    };
+    let mut next = next_marked_in_both(words, words, 0, nodes);
+    while let Some(node) = next {
+        let one = sides_at(
+            basin, roll, rows, month, days, supply, delivered, right, words, node,
+        );
+        sides.capacity += one.capacity;
+        sides.kept += one.kept;
+        next = next_marked_in_both(words, words, node + 1, nodes);
+    }
+    sides
+}
