@@ -166,34 +166,28 @@ module _ (b : Basin) (valid : IsValidBasin b) where
     want_field =
         in_field tree (required (codes "want") Want) (Some (want_data r)) (want_in tree r.want r.series h.0.want)
 
-    abbrev diversion_fields : (node : ℕ) → node < length b.nodes → List (Field tree 2)
-    diversion_fields node index =
+    abbrev fields_of : (its : RightKind) → HasValidSite b its → List (Field tree 2)
+    fields_of (kind.Diversion node) index =
         dated tree r.date h.1 ∷ named tree r.name h.0.name
         ∷ refers tree (codes "node") Nodes (node_name b node) node (node_named b valid node index) ∷ order_field
         ∷ in_field tree (second (codes "volume") (Integer 0 (16 * 10 ^ 9))) (option_map number r.volume)
         (volume_in tree r.kind r.volume h.0.volume) ∷ want_field ∷ []
-
-    abbrev instream_fields : (link : ℕ) → link < length b.links → List (Field tree 2)
-    instream_fields link index =
+    fields_of (kind.Instream link) index =
         dated tree r.date h.1 ∷ refers tree (codes "link") Links (link_name b link) link (link_named b valid link index)
         ∷ named tree r.name h.0.name ∷ order_field ∷ want_field ∷ []
-
-    abbrev zone_fields : (reservoir level : ℕ) → reservoir < length b.reservoirs → 1 ≤ level → level ≤ 16 →
-        List (Field tree 2)
-    zone_fields reservoir level index low high =
-        dated tree r.date h.1 ∷ whole tree (codes "level") true 1 1 16 level low high ∷ named tree r.name h.0.name
+    fields_of (kind.Zone reservoir level) site =
+        dated tree r.date h.1 ∷ whole tree (codes "level") true 1 1 16 level site.1 site.2 ∷ named tree r.name h.0.name
         ∷ order_field
         ∷ refers tree (codes "reservoir") Reservoirs (reservoir_name b reservoir) reservoir
-        (reservoir_named b valid reservoir index) ∷ want_field ∷ []
+        (reservoir_named b valid reservoir site.0) ∷ want_field ∷ []
 
     plain_right : ArePlain 2 (right_row b r)
     plain_right = by r.kind h.0.site
       where
         by : (its : RightKind) → HasValidSite b its → ArePlain 2 (row_of_kind b r its)
-        by (kind.Diversion node) site = plain_fields tree (diversion_fields node site)
-        by (kind.Instream link) site = plain_fields tree (instream_fields link site)
-        by (kind.Zone reservoir level) site =
-            plain_fields tree (zone_fields reservoir level site.0 site.1 site.2)
+        by (kind.Diversion node) site = plain_fields tree (fields_of (kind.Diversion node) site)
+        by (kind.Instream link) site = plain_fields tree (fields_of (kind.Instream link) site)
+        by (kind.Zone reservoir level) site = plain_fields tree (fields_of (kind.Zone reservoir level) site)
 
   abbrev right_table : BasinTable → Field tree 4
   right_table t = tables tree (table_name t) false (right_row b) (IsRightIn b t) (rights_in t b.rights) (never _)
@@ -225,7 +219,7 @@ module _ (b : Basin) (valid : IsValidBasin b) where
   node_clean k n at =
       let within = slice_get_within b.nodes k n at in
       clean_fields tree which.Node (k + 1) (node_fields n (all_at IsValidNode b.nodes k n valid.nodes at)) format
-      (record { rising = refl; known = refl; found = refl }) refl refl refl
+      (refl, refl, refl) refl refl refl
       (le-ltb 2000 (k + 1) (omega (arith, within, valid.bounded.nodes)))
       (owns tree which.Node k (node_row n) Nodes n.name k refl refl
       (named_there tree Nodes (λ n. n.name) b.nodes k n at (node_named b valid k within)) (omega arith)) refl
@@ -235,7 +229,7 @@ module _ (b : Basin) (valid : IsValidBasin b) where
   link_clean k l at =
       let within = slice_get_within b.links k l at in
       clean_fields tree which.Link (k + 1) (link_fields l (all_at (IsValidLink b) b.links k l valid.links at)) format
-      (record { rising = refl; known = refl; found = refl }) refl
+      (refl, refl, refl) refl
       ((λ i. is_some (link_at b l (codes "closed") i) && not (is_some (link_at b l (codes "per_day") i)))
       ∙ canal l.carry)
       refl (le-ltb 4000 (k + 1) (omega (arith, within, valid.bounded.links)))
@@ -265,8 +259,7 @@ module _ (b : Basin) (valid : IsValidBasin b) where
       IsClean tree (entry_of which.Reservoir k (reservoir_row b v))
   reservoir_clean k v at =
       let h = all_at (IsValidReservoir b) b.reservoirs k v valid.reservoirs at in
-      clean_fields tree which.Reservoir (k + 1) (reservoir_fields v h) format
-      (record { rising = refl; known = refl; found = refl }) refl refl refl
+      clean_fields tree which.Reservoir (k + 1) (reservoir_fields v h) format (refl, refl, refl) refl refl refl
       (le-ltb 64 (items_len (items_of (map point_data v.area)))
       (omega (arith, len_items point_data v.area, h.bounded_points)))
       (owns tree which.Reservoir k (reservoir_row b v) Reservoirs (node_name b v.node) k refl refl
@@ -312,14 +305,14 @@ module _ (b : Basin) (valid : IsValidBasin b) where
       by which.Diversion (kind.Diversion node) h site is at =
           let owed = rest which.Diversion (row_of_kind b r (kind.Diversion node)) k refl refl
           (get_before (d ++ i) z k r (get_before d i k r at)) (omega arith) in
-          clean_fields tree which.Diversion (k + 1) (diversion_fields which.Diversion r h node site) format
-          (record { rising = refl; known = refl; found = refl }) refl refl refl owed.0 owed.1 refl
+          clean_fields tree which.Diversion (k + 1) (fields_of which.Diversion r h (kind.Diversion node) site) format
+          (refl, refl, refl) refl refl refl owed.0 owed.1 refl
       by which.Instream (kind.Instream link) h site is at =
           let owed = rest which.Instream (row_of_kind b r (kind.Instream link)) (length d + k) refl refl
           (get_before (d ++ i) z (length d + k) r (there_right d i k r at))
           (omega (arith, count which.Diversion tt, length-map d (right_row b))) in
-          clean_fields tree which.Instream (k + 1) (instream_fields which.Instream r h link site) format
-          (record { rising = refl; known = refl; found = refl }) refl refl refl owed.0 owed.1 refl
+          clean_fields tree which.Instream (k + 1) (fields_of which.Instream r h (kind.Instream link) site) format
+          (refl, refl, refl) refl refl refl owed.0 owed.1 refl
       by which.Zone (kind.Zone reservoir level) h site is at =
           let owed = rest which.Zone (row_of_kind b r (kind.Zone reservoir level)) (length (d ++ i) + k) refl refl
           (there_right (d ++ i) z k r at)
@@ -332,15 +325,14 @@ module _ (b : Basin) (valid : IsValidBasin b) where
             length-append d i,
           )) in
           clean_fields tree which.Zone (k + 1)
-          (zone_fields which.Zone r h reservoir level site.0 site.1 site.2) format
-          (record { rising = refl; known = refl; found = refl }) refl refl refl owed.0 owed.1 refl
+          (fields_of which.Zone r h (kind.Zone reservoir level) site) format
+          (refl, refl, refl) refl refl refl owed.0 owed.1 refl
       by _ _ h site is at = cc
 
   return_clean : (k : ℕ) (row : ReturnRow) → slice_get b.returns k ≡ Some row →
       IsClean tree (entry_of which.Return k (return_row b row))
   return_clean k row at =
-      clean_fields tree which.Return (k + 1) (return_fields row h) format
-      (record { rising = refl; known = refl; found = refl }) refl refl refl
+      clean_fields tree which.Return (k + 1) (return_fields row h) format (refl, refl, refl) refl refl refl
       (ap (λ (ts : List (Option (List ℕ))). nat_le 8 (earlier_like ts (k + 1 - 1))) (return_texts b valid)
       ∙ (ap (nat_le 8) (earlier_at text b.returns (k + 1 - 1) k row (right_name b row.right) (omega arith) at refl)
       ∙ lt-leb 8 _ less)) refl refl
@@ -371,7 +363,7 @@ module _ (b : Basin) (valid : IsValidBasin b) where
   top_clean : IsClean tree (top_entry tree)
   unfolding basin_table
   top_clean =
-      clean_fields tree which.Top 0 top_fields format (record { rising = refl; known = refl; found = refl })
+      clean_fields tree which.Top 0 top_fields format (refl, refl, refl)
       (ap (λ (o : Option Data). option_map_or (λ items. items_len items == 0) (option_and_then as_array o) false)
       (top_at b (codes "node")) ∙ some_nodes b.nodes valid.bounded.some_node) refl late refl refl refl
     where

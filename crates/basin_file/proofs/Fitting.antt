@@ -257,10 +257,10 @@ module _ (tree : Members) where
     key_at k (f ∷ fs) = if is_eq (slice_cmp nat_cmp k f.key.name) then Some f.key else key_at k fs
 
     -- fields in rising order, which are the keys of a table
-    pub record AreKeysOf (t : BasinTable) (fields : List (Field tree n)) : Type 0 where
-      pub rising : ascend (keyed fields) ≡ true
-      pub known : list_all (λ f. is_known 2 (keys_of t) f.key.name) fields ≡ true
-      pub found : map (λ key. key_at key.name fields) (keys_of t) ≡ map (λ key. Some key) (keys_of t)
+    abbrev pub AreKeysOf : BasinTable → List (Field tree n) → Type 0
+    AreKeysOf t fields = (ascend (keyed fields) ≡ true) ×
+        (list_all (λ f. is_known 2 (keys_of t) f.key.name) fields ≡ true) ×
+        (map (λ key. key_at key.name fields) (keys_of t) ≡ map (λ key. Some key) (keys_of t))
 
     pub plain_fields : (fields : List (Field tree n)) → ArePlain n (row_of (keyed fields))
     plain_fields [] = record { shallow = omega arith; dates = refl }
@@ -325,9 +325,9 @@ module _ (tree : Members) where
         too_many tree (filled t number fields) ≡ false → same_name tree (filled t number fields) ≡ false →
         stands_at_outlet t tree (row_of (keyed fields)) ≡ false → IsClean tree (filled t number fields)
     clean_fields t number fields format keys nodes canal late many same outlets =
-        clean_by tree (filled t number fields) (fits_keys fields (keys_of t) format keys.rising keys.found)
+        clean_by tree (filled t number fields) (fits_keys fields (keys_of t) format keys.0 keys.2)
         (record {
-          known = ap (λ f. has_unknown f t (row_of (keyed fields))) format ∙ known_names t fields keys.known;
+          known = ap (λ f. has_unknown f t (row_of (keyed fields))) format ∙ known_names t fields keys.1;
           nodes = nodes;
           canal = canal;
           late = late;

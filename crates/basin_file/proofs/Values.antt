@@ -1,5 +1,5 @@
 -- Values: each number that is spelled lies in its range, and what stands in the table of a basin is read back.
-use Rattle.std.proofs.lemmas.Bool.{eq-eqb, leb-true, ltb-false, ne_eqb, cases_Bool, and_parts}
+use Rattle.std.proofs.lemmas.Bool.{and_from, le-leb, eq-eqb, leb-true, ltb-false, ne_eqb, cases_Bool, and_parts}
 use Rattle.std.proofs.Common.{◌≡◌, ◌+◌, ◌^◌, List, [], ◌∷◌, length, Bool, true, false, ◌||◌, Option, Some, None}
 use Rattle.std.proofs.Common.{is_some, refl, ap, ◌∙◌, ℕ, suc, ◌*◌, ◌-◌, ◌/◌, ◌≤◌, ◌&&◌, option_and_then, unwrap_or}
 use Rattle.std.proofs.Common.{is_none, inl, inr, arith, All, nat_le, nat_lt, ℤ, pos, negsuc, if◌then◌else◌, ◌%◌, ◌<◌}
@@ -248,10 +248,8 @@ short_date d h = record { year = its.0; month = its.2; day = omega (arith, its.3
     most = rw (days_in-days_in_month d.year d.month its.1 its.2) (days_in_month-le (pos d.year) d.month)
 
 pub between : (least n most : ℕ) → least ≤ n → n ≤ most → is_between least most (pos n) ≡ true
-between least n most low high = test least n most low high
-  where
-    test : (least n most : ℕ) → least ≤ n → n ≤ most → (nat_le least n && nat_le n most) ≡ true
-    test least n most low high = grind (arith, nat_tests)
+between least n most low high =
+    and_from (nat_le least n) (nat_le n most) (le-leb least n low) (le-leb n most high)
 
 -- a number within its range
 pub whole_read : (least most default n : ℕ) → least ≤ n → n ≤ most → integer_of least most default (Some (number n)) ≡ n

@@ -55,8 +55,14 @@ pub fn own_key(table: BasinTable) -> &'static str
     ensures { result.now ≡ own_key table }
 {
     match table {
+        BasinTable::Top => "name",
+        BasinTable::Node => "name",
+        BasinTable::Link => "name",
         BasinTable::Reservoir => "node",
-        _ => "name",
+        BasinTable::Diversion => "name",
+        BasinTable::Instream => "name",
+        BasinTable::Zone => "name",
+        BasinTable::Return => "name",
     }
 }
 
