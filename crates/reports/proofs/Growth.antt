@@ -1,15 +1,11 @@
 -- What is kept of some months, and of one month more.
 use Rattle.std.proofs.Common.{◌≡◌, ℕ, ◌+◌, ◌-◌, Bool, true, false, cond, refl, sym, ◌∙◌, ap, arith, List, [], ◌∷◌, ◌++◌}
-use Rattle.std.proofs.Common.{map}
-use Rattle.std.specs.Prelude.{sum, sum_by, max, nat_lt, slice_index, Option, Some, option_map, if◌then◌else◌}
+use Rattle.std.specs.Prelude.{sum_by, max, nat_lt, slice_index, Option, Some, option_map, if◌then◌else◌}
 use Rattle.std.proofs.lemmas.List.Sums.{sum_by_push}
 use Rattle.water_model.proofs.Histories.{opens_with_last}
-use Rattle.duality.specs.Balance.{total_inflow, diverted}
-use Rattle.water_model.specs.declared.types.Basin.{Basin}
-use Rattle.water_model.specs.declared.types.Inflows.{Inflows}
 use Rattle.water_model.specs.declared.types.MonthRecord.{MonthRecord}
 use Rattle.water_text.specs.declared.month.Month.{Month}
-use Rattle.reports.specs.Figures.{waters_of, shortage, short_months, delivered, worst_month}
+use Rattle.reports.specs.Figures.{shortage, short_months, worst_month}
 use Rattle.reports.specs.Tallies.{figures_of, greatest_of}
 use Rattle.reports.specs.declared.figures.RightFigures.{RightFigures}
 use Rattle.reports.specs.declared.waters.Waters.{Waters}
@@ -24,53 +20,8 @@ pub same_waters : (a b c d e f g : ℕ) (a' b' c' d' e' f' g' : ℕ) → a ≡ a
     one ≡ other)
 same_waters a b c d e f g a' b' c' d' e' f' g' h1 h2 h3 h4 h5 h6 h7 = cc
 
--- the water before the first month
-pub waters_first : (b : Basin) (series : Inflows) (opening : ℕ) → opening ≡ sum (map (λ v. v.opening) b.reservoirs) →
-    (let first : Waters =
-    record {
-      opening = opening;
-      inflows = 0;
-      returns = 0;
-      closing = opening;
-      evaporated = 0;
-      diverted = 0;
-      out =
-          0;
-    } in
-    first ≡ waters_of b series [])
-unfolding waters_of
-waters_first b series opening is = same_waters opening 0 0 opening 0 0 0 _ _ _ _ _ _ _ is refl refl is refl refl refl
-
--- the water with that of one month more
-pub waters_more : (b : Basin) (series : Inflows) (records : List MonthRecord) (m : MonthRecord) (w : Waters)
-    (inflow returned closing evaporated delivered out : ℕ) →
-    w ≡ waters_of b series records → inflow ≡ total_inflow b series m.index → returned ≡ sum m.returned →
-    closing ≡ sum m.closing →
-    evaporated ≡ sum m.evaporated → delivered ≡ diverted b m → out ≡ sum m.plan.out →
-    (let more : Waters = record {
-      opening = w.opening;
-      inflows = w.inflows + inflow;
-      returns = w.returns + returned;
-      closing = closing;
-      evaporated = w.evaporated + evaporated;
-      diverted = w.diverted + delivered;
-      out = w.out + out;
-    } in
-    more ≡ waters_of b series (records ++ m ∷ []))
-unfolding waters_of
-waters_more b series records m w inflow returned closing evaporated delivered out is i r c e d o =
-    same_waters _ _ _ _ _ _ _ _ _ _ _ _ _ _
-    (ap (λ v. v.opening) is)
-    (grown (λ k. total_inflow b series k.index) w.inflows inflow (ap (λ v. v.inflows) is) i)
-    (grown (λ k. sum k.returned) w.returns returned (ap (λ v. v.returns) is) r)
-    (c ∙ sym (ap (λ xs. sum xs) (opens_with_last b records m)))
-    (grown (λ k. sum k.evaporated) w.evaporated evaporated (ap (λ v. v.evaporated) is) e)
-    (grown (λ k. diverted b k) w.diverted delivered (ap (λ v. v.diverted) is) d)
-    (grown (λ k. sum k.plan.out) w.out out (ap (λ v. v.out) is) o)
-  where
-    grown : (f : MonthRecord → ℕ) (sofar more : ℕ) → sofar ≡ sum_by f records → more ≡ f m →
-        sofar + more ≡ sum_by f (records ++ m ∷ [])
-    grown f sofar more h k = omega (arith, sum_by_push f records m)
+-- what the water of one month more needs
+pub ruleset waters_more = (sum_by_push, opens_with_last)
 
 same_figures : (a b c d : ℕ) (w : Option Month) (a' b' c' d' : ℕ) (w' : Option Month) → a ≡ a' → b ≡ b' → c ≡ c' →
     d ≡ d' → w ≡ w' →

@@ -90,7 +90,7 @@ fn opening(basin: &Basin) -> u64
 
 impl Waters {
     /// The water before the first month.
-    #[tactic(auto, using(crate::proofs::Growth::waters_first))]
+    #[tactic(auto, unfolding(crate::specs::Figures::waters_of))]
     pub fn first(basin: &Basin) -> Waters
         requires { IsValidBasin basin.now }
         ensures { (series : Inflows) → result ≡ waters_of basin.now series [] }
@@ -108,7 +108,7 @@ impl Waters {
     }
 
     /// The water with that of one month more.
-    #[tactic(auto, using(crate::proofs::Growth::waters_more))]
+    #[tactic(auto, unfolding(crate::specs::Figures::waters_of), using(crate::proofs::Growth::waters_more))]
     pub fn with_month(&self, basin: &Basin, series: &Inflows, month: &MonthRecord) -> Waters
         requires basin { IsValidBasin basin.now }
         requires series { IsSeriesOf basin.now series.now }
