@@ -67,3 +67,6 @@ count_more p n count one sofar here =
 pub at_most_more : (t : Bool) (n count one : ℕ) → one ≡ (if t then 1 else 0) → count ≤ n → count + one ≤ n + 1
 at_most_more true n count one e l = omega arith
 at_most_more false n count one e l = omega arith
+
+-- what a loop that counts indices needs
+pub ruleset counts = (count_none, count_more, at_most_more)

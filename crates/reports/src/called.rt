@@ -37,6 +37,7 @@ fn called_once(basin: &Basin, callers: &[Option<u32>], month: &MonthRecord, righ
 }
 
 /// How many rights had a calling right in a month.
+#[tactic(auto, using(crate::proofs::Rights::counts))]
 fn called_in(basin: &Basin, roll: &Roll, month: &MonthRecord) -> u64
     requires basin { IsValidBasin basin.now }
     requires roll { IsRollOf basin.now.rights roll.now }

@@ -51,6 +51,7 @@ fn add_rights(rights: &mut Rows<RightFigures>, month: &MonthRecord)
 impl Kept for Tally {
     ghost is_of = { IsTally };
 
+    #[tactic(auto, using(crate::proofs::Rights::list_is))]
     fn open(alloc: Global, basin: &Basin) -> Result<Tally, AllocError> {
         let rights = first_figures(alloc, basin.rights.len())?;
         Ok(Tally {

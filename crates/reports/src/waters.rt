@@ -34,6 +34,7 @@ fn sum_of(amounts: &[u64]) -> u64
 }
 
 /// The inflow to all nodes in the month with this index.
+#[tactic(auto, using(finite_sums::proofs::Totals::total_start, finite_sums::proofs::Totals::total_more))]
 fn total_inflow(basin: &Basin, series: &Inflows, index: u32) -> u64
     requires basin { IsValidBasin basin.now }
     requires series { IsSeriesOf basin.now series.now }
@@ -61,6 +62,7 @@ fn diverted_by(basin: &Basin, month: &MonthRecord, right: usize) -> u64
 }
 
 /// What a month delivered to all diversions.
+#[tactic(auto, using(finite_sums::proofs::Totals::total_start, finite_sums::proofs::Totals::total_more))]
 fn diverted(basin: &Basin, month: &MonthRecord) -> u64
     requires delivered { length month.now.delivered ≡ length basin.now.rights }
     requires small { diverted basin.now month.now < 2 ^ 64 }
@@ -74,6 +76,7 @@ fn diverted(basin: &Basin, month: &MonthRecord) -> u64
 }
 
 /// What all reservoirs hold when the run begins.
+#[tactic(auto, using(crate::proofs::Sums::openings_small, std::proofs::lemmas::List::Sums::sum_by_more_le))]
 fn opening(basin: &Basin) -> u64
     requires { IsValidBasin basin.now }
     ensures { result ≡ sum (map (λ v. v.opening) basin.now.reservoirs) }
@@ -87,6 +90,7 @@ fn opening(basin: &Basin) -> u64
 
 impl Waters {
     /// The water before the first month.
+    #[tactic(auto, unfolding(crate::specs::Figures::waters_of))]
     pub fn first(basin: &Basin) -> Waters
         requires { IsValidBasin basin.now }
         ensures { (series : Inflows) → result ≡ waters_of basin.now series [] }
@@ -104,6 +108,7 @@ impl Waters {
     }
 
     /// The water with that of one month more.
+    #[tactic(auto, unfolding(crate::specs::Figures::waters_of), using(crate::proofs::Growth::waters_more))]
     pub fn with_month(&self, basin: &Basin, series: &Inflows, month: &MonthRecord) -> Waters
         requires basin { IsValidBasin basin.now }
         requires series { IsSeriesOf basin.now series.now }
