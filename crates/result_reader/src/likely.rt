@@ -41,9 +41,9 @@ fn node_at(nodes: &[u32], at: Option<u32>) -> u32 {
     }
 }
 
-/// The node that the next `in` line most likely names: the one that came after the last line in an earlier set. The sets
-/// of a month, and of one month and the next, differ little. `followers` has that node for each node at its index plus
-/// 1, and for a `call` line at index 0.
+/// The node that the next `in` line most likely names: the one that came after the last line in an earlier set. The
+/// sets of a month, and of one month and the next, differ little. `followers` has that node for each node at its index
+/// plus 1, and for a `call` line at index 0.
 pub fn likely_member(followers: &[u32], progress: &Progress) -> u32 {
     node_at(followers, progress.next_member)
 }

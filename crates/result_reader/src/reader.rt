@@ -94,8 +94,8 @@ impl<'b> ResultReader<'b> {
         })
     }
 
-    /// Takes what the next line says, if it may come. It is inlined, so that the other kinds cost nothing where the item is
-    /// known to be that of an `in` line, as of most lines.
+    /// Takes what the next line says, if it may come. It is inlined, so that the other kinds cost nothing where the
+    /// item is known to be that of an `in` line, as of most lines.
     #[inline(always)]
     fn accept(&mut self, text: &[u8], item: Item) -> Result<Item, BadLine>
         requires { item_of self.old.basin text.now ≡ Ok item }

@@ -195,8 +195,8 @@ fn after_in(text: &[u8]) -> Option<&[u8]>
     }
 }
 
-/// Whether a line is the `in` line of the node at an index, which may be any number. It is compared with the spelling of
-/// that, and its fields aren't looked at.
+/// Whether a line is the `in` line of the node at an index, which may be any number. It is compared with the spelling
+/// of that, and its fields aren't looked at.
 pub fn is_member_line(names: &Names, node: u32, text: &[u8]) -> bool
     requires { IsValidBasin names.now.basin.now }
     ensures { result ≡ true → reading.item_of names.now.basin.now text.now ≡ Ok (line.Member node) }

@@ -29,7 +29,9 @@ returns-then-not-fed-clause-given c = λ text given.
 
 pub returns-in_err-end_line-in-None-clause-refused : goal.returns-in_err-end_line-in-None-clause-refused
 returns-in_err-end_line-in-None-clause-refused c =
-    let p = err_from_is_err_and c.from_residual-in_err-end_line-in-None.result c.from_residual-in_err-end_line-in-None.ensures.1 in
+    let p =
+    err_from_is_err_and c.from_residual-in_err-end_line-in-None.result
+    c.from_residual-in_err-end_line-in-None.ensures.1 in
     let takes = ended c.feed-fed.result.whole c.args.line.now.bytes c.feed-fed.new.self.bytes c.args.rest.now
     c.feed-fed.result.taken c.if-not-fed.false c.feed-fed.ensures.takes in
     rw (p.1, p.2) (λ text given.
@@ -42,5 +44,5 @@ returns-in_ok-end_line-in-None-clause-given c = λ text given.
     c.feed-fed.result.taken c.if-not-fed.false c.feed-fed.ensures.takes in
     rw c.end_line.ensures.cleared
     (ended_given c.args.checker.now c.end_line.new.checker c.args.line.now text c.feed-fed.new.self.bytes
-    c.args.rest.now c.feed-fed.result.taken given takes c.in_ok-end_line-in-None.ensures.stands c.in_ok-end_line-in-None.ensures.good
-    c.in_ok-end_line-in-None.ensures.answer)
+    c.args.rest.now c.feed-fed.result.taken given takes c.in_ok-end_line-in-None.ensures.stands
+    c.in_ok-end_line-in-None.ensures.good c.in_ok-end_line-in-None.ensures.answer)
