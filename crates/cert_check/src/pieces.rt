@@ -70,36 +70,8 @@ fn whole_line<'a>(line: &LineIn, piece: &'a [u8]) -> Option<&'a [u8]>
     }
 }
 
-/// Gives a checker the prefix of some bytes, up to the end of a line if there is one, and answers how many they are.
-/// The bytes are copied behind those that are held.
-#[inline(never)]
-fn give_held(checker: &mut Checker, line: &mut LineIn, rest: &[u8]) -> Result<usize, Refuted>
-    requires line { IsPartialLine line.old }
-    requires good { checker.old.refused ≡ None }
-    requires some { 0 < length rest.now }
-    ensures some { IfOk result (λ taken. 0 < taken) }
-    ensures within { IfOk result (λ taken. taken ≤ length rest.now) }
-    ensures given { IfOk result (λ taken. (text : List ℕ) → AreGiven checker.old line.old text →
-        AreGiven checker.new line.new (text ++ take taken rest.now)) }
-    ensures good { OnOk result (checker.new.refused ≡ None) }
-    ensures refused { IfErr result (λ e. (text : List ℕ) → AreGiven checker.old line.old text → (more : List ℕ) →
-        text_verdict checker.old.basin checker.old.series (text ++ rest.now ++ more) ≡ Err e) }
-    ensures left { IfOk result (λ taken. room_left checker.new line.new + taken ≤ room_left checker.old line.old) }
-    ensures line { IsPartialLine line.new }
-    ensures basin { checker.new.basin ≡ checker.old.basin }
-    ensures series { checker.new.series ≡ checker.old.series }
-    ensures audit { lines.IsAudit checker.old → lines.IsAudit checker.new }
-{
-    let fed = line.feed(rest);
-    if !fed.whole {
-        return Ok(fed.taken);
-    }
-    end_line(checker, line)?;
-    Ok(fed.taken)
-}
-
 /// Gives a checker the prefix of some bytes, up to the end of a line if there is one, and answers how many they are. A
-/// line that lies whole in them isn't copied.
+/// line that lies whole in them isn't copied, other bytes are, behind those that are held.
 fn give_prefix(checker: &mut Checker, line: &mut LineIn, rest: &[u8]) -> Result<usize, Refuted>
     requires line { IsPartialLine line.old }
     requires good { checker.old.refused ≡ None }
@@ -122,7 +94,14 @@ fn give_prefix(checker: &mut Checker, line: &mut LineIn, rest: &[u8]) -> Result<
             checker.line(text)?;
             Ok(text.len() + 1)
         }
-        None => give_held(checker, line, rest),
+        None => {
+            let fed = line.feed(rest);
+            if !fed.whole {
+                return Ok(fed.taken);
+            }
+            end_line(checker, line)?;
+            Ok(fed.taken)
+        }
     }
 }
 

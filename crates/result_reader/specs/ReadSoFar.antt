@@ -1,7 +1,6 @@
 -- What the lines of a text say of the months' records.
 use Rattle.std.specs.Prelude.{ℕ, ◌+◌, true, false, List, [], ◌∷◌, ◌++◌, map, fold, length, replicate, Option, Some}
 use Rattle.std.specs.Prelude.{None, option_map, is_some, if◌then◌else◌, slice_index, slice_set}
-use Rattle.water_text.specs.declared.month.Month.{Month}
 use Rattle.water_model.specs.Basin.{taking_node}
 use Rattle.water_model.specs.Blank.{blank_month}
 use Rattle.water_model.specs.CutSets.{with_set}

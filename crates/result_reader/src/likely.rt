@@ -41,14 +41,16 @@ fn node_at(nodes: &[u32], at: Option<u32>) -> u32 {
     }
 }
 
-/// The entries that the next line most likely names: the one that is due, and for an `in` line the node that came after
-/// the last line in an earlier set. The sets of a month, and of one month and the next, differ little. `followers` has
-/// that node for each node at its index plus 1, and for a `call` line at index 0.
-pub fn likely_entries(dues: &[Shape], followers: &[u32], progress: Progress) -> Likely {
-    Likely {
-        member: node_at(followers, progress.next_member),
-        entry: due_entry(dues, progress.position),
-    }
+/// The node that the next `in` line most likely names: the one that came after the last line in an earlier set. The
+/// sets of a month, and of one month and the next, differ little. `followers` has that node for each node at its index
+/// plus 1, and for a `call` line at index 0.
+pub fn likely_member(followers: &[u32], progress: &Progress) -> u32 {
+    node_at(followers, progress.next_member)
+}
+
+/// The first entry that any other line most likely names: that of the line which is due.
+pub fn likely_entry(dues: &[Shape], progress: &Progress) -> u32 {
+    due_entry(dues, progress.position)
 }
 
 /// Keeps the node of an `in` line as the one that came after the line before it.

@@ -70,6 +70,7 @@ fn next_other(basin: &Basin, dues: &[Shape], progress: Progress, item: &Item) ->
 }
 
 /// The progress after a line, if the line may come.
+#[inline(always)]
 pub fn next_progress(
     basin: &Basin,
     dues: &[Shape],

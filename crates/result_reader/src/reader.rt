@@ -1,21 +1,21 @@
 //! The reader of a result text.
-ghost use Rattle.std.specs.Prelude.{◌≡◌, ◌+◌, ◌*◌, ◌^◌, ◌≤◌, ◌++◌, ◌∷◌, [], List, IfOk, OnOk, OnErr};
+ghost use Rattle.std.specs.Prelude.{◌≡◌, ◌+◌, ◌*◌, ◌^◌, ◌≤◌, ◌++◌, ◌∷◌, [], List, IfOk, Ok, OnOk, OnErr};
 ghost use Rattle.rights_roll.specs.Rolls.{IsRollOf};
 ghost use Rattle.result_lines.specs.Spelling.{line_of};
 ghost use Rattle.water_model.specs.Valid.{IsValidBasin};
 ghost use Rattle.result_lines.specs.declared.item.Item.{Item};
 ghost use Rattle.result_reader.specs.Form.{due, due_in_month};
 ghost use Rattle.result_reader.specs.OfText.{IsOfText};
-ghost use Rattle.result_reader.specs.Reading.{read_line};
+ghost use Rattle.result_reader.specs.Reading.{item_of, read_line};
 ghost use Rattle.result_reader.specs.Standing.{ReaderStandsFor, max_lines};
 
 use crate::bad_line::BadLine;
 use crate::dues::dues_of;
-use crate::likely::{follow, likely_entries};
+use crate::likely::{Likely, follow, likely_entry, likely_member};
 use crate::names::Names;
 use crate::position::Position;
 use crate::progress::{Progress, next_progress};
-use crate::reading::item_of;
+use crate::reading::{is_member_line, item_by_fields};
 use crate::shape::Shape;
 use result_lines::item::Item;
 use rights_roll::roll::Roll;
@@ -94,6 +94,32 @@ impl<'b> ResultReader<'b> {
         })
     }
 
+    /// Takes what the next line says, if it may come. It is inlined, so that the other kinds cost nothing where the
+    /// item is known to be that of an `in` line, as of most lines.
+    #[inline(always)]
+    fn accept(&mut self, text: &[u8], item: Item) -> Result<Item, BadLine>
+        requires { item_of self.old.basin text.now ≡ Ok item }
+        ensures answer { (items : List Item) → ReaderStandsFor self.old items →
+            result ≡ read_line self.old.basin items text.now }
+        ensures accepted { IfOk result (λ item. (items : List Item) → ReaderStandsFor self.old items →
+            ReaderStandsFor self.new (items ++ item ∷ [])) }
+        ensures spelled { IfOk result (λ item. (text.now ≡ line_of self.old.basin item) ×
+            IsOfText self.old.basin item) }
+        ensures refused { OnErr result (self.new ≡ self.old) }
+        ensures basin { self.new.basin ≡ self.old.basin }
+        ensures left { OnOk result (self.new.left + 1 ≡ self.old.left) }
+    {
+        match next_progress(self.names.basin, &self.dues, self.progress, &item) {
+            Some(progress) => {
+                follow(self.followers.as_mut_slice(), self.progress, &item);
+                self.progress = progress;
+                self.left -= 1;
+                Ok(item)
+            }
+            None => Err(BadLine::OutOfPlace),
+        }
+    }
+
     /// Takes the next line, without its line feed, and answers what it says by the numbers of the basin. Amounts are in
     /// units of 1,000 cubic metres.
     ///
@@ -116,17 +142,13 @@ impl<'b> ResultReader<'b> {
         ensures basin { self.new.basin ≡ self.old.basin }
         ensures left { OnOk result (self.new.left + 1 ≡ self.old.left) }
     {
-        let likely = likely_entries(&self.dues, &self.followers, self.progress);
-        let item = item_of(&self.names, likely, text)?;
-        match next_progress(self.names.basin, &self.dues, self.progress, &item) {
-            Some(progress) => {
-                follow(self.followers.as_mut_slice(), self.progress, &item);
-                self.progress = progress;
-                self.left -= 1;
-                Ok(item)
-            }
-            None => Err(BadLine::OutOfPlace),
+        let member = likely_member(&self.followers, &self.progress);
+        if is_member_line(&self.names, member, text) {
+            return self.accept(text, Item::Member { node: member });
         }
+        let entry = likely_entry(&self.dues, &self.progress);
+        let item = item_by_fields(&self.names, Likely { member, entry }, text)?;
+        self.accept(text, item)
     }
 
     /// An upper bound on the lines that may still be accepted: for each line that is due one, and for a `call` line one

@@ -167,10 +167,10 @@ fn item_with(
     }
 }
 
-/// What a line says, by its fields.
+/// What a line says, whatever stands before it, by its fields. It likely names these entries.
 #[tactic(auto, unfolding(crate::specs::Reading::item_of))]
 #[inline(never)]
-fn item_by_fields(names: &Names, likely: Likely, text: &[u8]) -> Result<Item, BadLine>
+pub fn item_by_fields(names: &Names, likely: Likely, text: &[u8]) -> Result<Item, BadLine>
     requires { IsValidBasin names.now.basin.now }
     ensures { result ≡ reading.item_of names.now.basin.now text.now }
 {
@@ -195,27 +195,14 @@ fn after_in(text: &[u8]) -> Option<&[u8]>
     }
 }
 
-/// Whether a line is the `in` line of the node at an index, which may be any number.
-fn is_member_line(names: &Names, node: u32, text: &[u8]) -> bool
+/// Whether a line is the `in` line of the node at an index, which may be any number. It is compared with the spelling
+/// of that, and its fields aren't looked at.
+pub fn is_member_line(names: &Names, node: u32, text: &[u8]) -> bool
     requires { IsValidBasin names.now.basin.now }
     ensures { result ≡ true → reading.item_of names.now.basin.now text.now ≡ Ok (line.Member node) }
 {
     match after_in(text) {
         Some(name) => names.has_name(Space::Nodes, node, name),
         None => false,
-    }
-}
-
-/// What a line says, whatever stands before it. It likely names these entries. Most lines of a text are `in` lines of
-/// the likely node: one is compared with the spelling of that, and its fields aren't looked at.
-pub fn item_of(names: &Names, likely: Likely, text: &[u8]) -> Result<Item, BadLine>
-    requires { IsValidBasin names.now.basin.now }
-    ensures { result ≡ reading.item_of names.now.basin.now text.now }
-{
-    let node = likely.member;
-    if is_member_line(names, node, text) {
-        Ok(Item::Member { node })
-    } else {
-        item_by_fields(names, likely, text)
     }
 }
