@@ -182,8 +182,8 @@ module _ (b : Basin) (m : MonthRecord) (link : ℕ) (month : TakesOneMore b m) (
       let uses = next.uses in
       record {
         in_range = uses.in_range;
-        helps = (carry_helps_exactly_into_core b m r uses.core (cut_at m.cuts r) link month.plan uses.in_range uses.short
-            (short_has_reach b m r month.reaches uses.in_range uses.short) (month.room.each r uses.in_range uses.short)
+        helps = (carry_helps_exactly_into_core b m r uses.core (cut_at m.cuts r) link month.plan uses.in_range
+            uses.short (short_has_reach b m r month.reaches uses.in_range uses.short) (month.room.each r uses.in_range uses.short)
             uses.is_core below).1 (outside, uses.here);
         first = λ s l senior helps. next.first s senior (leads s l helps).uses;
       }
@@ -200,8 +200,8 @@ module _ (b : Basin) (m : MonthRecord) (link : ℕ) (month : TakesOneMore b m) (
       by_order s l on to (inl same) =
           both_ways (has (cut_at m.cuts s) (tail_of b link)) to.outside
           (ap (λ q. has (cut_at m.cuts q) (tail_of b link)) same ∙ within)
-      by_order s l on to (inr differ) = elim (senior_total b.rights month.plan.valid.roll.strict s r l next.uses.in_range
-          differ) [
+      by_order s l on to (inr differ) = elim (senior_total b.rights month.plan.valid.roll.strict s r l
+          next.uses.in_range differ) [
             | inl above ↦ next.first s above to.uses
             | inr senior ↦
                 both_ways (has (cut_at m.cuts s) (tail_of b link)) to.outside
