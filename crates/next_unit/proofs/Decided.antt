@@ -183,8 +183,8 @@ module _ (b : Basin) (m : MonthRecord) (link : ℕ) (month : TakesOneMore b m) (
       record {
         in_range = uses.in_range;
         helps = (carry_helps_exactly_into_core b m r uses.core (cut_at m.cuts r) link month.plan uses.in_range
-            uses.short (short_has_reach b m r month.reaches uses.in_range uses.short) (month.room.each r uses.in_range uses.short)
-            uses.is_core below).1 (outside, uses.here);
+            uses.short (short_has_reach b m r month.reaches uses.in_range uses.short)
+            (month.room.each r uses.in_range uses.short) uses.is_core below).1 (outside, uses.here);
         first = λ s l senior helps. next.first s senior (leads s l helps).uses;
       }
 
