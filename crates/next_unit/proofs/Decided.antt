@@ -8,7 +8,6 @@ use Rattle.cut_cert.specs.Sets.{cut_at}
 use Rattle.water_model.specs.Lookups.{has}
 use Rattle.water_model.specs.Basin.{head_of, tail_of, taking_node, instream_link, is_senior}
 use Rattle.water_model.specs.Cuts.{IsCut, IsReach, separates, node_within}
-use Rattle.water_model.specs.History.{HasReaches}
 use Rattle.water_model.specs.declared.types.Basin.{Basin}
 use Rattle.water_model.specs.declared.types.MonthRecord.{MonthRecord}
 use Rattle.water_model.proofs.Seniority.{senior_total}
@@ -22,8 +21,8 @@ use Rattle.plan_residual.proofs.Closed.{in_others, not_in_set, tight_cuts_hold_n
 use Rattle.plan_residual.proofs.Closed.{closed_sets_leave_tight_cuts}
 use Rattle.plan_residual.proofs.Sweeping.{closed_for_junior}
 use Rattle.plan_residual.proofs.Terms.{length-others}
-use Rattle.next_unit.specs.Helped.{AreHelpedTo, AreDecided, AreUndecided, HasRoomForAll, HelpsNoneTo, IsFirstHelped}
-use Rattle.next_unit.specs.Helped.{IsHelped, IsHelpedTo}
+use Rattle.next_unit.specs.Helped.{AreHelpedTo, AreDecided, AreUndecided, HelpsNoneTo, IsFirstHelped}
+use Rattle.next_unit.specs.Helped.{IsHelped, IsHelpedTo, TakesOneMore}
 use Rattle.next_unit.specs.Laws.{CarryHelpsRight}
 use Rattle.next_unit.proofs.Exact.{rights_have_cores, carry_helps_exactly_into_core}
 use Rattle.next_unit.proofs.Helping.{helped_is_short, short_has_reach}
@@ -144,14 +143,13 @@ record LeadsTo (b : Basin) (m : MonthRecord) (link s : ℕ) : Type 0 where
   uses : CouldUseAt b m (head_of b link) s
 
 -- a link of a month whose sets are the reaches
-module _ (b : Basin) (m : MonthRecord) (link : ℕ) (given : HasPlan b m) (reaches : HasReaches b m)
-    (room : HasRoomForAll b m) (below : link < length b.links) where
+module _ (b : Basin) (m : MonthRecord) (link : ℕ) (month : TakesOneMore b m) (below : link < length b.links) where
   leads : (s : ℕ) → s < length b.rights → CarryHelpsRight b m link s → LeadsTo b m link s
   leads s l helps =
       let short = helped_is_short b m link s l helps in
-      let core = rights_have_cores b m s given l in
-      let both = (carry_helps_exactly_into_core b m s core.0 (cut_at m.cuts s) link given l short
-      (short_has_reach b m s reaches l short) (room.each s l short) core.1 below).0 helps in
+      let core = rights_have_cores b m s month.plan l in
+      let both = (carry_helps_exactly_into_core b m s core.0 (cut_at m.cuts s) link month.plan l short
+      (short_has_reach b m s month.reaches l short) (month.room.each s l short) core.1 below).0 helps in
       record {
         outside = both.0;
         uses = record { in_range = l; short = short; core = core.0; is_core = core.1; here = both.1 };
@@ -162,8 +160,8 @@ module _ (b : Basin) (m : MonthRecord) (link : ℕ) (given : HasPlan b m) (reach
   not_full rises s l helps =
       let to = leads s l helps in
       both_ways (has (cut_at m.cuts s) (tail_of b link)) to.outside
-      (core_within b m s to.uses.core (cut_at m.cuts s) given l to.uses.short
-      (short_has_reach b m s reaches l to.uses.short).is_tight to.uses.is_core (tail_of b link)
+      (core_within b m s to.uses.core (cut_at m.cuts s) month.plan l to.uses.short
+      (short_has_reach b m s month.reaches l to.uses.short).is_tight to.uses.is_core (tail_of b link)
       (to.uses.is_core.upstream.closed.forward link below rises to.uses.here))
 
   -- nor where nobody could use a unit at its head
@@ -184,9 +182,9 @@ module _ (b : Basin) (m : MonthRecord) (link : ℕ) (given : HasPlan b m) (reach
       let uses = next.uses in
       record {
         in_range = uses.in_range;
-        helps = (carry_helps_exactly_into_core b m r uses.core (cut_at m.cuts r) link given uses.in_range uses.short
-            (short_has_reach b m r reaches uses.in_range uses.short) (room.each r uses.in_range uses.short)
-            uses.is_core below).1 (outside, uses.here);
+        helps = (carry_helps_exactly_into_core b m r uses.core (cut_at m.cuts r) link month.plan uses.in_range
+            uses.short (short_has_reach b m r month.reaches uses.in_range uses.short)
+            (month.room.each r uses.in_range uses.short) uses.is_core below).1 (outside, uses.here);
         first = λ s l senior helps. next.first s senior (leads s l helps).uses;
       }
 
@@ -202,16 +200,16 @@ module _ (b : Basin) (m : MonthRecord) (link : ℕ) (given : HasPlan b m) (reach
       by_order s l on to (inl same) =
           both_ways (has (cut_at m.cuts s) (tail_of b link)) to.outside
           (ap (λ q. has (cut_at m.cuts q) (tail_of b link)) same ∙ within)
-      by_order s l on to (inr differ) = elim (senior_total b.rights given.valid.roll.strict s r l next.uses.in_range
-          differ) [
+      by_order s l on to (inr differ) = elim (senior_total b.rights month.plan.valid.roll.strict s r l
+          next.uses.in_range differ) [
             | inl above ↦ next.first s above to.uses
             | inr senior ↦
                 both_ways (has (cut_at m.cuts s) (tail_of b link)) to.outside
-                (reach_within b m r s (cut_at m.cuts r) (cut_at m.cuts s) given
+                (reach_within b m r s (cut_at m.cuts r) (cut_at m.cuts s) month.plan
                 (record { in_range = next.uses.in_range; short = next.uses.short })
                 (record { in_range = l; short = to.uses.short }) senior on
-                (short_has_reach b m r reaches next.uses.in_range next.uses.short)
-                (short_has_reach b m s reaches l to.uses.short) (tail_of b link) within)
+                (short_has_reach b m r month.reaches next.uses.in_range next.uses.short)
+                (short_has_reach b m s month.reaches l to.uses.short) (tail_of b link) within)
           ]
 
 -- a right that is known decides it

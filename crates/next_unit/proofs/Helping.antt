@@ -1,6 +1,6 @@
 -- The most senior right that one more unit of carry on a link would help, seniors first.
 use Rattle.std.proofs.Common.{◌≡◌, ℕ, ◌+◌, ◌<◌, ◌≤◌, true, false, sym, ◌∙◌, ap, subst, arith, Bool, List, []}
-use Rattle.std.proofs.Common.{length, get_or, inl, inr}
+use Rattle.std.proofs.Common.{length, inl, inr}
 use Rattle.std.proofs.lemmas.Bool.{cases_eq, cases_lt, ltb-true}
 use Rattle.std.proofs.lemmas.List.{get_or-set_same, get_or-set_other, length-set}
 use Rattle.std.specs.Prelude.{Option, Some, None, slice_index, slice_index_or, slice_set, unwrap_or, is_some}
@@ -11,15 +11,14 @@ use Rattle.water_model.specs.Indices.{seniors_first}
 use Rattle.water_model.specs.declared.types.Basin.{Basin}
 use Rattle.water_model.specs.declared.types.MonthRecord.{MonthRecord}
 use Rattle.duality.proofs.Greatest.{delivery_le_want}
-use Rattle.water_model.specs.Valid.{IsValidBasin}
 use Rattle.rights_roll.specs.SeniorityOrder.{IsSeniorityOrder}
-use Rattle.rights_roll.proofs.Seniors.{by_seniority_order}
-use Rattle.plan_residual.proofs.Firsts.{order_below}
+use Rattle.plan_residual.proofs.Firsts.{set_held}
+use Rattle.plan_residual.specs.Core.{IsCore}
 use Rattle.plan_residual.specs.Reaches.{HasReach}
 use Rattle.plan_residual.specs.Sweep.{right_at}
 use Rattle.next_unit.specs.Core.{raised_carry}
 use Rattle.next_unit.specs.Helped.{IsFirstHelped, IsHelped, AreHelped, HelpsNoneTo, IsHelpedTo, AreHelpedTo}
-use Rattle.next_unit.specs.Helped.{AreBeingHelped, AreUndecided, HelpNot}
+use Rattle.next_unit.specs.Helped.{AreBeingHelped, AreUndecided, HelpNot, IsCandidate, TakesOneMore}
 use Rattle.next_unit.specs.Laws.{CarryHelpsRight}
 
 -- a right that could get more is short
@@ -189,16 +188,6 @@ no_more b m position helped undecided count o l none lists now = record {
   ];
 }
 
--- a right that isn't short is helped by no link
-pub nobody_more : (b : Basin) (m : MonthRecord) (position : ℕ) (helped : List (Option ℕ)) →
-    (IsShort m (right_at b position) → ⊥) → right_at b position < length b.rights → AreHelpedTo b m position helped →
-    AreHelpedTo b m (position + 1) helped
-nobody_more b m position helped met l now = record {
-  count = now.count;
-  each = λ e k. still_helped b m position e (slice_index_or helped e None)
-      (λ none helps. met (helped_is_short b m e (right_at b position) l helps)) (now.each e k);
-}
-
 -- a diversion or zone is helped by no link for which no right was known at first
 pub none_instream : (b : Basin) (m : MonthRecord) (position : ℕ) (helped : List (Option ℕ)) →
     instream_link b (right_at b position) ≡ None → right_at b position < length b.rights →
@@ -233,19 +222,15 @@ short_has_reach b m r reaches l short =
     subst (λ (cut : List Bool). IsReach b m.month m.supply m.delivered r cut)
     (sym (ap (λ o. unwrap_or o []) set.1)) set.2
 
--- the right at an index of the order
-pub record IsPlaced (b : Basin) (order : List ℕ) (position : ℕ) : Type 0 where
-  pub within : position < length order
-  pub is : get_or order position 0 ≡ right_at b position
-  pub below : get_or order position 0 < length b.rights
-
-pub is_placed : (b : Basin) (order : List ℕ) (position : ℕ) → IsValidBasin b → order ≡ seniors_first b →
-    position < length b.rights → IsPlaced b order position
-is_placed b order position valid is l =
-    let o = by_seniority_order b.rights valid.roll.strict in
-    let within : position < length order = omega (arith, ap length is, o.count, l) in
-    record {
-      within = within;
-      is = ap (λ (xs : List ℕ). get_or xs position 0) is;
-      below = order_below b order position valid is within;
-    }
+-- what a search for its core finds of such a right
+pub candidate : {b : Basin} {m : MonthRecord} {r : ℕ} {core : List Bool} → TakesOneMore b m → r < length b.rights →
+    IsShort m r → IsCore b m r core → IsCandidate b m r core
+candidate {b = b} {m = m} {r = r} month l short core = record {
+  short = short;
+  room = month.room.each r l short;
+  is_core = core;
+  cut = set_held b m r month.plan.fits record {
+    each = λ s k h. let set = month.reaches.short s k h in (set.0, set.1, set.2.is_tight);
+  } l short;
+  reach = short_has_reach b m r month.reaches l short;
+}

@@ -3,9 +3,13 @@ use Rattle.std.specs.Prelude.{◌≡◌, ℕ, ◌+◌, ◌<◌, ◌≤◌, ◌�
 use Rattle.std.specs.Prelude.{slice_index, slice_index_or}
 use Rattle.water_model.specs.Basin.{instream_link, is_senior}
 use Rattle.water_model.specs.Cuts.{enters}
-use Rattle.water_model.specs.History.{IsShort}
+use Rattle.water_model.specs.History.{HasReaches, IsShort}
 use Rattle.water_model.specs.declared.types.Basin.{Basin}
 use Rattle.water_model.specs.declared.types.MonthRecord.{MonthRecord}
+use Rattle.cut_cert.specs.Sets.{HasCut}
+use Rattle.plan_residual.specs.Core.{IsCore}
+use Rattle.plan_residual.specs.Reaches.{HasReach}
+use Rattle.plan_residual.specs.Residual.{HasPlan}
 use Rattle.plan_residual.specs.Sweep.{right_at}
 use Rattle.next_unit.specs.Core.{HasRoomDown}
 use Rattle.next_unit.specs.Laws.{CarryHelpsRight}
@@ -86,3 +90,17 @@ pub record AreBeingHelped (b : Basin) (m : MonthRecord) (position : ℕ) (helped
 -- for each short right there is room for one more unit down the rivers
 pub record HasRoomForAll (b : Basin) (m : MonthRecord) : Type 0 where
   pub each : (r : ℕ) → r < length b.rights → IsShort m r → HasRoomDown b m r
+
+-- a month with a plan of its own, whose sets are the reaches, and with that room
+pub record TakesOneMore (b : Basin) (m : MonthRecord) : Type 0 where
+  pub plan : HasPlan b m
+  pub reaches : HasReaches b m
+  pub room : HasRoomForAll b m
+
+-- a short right of such a month, with its core
+pub record IsCandidate (b : Basin) (m : MonthRecord) (right : ℕ) (core : List Bool) : Type 0 where
+  pub short : IsShort m right
+  pub room : HasRoomDown b m right
+  pub is_core : IsCore b m right core
+  pub cut : HasCut b m.cuts right
+  pub reach : HasReach b m right

@@ -6,20 +6,18 @@ ghost use Rattle.water_model.specs.Basin.{head_of, instream_link};
 ghost use Rattle.water_model.specs.History.{HasReaches, IsShort};
 ghost use Rattle.water_model.specs.Valid.{IsValidBasin};
 ghost use Rattle.rights_roll.specs.Rolls.{IsRollOf};
-ghost use Rattle.plan_residual.specs.Core.{IsCore};
 ghost use Rattle.plan_residual.specs.Next.{AreNext, IsNextAt};
-ghost use Rattle.plan_residual.specs.Reaches.{HasReach};
 ghost use Rattle.plan_residual.specs.Residual.{HasPlan};
 ghost use Rattle.plan_residual.specs.Rows.{IsSearchOf};
 ghost use Rattle.plan_residual.specs.Sweep.{right_at};
-ghost use Rattle.next_unit.specs.Core.{HasRoomDown};
 ghost use Rattle.next_unit.specs.Helped.{AreHelped, AreHelpedTo, AreLinks, AreUndecided, HasRoomForAll, HelpNot};
-ghost use Rattle.next_unit.specs.Helped.{IsHelped, IsHelpedTo, NoneEnters};
+ghost use Rattle.next_unit.specs.Helped.{IsCandidate, IsHelped, IsHelpedTo, NoneEnters, TakesOneMore};
 
 use crate::carry_helps;
 use cut_cert::calls::is_short;
 use cut_cert::{enters, holds};
 use plan_residual::ResidualSearch;
+use plan_residual::order::right_at;
 use plan_residual::steps::can_rise;
 use rights_roll::roll::Roll;
 use water_model::types::{Basin, MonthRecord, RightKind};
@@ -27,9 +25,7 @@ use water_model::types::{Basin, MonthRecord, RightKind};
 /// The right to which one more unit at a link's head would go, if its reach does not hold the link's tail. Else carry
 /// on the link would help no diversion or zone.
 fn decided_by_right(basin: &Basin, month: &MonthRecord, right: u32, link: u32) -> Option<u32>
-    requires plan { HasPlan basin.now month.now }
-    requires reaches { HasReaches basin.now month.now }
-    requires room { HasRoomForAll basin.now month.now }
+    requires month { TakesOneMore basin.now month.now }
     requires link { link < length basin.now.links }
     requires next { IsNextAt basin.now month.now (head_of basin.now link) right }
     ensures { IsHelpedTo basin.now month.now 0 link result }
@@ -61,9 +57,7 @@ fn decided_by_next(
     next: &[Option<u32>],
     link: u32,
 ) -> Option<u32>
-    requires plan { HasPlan basin.now month.now }
-    requires reaches { HasReaches basin.now month.now }
-    requires room { HasRoomForAll basin.now month.now }
+    requires month { TakesOneMore basin.now month.now }
     requires next { AreNext basin.now month.now next.now }
     requires link { link < length basin.now.links }
     ensures { IsHelpedTo basin.now month.now 0 link result }
@@ -83,9 +77,7 @@ fn is_undecided(
     answer: Option<u32>,
     link: u32,
 ) -> bool
-    requires plan { HasPlan basin.now month.now }
-    requires reaches { HasReaches basin.now month.now }
-    requires room { HasRoomForAll basin.now month.now }
+    requires month { TakesOneMore basin.now month.now }
     requires next { AreNext basin.now month.now next.now }
     requires link { link < length basin.now.links }
     requires answer { IsHelpedTo basin.now month.now 0 link answer }
@@ -109,9 +101,7 @@ fn begin(
     helped: &mut [Option<u32>],
     undecided: &mut [u32],
 ) -> usize
-    requires plan { HasPlan basin.now month.now }
-    requires reaches { HasReaches basin.now month.now }
-    requires room { HasRoomForAll basin.now month.now }
+    requires month { TakesOneMore basin.now month.now }
     requires next { AreNext basin.now month.now next.now }
     requires helped { length helped.old ≡ length basin.now.links }
     requires undecided { length undecided.old ≡ length basin.now.links }
@@ -165,11 +155,7 @@ fn helped_with(
     requires plan { HasPlan basin.now month.now }
     requires roll { IsRollOf basin.now.rights roll.now }
     requires position { position < length basin.now.rights }
-    requires short { IsShort month.now (right_at basin.now position) }
-    requires room { HasRoomDown basin.now month.now (right_at basin.now position) }
-    requires core { IsCore basin.now month.now (right_at basin.now position) core.now }
-    requires cut { HasCut basin.now month.now.cuts (right_at basin.now position) }
-    requires reach { HasReach basin.now month.now (right_at basin.now position) }
+    requires right { IsCandidate basin.now month.now (right_at basin.now position) core.now }
     requires link { link < length basin.now.links }
     requires before { IsHelpedTo basin.now month.now position link before }
     ensures { IsHelpedTo basin.now month.now (position + 1) link result }
@@ -177,7 +163,7 @@ fn helped_with(
     if before.is_some() {
         return before;
     }
-    let right = roll.by_seniority()[position];
+    let right = right_at(basin, roll, position);
     if carry_helps(basin, month, right, core, link) {
         Some(right)
     } else {
@@ -193,8 +179,7 @@ fn could_be_helped(
     undecided: &[u32],
     count: usize,
 ) -> bool
-    requires plan { HasPlan basin.now month.now }
-    requires reaches { HasReaches basin.now month.now }
+    requires month { TakesOneMore basin.now month.now }
     requires right { right < length basin.now.rights }
     requires undecided { AreLinks basin.now undecided.now count }
     ensures yes { OnTrue result (IsShort month.now right) }
@@ -218,11 +203,7 @@ fn note_links(
     requires plan { HasPlan basin.now month.now }
     requires roll { IsRollOf basin.now.rights roll.now }
     requires position { position < length basin.now.rights }
-    requires short { IsShort month.now (right_at basin.now position) }
-    requires room { HasRoomDown basin.now month.now (right_at basin.now position) }
-    requires core { IsCore basin.now month.now (right_at basin.now position) core.now }
-    requires cut { HasCut basin.now month.now.cuts (right_at basin.now position) }
-    requires reach { HasReach basin.now month.now (right_at basin.now position) }
+    requires right { IsCandidate basin.now month.now (right_at basin.now position) core.now }
     requires undecided { AreUndecided basin.now month.now helped.old undecided.now count }
     requires helped { AreHelpedTo basin.now month.now position helped.old }
     ensures undecided { AreUndecided basin.now month.now helped.new undecided.now count }
@@ -235,64 +216,22 @@ fn note_links(
     }
 }
 
-/// Notes the right at an index of the order, if it is short, for the links whose carry would help it and no senior. Its
-/// core is searched for if an undecided link enters its reach.
-fn note_right(
-    search: &mut ResidualSearch,
-    basin: &Basin,
-    roll: &Roll,
-    month: &MonthRecord,
-    position: usize,
-    undecided: &[u32],
-    count: usize,
-    helped: &mut [Option<u32>],
-)
-    requires search { IsSearchOf basin.now search.old }
-    requires plan { HasPlan basin.now month.now }
-    requires roll { IsRollOf basin.now.rights roll.now }
-    requires reaches { HasReaches basin.now month.now }
-    requires room { HasRoomForAll basin.now month.now }
-    requires position { position < length basin.now.rights }
-    requires undecided { AreUndecided basin.now month.now helped.old undecided.now count }
-    requires helped { AreHelpedTo basin.now month.now position helped.old }
-    ensures search { IsSearchOf basin.now search.new }
-    ensures undecided { AreUndecided basin.now month.now helped.new undecided.now count }
-    ensures helped { AreHelpedTo basin.now month.now (position + 1) helped.new }
-{
-    let right = roll.by_seniority()[position];
-    if could_be_helped(basin, month, right, undecided, count) {
-        search.find_core(basin, roll, month, right);
-        let core = search.core();
-        note_links(basin, roll, month, position, core, undecided, count, helped);
-    }
-}
-
-/// The right at an index of the order.
-fn right_at(basin: &Basin, roll: &Roll, position: usize) -> u32
-    requires basin { IsValidBasin basin.now }
-    requires roll { IsRollOf basin.now.rights roll.now }
-    requires position { position < length basin.now.rights }
-    ensures value { result ≡ right_at basin.now position }
-    ensures within { result < length basin.now.rights }
-{
-    roll.by_seniority()[position]
-}
-
-/// The link of an instream right.
-fn instream_link(basin: &Basin, right: u32) -> Option<u32>
+/// Whether a right is an instream right.
+fn is_instream(basin: &Basin, right: u32) -> bool
     requires basin { IsValidBasin basin.now }
     requires right { right < length basin.now.rights }
-    ensures { result ≡ instream_link basin.now right }
+    ensures { OnFalse result (instream_link basin.now right ≡ None) }
 {
     match basin.rights[right as usize].kind {
-        RightKind::Instream { link } => Some(link),
-        RightKind::Diversion { .. } => None,
-        RightKind::Zone { .. } => None,
+        RightKind::Instream { .. } => true,
+        RightKind::Diversion { .. } => false,
+        RightKind::Zone { .. } => false,
     }
 }
 
-/// Notes the right at an index of the order, if it is an instream right that is short. No other could be helped by an
-/// undecided link.
+/// Notes the right at an index of the order, if it is an instream right that is short, for the undecided links whose
+/// carry would help it and no senior. No other right could be helped by one. Its core is searched for if an undecided
+/// link enters its reach.
 fn note_index(
     search: &mut ResidualSearch,
     basin: &Basin,
@@ -304,10 +243,8 @@ fn note_index(
     helped: &mut [Option<u32>],
 )
     requires search { IsSearchOf basin.now search.old }
-    requires plan { HasPlan basin.now month.now }
+    requires month { TakesOneMore basin.now month.now }
     requires roll { IsRollOf basin.now.rights roll.now }
-    requires reaches { HasReaches basin.now month.now }
-    requires room { HasRoomForAll basin.now month.now }
     requires position { position < length basin.now.rights }
     requires undecided { AreUndecided basin.now month.now helped.old undecided.now count }
     requires helped { AreHelpedTo basin.now month.now position helped.old }
@@ -316,11 +253,13 @@ fn note_index(
     ensures helped { AreHelpedTo basin.now month.now (position + 1) helped.new }
 {
     let right = right_at(basin, roll, position);
-    match instream_link(basin, right) {
-        Some(_) => note_right(
-            search, basin, roll, month, position, undecided, count, helped,
-        ),
-        None => {}
+    if !is_instream(basin, right) {
+        return;
+    }
+    if could_be_helped(basin, month, right, undecided, count) {
+        search.find_core(basin, roll, month, right);
+        let core = search.core();
+        note_links(basin, roll, month, position, core, undecided, count, helped);
     }
 }
 

@@ -2,7 +2,6 @@
 //! reached, but for those that a senior claimed: a step that has room as seen from a right has room as seen from each
 //! short senior of it, so no search comes to a node that was claimed but by one that was claimed too.
 ghost use Rattle.std.specs.Prelude.{◌≡◌, ◌+◌, ◌<◌, ◌≤◌, length};
-ghost use Rattle.plan_residual.specs.Scene.{IsScene};
 ghost use Rattle.plan_residual.specs.Queue.{IsQueue, IsQueueIn};
 ghost use Rattle.plan_residual.specs.Search.{IsClosedAlong};
 ghost use Rattle.plan_residual.specs.Claims.{AreClaimed, AreMarked, IsClaim};
@@ -10,7 +9,6 @@ ghost use Rattle.plan_residual.specs.Next.{AreNext};
 ghost use Rattle.plan_residual.specs.declared.steps.Direction.TheVariants.{ToRight};
 
 use crate::finding::node_of;
-use crate::order::right_at;
 use crate::scene::Scene;
 use crate::spread::spread_on;
 use crate::steps::Direction;
@@ -18,11 +16,10 @@ use crate::visits::Queue;
 
 /// Claims for a right the nodes from which its own is reached.
 fn claim(scene: &Scene, right: u32, queue: &mut Queue)
-    requires scene { IsScene scene.now }
-    requires right { right < length scene.now.basin.now.rights }
-    requires queue { IsQueueIn scene.now.basin.now queue.old }
-    requires closed { IsClosedAlong scene.now.basin.now scene.now.month.now right ToRight queue.old.seen }
-    ensures { IsClaim scene.now.basin.now scene.now.month.now right queue.old queue.new }
+    requires right { right < length scene.now.basin.rights }
+    requires queue { IsQueueIn scene.now.basin queue.old }
+    requires closed { IsClosedAlong scene.now.basin scene.now.month right ToRight queue.old.seen }
+    ensures { IsClaim scene.now.basin scene.now.month right queue.old queue.new }
 {
     let before = queue.len();
     queue.visit(node_of(scene.basin, right));
@@ -43,18 +40,12 @@ fn mark(queue: &Queue, from: usize, right: u32, next: &mut [Option<u32>])
 
 /// Claims the nodes for the right at an index of the order, if it is short.
 fn serve(scene: &Scene, position: usize, queue: &mut Queue, next: &mut [Option<u32>])
-    requires scene { IsScene scene.now }
-    requires position { position < length scene.now.basin.now.rights }
-    requires claimed { AreClaimed scene.now.basin.now scene.now.month.now position queue.old next.old }
-    ensures { AreClaimed scene.now.basin.now scene.now.month.now (position + 1) queue.new next.new }
+    requires position { position < length scene.now.basin.rights }
+    requires claimed { AreClaimed scene.now.basin scene.now.month position queue.old next.old }
+    ensures { AreClaimed scene.now.basin scene.now.month (position + 1) queue.new next.new }
 {
-    let Scene {
-        basin,
-        roll,
-        month,
-        ..
-    } = *scene;
-    let right = right_at(basin, roll, position);
+    let right = scene.right_at(position);
+    let month = scene.month;
     if month.delivered[right as usize] >= month.want[right as usize] {
         return;
     }
@@ -65,11 +56,10 @@ fn serve(scene: &Scene, position: usize, queue: &mut Queue, next: &mut [Option<u
 
 /// Finds for each node the right to which the next unit there goes, or none.
 pub fn find_next(scene: &Scene, queue: &mut Queue, next: &mut [Option<u32>])
-    requires scene { IsScene scene.now }
-    requires queue { IsQueueIn scene.now.basin.now queue.old }
-    requires next { length next.old ≡ length scene.now.basin.now.nodes }
-    ensures next { AreNext scene.now.basin.now scene.now.month.now next.new }
-    ensures queue { IsQueueIn scene.now.basin.now queue.new }
+    requires queue { IsQueueIn scene.now.basin queue.old }
+    requires next { length next.old ≡ length scene.now.basin.nodes }
+    ensures next { AreNext scene.now.basin scene.now.month next.new }
+    ensures queue { IsQueueIn scene.now.basin queue.new }
 {
     queue.clear();
     next.fill(None);

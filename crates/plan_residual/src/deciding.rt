@@ -4,7 +4,6 @@ ghost use Rattle.cut_cert.specs.Sets.{cut_at, HasCut};
 ghost use Rattle.water_model.specs.Cuts.{IsTight};
 ghost use Rattle.water_model.specs.History.{IsShort};
 ghost use Rattle.plan_residual.specs.Reaches.{HasReach};
-ghost use Rattle.plan_residual.specs.Scene.{IsScene};
 ghost use Rattle.plan_residual.specs.Search.{Covers};
 ghost use Rattle.plan_residual.specs.Queue.{IsQueueIn};
 
@@ -31,14 +30,13 @@ pub fn covers(seen: &[bool], cuts: &CutList, right: u32) -> bool
 
 /// Whether the set of a short right, a tight cut of it, is its reach, by a search in this queue.
 pub fn search(scene: &Scene, right: u32, queue: &mut Queue) -> bool
-    requires scene { IsScene scene.now }
-    requires queue { IsQueueIn scene.now.basin.now queue.old }
-    requires cut { HasCut scene.now.basin.now scene.now.month.now.cuts right }
-    requires short { IsShort scene.now.month.now right }
-    requires tight { let m = scene.now.month.now in
-        IsTight scene.now.basin.now m.month m.supply m.delivered right (cut_at m.cuts right) }
-    ensures reach { IsTrue result ↔ HasReach scene.now.basin.now scene.now.month.now right }
-    ensures queue { IsQueueIn scene.now.basin.now queue.new }
+    requires queue { IsQueueIn scene.now.basin queue.old }
+    requires cut { HasCut scene.now.basin scene.now.month.cuts right }
+    requires short { IsShort scene.now.month right }
+    requires tight { let m = scene.now.month in
+        IsTight scene.now.basin m.month m.supply m.delivered right (cut_at m.cuts right) }
+    ensures reach { IsTrue result ↔ HasReach scene.now.basin scene.now.month right }
+    ensures queue { IsQueueIn scene.now.basin queue.new }
 {
     spread_apart(scene, right, queue);
     spread_own(scene, right, queue);

@@ -1,7 +1,6 @@
 //! A search for the nodes from which a node is reached.
 ghost use Rattle.std.specs.Prelude.{◌≡◌, ◌<◌, Some, length};
 ghost use Rattle.water_model.specs.Valid.{IsValidBasin};
-ghost use Rattle.plan_residual.specs.Scene.{IsScene};
 ghost use Rattle.plan_residual.specs.Queue.{IsQueueIn};
 ghost use Rattle.plan_residual.specs.Core.{node_of, AreUpstream};
 
@@ -27,12 +26,11 @@ pub fn node_of(basin: &Basin, right: u32) -> u32
 
 /// Sees every node from which a node is reached, and no other. What was seen before is forgotten.
 pub fn find_upstream(scene: &Scene, right: u32, node: u32, queue: &mut Queue)
-    requires scene { IsScene scene.now }
-    requires right { right < length scene.now.basin.now.rights }
-    requires node { node < length scene.now.basin.now.nodes }
-    requires queue { IsQueueIn scene.now.basin.now queue.old }
-    ensures upstream { AreUpstream scene.now.basin.now scene.now.month.now right node queue.new.seen }
-    ensures queue { IsQueueIn scene.now.basin.now queue.new }
+    requires right { right < length scene.now.basin.rights }
+    requires node { node < length scene.now.basin.nodes }
+    requires queue { IsQueueIn scene.now.basin queue.old }
+    ensures upstream { AreUpstream scene.now.basin scene.now.month right node queue.new.seen }
+    ensures queue { IsQueueIn scene.now.basin queue.new }
 {
     queue.forget(0);
     queue.visit(node);

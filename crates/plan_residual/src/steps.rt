@@ -3,7 +3,6 @@ ghost use Rattle.std.specs.Prelude.{◌≡◌, ◌<◌, length};
 ghost use Rattle.water_model.specs.Valid.{IsValidBasin};
 ghost use Rattle.plan_residual.specs.Residual.{HasPlan, start_of, end_of, opposite, can_rise, can_fall, has_room};
 ghost use Rattle.plan_residual.specs.Rows.{step_count};
-ghost use Rattle.plan_residual.specs.Scene.{IsScene};
 ghost use Rattle.plan_residual.specs.Search.{asked};
 
 use crate::scene::Scene;
@@ -62,28 +61,22 @@ pub fn can_rise(basin: &Basin, month: &MonthRecord, link: u32) -> bool
 
 /// Whether a link, other than the right's own, carries more than is kept on it for the right's seniors.
 fn can_fall(scene: &Scene, right: u32, link: u32) -> bool
-    requires scene { IsScene scene.now }
-    requires right { right < length scene.now.basin.now.rights }
-    requires link { link < length scene.now.basin.now.links }
-    ensures { result ≡ can_fall scene.now.basin.now scene.now.month.now right link }
+    requires right { right < length scene.now.basin.rights }
+    requires link { link < length scene.now.basin.links }
+    ensures { result ≡ can_fall scene.now.basin scene.now.month right link }
 {
-    let Scene {
-        basin,
-        roll,
-        month,
-        ..
-    } = *scene;
+    let basin = scene.basin;
+    let month = scene.month;
     !is_on_link(basin, right, link)
-        && kept_on(basin, roll, month.delivered.as_slice(), right, link)
+        && kept_on(basin, scene.roll, month.delivered.as_slice(), right, link)
             < month.plan.flow[link as usize]
 }
 
 /// Whether a step has room. The cost is that of the instream rights on its link.
 pub fn has_room(scene: &Scene, right: u32, step: u32) -> bool
-    requires scene { IsScene scene.now }
-    requires right { right < length scene.now.basin.now.rights }
-    requires step { step < step_count scene.now.basin.now }
-    ensures { result ≡ has_room scene.now.basin.now scene.now.month.now right step }
+    requires right { right < length scene.now.basin.rights }
+    requires step { step < step_count scene.now.basin }
+    ensures { result ≡ has_room scene.now.basin scene.now.month right step }
 {
     let link = step / 2;
     if step % 2 == 1 {
@@ -95,10 +88,9 @@ pub fn has_room(scene: &Scene, right: u32, step: u32) -> bool
 
 /// Whether a search goes on over a step: whether that has room, or the opposite one where the search goes against them.
 pub fn can_follow(scene: &Scene, right: u32, direction: Direction, step: u32) -> bool
-    requires scene { IsScene scene.now }
-    requires right { right < length scene.now.basin.now.rights }
-    requires step { step < step_count scene.now.basin.now }
-    ensures { result ≡ has_room scene.now.basin.now scene.now.month.now right (asked direction step) }
+    requires right { right < length scene.now.basin.rights }
+    requires step { step < step_count scene.now.basin }
+    ensures { result ≡ has_room scene.now.basin scene.now.month right (asked direction step) }
 {
     match direction {
         Direction::FromSources => has_room(scene, right, step),

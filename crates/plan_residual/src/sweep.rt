@@ -5,7 +5,6 @@ ghost use Rattle.std.specs.Bool.{OnTrue, OnFalse};
 ghost use Rattle.water_model.specs.Basin.{head_of, instream_link};
 ghost use Rattle.water_model.specs.History.{IsShort};
 ghost use Rattle.water_model.specs.Lookups.{has};
-ghost use Rattle.plan_residual.specs.Scene.{IsScene};
 ghost use Rattle.plan_residual.specs.Queue.{IsQueueIn};
 ghost use Rattle.plan_residual.specs.Search.{AreReachedApart, IsFollowed, IsReaching, ReachesOn};
 ghost use Rattle.plan_residual.specs.Reaches.{HaveTightSets, HasReach, IsFirstOther};
@@ -13,7 +12,6 @@ ghost use Rattle.plan_residual.specs.Sweep.{ArePassed, IsAt, IsBetween, IsPassed
 ghost use Rattle.plan_residual.specs.declared.steps.Direction.TheVariants.{FromSources};
 
 use crate::deciding::covers;
-use crate::order::right_at;
 use crate::scene::Scene;
 use crate::sources::{see_junior, spread_apart, spread_own};
 use crate::spread::{follow, spread_on};
@@ -23,13 +21,12 @@ use water_model::types::RightKind;
 
 /// Follows the step back over a link from its head, if that was seen.
 fn fall(scene: &Scene, right: u32, link: u32, queue: &mut Queue)
-    requires scene { IsScene scene.now }
-    requires right { right < length scene.now.basin.now.rights }
-    requires link { link < length scene.now.basin.now.links }
-    requires reaching { IsReaching scene.now.basin.now scene.now.month.now right queue.old }
-    ensures on { ReachesOn scene.now.basin.now scene.now.month.now right queue.old queue.new }
-    ensures followed { has queue.old.seen (head_of scene.now.basin.now link) ≡ true →
-        IsFollowed scene.now.basin.now scene.now.month.now right FromSources queue.new.seen (2 * link + 1) }
+    requires right { right < length scene.now.basin.rights }
+    requires link { link < length scene.now.basin.links }
+    requires reaching { IsReaching scene.now.basin scene.now.month right queue.old }
+    ensures on { ReachesOn scene.now.basin scene.now.month right queue.old queue.new }
+    ensures followed { has queue.old.seen (head_of scene.now.basin link) ≡ true →
+        IsFollowed scene.now.basin scene.now.month right FromSources queue.new.seen (2 * link + 1) }
 {
     if queue.seen()[scene.basin.links[link as usize].to as usize] {
         follow(scene, right, Direction::FromSources, 2 * link + 1, queue);
@@ -38,14 +35,13 @@ fn fall(scene: &Scene, right: u32, link: u32, queue: &mut Queue)
 
 /// Follows the step back over the link of an instream right.
 fn fall_on_own(scene: &Scene, right: u32, junior: u32, queue: &mut Queue)
-    requires scene { IsScene scene.now }
-    requires right { right < length scene.now.basin.now.rights }
-    requires junior { junior < length scene.now.basin.now.rights }
-    requires reaching { IsReaching scene.now.basin.now scene.now.month.now right queue.old }
-    ensures on { ReachesOn scene.now.basin.now scene.now.month.now right queue.old queue.new }
-    ensures followed { (e : ℕ) → instream_link scene.now.basin.now junior ≡ Some e →
-        has queue.old.seen (head_of scene.now.basin.now e) ≡ true →
-        IsFollowed scene.now.basin.now scene.now.month.now right FromSources queue.new.seen (2 * e + 1) }
+    requires right { right < length scene.now.basin.rights }
+    requires junior { junior < length scene.now.basin.rights }
+    requires reaching { IsReaching scene.now.basin scene.now.month right queue.old }
+    ensures on { ReachesOn scene.now.basin scene.now.month right queue.old queue.new }
+    ensures followed { (e : ℕ) → instream_link scene.now.basin junior ≡ Some e →
+        has queue.old.seen (head_of scene.now.basin e) ≡ true →
+        IsFollowed scene.now.basin scene.now.month right FromSources queue.new.seen (2 * e + 1) }
 {
     match scene.basin.rights[junior as usize].kind {
         RightKind::Instream { link } => fall(scene, right, link, queue),
@@ -56,12 +52,11 @@ fn fall_on_own(scene: &Scene, right: u32, junior: u32, queue: &mut Queue)
 
 /// Passes a junior: it hinders the right no more.
 fn pass(scene: &Scene, right: u32, junior: u32, queue: &mut Queue)
-    requires scene { IsScene scene.now }
-    requires right { right < length scene.now.basin.now.rights }
-    requires junior { junior < length scene.now.basin.now.rights }
-    requires reaching { IsReaching scene.now.basin.now scene.now.month.now right queue.old }
-    ensures on { ReachesOn scene.now.basin.now scene.now.month.now right queue.old queue.new }
-    ensures passed { IsPassed scene.now.basin.now scene.now.month.now right queue.old.seen queue.new.seen junior }
+    requires right { right < length scene.now.basin.rights }
+    requires junior { junior < length scene.now.basin.rights }
+    requires reaching { IsReaching scene.now.basin scene.now.month right queue.old }
+    ensures on { ReachesOn scene.now.basin scene.now.month right queue.old queue.new }
+    ensures passed { IsPassed scene.now.basin scene.now.month right queue.old.seen queue.new.seen junior }
 {
     see_junior(scene, right, junior, queue);
     fall_on_own(scene, right, junior, queue);
@@ -69,21 +64,15 @@ fn pass(scene: &Scene, right: u32, junior: u32, queue: &mut Queue)
 
 /// Passes the rights at some indices of the order.
 fn pass_all(scene: &Scene, right: u32, from: usize, to: usize, queue: &mut Queue)
-    requires scene { IsScene scene.now }
-    requires right { right < length scene.now.basin.now.rights }
+    requires right { right < length scene.now.basin.rights }
     requires from { from ≤ to }
-    requires to { to ≤ length scene.now.basin.now.rights }
-    requires reaching { IsReaching scene.now.basin.now scene.now.month.now right queue.old }
-    ensures on { ReachesOn scene.now.basin.now scene.now.month.now right queue.old queue.new }
-    ensures passed { ArePassed scene.now.basin.now scene.now.month.now right queue.old.seen queue.new.seen from to }
+    requires to { to ≤ length scene.now.basin.rights }
+    requires reaching { IsReaching scene.now.basin scene.now.month right queue.old }
+    ensures on { ReachesOn scene.now.basin scene.now.month right queue.old queue.new }
+    ensures passed { ArePassed scene.now.basin scene.now.month right queue.old.seen queue.new.seen from to }
 {
     for position in from..to {
-        pass(
-            scene,
-            right,
-            right_at(scene.basin, scene.roll, position),
-            queue,
-        );
+        pass(scene, right, scene.right_at(position), queue);
     }
 }
 
@@ -91,14 +80,13 @@ fn pass_all(scene: &Scene, right: u32, from: usize, to: usize, queue: &mut Queue
 /// indices in the order of seniority are given. The cost is that of the rights between them, and of the steps that
 /// leave the nodes that are new.
 fn advance(scene: &Scene, position: usize, before: usize, queue: &mut Queue)
-    requires scene { IsScene scene.now }
-    requires queue { IsQueueIn scene.now.basin.now queue.old }
-    requires between { IsBetween scene.now.basin.now scene.now.month.now position before queue.old.seen }
-    ensures queue { IsQueueIn scene.now.basin.now queue.new }
-    ensures reached { let b = scene.now.basin.now in
-        AreReachedApart b scene.now.month.now (right_at b position) queue.new.seen }
+    requires queue { IsQueueIn scene.now.basin queue.old }
+    requires between { IsBetween scene.now.basin scene.now.month position before queue.old.seen }
+    ensures queue { IsQueueIn scene.now.basin queue.new }
+    ensures reached { let b = scene.now.basin in
+        AreReachedApart b scene.now.month (right_at b position) queue.new.seen }
 {
-    let right = right_at(scene.basin, scene.roll, position);
+    let right = scene.right_at(position);
     let known = queue.len();
     pass_all(scene, right, position + 1, before + 1, queue);
     spread_on(scene, right, Direction::FromSources, queue, known);
@@ -107,32 +95,30 @@ fn advance(scene: &Scene, position: usize, before: usize, queue: &mut Queue)
 /// Sees the nodes that are reached as seen from the short right at an index, but for those only from the end of its own
 /// link, from where the sweep has come: to the short right at the other index, if it came to one.
 fn rise(scene: &Scene, position: usize, before: Option<usize>, queue: &mut Queue)
-    requires scene { IsScene scene.now }
-    requires queue { IsQueueIn scene.now.basin.now queue.old }
-    requires position { position < length scene.now.basin.now.rights }
-    requires right { IsShortRight scene.now.basin.now scene.now.month.now (right_at scene.now.basin.now position) }
-    requires before { IsAt scene.now.basin.now scene.now.month.now queue.old.seen (position + 1) before }
-    ensures queue { IsQueueIn scene.now.basin.now queue.new }
-    ensures reached { let b = scene.now.basin.now in
-        AreReachedApart b scene.now.month.now (right_at b position) queue.new.seen }
+    requires queue { IsQueueIn scene.now.basin queue.old }
+    requires position { position < length scene.now.basin.rights }
+    requires right { IsShortRight scene.now.basin scene.now.month (right_at scene.now.basin position) }
+    requires before { IsAt scene.now.basin scene.now.month queue.old.seen (position + 1) before }
+    ensures queue { IsQueueIn scene.now.basin queue.new }
+    ensures reached { let b = scene.now.basin in
+        AreReachedApart b scene.now.month (right_at b position) queue.new.seen }
 {
     match before {
         Some(before) => advance(scene, position, before, queue),
-        None => spread_apart(scene, right_at(scene.basin, scene.roll, position), queue),
+        None => spread_apart(scene, scene.right_at(position), queue),
     }
 }
 
 /// Whether the set of a short right is its reach. The search goes on from the end of the right's own link, and forgets
 /// again what it saw from there.
 fn has_reach(scene: &Scene, right: u32, queue: &mut Queue) -> bool
-    requires scene { IsScene scene.now }
-    requires sets { HaveTightSets scene.now.basin.now scene.now.month.now }
-    requires right { IsShortRight scene.now.basin.now scene.now.month.now right }
-    requires queue { IsQueueIn scene.now.basin.now queue.old }
-    requires reached { AreReachedApart scene.now.basin.now scene.now.month.now right queue.old.seen }
-    ensures reach { IsTrue result ↔ HasReach scene.now.basin.now scene.now.month.now right }
-    ensures queue { IsQueueIn scene.now.basin.now queue.new }
-    ensures reached { AreReachedApart scene.now.basin.now scene.now.month.now right queue.new.seen }
+    requires sets { HaveTightSets scene.now.basin scene.now.month }
+    requires right { IsShortRight scene.now.basin scene.now.month right }
+    requires queue { IsQueueIn scene.now.basin queue.old }
+    requires reached { AreReachedApart scene.now.basin scene.now.month right queue.old.seen }
+    ensures reach { IsTrue result ↔ HasReach scene.now.basin scene.now.month right }
+    ensures queue { IsQueueIn scene.now.basin queue.new }
+    ensures reached { AreReachedApart scene.now.basin scene.now.month right queue.new.seen }
 {
     let known = queue.len();
     spread_own(scene, right, queue);
@@ -144,25 +130,19 @@ fn has_reach(scene: &Scene, right: u32, queue: &mut Queue) -> bool
 /// Whether the right at an index of the order is short and has another set than its reach. The sweep comes to it, if it
 /// is short.
 fn judge(scene: &Scene, position: usize, last: &mut Option<usize>, queue: &mut Queue) -> bool
-    requires scene { IsScene scene.now }
-    requires sets { HaveTightSets scene.now.basin.now scene.now.month.now }
-    requires queue { IsQueueIn scene.now.basin.now queue.old }
-    requires position { position < length scene.now.basin.now.rights }
-    requires last { IsAt scene.now.basin.now scene.now.month.now queue.old.seen (position + 1) last.old }
-    ensures yes { let b = scene.now.basin.now in let m = scene.now.month.now in
+    requires sets { HaveTightSets scene.now.basin scene.now.month }
+    requires queue { IsQueueIn scene.now.basin queue.old }
+    requires position { position < length scene.now.basin.rights }
+    requires last { IsAt scene.now.basin scene.now.month queue.old.seen (position + 1) last.old }
+    ensures yes { let b = scene.now.basin in let m = scene.now.month in
         OnTrue result (IsShort m (right_at b position) × (HasReach b m (right_at b position) → ⊥)) }
-    ensures no { let b = scene.now.basin.now in let m = scene.now.month.now in
+    ensures no { let b = scene.now.basin in let m = scene.now.month in
         OnFalse result (IsShort m (right_at b position) → HasReach b m (right_at b position)) }
-    ensures queue { IsQueueIn scene.now.basin.now queue.new }
-    ensures last { IsAt scene.now.basin.now scene.now.month.now queue.new.seen position last.new }
+    ensures queue { IsQueueIn scene.now.basin queue.new }
+    ensures last { IsAt scene.now.basin scene.now.month queue.new.seen position last.new }
 {
-    let Scene {
-        basin,
-        roll,
-        month,
-        ..
-    } = *scene;
-    let right = right_at(basin, roll, position);
+    let right = scene.right_at(position);
+    let month = scene.month;
     if month.delivered[right as usize] >= month.want[right as usize] {
         return false;
     }
@@ -180,18 +160,16 @@ fn pick(found: bool, right: u32, before: Option<u32>) -> Option<u32>
 
 /// The most senior short right whose set isn't its reach, or none, by a sweep from the most junior right on.
 pub fn sweep(scene: &Scene, queue: &mut Queue) -> Option<u32>
-    requires scene { IsScene scene.now }
-    requires sets { HaveTightSets scene.now.basin.now scene.now.month.now }
-    requires queue { IsQueueIn scene.now.basin.now queue.old }
-    ensures first { IsFirstOther scene.now.basin.now scene.now.month.now result }
-    ensures queue { IsQueueIn scene.now.basin.now queue.new }
+    requires sets { HaveTightSets scene.now.basin scene.now.month }
+    requires queue { IsQueueIn scene.now.basin queue.old }
+    ensures first { IsFirstOther scene.now.basin scene.now.month result }
+    ensures queue { IsQueueIn scene.now.basin queue.new }
 {
-    let Scene { basin, roll, .. } = *scene;
     let mut last = None;
     let mut answer = None;
-    for position in (0..basin.rights.len()).rev() {
+    for position in (0..scene.basin.rights.len()).rev() {
         let other = judge(scene, position, &mut last, queue);
-        answer = pick(other, right_at(basin, roll, position), answer);
+        answer = pick(other, scene.right_at(position), answer);
     }
     answer
 }

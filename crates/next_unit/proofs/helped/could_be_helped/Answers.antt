@@ -1,4 +1,4 @@
-use Rattle.std.proofs.Common.{ℕ, sym, ◌∙◌}
+use Rattle.std.proofs.Common.{sym, ◌∙◌}
 use Rattle.std.proofs.lemmas.Bool.{OnFalse_at, OnFalse_from, both_ways, ltb-true}
 use Rattle.std.specs.Prelude.{slice_index}
 use Rattle.cut_cert.specs.Sets.{cut_at}
@@ -18,4 +18,4 @@ returns-then-is_short-clause-no c =
     both_ways (enters b (cut_at m.cuts c.args.right) (slice_index c.args.undecided.now j))
     (OnFalse_at none c.any_enters.ensures j l)
     (must_enter b m c.args.right (slice_index c.args.undecided.now j) (cut_at m.cuts c.args.right) c.requires.right
-    (short_has_reach b m c.args.right c.requires.reaches c.requires.right short).is_tight helps))
+    (short_has_reach b m c.args.right c.requires.month.reaches c.requires.right short).is_tight helps))

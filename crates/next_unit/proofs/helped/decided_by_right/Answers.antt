@@ -8,7 +8,7 @@ use Rattle.next_unit.proofs.Decided.{outside_reach, within_reach}
 use Rattle.next_unit.proofs.helped.decided_by_right.Goals as goal
 
 pub holds-requires-clause-right : goal.holds-requires-clause-right
-holds-requires-clause-right c = omega (arith, c.requires.next.uses.in_range, c.requires.plan.fits.cuts)
+holds-requires-clause-right c = omega (arith, c.requires.next.uses.in_range, c.requires.month.plan.fits.cuts)
 
 pub holds-requires-clause-node : goal.holds-requires-clause-node
 holds-requires-clause-node c =
@@ -16,13 +16,13 @@ holds-requires-clause-node c =
     (ap (λ (o : Option Link). unwrap_or (option_map (λ x. x.from) o) 0) c.index-ends.ensures)
     (omega (
       arith,
-      (ends c.args.basin.now c.requires.plan.valid c.args.link c.requires.link).0,
-      c.requires.plan.fits.cut_nodes,
+      (ends c.args.basin.now c.requires.month.plan.valid c.args.link c.requires.link).0,
+      c.requires.month.plan.fits.cut_nodes,
     ))
 
 pub returns-then-holds : goal.returns-then-holds
 returns-then-holds c =
-    within_reach c.args.basin.now c.args.month.now c.args.link c.requires.plan c.requires.reaches c.requires.room
+    within_reach c.args.basin.now c.args.month.now c.args.link c.requires.month
     c.requires.link c.args.right c.requires.next
     (ap (λ (o : Option Link). has (cut_at c.args.month.now.cuts c.args.right)
     (unwrap_or (option_map (λ x. x.from) o) 0)) c.index-ends.ensures
@@ -30,7 +30,7 @@ returns-then-holds c =
 
 pub returns-else-holds : goal.returns-else-holds
 returns-else-holds c =
-    outside_reach c.args.basin.now c.args.month.now c.args.link c.requires.plan c.requires.reaches c.requires.room
+    outside_reach c.args.basin.now c.args.month.now c.args.link c.requires.month
     c.requires.link c.args.right c.requires.next
     (ap (λ (o : Option Link). has (cut_at c.args.month.now.cuts c.args.right)
     (unwrap_or (option_map (λ x. x.from) o) 0)) c.index-ends.ensures

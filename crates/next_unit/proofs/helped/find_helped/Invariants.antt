@@ -1,4 +1,3 @@
-use Rattle.std.specs.Prelude.{◌≡◌, length}
 use Rattle.plan_residual.specs.Rows.{IsSearchOf}
 use Rattle.next_unit.specs.Helped.{AreHelpedTo, AreUndecided}
 use Rattle.next_unit.proofs.helped.find_helped.Given as goal

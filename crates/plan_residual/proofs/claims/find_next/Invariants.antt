@@ -2,4 +2,4 @@ use Rattle.plan_residual.specs.Claims.{AreClaimed}
 use Rattle.plan_residual.proofs.claims.find_next.Given as goal
 
 abbrev pub invariant-loop-position : goal.invariant-loop-position
-invariant-loop-position l = AreClaimed l.scene.basin.now l.scene.month.now l.position l.queue l.next
+invariant-loop-position l = AreClaimed l.scene.basin l.scene.month l.position l.queue l.next

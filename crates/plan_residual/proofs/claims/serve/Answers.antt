@@ -1,23 +1,27 @@
-use Rattle.std.proofs.Common.{◌≡◌, ◌<◌, ℕ, subst, arith, slice_index}
+use Rattle.std.proofs.Common.{◌≡◌, ◌<◌, ℕ, subst, arith, slice_index, ap}
 use Rattle.std.proofs.lemmas.Option.{get_or_from_slice_get}
 use Rattle.rights_roll.proofs.Seniors.{by_seniority_order}
+use Rattle.plan_residual.specs.Scene.{IsScene}
 use Rattle.plan_residual.specs.Sweep.{IsShortRight, right_at}
 use Rattle.plan_residual.proofs.Claiming.{claimed_more}
 use Rattle.plan_residual.proofs.claims.serve.Goals as goal
 
 pub returns : goal.returns
 returns c =
-    let b = c.args.scene.now.basin.now in
-    let m = c.args.scene.now.month.now in
+    let given : IsScene c.args.scene.now = subst IsScene c.scene.view_is c.scene.invariant in
+    let b = c.args.scene.now.basin in
+    let m = c.args.scene.now.month in
     let is : c.right_at-right.result ≡ right_at b c.args.position = c.right_at-right.ensures.value in
     let short : slice_index m.delivered c.right_at-right.result < slice_index m.want c.right_at-right.result =
     omega (
       arith,
-      get_or_from_slice_get m.delivered c.right_at-right.result c.index.result.now 0 c.index.ensures,
-      get_or_from_slice_get m.want c.right_at-right.result c.index-2.result.now 0 c.index-2.ensures,
+      get_or_from_slice_get m.delivered c.right_at-right.result c.index.result.now 0
+          (rw (ap (λ k. k.month) c.scene.view_is) at c.index.ensures),
+      get_or_from_slice_get m.want c.right_at-right.result c.index-2.result.now 0
+          (rw (ap (λ k. k.month) c.scene.view_is) at c.index-2.ensures),
       c.if-index.false,
     ) in
     claimed_more b m c.args.position c.args.queue.now c.claim.new.queue c.args.next.now c.mark.new.next
-    c.requires.scene.plan (by_seniority_order b.rights c.requires.scene.plan.valid.roll.strict) c.requires.position
+    given.plan (by_seniority_order b.rights given.plan.valid.roll.strict) c.requires.position
     (subst (λ (r : ℕ). IsShortRight b m r) is record { in_range = c.right_at-right.ensures.within; short = short })
     c.requires.claimed (rw is at c.claim.ensures) (rw (is, c.len-before.ensures) at c.mark.ensures)

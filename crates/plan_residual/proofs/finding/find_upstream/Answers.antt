@@ -5,7 +5,7 @@ use Rattle.plan_residual.proofs.finding.find_upstream.Goals as goal
 
 pub returns-clause-upstream : goal.returns-clause-upstream
 returns-clause-upstream c =
-    let empty : IsEmpty (length c.args.scene.now.basin.now.nodes) c.forget.new.self = record {
+    let empty : IsEmpty (length c.args.scene.now.basin.nodes) c.forget.new.self = record {
       in_queue = c.forget.ensures.queue;
       count = c.forget.ensures.count ∙ c.requires.queue.count;
       none = c.forget.ensures.size;

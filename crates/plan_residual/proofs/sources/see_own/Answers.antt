@@ -7,7 +7,7 @@ use Rattle.plan_residual.proofs.sources.see_own.Goals as goal
 
 pub returns-in-Instream : goal.returns-in-Instream
 returns-in-Instream c =
-    let b = c.args.scene.now.basin.now in
+    let b = c.args.scene.now.basin in
     let on : instream_link b c.args.right ≡ Some c.in-Instream.link = search rules in
     let to : c.index-in-Instream.result.now.to ≡ head_of b c.in-Instream.link = search rules in
     record {
@@ -21,7 +21,7 @@ returns-in-Instream c =
         | inl same ↦ inl (
           c.in-Instream.link,
           slice_get_within b.links c.in-Instream.link c.index-in-Instream.result.now
-              c.index-in-Instream.ensures,
+              (rw (ap (λ k. k.basin) c.scene.view_is) at c.index-in-Instream.ensures),
           on,
           sym to ∙ sym same,
         )

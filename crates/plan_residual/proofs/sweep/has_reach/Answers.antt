@@ -1,5 +1,6 @@
-use Rattle.std.proofs.Common.{◌∙◌, sym}
+use Rattle.std.proofs.Common.{◌∙◌, sym, subst, ap}
 use Rattle.cut_cert.specs.Sets.{cut_at}
+use Rattle.plan_residual.specs.Scene.{IsScene}
 use Rattle.plan_residual.proofs.Decides.{reach_decided}
 use Rattle.plan_residual.proofs.Firsts.{set_tight}
 use Rattle.plan_residual.proofs.Queues.{same_queue}
@@ -8,18 +9,20 @@ use Rattle.plan_residual.proofs.sweep.has_reach.Goals as goal
 
 pub returns-clause-reach : goal.returns-clause-reach
 returns-clause-reach c =
-    let b = c.args.scene.now.basin.now in
-    let m = c.args.scene.now.month.now in
+    let given : IsScene c.args.scene.now = subst IsScene c.scene.view_is c.scene.invariant in
+    let b = c.args.scene.now.basin in
+    let m = c.args.scene.now.month in
     reach_decided b m c.args.right c.spread_own.new.queue.seen (cut_at m.cuts c.args.right) c.covers-whole.result
-    c.requires.scene.plan c.requires.right.in_range c.requires.right.short
+    given.plan c.requires.right.in_range c.requires.right.short
     (set_tight b m c.args.right c.requires.sets c.requires.right.in_range c.requires.right.short)
     c.spread_own.ensures.reached
-    (rw (← c.requires.scene.plan.fits.cut_nodes, ← c.seen.ensures) c.covers-whole.ensures)
+    (rw (← given.plan.fits.cut_nodes, ← c.seen.ensures)
+    (rw (ap (λ k. k.month) c.scene.view_is) at c.covers-whole.ensures))
 
 pub returns-clause-reached : goal.returns-clause-reached
 returns-clause-reached c =
     let size = c.forget.ensures.size ∙ c.len-known.ensures in
-    apart_same c.args.scene.now.basin.now c.args.scene.now.month.now c.args.right c.args.queue.now.seen
+    apart_same c.args.scene.now.basin c.args.scene.now.month c.args.right c.args.queue.now.seen
     c.forget.new.self.seen
     (c.forget.ensures.count ∙ (c.spread_own.ensures.queue.count ∙ sym c.requires.queue.count))
     (same_queue c.requires.queue.in_queue c.forget.ensures.queue (sym size)

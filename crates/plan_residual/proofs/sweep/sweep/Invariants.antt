@@ -4,7 +4,7 @@ use Rattle.plan_residual.proofs.sweep.sweep.Given as goal
 
 abbrev pub invariant-loop-position : goal.invariant-loop-position
 invariant-loop-position l = record {
-  queue : IsQueueIn l.basin l.queue;
-  last : IsAt l.basin l.scene.month.now l.queue.seen l.position l.last;
-  answer : IsFirstFrom l.basin l.scene.month.now l.position l.answer;
+  queue : IsQueueIn l.scene.basin l.queue;
+  last : IsAt l.scene.basin l.scene.month l.queue.seen l.position l.last;
+  answer : IsFirstFrom l.scene.basin l.scene.month l.position l.answer;
 }
