@@ -4,10 +4,7 @@ use Rattle.basin_gen.proofs.whole.basin.Goals as goal
 
 pub returns : goal.returns
 returns c =
-    assembled c.args.number c.args.size c.new-draws.result.state c.nodes.new.draws.state c.links.new.draws.state
-    c.reservoirs.new.draws.state
-    c.from_vec.result c.from_vec-2.result c.from_vec-3.result c.from_vec-4.result c.from_vec-5.result
-    c.new-draws.ensures (c.from_vec.ensures ∙ c.in_ok-nodes.ensures.value) c.in_ok-nodes.ensures.after
+    assembled _ _ _ _ _ _ _ _ _ _ _ c.new-draws.ensures (c.from_vec.ensures ∙ c.in_ok-nodes.ensures.value) c.in_ok-nodes.ensures.after
     (c.from_vec-2.ensures ∙ c.in_ok-links.ensures.value) c.in_ok-links.ensures.after
     (c.from_vec-3.ensures ∙ c.in_ok-reservoirs.ensures.value) c.in_ok-reservoirs.ensures.after
     (c.from_vec-4.ensures ∙ c.in_ok-rights.ensures.rights) (c.from_vec-5.ensures ∙ c.in_ok-rights.ensures.returns)
