@@ -148,6 +148,7 @@ impl<'a> Columns<'a> {
     }
 
     /// The gauged node of a name.
+    #[tactic(auto, using(crate::proofs::ColumnLaws::is_gauge))]
     fn gauge_of(&self, name: &[u8]) -> Result<u32, SeriesFault>
         ensures reads { result ≡ gauge_of self.now.basin.now name.now }
         ensures column { IfOk result (IsColumn self.now.basin.now) }
@@ -162,6 +163,7 @@ impl<'a> Columns<'a> {
     }
 
     /// The number of the right of a name, whose wants stand in the series.
+    #[tactic(auto, using(crate::proofs::ColumnLaws::is_want))]
     fn wanted_of(&self, name: &[u8]) -> Result<u32, SeriesFault>
         ensures reads { result ≡ wanted_of self.now.basin.now name.now }
         ensures column { IfOk result (IsColumn self.now.basin.now) }
@@ -219,6 +221,7 @@ impl<'a> Columns<'a> {
     }
 
     /// What a record says after a header with kinds or without, or the first fault that it has by itself.
+    #[tactic(auto, using(crate::proofs::FieldLaws::not_four))]
     pub fn read_record(&self, kinds: bool, row: &ByteRecord) -> Result<SeriesRecord, SeriesFault>
         ensures reads { result ≡ read_record self.now.basin.now (with_kind kinds (fields_of row.now)) }
         ensures entry { IfOk result (IsEntry self.now.basin.now) }
