@@ -79,10 +79,12 @@ rights_valid b size s some bounded made =
     (each_right (λ r. IsValidRight b r) size s
     (λ d l. let node = drawn_below (s.diversions d) size (omega arith) in
     let want = drawn_below (next (next (s.diversions d))) 300 (omega arith) in
-    one_valid b _ _ _ _ _ (numbered_is_name 100 (d + d / 3) refl (omega arith)) (omega arith) (omega arith) (omega arith))
+    one_valid b _ _ _ _ _ (numbered_is_name 100 (d + d / 3) refl (omega arith)) (omega arith) (omega arith)
+    (omega arith))
     (λ j l. let link = drawn_below (s.instreams j) (size - 1) (omega arith) in
     let want = drawn_below (next (next (s.instreams j))) 300 (omega arith) in
-    one_valid b _ _ _ _ _ (numbered_is_name 115 (4 * j + 3) refl (omega arith)) (omega arith) (omega arith) (omega arith))
+    one_valid b _ _ _ _ _ (numbered_is_name 115 (4 * j + 3) refl (omega arith)) (omega arith) (omega arith)
+    (omega arith))
     (λ z l. zone_by (λ r. IsValidRight b r) z (s.zones z)
     (λ even. let want = drawn_below (s.zones z) 200 (omega arith) in
     one_valid b _ _ _ _ _ (zone_is_name 97 (z / 2) refl (omega arith)) (omega arith)
