@@ -96,8 +96,8 @@ fn indices_of(alloc: Global, basin: &Basin) -> Result<Indices, AllocError>
     Ok(Indices { numbers, of_number })
 }
 
-/// The columns among `count` numbers from one on, counted from there: the gauged nodes from 0 on, and from the number of
-/// nodes on the rights whose wants stand in the series. AllocError comes where memory is lacking.
+/// The columns among `count` numbers from one on, counted from there: the gauged nodes from 0 on, and the rights whose
+/// wants stand in the series from the number of nodes on. AllocError comes where memory is lacking.
 #[tactic(auto, using(crate::proofs::ColumnLaws::filters))]
 pub(crate) fn columns_from(
     alloc: Global,

@@ -30,6 +30,7 @@ loop-cell-preserved c =
     record {
       count = ap length pushed
           ∙ (length_push c.loop-cell.part.items c.cell_in.result ∙ ap (λ n. n + 1) c.loop-cell.invariant.count);
-      each = λ k l. rw pushed (part_more (cell_in c.args.cells.now c.count-width.result c.args.from c.args.count) _ _ _ _
+      each = λ k l. rw pushed
+          (part_more (cell_in c.args.cells.now c.count-width.result c.args.from c.args.count) _ _ _ _
           c.loop-cell.invariant.count c.loop-cell.invariant.each c.cell_in.ensures l);
     }
