@@ -1,6 +1,7 @@
 -- Draws one after the other, and lists by index.
 use Rattle.std.proofs.Common.{◌≡◌, ℕ, zero, suc, ◌+◌, ◌*◌, ◌/◌, ◌%◌, ◌^◌, ◌<◌, refl, sym, ap, ◌∙◌, arith, [], ◌∷◌, ◌++◌}
 use Rattle.std.proofs.Common.{add-one, add-zero, add-suc, append_assoc, append-nil}
+use Rattle.std.proofs.lemmas.Grind.{common_steps}
 use Rattle.std.proofs.Math.Nat.{mod-add-mod}
 use Rattle.std.proofs.lemmas.Bool.Decides.{nat_tests}
 use Rattle.std.proofs.lemmas.Bool.{ne_eqb, eq-eqb}
@@ -73,14 +74,6 @@ zones_more j f =
     rw two (list_of_more (2 * j + 1) f ∙ ap (λ l. l ++ f (2 * j + 1) ∷ []) (list_of_more (2 * j) f))
 
 pub ruleset draws
-    = (
-      later_none,
-      later_more,
-      later_two,
-      node_draws,
-      list_of_none,
-      list_of_more,
-      zones_more,
-      append_assoc,
-      append-nil,
-    )
+    = (later_none, later_more, later_two, node_draws, list_of_none, list_of_more, zones_more, append_assoc, append-nil)
+
+pub ruleset draws_in_place = (draws, common_steps)

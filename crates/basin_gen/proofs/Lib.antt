@@ -2,7 +2,6 @@ pub mod DrawLaws
 pub mod NameLaws
 pub mod TurnLaws
 pub mod Places
-pub mod Assembly
 pub mod Lists
 pub mod NetworkLaws
 pub mod Validity

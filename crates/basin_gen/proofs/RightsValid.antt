@@ -1,13 +1,15 @@
 -- The rights and return rows of a generated basin are valid, and stand with their wants.
 use Rattle.std.proofs.Common.{◌≡◌, ℕ, suc, ◌+◌, ◌-◌, ◌*◌, ◌/◌, ◌^◌, ◌<◌, ◌≤◌, false, refl, sym, ap, subst, ◌∙◌, arith}
-use Rattle.std.proofs.Common.{List, [], ◌∷◌, ◌++◌, append-nil}
+use Rattle.std.proofs.Common.{List, [], ◌∷◌, ◌++◌, append-nil, true}
 use Rattle.std.specs.Prelude.{None, All}
 use Rattle.std.proofs.lemmas.Bool.{false≢true}
 use Rattle.water_model.specs.Valid.{IsValidRight, IsValidReturn, AreRanked, rank_of_kind, is_diversion_kind}
+use Rattle.water_model.specs.Valid.{HasValidSite}
 use Rattle.water_model.specs.declared.types.Basin.{Basin}
 use Rattle.water_model.specs.declared.types.Right.{Right}
-use Rattle.basin_gen.specs.Draws.{next, drawn, later}
-use Rattle.basin_gen.specs.Entries.{diversion_at, instream_at, return_at, zone_at}
+use Rattle.water_model.specs.declared.types.RightKind.{RightKind}
+use Rattle.basin_gen.specs.Draws.{next, later}
+use Rattle.basin_gen.specs.Entries.{diversion_at, instream_at, return_at, zone_at, right_of}
 use Rattle.basin_gen.specs.Generator.{generated, diversions_of, instreams_of, zones_of, before_rights, before_zones}
 use Rattle.basin_gen.specs.Generator.{draws_of_turns, turn_of_diversion}
 use Rattle.basin_gen.proofs.DrawLaws.{drawn_below}
@@ -17,6 +19,7 @@ use Rattle.basin_gen.proofs.Places.{entry_is, all_of, listed}
 use Rattle.basin_gen.proofs.Lists.{IsMade, States, diversion_count, zone_count, return_count, right_made, right_count}
 use Rattle.basin_gen.proofs.Lists.{each_right, all_rights}
 use Rattle.basin_gen.proofs.RightsLaws.{zone_by, is_zone, first_right}
+use Rattle.water_text.specs.Names.{is_name}
 
 -- rights of one kind before rights that may not stand before them
 abbrev HasRank : ℕ → Right → Type 0
@@ -54,6 +57,18 @@ rights_ranked number size =
     zones = all_of (HasRank 2) _ _ _ (listed (zone_count size) (λ z. zone_at z (later (before_zones number size) z)))
         (λ z l. let is = is_zone z (later (before_zones number size) z) in ap rank_of_kind is.kind)
 
+-- a right that is made is valid where its name, its order, its place and its want are
+one_valid : (b : Basin) (name : List ℕ) (kind : RightKind) (year order want : ℕ) → is_name name ≡ true →
+    order ≤ 1000000 → HasValidSite b kind → want ≤ 10 ^ 9 → IsValidRight b (right_of name kind year order want)
+one_valid b name kind year order want named ordered site small = record {
+  name = named;
+  order = ordered;
+  site = site;
+  want = same_for_months (10 ^ 9) want small;
+  volume = tt;
+  series = λ e. absurd (false≢true e);
+}
+
 pub rights_valid : (b : Basin) (size : ℕ) (s : States) → 2 ≤ size → size ≤ 2000 → IsMade b size s →
     All (λ r. IsValidRight b r) b.rights
 rights_valid b size s some bounded made =
@@ -63,40 +78,20 @@ rights_valid b size s some bounded made =
     all_rights (λ r. IsValidRight b r) b size s made
     (each_right (λ r. IsValidRight b r) size s
     (λ d l. let node = drawn_below (s.diversions d) size (omega arith) in
-    let want = drawn_below (next (next (s.diversions d))) 300 (omega arith) in record {
-      name = numbered_is_name 100 (d + d / 3) refl (omega arith);
-      order = omega arith;
-      site = omega arith;
-      want = same_for_months (10 ^ 9) (drawn (next (next (s.diversions d))) 300) (omega arith);
-      volume = tt;
-      series = λ e. absurd (false≢true e);
-    })
+    let want = drawn_below (next (next (s.diversions d))) 300 (omega arith) in
+    one_valid b _ _ _ _ _ (numbered_is_name 100 (d + d / 3) refl (omega arith)) (omega arith) (omega arith)
+    (omega arith))
     (λ j l. let link = drawn_below (s.instreams j) (size - 1) (omega arith) in
-    let want = drawn_below (next (next (s.instreams j))) 300 (omega arith) in record {
-      name = numbered_is_name 115 (4 * j + 3) refl (omega arith);
-      order = omega arith;
-      site = omega arith;
-      want = same_for_months (10 ^ 9) (drawn (next (next (s.instreams j))) 300) (omega arith);
-      volume = tt;
-      series = λ e. absurd (false≢true e);
-    })
+    let want = drawn_below (next (next (s.instreams j))) 300 (omega arith) in
+    one_valid b _ _ _ _ _ (numbered_is_name 115 (4 * j + 3) refl (omega arith)) (omega arith) (omega arith)
+    (omega arith))
     (λ z l. zone_by (λ r. IsValidRight b r) z (s.zones z)
-    (λ even. let want = drawn_below (s.zones z) 200 (omega arith) in record {
-      name = zone_is_name 97 (z / 2) refl (omega arith);
-      order = omega arith;
-      site = (omega arith, omega arith, omega arith);
-      want = same_for_months (10 ^ 9) (100 + drawn (s.zones z) 200) (omega arith);
-      volume = tt;
-      series = λ e. absurd (false≢true e);
-    })
-    (λ odd. let want = drawn_below (s.zones z) 400 (omega arith) in record {
-      name = zone_is_name 98 (z / 2) refl (omega arith);
-      order = omega arith;
-      site = (omega arith, omega arith, omega arith);
-      want = same_for_months (10 ^ 9) (drawn (s.zones z) 400) (omega arith);
-      volume = tt;
-      series = λ e. absurd (false≢true e);
-    })))
+    (λ even. let want = drawn_below (s.zones z) 200 (omega arith) in
+    one_valid b _ _ _ _ _ (zone_is_name 97 (z / 2) refl (omega arith)) (omega arith)
+    (omega arith, omega arith, omega arith) (omega arith))
+    (λ odd. let want = drawn_below (s.zones z) 400 (omega arith) in
+    one_valid b _ _ _ _ _ (zone_is_name 98 (z / 2) refl (omega arith)) (omega arith)
+    (omega arith, omega arith, omega arith) (omega arith))))
 
 pub returns_valid : (b : Basin) (size : ℕ) (s : States) → 2 ≤ size → size ≤ 2000 → IsMade b size s →
     All (λ row. IsValidReturn b row) b.returns

@@ -35,7 +35,7 @@ impl Draws {
     }
 
     /// Draws a number below `bound` for each month of a year.
-    #[tactic(auto, using(crate::proofs::DrawLaws::draws, std::proofs::lemmas::Grind::common_steps), unfolding(crate::specs::Entries::twelve_drawn))]
+    #[tactic(auto, using(crate::proofs::DrawLaws::draws_in_place), unfolding(crate::specs::Entries::twelve_drawn))]
     pub fn draw_twelve(&mut self, bound: u64) -> [u64; 12]
         requires { 0 < bound }
         ensures value { result ≡ twelve_drawn self.old.state bound }

@@ -56,6 +56,7 @@ fn rights(alloc: Global, size: u32, draws: &mut Draws) -> Result<Roll, AllocErro
 }
 
 /// The basin alone.
+#[tactic(auto, unfolding(crate::specs::Generator::generated))]
 fn basin(alloc: Global, number: u32, size: u32) -> Result<Basin, AllocError>
     requires some { 2 ≤ size }
     requires size { size ≤ 2000 }

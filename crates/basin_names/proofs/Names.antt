@@ -1,19 +1,22 @@
 -- Names, and the entries that they name.
-use Rattle.std.proofs.Common.{◌≡◌, ◌≢◌, ℕ, zero, suc, ◌+◌, ◌<◌, ◌≤◌, List, [], ◌∷◌, ◌++◌, length, Bool, true, false}
-use Rattle.std.proofs.Common.{Option, Some, None, if◌then◌else◌, refl, sym, ap, ◌∙◌, inl, inr, arith, position, add-one}
+use Rattle.std.proofs.Common.{◌≡◌, ◌≢◌, ℕ, suc, ◌+◌, ◌<◌, List, [], ◌∷◌, ◌++◌, length, Bool, true, false, Option, Some}
+use Rattle.std.proofs.Common.{None, if◌then◌else◌, refl, sym, ap, ◌∙◌, inl, inr, arith, position, add-one, get_or}
 use Rattle.std.specs.Prelude.{find, slice_get, IfSome, option_map, unwrap_or}
 use Rattle.std.proofs.lemmas.Bool.{cases_Bool, cases_lt}
-use Rattle.std.proofs.lemmas.List.Folds.{find-append}
+use Rattle.std.proofs.lemmas.List.Folds.{find-append, find_at}
+use Rattle.std.proofs.lemmas.List.Sums.{position_or_len_is, fails_before_first}
 use Rattle.std.proofs.lemmas.Slice.Eq.{bytes_eq-Decides}
+use Rattle.std.proofs.lemmas.Option.{get_or_from_slice_get, slice_get-get_or}
 use Rattle.std.specs.Borrow.{Bor}
 use Rattle.std.specs.Str.{bytes_eq}
 use Rattle.std.specs.Option.{option_or}
+use Rattle.std.specs.List.{position_or_len}
 use Rattle.indexmap.specs.IndexMap.{IndexMap}
 use Rattle.first_index.specs.Indices.{first_from, index_at}
 use Rattle.first_index.proofs.First.{first_is_position}
 use Rattle.water_model.proofs.Valid.{entry_at}
 use Rattle.water_model.proofs.Lists.{all_at, numbers_more, once}
-use Rattle.water_model.proofs.Order.{find-passes, numbers_from-below}
+use Rattle.water_model.proofs.Order.{find-passes, numbers_from-below, numbers_from-get, length-numbers_from}
 use Rattle.water_model.specs.Basin.{node_name, reservoir_name}
 use Rattle.water_model.specs.Indices.{numbers_from}
 use Rattle.water_model.specs.Valid.{IsValidBasin, IsValidReservoir}
@@ -22,8 +25,8 @@ use Rattle.water_model.specs.declared.types.Reservoir.{Reservoir}
 use Rattle.water_model.specs.declared.types.Right.{Right}
 use Rattle.water_model.specs.Entries.{count_in, name_in}
 use Rattle.water_model.specs.declared.space.Space.{Space}
-use Rattle.water_model.specs.declared.space.Space.TheVariants as space
 use Rattle.basin_names.specs.Named.{named}
+use Rattle.water_model.specs.declared.space.Space.TheVariants as space
 
 -- Maps of names.
 
@@ -59,28 +62,26 @@ pub named_within : (b : Basin) (s : Space) (name : List ℕ) (o : Option ℕ) �
 named_within b s name None e = tt
 named_within b s name (Some at) e = (named_is b s name at (sym e)).1
 
+-- the number at an index
+number_at : (n k : ℕ) → k < n → get_or (numbers_from 0 n) k 0 ≡ k
+number_at n k l = get_or_from_slice_get (numbers_from 0 n) k k 0 (numbers_from-get 0 n k k l (omega arith))
+
 -- where none that passes a test is found, no index passes it
-missed : (p : ℕ → Bool) (from n : ℕ) → find p (numbers_from from n) ≡ None → (at : ℕ) → from ≤ at → at < from + n →
-    p at ≡ false
-unfolding numbers_from
-missed p from zero h at low high = absurd (omega arith)
-missed p from (suc n) h at low high =
-    elim (cases_Bool (p from)) [
-      | inl passes ↦ (let never : Some from ≡ None = rw passes at h in cc)
-      | inr fails ↦
-          (let rest : find p (numbers_from (suc from) n) ≡ None = rw fails at h in
-          elim (cases_lt from at) [
-            | inl below ↦ missed p (suc from) n rest at (omega arith) (omega arith)
-            | inr past ↦ (let is : from ≡ at = omega arith in rw (← is) fails)
-          ])
-    ]
+missed : (p : ℕ → Bool) (n at : ℕ) → find p (numbers_from 0 n) ≡ None → at < n → p at ≡ false
+missed p n at h l = elim (cases_lt (position_or_len p (numbers_from 0 n)) n) [
+  | inl there ↦
+      (let found = slice_get-get_or (numbers_from 0 n) (position_or_len p (numbers_from 0 n)) 0
+      (omega (arith, length-numbers_from 0 n)) in
+      let none = sym h ∙ find_at p (numbers_from 0 n) ∙ found in cc)
+  | inr past ↦ ap p (sym (number_at n at l)) ∙ fails_before_first p (numbers_from 0 n) at 0 (omega arith)
+]
 
 -- and where none is named, no entry has the name
 pub named_none : (b : Basin) (s : Space) (name : List ℕ) → named b s name ≡ None → (at : ℕ) → at < count_in s b →
     name_in s b at ≢ name
 named_none b s name h at l is =
     let fails : bytes_eq name (name_in s b at) ≡ false =
-    missed (λ at. bytes_eq name (name_in s b at)) 0 (count_in s b) h at (omega arith) (omega arith) in
+    missed (λ at. bytes_eq name (name_in s b at)) (count_in s b) at h l in
     let passes : bytes_eq name (name_in s b at) ≡ true = (bytes_eq-Decides name (name_in s b at)).1 (sym is) in
     let never : true ≡ false = sym passes ∙ fails in
     cc
@@ -119,25 +120,22 @@ names_differ b valid space.Reservoirs i j l h = reservoirs_differ b valid i j l 
 names_differ b valid space.Rights i j l h = valid.names.rights i j l h
 
 -- the first of some indices that passes a test
-found-at : (p : ℕ → Bool) (at : ℕ) → p at ≡ true → (from n : ℕ) → from ≤ at → at < from + n →
-    ((k : ℕ) → from ≤ k → k < at → p k ≡ false) →
-    find p (numbers_from from n) ≡ Some at
-unfolding numbers_from
-found-at p at here from zero low high before = absurd (omega arith)
-found-at p at here from (suc n) low high before = elim (cases_lt from at) [
-  | inl below ↦ (let fails : p from ≡ false = before from (omega arith) below in
-      rw fails (found-at p at here (suc from) n (omega arith) (omega arith) (λ k l m. before k (omega arith) m)))
-  | inr past ↦
-      (let is : from ≡ at = omega arith in let passes : p from ≡ true = rw is here in rw passes (ap (λ k. Some k) is))
-]
+found-at : (p : ℕ → Bool) (n at : ℕ) → p at ≡ true → at < n → ((k : ℕ) → k < at → p k ≡ false) →
+    find p (numbers_from 0 n) ≡ Some at
+found-at p n at here l before =
+    find_at p (numbers_from 0 n)
+    ∙ ap (slice_get (numbers_from 0 n))
+    (position_or_len_is p (numbers_from 0 n) at 0 (omega (arith, length-numbers_from 0 n))
+    (λ k m. ap p (number_at n k (omega arith)) ∙ before k m) (λ m. ap p (number_at n at l) ∙ here))
+    ∙ numbers_from-get 0 n at at l (omega arith)
 
 -- the name of an entry names it
 pub named-at : (b : Basin) → IsValidBasin b → (s : Space) (at : ℕ) → at < count_in s b →
     named b s (name_in s b at) ≡ Some at
 named-at b valid s at l =
-    found-at (λ k. bytes_eq (name_in s b at) (name_in s b k)) at
-    ((bytes_eq-Decides (name_in s b at) (name_in s b at)).1 refl) 0 (count_in s b) (omega arith) (omega arith)
-    (λ k low below. apart (name_in s b at) (name_in s b k) (λ e. names_differ b valid s k at below l (sym e)))
+    found-at (λ k. bytes_eq (name_in s b at) (name_in s b k)) (count_in s b) at
+    ((bytes_eq-Decides (name_in s b at) (name_in s b at)).1 refl) l
+    (λ k below. apart (name_in s b at) (name_in s b k) (λ e. names_differ b valid s k at below l (sym e)))
   where
     apart : (xs ys : List ℕ) → xs ≢ ys → bytes_eq xs ys ≡ false
     apart xs ys h =

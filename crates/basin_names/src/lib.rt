@@ -8,6 +8,9 @@ ghost use Rattle.water_model.specs.Valid.{IsValidBasin};
 ghost use Rattle.basin_names.specs.Named.{named};
 ghost use Rattle.basin_names.specs.Indices.{KeepsNames};
 
+mod both;
+
+pub use both::BothNames;
 use first_index::add_index;
 use indexmap::IndexMap;
 use std::alloc::{AllocError, Global};

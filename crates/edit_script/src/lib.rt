@@ -5,7 +5,6 @@ pub mod edit;
 mod feeds;
 pub mod laws;
 mod lines;
-mod names;
 mod refused;
 mod script;
 

@@ -7,8 +7,8 @@ ghost use Rattle.edit_script.specs.Edits.{IsValidEdit};
 ghost use Rattle.edit_script.specs.Lines.{edit_in, edit_of, inflow_of, numbers_of, show_of, want_of};
 
 use crate::edit::Edit;
-use crate::names::Names;
 use crate::refused::ScriptFault;
+use basin_names::BothNames;
 use water_model::calls::{index_in_run, index_of, is_gauged, is_in_series};
 use water_model::types::{Basin, Inflows};
 use water_text::amount::read_plain;
@@ -63,7 +63,7 @@ fn read_numbers(
 /// What a line `inflow` asks for.
 #[tactic(auto, unfolding(crate::specs::Lines::inflow_of))]
 fn read_inflow(
-    names: &Names,
+    names: &BothNames,
     series: &Inflows,
     month: &[u8],
     name: &[u8],
@@ -92,7 +92,7 @@ fn read_inflow(
 /// What a line `want` asks for.
 #[tactic(auto, unfolding(crate::specs::Lines::want_of))]
 fn read_want(
-    names: &Names,
+    names: &BothNames,
     series: &Inflows,
     month: &[u8],
     name: &[u8],
@@ -120,7 +120,7 @@ fn read_want(
 
 /// What a line with a third field asks for: its word, its month and what is after them.
 fn read_change(
-    names: &Names,
+    names: &BothNames,
     series: &Inflows,
     word: &[u8],
     month: &[u8],
@@ -150,7 +150,7 @@ fn read_change(
 
 /// What a line between the first and the last asks for, or its first fault.
 #[tactic(auto, unfolding(crate::specs::Lines::edit_of))]
-pub fn read_edit(names: &Names, series: &Inflows, line: &[u8]) -> Result<Edit, ScriptFault>
+pub fn read_edit(names: &BothNames, series: &Inflows, line: &[u8]) -> Result<Edit, ScriptFault>
     requires basin { IsValidBasin names.now.basin.now }
     requires series { IsSeriesOf names.now.basin.now series.now }
     ensures reads { result ≡ edit_of names.now.basin.now series.now line.now }

@@ -8,14 +8,14 @@ ghost use Rattle.edit_script.specs.Scripts.{IsRefusalOf, edits_from, ended, line
 use crate::edit::Edit;
 use crate::feeds::first_line;
 use crate::lines::read_edit;
-use crate::names::Names;
 use crate::refused::{ScriptFault, ScriptRefused};
+use basin_names::BothNames;
 use std::alloc::Global;
 use water_model::types::{Basin, Inflows};
 
 /// What the line of this number asks for, or the refusal of the script.
 fn read_numbered(
-    names: &Names,
+    names: &BothNames,
     series: &Inflows,
     line: &[u8],
     number: u64,
@@ -52,7 +52,7 @@ fn end_of(edits: Vec<Edit>, number: u64, after: &[u8]) -> Result<Vec<Edit>, Scri
 /// What the lines after the first ask for, or the first at fault. The first of them has the number 2.
 fn read_edits(
     alloc: Global,
-    names: &Names,
+    names: &BothNames,
     series: &Inflows,
     text: &[u8],
 ) -> Result<Vec<Edit>, ScriptRefused>
@@ -108,6 +108,6 @@ pub fn read_script(
             line: 1,
         });
     }
-    let names = Names::of(alloc, basin)?;
+    let names = BothNames::of(alloc, basin)?;
     read_edits(alloc, &names, series, after)
 }

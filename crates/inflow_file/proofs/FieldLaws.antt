@@ -1,6 +1,7 @@
 -- The fields of a record.
 use Rattle.std.proofs.Common.{◌≡◌, ◌≢◌, ℕ, refl, arith, List, [], ◌∷◌, length, get_or, ap}
 use Rattle.std.specs.Prelude.{Err}
+use Rattle.csv.proofs.RecordFacts.{field-get, field-there}
 use Rattle.water_model.specs.declared.types.Basin.{Basin}
 use Rattle.inflow_file.specs.CsvRecords.{as_inflow}
 use Rattle.inflow_file.specs.Entries.{read_record}
@@ -34,3 +35,5 @@ not_four b (x ∷ y ∷ []) h = refl
 not_four b (x ∷ y ∷ z ∷ []) h = refl
 not_four b (x ∷ y ∷ z ∷ w ∷ []) h = absurd (h refl)
 not_four b (x ∷ y ∷ z ∷ w ∷ v ∷ row) h = refl
+
+pub ruleset fields = (field-get, field-there, three_are, four_are, not_three)

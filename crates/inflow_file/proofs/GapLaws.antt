@@ -1,15 +1,17 @@
 -- The first amount that is missing, and the series where none is.
-use Rattle.std.proofs.Common.{◌≡◌, ℕ, zero, suc, ◌+◌, ◌*◌, ◌/◌, ◌%◌, ◌^◌, ◌<◌, ◌≤◌, Bool, true, false, refl, sym, ap}
-use Rattle.std.proofs.Common.{◌∙◌, arith, List, [], ◌∷◌, ◌++◌, length, get_or, Option, Some, None, if◌then◌else◌}
-use Rattle.std.proofs.Common.{is_some, option_map, unwrap_or, slice_get, All, Ok, Err, Result, inl, inr, subst}
+use Rattle.std.proofs.Common.{◌≡◌, ℕ, suc, ◌+◌, ◌*◌, ◌/◌, ◌%◌, ◌^◌, ◌<◌, ◌≤◌, Bool, true, false, refl, sym, ap, ◌∙◌}
+use Rattle.std.proofs.Common.{arith, List, [], ◌∷◌, ◌++◌, length, get_or, Option, Some, None, if◌then◌else◌, is_some}
+use Rattle.std.proofs.Common.{option_map, unwrap_or, slice_get, All, Ok, Err, Result, inl, inr, subst}
 use Rattle.std.specs.Prelude.{◌==◌, ◌&&◌, not, IfOk, IfErr, OnOk}
 use Rattle.std.specs.List.{find, cons_option}
 use Rattle.std.specs.Result.{result_ok}
 use Rattle.std.proofs.lemmas.Bool.{cases_lt, false≢true}
 use Rattle.std.proofs.lemmas.List.{get_or-map, get_or_append_left, get_or_push}
 use Rattle.std.proofs.lemmas.List.Elements.{All-from_get_or}
+use Rattle.std.proofs.lemmas.List.Folds.{find_at}
+use Rattle.std.proofs.lemmas.List.Sums.{position_or_len_is}
 use Rattle.std.proofs.lemmas.Nat.{div-mul-add, mod-mul-add, div_below, mod_below}
-use Rattle.std.proofs.lemmas.Option.{same_Some}
+use Rattle.std.proofs.lemmas.Option.{same_Some, slice_get-get_or}
 use Rattle.water_text.specs.Amounts.{read_amount}
 use Rattle.water_text.specs.Months.{is_same_month, read_month}
 use Rattle.water_text.specs.declared.month.Month.{Month}
@@ -36,6 +38,7 @@ use Rattle.inflow_file.proofs.ColumnLaws.{count_of_columns, is_gauge, is_want, i
 use Rattle.inflow_file.proofs.ColumnLaws.{index_of_want}
 use Rattle.inflow_file.proofs.DueLaws.{IsSplit, column_there, due_at, given_at, length-due, length-given, split, width}
 use Rattle.inflow_file.proofs.DueLaws.{some_column}
+use Rattle.inflow_file.proofs.TableLaws.{refusal_of}
 use Rattle.inflow_file.specs.declared.refused.SeriesFault.TheVariants as fault
 use Rattle.inflow_file.specs.declared.refused.SeriesRefused.TheVariants as refused
 
@@ -43,10 +46,9 @@ use Rattle.inflow_file.specs.declared.refused.SeriesRefused.TheVariants as refus
 find_first : {X : Type 0} (p : X → Bool) (xs : List X) (k : ℕ) (d : X) → k < length xs →
     ((j : ℕ) → j < k → p (get_or xs j d) ≡ false) →
     p (get_or xs k d) ≡ true → find p xs ≡ Some (get_or xs k d)
-find_first p [] k d l before here = absurd (omega arith)
-find_first p (x ∷ xs) zero d l before here = rw here refl
-find_first p (x ∷ xs) (suc k) d l before here =
-    rw (before 0 (omega arith)) (find_first p xs k d (omega arith) (λ j m. before (suc j) (omega arith)) here)
+find_first p xs k d l before here =
+    find_at p xs ∙ ap (slice_get xs) (position_or_len_is p xs k d (omega arith) before (λ m. here))
+    ∙ slice_get-get_or xs k d l
 
 find_none : {X : Type 0} (p : X → Bool) (xs : List X) (d : X) → ((j : ℕ) → j < length xs → p (get_or xs j d) ≡ false) →
     find p xs ≡ None
@@ -247,25 +249,22 @@ complete_series b rows amounts series is parts = (
   record {
     gauged = parts.gauged;
     amounts = parts.amount.count_is ∙ ap (λ xs. b.months * length xs) (sym parts.gauged);
-    small_amounts =
-        small_part b rows amounts 0 (length (gauged_nodes b)) series.amount is parts.there gauges_fit parts.amount;
+    small_amounts = small_part b rows amounts _ _ _ is parts.there gauges_fit parts.amount;
     wanted = parts.wanted;
     wants = parts.want.count_is ∙ ap (λ xs. b.months * length xs) (sym parts.wanted);
-    small_wants =
-        small_part b rows amounts (length (gauged_nodes b)) (length (rights_in_series b)) series.want is parts.there
-        wants_fit parts.want;
+    small_wants = small_part b rows amounts _ _ _ is parts.there wants_fit parts.want;
   },
   record {
     each = λ node i l g m.
-        part_says b rows amounts 0 (length (gauged_nodes b)) series.amount i (index_in (gauged_nodes b) node) node is
-        parts.there gauges_fit parts.amount m (gauge_there node l g) (is_gauge b node l g)
+        part_says b rows amounts _ _ _ i _ node is parts.there gauges_fit parts.amount m
+        (index_holds (λ n. is_gauged b n) (length b.nodes) node l g).0 (is_gauge b node l g)
         (omega (arith, index_of_gauge b node l g))
         ∙ ap (λ n. Some n)
         (sym (inflow_gauged b series node i g ∙ ap (λ xs. table_at xs series.amount i node) parts.gauged));
     wants = λ right i l w m.
-        part_says b rows amounts (length (gauged_nodes b)) (length (rights_in_series b)) series.want i
-        (index_in (rights_in_series b) right) (right_number b right) is parts.there wants_fit parts.want m
-        (want_within right l w) (is_want b right l w) (index_of_want b right l w)
+        part_says b rows amounts _ _ _ i _ (right_number b right) is parts.there wants_fit parts.want m
+        (index_holds (λ r. is_in_series b r) (length b.rights) right l w).0 (is_want b right l w)
+        (index_of_want b right l w)
         ∙ ap (λ n. Some n) (sym (ap (λ xs. table_at xs series.want i right) parts.wanted));
   },
 )
@@ -276,31 +275,13 @@ complete_series b rows amounts series is parts = (
     wants_fit : length (gauged_nodes b) + length (rights_in_series b) ≤ width b
     wants_fit = omega (arith, count_of_columns b)
 
-    gauge_there : (node : ℕ) → node < length b.nodes → is_gauged b node ≡ true →
-        index_in (gauged_nodes b) node < length (gauged_nodes b)
-    gauge_there node l g = (index_holds (λ n. is_gauged b n) (length b.nodes) node l g).0
-
-    want_within : (right : ℕ) → right < length b.rights → is_in_series b right ≡ true →
-        index_in (rights_in_series b) right < length (rights_in_series b)
-    want_within right l w = (index_holds (λ r. is_in_series b r) (length b.rights) right l w).0
-
 pub missing_found : (b : Basin) (rows : List (List (List ℕ))) (amounts : List (Option ℕ)) (k : ℕ) (e : SeriesRefused) →
     amounts ≡ given_by b rows → k < length amounts →
     ((j : ℕ) → j < k → is_some (get_or amounts j None) ≡ true) → is_some (get_or amounts k None) ≡ false →
     e ≡ missing_of b (run_month b (k / width b)) (get_or (column_numbers b) (k % width b) 0) →
     IsRefusalOf (missing b (entries_of b rows)) e
 missing_found b rows amounts k e is l before here found =
-    by_kind e (found ∙ refl) (first_missing b (entries_of b rows) amounts k is l before here)
-  where
-    by_kind : (e : SeriesRefused) →
-        e ≡ missing_of b (run_month b (k / width b)) (get_or (column_numbers b) (k % width b) 0) →
-        missing b (entries_of b rows) ≡ Some
-        (missing_of b (run_month b (k / width b)) (get_or (column_numbers b) (k % width b) 0)) →
-        IsRefusalOf (missing b (entries_of b rows)) e
-    by_kind refused.OutOfMemory same first = tt
-    by_kind (refused.Record f n) same first = first ∙ ap (λ x. Some x) (sym same)
-    by_kind (refused.Missing m n) same first = first ∙ ap (λ x. Some x) (sym same)
-    by_kind (refused.MissingWant m n) same first = first ∙ ap (λ x. Some x) (sym same)
+    refusal_of _ e (first_missing b (entries_of b rows) amounts k is l before here ∙ ap (λ x. Some x) (sym found))
 
 -- what a table is read as
 pub record IsRead (b : Basin) (text : List ℕ) (r : Result Inflows SeriesRefused) : Type 0 where

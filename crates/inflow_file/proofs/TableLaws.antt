@@ -3,6 +3,7 @@ use Rattle.std.proofs.Common.{◌≡◌, ℕ, ◌+◌, Bool, true, false, map, r
 use Rattle.std.proofs.Common.{append_assoc, Option, Some, None, Result, Ok, Err, MatchResult}
 use Rattle.std.specs.Prelude.{◌||◌}
 use Rattle.std.specs.Result.{result_ok}
+use Rattle.std.specs.Option.{option_or}
 use Rattle.std.proofs.lemmas.List.{append-nil}
 use Rattle.std.proofs.lemmas.List.Elements.{filter_map-append}
 use Rattle.water_model.specs.declared.types.Basin.{Basin}
@@ -13,8 +14,8 @@ use Rattle.inflow_file.specs.SeriesFaults.{IsRefusalOf, entries_of, first_fault,
 use Rattle.inflow_file.specs.SeriesFaults.{has_kinds}
 use Rattle.inflow_file.specs.declared.entry.SeriesRecord.{SeriesRecord}
 use Rattle.inflow_file.specs.declared.refused.SeriesFault.{SeriesFault}
-use Rattle.inflow_file.specs.declared.refused.SeriesFault.TheVariants as fault
 use Rattle.inflow_file.specs.declared.refused.SeriesRefused.{SeriesRefused}
+use Rattle.inflow_file.specs.declared.refused.SeriesFault.TheVariants as fault
 use Rattle.inflow_file.specs.declared.refused.SeriesRefused.TheVariants as refused
 
 -- the entries of one record more
@@ -67,6 +68,20 @@ one_further before left rows all row is h = append_assoc before (row ∷ []) row
 pub none_further : {X : Type 0} (before left all : List X) → left ≡ [] → before ++ left ≡ all → before ≡ all
 none_further before left all is h = sym (append-nil before) ∙ (ap (λ xs. before ++ xs) (sym is) ∙ h)
 
+-- a refusal by the first fault, if there is one
+pub refusal_of : (o : Option SeriesRefused) (e : SeriesRefused) → o ≡ Some e → IsRefusalOf o e
+refusal_of o refused.OutOfMemory h = tt
+refusal_of o (refused.Record f n) h = h
+refusal_of o (refused.Missing m n) h = h
+refusal_of o (refused.MissingWant m n) h = h
+
+first_refusal : (o later : Option SeriesRefused) (e : SeriesRefused) → IsRefusalOf o e →
+    IsRefusalOf (option_or o later) e
+first_refusal o later refused.OutOfMemory h = tt
+first_refusal o later (refused.Record f n) h = rw h refl
+first_refusal o later (refused.Missing m n) h = rw h refl
+first_refusal o later (refused.MissingWant m n) h = rw h refl
+
 -- the records of a table whose header is one are all taken, or refused
 pub table_taken : (b : Basin) (header : List (List ℕ)) (rows table : List (List (List ℕ))) (kinds : Bool)
     (new : List (Option ℕ)) (result : Result (Unit {0}) SeriesRefused) →
@@ -76,18 +91,8 @@ table_taken b header rows table kinds new (Ok done) is says good took = record {
   fault = rw (is, ← says, good, took.0) refl;
   given = rw (is, ← says) took.1;
 }
-table_taken b header rows table kinds new (Err e) is says good took = by_kind e took
-  where
-    first : (e : SeriesRefused) → first_fault b [] 2 (map (with_kind kinds) rows) ≡ Some e →
-        table_fault b table ≡ Some e
-    first e h = rw (is, ← says, good, h) refl
-
-    by_kind : (e : SeriesRefused) → IsRefusalOf (first_fault b [] 2 (map (with_kind kinds) rows)) e →
-        IsRefusalOf (table_fault b table) e
-    by_kind refused.OutOfMemory h = tt
-    by_kind (refused.Record f n) h = first (refused.Record f n) h
-    by_kind (refused.Missing m n) h = first (refused.Missing m n) h
-    by_kind (refused.MissingWant m n) h = first (refused.MissingWant m n) h
+table_taken b header rows table kinds new (Err e) is says good took =
+    rw (is, ← says, good) (first_refusal (first_fault b [] 2 (map (with_kind kinds) rows)) _ e took)
 
 -- and one without a header is refused
 pub no_header : (b : Basin) (header : List (List ℕ)) (rows table : List (List (List ℕ))) (kinds : Bool) →

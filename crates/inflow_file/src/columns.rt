@@ -1,11 +1,9 @@
 //! The columns of a series: the gauged nodes of a basin, and its rights whose wants stand in the series.
 ghost use Rattle.std.specs.Prelude.{◌≡◌, ℕ, ◌+◌, ◌<◌, ◌≤◌, ◌++◌, ◌∷◌, [], length, slice_index, true, false};
-ghost use Rattle.std.specs.Prelude.{if◌then◌else◌, IfOk, IfSome, OnOk};
-ghost use Rattle.basin_names.specs.Named.{node_named, right_named};
+ghost use Rattle.std.specs.Prelude.{if◌then◌else◌, IfOk, OnOk};
 ghost use Rattle.csv.specs.Records.{fields_of};
 ghost use Rattle.water_model.specs.Hydrology.{index_in};
 ghost use Rattle.water_model.specs.Valid.{IsValidBasin};
-ghost use Rattle.water_model.specs.declared.space.Space.TheVariants.{Nodes, Rights};
 ghost use Rattle.inflow_file.specs.Columns.{IsColumn, AreIndices, column_numbers, columns_from, count_of_both};
 ghost use Rattle.inflow_file.specs.Columns.{is_column};
 ghost use Rattle.inflow_file.specs.CsvRecords.{with_kind};
@@ -14,11 +12,10 @@ ghost use Rattle.inflow_file.specs.Entries.{IsEntry, column_of, gauge_of, read_r
 use crate::entry::SeriesRecord;
 use crate::records::fields_with_kind;
 use crate::refused::SeriesFault;
-use basin_names::SpaceNames;
+use basin_names::BothNames;
 use csv::ByteRecord;
 use std::alloc::{AllocError, Global};
 use water_model::calls::{is_gauged, is_in_series};
-use water_model::space::Space;
 use water_model::types::Basin;
 use water_text::amount::read_amount;
 use water_text::month::Month;
@@ -35,13 +32,11 @@ struct Indices {
 #[derive(Drop)]
 pub(crate) struct Columns<'a> {
     pub basin: &'a Basin,
-    nodes: SpaceNames<'a>,
-    rights: SpaceNames<'a>,
+    names: BothNames<'a>,
     pub numbers: Vec<u32>,
     indices: Vec<u32>,
     ghost bounded: { count_of_both basin.now ≤ 4000 },
-    ghost node_names: { (nodes.basin.now ≡ basin.now) × (nodes.space ≡ Nodes) },
-    ghost right_names: { (rights.basin.now ≡ basin.now) × (rights.space ≡ Rights) },
+    ghost named: { names.basin.now ≡ basin.now },
     ghost columns_are: { numbers.items ≡ column_numbers basin.now },
     ghost count: { length indices.items ≡ count_of_both basin.now },
     ghost placed: { (n : ℕ) → n < count_of_both basin.now → is_column basin.now n ≡ true →
@@ -101,8 +96,8 @@ fn indices_of(alloc: Global, basin: &Basin) -> Result<Indices, AllocError>
     Ok(Indices { numbers, of_number })
 }
 
-/// The columns among `count` numbers from one on, counted from there: the gauged nodes from 0 on, and from the number of
-/// nodes on the rights whose wants stand in the series. AllocError comes where memory is lacking.
+/// The columns among `count` numbers from one on, counted from there: the gauged nodes from 0 on, and the rights whose
+/// wants stand in the series from the number of nodes on. AllocError comes where memory is lacking.
 #[tactic(auto, using(crate::proofs::ColumnLaws::filters))]
 pub(crate) fn columns_from(
     alloc: Global,
@@ -127,13 +122,11 @@ impl<'a> Columns<'a> {
         requires { IsValidBasin basin.now }
         ensures { IfOk result (λ columns. columns.basin.now ≡ basin.now) }
     {
-        let nodes = SpaceNames::of(alloc, Space::Nodes, basin)?;
-        let rights = SpaceNames::of(alloc, Space::Rights, basin)?;
+        let names = BothNames::of(alloc, basin)?;
         let Indices { numbers, of_number } = indices_of(alloc, basin)?;
         Ok(Columns {
             basin,
-            nodes,
-            rights,
+            names,
             numbers,
             indices: of_number,
         })
@@ -154,28 +147,13 @@ impl<'a> Columns<'a> {
         self.indices[number as usize]
     }
 
-    /// The node that has the name, or `None` where none has it.
-    fn node_named(&self, name: &[u8]) -> Option<u32>
-        ensures value { result ≡ node_named self.now.basin.now name.now }
-        ensures within { IfSome result (λ node. node < length self.now.basin.now.nodes) }
-    {
-        self.nodes.named(name)
-    }
-
-    /// The right that has the name, or `None` where none has it.
-    fn right_named(&self, name: &[u8]) -> Option<u32>
-        ensures value { result ≡ right_named self.now.basin.now name.now }
-        ensures within { IfSome result (λ right. right < length self.now.basin.now.rights) }
-    {
-        self.rights.named(name)
-    }
-
     /// The gauged node of a name.
+    #[tactic(auto, using(crate::proofs::ColumnLaws::is_gauge))]
     fn gauge_of(&self, name: &[u8]) -> Result<u32, SeriesFault>
         ensures reads { result ≡ gauge_of self.now.basin.now name.now }
         ensures column { IfOk result (IsColumn self.now.basin.now) }
     {
-        let Some(node) = self.node_named(name) else {
+        let Some(node) = self.names.node_named(name) else {
             return Err(SeriesFault::NoSuchNode);
         };
         if !is_gauged(self.basin, node) {
@@ -185,11 +163,12 @@ impl<'a> Columns<'a> {
     }
 
     /// The number of the right of a name, whose wants stand in the series.
+    #[tactic(auto, using(crate::proofs::ColumnLaws::is_want))]
     fn wanted_of(&self, name: &[u8]) -> Result<u32, SeriesFault>
         ensures reads { result ≡ wanted_of self.now.basin.now name.now }
         ensures column { IfOk result (IsColumn self.now.basin.now) }
     {
-        let Some(right) = self.right_named(name) else {
+        let Some(right) = self.names.right_named(name) else {
             return Err(SeriesFault::NoSuchRight);
         };
         if !is_in_series(self.basin, right) {
@@ -242,6 +221,7 @@ impl<'a> Columns<'a> {
     }
 
     /// What a record says after a header with kinds or without, or the first fault that it has by itself.
+    #[tactic(auto, using(crate::proofs::FieldLaws::not_four))]
     pub fn read_record(&self, kinds: bool, row: &ByteRecord) -> Result<SeriesRecord, SeriesFault>
         ensures reads { result ≡ read_record self.now.basin.now (with_kind kinds (fields_of row.now)) }
         ensures entry { IfOk result (IsEntry self.now.basin.now) }

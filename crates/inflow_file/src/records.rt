@@ -8,6 +8,7 @@ use csv::{ByteRecord, Reader, ReaderBuilder};
 use std::alloc::{AllocError, Global};
 
 /// A reader of the records of a table. It takes none as a header, and they may have any number of fields.
+#[tactic(auto, unfolding(crate::specs::RecordsLeft::records_left, crate::specs::CsvRecords::records_of))]
 pub(crate) fn reader_of(alloc: Global, text: &[u8]) -> Reader<&[u8]>
     ensures reading { IsReading result }
     ensures all { records_left result ≡ records_of text.now }
@@ -33,6 +34,7 @@ pub(crate) fn read_row(reader: &mut Reader<&[u8]>, row: &mut ByteRecord) -> Resu
 }
 
 /// The field at an index that a record has.
+#[tactic(auto, using(crate::proofs::FieldLaws::fields))]
 fn field(row: &ByteRecord, index: usize) -> &[u8]
     requires { index < length (fields_of row.now) }
     ensures { result.now ≡ slice_index_or (fields_of row.now) index [] }
@@ -44,6 +46,7 @@ fn field(row: &ByteRecord, index: usize) -> &[u8]
 }
 
 /// The three fields of a record, or `None` where it has another number of fields.
+#[tactic(auto, using(crate::proofs::FieldLaws::fields))]
 fn three_fields(row: &ByteRecord) -> Option<(&[u8], &[u8], &[u8])>
     ensures { IsThree (fields_of row.now) result }
 {
@@ -54,6 +57,7 @@ fn three_fields(row: &ByteRecord) -> Option<(&[u8], &[u8], &[u8])>
 }
 
 /// The four fields of a record, or `None` where it has another number of fields.
+#[tactic(auto, using(crate::proofs::FieldLaws::fields))]
 fn four_fields(row: &ByteRecord) -> Option<(&[u8], &[u8], &[u8], &[u8])>
     ensures { IsFour (fields_of row.now) result }
 {
@@ -65,6 +69,7 @@ fn four_fields(row: &ByteRecord) -> Option<(&[u8], &[u8], &[u8], &[u8])>
 
 /// The month, the kind, the name and the amount in a record after a header with kinds, or without, where the kind is
 /// `inflow`. `None` where the record has another number of fields than the header.
+#[tactic(auto, using(crate::proofs::FieldLaws::fields))]
 pub(crate) fn fields_with_kind(
     row: &ByteRecord,
     kinds: bool,

@@ -23,11 +23,7 @@ loop-k-preserved c =
     let k = c.loop-k.k in
     let right = c.in_ok-add_right.ensures in
     let row = c.in_ok-add_return.ensures in (
-      turn_more c.args.size c.args.draws.now.state k c.loop-k.draws.state c.loop-k.made.diversions.items
-          c.add_right.new.made.diversions.items
-          c.loop-k.made.instreams.items c.add_right.new.made.instreams.items c.loop-k.made.returns.items
-          c.add_return.new.returns.items
-          c.loop-k.invariant.0 c.loop-k.invariant.1 right.diversions right.instreams
+      turn_more _ _ k _ _ _ _ _ _ _ c.loop-k.invariant.0 c.loop-k.invariant.1 right.diversions right.instreams
           (row.value
           ∙ ap (λ l.
           l ++ (if k % 4 == 0 then return_at c.args.size (3 * (k / 4)) c.add_right.new.draws.state ∷ [] else []))

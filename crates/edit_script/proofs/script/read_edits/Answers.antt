@@ -42,4 +42,6 @@ loop-line-preserved c =
     }
 
 pub returns-clause-reads : goal.returns-clause-reads
-returns-clause-reads c = early_end _ _ _ c.loop-line.edits.items _ c.loop-line.rest.now c.loop-line.invariant.so_far c.in_default.ensures.none
+returns-clause-reads c =
+    early_end _ _ _ c.loop-line.edits.items _ c.loop-line.rest.now c.loop-line.invariant.so_far
+    c.in_default.ensures.none

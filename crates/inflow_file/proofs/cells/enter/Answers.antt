@@ -22,5 +22,6 @@ pub returns : goal.returns
 returns c = λ earlier is.
     let inside = month_inside _ _ _ c.requires.basin c.requires.entry.month (sym c.in-Some.ensures.value) in
     let h = entered_is _ _ _ _ _ c.requires.basin.run.first c.requires.entry inside.0 inside.1 is
-    (ap (λ k. is_some (get_or c.args.amounts.now k None)) (sym c.cell_of-cell.ensures.cell) ∙ sym c.if-is_some.ensures) in
+    (ap (λ k. is_some (get_or c.args.amounts.now k None)) (sym c.cell_of-cell.ensures.cell)
+    ∙ sym c.if-is_some.ensures) in
     (h.0, ap (λ k. slice_set c.args.amounts.now k (Some c.args.entry.now.amount)) c.cell_of-cell.ensures.cell ∙ h.1)

@@ -1,19 +1,9 @@
 use Rattle.std.proofs.Common.{◌∙◌, ◌+◌, ap, arith, length}
 use Rattle.std.proofs.lemmas.List.{length_push}
-use Rattle.std.proofs.lemmas.Nat.{mul-le}
 use Rattle.inflow_file.specs.Cells.{cell_in}
-use Rattle.inflow_file.proofs.DueLaws.{small_table, some_column, width}
+use Rattle.inflow_file.proofs.DueLaws.{small_table}
 use Rattle.inflow_file.proofs.GapLaws.{cell_below, part_more}
 use Rattle.inflow_file.proofs.cells.part_of.Goals as goal
-
-pub overflow_mul-end : goal.overflow_mul-end
-overflow_mul-end c =
-    let b = c.args.columns.now.basin.now in
-    let most = mul-le b.months c.args.count b.months (width b) (omega arith) (omega (arith, c.requires.columns)) in
-    omega (arith, most, small_table b c.requires.basin.run.months.1 c.requires.basin.bounded)
-
-pub cell_in-requires-clause-count : goal.cell_in-requires-clause-count
-cell_in-requires-clause-count c = some_column _ _ _ c.loop-cell-test.true
 
 pub cell_in-requires-clause-within : goal.cell_in-requires-clause-within
 cell_in-requires-clause-within c =
@@ -30,6 +20,7 @@ loop-cell-preserved c =
     record {
       count = ap length pushed
           ∙ (length_push c.loop-cell.part.items c.cell_in.result ∙ ap (λ n. n + 1) c.loop-cell.invariant.count);
-      each = λ k l. rw pushed (part_more (cell_in c.args.cells.now c.count-width.result c.args.from c.args.count) _ _ _ _
+      each = λ k l. rw pushed
+          (part_more (cell_in c.args.cells.now c.count-width.result c.args.from c.args.count) _ _ _ _
           c.loop-cell.invariant.count c.loop-cell.invariant.each c.cell_in.ensures l);
     }

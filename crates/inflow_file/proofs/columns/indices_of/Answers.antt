@@ -40,5 +40,6 @@ returns c =
       count = so_far.count ∙ end;
       each = λ n l due. rw so_far.numbers (
           let below : n < c.loop-number.number = omega arith in
-          so_far.each n below ∙ sym (index_passed (λ n. is_column c.args.basin.now n) c.loop-number.number n below due));
+          so_far.each n below
+          ∙ sym (index_passed (λ m. is_column c.args.basin.now m) c.loop-number.number n below due));
     }

@@ -1,17 +1,17 @@
-//! What names of a script name in a basin.
+//! The nodes and the rights of a basin by their names.
 ghost use Rattle.std.specs.Prelude.{◌≡◌, ◌<◌, length, IfOk, IfSome};
 ghost use Rattle.water_model.specs.Valid.{IsValidBasin};
 ghost use Rattle.water_model.specs.declared.space.Space.TheVariants.{Nodes, Rights};
 ghost use Rattle.basin_names.specs.Named.{node_named, right_named};
 
-use basin_names::SpaceNames;
+use crate::SpaceNames;
 use std::alloc::{AllocError, Global};
 use water_model::space::Space;
 use water_model::types::Basin;
 
 /// The nodes and the rights of a basin by their names.
 #[derive(Drop)]
-pub struct Names<'b> {
+pub struct BothNames<'b> {
     pub basin: &'b Basin,
     nodes: SpaceNames<'b>,
     rights: SpaceNames<'b>,
@@ -19,15 +19,15 @@ pub struct Names<'b> {
     ghost of_rights: { (rights.basin.now ≡ basin.now) × (rights.space ≡ Rights) },
 }
 
-impl<'b> Names<'b> {
+impl<'b> BothNames<'b> {
     /// The names of this basin. AllocError comes where memory is lacking.
-    pub fn of(alloc: Global, basin: &'b Basin) -> Result<Names<'b>, AllocError>
+    pub fn of(alloc: Global, basin: &'b Basin) -> Result<BothNames<'b>, AllocError>
         requires { IsValidBasin basin.now }
         ensures { IfOk result (λ names. names.basin.now ≡ basin.now) }
     {
         let nodes = SpaceNames::of(alloc, Space::Nodes, basin)?;
         let rights = SpaceNames::of(alloc, Space::Rights, basin)?;
-        Ok(Names {
+        Ok(BothNames {
             basin,
             nodes,
             rights,
