@@ -140,10 +140,10 @@ spilled_start b month supply want start c p plan laid is still all = record {
 }
 
 -- a month stands so before any right is served
-pub standing_begun : (b : Basin) (method : Method) (month : Month) (supply want order : List ℕ) (c : Contents)
-    (p : Plan) (cuts : CutSets) → IsBegun b method month supply want c → IsGiven b month supply want p cuts →
+pub standing_begun : {b : Basin} {method : Method} {month : Month} {supply want order : List ℕ} {c : Contents}
+    {p : Plan} {cuts : CutSets} → IsBegun b method month supply want c → IsGiven b month supply want p cuts →
     IsStanding (spilled b) month supply want order 0 c cuts
-standing_begun b method month supply want order c p cuts start given =
+standing_begun {b} {method} {month} {supply} {want} {order} {c} {p} {cuts} start given =
     standing_first (spilled b) month supply want order c cuts start.net start.is_flow start.size start.free
     (record { nodes = given.fits_cuts.nodes ∙ sym (spilled_count b); rights = given.fits_cuts.rights }) given.no_sets
 
