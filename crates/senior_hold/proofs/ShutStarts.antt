@@ -52,10 +52,10 @@ outs_fit b month supply want p valid given plan n l = elim (cases_Bool (is_outle
 ]
 
 -- a month may start from a plan
-pub shut_starts : (b : Basin) (method : Method) (month : Month) (supply want start : List ℕ) (p : Plan) →
+pub shut_starts : {b : Basin} {method : Method} {month : Month} {supply want start : List ℕ} {p : Plan} →
     method ≡ Method.Searches → IsValidBasin b → AreSupplies b supply → IsPlan b month supply want p →
     AreAmounts (spilled b) p (λ a. slice_index start a) → IsStartOf b method month supply want start
-shut_starts b method month supply want start p is valid given plan laid = record {
+shut_starts {b} {method} {month} {supply} {want} {start} {p} is valid given plan laid = record {
   plan = p;
   is_plan = plan_up b month supply want p plan;
   laid = laid;
