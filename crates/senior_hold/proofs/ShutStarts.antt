@@ -1,6 +1,7 @@
 -- A month that starts from a plan, over the network with a spill at each node of which only those of outlets carry
 -- anything.
-use Rattle.std.proofs.Common.{◌≡◌, ℕ, ◌+◌, ◌<◌, ◌≤◌, ◌^◌, Bool, true, false, sym, ◌∙◌, ap, subst, arith, List, length, inl, inr}
+use Rattle.std.proofs.Common.{◌≡◌, ℕ, ◌+◌, ◌<◌, ◌≤◌, ◌^◌, Bool, true, false, sym, ◌∙◌, ap, subst, arith}
+use Rattle.std.proofs.Common.{List, length, inl, inr}
 use Rattle.std.proofs.lemmas.Bool.{cases_Bool, le-ltb, false≢true}
 use Rattle.std.specs.Prelude.{slice_index, nat_lt}
 use Rattle.finite_sums.specs.Sums.{total, count_where, when}

@@ -44,7 +44,8 @@ lend_month-requires-in-Searches-clause-start c =
     let h = c.requires.arcs in
     let room = c.write_uppers.new.room in
     let start = c.deref-in-Searches-2.result.now in
-    let size : length c.lay.new.into ≡ length room.start.items = c.lay.auto.into ∙ ap length c.deref_mut.ensures.value in
+    let size : length c.lay.new.into ≡ length room.start.items = c.lay.auto.into
+    ∙ ap length c.deref_mut.ensures.value in
     let is : start ≡ c.lay.new.into = c.deref-in-Searches-2.ensures.value
     ∙ with_items_is room.start c.lay.new.into (omega (arith, size, room.start.ok.0)) in
     let long : length start ≡ arc_count (spilled c.args.basin.now) = ap length is
@@ -65,7 +66,8 @@ pub returns-in-Searches-clause-begun : goal.returns-in-Searches-clause-begun
 returns-in-Searches-clause-begun c =
     let h = c.requires.arcs in
     let room = c.write_uppers.new.room in
-    let size : length c.lay.new.into ≡ length room.start.items = c.lay.auto.into ∙ ap length c.deref_mut.ensures.value in
+    let size : length c.lay.new.into ≡ length room.start.items = c.lay.auto.into
+    ∙ ap length c.deref_mut.ensures.value in
     let is : c.deref-in-Searches-2.result.now ≡ c.lay.new.into = c.deref-in-Searches-2.ensures.value
     ∙ with_items_is room.start c.lay.new.into (omega (arith, size, room.start.ok.0)) in
     let all = last_all (ap length is ∙ (size ∙ c.write_uppers.ensures.room.starts) ∙ sym (held_arcs h)) in

@@ -1,4 +1,5 @@
-use Rattle.std.proofs.Common.{◌≡◌, ◌⊎◌, ◌∙◌, ◌+◌, ◌*◌, true, false, length, slice_index, arith, refl, sym, ap, subst, inl, inr}
+use Rattle.std.proofs.Common.{◌≡◌, ◌⊎◌, ◌∙◌, ◌+◌, ◌*◌, true, false, length, slice_index, arith}
+use Rattle.std.proofs.Common.{refl, sym, ap, subst, inl, inr}
 use denote.Enum.Bare.{sameb}
 use Rattle.senior_hold.specs.declared.sweep.Method.{Method}
 use Rattle.senior_hold.specs.declared.tree_raises.Turn.{Turn}
@@ -132,7 +133,8 @@ loop-turn-preserved g c =
             c.requires.layout.are_arcs.spill c.exit_of-exit.ensures.first c.exit_of-exit.ensures.spill)
       ];
       search_cost = λ h. one_more (arc_count c.args.basin.now) (open_arcs (network c.loop-turn.circ)) c.loop-turn.turn
-          _ _ _ (open_bounded c.args.basin.now c.loop-turn.circ inv.standing.net.ends (subst (λ m. SpillsAreOf c.args.basin.now m c.loop-turn.circ) h inv.spills))
+          _ _ _ (open_bounded c.args.basin.now c.loop-turn.circ inv.standing.net.ends
+          (subst (λ m. SpillsAreOf c.args.basin.now m c.loop-turn.circ) h inv.spills))
           (inv.search_cost h) (done.search_cost h);
       room = inv.room;
       plan = inv.plan;
