@@ -77,12 +77,12 @@ spills_small b Method.Searches n = of_node (is_outlet b n)
     of_node false = omega arith
 
 -- a month may start with them
-pub begins : (b : Basin) (method : Method) (month : Month) (supply want upper start : List ℕ) (c : Contents) →
+pub begins : {b : Basin} {method : Method} {month : Month} {supply want upper start : List ℕ} (c : Contents) →
     IsValidBasin b → IsMonth month → HasBasinEnds (spilled b) (network c) → AreSupplies b supply →
     AreWants b month want → length upper ≡ arc_count (spilled b) → length start ≡ arc_count (spilled b) →
     AreBounds (spilled b) month want (spill_most b method) (λ a. slice_index upper a) →
     IsStartOf b method month supply want start → IsStart c supply upper start
-begins b method month supply want upper start c valid is_month ends given wants uppers starts are s =
+begins {b} {method} {month} {supply} {want} {upper} {start} c valid is_month ends given wants uppers starts are s =
     let count = spilled_count b in
     record {
       supplies = given.count ∙ sym count ∙ sym ends.nodes;
@@ -95,13 +95,14 @@ begins b method month supply want upper start c valid is_month ends given wants 
     }
 
 -- and then it is begun
-pub begun : (b : Basin) (method : Method) (month : Month) (supply want upper start : List ℕ) (c new : Contents) →
+pub begun : {b : Basin} {method : Method} {month : Month} {supply want upper start : List ℕ} (c : Contents)
+    {new : Contents} →
     HasBasinEnds (spilled b) (network c) →
     AreBounds (spilled b) month want (spill_most b method) (λ a. slice_index upper a) →
     IsStartOf b method month supply want start →
     new ≡ record (month_contents c supply upper start) { scratch = new.scratch } →
     IsBegun b method month supply want new
-begun b method month supply want upper start c new ends are s is =
+begun {b} {method} {month} {supply} {want} {upper} {start} c {new} ends are s is =
     let count = spilled_count b in
     let d : Contents = record c { scratch = new.scratch } in
     subst (λ (x : Contents). IsBegun b method month supply want x) (sym is) record {
@@ -129,21 +130,21 @@ outs_same b p g size all laid =
         ∙ (ap (λ t. when t (g (out_arc b n))) (all n l) ∙ laid.on_outs n l (all n l))
 
 -- amounts of a plan without flows spill what it lets out
-pub spilled_start : (b : Basin) (month : Month) (supply want start : List ℕ) (c : Contents) (p : Plan) →
-    IsPlan (spilled b) month supply want p → AreAmounts (spilled b) p (λ a. slice_index start a) → c.flow ≡ start →
+pub spilled_start : {b : Basin} {supply start : List ℕ} {c : Contents} {p : Plan} → length p.out ≡ length b.nodes →
+    AreAmounts (spilled b) p (λ a. slice_index start a) → c.flow ≡ start →
     ((e : ℕ) → e < length b.links → slice_index p.flow e ≡ 0) → p.out ≡ supply → IsSpilledStart b supply c
-spilled_start b month supply want start c p plan laid is still all = record {
+spilled_start {b} {supply} {start} {c} {p} size laid is still all = record {
   still = λ e l. ap (λ (xs : List ℕ). slice_index xs e) is ∙ (laid.on_links e l ∙ still e l);
   all = ap (λ (xs : List ℕ). spills_of b (λ a. slice_index xs a)) is
-      ∙ (outs_same (spilled b) p (λ a. slice_index start a) plan.out_len
+      ∙ (outs_same (spilled b) p (λ a. slice_index start a) (size ∙ sym (spilled_count b))
       (λ n l. spilled_outlet b n (omega (arith, l, spilled_count b))) laid ∙ all);
 }
 
 -- a month stands so before any right is served
-pub standing_begun : (b : Basin) (method : Method) (month : Month) (supply want order : List ℕ) (c : Contents)
-    (p : Plan) (cuts : CutSets) → IsBegun b method month supply want c → IsGiven b month supply want p cuts →
+pub standing_begun : {b : Basin} {method : Method} {month : Month} {supply want order : List ℕ} {c : Contents}
+    {p : Plan} {cuts : CutSets} → IsBegun b method month supply want c → IsGiven b month supply want p cuts →
     IsStanding (spilled b) month supply want order 0 c cuts
-standing_begun b method month supply want order c p cuts start given =
+standing_begun {b} {method} {month} {supply} {want} {order} {c} {p} {cuts} start given =
     standing_first (spilled b) month supply want order c cuts start.net start.is_flow start.size start.free
     (record { nodes = given.fits_cuts.nodes ∙ sym (spilled_count b); rights = given.fits_cuts.rights }) given.no_sets
 
@@ -158,11 +159,11 @@ bounds_most b month want upper most most' same are = record {
 }
 
 -- the same bounds and amounts in another list
-pub bounds_over : (b : Basin) (month : Month) (want xs ys : List ℕ) (most : ℕ → ℕ) → xs ≡ ys →
+pub bounds_over : {b : Basin} {month : Month} {want xs ys : List ℕ} {most : ℕ → ℕ} → xs ≡ ys →
     AreBounds b month want most (λ a. slice_index ys a) → AreBounds b month want most (λ a. slice_index xs a)
-bounds_over b month want xs ys most same are =
+bounds_over {b} {month} {want} {xs} {ys} {most} same are =
     subst (λ (zs : List ℕ). AreBounds b month want most (λ a. slice_index zs a)) (sym same) are
 
-pub amounts_over : (b : Basin) (p : Plan) (xs ys : List ℕ) → xs ≡ ys → AreAmounts b p (λ a. slice_index ys a) →
+pub amounts_over : {b : Basin} {p : Plan} {xs ys : List ℕ} → xs ≡ ys → AreAmounts b p (λ a. slice_index ys a) →
     AreAmounts b p (λ a. slice_index xs a)
-amounts_over b p xs ys same are = subst (λ (zs : List ℕ). AreAmounts b p (λ a. slice_index zs a)) (sym same) are
+amounts_over {b} {p} {xs} {ys} same are = subst (λ (zs : List ℕ). AreAmounts b p (λ a. slice_index zs a)) (sym same) are

@@ -34,18 +34,19 @@ spill_most b g n l =
     )
 
 -- no raise fills a spill, which may have more than all supply
-pub never_full : (b : Basin) (month : Month) (supply want : List ℕ) (c : Contents) (arc exit first : ℕ) →
-    IsValidBasin b → AreSupplies b supply → IsMonthNetwork (spilled b) month supply want (network c) →
-    SpillsAreOf b Method.Tree c → first ≡ spill_arc b 0 → first ≤ exit → exit < first + c.nodes → FillsExit c arc exit → ⊥
-never_full b month supply want c arc exit first valid supplies net wide start above below fills =
+pub never_full : {b : Basin} {month : Month} {supply want : List ℕ} {c : Contents} {arc exit first : ℕ} →
+    FillsExit c arc exit → IsValidBasin b → AreSupplies b supply →
+    IsMonthNetwork (spilled b) month supply want (network c) → SpillsAreOf b Method.Tree c → first ≡ spill_arc b 0 →
+    first ≤ exit → exit < first + c.nodes → ⊥
+never_full {b} {month} {supply} {want} {c} {arc} {exit} {first} fills valid supplies net wide start above below =
     let d = fills.then in
     let node = exit - first in
     let inside : node < length b.nodes = omega (arith, spilled_count b, net.ends.nodes) in
     let is : spill_arc b node ≡ exit = omega arith in
-    let now = raised_net (spilled b) month supply want c d arc fills.rest net in
+    let now = raised_net fills.rest net in
     let small : total (length b.nodes) (λ v. slice_index supply v) < 10 ^ 15 = let bounded = supplies.small in
     omega arith in
-    let bounded = spills_bounded b month supply want (network d) (flow_of d) valid now fills.kept.flow small in
+    let bounded = spills_bounded valid now fills.kept.flow small in
     let most = spill_most b (flow_of d) node inside in
     let upper = ap (λ (x : Contents). slice_index x.upper exit) fills.rest.rest
     ∙ (ap (slice_index c.upper) (sym is) ∙ wide node inside) in

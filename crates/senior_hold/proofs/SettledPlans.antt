@@ -133,10 +133,10 @@ both_small b month supply want want' p q valid plan_p plan_q e l =
         goes p q t h n r s i j k l = grind (arith, nat_tests)
 
 -- it is a plan of the month
-pub settled_plan : (b : Basin) (month : Month) (supply want : List ℕ) (w : Network) (g : ℕ → ℕ) (p : Plan) →
+pub settled_plan : {b : Basin} {month : Month} {supply want : List ℕ} {w : Network} {g : ℕ → ℕ} {p : Plan} →
     IsValidBasin b → IsMonthNetwork (spilled b) month supply want w → IsFlow w g →
     total (length b.nodes) (λ v. slice_index supply v) ≤ 10 ^ 15 → IsSettledPlan b g p → IsPlan b month supply want p
-settled_plan b month supply want w g p valid net flow bounded s = record {
+settled_plan {b} {month} {supply} {want} {w} {g} {p} valid net flow bounded s = record {
   flow_len = s.flow_len;
   take_len = ap length s.take ∙ list_len (length b.rights) took;
   out_len = s.natural.out_len;
@@ -204,10 +204,10 @@ settled_plan b month supply want w g p valid net flow bounded s = record {
     ]
 
 -- the spills are few
-pub spills_bounded : (b : Basin) (month : Month) (supply want : List ℕ) (w : Network) (g : ℕ → ℕ) → IsValidBasin b →
+pub spills_bounded : {b : Basin} {month : Month} {supply want : List ℕ} {w : Network} {g : ℕ → ℕ} → IsValidBasin b →
     IsMonthNetwork (spilled b) month supply want w → IsFlow w g → total (length b.nodes)
     (λ v. slice_index supply v) < 10 ^ 15 → total_of (spills_of b g) < 10 ^ 15
-spills_bounded b month supply want w g valid net flow bounded =
+spills_bounded {b} {month} {supply} {want} {w} {g} valid net flow bounded =
     let count : length (spills_of b g) ≡ length b.nodes = (plan_is (spilled b) month supply want w g net flow).out_len
     ∙ spilled_count b in
     omega (
@@ -306,12 +306,12 @@ settled_delivers b month supply want g p cuts kinds plan s settled r l =
         )
 
 -- when all are served the month is solved
-pub sweep_solved : (b : Basin) (month : Month) (supply want order : List ℕ) (c : Contents) (cuts : CutSets)
-    (p : Plan) → IsValidBasin b → IsSeniorityOrder b.rights order → total (length b.nodes)
+pub sweep_solved : {b : Basin} {month : Month} {supply want order : List ℕ} {c : Contents} {cuts : CutSets}
+    {p : Plan} → IsValidBasin b → IsSeniorityOrder b.rights order → total (length b.nodes)
     (λ v. slice_index supply v) ≤ 10 ^ 15 → IsStanding (spilled b) month supply want order (length b.rights) c cuts →
     IsSettledPlan b (flow_of c) p → (length b.rights ≡ 0 → IsSpilledStart b supply c) →
     IsSolved b month supply want p cuts
-sweep_solved b month supply want order c cuts p valid o bounded now s start = record {
+sweep_solved {b} {month} {supply} {want} {order} {c} {cuts} {p} valid o bounded now s start = record {
   greatest = cuts_make_plan_greatest b month supply want d p plan
       (record { each = λ r l. got b want (flow_of c) r l ∙ sym (delivers r l) })
       (λ r l. met_or_tight b month supply want d cuts r (settled r l));
@@ -333,7 +333,7 @@ sweep_solved b month supply want order c cuts p valid o bounded now s start = re
     flow = (now.swept o).flow
 
     plan : IsPlan b month supply want p
-    plan = settled_plan b month supply want (network c) (flow_of c) p valid now.net flow bounded s
+    plan = settled_plan valid now.net flow bounded s
 
     settled : (r : ℕ) → r < length b.rights → IsMetOrReached b month supply want d cuts r
     settled r l = settled_down b month supply want d cuts r ((now.swept o).settled r l (o.in_range r l))

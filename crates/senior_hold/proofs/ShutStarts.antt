@@ -1,6 +1,7 @@
 -- A month that starts from a plan, over the network with a spill at each node of which only those of outlets carry
 -- anything.
-use Rattle.std.proofs.Common.{◌≡◌, ℕ, ◌+◌, ◌<◌, ◌≤◌, ◌^◌, Bool, true, false, sym, ◌∙◌, ap, subst, arith, List, length, inl, inr}
+use Rattle.std.proofs.Common.{◌≡◌, ℕ, ◌+◌, ◌<◌, ◌≤◌, ◌^◌, Bool, true, false, sym, ◌∙◌, ap, subst, arith}
+use Rattle.std.proofs.Common.{List, length, inl, inr}
 use Rattle.std.proofs.lemmas.Bool.{cases_Bool, le-ltb, false≢true}
 use Rattle.std.specs.Prelude.{slice_index, nat_lt}
 use Rattle.finite_sums.specs.Sums.{total, count_where, when}
@@ -52,10 +53,10 @@ outs_fit b month supply want p valid given plan n l = elim (cases_Bool (is_outle
 ]
 
 -- a month may start from a plan
-pub shut_starts : (b : Basin) (method : Method) (month : Month) (supply want start : List ℕ) (p : Plan) →
+pub shut_starts : {b : Basin} {method : Method} {month : Month} {supply want start : List ℕ} {p : Plan} →
     method ≡ Method.Searches → IsValidBasin b → AreSupplies b supply → IsPlan b month supply want p →
     AreAmounts (spilled b) p (λ a. slice_index start a) → IsStartOf b method month supply want start
-shut_starts b method month supply want start p is valid given plan laid = record {
+shut_starts {b} {method} {month} {supply} {want} {start} {p} is valid given plan laid = record {
   plan = p;
   is_plan = plan_up b month supply want p plan;
   laid = laid;

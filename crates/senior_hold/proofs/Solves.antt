@@ -230,13 +230,13 @@ served_next b month supply want order k r arc amount c f s cuts after kinds l at
           ),
         )
 
-pub standing_next : (b : Basin) (month : Month) (supply want order : List ℕ) (k r arc amount : ℕ) (c new : Contents)
-    (cuts after : CutSets) → AreKinds b → k < length b.rights → r ≡ slice_index order k →
+pub standing_next : {b : Basin} {month : Month} {supply want order : List ℕ} {k r arc amount : ℕ} {c new : Contents}
+    {cuts after : CutSets} → AreKinds b → k < length b.rights → r ≡ slice_index order k →
     IsSeniorityOrder b.rights order → IsStanding b month supply want order k c cuts → arc ≡ right_arc b r →
     amount ≡ slice_index want r → IsServed c new arc amount cuts after r → IsCirculation new →
     IsStanding b month supply want order (k + 1) new after
-standing_next b month supply want order k r arc amount c new cuts after kinds l at order_is now arc_is amount_is served
-    kept =
+standing_next {b} {month} {supply} {want} {order} {k} {r} {arc} {amount} {c} {new} {cuts} {after} kinds l at order_is
+    now arc_is amount_is served kept =
     subst (λ (x : Contents). IsStanding b month supply want order (k + 1) x after) (sym served.held)
     (served_next b month supply want order k r arc amount c new.flow new.scratch cuts after kinds l at order_is now
     arc_is amount_is

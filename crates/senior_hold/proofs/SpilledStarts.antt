@@ -1,5 +1,6 @@
 -- A month that starts with each node's supply on its spill: the spills are the last arcs.
-use Rattle.std.proofs.Common.{◌≡◌, ℕ, ◌+◌, ◌-◌, ◌^◌, ◌<◌, ◌≤◌, List, ◌++◌, length, replicate, refl, ap, sym, subst, arith, ◌∙◌}
+use Rattle.std.proofs.Common.{◌≡◌, ℕ, ◌+◌, ◌-◌, ◌^◌, ◌<◌, ◌≤◌, List, ◌++◌, length, replicate, refl, ap, sym, subst}
+use Rattle.std.proofs.Common.{arith, ◌∙◌}
 use Rattle.std.specs.Prelude.{slice_index}
 use Rattle.std.proofs.lemmas.Grind.{common_steps}
 use Rattle.std.proofs.lemmas.List.{get_or-replicate}
@@ -35,8 +36,8 @@ pub length-on_last : (arcs : ℕ) (xs : List ℕ) → length xs ≤ arcs → len
 length-on_last arcs xs bounded = grind (arith, common_steps)
 
 -- and they are those given, where these are as many
-pub last_all : (arcs : ℕ) (xs : List ℕ) → length xs ≡ arcs → on_last arcs xs ≡ xs
-last_all arcs xs all =
+pub last_all : {arcs : ℕ} {xs : List ℕ} → length xs ≡ arcs → on_last arcs xs ≡ xs
+last_all {arcs} {xs} all =
     let none : arcs - length xs ≡ 0 = omega arith in ap (λ (n : ℕ). replicate {A = ℕ} n 0 ++ xs) none
 
 -- the plan that lets all supply out where it comes in
@@ -65,13 +66,13 @@ spilled_laid b supply arcs all count = record {
     prefix = omega (arith, all, count, spilled_arcs b)
 
 -- there are as many arcs as the basin has with a spill at each node
-pub held_arcs : (b : Basin) (circ : Circulation) (fixed moving : List ℕ) → HasArcs b circ fixed moving →
+pub held_arcs : {b : Basin} {circ : Circulation} {fixed moving : List ℕ} → HasArcs b circ fixed moving →
     circ.arcs ≡ arc_count (spilled b)
-held_arcs b circ fixed moving h = sym (frame_arcs circ h.contents fixed h.fixed) ∙ h.ends.arcs
+held_arcs {b} {circ} {fixed} {moving} h = sym (frame_arcs circ h.contents fixed h.fixed) ∙ h.ends.arcs
 
-pub supplies_bounded : (b : Basin) (supply : List ℕ) (arcs : ℕ) → arcs ≡ arc_count (spilled b) → AreSupplies b supply →
+pub supplies_bounded : {b : Basin} {supply : List ℕ} {arcs : ℕ} → arcs ≡ arc_count (spilled b) → AreSupplies b supply →
     length supply ≤ arcs
-supplies_bounded b supply arcs all given = omega (arith, all, given.count, spilled_arcs b)
+supplies_bounded {b} {supply} {arcs} all given = omega (arith, all, given.count, spilled_arcs b)
 
 -- the plan is one of the month with a spill at each node
 spilled_is : (b : Basin) (month : Month) (supply want : List ℕ) → AreSupplies b supply →
@@ -86,10 +87,10 @@ spilled_small b supply given n l =
     omega (arith, term_le_total (length b.nodes) (λ n. slice_index supply n) n l, given.small)
 
 -- a month may start so
-pub spilled_starts : (b : Basin) (method : Method) (month : Month) (supply want : List ℕ) (arcs : ℕ) →
+pub spilled_starts : {b : Basin} {method : Method} {month : Month} {supply want : List ℕ} {arcs : ℕ} →
     method ≡ Method.Tree → arcs ≡ arc_count (spilled b) → AreSupplies b supply →
     IsStartOf b method month supply want (on_last arcs supply)
-spilled_starts b method month supply want arcs is all given = record {
+spilled_starts {b} {method} {month} {supply} {want} {arcs} is all given = record {
   plan = spilled_of b supply;
   is_plan = spilled_is b month supply want given;
   laid = spilled_laid b supply arcs all given.count;
@@ -97,9 +98,8 @@ spilled_starts b method month supply want arcs is all given = record {
 }
 
 -- and starts with all supply spilled
-pub spilled_begun : (b : Basin) (month : Month) (supply want : List ℕ) (c : Contents) (arcs : ℕ) →
-    arcs ≡ arc_count (spilled b) → AreSupplies b supply → c.flow ≡ on_last arcs supply → IsSpilledStart b supply c
-spilled_begun b month supply want c arcs all given is =
-    spilled_start b month supply want (on_last arcs supply) c (spilled_of b supply)
-    (spilled_is b month supply want given) (spilled_laid b supply arcs all given.count) is
+pub spilled_begun : {b : Basin} {supply : List ℕ} {c : Contents} {arcs : ℕ} → arcs ≡ arc_count (spilled b) →
+    AreSupplies b supply → c.flow ≡ on_last arcs supply → IsSpilledStart b supply c
+spilled_begun {b} {supply} {c} {arcs} all given is =
+    spilled_start given.count (spilled_laid b supply arcs all given.count) is
     (λ e l. get_or-replicate {A = ℕ} (length b.links) e 0 0 l) refl

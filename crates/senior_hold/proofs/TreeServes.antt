@@ -70,10 +70,10 @@ raised_cut old mid g r y raised greatest =
     (subst (λ (x : Contents). IsGreatestCut (network x) g r y) raised.rest greatest)
 
 -- and the network of a month one of the month
-pub raised_net : (b : Basin) (month : Month) (supply want : List ℕ) (old new : Contents) (r : ℕ) →
+pub raised_net : {b : Basin} {month : Month} {supply want : List ℕ} {old new : Contents} {r : ℕ} →
     IsRaisedOver old new r → IsMonthNetwork b month supply want (network old) →
     IsMonthNetwork b month supply want (network new)
-raised_net b month supply want old new r raised net =
+raised_net {b} {month} {supply} {want} {old} {new} {r} raised net =
     subst (λ (x : Contents). IsMonthNetwork b month supply want (network x)) (sym raised.rest)
     (net_kept b month supply want old new.flow new.scratch new.lower net)
 

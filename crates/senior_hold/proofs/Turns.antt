@@ -29,9 +29,9 @@ use Rattle.rights_roll.proofs.Seniors.{by_seniority_order}
 use Rattle.senior_hold.specs.Solved.{AreWants}
 
 -- the order of a roll has each right at its index
-pub order_of_roll : (b : Basin) (roll : RollView) → IsValidBasin b → IsRollOf b.rights roll →
+pub order_of_roll : {b : Basin} {roll : RollView} → IsValidBasin b → IsRollOf b.rights roll →
     IsSeniorityOrder b.rights roll.order
-order_of_roll b roll valid is =
+order_of_roll {b} {roll} valid is =
     subst (IsSeniorityOrder b.rights) (sym is.order) (by_seniority_order b.rights valid.roll.strict)
 
 -- the right whose turn it is, and its arc
@@ -69,13 +69,13 @@ pub record IsAtTurn (b : Basin) (want order : List ℕ) (k r arc : ℕ) (c : Con
   pub fits : slice_index want r ≤ slice_index c.upper arc
   pub free : set_of cuts r ≡ None
 
-pub at_turn : (b : Basin) (l : Layout) (month : Month) (supply want items : List ℕ) (k arc : ℕ) (c : Contents)
-    (cuts : CutSets) → IsValidBasin b → IsLayout b l → items ≡ l.roll.order → k < length items →
+pub at_turn : {b : Basin} {l : Layout} {month : Month} {supply want items : List ℕ} {k arc : ℕ} {c : Contents}
+    {cuts : CutSets} → IsValidBasin b → IsLayout b l → items ≡ l.roll.order → k < length items →
     arc ≡ get_or l.arcs.rights.items (slice_index items k) arc → AreWants b month want →
     IsStanding (spilled b) month supply want l.roll.order k c cuts →
     IsAtTurn b want l.roll.order k (slice_index items k) arc c cuts
-at_turn b l month supply want items k arc c cuts valid is same below at wants now =
-    let o = order_of_roll b l.roll valid is.is_roll in
+at_turn {b} {l} {month} {supply} {want} {items} {k} {arc} {c} {cuts} valid is same below at wants now =
+    let o = order_of_roll valid is.is_roll in
     let own = turn b l.roll.order items l.arcs o k arc is.are_arcs same below at in
     let kinds = spilled_kinds b (right_kind b valid) in
     let r : ℕ = slice_index items k in
@@ -92,11 +92,11 @@ at_turn b l month supply want items k arc c cuts valid is same below at wants no
           (let p = ap o.place own.is ∙ o.placed k own.below in omega arith);
     }
 
-pub turn_path_out : (b : Basin) (month : Month) (supply want order : List ℕ) (k r arc : ℕ) (c : Contents)
-    (cuts : CutSets) → IsValidBasin b → IsTurn b order k r arc → total (length b.nodes)
-    (λ v. slice_index supply v) < 4 * 10 ^ 13 → SpillsAreOf b Method.Searches c →
-    IsStanding (spilled b) month supply want order k c cuts → HasPathOut (network c) arc
-turn_path_out b month supply want order k r arc c cuts valid t bounded outlets now =
+pub turn_path_out : {b : Basin} {month : Month} {supply want order : List ℕ} {k r arc : ℕ} {c : Contents}
+    {cuts : CutSets} → IsValidBasin b → IsTurn b order k r arc → total (length b.nodes)
+    (λ v. slice_index supply v) < 4 * 10 ^ 13 → IsStanding (spilled b) month supply want order k c cuts →
+    SpillsAreOf b Method.Searches c → HasPathOut (network c) arc
+turn_path_out {b} {month} {supply} {want} {order} {k} {r} {arc} {c} {cuts} valid t bounded now outlets =
     subst (λ a. HasPathOut (network c) a) (sym t.arc_is)
     (path_out b month supply want (network c) r valid now.net (λ n l h. outlets n l ∙ ap (λ o. when o (10 ^ 15)) h)
     (omega arith) t.in_range (right_kind b valid r t.in_range))
@@ -115,9 +115,10 @@ pub within_all : (k n c before now : ℕ) → k ≤ n → now ≤ before + k * c
 within_all k n c before now l h = grind arith
 
 -- a right of the order is one
-pub turn_in_range : (b : Basin) (order items : List ℕ) (k : ℕ) → IsSeniorityOrder b.rights order → items ≡ order →
-    k < length items → slice_index items k < length b.rights
-turn_in_range b order items k o same l =
+pub turn_in_range : {b : Basin} {l : Layout} {items : List ℕ} {k : ℕ} → IsValidBasin b → IsLayout b l →
+    items ≡ l.roll.order → k < length items → slice_index items k < length b.rights
+turn_in_range {b} {l} {items} {k} valid is same below =
+    let o = order_of_roll valid is.is_roll in
     let n = ap length same in
     let at = ap (λ (xs : List ℕ). slice_index xs k) same in
     omega (arith, o.count, o.below k (let c = o.count in omega arith))

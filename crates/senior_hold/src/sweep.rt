@@ -1,8 +1,8 @@
 //! A month's rights, one after another, seniors first.
 //!
 //! By the tree, water stays where it rises: a month begins with nothing on the links and each node's supply on its
-//! spill. By searches a month goes on from a plan, and only outlets let water out. At the end what is left on the spills
-//! runs down the rivers. No delivery changes by that, as a tight cut bounds every plan.
+//! spill. By searches a month goes on from a plan, and only outlets let water out. What is left on the spills at the
+//! end runs down the rivers. No delivery changes by that, as a tight cut bounds every plan.
 ghost use Rattle.std.specs.Prelude.{◌≡◌, ◌⊎◌, ℕ, ◌+◌, ◌*◌, ◌^◌, ◌<◌, ◌≤◌, length, slice_index, None};
 ghost use Rattle.water_text.specs.Months.{IsMonth};
 ghost use Rattle.water_text.specs.declared.month.Month.{Month};
@@ -89,7 +89,7 @@ fn write_uppers(
     );
 }
 
-/// Starts a month with no arc held: by the tree with all supply spilled where it comes in, and by searches from the plan.
+/// Starts a month with no arc held: by the tree with all supply spilled where it comes in, by searches from the plan.
 /// The words that change may hold anything.
 fn begin<'r>(
     method: Method,

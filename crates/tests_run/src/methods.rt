@@ -1,11 +1,11 @@
 //! A month that ends by the tree, and one that ends by searches: the same deliveries and the same reach, and other
 //! flows.
 //!
-//! Forty springs of 1 each run into a fork. From there a canal, which the file lists first, and 65 rivers, one after the
-//! other, lead to the field of a user at the mouth: one too many to be a way round the canal. By the tree each spring is
-//! a push by itself, and water goes over the first link that leads on: the canal. So a month of one right needs 40
-//! pushes, and has a budget of 30: it is solved by searches, which begin with the run of the river, where all water goes
-//! over the rivers. With a second right, which wants nothing, there are 60 pushes.
+//! Forty springs of 1 each run into a fork. From there a canal, which the file lists first, and 65 rivers, one after
+//! the other, lead to the field of a user at the mouth: one too many to be a way round the canal. By the tree each
+//! spring is a push by itself, and water goes over the first link that leads on: the canal. So a month of one right
+//! needs 40 pushes, and has a budget of 30: the water of the last ten springs runs down the rivers to the mouth, and
+//! searches turn it to the user. With a second right, which wants nothing, there are 60 pushes.
 use basin_cli::Status;
 use std::alloc::Global;
 use std::test::Fail;

@@ -1,9 +1,10 @@
-use Rattle.std.proofs.Common.{◌≡◌, ◌⊎◌, ◌∙◌, ◌+◌, ◌*◌, true, false, length, slice_index, arith, refl, sym, ap, subst, inl, inr}
+use Rattle.std.proofs.Common.{◌≡◌, ◌⊎◌, ◌∙◌, ◌+◌, ◌*◌, true, false, length, slice_index, arith}
+use Rattle.std.proofs.Common.{refl, sym, ap, subst, inl, inr}
 use denote.Enum.Bare.{sameb}
 use Rattle.senior_hold.specs.declared.sweep.Method.{Method}
 use Rattle.senior_hold.specs.declared.tree_raises.Turn.{Turn}
 use Rattle.senior_hold.specs.contracts.tree_raises.Turn.{the_type}
-use Rattle.circulation.specs.Contents.{Contents, network, flow_of}
+use Rattle.circulation.specs.Contents.{Contents, network}
 use Rattle.augment.specs.Raised.{open_arcs}
 use Rattle.senior_hold.specs.MonthNetwork.{arc_count, spill_arc}
 use Rattle.senior_hold.specs.Spilled.{spilled, IsSpilledStart, SpillsAreOf}
@@ -34,21 +35,19 @@ apart t h i = let both : Turn.GaveUp ≡ Turn.Served = sym h ∙ i in cc (both)
 
 pub overflow_cast-left : goal.overflow_cast-left
 overflow_cast-left g c =
-    let o = order_of_roll c.args.basin.now c.args.layout.now.roll c.requires.valid c.requires.layout.is_roll in
+    let o = order_of_roll c.requires.valid c.requires.layout.is_roll in
     omega (arith, ap length c.by_seniority-order.ensures, o.count, c.requires.valid.bounded.rights)
 
 pub overflow_mul-left : goal.overflow_mul-left
 overflow_mul-left g c =
-    let o = order_of_roll c.args.basin.now c.args.layout.now.roll c.requires.valid c.requires.layout.is_roll in
+    let o = order_of_roll c.requires.valid c.requires.layout.is_roll in
     omega (arith, ap length c.by_seniority-order.ensures, o.count, c.requires.valid.bounded.rights)
 
 pub loop-turn-init : goal.loop-turn-init
 loop-turn-init g c =
-    let o = order_of_roll c.args.basin.now c.args.layout.now.roll c.requires.valid c.requires.layout.is_roll in
+    let o = order_of_roll c.requires.valid c.requires.layout.is_roll in
     record {
-      standing = standing_begun c.args.basin.now c.args.method c.args.month c.args.supply.now c.args.want.now
-          c.args.layout.now.roll.order c.begin-circ.result c.args.plan.now c.args.cuts.now c.begin-circ.ensures.begun
-          c.requires.given;
+      standing = standing_begun c.begin-circ.ensures.begun c.requires.given;
       tree = λ h. c.plant-tree.ensures;
       first = λ e. refl;
       cost = λ h. omega (arith, ap length c.by_seniority-order.ensures, o.count);
@@ -61,17 +60,13 @@ loop-turn-init g c =
 
 pub index-arc-requires : goal.index-arc-requires
 index-arc-requires g c =
-    let o = order_of_roll c.args.basin.now c.args.layout.now.roll c.requires.valid c.requires.layout.is_roll in
-    let inside = turn_in_range c.args.basin.now c.args.layout.now.roll.order c.by_seniority-order.result.now
-    c.loop-turn.turn o c.by_seniority-order.ensures c.loop-turn-test.true in
+    let inside = turn_in_range c.requires.valid c.requires.layout c.by_seniority-order.ensures c.loop-turn-test.true in
     omega (arith, inside, c.requires.layout.are_arcs.right_count, c.args.layout.now.arcs.rights.ok.0)
 
 pub exit_of-exit-requires-clause-arc : goal.exit_of-exit-requires-clause-arc
 exit_of-exit-requires-clause-arc g c =
-    let t = at_turn c.args.basin.now c.args.layout.now c.args.month c.args.supply.now c.args.want.now
-    c.by_seniority-order.result.now c.loop-turn.turn c.index-arc.result.now c.loop-turn.circ c.loop-turn.cuts
-    c.requires.valid c.requires.layout c.by_seniority-order.ensures c.loop-turn-test.true c.index-arc.ensures
-    c.requires.given.wants c.loop-turn.invariant.standing in
+    let t = at_turn c.requires.valid c.requires.layout c.by_seniority-order.ensures c.loop-turn-test.true
+    c.index-arc.ensures c.requires.given.wants c.loop-turn.invariant.standing in
     t.arc_in
 
 pub exit_of-exit-requires-clause-spills : goal.exit_of-exit-requires-clause-spills
@@ -81,67 +76,50 @@ exit_of-exit-requires-clause-spills g c =
 
 pub bounds-want-place : goal.bounds-want-place
 bounds-want-place g c =
-    let t = at_turn c.args.basin.now c.args.layout.now c.args.month c.args.supply.now c.args.want.now
-    c.by_seniority-order.result.now c.loop-turn.turn c.index-arc.result.now c.loop-turn.circ c.loop-turn.cuts
-    c.requires.valid c.requires.layout c.by_seniority-order.ensures c.loop-turn-test.true c.index-arc.ensures
-    c.requires.given.wants c.loop-turn.invariant.standing in
+    let t = at_turn c.requires.valid c.requires.layout c.by_seniority-order.ensures c.loop-turn-test.true
+    c.index-arc.ensures c.requires.given.wants c.loop-turn.invariant.standing in
     omega (arith, t.own.in_range, c.requires.given.wants.count)
 
 pub serve_by-turn-requires-clause-arc : goal.serve_by-turn-requires-clause-arc
 serve_by-turn-requires-clause-arc g c =
-    let t = at_turn c.args.basin.now c.args.layout.now c.args.month c.args.supply.now c.args.want.now
-    c.by_seniority-order.result.now c.loop-turn.turn c.index-arc.result.now c.loop-turn.circ c.loop-turn.cuts
-    c.requires.valid c.requires.layout c.by_seniority-order.ensures c.loop-turn-test.true c.index-arc.ensures
-    c.requires.given.wants c.loop-turn.invariant.standing in
+    let t = at_turn c.requires.valid c.requires.layout c.by_seniority-order.ensures c.loop-turn-test.true
+    c.index-arc.ensures c.requires.given.wants c.loop-turn.invariant.standing in
     t.arc_in
 
 pub serve_by-turn-requires-clause-want : goal.serve_by-turn-requires-clause-want
 serve_by-turn-requires-clause-want g c =
-    let t = at_turn c.args.basin.now c.args.layout.now c.args.month c.args.supply.now c.args.want.now
-    c.by_seniority-order.result.now c.loop-turn.turn c.index-arc.result.now c.loop-turn.circ c.loop-turn.cuts
-    c.requires.valid c.requires.layout c.by_seniority-order.ensures c.loop-turn-test.true c.index-arc.ensures
-    c.requires.given.wants c.loop-turn.invariant.standing in
+    let t = at_turn c.requires.valid c.requires.layout c.by_seniority-order.ensures c.loop-turn-test.true
+    c.index-arc.ensures c.requires.given.wants c.loop-turn.invariant.standing in
     t.fits
 
 pub serve_by-turn-requires-clause-path_out : goal.serve_by-turn-requires-clause-path_out
 serve_by-turn-requires-clause-path_out g c = λ h.
-    let t = at_turn c.args.basin.now c.args.layout.now c.args.month c.args.supply.now c.args.want.now
-    c.by_seniority-order.result.now c.loop-turn.turn c.index-arc.result.now c.loop-turn.circ c.loop-turn.cuts
-    c.requires.valid c.requires.layout c.by_seniority-order.ensures c.loop-turn-test.true c.index-arc.ensures
-    c.requires.given.wants c.loop-turn.invariant.standing in
-    turn_path_out c.args.basin.now c.args.month c.args.supply.now c.args.want.now _ c.loop-turn.turn _
-    c.index-arc.result.now c.loop-turn.circ c.loop-turn.cuts c.requires.valid t.own c.requires.given.supplies.small
-    (subst (λ m. SpillsAreOf c.args.basin.now m c.loop-turn.circ) h c.loop-turn.invariant.spills) c.loop-turn.invariant.standing
+    let t = at_turn c.requires.valid c.requires.layout c.by_seniority-order.ensures c.loop-turn-test.true
+    c.index-arc.ensures c.requires.given.wants c.loop-turn.invariant.standing in
+    turn_path_out c.requires.valid t.own c.requires.given.supplies.small c.loop-turn.invariant.standing
+    (subst (λ m. SpillsAreOf c.args.basin.now m c.loop-turn.circ) h c.loop-turn.invariant.spills)
 
 pub serve_by-turn-requires-clause-right : goal.serve_by-turn-requires-clause-right
 serve_by-turn-requires-clause-right g c =
-    let t = at_turn c.args.basin.now c.args.layout.now c.args.month c.args.supply.now c.args.want.now
-    c.by_seniority-order.result.now c.loop-turn.turn c.index-arc.result.now c.loop-turn.circ c.loop-turn.cuts
-    c.requires.valid c.requires.layout c.by_seniority-order.ensures c.loop-turn-test.true c.index-arc.ensures
-    c.requires.given.wants c.loop-turn.invariant.standing in
+    let t = at_turn c.requires.valid c.requires.layout c.by_seniority-order.ensures c.loop-turn-test.true
+    c.index-arc.ensures c.requires.given.wants c.loop-turn.invariant.standing in
     omega (arith, t.own.in_range, c.loop-turn.invariant.standing.cut_rights)
 
 pub serve_by-turn-requires-clause-free : goal.serve_by-turn-requires-clause-free
 serve_by-turn-requires-clause-free g c =
-    let t = at_turn c.args.basin.now c.args.layout.now c.args.month c.args.supply.now c.args.want.now
-    c.by_seniority-order.result.now c.loop-turn.turn c.index-arc.result.now c.loop-turn.circ c.loop-turn.cuts
-    c.requires.valid c.requires.layout c.by_seniority-order.ensures c.loop-turn-test.true c.index-arc.ensures
-    c.requires.given.wants c.loop-turn.invariant.standing in
+    let t = at_turn c.requires.valid c.requires.layout c.by_seniority-order.ensures c.loop-turn-test.true
+    c.index-arc.ensures c.requires.given.wants c.loop-turn.invariant.standing in
     t.free
 
 pub loop-turn-preserved : goal.loop-turn-preserved
 loop-turn-preserved g c =
-    let t = at_turn c.args.basin.now c.args.layout.now c.args.month c.args.supply.now c.args.want.now
-    c.by_seniority-order.result.now c.loop-turn.turn c.index-arc.result.now c.loop-turn.circ c.loop-turn.cuts
-    c.requires.valid c.requires.layout c.by_seniority-order.ensures c.loop-turn-test.true c.index-arc.ensures
-    c.requires.given.wants c.loop-turn.invariant.standing in
+    let t = at_turn c.requires.valid c.requires.layout c.by_seniority-order.ensures c.loop-turn-test.true
+    c.index-arc.ensures c.requires.given.wants c.loop-turn.invariant.standing in
     let inv = c.loop-turn.invariant in
     let done = c.serve_by-turn.ensures in
     let is = served c.serve_by-turn.result (sym c.eq.ensures ∙ c.if-eq.false) in
     record {
-      standing = standing_next (spilled c.args.basin.now) c.args.month c.args.supply.now c.args.want.now
-          c.args.layout.now.roll.order c.loop-turn.turn _ c.index-arc.result.now _ c.loop-turn.circ
-          c.serve_by-turn.new.circ c.loop-turn.cuts c.serve_by-turn.new.cuts t.kinds t.own.below t.own.is t.order_is
+      standing = standing_next t.kinds t.own.below t.own.is t.order_is
           inv.standing t.own.arc_is refl (done.served is) done.kept;
       tree = λ h. done.tree h is;
       first = λ e. absurd (omega arith);
@@ -150,13 +128,13 @@ loop-turn-preserved g c =
           ∙ inv.spills n l;
       used = λ h. elim (done.used h) [
         | inl each ↦ omega (arith, each, inv.used h)
-        | inr fills ↦ absurd (never_full c.args.basin.now c.args.month c.args.supply.now c.args.want.now
-            c.loop-turn.circ c.index-arc.result.now c.exit_of-exit.result c.args.layout.now.arcs.spill c.requires.valid
-            c.requires.given.supplies inv.standing.net (subst (λ m. SpillsAreOf c.args.basin.now m c.loop-turn.circ) h inv.spills) c.requires.layout.are_arcs.spill
-            c.exit_of-exit.ensures.first c.exit_of-exit.ensures.spill fills)
+        | inr fills ↦ absurd (never_full fills c.requires.valid c.requires.given.supplies inv.standing.net
+            (subst (λ m. SpillsAreOf c.args.basin.now m c.loop-turn.circ) h inv.spills)
+            c.requires.layout.are_arcs.spill c.exit_of-exit.ensures.first c.exit_of-exit.ensures.spill)
       ];
       search_cost = λ h. one_more (arc_count c.args.basin.now) (open_arcs (network c.loop-turn.circ)) c.loop-turn.turn
-          _ _ _ (open_bounded c.args.basin.now c.loop-turn.circ inv.standing.net.ends (subst (λ m. SpillsAreOf c.args.basin.now m c.loop-turn.circ) h inv.spills))
+          _ _ _ (open_bounded c.args.basin.now c.loop-turn.circ inv.standing.net.ends
+          (subst (λ m. SpillsAreOf c.args.basin.now m c.loop-turn.circ) h inv.spills))
           (inv.search_cost h) (done.search_cost h);
       room = inv.room;
       plan = inv.plan;
@@ -164,35 +142,30 @@ loop-turn-preserved g c =
 
 pub settle_plan-requires-clause-small : goal.settle_plan-requires-clause-small
 settle_plan-requires-clause-small g c =
-    let net = raised_net (spilled c.args.basin.now) c.args.month c.args.supply.now c.args.want.now c.loop-turn.circ
-    c.serve_by-turn.new.circ c.index-arc.result.now
+    let net = raised_net
     (c.serve_by-turn.ensures.raised (gave_up c.serve_by-turn.result (sym c.eq.ensures ∙ c.if-eq.true)))
     c.loop-turn.invariant.standing.net in
-    spills_bounded c.args.basin.now c.args.month c.args.supply.now c.args.want.now (network c.serve_by-turn.new.circ)
-    (flow_of c.serve_by-turn.new.circ) c.requires.valid net c.serve_by-turn.ensures.kept.flow
+    spills_bounded c.requires.valid net c.serve_by-turn.ensures.kept.flow
     (let bounded = c.requires.given.supplies.small in omega arith)
 
 pub settle_plan-requires-clause-ends : goal.settle_plan-requires-clause-ends
 settle_plan-requires-clause-ends g c =
-    let net = raised_net (spilled c.args.basin.now) c.args.month c.args.supply.now c.args.want.now c.loop-turn.circ
-    c.serve_by-turn.new.circ c.index-arc.result.now
+    let net = raised_net
     (c.serve_by-turn.ensures.raised (gave_up c.serve_by-turn.result (sym c.eq.ensures ∙ c.if-eq.true)))
     c.loop-turn.invariant.standing.net in
     net.ends
 
 pub returns-then-eq-clause-plan : goal.returns-then-eq-clause-plan
 returns-then-eq-clause-plan g c =
-    let net = raised_net (spilled c.args.basin.now) c.args.month c.args.supply.now c.args.want.now c.loop-turn.circ
-    c.serve_by-turn.new.circ c.index-arc.result.now
+    let net = raised_net
     (c.serve_by-turn.ensures.raised (gave_up c.serve_by-turn.result (sym c.eq.ensures ∙ c.if-eq.true)))
     c.loop-turn.invariant.standing.net in
-    settled_plan c.args.basin.now c.args.month c.args.supply.now c.args.want.now (network c.serve_by-turn.new.circ)
-    (flow_of c.serve_by-turn.new.circ) c.settle_plan.new.plan c.requires.valid net c.serve_by-turn.ensures.kept.flow
+    settled_plan c.requires.valid net c.serve_by-turn.ensures.kept.flow
     (let bounded = c.requires.given.supplies.small in omega arith) c.settle_plan.ensures.settled
 
 pub returns-then-eq-clause-gave_up : goal.returns-then-eq-clause-gave_up
 returns-then-eq-clause-gave_up g c = λ _.
-    let o = order_of_roll c.args.basin.now c.args.layout.now.roll c.requires.valid c.requires.layout.is_roll in
+    let o = order_of_roll c.requires.valid c.requires.layout.is_roll in
     let inv = c.loop-turn.invariant in
     let is = gave_up c.serve_by-turn.result (sym c.eq.ensures ∙ c.if-eq.true) in
     elim (cases c.args.method) [
@@ -206,10 +179,9 @@ returns-then-eq-clause-gave_up g c = λ _.
           ap length c.by_seniority-order.ensures,
           o.count,
         )
-        | inr fills ↦ absurd (never_full c.args.basin.now c.args.month c.args.supply.now c.args.want.now
-            c.loop-turn.circ c.index-arc.result.now c.exit_of-exit.result c.args.layout.now.arcs.spill c.requires.valid
-            c.requires.given.supplies inv.standing.net (subst (λ m. SpillsAreOf c.args.basin.now m c.loop-turn.circ) h inv.spills) c.requires.layout.are_arcs.spill
-            c.exit_of-exit.ensures.first c.exit_of-exit.ensures.spill fills)
+        | inr fills ↦ absurd (never_full fills c.requires.valid c.requires.given.supplies inv.standing.net
+            (subst (λ m. SpillsAreOf c.args.basin.now m c.loop-turn.circ) h inv.spills)
+            c.requires.layout.are_arcs.spill c.exit_of-exit.ensures.first c.exit_of-exit.ensures.spill)
       ]
     ]
 
@@ -219,15 +191,14 @@ returns-then-eq-clause-searched g c = λ h. absurd (apart c.serve_by-turn.result
 
 pub settle_plan-requires-2-clause-small : goal.settle_plan-requires-2-clause-small
 settle_plan-requires-2-clause-small g c =
-    let o = order_of_roll c.args.basin.now c.args.layout.now.roll c.requires.valid c.requires.layout.is_roll in
-    spills_bounded c.args.basin.now c.args.month c.args.supply.now c.args.want.now (network c.loop-turn.circ)
-    (flow_of c.loop-turn.circ) c.requires.valid c.loop-turn.invariant.standing.net
+    let o = order_of_roll c.requires.valid c.requires.layout.is_roll in
+    spills_bounded c.requires.valid c.loop-turn.invariant.standing.net
     (c.loop-turn.invariant.standing.swept o).flow (let bounded = c.requires.given.supplies.small in omega arith)
 
 pub returns-clause-solved : goal.returns-clause-solved
 returns-clause-solved g c =
     let b = c.args.basin.now in
-    let o = order_of_roll b c.args.layout.now.roll c.requires.valid c.requires.layout.is_roll in
+    let o = order_of_roll c.requires.valid c.requires.layout.is_roll in
     let inv = c.loop-turn.invariant in
     let all : c.loop-turn.turn ≡ length b.rights =
     omega (
@@ -237,8 +208,7 @@ returns-clause-solved g c =
       ap length c.by_seniority-order.ensures,
       o.count,
     ) in
-    λ _. sweep_solved b c.args.month c.args.supply.now c.args.want.now c.args.layout.now.roll.order c.loop-turn.circ
-    c.loop-turn.cuts c.settle_plan-2.new.plan c.requires.valid o
+    λ _. sweep_solved c.requires.valid o
     (let bounded = c.requires.given.supplies.small in omega arith)
     (subst (λ n. IsStanding (spilled b) c.args.month c.args.supply.now c.args.want.now c.args.layout.now.roll.order n
     c.loop-turn.circ c.loop-turn.cuts) all inv.standing) c.settle_plan-2.ensures.settled
@@ -250,15 +220,14 @@ returns-clause-solved g c =
 
 pub returns-clause-plan : goal.returns-clause-plan
 returns-clause-plan g c =
-    let o = order_of_roll c.args.basin.now c.args.layout.now.roll c.requires.valid c.requires.layout.is_roll in
-    settled_plan c.args.basin.now c.args.month c.args.supply.now c.args.want.now (network c.loop-turn.circ)
-    (flow_of c.loop-turn.circ) c.settle_plan-2.new.plan c.requires.valid c.loop-turn.invariant.standing.net
+    let o = order_of_roll c.requires.valid c.requires.layout.is_roll in
+    settled_plan c.requires.valid c.loop-turn.invariant.standing.net
     (c.loop-turn.invariant.standing.swept o).flow (let bounded = c.requires.given.supplies.small in omega arith)
     c.settle_plan-2.ensures.settled
 
 pub returns-clause-search_pushes : goal.returns-clause-search_pushes
 returns-clause-search_pushes g c = λ h.
-    let o = order_of_roll c.args.basin.now c.args.layout.now.roll c.requires.valid c.requires.layout.is_roll in
+    let o = order_of_roll c.requires.valid c.requires.layout.is_roll in
     within_all c.loop-turn.turn (length c.args.basin.now.rights) (30 * (2 * arc_count c.args.basin.now + 1)) _ _
     (omega (arith, c.loop-turn.auto.turn-end, c.loop-turn-test.false, ap length c.by_seniority-order.ensures, o.count))
     (c.loop-turn.invariant.search_cost h)
