@@ -11,13 +11,13 @@ use Rattle.basin_cli.specs.declared.ending.File.TheVariants as file
 use Rattle.basin_cli.specs.declared.ending.SecondFinding.TheVariants as of_second
 use Rattle.basin_cli.specs.Bytes.{IsTooLong, KnownFiles, file_limit, known_series}
 use Rattle.basin_cli.specs.Command.{Files}
-use Rattle.basin_cli.specs.Comparison.{HaveSameMonths, IsGoodSecond, StopsComparing, AfterFirst, AfterBoth}
+use Rattle.basin_cli.specs.Comparison.{HaveSameMonths, StopsComparing, AfterFirst, AfterBoth}
 use Rattle.basin_cli.specs.Comparison.{ComparisonWrites}
 use Rattle.basin_cli.specs.Ending.{status_of}
 use Rattle.basin_cli.specs.Out.{MayWrite}
 use Rattle.basin_cli.specs.Pairs.{BothSeriesEnd, BothSeriesReadEnd, IsOtherRun}
 use Rattle.basin_cli.specs.Series.{IsBasinText}
-use Rattle.basin_cli.proofs.Known.{of_any}
+use Rattle.basin_cli.proofs.Known.{good_second, of_any}
 
 -- bytes that were read are refused as they are
 both_read : (first second : Basin) (bytes : List ℕ) (name : Option (List ℕ)) (read : Type 0) (how : Ending) →
@@ -62,18 +62,6 @@ module _ (files : Files) (second : List ℕ) (known : KnownFiles) (read : Type 0
         IfSome_then (known files.basin) first_text
         (λ bytes is. (is.good, IfSome_then (known second) second_text (λ other also. f bytes other is also)))
 
-    good_second : HaveSameMonths b c → AfterFirst known files second IsGoodSecond
-    good_second same = both_known IsGoodSecond (λ bytes other text other_text. record {
-      good = other_text.good;
-      one_run = record {
-        first = b;
-        second = c;
-        first_spelled = text.spelled;
-        second_spelled = other_text.spelled;
-        same = same;
-      };
-    })
-
     pub other_run : (how : Ending) → IsOtherRun b c how → StopsComparing files second how known read
     other_run how is =
         subst (λ how. StopsComparing files second how known read) (sym is.0)
@@ -94,16 +82,7 @@ module _ (files : Files) (second : List ℕ) (known : KnownFiles) (read : Type 0
         AfterBoth known files second Q
     after_both Q S same h f =
         both_known _ (λ bytes other text other_text. (
-          record {
-            good = other_text.good;
-            one_run = record {
-              first = b;
-              second = c;
-              first_spelled = text.spelled;
-              second_spelled = other_text.spelled;
-              same = same;
-            };
-          },
+          good_second bytes other b c same text other_text,
           IfSome_then (known_series known files.series) h (λ series is. f bytes other series text other_text is),
         ))
 
@@ -124,7 +103,8 @@ module _ (files : Files) (second : List ℕ) (known : KnownFiles) (read : Type 0
           record { basin = b; spelled = text.spelled; within = is.0; sound = is.1.0 },
           record { basin = c; spelled = other_text.spelled; within = is.0; first = is.1.1 },
         ))
-    series_stops (ending.ReadFault file.Series) same h = (h.0, h.1, good_second same)
+    series_stops (ending.ReadFault file.Series) same h =
+        (h.0, h.1, both_known _ (λ bytes other. good_second bytes other b c same))
     series_stops (ending.InputTooLong file.Series) same h = after_both _ IsTooLong same h (λ _ _ _ _ _ is. is)
     series_stops ending.OutOfMemory same h = tt
     series_stops how same h = absurd h

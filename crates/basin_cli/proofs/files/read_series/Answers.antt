@@ -17,10 +17,8 @@ returns-in-None-clause-reads g c = rw c.in-None.is (asks_none (g.S.Shelf.asked c
 
 pub returns-in_ok-text-in-Some-clause-reads : goal.returns-in_ok-text-in-Some-clause-reads
 returns-in_ok-text-in-Some-clause-reads g c =
-    rw c.in-Some.is (asks_one (g.S.Shelf.asked c.args.shelf.now) (g.S.Shelf.asked c.read_file.new.shelf)
-    c.in-Some.name.now c.read_file.ensures.asked)
+    rw c.in-Some.is (asks_one _ _ _ c.read_file.ensures.asked)
 
 pub returns-in_err-text-in-Some-clause-reads : goal.returns-in_err-text-in-Some-clause-reads
 returns-in_err-text-in-Some-clause-reads g c =
-    rw c.in-Some.is (asks_one (g.S.Shelf.asked c.args.shelf.now) (g.S.Shelf.asked c.read_file.new.shelf)
-    c.in-Some.name.now c.read_file.ensures.asked)
+    rw c.in-Some.is (asks_one _ _ _ c.read_file.ensures.asked)

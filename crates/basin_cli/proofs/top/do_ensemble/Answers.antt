@@ -20,8 +20,7 @@ returns g c =
           gathering_cause known files b series c.in-Ok.ensures.fits c.in-Ok.ensures.loaded how _ _
           c.in-Ok.ensures.whole c.ensemble_basin.ensures.ends;
       asked =
-          solving_stops (files_to (ensemble files)) (g.S.Shelf.asked c.args.shelf.now)
-          (g.S.Shelf.asked c.read_record.new.shelf) how _ c.ensemble_basin.ensures.ends;
+          solving_stops (files_to (ensemble files)) _ _ how _ c.ensemble_basin.ensures.ends;
       can_be_printed = search rules;
       writes =
           gathering_writes known files b series c.in-Ok.ensures.fits c.in-Ok.ensures.loaded how _ _

@@ -20,12 +20,11 @@ returns g c =
           solving_cause known files b series c.in-Ok.ensures.fits c.in-Ok.ensures.loaded how _ _
           c.report_basin.ensures.ends;
       asked =
-          solving_stops (files_to (report files)) (g.S.Shelf.asked c.args.shelf.now)
-          (g.S.Shelf.asked c.read_inputs.new.shelf) how _ c.report_basin.ensures.ends;
+          solving_stops (files_to (report files)) _ _ how _ c.report_basin.ensures.ends;
       can_be_printed = solving_prints how _ c.report_basin.ensures.ends;
       writes =
-          report_writes known files b series c.in-Ok.ensures.fits c.in-Ok.ensures.loaded how
-          (g.K.Sink.output c.args.out.now) (g.K.Sink.output c.report_basin.new.out) c.report_basin.ensures.leaves;
+          report_writes known files b series c.in-Ok.ensures.fits c.in-Ok.ensures.loaded how _ _
+          c.report_basin.ensures.leaves;
       out_stays = c.report_basin.ensures.out_stays;
       flushed = c.report_basin.ensures.flushed;
       shown = tt;

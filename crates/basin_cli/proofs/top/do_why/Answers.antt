@@ -22,8 +22,7 @@ returns g c =
           asking_cause known files b series c.in-Ok.ensures.fits c.in-Ok.ensures.loaded c.args.month right how _ _
           c.in-Ok.ensures.valid (rw c.as_bytes.ensures.value at c.explain_right.ensures.ends);
       asked =
-          asking_stops (files_to (why c.args.account files c.args.month right)) (g.S.Shelf.asked c.args.shelf.now)
-          (g.S.Shelf.asked c.read_inputs.new.shelf) b series c.args.month right how _
+          asking_stops (files_to (why c.args.account files c.args.month right)) _ _ b series c.args.month right how _
           (rw c.as_bytes.ensures.value at c.explain_right.ensures.ends);
       can_be_printed = search rules;
       writes =
