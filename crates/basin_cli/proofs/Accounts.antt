@@ -1,7 +1,6 @@
--- After the files of `why`: the cause of how it ends, and what it leaves on out.
+-- After the files of `why`: the cause of how it ends.
 use Rattle.std.proofs.Common.{◌≡◌, ℕ, ◌≤◌, sym, ◌∙◌, subst, arith, List, [], ◌∷◌, length-append}
 use Rattle.std.specs.Prelude.{slice_index}
-use Rattle.water_edge.specs.Edge.{Output}
 use Rattle.basin_file.specs.BasinFaults.{Spells}
 use Rattle.edit_script.specs.declared.refused.ScriptFault.TheVariants as script
 use Rattle.inflow_file.specs.SeriesFaults.{SpellsSeries}
@@ -10,21 +9,17 @@ use Rattle.water_model.specs.Valid.{IsValidBasin, IsSeriesOf}
 use Rattle.water_model.specs.declared.types.Basin.{Basin}
 use Rattle.water_model.specs.declared.types.Inflows.{Inflows}
 use Rattle.water_model.specs.declared.types.MonthRecord.{MonthRecord}
-use Rattle.basin_cli.specs.declared.explaining.Account.{Account}
 use Rattle.basin_cli.specs.declared.ending.Ending.{Ending}
 use Rattle.basin_cli.specs.declared.ending.Ending.TheVariants as ending
-use Rattle.basin_cli.specs.Actions.{EndsAsking, IsAnswered}
+use Rattle.basin_cli.specs.Actions.{EndsAsking}
 use Rattle.basin_cli.specs.Command.{Files}
-use Rattle.basin_cli.specs.Ending.{status_of}
 use Rattle.basin_cli.specs.Explained.{HasMonth, HasRight, IsAbout}
 use Rattle.basin_cli.specs.Bytes.{AreSpelled, KnownFiles}
-use Rattle.basin_cli.specs.Out.{MayWrite}
-use Rattle.basin_cli.specs.Outcome.{HasExplainingCause, IsAsked, IsShortIn, WritesBook}
-use Rattle.basin_cli.specs.Reading.{OfBoth}
+use Rattle.basin_cli.specs.Outcome.{HasExplainingCause, IsAsked, IsShortIn}
 use Rattle.basin_cli.specs.Series.{AreLoaded}
 use Rattle.water_model.proofs.Histories.{last_follows}
 use Rattle.basin_cli.proofs.Explained.{one_answer}
-use Rattle.basin_cli.proofs.Known.{after, of_both}
+use Rattle.basin_cli.proofs.Known.{after}
 use Rattle.basin_cli.proofs.OneSeries.{one_basin, one_series, same_partial}
 
 -- After the files.
@@ -104,22 +99,3 @@ module _ (known : KnownFiles) (files : Files) (b : Basin) (series : Inflows) (fi
   )
   asking_cause ending.OutOfMemory read write valid ends = tt
   asking_cause other read write valid ends = absurd ends
-
-  -- what is left on out
-  pub asking_writes : (asked : Account) (how : Ending) (old new : Output) →
-      (MayWrite (status_of how) → IsAnswered asked b series month name how old new) →
-      OfBoth known files
-      (λ bytes s. MayWrite (status_of how) → WritesBook asked (status_of how) month name bytes s old new)
-  asking_writes asked how old new answers = of_both known files b series fits loaded _ (λ bytes s spelled may.
-      let answer = answers may in
-      record {
-        basin = b;
-        series = series;
-        spelled = spelled;
-        right = answer.right;
-        last = answer.last;
-        about = answer.about;
-        text = answer.text;
-        explains = answer.explains;
-        written = answer.written;
-      })

@@ -129,9 +129,9 @@ module _ (known : KnownFiles) (files : Files) (b : Basin) (series : Inflows) (fi
             LeavesScript status b series text old new → EditLeaves status bytes s text old new
         by_status its.OutOfMemory bytes s spelled (inl same) = inl same
         by_status its.OutOfMemory bytes s spelled (inr shows) =
-            inr (record { basin = b; series = series; spelled = spelled; shows = shows })
+            inr (record { basin = b; series = series; spelled = spelled; holds = shows })
         by_status other bytes s spelled left =
-            λ may. record { basin = b; series = series; spelled = spelled; shows = left may }
+            λ may. record { basin = b; series = series; spelled = spelled; holds = left may }
 
     -- and the months that were solved
     pub editing_solves : (before now : WorkDone) → WorkOfScript b series text before now →

@@ -203,4 +203,4 @@ module _ (known : KnownFiles) (files : Files) (b : Basin) (series : Inflows) (va
       (λ bytes s. IfSome (known result) (λ text. MayWrite status → WritesAnswer asked status bytes s text old new))
   checking_writes status old new leaves = of_both known files b series fits loaded _ (λ bytes s spelled.
       IfSome_then (known result) leaves (λ text left may.
-      record { basin = b; series = series; spelled = spelled; written = left may }))
+      record { basin = b; series = series; spelled = spelled; holds = left may }))

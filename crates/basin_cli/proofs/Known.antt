@@ -10,7 +10,7 @@ use Rattle.water_model.specs.Valid.{IsValidBasin, IsSeriesOf}
 use Rattle.water_model.specs.declared.types.Basin.{Basin}
 use Rattle.water_model.specs.declared.types.Inflows.{Inflows}
 use Rattle.water_model.specs.declared.types.MonthRecord.{MonthRecord}
-use Rattle.basin_cli.specs.Bytes.{AreSpelled, IsGoodSeries, KnownFiles, known_series}
+use Rattle.basin_cli.specs.Bytes.{AreSpelled, IsGoodSeries, KnownFiles, OfSpelled, known_series}
 use Rattle.basin_cli.specs.Command.{Files}
 use Rattle.basin_cli.specs.Comparison.{HaveSameMonths, IsGoodSecond}
 use Rattle.basin_cli.specs.Reading.{AfterBasin, AreAccepted, OfBoth}
@@ -85,6 +85,12 @@ module _ (known : KnownFiles) (files : Files) (b : Basin) (series : Inflows) (fi
   of_both P holds = IfSome_then (known files.basin) loaded.from_basin (λ bytes text.
       IfSome_then (known_series known files.series) loaded.from_series (λ s table.
       holds bytes s (spelled_by bytes s b series fits text table)))
+
+  -- and what is so of them both, where it is allowed
+  pub writes : (P : Basin → Inflows → Type 0) (may : Type 0) → (may → P b series) →
+      OfBoth known files (λ bytes s. may → OfSpelled bytes s P)
+  writes P may h = of_both _
+      (λ bytes s spelled allowed. record { basin = b; series = series; spelled = spelled; holds = h allowed })
 
   -- and both are good
   pub after : (P : List ℕ → List ℕ → Type 0) → ((bytes s : List ℕ) → AreSpelled bytes s b series → P bytes s) →

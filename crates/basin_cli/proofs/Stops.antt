@@ -1,38 +1,22 @@
 -- How the reading of a comparison's files ends.
-use Rattle.std.proofs.Common.{◌≡◌, refl, sym, subst, ℕ, ◌≤◌, List, Option, Some, None, length, arith}
+use Rattle.std.proofs.Common.{◌≡◌, refl, sym, subst, ℕ, ◌≤◌, List, Option, Some, None, arith}
 use Rattle.std.proofs.lemmas.Option.{IfSome_then}
-use Rattle.std.specs.Prelude.{IfSome, IfErr, Result, Ok, Err}
+use Rattle.std.specs.Prelude.{IfSome}
 use Rattle.water_edge.specs.Edge.{Output, Rose}
 use Rattle.water_model.specs.declared.types.Basin.{Basin}
-use Rattle.water_model.specs.declared.types.Inflows.{Inflows}
 use Rattle.basin_cli.specs.declared.ending.Ending.{Ending}
 use Rattle.basin_cli.specs.declared.ending.Ending.TheVariants as ending
 use Rattle.basin_cli.specs.declared.ending.File.TheVariants as file
 use Rattle.basin_cli.specs.declared.ending.SecondFinding.TheVariants as of_second
-use Rattle.basin_cli.specs.Bytes.{IsTooLong, KnownFiles, file_limit, known_series}
+use Rattle.basin_cli.specs.Bytes.{IsTooLong, KnownFiles, known_series}
 use Rattle.basin_cli.specs.Command.{Files}
 use Rattle.basin_cli.specs.Comparison.{HaveSameMonths, StopsComparing, AfterFirst, AfterBoth}
 use Rattle.basin_cli.specs.Comparison.{ComparisonWrites}
 use Rattle.basin_cli.specs.Ending.{status_of}
 use Rattle.basin_cli.specs.Out.{MayWrite}
-use Rattle.basin_cli.specs.Pairs.{BothSeriesEnd, BothSeriesReadEnd, IsOtherRun}
+use Rattle.basin_cli.specs.Pairs.{BothSeriesReadEnd, IsOtherRun}
 use Rattle.basin_cli.specs.Series.{IsBasinText}
 use Rattle.basin_cli.proofs.Known.{good_second, of_any}
-
--- bytes that were read are refused as they are
-both_read : (first second : Basin) (bytes : List ℕ) (name : Option (List ℕ)) (read : Type 0) (how : Ending) →
-    length bytes ≤ file_limit →
-    BothSeriesEnd first second bytes how → BothSeriesReadEnd first second name (Some bytes) read how
-both_read first second bytes name read (ending.SeriesRefused finding) within h = (within, h)
-both_read first second bytes name read (ending.SecondRefused (of_second.Series finding)) within h = (within, h)
-both_read first second bytes name read ending.OutOfMemory within h = tt
-both_read first second bytes name read how within h = absurd h
-
-pub both_read_result : (first second : Basin) (bytes : List ℕ) (name : Option (List ℕ)) (read : Type 0)
-    (r : Result (Inflows × Inflows) Ending) → length bytes ≤ file_limit →
-    IfErr r (BothSeriesEnd first second bytes) → IfErr r (BothSeriesReadEnd first second name (Some bytes) read)
-both_read_result first second bytes name read (Ok both) within h = tt
-both_read_result first second bytes name read (Err how) within h = both_read first second bytes name read how within h
 
 -- of a later shelf the same is known, and a count that rose since then rose since the beginning
 same_series : (known later : KnownFiles) (name : Option (List ℕ)) → ((n : List ℕ) → later n ≡ known n) →
