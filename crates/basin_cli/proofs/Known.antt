@@ -56,7 +56,7 @@ good_second bytes other b c same text other_text = record {
     second = c;
     first_spelled = text.spelled;
     second_spelled = other_text.spelled;
-    same = same;
+    holds = same;
   };
 }
 

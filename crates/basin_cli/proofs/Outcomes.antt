@@ -64,24 +64,24 @@ one_or_other bytes other is one =
     let same : one.first ≡ is.first = one_basin bytes one.first is.first one.first_spelled is.first_spelled in
     let same_second : one.second ≡ is.second =
     one_basin other one.second is.second one.second_spelled is.second_spelled in
-    is.differ
+    is.holds
     (subst (λ (c : Basin). HaveSameMonths is.first c) same_second
-    (subst (λ (b : Basin). HaveSameMonths b one.second) same one.same))
+    (subst (λ (b : Basin). HaveSameMonths b one.second) same one.holds))
 
 -- a run that hasn't the month, or a basin that hasn't the right, is not asked for them
 outside : (month : Month) (name bytes : List ℕ) → IsOutsideRun month bytes → IsAsked month name bytes → ⊥
 outside month name bytes is asked =
-    is.outside (subst (λ (b : Basin). HasMonth b month)
-    (one_basin bytes asked.basin is.basin asked.spelled is.spelled) asked.has_month)
+    is.holds (subst (λ (b : Basin). HasMonth b month)
+    (one_basin bytes asked.basin is.basin asked.spelled is.spelled) asked.holds.0)
 
 unknown : (month : Month) (name bytes : List ℕ) → IsUnknownRight month name bytes → IsAsked month name bytes → ⊥
 unknown month name bytes is asked =
-    is.unknown (subst (λ (b : Basin). HasRight b name)
-    (one_basin bytes asked.basin is.basin asked.spelled is.spelled) asked.has_right)
+    is.holds.1 (subst (λ (b : Basin). HasRight b name)
+    (one_basin bytes asked.basin is.basin asked.spelled is.spelled) asked.holds.1)
 
 part : (bytes : List ℕ) → IsPartYear bytes → IsOfYears bytes → ⊥
 part bytes is years =
-    is.part (subst HasWholeYears (one_basin bytes years.basin is.basin years.spelled is.spelled) years.whole)
+    is.part (subst HasWholeYears (one_basin bytes years.basin is.basin years.spelled is.spelled) years.holds)
 
 trying : (how : Ending) (write : Type 0) → HasTrialCause how write → (write → ⊥) → IsDone (status_of how)
 trying ending.Done write h no_write = inl refl

@@ -33,7 +33,7 @@ module _ (known : KnownFiles) (files : Files) (b : Basin) (series : Inflows) (fi
 
   years : HasWholeYears b → IfSome (known files.basin) IsOfYears
   years whole = IfSome_then (known files.basin) loaded.from_basin
-      (λ bytes text. record { basin = b; spelled = text.spelled; whole = whole })
+      (λ bytes text. record { basin = b; spelled = text.spelled; holds = whole })
 
   pub gathering_cause : (how : Ending) (read write : Type 0) → HasWholeYears b → HasTrialCause how write →
       HasEnsembleCause files how known read write

@@ -56,7 +56,7 @@ module _ (files : Files) (second : List ℕ) (known : KnownFiles) (read : Type 0
             second = c;
             first_spelled = text.spelled;
             second_spelled = other_text.spelled;
-            differ = is.1;
+            holds = is.1;
           },
         )))
 

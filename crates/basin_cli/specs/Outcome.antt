@@ -33,7 +33,8 @@ use Rattle.basin_cli.specs.Ending.{status_of, line_of}
 use Rattle.basin_cli.specs.Explained.{HasMonth, HasRight, IsAbout, WorkUpTo}
 use Rattle.basin_cli.specs.Failed.{AskedCounts, HaveAsked}
 use Rattle.basin_cli.specs.Headline.{HasGreatestPlans, HasGreatestPlansInParts}
-use Rattle.basin_cli.specs.Bytes.{AreSpelled, IsGoodBasin, IsSeriesRefusedFor, IsTooLong, KnownFiles, OfSpelled}
+use Rattle.basin_cli.specs.Bytes.{AreSpelled, IsGoodBasin, IsSeriesRefusedFor, IsTooLong, KnownFiles, OfBasin}
+use Rattle.basin_cli.specs.Bytes.{OfSpelled}
 use Rattle.basin_cli.specs.Out.{Leaves, MayWrite}
 use Rattle.basin_cli.specs.Listed.{LeavesList}
 use Rattle.basin_cli.specs.Written.{LeavesRun}
@@ -77,41 +78,26 @@ pub record IsRefuted (asked : Question) (refuted : Refuted) (bytes series_bytes 
   pub no_text : IsYes asked bytes series_bytes result → ⊥
 
 -- the run of the basin that bytes spell hasn't the month
-pub record IsOutsideRun (month : Month) (bytes : List ℕ) : Type 0 where
-  pub basin : Basin
-  pub spelled : Spells bytes basin
-  pub outside : HasMonth basin month → ⊥
+abbrev pub IsOutsideRun : Month → List ℕ → Type 0
+IsOutsideRun month bytes = OfBasin bytes (λ b. HasMonth b month → ⊥)
 
 -- the run of the basin that bytes spell has the month, and no right of it has the name
-pub record IsUnknownRight (month : Month) (name bytes : List ℕ) : Type 0 where
-  pub basin : Basin
-  pub spelled : Spells bytes basin
-  pub has_month : HasMonth basin month
-  pub unknown : HasRight basin name → ⊥
+abbrev pub IsUnknownRight : Month → List ℕ → List ℕ → Type 0
+IsUnknownRight month name bytes = OfBasin bytes (λ b. HasMonth b month × (HasRight b name → ⊥))
 
 -- the run of the basin that bytes spell has the month, and a right of it has the name
-pub record IsAsked (month : Month) (name bytes : List ℕ) : Type 0 where
-  pub basin : Basin
-  pub spelled : Spells bytes basin
-  pub has_month : HasMonth basin month
-  pub has_right : HasRight basin name
+abbrev pub IsAsked : Month → List ℕ → List ℕ → Type 0
+IsAsked month name bytes = OfBasin bytes (λ b. HasMonth b month × HasRight b name)
 
 -- the right of the name is short in the month, in a run of the basin and series that bytes spell. If so it is short in
 -- every such run, because all have one outcome
-pub record IsShortIn (month : Month) (name bytes series_bytes : List ℕ) : Type 0 where
-  pub basin : Basin
-  pub series : Inflows
-  pub spelled : AreSpelled bytes series_bytes basin series
-  pub right : ℕ
-  pub last : MonthRecord
-  pub about : IsAbout basin series month name right last
-  pub short : IsShort last right
+abbrev pub IsShortIn : Month → List ℕ → List ℕ → List ℕ → Type 0
+IsShortIn month name bytes series = OfSpelled bytes series (λ b s. (right : ℕ) × (m : MonthRecord) ×
+    IsAbout b s month name right m × IsShort m right)
 
 -- the run of the basin that bytes spell is one of whole years
-pub record IsOfYears (bytes : List ℕ) : Type 0 where
-  pub basin : Basin
-  pub spelled : Spells bytes basin
-  pub whole : HasWholeYears basin
+abbrev pub IsOfYears : List ℕ → Type 0
+IsOfYears bytes = OfBasin bytes HasWholeYears
 
 -- the bytes are a good basin file, and the run of the basin that they spell isn't one of whole years
 pub record IsPartYear (bytes : List ℕ) : Type 0 where
