@@ -22,20 +22,14 @@ use Rattle.basin_cli.specs.Out.{MayWrite}
 use Rattle.basin_cli.specs.Reading.{AreAccepted, AfterSeries, CompletesAfter, IsDone, OfBoth, StopsReading}
 
 -- the bytes of a script are within the limit, and ask for something of the basin and series that other bytes spell
-pub record IsGoodScript (bytes series_bytes script : List ℕ) : Type 0 where
-  pub within : length script ≤ file_limit
-  pub basin : Basin
-  pub series : Inflows
-  pub spelled : AreSpelled bytes series_bytes basin series
-  pub reads : IsOk (script_of basin series script)
+abbrev pub IsGoodScript : List ℕ → List ℕ → List ℕ → Type 0
+IsGoodScript bytes series script =
+    (length script ≤ file_limit) × OfSpelled bytes series (λ b s. IsOk (script_of b s script))
 
 -- the bytes of a script are within the limit, and this is the first fault in them and its line
-pub record IsScriptRefusedFor (fault : ScriptFault) (line : ℕ) (bytes series_bytes script : List ℕ) : Type 0 where
-  pub within : length script ≤ file_limit
-  pub basin : Basin
-  pub series : Inflows
-  pub spelled : AreSpelled bytes series_bytes basin series
-  pub first : script_of basin series script ≡ Err (refused.Refused fault line)
+abbrev pub IsScriptRefusedFor : ScriptFault → ℕ → List ℕ → List ℕ → List ℕ → Type 0
+IsScriptRefusedFor fault line bytes series script = (length script ≤ file_limit) ×
+    OfSpelled bytes series (λ b s. script_of b s script ≡ Err (refused.Refused fault line))
 
 -- the cause of an ending of `edit`
 abbrev pub HasEditingCause : Files → List ℕ → Ending → KnownFiles → Type 0 → Type 0 → Type 0
