@@ -115,18 +115,7 @@ second_silent (of_second.Series finding) may = may
 -- what holds of what is known of the files
 module _ (known : KnownFiles) (files : Files) (second : List ℕ) (pair : BasinPair)
     (paired : ArePaired known files second pair) where
-  -- what holds of all bytes that spell them
-  of_all : (P : List ℕ → List ℕ → List ℕ → Type 0) →
-      ((x y z : List ℕ) → AreSpelled x z pair.first.basin pair.first.series →
-      AreSpelled y z pair.second.basin pair.second.series → P x y z) → OfThree known files second P
-  of_all P holds = IfSome_then (known files.basin) paired.loaded.from_basin (λ x text.
-      IfSome_then (known second) paired.second_loaded.from_basin (λ y other.
-      IfSome_then (known_series known files.series)
-      (both_known (known_series known files.series) _ _ paired.loaded.from_series paired.second_loaded.from_series)
-      (λ z tables. holds x y z (spelled_by x z pair.first.basin pair.first.series paired.fits text tables.0)
-      (spelled_by y z pair.second.basin pair.second.series paired.second_fits other tables.1))))
-
-  -- and the files are good
+  -- the files are good, and what holds of all bytes that spell the basins and their series holds
   after_both : (P : List ℕ → List ℕ → List ℕ → Type 0) →
       ((x y z : List ℕ) → IsGoodForBoth x y z → AreSpelled x z pair.first.basin pair.first.series →
       AreSpelled y z pair.second.basin pair.second.series → P x y z) →
@@ -146,6 +135,12 @@ module _ (known : KnownFiles) (files : Files) (second : List ℕ) (pair : BasinP
           (spelled_by y z pair.second.basin pair.second.series paired.second_fits other tables.1)),
     )),
   ))
+
+  of_all : (P : List ℕ → List ℕ → List ℕ → Type 0) →
+      ((x y z : List ℕ) → AreSpelled x z pair.first.basin pair.first.series →
+      AreSpelled y z pair.second.basin pair.second.series → P x y z) → OfThree known files second P
+  of_all P holds = IfSome_then (known files.basin) (after_both P (λ x y z good. holds x y z))
+      (λ x is. IfSome_then (known second) is.1 (λ y has. has.1))
 
   -- the cause of how a comparison ends
   pub cause : (how : Ending) (read write : Type 0) (old new : Output) →

@@ -1,5 +1,5 @@
 //! The files of a comparison: two basins whose runs have the same months, and one series for both.
-ghost use Rattle.std.specs.Prelude.{◌≤◌, ◌↔◌, None, IfOk, OnOk, IfErr, IfSome, IsTrue, MatchResult, length, option_map};
+ghost use Rattle.std.specs.Prelude.{◌≤◌, ◌↔◌, IfOk, OnOk, IfErr, IfSome, IsTrue, MatchResult, length, option_map};
 ghost use Rattle.water_edge.specs.Edge.{AsksFor, Rose, SameShelf};
 ghost use Rattle.water_model.specs.Valid.{IsValidBasin, IsSeriesOf};
 ghost use Rattle.basin_cli.specs.Bytes.{file_limit, known_series};
