@@ -239,12 +239,10 @@ WritesReport status bytes series old new = OfSpelled bytes series (λ b s. (reco
     IsRun b s records × Leaves status (report_text b s records) old new)
 
 -- what `trial` leaves on out: the summary of a run of the basin that the number and the size make
-pub record WritesTrial (status : Status) (number size : ℕ) (old new : Output) : Type 0 where
-  pub series : Inflows
-  pub fits : IsSeriesOf (generated number size) series
-  pub records : List MonthRecord
-  pub is_run : IsRun (generated number size) series records
-  pub written : Leaves status (trial_text number size (generated number size) series records) old new
+abbrev pub WritesTrial : Status → ℕ → ℕ → Output → Output → Type 0
+WritesTrial status number size old new = (series : Inflows) × IsSeriesOf (generated number size) series ×
+    ((records : List MonthRecord) × IsRun (generated number size) series records ×
+    Leaves status (trial_text number size (generated number size) series records) old new)
 
 -- what `why` and `where` leave on out: where the right is short in the month, the book of its reach, or where one more
 -- unit would help it; and else that it is met, by a run of what the bytes spell up to that month
