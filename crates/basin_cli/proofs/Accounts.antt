@@ -1,7 +1,6 @@
--- After the files of `why`: the cause of how it ends, and what it leaves on out.
+-- After the files of `why`: the cause of how it ends.
 use Rattle.std.proofs.Common.{◌≡◌, ℕ, ◌≤◌, sym, ◌∙◌, subst, arith, List, [], ◌∷◌, length-append}
 use Rattle.std.specs.Prelude.{slice_index}
-use Rattle.water_edge.specs.Edge.{Output}
 use Rattle.basin_file.specs.BasinFaults.{Spells}
 use Rattle.edit_script.specs.declared.refused.ScriptFault.TheVariants as script
 use Rattle.inflow_file.specs.SeriesFaults.{SpellsSeries}
@@ -10,21 +9,17 @@ use Rattle.water_model.specs.Valid.{IsValidBasin, IsSeriesOf}
 use Rattle.water_model.specs.declared.types.Basin.{Basin}
 use Rattle.water_model.specs.declared.types.Inflows.{Inflows}
 use Rattle.water_model.specs.declared.types.MonthRecord.{MonthRecord}
-use Rattle.basin_cli.specs.declared.explaining.Account.{Account}
 use Rattle.basin_cli.specs.declared.ending.Ending.{Ending}
 use Rattle.basin_cli.specs.declared.ending.Ending.TheVariants as ending
-use Rattle.basin_cli.specs.Actions.{EndsAsking, IsAnswered}
+use Rattle.basin_cli.specs.Actions.{EndsAsking}
 use Rattle.basin_cli.specs.Command.{Files}
-use Rattle.basin_cli.specs.Ending.{status_of}
 use Rattle.basin_cli.specs.Explained.{HasMonth, HasRight, IsAbout}
 use Rattle.basin_cli.specs.Bytes.{AreSpelled, KnownFiles}
-use Rattle.basin_cli.specs.Out.{MayWrite}
-use Rattle.basin_cli.specs.Outcome.{HasExplainingCause, IsAsked, IsShortIn, WritesBook}
-use Rattle.basin_cli.specs.Reading.{OfBoth}
+use Rattle.basin_cli.specs.Outcome.{HasExplainingCause, IsAsked, IsShortIn}
 use Rattle.basin_cli.specs.Series.{AreLoaded}
 use Rattle.water_model.proofs.Histories.{last_follows}
 use Rattle.basin_cli.proofs.Explained.{one_answer}
-use Rattle.basin_cli.proofs.Known.{after, of_both}
+use Rattle.basin_cli.proofs.Known.{after}
 use Rattle.basin_cli.proofs.OneSeries.{one_basin, one_series, same_partial}
 
 -- After the files.
@@ -45,7 +40,7 @@ month_of b series month name right m about =
 is_asked : (month : Month) (name bytes : List ℕ) (b : Basin) → Spells bytes b → HasMonth b month → HasRight b name →
     IsAsked month name bytes
 is_asked month name bytes b spelled has_month has_right =
-    record { basin = b; spelled = spelled; has_month = has_month; has_right = has_right }
+    record { basin = b; spelled = spelled; holds = (has_month, has_right) }
 
 -- a right that is met in one run of what bytes spell is short in none
 not_short : (month : Month) (name bytes s : List ℕ) (b : Basin) (series : Inflows) (right : ℕ) (m : MonthRecord) →
@@ -54,10 +49,12 @@ not_short : (month : Month) (name bytes s : List ℕ) (b : Basin) (series : Infl
     IsShortIn month name bytes s → ⊥
 not_short month name bytes s b series right m valid spelled about met is =
     let same : is.basin ≡ b = one_basin bytes is.basin b is.spelled.basin_spelled spelled.basin_spelled in
-    let moved = subst (λ c. IsAbout c is.series month name is.right is.last) same is.about in
+    let at = is.holds.0 in
+    let last = is.holds.1 in
+    let moved = subst (λ c. IsAbout c is.series month name at last) same is.holds.2 in
     let known_series = subst (λ c. SpellsSeries c s is.series) same is.spelled.series_spelled in
     let other = one_series b s is.series series known_series spelled.series_spelled in
-    let along : IsAbout b series month name is.right is.last = record {
+    let along : IsAbout b series month name at last = record {
       named = moved.named;
       of_month = record {
         before = moved.of_month.before;
@@ -66,22 +63,15 @@ not_short month name bytes s b series right m valid spelled about met is =
         is = moved.of_month.is;
       };
     } in
-    let short = one_answer b series month name is.right right is.last m valid along about is.short in
+    let short = one_answer b series month name at right last m valid along about is.holds.3 in
     omega (arith, short, met)
 
 module _ (known : KnownFiles) (files : Files) (b : Basin) (series : Inflows) (fits : IsSeriesOf b series)
     (loaded : AreLoaded known files b series) (month : Month) (name : List ℕ) where
   pub asking_cause : (how : Ending) (read write : Type 0) → IsValidBasin b → EndsAsking b series month name how write →
       HasExplainingCause files month name how known read write
-  asking_cause ending.Done read write valid ends = after known files b series fits loaded _ (λ bytes s spelled. record {
-    basin = b;
-    series = series;
-    spelled = spelled;
-    right = ends.0;
-    last = ends.1;
-    about = ends.2;
-    short = ends.3;
-  })
+  asking_cause ending.Done read write valid ends = after known files b series fits loaded _
+      (λ bytes s spelled. record { basin = b; series = series; spelled = spelled; holds = ends })
   asking_cause ending.Met read write valid ends = after known files b series fits loaded _ (λ bytes s spelled. (
     is_asked month name bytes b spelled.basin_spelled (month_of b series month name ends.0 ends.1 ends.2)
         (ends.0, ends.2.named),
@@ -95,31 +85,12 @@ module _ (known : KnownFiles) (files : Files) (b : Basin) (series : Inflows) (fi
   asking_cause (ending.ScriptRefused script.OutsideRun line) read write valid ends = (
     ends.0,
     after known files b series fits loaded _
-        (λ bytes s spelled. record { basin = b; spelled = spelled.basin_spelled; outside = ends.1 }),
+        (λ bytes s spelled. record { basin = b; spelled = spelled.basin_spelled; holds = ends.1 }),
   )
   asking_cause (ending.ScriptRefused script.NoSuchName line) read write valid ends = (
     ends.0,
     after known files b series fits loaded _ (λ bytes s spelled.
-        record { basin = b; spelled = spelled.basin_spelled; has_month = ends.1; unknown = ends.2 }),
+        record { basin = b; spelled = spelled.basin_spelled; holds = (ends.1, ends.2) }),
   )
   asking_cause ending.OutOfMemory read write valid ends = tt
   asking_cause other read write valid ends = absurd ends
-
-  -- what is left on out
-  pub asking_writes : (asked : Account) (how : Ending) (old new : Output) →
-      (MayWrite (status_of how) → IsAnswered asked b series month name how old new) →
-      OfBoth known files
-      (λ bytes s. MayWrite (status_of how) → WritesBook asked (status_of how) month name bytes s old new)
-  asking_writes asked how old new answers = of_both known files b series fits loaded _ (λ bytes s spelled may.
-      let answer = answers may in
-      record {
-        basin = b;
-        series = series;
-        spelled = spelled;
-        right = answer.right;
-        last = answer.last;
-        about = answer.about;
-        text = answer.text;
-        explains = answer.explains;
-        written = answer.written;
-      })

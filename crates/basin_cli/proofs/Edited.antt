@@ -67,15 +67,17 @@ module _ (b : Basin) (series other : Inflows) (fits : IsSeriesOf b series) (fits
 -- a script that is refused for one series that bytes spell is good for none of them
 pub refused_not_good : (bytes s text : List ℕ) (fault : ScriptFault) (line : ℕ) →
     IsScriptRefusedFor fault line bytes s text → IsGoodScript bytes s text → ⊥
-refused_not_good bytes s text fault line is good =
+refused_not_good bytes s text fault line refusal script =
+    let is = refusal.1 in
+    let good = script.1 in
     let same : is.basin ≡ good.basin =
     one_basin bytes is.basin good.basin is.spelled.basin_spelled good.spelled.basin_spelled in
     let first : script_of good.basin is.series text ≡ Err (refused.Refused fault line) =
-    subst (λ d. script_of d is.series text ≡ Err (refused.Refused fault line)) same is.first in
-    let script : script_of good.basin is.series text ≡ script_of good.basin good.series text =
+    subst (λ d. script_of d is.series text ≡ Err (refused.Refused fault line)) same is.holds in
+    let alike : script_of good.basin is.series text ≡ script_of good.basin good.series text =
     same_script good.basin is.series good.series (subst (λ d. IsSeriesOf d is.series) same is.spelled.fits)
     good.spelled.fits text in
-    never_ok (script_of good.basin good.series text) (refused.Refused fault line) (sym script ∙ first) good.reads
+    never_ok (script_of good.basin good.series text) (refused.Refused fault line) (sym alike ∙ first) good.holds
   where
     never_ok : {X Y : Type 0} (r : Result X Y) (y : Y) → r ≡ Err y → IsOk r → ⊥
     never_ok (Ok x) y e h = cc
@@ -107,15 +109,15 @@ module _ (known : KnownFiles) (files : Files) (b : Basin) (series : Inflows) (fi
         EndsEditing b series text how write → HasEditingCause files script how known read write
     editing_cause ending.Done read write within ends = after known files b series fits loaded _ (λ bytes s spelled.
         is_known (IsGoodScript bytes s)
-        (record { within = within; basin = b; series = series; spelled = spelled; reads = ends }))
+        (within, record { basin = b; series = series; spelled = spelled; holds = ends }))
     editing_cause ending.WriteFault read write within ends = (
       ends.0,
       after known files b series fits loaded _ (λ bytes s spelled. is_known (IsGoodScript bytes s)
-          (record { within = within; basin = b; series = series; spelled = spelled; reads = ends.1 })),
+          (within, record { basin = b; series = series; spelled = spelled; holds = ends.1 })),
     )
     editing_cause (ending.ScriptRefused fault line) read write within ends =
         after known files b series fits loaded _ (λ bytes s spelled. is_known (IsScriptRefusedFor fault line bytes s)
-        (record { within = within; basin = b; series = series; spelled = spelled; first = ends }))
+        (within, record { basin = b; series = series; spelled = spelled; holds = ends }))
     editing_cause ending.OutOfMemory read write within ends = tt
     editing_cause other read write within ends = absurd ends
 
@@ -129,9 +131,9 @@ module _ (known : KnownFiles) (files : Files) (b : Basin) (series : Inflows) (fi
             LeavesScript status b series text old new → EditLeaves status bytes s text old new
         by_status its.OutOfMemory bytes s spelled (inl same) = inl same
         by_status its.OutOfMemory bytes s spelled (inr shows) =
-            inr (record { basin = b; series = series; spelled = spelled; shows = shows })
+            inr (record { basin = b; series = series; spelled = spelled; holds = shows })
         by_status other bytes s spelled left =
-            λ may. record { basin = b; series = series; spelled = spelled; shows = left may }
+            λ may. record { basin = b; series = series; spelled = spelled; holds = left may }
 
     -- and the months that were solved
     pub editing_solves : (before now : WorkDone) → WorkOfScript b series text before now →

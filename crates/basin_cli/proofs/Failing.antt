@@ -144,11 +144,7 @@ module _ (names : File → List (List ℕ)) (old new : AskedCounts) where
   pub years_stop : (known : Option (List ℕ)) (read : Type 0) (how : Ending) → YearsReadEnds known read how →
       AskForEach (names file.Basin) old new → AskUpTo names how old new
   years_stop known read ending.PartYear h asks = asks
-  years_stop known read (ending.BasinRefused finding) h asks = asks
-  years_stop known read (ending.ReadFault file.Basin) h asks = asks
-  years_stop known read (ending.InputTooLong file.Basin) h asks = asks
-  years_stop known read ending.OutOfMemory h asks = tt
-  years_stop known read how h asks = absurd h
+  years_stop known read how h asks = basin_stops known read how h asks
 
   pub series_stops : (b : Basin) (name known : Option (List ℕ)) (read : Type 0) (how : Ending) →
       SeriesReadEnds b name known read how → AskForEach (names file.Series) old new → AskUpTo names how old new

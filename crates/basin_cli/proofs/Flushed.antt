@@ -1,20 +1,14 @@
 -- A text that was put and is flushed.
-use Rattle.std.proofs.Common.{◌≡◌, ℕ, ◌++◌, arith, inr, List, length, take, Result, Ok, Err}
+use Rattle.std.proofs.Common.{ℕ, ◌++◌, arith, inr, List, length, take, Result, Ok, Err}
 use Rattle.std.proofs.Math.Seq.{take-length}
 use Rattle.water_edge.specs.Edge.{Extends, Output, Puts, Stays}
 use Rattle.water_edge.proofs.Outputs.{Extends-kept}
-use Rattle.water_model.specs.Valid.{IsSeriesOf}
 use Rattle.water_model.specs.declared.types.Basin.{Basin}
 use Rattle.water_model.specs.declared.types.Inflows.{Inflows}
 use Rattle.water_model.specs.declared.types.MonthRecord.{MonthRecord}
-use Rattle.basin_gen.specs.Generator.{generated}
 use Rattle.edit_script.specs.declared.edit.Edit.{Edit}
 use Rattle.edit_session.specs.Shown.{AreShown, AnswersWhole, done_bytes, months_bytes, shows_in}
 use Rattle.edit_session.specs.declared.stop.EditStop.TheVariants.{SinkFailed}
-use Rattle.reports.specs.Ends.{IsRun}
-use Rattle.reports.specs.Reports.{trial_text}
-use Rattle.basin_cli.specs.Outcome.{WritesTrial}
-use Rattle.basin_cli.specs.declared.status.Status.TheVariants.{Done, WriteFault}
 
 -- the whole is a prefix
 pub whole_prefix : (old mid new : Output) (text : List ℕ) → Extends old mid text → Stays mid new →
@@ -39,32 +33,7 @@ pub kept : {X : Type 0} (P : X → Type 0) (text : X → List ℕ) (old mid new 
     ((x : X) × P x × Extends old mid (text x)) → Stays mid new → (x : X) × P x × Extends old new (text x)
 kept P text old mid new put k = (put.0, put.1, Extends-kept old mid new (text put.0) put.2 k)
 
-pub trial_prefix : (number size : ℕ) (b : Basin) (series : Inflows) (old mid new : Output) →
-    b ≡ generated number size → IsSeriesOf b series →
-    ((records : List MonthRecord) × IsRun b series records ×
-    Extends old mid (trial_text number size b series records)) →
-    Stays mid new → WritesTrial WriteFault number size old new
-trial_prefix number size b series old mid new is fits put k = record {
-  series = series;
-  fits = rw (← is) fits;
-  records = put.0;
-  is_run = rw (← is) put.1;
-  written = rw (← is) (whole_prefix old mid new (trial_text number size b series put.0) put.2 k);
-}
-
-pub trial_kept : (number size : ℕ) (b : Basin) (series : Inflows) (old mid new : Output) →
-    b ≡ generated number size → IsSeriesOf b series →
-    ((records : List MonthRecord) × IsRun b series records ×
-    Extends old mid (trial_text number size b series records)) →
-    Stays mid new → WritesTrial Done number size old new
-trial_kept number size b series old mid new is fits put k = record {
-  series = series;
-  fits = rw (← is) fits;
-  records = put.0;
-  is_run = rw (← is) put.1;
-  written = rw (← is) (Extends-kept old mid new (trial_text number size b series put.0) put.2 k);
-}
-
+-- and of the months that a script shows
 pub shows_prefix : (b : Basin) (series : Inflows) (edits : List Edit) (old mid new : Output) →
     ((shown : List MonthRecord) × AreShown b series edits shown ×
     Extends old mid (months_bytes b shown ++ done_bytes (shows_in edits))) →

@@ -4,7 +4,6 @@ use Rattle.std.proofs.lemmas.Bool.Decides.{nat_tests}
 use Rattle.std.proofs.lemmas.Option.{IfSome_then}
 use Rattle.std.specs.Prelude.{Contains, ◌==◌, Bool, true, false, if◌then◌else◌}
 use Rattle.water_edge.specs.Edge.{Output}
-use Rattle.inflow_file.specs.SeriesFaults.{SpellsSeries}
 use Rattle.water_model.specs.History.{IsHistory}
 use Rattle.water_model.specs.Valid.{IsValidBasin}
 use Rattle.water_model.specs.declared.types.Basin.{Basin}
@@ -28,18 +27,8 @@ use Rattle.basin_cli.specs.Comparison.{OfThree, SomebodyIsInjured}
 use Rattle.basin_cli.specs.Ending.{status_of, status_of_second}
 use Rattle.basin_cli.specs.Out.{MayWrite}
 use Rattle.basin_cli.specs.Pairs.{ArePaired}
-use Rattle.basin_cli.proofs.Known.{both_known, good_series, spelled_by}
-use Rattle.basin_cli.proofs.OneSeries.{one_basin, one_series, same_history}
-
--- a history of what bytes spell is one of any basin and series that they spell
-spelled_history : (bytes s : List ℕ) (b c : Basin) (series other : Inflows) (records : List MonthRecord) →
-    AreSpelled bytes s b series → AreSpelled bytes s c other → (same : c ≡ b) → IsHistory c other records →
-    IsHistory b series records
-spelled_history bytes s b c series other records spelled is same history =
-    same_history b other series records
-    (one_series b s other series (subst (λ (x : Basin). SpellsSeries x s other) same is.series_spelled)
-    spelled.series_spelled)
-    (subst (λ (x : Basin). IsHistory x other records) same history)
+use Rattle.basin_cli.proofs.Known.{both_known, good_second, good_series, spelled_by, spelled_history}
+use Rattle.basin_cli.proofs.OneSeries.{one_basin}
 
 module _ (bytes other_bytes s : List ℕ) (b c : Basin) (series other : Inflows) (records others : List MonthRecord)
     (valid : IsValidBasin b) (second_valid : IsValidBasin c) (spelled : AreSpelled bytes s b series)
@@ -62,10 +51,10 @@ module _ (bytes other_bytes s : List ℕ) (b c : Basin) (series other : Inflows)
       one : injuries b c is.records is.others ≡ []
       one =
           one_list b c series other is.records records is.others others valid second_valid
-          (spelled_history bytes s b is.first series is.series is.records spelled is.first_spelled same
-          is.first_history) history
+          (spelled_history bytes s b is.first series is.series is.records spelled is.first_spelled is.first_history)
+          history
           (spelled_history other_bytes s c is.second other is.second_series is.others second_spelled
-          is.second_spelled same_second is.second_history) second_history
+          is.second_spelled is.second_history) second_history
           ∙ none
 
       there : Contains [] is.injury
@@ -126,18 +115,7 @@ second_silent (of_second.Series finding) may = may
 -- what holds of what is known of the files
 module _ (known : KnownFiles) (files : Files) (second : List ℕ) (pair : BasinPair)
     (paired : ArePaired known files second pair) where
-  -- what holds of all bytes that spell them
-  of_all : (P : List ℕ → List ℕ → List ℕ → Type 0) →
-      ((x y z : List ℕ) → AreSpelled x z pair.first.basin pair.first.series →
-      AreSpelled y z pair.second.basin pair.second.series → P x y z) → OfThree known files second P
-  of_all P holds = IfSome_then (known files.basin) paired.loaded.from_basin (λ x text.
-      IfSome_then (known second) paired.second_loaded.from_basin (λ y other.
-      IfSome_then (known_series known files.series)
-      (both_known (known_series known files.series) _ _ paired.loaded.from_series paired.second_loaded.from_series)
-      (λ z tables. holds x y z (spelled_by x z pair.first.basin pair.first.series paired.fits text tables.0)
-      (spelled_by y z pair.second.basin pair.second.series paired.second_fits other tables.1))))
-
-  -- and the files are good
+  -- the files are good, and what holds of all bytes that spell the basins and their series holds
   after_both : (P : List ℕ → List ℕ → List ℕ → Type 0) →
       ((x y z : List ℕ) → IsGoodForBoth x y z → AreSpelled x z pair.first.basin pair.first.series →
       AreSpelled y z pair.second.basin pair.second.series → P x y z) →
@@ -145,16 +123,7 @@ module _ (known : KnownFiles) (files : Files) (second : List ℕ) (pair : BasinP
   after_both P holds = IfSome_then (known files.basin) paired.loaded.from_basin (λ x text. (
     text.good,
     IfSome_then (known second) paired.second_loaded.from_basin (λ y other. (
-      record {
-        good = other.good;
-        one_run = record {
-          first = pair.first.basin;
-          second = pair.second.basin;
-          first_spelled = text.spelled;
-          second_spelled = other.spelled;
-          same = paired.months;
-        };
-      },
+      good_second x y pair.first.basin pair.second.basin paired.months text other,
       IfSome_then (known_series known files.series)
           (both_known (known_series known files.series) _ _ paired.loaded.from_series paired.second_loaded.from_series)
           (λ z tables. holds x y z
@@ -166,6 +135,12 @@ module _ (known : KnownFiles) (files : Files) (second : List ℕ) (pair : BasinP
           (spelled_by y z pair.second.basin pair.second.series paired.second_fits other tables.1)),
     )),
   ))
+
+  of_all : (P : List ℕ → List ℕ → List ℕ → Type 0) →
+      ((x y z : List ℕ) → AreSpelled x z pair.first.basin pair.first.series →
+      AreSpelled y z pair.second.basin pair.second.series → P x y z) → OfThree known files second P
+  of_all P holds = IfSome_then (known files.basin) (after_both P (λ x y z good. holds x y z))
+      (λ x is. IfSome_then (known second) is.1 (λ y has. has.1))
 
   -- the cause of how a comparison ends
   pub cause : (how : Ending) (read write : Type 0) (old new : Output) →

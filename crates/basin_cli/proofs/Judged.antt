@@ -3,7 +3,6 @@ use Rattle.std.proofs.Common.{◌≡◌, ℕ, subst, sym, List, Option, Some, No
 use Rattle.std.proofs.lemmas.Option.{IfSome_then}
 use Rattle.std.specs.Prelude.{Result, Ok, Err, IsOk, IfSome}
 use Rattle.water_edge.specs.Edge.{Output}
-use Rattle.inflow_file.specs.SeriesFaults.{SpellsSeries}
 use Rattle.cert_check.proofs.AuditLaws.{audited_exactly_for_reaches}
 use Rattle.cert_check.proofs.ByteLaws.{yes_exactly_for_histories}
 use Rattle.cert_check.specs.Audit.{IsAuditAnswer, IsAuditedText}
@@ -15,6 +14,7 @@ use Rattle.water_model.specs.Valid.{IsValidBasin, IsSeriesOf}
 use Rattle.result_lines.specs.declared.item.Item.{Item}
 use Rattle.water_model.specs.declared.types.Basin.{Basin}
 use Rattle.water_model.specs.declared.types.Inflows.{Inflows}
+use Rattle.water_model.specs.declared.types.MonthRecord.{MonthRecord}
 use Rattle.duality.proofs.Greatest.{cuts_make_greatest}
 use Rattle.duality.proofs.Parts.{whole_units_are_greatest}
 use Rattle.basin_cli.specs.declared.checking.Question.{Question}
@@ -32,25 +32,30 @@ use Rattle.basin_cli.specs.Outcome.{IsHistoryText, IsReachesText, IsRefuted, IsY
 use Rattle.basin_cli.specs.Reading.{OfBoth}
 use Rattle.basin_cli.specs.Series.{AreLoaded}
 use Rattle.basin_cli.specs.declared.status.Status.{Status}
-use Rattle.basin_cli.proofs.Known.{accepted, after, of_both}
-use Rattle.basin_cli.proofs.OneSeries.{one_basin, one_series, same_history}
+use Rattle.basin_cli.proofs.Known.{accepted, after, of_both, spelled_history}
+use Rattle.basin_cli.proofs.OneSeries.{one_basin}
 
--- bytes on which the verdict is a yes are the text of a history
+-- the text of a history of what bytes spell
+text_of_history : (bytes s text : List ℕ) (b : Basin) (series : Inflows) (records : List MonthRecord) →
+    AreSpelled bytes s b series → IsHistory b series records → text ≡ text_bytes b records → IsHistoryText bytes s text
+text_of_history bytes s text b series records spelled history same = record {
+  basin = b;
+  series = series;
+  spelled = spelled;
+  records = records;
+  history = history;
+  text = same;
+  greatest = λ i m at. cuts_make_greatest b series records history.partial i m at;
+  greatest_in_parts = λ i m at k. (whole_units_are_greatest b series records history.partial i m at k).0;
+}
+
+-- bytes on which the verdict is a yes are such a text
 pub is_text : (bytes s text : List ℕ) (b : Basin) (series : Inflows) → IsValidBasin b → AreSpelled bytes s b series →
     IsOk (text_verdict b series text) →
     IsHistoryText bytes s text
 is_text bytes s text b series valid spelled good =
     let found = (yes_exactly_for_histories b series text valid spelled.fits).0 good in
-    record {
-      basin = b;
-      series = series;
-      spelled = spelled;
-      records = found.0;
-      history = found.1;
-      text = found.2;
-      greatest = λ i m at. cuts_make_greatest b series found.0 found.1.partial i m at;
-      greatest_in_parts = λ i m at k. (whole_units_are_greatest b series found.0 found.1.partial i m at k).0;
-    }
+    text_of_history bytes s text b series found.0 spelled found.1 found.2
 
 -- and those that are refuted are the text of none
 pub is_no_text : (bytes s text : List ℕ) (b : Basin) (series : Inflows) (refuted : Refuted) → IsValidBasin b →
@@ -58,14 +63,11 @@ pub is_no_text : (bytes s text : List ℕ) (b : Basin) (series : Inflows) (refut
     text_verdict b series text ≡ Err refuted → IsHistoryText bytes s text → ⊥
 is_no_text bytes s text b series refuted valid spelled bad is =
     let same : is.basin ≡ b = one_basin bytes is.basin b is.spelled.basin_spelled spelled.basin_spelled in
-    let moved = subst (λ c. IsHistory c is.series is.records) same is.history in
-    let known = subst (λ c. text ≡ text_bytes c is.records) same is.text in
-    let known_series = subst (λ c. SpellsSeries c s is.series) same is.spelled.series_spelled in
-    let history =
-    same_history b is.series series is.records
-    (one_series b s is.series series known_series spelled.series_spelled) moved in
-    never (text_verdict b series text) bad
-    ((yes_exactly_for_histories b series text valid spelled.fits).1 (is.records, history, known))
+    never (text_verdict b series text) bad ((yes_exactly_for_histories b series text valid spelled.fits).1 (
+      is.records,
+      spelled_history bytes s b is.basin series is.series is.records spelled is.spelled is.history,
+      subst (λ c. text ≡ text_bytes c is.records) same is.text,
+    ))
   where
     never : (verdict : Result (List Item) Refuted) → verdict ≡ Err refuted → IsOk verdict → ⊥
     never (Ok items) e good = cc
@@ -74,18 +76,9 @@ is_no_text bytes s text b series refuted valid spelled bad is =
 -- bytes that are audited are the text of a history whose sets are the reaches
 pub is_reaches : (bytes s text : List ℕ) (b : Basin) (series : Inflows) → AreSpelled bytes s b series →
     IsAuditedText b series text → IsReachesText bytes s text
+unfolding text_of_history
 is_reaches bytes s text b series spelled audited = record {
-  of_history = record {
-    basin = b;
-    series = series;
-    spelled = spelled;
-    records = audited.records;
-    history = audited.history;
-    text = audited.text;
-    greatest = λ i m at. cuts_make_greatest b series audited.records audited.history.partial i m at;
-    greatest_in_parts = λ i m at k.
-        (whole_units_are_greatest b series audited.records audited.history.partial i m at k).0;
-  };
+  of_history = text_of_history bytes s text b series audited.records spelled audited.history audited.text;
   reaches = audited.reaches;
 }
 
@@ -95,13 +88,9 @@ pub is_audited : (bytes s text : List ℕ) (b : Basin) (series : Inflows) → Ar
 is_audited bytes s text b series spelled is =
     let of = is.of_history in
     let same : of.basin ≡ b = one_basin bytes of.basin b of.spelled.basin_spelled spelled.basin_spelled in
-    let known_series = subst (λ c. SpellsSeries c s of.series) same of.spelled.series_spelled in
     record {
       records = of.records;
-      history =
-          same_history b of.series series of.records
-          (one_series b s of.series series known_series spelled.series_spelled)
-          (subst (λ c. IsHistory c of.series of.records) same of.history);
+      history = spelled_history bytes s b of.basin series of.series of.records spelled of.spelled of.history;
       reaches = subst (λ c. HaveReaches c of.records) same is.reaches;
       text = subst (λ c. text ≡ text_bytes c of.records) same of.text;
     }
@@ -214,4 +203,4 @@ module _ (known : KnownFiles) (files : Files) (b : Basin) (series : Inflows) (va
       (λ bytes s. IfSome (known result) (λ text. MayWrite status → WritesAnswer asked status bytes s text old new))
   checking_writes status old new leaves = of_both known files b series fits loaded _ (λ bytes s spelled.
       IfSome_then (known result) leaves (λ text left may.
-      record { basin = b; series = series; spelled = spelled; written = left may }))
+      record { basin = b; series = series; spelled = spelled; holds = left may }))

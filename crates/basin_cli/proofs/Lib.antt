@@ -3,7 +3,6 @@ pub mod Monthly
 pub mod Listed
 pub mod Missing
 pub mod Failing
-pub mod Reading
 pub mod OneSeries
 pub mod Known
 pub mod Judged

@@ -1,13 +1,13 @@
 -- A missing amount is one of a month of the run, and of a node or a right.
-use Rattle.std.proofs.Common.{◌≡◌, ℕ, zero, suc, ◌+◌, ◌-◌, ◌/◌, ◌%◌, ◌<◌, ◌≤◌, Bool, true, false, refl, sym, ◌∙◌, ap}
-use Rattle.std.proofs.Common.{subst, arith, List, [], ◌∷◌, ◌++◌, length, get_or, filter, Option, Some, None}
+use Rattle.std.proofs.Common.{◌≡◌, ℕ, zero, suc, ◌+◌, ◌-◌, ◌<◌, ◌≤◌, Bool, true, false, refl, sym, ◌∙◌, ap}
+use Rattle.std.proofs.Common.{subst, arith, All, List, [], ◌∷◌, ◌++◌, length, map, Option, Some, None}
 use Rattle.std.proofs.Common.{if◌then◌else◌, option_map}
+use Rattle.std.proofs.lemmas.List.Elements.{All-append, All-cons, All-filter, All-head, All-map, All-nil, All-tail}
 use Rattle.std.specs.Prelude.{not, is_some, slice_get, ◌||◌, nat_lt, ⊤}
-use Rattle.std.specs.List.{find}
+use Rattle.std.specs.List.{find, flat_map}
 use Rattle.std.specs.Option.{option_or}
 use Rattle.water_text.specs.Months.{IsMonth}
 use Rattle.water_text.specs.declared.month.Month.{Month}
-use Rattle.water_model.specs.Hydrology.{run_month}
 use Rattle.water_model.specs.Indices.{numbers_from}
 use Rattle.water_model.specs.Valid.{IsValidBasin, IsValidNode, IsValidRight}
 use Rattle.water_model.specs.declared.types.Basin.{Basin}
@@ -19,14 +19,14 @@ use Rattle.water_model.proofs.Valid.{entry_holds}
 use Rattle.std.proofs.lemmas.Option.{slice_get_within}
 use Rattle.std.proofs.lemmas.Bool.{ltb-true}
 use Rattle.inflow_file.specs.SeriesFaults.{series_fault, table_fault, first_fault, record_fault, missing, missing_of}
-use Rattle.inflow_file.specs.SeriesFaults.{body_of, has_kinds, entries_of, due, amount_for}
+use Rattle.inflow_file.specs.SeriesFaults.{body_of, has_kinds, entries_of, due, amount_for, months_of}
 use Rattle.inflow_file.specs.Columns.{column_numbers, count_of_both, is_column}
 use Rattle.inflow_file.specs.CsvRecords.{records_of, is_header}
 use Rattle.inflow_file.specs.declared.refused.SeriesFault.{SeriesFault}
 use Rattle.inflow_file.specs.declared.refused.SeriesRefused.{SeriesRefused}
 use Rattle.inflow_file.specs.declared.refused.SeriesRefused.TheVariants as refused
 use Rattle.inflow_file.specs.declared.refused.SeriesFault.TheVariants as fault
-use Rattle.inflow_file.proofs.DueLaws.{due_at, split, length-due, width}
+use Rattle.inflow_file.proofs.RunLaws.{length-months, month_there}
 use Rattle.water_model.proofs.Histories.{IsMonth-run_month}
 
 -- the month of what is missing is one of the calendar, and the node or the right one of the basin
@@ -36,58 +36,41 @@ IsNameable b (refused.Missing month node) = IsMonth month × (node < length b.no
 IsNameable b (refused.MissingWant month right) = IsMonth month × (right < length b.rights)
 IsNameable b refused.OutOfMemory = ⊤
 
-passing_below : (p : ℕ → Bool) (from count bound g : ℕ) → from + count ≤ bound →
-    g < length (filter p (numbers_from from count)) →
-    get_or (filter p (numbers_from from count)) g 0 < bound
+numbers_below : (from count bound : ℕ) → from + count ≤ bound → All (λ n. n < bound) (numbers_from from count)
 unfolding numbers_from
-passing_below p from zero bound g l h = absurd (omega arith)
-passing_below p from (suc count) bound g l h =
-    by_test (p from) g h (λ k m. passing_below p (suc from) count bound k (omega arith) m)
-  where
-    by_test : (t : Bool) (g : ℕ) →
-        g < length
-        (if t then from ∷ filter p (numbers_from (suc from) count) else filter p (numbers_from (suc from) count)) →
-        ((k : ℕ) → k < length (filter p (numbers_from (suc from) count)) →
-        get_or (filter p (numbers_from (suc from) count)) k 0 < bound) →
-        get_or (if t then from ∷ filter p (numbers_from (suc from) count) else filter p (numbers_from (suc from) count))
-        g 0 < bound
-    by_test true zero k rest = omega arith
-    by_test true (suc g) k rest = rest g (omega arith)
-    by_test false g k rest = rest g k
-
-column_below : (b : Basin) (g : ℕ) → g < width b → get_or (column_numbers b) g 0 < count_of_both b
-column_below b g l = passing_below (λ n. is_column b n) 0 (count_of_both b) (count_of_both b) g (omega arith) l
-
-any_default : {X : Type 0} (xs : List X) (k : ℕ) (d e : X) → k < length xs → get_or xs k d ≡ get_or xs k e
-any_default [] k d e l = absurd (omega arith)
-any_default (x ∷ xs) zero d e l = refl
-any_default (x ∷ xs) (suc k) d e l = any_default xs k d e (omega arith)
+numbers_below from zero bound h = All-nil (λ n. n < bound)
+numbers_below from (suc count) bound h =
+    All-cons (λ n. n < bound) from (numbers_from (suc from) count) (omega arith)
+    (numbers_below (suc from) count bound (omega arith))
 
 -- what is due is due in a month of the calendar
 record IsDue (b : Basin) (d : Month × ℕ) : Type 0 where
   calendar : IsMonth d.0
   inside : d.1 < count_of_both b
 
-due_within : (b : Basin) → IsValidBasin b → (k : ℕ) (d : Month × ℕ) → k < length (due b) → IsDue b (get_or (due b) k d)
-due_within b valid k d l =
-    let s = split b k (rw (sym (length-due b)) l) in
-    let row : ℕ = k / width b in
-    let column : ℕ = k % width b in
-    let at : get_or (due b) k d ≡ (run_month b row, get_or (column_numbers b) column 0) =
-    any_default (due b) k d (run_month b row, 0) l
-    ∙ (ap (λ j. get_or (due b) j (run_month b row, 0)) (sym s.cell)
-    ∙ due_at b row column (run_month b row) s.row s.gauge) in
-    subst (λ (e : Month × ℕ). IsDue b e) (sym at)
-    (record { calendar = IsMonth-run_month b row valid.run s.row; inside = column_below b column s.gauge })
+all_due : (b : Basin) → IsValidBasin b → All (IsDue b) (due b)
+all_due b valid = of_months (months_of b) (λ i m l. subst IsMonth (sym (month_there b i m (rw (← length-months b) l)))
+    (IsMonth-run_month b i valid.run (rw (← length-months b) l)))
+  where
+    columns : All (λ n. n < count_of_both b) (column_numbers b)
+    columns = All-filter (λ n. is_column b n) (λ n. n < count_of_both b) (numbers_from 0 (count_of_both b))
+        (numbers_below 0 (count_of_both b) (count_of_both b) (omega arith))
+
+    of_months : (months : List Month) → All IsMonth months →
+        All (IsDue b) (flat_map (λ m. map (λ n. (m, n)) (column_numbers b)) months)
+    of_months [] all = All-nil (IsDue b)
+    of_months (m ∷ months) all = All-append (IsDue b) (map (λ n. (m, n)) (column_numbers b)) _
+        (All-map (IsDue b) (λ n. (m, n)) (column_numbers b) (λ i n l.
+        record { calendar = All-head IsMonth m months all; inside = columns i n l }))
+        (of_months months (All-tail IsMonth m months all))
 
 -- what holds of all elements of a list holds of the one that is found
-found_within : (b : Basin) (p : (Month × ℕ) → Bool) (xs : List (Month × ℕ)) (d : Month × ℕ) →
-    ((k : ℕ) (e : Month × ℕ) → k < length xs → IsDue b (get_or xs k e)) → find p xs ≡ Some d → IsDue b d
-found_within b p [] d h e = cc
-found_within b p (x ∷ xs) d h e = by_test (p x) e (λ f. found_within b p xs d (λ k c l. h (suc k) c (omega arith)) f)
+found_holds : {X : Type 0} (P : X → Type 0) (p : X → Bool) (xs : List X) (d : X) → All P xs → find p xs ≡ Some d → P d
+found_holds P p [] d all e = cc
+found_holds {X} P p (x ∷ xs) d all e = by_test (p x) e (found_holds P p xs d (All-tail P x xs all))
   where
-    by_test : (t : Bool) → (if t then Some x else find p xs) ≡ Some d → (find p xs ≡ Some d → IsDue b d) → IsDue b d
-    by_test true f rest = let same : x ≡ d = cc in subst (λ (c : Month × ℕ). IsDue b c) same (h 0 x (omega arith))
+    by_test : (t : Bool) → (if t then Some x else find p xs) ≡ Some d → (find p xs ≡ Some d → P d) → P d
+    by_test true f rest = let same : x ≡ d = cc in subst P same (All-head P x xs all)
     by_test false f rest = rest f
 
 missing_is_nameable : (b : Basin) (month : Month) (n : ℕ) → IsMonth month → n < count_of_both b →
@@ -113,7 +96,7 @@ missing_nameable b rows e valid h =
     by_found None f h = cc
     by_found (Some d) f h =
         let within =
-        found_within b (λ c. not (is_some (amount_for (entries_of b rows) c.0 c.1))) (due b) d (due_within b valid)
+        found_holds (IsDue b) (λ c. not (is_some (amount_for (entries_of b rows) c.0 c.1))) (due b) d (all_due b valid)
         f in
         let same : missing_of b d.0 d.1 ≡ e = cc in
         subst (λ (x : SeriesRefused). IsNameable b x) same (missing_is_nameable b d.0 d.1 within.calendar within.inside)

@@ -1,111 +1,110 @@
 -- A text is written month by month: its head, the lines of each month, and its tail.
 use Rattle.std.proofs.Common.{◌≡◌, ℕ, ◌+◌, ◌-◌, ◌<◌, ◌≤◌, sym, ap, ◌∙◌, subst, arith, inl, inr, List, [], ◌∷◌, ◌++◌}
-use Rattle.std.proofs.Common.{length, take, drop, Result, length-append, append_assoc, append-nil}
+use Rattle.std.proofs.Common.{length, take, drop, length-append, append_assoc, append-nil}
 use Rattle.std.specs.List.{flat_map}
-use Rattle.std.proofs.lemmas.Grind.{flat_map-append}
 use Rattle.std.proofs.lemmas.List.{take-append-drop, take-append-le}
-use Rattle.std.proofs.Math.Seq.{take-append-add}
+use Rattle.std.proofs.Math.Seq.{take-append-add, take-length}
 use Rattle.water_edge.proofs.Puts.{PutsPrefix}
 use Rattle.water_edge.proofs.Outputs.{Extends-trans}
-use Rattle.water_edge.specs.Edge.{Extends, HasFlushed, Output, Puts}
-use Rattle.basin_cli.specs.Listed.{IsPrefixOf, begun_with}
+use Rattle.water_edge.specs.Edge.{Extends, HasFlushed, Output}
+use Rattle.basin_cli.specs.Written.{IsPrefixOf}
 use Rattle.basin_cli.proofs.FlushedBefore.{HasFlushed-less, flushed_before}
-use Rattle.basin_cli.proofs.Written.{all_but_last, prefix_after}
 
--- the lines of one month more
-pub begun_more : {X : Type 0} (head : List ℕ) (lines : X → List ℕ) (months : List X) (e : X) →
-    begun_with head lines (months ++ e ∷ []) ≡ begun_with head lines months ++ lines e
-begun_more head lines months e =
-    ap (λ text. head ++ text)
-    (flat_map-append lines months (e ∷ []) ∙ ap (λ text. flat_map lines months ++ text) (append-nil (lines e)))
-    ∙ sym (append_assoc head (flat_map lines months) (lines e))
+-- a prefix of the second piece stands after the first, whatever follows it
+prefix_after : (start mid now : Output) (a lines rest : List ℕ) (k : ℕ) → k ≤ length lines →
+    Extends start mid a →
+    Extends mid now (take k lines) → Extends start now (take (length a + k) ((a ++ lines) ++ rest))
+prefix_after start mid now a lines rest k bounded before later =
+    rw (
+      take-append-le (length a + k) (a ++ lines) rest (omega (arith, length-append a lines)),
+      take-append-add a lines k,
+    ) (Extends-trans start mid now a (take k lines) before later)
 
--- before the first month stands the head
-pub begun_none : {X : Type 0} (head : List ℕ) (lines : X → List ℕ) → begun_with head lines [] ≡ head
-begun_none head lines = append-nil head
+-- the months before the last are as many as stand before it
+all_but_last : {X : Type 0} (records : List X) (m : X) →
+    take (length (records ++ m ∷ []) - 1) (records ++ m ∷ []) ≡ records
+all_but_last records m =
+    let count : length (records ++ m ∷ []) - 1 ≡ length records = omega (arith, length-append records (m ∷ [])) in
+    rw count (take-append-le (length records) records (m ∷ []) (omega arith) ∙ take-length records)
 
-pub month_begun : {X : Type 0} (head : List ℕ) (lines : X → List ℕ) (months : List X) (e : X)
-    (start mid now : Output) →
-    Extends start mid (begun_with head lines months) → Extends mid now (lines e) →
-    Extends start now (begun_with head lines (months ++ e ∷ []))
-month_begun head lines months e start mid now before puts =
-    subst (λ bytes. Extends start now bytes) (sym (begun_more head lines months e))
-    (Extends-trans start mid now (begun_with head lines months) (lines e) before puts)
+-- `begun` is the head with the lines of some months
+module _ {X : Type 0} (begun : List X → List ℕ) (lines : X → List ℕ)
+    (more : (months : List X) (e : X) → begun (months ++ e ∷ []) ≡ begun months ++ lines e) where
+  -- the lines of later months come after it
+  begun_later : (months later : List X) → begun (months ++ later) ≡ begun months ++ flat_map lines later
+  begun_later months [] = ap begun (append-nil months) ∙ sym (append-nil (begun months))
+  begun_later months (e ∷ later) =
+      ap begun (sym (append_assoc months (e ∷ []) later))
+      ∙ (begun_later (months ++ e ∷ []) later
+      ∙ (ap (λ text. text ++ flat_map lines later) (more months e)
+      ∙ append_assoc (begun months) (lines e) (flat_map lines later)))
 
-pub head_begun : {X : Type 0} (head : List ℕ) (lines : X → List ℕ) (start now : Output) →
-    Extends start now head → Extends start now (begun_with head lines [])
-head_begun head lines start now puts = subst (λ bytes. Extends start now bytes) (sym (begun_none head lines)) puts
+  -- so what is begun with all months begins with what is begun with some of them, and is no shorter
+  begun_split : (months : List X) (n : ℕ) → begun months ≡ begun (take n months) ++ flat_map lines (drop n months)
+  begun_split months n = ap begun (sym (take-append-drop n months)) ∙ begun_later (take n months) (drop n months)
 
--- a prefix of the lines of a month was put
-pub month_prefix : {X : Type 0} (head tail : List ℕ) (lines : X → List ℕ) (months : List X) (e : X) (are_all : Type 0)
-    (start mid now : Output) →
-    Extends start mid (begun_with head lines months) → (0 < length months → mid.flushed ≡ mid.taken) →
-    PutsPrefix mid now (lines e) → IsPrefixOf head tail lines (months ++ e ∷ []) are_all start now
-month_prefix head tail lines months e are_all start mid now before flushed prefix = record {
-  count = length (begun_with head lines months) + prefix.0;
-  whole = λ _. rw (all_but_last months e) (omega arith);
-  last = inr (rw (begun_more head lines months e)
-      (omega (arith, prefix.1, length-append (begun_with head lines months) (lines e))));
-  text =
-      rw (begun_more head lines months e)
-      (prefix_after start mid now (begun_with head lines months) (lines e) tail prefix.0 prefix.1 before prefix.2);
-  flushed = λ more. rw (all_but_last months e)
-      (flushed_before start mid now (begun_with head lines months) (take prefix.0 (lines e)) before
-      (flushed (omega (arith, more, length-append months (e ∷ [])))) prefix.2);
-}
+  begun_grows : (months : List X) (n : ℕ) → length (begun (take n months)) ≤ length (begun months)
+  begun_grows months n = omega (
+    arith,
+    ap length (begun_split months n),
+    length-append (begun (take n months)) (flat_map lines (drop n months)),
+  )
+
+  pub month_begun : (months : List X) (e : X) (start mid now : Output) → Extends start mid (begun months) →
+      Extends mid now (lines e) → Extends start now (begun (months ++ e ∷ []))
+  month_begun months e start mid now before puts =
+      subst (λ bytes. Extends start now bytes) (sym (more months e))
+      (Extends-trans start mid now (begun months) (lines e) before puts)
+
+  -- a prefix of the lines of a month was put
+  pub month_prefix : (text tail : List ℕ) (months : List X) (e : X) (are_all : Type 0) (start mid now : Output) →
+      text ≡ begun (months ++ e ∷ []) ++ tail → Extends start mid (begun months) →
+      (0 < length months → mid.flushed ≡ mid.taken) → PutsPrefix mid now (lines e) →
+      IsPrefixOf begun text (months ++ e ∷ []) are_all start now
+  month_prefix text tail months e are_all start mid now is before flushed prefix = record {
+    count = length (begun months) + prefix.0;
+    whole = λ _. rw (all_but_last months e) (omega arith);
+    last = inr (rw (more months e) (omega (arith, prefix.1, length-append (begun months) (lines e))));
+    text =
+        rw (is, more months e)
+        (prefix_after start mid now (begun months) (lines e) tail prefix.0 prefix.1 before prefix.2);
+    flushed = λ longer. rw (all_but_last months e)
+        (flushed_before start mid now (begun months) (take prefix.0 (lines e)) before
+        (flushed (omega (arith, longer, length-append months (e ∷ [])))) prefix.2);
+  }
+
+  -- a prefix of the tail
+  pub tail_prefix : (text tail : List ℕ) (months : List X) (are_all : Type 0) (start mid now : Output) →
+      text ≡ begun months ++ tail → are_all → Extends start mid (begun months) →
+      (0 < length months → mid.flushed ≡ mid.taken) → PutsPrefix mid now tail →
+      IsPrefixOf begun text months are_all start now
+  tail_prefix text tail months are_all start mid now is all before flushed prefix = record {
+    count = length (begun months) + prefix.0;
+    whole = λ _. (let less = begun_grows months (length months - 1) in omega (arith, less));
+    last = inl all;
+    text = rw (is, take-append-add (begun months) tail prefix.0)
+        (Extends-trans start mid now (begun months) (take prefix.0 tail) before prefix.2);
+    flushed = λ longer. HasFlushed-less start now (begun (take (length months - 1) months)) _
+        (subst (HasFlushed start now) (begun_split months (length months - 1))
+        (flushed_before start mid now (begun months) (take prefix.0 tail) before (flushed (omega (arith, longer)))
+        prefix.2));
+  }
 
 -- a prefix of the head
-pub head_prefix : {X : Type 0} (head tail : List ℕ) (lines : X → List ℕ) (are_all : Type 0)
-    (start now : Output) →
-    PutsPrefix start now head → IsPrefixOf head tail lines [] are_all start now
-head_prefix head tail lines are_all start now prefix = record {
+pub head_prefix : {X : Type 0} (begun : List X → List ℕ) (text head rest : List ℕ) (are_all : Type 0)
+    (start now : Output) → begun [] ≡ head → text ≡ head ++ rest → PutsPrefix start now head →
+    IsPrefixOf begun text [] are_all start now
+head_prefix begun text head rest are_all start now none is prefix = record {
   count = prefix.0;
   whole = λ some. absurd (omega (arith, some));
-  last = inr (rw (begun_none head lines) prefix.1);
-  text = rw (begun_none head lines) (rw (take-append-le prefix.0 head tail prefix.1) prefix.2);
-  flushed = λ more. absurd (omega (arith, more));
+  last = inr (rw none prefix.1);
+  text = rw (is, take-append-le prefix.0 head rest prefix.1) prefix.2;
+  flushed = λ longer. absurd (omega (arith, longer));
 }
 
--- what is begun with all months begins with what is begun with some of them
-begun_split : {X : Type 0} (head : List ℕ) (lines : X → List ℕ) (months : List X) (n : ℕ) →
-    begun_with head lines months ≡ begun_with head lines (take n months) ++ flat_map lines (drop n months)
-begun_split head lines months n =
-    ap (λ es. begun_with head lines es) (sym (take-append-drop n months))
-    ∙ (ap (λ text. head ++ text) (flat_map-append lines (take n months) (drop n months))
-    ∙ sym (append_assoc head (flat_map lines (take n months)) (flat_map lines (drop n months))))
-
--- so it is no shorter
-begun_grows : {X : Type 0} (head : List ℕ) (lines : X → List ℕ) (months : List X) (n : ℕ) →
-    length (begun_with head lines (take n months)) ≤ length (begun_with head lines months)
-begun_grows head lines months n =
-    omega (
-      arith,
-      ap length (begun_split head lines months n),
-      length-append (begun_with head lines (take n months)) (flat_map lines (drop n months)),
-    )
-
--- a prefix of the tail
-pub tail_prefix : {X : Type 0} (head tail : List ℕ) (lines : X → List ℕ) (months : List X) (are_all : Type 0)
-    (start mid now : Output) → are_all →
-    Extends start mid (begun_with head lines months) → (0 < length months → mid.flushed ≡ mid.taken) →
-    PutsPrefix mid now tail → IsPrefixOf head tail lines months are_all start now
-tail_prefix head tail lines months are_all start mid now all before flushed prefix = record {
-  count = length (begun_with head lines months) + prefix.0;
-  whole = λ _. (let less = begun_grows head lines months (length months - 1) in omega (arith, less));
-  last = inl all;
-  text = rw (take-append-add (begun_with head lines months) tail prefix.0)
-      (Extends-trans start mid now (begun_with head lines months) (take prefix.0 tail) before prefix.2);
-  flushed = λ more. HasFlushed-less start now (begun_with head lines (take (length months - 1) months)) _
-      (subst (HasFlushed start now) (begun_split head lines months (length months - 1))
-      (flushed_before start mid now (begun_with head lines months) (take prefix.0 tail) before
-      (flushed (omega (arith, more))) prefix.2));
-}
-
--- a text of three things that are others by name alone
-pub same_text : {X Y Z E : Type 0} (text : X → Y → Z → List ℕ) (x a : X) (y b : Y) (z c : Z)
-    (old new : Output) (r : Result (Unit {0}) E) → x ≡ a → y ≡ b → z ≡ c → Puts old new r (text x y z) →
-    Puts old new r (text a b c)
-same_text {X = X} {Y = Y} {Z = Z} text x a y b z c old new r one two three puts =
-    subst (λ (k : X). Puts old new r (text k b c)) one
-    (subst (λ (k : Y). Puts old new r (text x k c)) two
-    (subst (λ (k : Z). Puts old new r (text x y k)) three puts))
+-- what holds of a text of three things holds of that of others which are the same
+pub same_text : {X Y Z : Type 0} (P : List ℕ → Type 0) (text : X → Y → Z → List ℕ) (x a : X) (y b : Y) (z c : Z) →
+    x ≡ a → y ≡ b → z ≡ c → P (text x y z) → P (text a b c)
+same_text {X = X} {Y = Y} {Z = Z} P text x a y b z c one two three holds =
+    subst (λ (k : X). P (text k b c)) one
+    (subst (λ (k : Y). P (text x k c)) two (subst (λ (k : Z). P (text x y k)) three holds))

@@ -64,24 +64,24 @@ one_or_other bytes other is one =
     let same : one.first ≡ is.first = one_basin bytes one.first is.first one.first_spelled is.first_spelled in
     let same_second : one.second ≡ is.second =
     one_basin other one.second is.second one.second_spelled is.second_spelled in
-    is.differ
+    is.holds
     (subst (λ (c : Basin). HaveSameMonths is.first c) same_second
-    (subst (λ (b : Basin). HaveSameMonths b one.second) same one.same))
+    (subst (λ (b : Basin). HaveSameMonths b one.second) same one.holds))
 
 -- a run that hasn't the month, or a basin that hasn't the right, is not asked for them
 outside : (month : Month) (name bytes : List ℕ) → IsOutsideRun month bytes → IsAsked month name bytes → ⊥
 outside month name bytes is asked =
-    is.outside (subst (λ (b : Basin). HasMonth b month)
-    (one_basin bytes asked.basin is.basin asked.spelled is.spelled) asked.has_month)
+    is.holds (subst (λ (b : Basin). HasMonth b month)
+    (one_basin bytes asked.basin is.basin asked.spelled is.spelled) asked.holds.0)
 
 unknown : (month : Month) (name bytes : List ℕ) → IsUnknownRight month name bytes → IsAsked month name bytes → ⊥
 unknown month name bytes is asked =
-    is.unknown (subst (λ (b : Basin). HasRight b name)
-    (one_basin bytes asked.basin is.basin asked.spelled is.spelled) asked.has_right)
+    is.holds.1 (subst (λ (b : Basin). HasRight b name)
+    (one_basin bytes asked.basin is.basin asked.spelled is.spelled) asked.holds.1)
 
 part : (bytes : List ℕ) → IsPartYear bytes → IsOfYears bytes → ⊥
 part bytes is years =
-    is.part (subst HasWholeYears (one_basin bytes years.basin is.basin years.spelled is.spelled) years.whole)
+    is.part (subst HasWholeYears (one_basin bytes years.basin is.basin years.spelled is.spelled) years.holds)
 
 trying : (how : Ending) (write : Type 0) → HasTrialCause how write → (write → ⊥) → IsDone (status_of how)
 trying ending.Done write h no_write = inl refl
@@ -153,21 +153,21 @@ module _ (known : KnownFiles) (read write : Type 0) (no_read : read → ⊥) (no
       stopped files (λ status bytes s. IsAsked month name bytes → IsJudged status (IsShortIn month name bytes s))
       (λ _ _ _. inl refl) other h
 
+  years_stopped : (files : Files) (how : Ending) → StopsReading files how known read →
+      CompletesAfter known files (λ bytes _. IsOfYears bytes → IsDone (status_of how))
+  years_stopped files how h =
+      stopped files (λ status bytes _. IsOfYears bytes → IsDone status) (λ _ _ _. inr refl) how h
+
   gathering : (files : Files) (how : Ending) → HasEnsembleCause files how known read write →
       CompletesAfter known files (λ bytes _. IsOfYears bytes → IsDone (status_of how))
   gathering files ending.Done h = always files (λ _ _ _. inl refl)
   gathering files ending.WriteFault h = absurd (no_write h.0)
   gathering files ending.PartYear h = IfSome_then (known files.basin) h (λ bytes is _.
       of_any (known_series known files.series) (λ _ _ years. absurd (part bytes is years)))
-  gathering files (ending.SeriesRefused finding) h =
-      stopped files (λ status bytes _. IsOfYears bytes → IsDone status) (λ _ _ _. inr refl)
-      (ending.SeriesRefused finding) h.1
+  gathering files (ending.SeriesRefused finding) h = years_stopped files (ending.SeriesRefused finding) h.1
   gathering files (ending.ReadFault file.Series) h = absurd (no_read h.1)
-  gathering files (ending.InputTooLong file.Series) h =
-      stopped files (λ status bytes _. IsOfYears bytes → IsDone status) (λ _ _ _. inr refl)
-      (ending.InputTooLong file.Series) h.1
-  gathering files other h =
-      stopped files (λ status bytes _. IsOfYears bytes → IsDone status) (λ _ _ _. inr refl) other h
+  gathering files (ending.InputTooLong file.Series) h = years_stopped files (ending.InputTooLong file.Series) h.1
+  gathering files other h = years_stopped files other h
 
   editing : (files : Files) (script : List ℕ) (how : Ending) → HasEditingCause files script how known read write →
       EditsAfter known files script (status_of how)
@@ -179,7 +179,7 @@ module _ (known : KnownFiles) (read write : Type 0) (no_read : read → ⊥) (no
   editing files script (ending.ReadFault file.Script) h = absurd (no_read h.0)
   editing files script (ending.InputTooLong file.Script) h =
       after files h (λ bytes s is _. IfSome_then (known script) is.1
-      (λ text long good. absurd (omega (arith, long.beyond, good.within))))
+      (λ text long good. absurd (omega (arith, long.beyond, good.0))))
   editing files script other h =
       stopped files (λ status bytes s. IfSome (known script) (λ text. IsGoodScript bytes s text → IsDone status))
       (λ _ _. of_any (known script) (λ _ _. inr refl)) other h

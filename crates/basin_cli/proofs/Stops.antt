@@ -1,38 +1,22 @@
 -- How the reading of a comparison's files ends.
-use Rattle.std.proofs.Common.{◌≡◌, refl, sym, subst, ℕ, ◌≤◌, List, Option, Some, None, length, arith}
+use Rattle.std.proofs.Common.{◌≡◌, refl, sym, subst, ℕ, ◌≤◌, List, Option, Some, None, arith}
 use Rattle.std.proofs.lemmas.Option.{IfSome_then}
-use Rattle.std.specs.Prelude.{IfSome, IfErr, Result, Ok, Err}
+use Rattle.std.specs.Prelude.{IfSome}
 use Rattle.water_edge.specs.Edge.{Output, Rose}
 use Rattle.water_model.specs.declared.types.Basin.{Basin}
-use Rattle.water_model.specs.declared.types.Inflows.{Inflows}
 use Rattle.basin_cli.specs.declared.ending.Ending.{Ending}
 use Rattle.basin_cli.specs.declared.ending.Ending.TheVariants as ending
 use Rattle.basin_cli.specs.declared.ending.File.TheVariants as file
 use Rattle.basin_cli.specs.declared.ending.SecondFinding.TheVariants as of_second
-use Rattle.basin_cli.specs.Bytes.{IsTooLong, KnownFiles, file_limit, known_series}
+use Rattle.basin_cli.specs.Bytes.{IsTooLong, KnownFiles, known_series}
 use Rattle.basin_cli.specs.Command.{Files}
-use Rattle.basin_cli.specs.Comparison.{HaveSameMonths, IsGoodSecond, StopsComparing, AfterFirst, AfterBoth}
+use Rattle.basin_cli.specs.Comparison.{HaveSameMonths, StopsComparing, AfterFirst, AfterBoth}
 use Rattle.basin_cli.specs.Comparison.{ComparisonWrites}
 use Rattle.basin_cli.specs.Ending.{status_of}
 use Rattle.basin_cli.specs.Out.{MayWrite}
-use Rattle.basin_cli.specs.Pairs.{BothSeriesEnd, BothSeriesReadEnd, IsOtherRun}
+use Rattle.basin_cli.specs.Pairs.{BothSeriesReadEnd, IsOtherRun}
 use Rattle.basin_cli.specs.Series.{IsBasinText}
-use Rattle.basin_cli.proofs.Known.{of_any}
-
--- bytes that were read are refused as they are
-both_read : (first second : Basin) (bytes : List ℕ) (name : Option (List ℕ)) (read : Type 0) (how : Ending) →
-    length bytes ≤ file_limit →
-    BothSeriesEnd first second bytes how → BothSeriesReadEnd first second name (Some bytes) read how
-both_read first second bytes name read (ending.SeriesRefused finding) within h = (within, h)
-both_read first second bytes name read (ending.SecondRefused (of_second.Series finding)) within h = (within, h)
-both_read first second bytes name read ending.OutOfMemory within h = tt
-both_read first second bytes name read how within h = absurd h
-
-pub both_read_result : (first second : Basin) (bytes : List ℕ) (name : Option (List ℕ)) (read : Type 0)
-    (r : Result (Inflows × Inflows) Ending) → length bytes ≤ file_limit →
-    IfErr r (BothSeriesEnd first second bytes) → IfErr r (BothSeriesReadEnd first second name (Some bytes) read)
-both_read_result first second bytes name read (Ok both) within h = tt
-both_read_result first second bytes name read (Err how) within h = both_read first second bytes name read how within h
+use Rattle.basin_cli.proofs.Known.{good_second, of_any}
 
 -- of a later shelf the same is known, and a count that rose since then rose since the beginning
 same_series : (known later : KnownFiles) (name : Option (List ℕ)) → ((n : List ℕ) → later n ≡ known n) →
@@ -62,18 +46,6 @@ module _ (files : Files) (second : List ℕ) (known : KnownFiles) (read : Type 0
         IfSome_then (known files.basin) first_text
         (λ bytes is. (is.good, IfSome_then (known second) second_text (λ other also. f bytes other is also)))
 
-    good_second : HaveSameMonths b c → AfterFirst known files second IsGoodSecond
-    good_second same = both_known IsGoodSecond (λ bytes other text other_text. record {
-      good = other_text.good;
-      one_run = record {
-        first = b;
-        second = c;
-        first_spelled = text.spelled;
-        second_spelled = other_text.spelled;
-        same = same;
-      };
-    })
-
     pub other_run : (how : Ending) → IsOtherRun b c how → StopsComparing files second how known read
     other_run how is =
         subst (λ how. StopsComparing files second how known read) (sym is.0)
@@ -84,7 +56,7 @@ module _ (files : Files) (second : List ℕ) (known : KnownFiles) (read : Type 0
             second = c;
             first_spelled = text.spelled;
             second_spelled = other_text.spelled;
-            differ = is.1;
+            holds = is.1;
           },
         )))
 
@@ -94,16 +66,7 @@ module _ (files : Files) (second : List ℕ) (known : KnownFiles) (read : Type 0
         AfterBoth known files second Q
     after_both Q S same h f =
         both_known _ (λ bytes other text other_text. (
-          record {
-            good = other_text.good;
-            one_run = record {
-              first = b;
-              second = c;
-              first_spelled = text.spelled;
-              second_spelled = other_text.spelled;
-              same = same;
-            };
-          },
+          good_second bytes other b c same text other_text,
           IfSome_then (known_series known files.series) h (λ series is. f bytes other series text other_text is),
         ))
 
@@ -124,7 +87,8 @@ module _ (files : Files) (second : List ℕ) (known : KnownFiles) (read : Type 0
           record { basin = b; spelled = text.spelled; within = is.0; sound = is.1.0 },
           record { basin = c; spelled = other_text.spelled; within = is.0; first = is.1.1 },
         ))
-    series_stops (ending.ReadFault file.Series) same h = (h.0, h.1, good_second same)
+    series_stops (ending.ReadFault file.Series) same h =
+        (h.0, h.1, both_known _ (λ bytes other. good_second bytes other b c same))
     series_stops (ending.InputTooLong file.Series) same h = after_both _ IsTooLong same h (λ _ _ _ _ _ is. is)
     series_stops ending.OutOfMemory same h = tt
     series_stops how same h = absurd h

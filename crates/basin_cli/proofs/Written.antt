@@ -1,10 +1,8 @@
 -- A text is written month by month.
-use Rattle.std.proofs.Common.{◌≡◌, ℕ, ◌+◌, ◌-◌, ◌<◌, ◌≤◌, sym, ap, ◌∙◌, subst, arith, inl, inr, List, []}
-use Rattle.std.proofs.Common.{◌∷◌, ◌++◌, length, take, drop, Result, Ok, Err, length-append, append_assoc}
+use Rattle.std.proofs.Common.{◌≡◌, ℕ, ◌+◌, sym, ap, ◌∙◌, subst, arith, List, [], ◌∷◌, ◌++◌, Result}
+use Rattle.std.proofs.Common.{Ok, Err, length-append}
+use Rattle.std.specs.List.{flat_map}
 use Rattle.std.specs.Prelude.{OnOk, OnErr}
-use Rattle.std.proofs.lemmas.List.{take-append-drop, take-append-le}
-use Rattle.std.proofs.lemmas.Grind.{flat_map-append}
-use Rattle.std.proofs.Math.Seq.{take-append-add, take-length}
 use Rattle.water_model.specs.History.{HaveReaches, IsPartialHistory}
 use Rattle.result_lines.specs.Spelling.{whole_line}
 use Rattle.result_lines.specs.Text.{items_of_month, items_of_head, items_of_tail}
@@ -24,15 +22,13 @@ use Rattle.month_fold.specs.Works.{Solves, WorkDone}
 use Rattle.month_fold.proofs.Works.{Solves-none, Solves-then}
 use Rattle.result_text.specs.Begun.{begun_bytes}
 use Rattle.result_text.specs.Range.{FitsText}
-use Rattle.result_text.proofs.Whole.{FitsText-follows, Puts-head, Puts-month, Puts-tail, begun-head, begun-more}
-use Rattle.result_text.proofs.Whole.{text-begun}
+use Rattle.result_text.proofs.Whole.{FitsText-follows, begun-head, begun-more, text-begun}
 use Rattle.water_edge.proofs.Puts.{PutsPrefix}
 use Rattle.water_edge.proofs.Outputs.{Extends-trans}
-use Rattle.water_edge.specs.Edge.{Extends, HasFlushed, Output, Puts}
+use Rattle.water_edge.specs.Edge.{Extends, Output, Puts}
 use Rattle.basin_cli.specs.Written.{IsWritten, IsWrittenRun, StopsWriting}
 use Rattle.basin_cli.specs.Headline.{KeepsPriority, deliveries_of}
-use Rattle.basin_cli.proofs.FlushedBefore.{HasFlushed-less, flushed_before}
-use Rattle.std.specs.List.{flat_map}
+use Rattle.basin_cli.proofs.Monthly.{head_prefix, month_begun, month_prefix, tail_prefix}
 
 -- the lines of the last of some months can be written
 pub last_fits : (b : Basin) (run : RunView) (records : List MonthRecord) (m : MonthRecord) → run.basin ≡ b →
@@ -75,21 +71,12 @@ pub stood_done : (run next : RunView) (records : List MonthRecord) (m : MonthRec
     RunStandsFor next (records ++ m ∷ []) → next.done ≡ run.done + 1
 stood_done run next records m was is = omega (arith, was.done, is.done, length-append records (m ∷ []))
 
--- the lines of one month more
-month_written : (b : Basin) (run : RunView) (records : List MonthRecord) (m : MonthRecord)
-    (start mid now : Output) →
-    run.basin ≡ b → Extends start mid (begun_bytes b records) → RunStandsFor run (records ++ m ∷ []) →
-    Extends mid now (flat_map (whole_line b) (items_of_month b m)) → now.flushed ≡ now.taken → IsWritten b run start now
-month_written b run records m start mid now same text stands puts flushed = record {
-  basin = same;
-  records = records ++ m ∷ [];
-  stands = stands;
-  text = Puts-month b records m start mid now done text puts;
-  flushed = λ _. flushed;
-}
-  where
-    done : Result (Unit {0}) (Unit {0})
-    done = Ok tt
+-- the lines of a month, and of the tail
+abbrev lines_of : Basin → MonthRecord → List ℕ
+lines_of b m = flat_map (whole_line b) (items_of_month b m)
+
+abbrev tail_of : Basin → List ℕ
+tail_of b = flat_map (whole_line b) (items_of_tail b)
 
 -- before the first month a run has the head alone
 pub head_written : (b : Basin) (run : RunView) (start now : Output) → run.basin ≡ b → RunStandsFor run [] →
@@ -98,25 +85,9 @@ head_written b run start now same stands puts = record {
   basin = same;
   records = [];
   stands = stands;
-  text = Puts-head b start now done puts;
+  text = rw (begun-head b) puts;
   flushed = λ some. absurd (omega (arith, some));
 }
-  where
-    done : Result (Unit {0}) (Unit {0})
-    done = Ok tt
-
--- after all months the tail makes the text
-tail_written : (b : Basin) (series : Inflows) (run : RunView) (start mid now : Output) →
-    run.series ≡ series → run.done ≡ b.months → IsWritten b run start mid →
-    Extends mid now (flat_map (whole_line b) (items_of_tail b)) → IsWrittenRun b series start now
-tail_written b series run start mid now fits all written puts = record {
-  records = written.records;
-  keeps = whole_run b series run written.records written.basin fits written.stands all;
-  text = Puts-tail b written.records start mid now done written.text puts;
-}
-  where
-    done : Result (Unit {0}) (Unit {0})
-    done = Ok tt
 
 -- Where a put fails.
 
@@ -125,77 +96,39 @@ pub stopped : {E : Type 0} (r : Result (Unit {0}) E) (P : Type 0) → P → OnEr
 stopped (Ok u) P p = tt
 stopped (Err x) P p = p
 
--- a prefix of the second piece stands after the first, whatever follows it
-pub prefix_after : (start mid now : Output) (a lines rest : List ℕ) (k : ℕ) → k ≤ length lines →
-    Extends start mid a →
-    Extends mid now (take k lines) → Extends start now (take (length a + k) ((a ++ lines) ++ rest))
-prefix_after start mid now a lines rest k bounded before later =
-    rw (
-      take-append-le (length a + k) (a ++ lines) rest (omega (arith, length-append a lines)),
-      take-append-add a lines k,
-    ) (Extends-trans start mid now a (take k lines) before later)
+-- one month more of a run whose lines so far are written
+module _ (b : Basin) (series : Inflows) (was run : RunView) (m : MonthRecord) (start mid now : Output)
+    (written : IsWritten b was start mid) (same : run.basin ≡ b) (fits : run.series ≡ series)
+    (stands : RunStandsFor run (written.records ++ m ∷ [])) where
+  -- a prefix of the month's lines was put
+  pub month_stopped : (at after : WorkDone) → PutsPrefix mid now (lines_of b m) → Solves 1 b at after →
+      (before : WorkDone) → Solves was.done b before at → StopsWriting b series start now before after
+  month_stopped at after prefix solves before sofar = record {
+    records = written.records ++ m ∷ [];
+    partial = rw (← same, ← fits) stands.partial;
+    reaches = rw (← same) stands.reaches;
+    prefix = month_prefix (begun_bytes b) (lines_of b) (begun-more b) _ (tail_of b) written.records m _ start mid now
+        (text-begun b (written.records ++ m ∷ [])) written.text written.flushed prefix;
+    work = rw (← stands.done, stood_done was run written.records m written.stands stands)
+        (Solves-then was.done 1 b before at after sofar solves);
+  }
 
--- the months before the last are as many as stand before it
-pub all_but_last : {X : Type 0} (records : List X) (m : X) →
-    take (length (records ++ m ∷ []) - 1) (records ++ m ∷ []) ≡ records
-all_but_last records m =
-    let count : length (records ++ m ∷ []) - 1 ≡ length records = omega (arith, length-append records (m ∷ [])) in
-    rw count (take-append-le (length records) records (m ∷ []) (omega arith) ∙ take-length records)
-
-month_stops : (b : Basin) (series : Inflows) (run : RunView) (records : List MonthRecord) (m : MonthRecord)
-    (start mid now : Output) (before after : WorkDone) → run.basin ≡ b → run.series ≡ series →
-    RunStandsFor run (records ++ m ∷ []) → Extends start mid (begun_bytes b records) →
-    (0 < length records → mid.flushed ≡ mid.taken) →
-    PutsPrefix mid now (flat_map (whole_line b) (items_of_month b m)) → Solves run.done b before after →
-    StopsWriting b series start now before after
-month_stops b series run records m start mid now before after same fits stands text flushed prefix solves = record {
-  records = records ++ m ∷ [];
-  partial = rw (← same, ← fits) stands.partial;
-  reaches = rw (← same) stands.reaches;
-  count = length (begun_bytes b records) + prefix.0;
-  whole = λ _. rw (all_but_last records m) (omega arith);
-  last = inr (rw (begun-more b records m) (omega (arith, prefix.1, length-append (begun_bytes b records) lines)));
-  text = rw (text-begun b (records ++ m ∷ []), begun-more b records m)
-      (prefix_after start mid now (begun_bytes b records) lines (flat_map (whole_line b) (items_of_tail b)) prefix.0
-      prefix.1 text
-      prefix.2);
-  flushed = λ more. rw (all_but_last records m)
-      (flushed_before start mid now (begun_bytes b records) (take prefix.0 lines) text
-      (flushed (omega (arith, more, length-append records (m ∷ [])))) prefix.2);
-  work = rw (← stands.done) solves;
-}
-  where
-    lines : List ℕ
-    lines = flat_map (whole_line b) (items_of_month b m)
-
--- a prefix of the lines of a month was put
-pub month_stopped : (b : Basin) (series : Inflows) (run : RunView) (records : List MonthRecord) (m : MonthRecord)
-    (start mid now : Output) (done : ℕ) (at after : WorkDone) → run.basin ≡ b → run.series ≡ series →
-    RunStandsFor run (records ++ m ∷ []) → Extends start mid (begun_bytes b records) →
-    (0 < length records → mid.flushed ≡ mid.taken) →
-    PutsPrefix mid now (flat_map (whole_line b) (items_of_month b m)) → run.done ≡ done + 1 →
-    Solves 1 b at after →
-    (before : WorkDone) → Solves done b before at → StopsWriting b series start now before after
-month_stopped b series run records m start mid now done at after same fits stands text flushed prefix next solves before
-    sofar =
-    month_stops b series run records m start mid now before after same fits stands text flushed prefix
-    (rw next (Solves-then done 1 b before at after sofar solves))
-
--- the lines of a month were put, or a prefix of them
-pub month_put : {E : Type 0} (b : Basin) (series : Inflows) (run : RunView) (records : List MonthRecord)
-    (m : MonthRecord)
-    (start mid now : Output) (r : Result (Unit {0}) E) (done : ℕ) (at after : WorkDone) → run.basin ≡ b →
-    run.series ≡ series →
-    RunStandsFor run (records ++ m ∷ []) → Extends start mid (begun_bytes b records) →
-    (0 < length records → mid.flushed ≡ mid.taken) →
-    Puts mid now r (flat_map (whole_line b) (items_of_month b m)) → OnOk r (now.flushed ≡ now.taken) →
-    run.done ≡ done + 1 → Solves 1 b at after →
-    OnOk r (IsWritten b run start now) ×
-    OnErr r ((before : WorkDone) → Solves done b before at → StopsWriting b series start now before after)
-month_put b series run records m start mid now (Ok u) done at after same fits stands text was puts is next solves =
-    (month_written b run records m start mid now same text stands puts is, tt)
-month_put b series run records m start mid now (Err e) done at after same fits stands text was puts is next solves =
-    (tt, month_stopped b series run records m start mid now done at after same fits stands text was puts next solves)
+  -- they were put, or a prefix of them
+  pub month_put : {E : Type 0} (r : Result (Unit {0}) E) (at after : WorkDone) → Puts mid now r (lines_of b m) →
+      OnOk r (now.flushed ≡ now.taken) → Solves 1 b at after →
+      OnOk r (IsWritten b run start now) ×
+      OnErr r ((before : WorkDone) → Solves was.done b before at → StopsWriting b series start now before after)
+  month_put (Ok u) at after puts flushed solves = (
+    record {
+      basin = same;
+      records = written.records ++ m ∷ [];
+      stands = stands;
+      text = month_begun (begun_bytes b) (lines_of b) (begun-more b) written.records m start mid now written.text puts;
+      flushed = λ _. flushed;
+    },
+    tt,
+  )
+  month_put (Err e) at after puts flushed solves = (tt, month_stopped at after puts solves)
 
 pub head_stops : (b : Basin) (series : Inflows) (run : RunView) (start now : Output) (before : WorkDone) →
     run.basin ≡ b →
@@ -205,69 +138,38 @@ head_stops b series run start now before same fits stands prefix = record {
   records = [];
   partial = rw (← same, ← fits) stands.partial;
   reaches = rw (← same) stands.reaches;
-  count = prefix.0;
-  whole = λ some. absurd (omega (arith, some));
-  last = inr (rw (begun-head b) prefix.1);
-  text = rw (text-begun b [], begun-head b) (rw (take-append-le prefix.0 (flat_map (whole_line b) (items_of_head b))
-      (flat_map (whole_line b) (items_of_tail b)) prefix.1) prefix.2);
-  flushed = λ more. absurd (omega (arith, more));
+  prefix = head_prefix (begun_bytes b) _ (flat_map (whole_line b) (items_of_head b)) (tail_of b) _ start now
+      (begun-head b) (text-begun b [] ∙ ap (λ text. text ++ tail_of b) (begun-head b)) prefix;
   work = Solves-none b before;
 }
 
--- what is begun with all months begins with what is begun with some of them
-begun_split : (b : Basin) (records : List MonthRecord) (n : ℕ) →
-    begun_bytes b records ≡ begun_bytes b (take n records)
-    ++ flat_map (whole_line b) (flat_map (items_of_month b) (drop n records))
-begun_split b records n =
-    ap (λ rs. begun_bytes b rs) (sym (take-append-drop n records))
-    ∙ (ap (flat_map (whole_line b)) (ap (λ items. items_of_head b ++ items)
-    (flat_map-append (items_of_month b) (take n records) (drop n records))
-    ∙ sym (append_assoc (items_of_head b) (flat_map (items_of_month b) (take n records))
-    (flat_map (items_of_month b) (drop n records))))
-    ∙ flat_map-append (whole_line b) (items_of_head b ++ flat_map (items_of_month b) (take n records))
-    (flat_map (items_of_month b) (drop n records)))
-
--- so it is no shorter
-begun_grows : (b : Basin) (records : List MonthRecord) (n : ℕ) →
-    length (begun_bytes b (take n records)) ≤ length (begun_bytes b records)
-begun_grows b records n =
-    omega (
-      arith,
-      ap length (begun_split b records n),
-      length-append (begun_bytes b (take n records))
-          (flat_map (whole_line b) (flat_map (items_of_month b) (drop n records))),
-    )
-
 pub tail_stops : (b : Basin) (series : Inflows) (run : RunView) (start mid now : Output) (before after : WorkDone) →
     run.series ≡ series → run.done ≡ b.months → IsWritten b run start mid →
-    PutsPrefix mid now (flat_map (whole_line b) (items_of_tail b)) → Solves b.months b before after →
+    PutsPrefix mid now (tail_of b) → Solves b.months b before after →
     StopsWriting b series start now before after
 tail_stops b series run start mid now before after fits all written prefix solves = record {
   records = written.records;
   partial = rw (← written.basin, ← fits) written.stands.partial;
   reaches = rw (← written.basin) written.stands.reaches;
-  count = length (begun_bytes b written.records) + prefix.0;
-  whole = λ _. (let less = begun_grows b written.records (length written.records - 1) in omega (arith, less));
-  last = inl (sym written.stands.done ∙ all);
-  text = rw (text-begun b written.records) (rw (take-append-add (begun_bytes b written.records) tail prefix.0)
-      (Extends-trans start mid now (begun_bytes b written.records) (take prefix.0 tail) written.text prefix.2));
-  flushed = λ more. HasFlushed-less start now (begun_bytes b (take (length written.records - 1) written.records)) _
-      (subst (HasFlushed start now) (begun_split b written.records (length written.records - 1))
-      (flushed_before start mid now (begun_bytes b written.records) (take prefix.0 tail) written.text
-      (written.flushed (omega (arith, more))) prefix.2));
+  prefix = tail_prefix (begun_bytes b) (lines_of b) (begun-more b) _ (tail_of b) written.records _ start mid now
+      (text-begun b written.records) (sym written.stands.done ∙ all) written.text written.flushed prefix;
   work = rw (← written.stands.done, all) solves;
 }
-  where
-    tail : List ℕ
-    tail = flat_map (whole_line b) (items_of_tail b)
 
--- the tail was put, or a prefix of it
+-- the tail was put, which makes the text, or a prefix of it
 pub tail_put : {E : Type 0} (b : Basin) (series : Inflows) (run : RunView) (start mid now : Output)
     (r : Result (Unit {0}) E) (before after : WorkDone) → run.series ≡ series → run.done ≡ b.months →
-    IsWritten b run start mid → Puts mid now r (flat_map (whole_line b) (items_of_tail b)) →
+    IsWritten b run start mid → Puts mid now r (tail_of b) →
     Solves b.months b before after →
     OnOk r (IsWrittenRun b series start now) × OnErr r (StopsWriting b series start now before after)
-tail_put b series run start mid now (Ok u) before after fits all written puts solves =
-    (tail_written b series run start mid now fits all written puts, tt)
+tail_put b series run start mid now (Ok u) before after fits all written puts solves = (
+  record {
+    records = written.records;
+    keeps = whole_run b series run written.records written.basin fits written.stands all;
+    text = rw (text-begun b written.records)
+        (Extends-trans start mid now (begun_bytes b written.records) (tail_of b) written.text puts);
+  },
+  tt,
+)
 tail_put b series run start mid now (Err e) before after fits all written puts solves =
     (tt, tail_stops b series run start mid now before after fits all written puts solves)

@@ -15,6 +15,7 @@ use Rattle.basin_cli.specs.declared.explaining.Account.{Account}
 use Rattle.basin_cli.specs.declared.ending.Ending.{Ending}
 use Rattle.basin_cli.specs.declared.ending.Ending.TheVariants as ending
 use Rattle.basin_cli.specs.declared.ending.File.TheVariants as file
+use Rattle.basin_cli.specs.declared.status.Status.{Status}
 use Rattle.basin_cli.specs.Answer.{IsAnswerTo}
 use Rattle.basin_cli.specs.Ending.{status_of}
 use Rattle.basin_cli.specs.Explained.{EndsExplaining, Explains, HasMonth, HasRight, IsAbout, IsRecordOf}
@@ -67,11 +68,11 @@ EndsAsking b series month name ending.OutOfMemory write = ⊤
 EndsAsking b series month name other write = ⊥
 
 -- out was left with the answer about a right and a record of the month, or with a prefix of it
-pub record IsAnswered (asked : Account) (b : Basin) (series : Inflows) (month : Month) (name : List ℕ) (how : Ending)
-    (old new : Output) : Type 0 where
+pub record IsAnswered (asked : Account) (b : Basin) (series : Inflows) (month : Month) (name : List ℕ)
+    (status : Status) (old new : Output) : Type 0 where
   pub right : ℕ
   pub last : MonthRecord
   pub about : IsAbout b series month name right last
   pub text : List ℕ
   pub explains : Explains asked b last right text
-  pub written : Leaves (status_of how) text old new
+  pub written : Leaves status text old new

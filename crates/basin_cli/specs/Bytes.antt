@@ -51,6 +51,19 @@ pub record AreSpelled (bytes series_bytes : List ℕ) (basin : Basin) (series : 
   pub valid : IsValidBasin basin
   pub fits : IsSeriesOf basin series
 
+-- bytes spell a basin of which this holds
+pub record OfBasin (bytes : List ℕ) (P : Basin → Type 0) : Type 0 where
+  pub basin : Basin
+  pub spelled : Spells bytes basin
+  pub holds : P basin
+
+-- bytes spell a basin and a series of which this holds
+pub record OfSpelled (bytes series_bytes : List ℕ) (P : Basin → Inflows → Type 0) : Type 0 where
+  pub basin : Basin
+  pub series : Inflows
+  pub spelled : AreSpelled bytes series_bytes basin series
+  pub holds : P basin series
+
 -- what is known of a shelf under a name
 abbrev pub KnownFiles : Type 0
 KnownFiles = List ℕ → Option (List ℕ)

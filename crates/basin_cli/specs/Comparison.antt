@@ -24,21 +24,20 @@ use Rattle.basin_cli.specs.Out.{Leaves, MayWrite}
 abbrev pub HaveSameMonths : Basin → Basin → Type 0
 HaveSameMonths first second = (second.first ≡ first.first) × (second.months ≡ first.months)
 
--- the basins that the bytes of two files spell have runs of the same months
-pub record AreOfOneRun (bytes second_bytes : List ℕ) : Type 0 where
+-- the bytes of two files spell basins of which this holds
+pub record OfBasins (bytes second_bytes : List ℕ) (P : Basin → Basin → Type 0) : Type 0 where
   pub first : Basin
   pub second : Basin
   pub first_spelled : Spells bytes first
   pub second_spelled : Spells second_bytes second
-  pub same : HaveSameMonths first second
+  pub holds : P first second
 
--- or they don't
-pub record AreOfOtherRuns (bytes second_bytes : List ℕ) : Type 0 where
-  pub first : Basin
-  pub second : Basin
-  pub first_spelled : Spells bytes first
-  pub second_spelled : Spells second_bytes second
-  pub differ : HaveSameMonths first second → ⊥
+-- their runs have the same months, or they don't
+abbrev pub AreOfOneRun : List ℕ → List ℕ → Type 0
+AreOfOneRun bytes second_bytes = OfBasins bytes second_bytes HaveSameMonths
+
+abbrev pub AreOfOtherRuns : List ℕ → List ℕ → Type 0
+AreOfOtherRuns bytes second_bytes = OfBasins bytes second_bytes (λ b c. HaveSameMonths b c → ⊥)
 
 -- the second basin can be compared with the first: it is good, and its run has the same months
 pub record IsGoodSecond (bytes second_bytes : List ℕ) : Type 0 where

@@ -16,26 +16,20 @@ use Rattle.basin_cli.specs.declared.ending.Ending.TheVariants as ending
 use Rattle.basin_cli.specs.declared.ending.File.TheVariants as file
 use Rattle.basin_cli.specs.declared.status.Status.{Status}
 use Rattle.basin_cli.specs.declared.status.Status.TheVariants.{Done, WriteFault, OutOfMemory}
-use Rattle.basin_cli.specs.Bytes.{AreSpelled, IsTooLong, KnownFiles, file_limit}
+use Rattle.basin_cli.specs.Bytes.{AreSpelled, IsTooLong, KnownFiles, OfSpelled, file_limit}
 use Rattle.basin_cli.specs.Command.{Files}
 use Rattle.basin_cli.specs.Out.{MayWrite}
 use Rattle.basin_cli.specs.Reading.{AreAccepted, AfterSeries, CompletesAfter, IsDone, OfBoth, StopsReading}
 
 -- the bytes of a script are within the limit, and ask for something of the basin and series that other bytes spell
-pub record IsGoodScript (bytes series_bytes script : List ℕ) : Type 0 where
-  pub within : length script ≤ file_limit
-  pub basin : Basin
-  pub series : Inflows
-  pub spelled : AreSpelled bytes series_bytes basin series
-  pub reads : IsOk (script_of basin series script)
+abbrev pub IsGoodScript : List ℕ → List ℕ → List ℕ → Type 0
+IsGoodScript bytes series script =
+    (length script ≤ file_limit) × OfSpelled bytes series (λ b s. IsOk (script_of b s script))
 
 -- the bytes of a script are within the limit, and this is the first fault in them and its line
-pub record IsScriptRefusedFor (fault : ScriptFault) (line : ℕ) (bytes series_bytes script : List ℕ) : Type 0 where
-  pub within : length script ≤ file_limit
-  pub basin : Basin
-  pub series : Inflows
-  pub spelled : AreSpelled bytes series_bytes basin series
-  pub first : script_of basin series script ≡ Err (refused.Refused fault line)
+abbrev pub IsScriptRefusedFor : ScriptFault → ℕ → List ℕ → List ℕ → List ℕ → Type 0
+IsScriptRefusedFor fault line bytes series script = (length script ≤ file_limit) ×
+    OfSpelled bytes series (λ b s. script_of b s script ≡ Err (refused.Refused fault line))
 
 -- the cause of an ending of `edit`
 abbrev pub HasEditingCause : Files → List ℕ → Ending → KnownFiles → Type 0 → Type 0 → Type 0
@@ -76,11 +70,9 @@ LeavesScript OutOfMemory b series script old new = (new ≡ old) ⊎ ShowsScript
 LeavesScript status b series script old new = MayWrite status → ShowsScript status b series script old new
 
 -- what `edit` leaves on out: the months that the script shows, of a basin and a series that bytes spell
-pub record WritesShows (status : Status) (bytes series_bytes script : List ℕ) (old new : Output) : Type 0 where
-  pub basin : Basin
-  pub series : Inflows
-  pub spelled : AreSpelled bytes series_bytes basin series
-  pub shows : ShowsScript status basin series script old new
+abbrev pub WritesShows : Status → List ℕ → List ℕ → List ℕ → Output → Output → Type 0
+WritesShows status bytes series script old new =
+    OfSpelled bytes series (λ b s. ShowsScript status b s script old new)
 
 -- and where memory ran out before a script was read, nothing
 abbrev pub EditLeaves : Status → List ℕ → List ℕ → List ℕ → Output → Output → Type 0

@@ -25,14 +25,16 @@ use Rattle.basin_cli.specs.declared.explaining.Account.{Account}
 use Rattle.basin_cli.specs.declared.ending.Ending.{Ending}
 use Rattle.basin_cli.specs.declared.ending.Ending.TheVariants as ending
 use Rattle.basin_cli.specs.declared.ending.File.TheVariants as file
+use Rattle.basin_cli.specs.Actions.{IsAnswered}
 use Rattle.basin_cli.specs.Answer.{IsAnswerFor, LeavesAnswer}
 use Rattle.basin_cli.specs.Command.{Command, Files, calls, run, check, report, trial, why, compare, ensemble, edit}
 use Rattle.basin_cli.specs.Command.{upgrade}
 use Rattle.basin_cli.specs.Ending.{status_of, line_of}
-use Rattle.basin_cli.specs.Explained.{Explains, HasMonth, HasRight, IsAbout, WorkUpTo}
+use Rattle.basin_cli.specs.Explained.{HasMonth, HasRight, IsAbout, WorkUpTo}
 use Rattle.basin_cli.specs.Failed.{AskedCounts, HaveAsked}
 use Rattle.basin_cli.specs.Headline.{HasGreatestPlans, HasGreatestPlansInParts}
-use Rattle.basin_cli.specs.Bytes.{AreSpelled, IsGoodBasin, IsSeriesRefusedFor, IsTooLong, KnownFiles}
+use Rattle.basin_cli.specs.Bytes.{AreSpelled, IsGoodBasin, IsSeriesRefusedFor, IsTooLong, KnownFiles, OfBasin}
+use Rattle.basin_cli.specs.Bytes.{OfSpelled}
 use Rattle.basin_cli.specs.Out.{Leaves, MayWrite}
 use Rattle.basin_cli.specs.Listed.{LeavesList}
 use Rattle.basin_cli.specs.Written.{LeavesRun}
@@ -76,41 +78,26 @@ pub record IsRefuted (asked : Question) (refuted : Refuted) (bytes series_bytes 
   pub no_text : IsYes asked bytes series_bytes result → ⊥
 
 -- the run of the basin that bytes spell hasn't the month
-pub record IsOutsideRun (month : Month) (bytes : List ℕ) : Type 0 where
-  pub basin : Basin
-  pub spelled : Spells bytes basin
-  pub outside : HasMonth basin month → ⊥
+abbrev pub IsOutsideRun : Month → List ℕ → Type 0
+IsOutsideRun month bytes = OfBasin bytes (λ b. HasMonth b month → ⊥)
 
 -- the run of the basin that bytes spell has the month, and no right of it has the name
-pub record IsUnknownRight (month : Month) (name bytes : List ℕ) : Type 0 where
-  pub basin : Basin
-  pub spelled : Spells bytes basin
-  pub has_month : HasMonth basin month
-  pub unknown : HasRight basin name → ⊥
+abbrev pub IsUnknownRight : Month → List ℕ → List ℕ → Type 0
+IsUnknownRight month name bytes = OfBasin bytes (λ b. HasMonth b month × (HasRight b name → ⊥))
 
 -- the run of the basin that bytes spell has the month, and a right of it has the name
-pub record IsAsked (month : Month) (name bytes : List ℕ) : Type 0 where
-  pub basin : Basin
-  pub spelled : Spells bytes basin
-  pub has_month : HasMonth basin month
-  pub has_right : HasRight basin name
+abbrev pub IsAsked : Month → List ℕ → List ℕ → Type 0
+IsAsked month name bytes = OfBasin bytes (λ b. HasMonth b month × HasRight b name)
 
 -- the right of the name is short in the month, in a run of the basin and series that bytes spell. If so it is short in
 -- every such run, because all have one outcome
-pub record IsShortIn (month : Month) (name bytes series_bytes : List ℕ) : Type 0 where
-  pub basin : Basin
-  pub series : Inflows
-  pub spelled : AreSpelled bytes series_bytes basin series
-  pub right : ℕ
-  pub last : MonthRecord
-  pub about : IsAbout basin series month name right last
-  pub short : IsShort last right
+abbrev pub IsShortIn : Month → List ℕ → List ℕ → List ℕ → Type 0
+IsShortIn month name bytes series = OfSpelled bytes series (λ b s. (right : ℕ) × (m : MonthRecord) ×
+    IsAbout b s month name right m × IsShort m right)
 
 -- the run of the basin that bytes spell is one of whole years
-pub record IsOfYears (bytes : List ℕ) : Type 0 where
-  pub basin : Basin
-  pub spelled : Spells bytes basin
-  pub whole : HasWholeYears basin
+abbrev pub IsOfYears : List ℕ → Type 0
+IsOfYears bytes = OfBasin bytes HasWholeYears
 
 -- the bytes are a good basin file, and the run of the basin that they spell isn't one of whole years
 pub record IsPartYear (bytes : List ℕ) : Type 0 where
@@ -231,70 +218,43 @@ Completes (Some (trial number size)) status known read write = (write → ⊥) �
 Completes (Some command) status known read write = (read → ⊥) → (write → ⊥) → Answers command status known
 
 -- what `run` leaves on out: the text of a run of what the bytes spell, or after a fault of out as far as it was written
-pub record WritesRun (status : Status) (bytes series_bytes : List ℕ) (old new : Output)
-    (before after : WorkDone) : Type 0 where
-  pub basin : Basin
-  pub series : Inflows
-  pub spelled : AreSpelled bytes series_bytes basin series
-  pub written : LeavesRun basin series status old new before after
+abbrev pub WritesRun : Status → List ℕ → List ℕ → Output → Output → WorkDone → WorkDone → Type 0
+WritesRun status bytes series old new before after =
+    OfSpelled bytes series (λ b s. LeavesRun b s status old new before after)
 
 -- what `calls` leaves on out: the list of calls of a run of what the bytes spell, or after a fault of out as far as it
 -- was written
-pub record WritesCalls (status : Status) (bytes series_bytes : List ℕ) (old new : Output)
-    (before after : WorkDone) : Type 0 where
-  pub basin : Basin
-  pub series : Inflows
-  pub spelled : AreSpelled bytes series_bytes basin series
-  pub written : LeavesList basin series status old new before after
+abbrev pub WritesCalls : Status → List ℕ → List ℕ → Output → Output → WorkDone → WorkDone → Type 0
+WritesCalls status bytes series old new before after =
+    OfSpelled bytes series (λ b s. LeavesList b s status old new before after)
 
 -- what `check` and `audit` leave on out: the answer to the result's bytes
-pub record WritesAnswer (asked : Question) (status : Status) (bytes series_bytes result : List ℕ)
-    (old new : Output) : Type 0 where
-  pub basin : Basin
-  pub series : Inflows
-  pub spelled : AreSpelled bytes series_bytes basin series
-  pub written : LeavesAnswer asked basin series result status old new
+abbrev pub WritesAnswer : Question → Status → List ℕ → List ℕ → List ℕ → Output → Output → Type 0
+WritesAnswer asked status bytes series result old new =
+    OfSpelled bytes series (λ b s. LeavesAnswer asked b s result status old new)
 
 -- what `report` leaves on out: the report of a run of what the bytes spell
-pub record WritesReport (status : Status) (bytes series_bytes : List ℕ) (old new : Output) : Type 0 where
-  pub basin : Basin
-  pub series : Inflows
-  pub spelled : AreSpelled bytes series_bytes basin series
-  pub records : List MonthRecord
-  pub is_run : IsRun basin series records
-  pub written : Leaves status (report_text basin series records) old new
+abbrev pub WritesReport : Status → List ℕ → List ℕ → Output → Output → Type 0
+WritesReport status bytes series old new = OfSpelled bytes series (λ b s. (records : List MonthRecord) ×
+    IsRun b s records × Leaves status (report_text b s records) old new)
 
 -- what `trial` leaves on out: the summary of a run of the basin that the number and the size make
-pub record WritesTrial (status : Status) (number size : ℕ) (old new : Output) : Type 0 where
-  pub series : Inflows
-  pub fits : IsSeriesOf (generated number size) series
-  pub records : List MonthRecord
-  pub is_run : IsRun (generated number size) series records
-  pub written : Leaves status (trial_text number size (generated number size) series records) old new
+abbrev pub WritesTrial : Status → ℕ → ℕ → Output → Output → Type 0
+WritesTrial status number size old new = (series : Inflows) × IsSeriesOf (generated number size) series ×
+    ((records : List MonthRecord) × IsRun (generated number size) series records ×
+    Leaves status (trial_text number size (generated number size) series records) old new)
 
 -- what `why` and `where` leave on out: where the right is short in the month, the book of its reach, or where one more
 -- unit would help it; and else that it is met, by a run of what the bytes spell up to that month
-pub record WritesBook (asked : Account) (status : Status) (month : Month) (name bytes series_bytes : List ℕ)
-    (old new : Output) : Type 0 where
-  pub basin : Basin
-  pub series : Inflows
-  pub spelled : AreSpelled bytes series_bytes basin series
-  pub right : ℕ
-  pub last : MonthRecord
-  pub about : IsAbout basin series month name right last
-  pub text : List ℕ
-  pub explains : Explains asked basin last right text
-  pub written : Leaves status text old new
+abbrev pub WritesBook : Account → Status → Month → List ℕ → List ℕ → List ℕ → Output → Output → Type 0
+WritesBook asked status month name bytes series old new =
+    OfSpelled bytes series (λ b s. IsAnswered asked b s month name status old new)
 
 -- what `ensemble` leaves on out: how often each yearly delivery came in traces of what the bytes spell, which are a
 -- history of the record begun in each of its years
-pub record WritesEnsemble (status : Status) (bytes series_bytes : List ℕ) (old new : Output) : Type 0 where
-  pub basin : Basin
-  pub series : Inflows
-  pub spelled : AreSpelled bytes series_bytes basin series
-  pub traces : List (List MonthRecord)
-  pub are_traces : AreTraces basin series traces
-  pub written : Leaves status (ensemble_text basin traces) old new
+abbrev pub WritesEnsemble : Status → List ℕ → List ℕ → Output → Output → Type 0
+WritesEnsemble status bytes series old new = OfSpelled bytes series (λ b s. (traces : List (List MonthRecord)) ×
+    AreTraces b s traces × Leaves status (ensemble_text b traces) old new)
 
 -- `before` and `after` are the work done
 abbrev pub WritesFor : Option Command → Status → KnownFiles → Output → Output → WorkDone → WorkDone →

@@ -1,4 +1,4 @@
--- How far the text of a run was written.
+-- How far a text was written that goes month by month, and that of a run.
 use Rattle.std.specs.Prelude.{◌≡◌, ◌⊎◌, ℕ, ◌-◌, ◌<◌, ◌≤◌, List, length, take, ⊤}
 use Rattle.water_edge.specs.Edge.{Extends, HasFlushed, Output}
 use Rattle.water_model.specs.History.{HaveReaches, IsPartialHistory}
@@ -28,18 +28,24 @@ pub record IsWrittenRun (b : Basin) (series : Inflows) (old now : Output) : Type
   pub keeps : KeepsPriority b series records
   pub text : Extends old now (text_bytes b records)
 
--- Where writing stopped: of the first months of a run all but the last stand after what out had taken, and of the last
--- one a prefix; no line of the tail stands before all months do. All but the last are flushed, with the head. No month
--- is solved but these.
+-- Where writing stopped that goes month by month: all of these months but the last stand after what out had taken, and
+-- of the last one a prefix; no line of the tail stands before all months do. All but the last are flushed, with the
+-- head. `begun` gives the head with the lines of some months.
+pub record IsPrefixOf {X : Type 0} (begun : List X → List ℕ) (whole_text : List ℕ) (months : List X) (are_all : Type 0)
+    (old now : Output) : Type 0 where
+  pub count : ℕ
+  pub whole : 0 < length months → length (begun (take (length months - 1) months)) ≤ count
+  pub last : are_all ⊎ (count ≤ length (begun months))
+  pub text : Extends old now (take count whole_text)
+  pub flushed : 1 < length months → HasFlushed old now (begun (take (length months - 1) months))
+
+-- Where the writing of a run stopped: of its first months all but the last stand on out, and of the last one a prefix.
+-- No month is solved but these.
 pub record StopsWriting (b : Basin) (series : Inflows) (old now : Output) (before after : WorkDone) : Type 0 where
   pub records : List MonthRecord
   pub partial : IsPartialHistory b series records
   pub reaches : HaveReaches b records
-  pub count : ℕ
-  pub whole : 0 < length records → length (begun_bytes b (take (length records - 1) records)) ≤ count
-  pub last : (length records ≡ b.months) ⊎ (count ≤ length (begun_bytes b records))
-  pub text : Extends old now (take count (text_bytes b records))
-  pub flushed : 1 < length records → HasFlushed old now (begun_bytes b (take (length records - 1) records))
+  pub prefix : IsPrefixOf (begun_bytes b) (text_bytes b records) records (length records ≡ b.months) old now
   pub work : Solves (length records) b before after
 
 -- what a run leaves on out: its whole text, or after a fault of out as far as it was written

@@ -319,8 +319,8 @@ pub fn explain_right<K: Sink, P: Ledger, M: Ledger>(
     requires series { IsSeriesOf basin.now series.now }
     requires month { IsMonth month }
     ensures ends { EndsAsking basin.now series.now month name.now result (Rose (K.faults out.old) (K.faults out.new)) }
-    ensures answers { MayWrite (status_of result) →
-        IsAnswered account basin.now series.now month name.now result (K.output out.old) (K.output out.new) }
+    ensures answers { MayWrite (status_of result) → IsAnswered account basin.now series.now month name.now
+        (status_of result) (K.output out.old) (K.output out.new) }
     ensures out_stays { (MayWrite (status_of result) → ⊥) → out.new ≡ out.old }
     ensures idle { (MayWrite (status_of result) → ⊥) → work.new ≡ work.old }
     ensures work { WorkUpTo basin.now month work.old work.new }

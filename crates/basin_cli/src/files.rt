@@ -1,6 +1,6 @@
 //! The files of a command: a basin, and a series of its gauged inflows.
-ghost use Rattle.std.specs.Prelude.{◌≡◌, ◌≢◌, ◌<◌, ◌≤◌, ℕ, List, Some, None, IfOk, OnOk, IfErr, IfSome, length};
-ghost use Rattle.std.specs.Prelude.{option_map};
+ghost use Rattle.std.specs.Prelude.{◌≡◌, ◌≢◌, ◌<◌, ◌≤◌, ℕ, List, Some, None, IfOk, OnOk, IfErr, IfSome, IsSome, length};
+ghost use Rattle.std.specs.Prelude.{OnErr, option_map};
 ghost use Rattle.water_edge.specs.Edge.{AsksFor, Rose, SameShelf};
 ghost use Rattle.basin_file.specs.BasinFaults.{Spells, file_fault};
 ghost use Rattle.index_seq.specs.Traces.{HasWholeYears};
@@ -11,7 +11,7 @@ ghost use Rattle.water_model.specs.Valid.{IsValidBasin, IsSeriesOf};
 ghost use Rattle.basin_cli.specs.Command.{ServesSeries, named};
 ghost use Rattle.basin_cli.specs.Ending.{CanBePrinted};
 ghost use Rattle.basin_cli.specs.Failed.{AskForEach, AskUpTo, inputs_to, series_file};
-ghost use Rattle.basin_cli.specs.Header.{header};
+ghost use Rattle.basin_cli.specs.Header.{table_of};
 ghost use Rattle.basin_cli.specs.Bytes.{file_limit, known_series};
 ghost use Rattle.basin_cli.specs.Outcome.{StopsReadingYears};
 ghost use Rattle.basin_cli.specs.Reading.{StopsReading};
@@ -142,16 +142,46 @@ pub fn accept_series(alloc: Global, basin: &Basin, text: &[u8]) -> Result<Inflow
     }
 }
 
-/// The series of a basin without gauges, from the header alone, or how the call ends.
-#[tactic(auto, unfolding(crate::specs::Header::header))]
-fn header_alone(alloc: Global, basin: &Basin) -> Result<Inflows, Ending>
-    requires basin { IsValidBasin basin.now }
-    ensures fits { IfOk result (λ series. IsSeriesOf basin.now series) }
-    ensures text { IfOk result (λ series. IsSeriesText basin.now series header) }
-    ensures ends { IfErr result (λ e. SeriesEnds basin.now header e) }
-    ensures printable { IfErr result CanBePrinted }
+/// The bytes of the file of a series, where it has one, or how the call ends.
+pub fn read_table<S: Shelf>(
+    alloc: Global,
+    shelf: &mut S,
+    name: Option<&str>,
+) -> Result<Option<Vec<u8>>, Ending>
+    requires { ServesSeries (S.serves shelf.old) (option_map (λ n. n.now) name) }
+    ensures same { SameShelf (S.known shelf.old) (S.known shelf.new) (S.serves shelf.old) (S.serves shelf.new) }
+    ensures later { S.faults shelf.old ≤ S.faults shelf.new }
+    ensures asked { (other : List ℕ) → Some other ≢ option_map (λ n. n.now) name.entry →
+        S.asked shelf.new other ≡ S.asked shelf.old other }
+    ensures reads { AskForEach (series_file (option_map (λ n. n.now) name.entry)) (S.asked shelf.old)
+        (S.asked shelf.new) }
+    ensures within { IfOk result (λ text. length (table_of text) ≤ file_limit) }
+    ensures bytes { IfOk result
+        (λ text. IfSome (known_series (S.known shelf.old) (option_map (λ n. n.now) name.entry))
+        (λ bytes. table_of text ≡ bytes)) }
+    ensures ends { IfErr result
+        (FileEnds File.Series (known_series (S.known shelf.old) (option_map (λ n. n.now) name.entry))
+        (Rose (S.faults shelf.old) (S.faults shelf.new))) }
+    ensures named { OnErr result (IsSome (option_map (λ n. n.now) name.entry)) }
 {
-    accept_series(alloc, basin, HEADER)
+    match name {
+        None => Ok(None),
+        Some(name) => {
+            let text = read_file(alloc, shelf, name, File::Series)?;
+            Ok(Some(text))
+        }
+    }
+}
+
+/// The table of a series that was read. Without a file it is the header alone.
+#[tactic(auto, unfolding(crate::specs::Header::header))]
+pub fn table(text: &Option<Vec<u8>>) -> &[u8]
+    ensures { result.now ≡ table_of text.now }
+{
+    match text {
+        None => HEADER,
+        Some(text) => text.as_slice(),
+    }
 }
 
 /// The series of a basin, from the file of this name or, without one, from the header alone; or how the call ends.
@@ -179,13 +209,8 @@ fn read_series<S: Shelf>(
         (Rose (S.faults shelf.old) (S.faults shelf.new)) e) }
     ensures printable { IfErr result CanBePrinted }
 {
-    match name {
-        None => header_alone(alloc, basin),
-        Some(name) => {
-            let text = read_file(alloc, shelf, name, File::Series)?;
-            accept_series(alloc, basin, &text)
-        }
-    }
+    let text = read_table(alloc, shelf, name)?;
+    accept_series(alloc, basin, table(&text))
 }
 
 /// A basin and its series, as two files spell them.

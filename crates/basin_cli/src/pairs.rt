@@ -1,5 +1,5 @@
 //! The files of a comparison: two basins whose runs have the same months, and one series for both.
-ghost use Rattle.std.specs.Prelude.{◌≤◌, ◌↔◌, None, IfOk, OnOk, IfErr, IfSome, IsTrue, MatchResult, length, option_map};
+ghost use Rattle.std.specs.Prelude.{◌≤◌, ◌↔◌, IfOk, OnOk, IfErr, IfSome, IsTrue, MatchResult, length, option_map};
 ghost use Rattle.water_edge.specs.Edge.{AsksFor, Rose, SameShelf};
 ghost use Rattle.water_model.specs.Valid.{IsValidBasin, IsSeriesOf};
 ghost use Rattle.basin_cli.specs.Bytes.{file_limit, known_series};
@@ -7,15 +7,15 @@ ghost use Rattle.basin_cli.specs.Command.{ServesSeries, named};
 ghost use Rattle.basin_cli.specs.Comparison.{HaveSameMonths, StopsComparing};
 ghost use Rattle.basin_cli.specs.Ending.{CanBePrinted};
 ghost use Rattle.basin_cli.specs.Failed.{AskForEach, AskUpTo, pair_to, series_file};
-ghost use Rattle.basin_cli.specs.Header.{header};
 ghost use Rattle.basin_cli.specs.Pairs.{ArePaired, BothSeriesEnd, BothSeriesReadEnd, IsOtherRun, SecondEnds};
 ghost use Rattle.basin_cli.specs.Pairs.{SecondReadEnds};
 ghost use Rattle.basin_cli.specs.Series.{IsBasinText, IsSeriesText};
 
 use crate::command::Inputs;
 use crate::ending::{Ending, File, SecondFinding, of_second};
-use crate::files::{Loaded, accept_basin, accept_series, read_basin_file, read_file};
-use inflow_file::HEADER;
+use crate::files::{
+    Loaded, accept_basin, accept_series, read_basin_file, read_file, read_table, table,
+};
 use std::alloc::Global;
 use water_edge::Shelf;
 use water_model::types::{Basin, Inflows};
@@ -128,25 +128,6 @@ fn accept_for_both(
     }
 }
 
-/// The series of two basins without gauges, from the header alone, or how the call ends.
-#[tactic(auto, unfolding(crate::specs::Header::header))]
-fn header_for_both(
-    alloc: Global,
-    first: &Basin,
-    second: &Basin,
-) -> Result<(Inflows, Inflows), Ending>
-    requires first { IsValidBasin first.now }
-    requires second { IsValidBasin second.now }
-    ensures fits { IfOk result (λ both. IsSeriesOf first.now both.0) }
-    ensures second_fits { IfOk result (λ both. IsSeriesOf second.now both.1) }
-    ensures text { IfOk result (λ both. IsSeriesText first.now both.0 header) }
-    ensures second_text { IfOk result (λ both. IsSeriesText second.now both.1 header) }
-    ensures ends { IfErr result (BothSeriesEnd first.now second.now header) }
-    ensures printable { IfErr result CanBePrinted }
-{
-    accept_for_both(alloc, first, second, HEADER)
-}
-
 /// The series of two basins, from the file of this name or, without one, from the header alone; or how the call ends.
 fn read_for_both<S: Shelf>(
     alloc: Global,
@@ -176,13 +157,8 @@ fn read_for_both<S: Shelf>(
         (Rose (S.faults shelf.old) (S.faults shelf.new))) }
     ensures printable { IfErr result CanBePrinted }
 {
-    match name {
-        None => header_for_both(alloc, first, second),
-        Some(name) => {
-            let text = read_file(alloc, shelf, name, File::Series)?;
-            accept_for_both(alloc, first, second, &text)
-        }
-    }
+    let text = read_table(alloc, shelf, name)?;
+    accept_for_both(alloc, first, second, table(&text))
 }
 
 /// Two basins and the series of each, or how the call ends.

@@ -6,15 +6,13 @@ use Rattle.basin_cli.proofs.actions.ensemble_basin.Goals as goal
 
 pub returns-in-Err-clause-leaves : goal.returns-in-Err-clause-leaves
 returns-in-Err-clause-leaves g c = λ _.
-    prefixes (AreTraces c.args.basin.now c.args.series.now) (ensemble_text c.args.basin.now)
-    (g.K.Sink.output c.args.out.now) (g.K.Sink.output c.ensemble_report.new.sink) (g.K.Sink.output c.flush.new.self)
-    c.in-Ok.ensures.text c.in-Err.ensures.bytes
+    prefixes (AreTraces c.args.basin.now c.args.series.now) (ensemble_text c.args.basin.now) _ _ _ c.in-Ok.ensures.text
+    c.in-Err.ensures.bytes
 
 pub returns-in-Ok-flush-clause-leaves : goal.returns-in-Ok-flush-clause-leaves
 returns-in-Ok-flush-clause-leaves g c = λ _.
     (let t = c.in-Ok.ensures.text in (
       t.0,
       t.1,
-      Extends-kept (g.K.Sink.output c.args.out.now) (g.K.Sink.output c.ensemble_report.new.sink)
-          (g.K.Sink.output c.flush.new.self) (ensemble_text c.args.basin.now t.0) t.2 c.in-Ok-flush.ensures.bytes,
+      Extends-kept _ _ _ (ensemble_text c.args.basin.now t.0) t.2 c.in-Ok-flush.ensures.bytes,
     ))

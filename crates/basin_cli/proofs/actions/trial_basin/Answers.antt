@@ -1,14 +1,24 @@
-use Rattle.basin_cli.proofs.Flushed.{trial_kept, trial_prefix}
+use Rattle.reports.specs.Ends.{IsRun}
+use Rattle.reports.specs.Reports.{trial_text}
+use Rattle.basin_cli.proofs.Flushed.{kept, prefixes}
 use Rattle.basin_cli.proofs.actions.trial_basin.Goals as goal
 
 pub returns-in-Ok-flush-clause-writes : goal.returns-in-Ok-flush-clause-writes
 returns-in-Ok-flush-clause-writes g c = λ _.
-    trial_kept c.args.number c.args.size c.in-Ok.made.0 c.in-Ok.made.1
-    (g.K.Sink.output c.args.out.now) (g.K.Sink.output c.trial_report.new.sink) (g.K.Sink.output c.flush.new.self)
-    c.in-Ok.ensures.basin c.in-Ok.ensures.series c.in-Ok-trial_report.ensures.text c.in-Ok-flush.ensures.bytes
+    let made = c.in-Ok.made in
+    rw (← c.in-Ok.ensures.basin) (
+      made.1,
+      c.in-Ok.ensures.series,
+      kept (IsRun made.0 made.1) (trial_text c.args.number c.args.size made.0 made.1) _ _ _
+          c.in-Ok-trial_report.ensures.text c.in-Ok-flush.ensures.bytes,
+    )
 
 pub returns-in-Ok-trial_report-clause-writes : goal.returns-in-Ok-trial_report-clause-writes
 returns-in-Ok-trial_report-clause-writes g c = λ _.
-    trial_prefix c.args.number c.args.size c.in-Ok.made.0 c.in-Ok.made.1
-    (g.K.Sink.output c.args.out.now) (g.K.Sink.output c.trial_report.new.sink) (g.K.Sink.output c.flush.new.self)
-    c.in-Ok.ensures.basin c.in-Ok.ensures.series c.in-Ok-trial_report.ensures.text c.in-Err-flush.ensures.bytes
+    let made = c.in-Ok.made in
+    rw (← c.in-Ok.ensures.basin) (
+      made.1,
+      c.in-Ok.ensures.series,
+      prefixes (IsRun made.0 made.1) (trial_text c.args.number c.args.size made.0 made.1) _ _ _
+          c.in-Ok-trial_report.ensures.text c.in-Err-flush.ensures.bytes,
+    )

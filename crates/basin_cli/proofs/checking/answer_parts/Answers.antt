@@ -33,18 +33,15 @@ returns-in-Err-feed-clause-answer g c =
 
 pub returns-then-count-eq0-clause-reads : goal.returns-then-count-eq0-clause-reads
 returns-then-count-eq0-clause-reads g c =
-    asks_again (g.S.Shelf.asked c.args.shelf.now) (g.S.Shelf.asked c.loop-count.shelf)
-    (g.S.Shelf.asked c.read_part.new.self) c.args.name.now c.loop-count.invariant.asked c.read_part.ensures.asked
+    asks_again _ _ _ c.args.name.now c.loop-count.invariant.asked c.read_part.ensures.asked
 
 pub returns-in-Err-feed-clause-reads : goal.returns-in-Err-feed-clause-reads
 returns-in-Err-feed-clause-reads g c =
-    asks_again (g.S.Shelf.asked c.args.shelf.now) (g.S.Shelf.asked c.loop-count.shelf)
-    (g.S.Shelf.asked c.read_part.new.self) c.args.name.now c.loop-count.invariant.asked c.read_part.ensures.asked
+    asks_again _ _ _ c.args.name.now c.loop-count.invariant.asked c.read_part.ensures.asked
 
 pub returns-in-Err-clause-reads : goal.returns-in-Err-clause-reads
 returns-in-Err-clause-reads g c =
-    asks_again (g.S.Shelf.asked c.args.shelf.now) (g.S.Shelf.asked c.loop-count.shelf)
-    (g.S.Shelf.asked c.read_part.new.self) c.args.name.now c.loop-count.invariant.asked c.read_part.ensures.asked
+    asks_again _ _ _ c.args.name.now c.loop-count.invariant.asked c.read_part.ensures.asked
 
 pub loop-count-preserved : goal.loop-count-preserved
 loop-count-preserved g c =
@@ -58,8 +55,7 @@ loop-count-preserved g c =
       };
       later = omega (arith, i.later, read.cause.later);
       asked =
-          inr (asks_again (g.S.Shelf.asked c.args.shelf.now) (g.S.Shelf.asked c.loop-count.shelf)
-          (g.S.Shelf.asked c.read_part.new.self) c.args.name.now i.asked read.asked);
+          inr (asks_again _ _ _ c.args.name.now i.asked read.asked);
       part = read.length ∙ i.part;
       fed = next_fed (g.S.Shelf.known c.args.shelf.now c.args.name.now) c.loop-count.checker c.feed.new.self
           c.loop-count.from

@@ -7,18 +7,13 @@ use Rattle.basin_cli.proofs.checking.check_file.Goals as goal
 pub returns-in-Ok-answer_parts-clause-ends : goal.returns-in-Ok-answer_parts-clause-ends
 returns-in-Ok-answer_parts-clause-ends g c =
     let opened = c.in-Ok.ensures in
-    answer_ends c.args.question c.args.basin.now c.args.series.now
-    (g.S.Shelf.known c.args.shelf.now c.args.name.now)
-    c.in-Ok-answer_parts.answer c.print_answer.result _ _
+    answer_ends c.args.question _ _ _ c.in-Ok-answer_parts.answer c.print_answer.result _ _
     (rw (opened.basin, opened.series) at c.in-Ok-answer_parts.ensures.answer) c.print_answer.ensures.ends
 
 pub returns-in-Ok-answer_parts-clause-leaves : goal.returns-in-Ok-answer_parts-clause-leaves
 returns-in-Ok-answer_parts-clause-leaves g c =
     let opened = c.in-Ok.ensures in
-    answer_leaves c.args.question c.args.basin.now c.args.series.now
-    (g.S.Shelf.known c.args.shelf.now c.args.name.now)
-    c.in-Ok-answer_parts.answer c.print_answer.result (g.K.Sink.output c.args.out.now)
-    (g.K.Sink.output c.print_answer.new.out)
+    answer_leaves c.args.question _ _ _ c.in-Ok-answer_parts.answer c.print_answer.result _ _
     (rw (opened.basin, opened.series) at c.in-Ok-answer_parts.ensures.answer) c.print_answer.ensures.leaves
 
 pub returns-in-Ok-answer_parts-clause-out_stays : goal.returns-in-Ok-answer_parts-clause-out_stays
@@ -33,5 +28,5 @@ returns-in-Ok-answer_parts-clause-unread g c = λ lacking.
 pub returns-clause-leaves : goal.returns-clause-leaves
 returns-clause-leaves g c =
     unread_leaves c.args.question c.args.basin.now c.args.series.now
-    (g.S.Shelf.known c.args.shelf.now c.args.name.now) c.in-Err-answer_parts.ending (g.K.Sink.output c.args.out.now)
-    (g.K.Sink.output c.args.out.now) c.in-Err-answer_parts.ensures.fault.0
+    (g.S.Shelf.known c.args.shelf.now c.args.name.now) c.in-Err-answer_parts.ending _ _
+    c.in-Err-answer_parts.ensures.fault.0

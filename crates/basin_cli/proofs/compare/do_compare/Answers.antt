@@ -1,6 +1,5 @@
 use Rattle.std.proofs.Common.{arith, refl, rules, Some}
 use Rattle.std.proofs.lemmas.Grind.{common_steps}
-use Rattle.water_edge.specs.Edge.{Rose}
 use Rattle.basin_cli.specs.Command.{compare, named}
 use Rattle.basin_cli.specs.Failed.{files_to}
 use Rattle.basin_cli.proofs.Failing.{comparing_stops}
@@ -20,9 +19,7 @@ returns-in-Err g c =
       asked = c.in-Err.ensures.up_to;
       can_be_printed = c.in-Err.ensures.printable;
       writes =
-          refused_writes known files second c.in-Err.ending
-          (Rose (g.S.Shelf.faults c.args.shelf.now) (g.S.Shelf.faults c.read_pair.new.shelf)) out out
-          c.in-Err.ensures.stops;
+          refused_writes known files second c.in-Err.ending _ out out c.in-Err.ensures.stops;
       out_stays = λ _. refl;
       flushed = first_of (search rules, grind (arith, common_steps));
       shown = tt;
@@ -42,8 +39,7 @@ returns g c =
           cause known files second c.in-Ok.pair c.in-Ok.ensures.paired how _ _ _ _ c.compare_basins.ensures.compares
           c.compare_basins.ensures.memory;
       asked =
-          comparing_stops (files_to (compare files second)) (g.S.Shelf.asked c.args.shelf.now)
-          (g.S.Shelf.asked c.read_pair.new.shelf) how c.compare_basins.ensures.idle;
+          comparing_stops (files_to (compare files second)) _ _ how c.compare_basins.ensures.idle;
       can_be_printed = search rules;
       writes =
           writes known files second c.in-Ok.pair c.in-Ok.ensures.paired how _ _ _ c.compare_basins.ensures.compares;

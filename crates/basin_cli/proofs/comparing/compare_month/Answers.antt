@@ -11,16 +11,14 @@ pub draft_injuries-requires-clause-month : goal.draft_injuries-requires-clause-m
 draft_injuries-requires-clause-month g c =
     let all = c.requires.compared in
     (subst (FitsText c.args.basin.now) (sym c.month.ensures)
-    (last_fits c.args.basin.now c.step.new.self all.records c.step.new.self.last
-    (c.step.ensures.basin ∙ all.first_basin)
+    (last_fits _ c.step.new.self all.records _ (c.step.ensures.basin ∙ all.first_basin)
     (c.step.ensures.month all.records all.first_stands))).month
 
 pub draft_injuries-requires-clause-fits : goal.draft_injuries-requires-clause-fits
 draft_injuries-requires-clause-fits g c =
     let all = c.requires.compared in
     (subst (FitsText c.args.basin.now) (sym c.month.ensures)
-    (last_fits c.args.basin.now c.step.new.self all.records c.step.new.self.last
-    (c.step.ensures.basin ∙ all.first_basin)
+    (last_fits _ c.step.new.self all.records _ (c.step.ensures.basin ∙ all.first_basin)
     (c.step.ensures.month all.records all.first_stands))).fits.delivered
 
 pub draft_injuries-requires-clause-records : goal.draft_injuries-requires-clause-records
@@ -29,37 +27,31 @@ draft_injuries-requires-clause-records g c =
     subst (λ (pairs : List Pair). HaveDeliveries pairs c.month.result.now c.month-2.result.now) (sym c.requires.pairing)
     (common_deliver c.args.basin.now c.args.other.now c.month.result.now c.month-2.result.now
     ((subst (FitsText c.args.basin.now) (sym c.month.ensures)
-    (last_fits c.args.basin.now c.step.new.self all.records c.step.new.self.last
-    (c.step.ensures.basin ∙ all.first_basin)
+    (last_fits _ c.step.new.self all.records _ (c.step.ensures.basin ∙ all.first_basin)
     (c.step.ensures.month all.records all.first_stands))).fits)
     ((subst (FitsText c.args.other.now) (sym c.month-2.ensures)
-    (last_fits c.args.other.now c.step-2.new.self all.others c.step-2.new.self.last
-    (c.step-2.ensures.basin ∙ all.second_basin)
+    (last_fits _ c.step-2.new.self all.others _ (c.step-2.ensures.basin ∙ all.second_basin)
     (c.step-2.ensures.month all.others all.second_stands))).fits))
 
 pub overflow_add-result : goal.overflow_add-result
 overflow_add-result g c =
     omega (
       arith,
-      bounded_injuries c.args.basin.now c.args.other.now c.args.first.now c.args.second.now c.month.result.now
-          c.month-2.result.now
-          c.args.draft.now.bytes c.args.injured c.in_ok-count.count c.requires.basin c.requires.compared c.requires.left
+      bounded_injuries _ _ _ _ c.month.result.now c.month-2.result.now _ _ c.in_ok-count.count c.requires.basin
+          c.requires.compared c.requires.left
           (rw c.requires.pairing at c.in_ok-count.ensures.number),
     )
 
 pub returns-clause-abreast : goal.returns-clause-abreast
 returns-clause-abreast g c =
     let all = c.requires.compared in
-    done_more c.step.new.self c.step-2.new.self all.records all.others c.step.new.self.last c.step-2.new.self.last
-    all.abreast
+    done_more c.step.new.self c.step-2.new.self all.records all.others _ _ all.abreast
     (c.step.ensures.month all.records all.first_stands) (c.step-2.ensures.month all.others all.second_stands)
 
 pub returns-clause-compared : goal.returns-clause-compared
 returns-clause-compared g c =
     let all = c.requires.compared in
-    compared_more c.args.basin.now c.args.other.now c.args.first.now c.args.second.now c.step.new.self c.step-2.new.self
-    c.step.new.self.last c.step-2.new.self.last c.args.draft.now.bytes c.draft_injuries.new.draft.bytes c.args.injured
-    c.in_ok-count.count all
+    compared_more _ _ _ _ c.step.new.self c.step-2.new.self _ _ _ _ _ c.in_ok-count.count all
     (c.step.ensures.basin ∙ all.first_basin) (c.step-2.ensures.basin ∙ all.second_basin)
     (c.step.ensures.month all.records all.first_stands) (c.step-2.ensures.month all.others all.second_stands)
     (rw (c.requires.pairing, c.month.ensures, c.month-2.ensures) at c.in_ok-count.ensures.number)

@@ -4,16 +4,13 @@ use Rattle.basin_cli.proofs.comparing.compare_runs.Goals as goal
 
 pub compare_months-requires-clause-compared : goal.compare_months-requires-clause-compared
 compare_months-requires-clause-compared g c =
-    none_compared c.args.basin.now c.args.other.now c.args.first.now c.args.second.now c.new-draft.result.bytes
-    c.requires.run c.requires.other_run
-    c.requires.fresh c.requires.other_fresh c.new-draft.ensures
+    none_compared _ _ _ _ _ c.requires.run c.requires.other_run c.requires.fresh c.requires.other_fresh
+    c.new-draft.ensures
 
 pub returns-clause-text : goal.returns-clause-text
 returns-clause-text g c =
     let months = c.in_ok-injured.ensures in
-    whole_comparison c.args.basin.now c.args.other.now c.args.first.now.series c.args.second.now.series
-    c.compare_months.new.first c.compare_months.new.second
-    c.compare_months.new.draft.bytes c.draft_counts.new.draft.bytes c.in_ok-injured.injured
-    months.series months.other_series
+    whole_comparison _ _ _ _ c.compare_months.new.first c.compare_months.new.second _ _ _ months.series
+    months.other_series
     months.done (months.abreast ∙ (months.done ∙ sym c.requires.months)) months.compared
     (rw c.requires.pairing at c.in_ok-draft_counts.ensures)

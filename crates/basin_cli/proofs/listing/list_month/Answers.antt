@@ -1,7 +1,12 @@
+use Rattle.std.proofs.Common.{refl}
+use Rattle.call_list.specs.Lists.{month_bytes}
 use Rattle.call_list.specs.Whole.{records_of}
+use Rattle.water_edge.proofs.Puts.{PutsPrefix}
+use Rattle.water_edge.specs.Edge.{Extends}
 use Rattle.basin_cli.proofs.Flushed.{puts_kept}
-use Rattle.basin_cli.proofs.Listed.{prefix_moved, last_found, month_moved, month_put, month_stopped}
-use Rattle.basin_cli.proofs.Written.{stood_done, stopped}
+use Rattle.basin_cli.proofs.Listed.{last_found, month_put, month_stopped}
+use Rattle.basin_cli.proofs.Monthly.{same_text}
+use Rattle.basin_cli.proofs.Written.{stopped}
 use Rattle.basin_cli.proofs.listing.list_month.Goals as goal
 
 pub find-requires-clause-plan : goal.find-requires-clause-plan
@@ -46,58 +51,42 @@ pub returns-in_err-put_found-clause-stops : goal.returns-in_err-put_found-clause
 returns-in_err-put_found-clause-stops g c =
     let w = c.requires.1.1.1.1.1 in
     stopped c.from_residual.result _
-    (month_stopped c.args.run.now.basin c.args.run.now.series c.step.new.self w.months
-    (record { month = c.step.new.self.last; found = c.find.new.self.found }) g.start
-    (g.K.Sink.output c.args.out.now) (g.K.Sink.output c.put_found.new.out) c.args.run.now.done c.args.work.now
-    c.step.new.work c.step.ensures.basin c.step.ensures.series w.found
-    (rw (c.basin.ensures.value, c.step.ensures.basin, c.month.ensures) at c.find.ensures.found)
-    (c.step.ensures.month (records_of w.months) w.stands) w.text w.flushed
-    (prefix_moved c.step.new.self.basin c.args.run.now.basin c.step.new.self.last c.find.new.self.found
-    (g.K.Sink.output c.args.out.now) (g.K.Sink.output c.put_found.new.out) c.step.ensures.basin
-    c.in_err-put_found.ensures.text)
-    (stood_done c.args.run.now c.step.new.self (records_of w.months) c.step.new.self.last w.stands
-    (c.step.ensures.month (records_of w.months) w.stands))
+    (month_stopped _ _ c.args.run.now c.step.new.self
+    (record { month = c.step.new.self.last; found = c.find.new.self.found }) g.start _ _ w c.step.ensures.basin
+    c.step.ensures.series (rw (c.basin.ensures.value, c.step.ensures.basin, c.month.ensures) at c.find.ensures.found)
+    (c.step.ensures.month (records_of w.months) w.stands) _ _
+    (same_text (PutsPrefix (g.K.Sink.output c.args.out.now) (g.K.Sink.output c.put_found.new.out)) month_bytes
+    c.step.new.self.basin c.args.run.now.basin c.step.new.self.last _ c.find.new.self.found _ c.step.ensures.basin refl
+    refl c.in_err-put_found.ensures.text)
     c.step.ensures.work)
 
 pub returns-clause-listed : goal.returns-clause-listed
 returns-clause-listed g c =
     let w = c.requires.1.1.1.1.1 in
-    (month_put c.args.run.now.basin c.args.run.now.series c.step.new.self w.months
-    (record { month = c.step.new.self.last; found = c.find.new.self.found }) g.start
-    (g.K.Sink.output c.args.out.now) (g.K.Sink.output c.flush.new.self) c.flush.result c.args.run.now.done
-    c.args.work.now c.step.new.work c.step.ensures.basin c.step.ensures.series w.found
-    (rw (c.basin.ensures.value, c.step.ensures.basin, c.month.ensures) at c.find.ensures.found)
-    (c.step.ensures.month (records_of w.months) w.stands) w.text w.flushed
-    (puts_kept (g.K.Sink.output c.args.out.now) (g.K.Sink.output c.put_found.new.out)
-    (g.K.Sink.output c.flush.new.self) c.flush.result _
-    (month_moved c.step.new.self.basin c.args.run.now.basin c.step.new.self.last c.find.new.self.found
-    (g.K.Sink.output c.args.out.now) (g.K.Sink.output c.put_found.new.out) c.step.ensures.basin
-    c.in_ok-put_found.ensures.text)
+    (month_put _ _ c.args.run.now c.step.new.self
+    (record { month = c.step.new.self.last; found = c.find.new.self.found }) g.start _ _ w c.step.ensures.basin
+    c.step.ensures.series (rw (c.basin.ensures.value, c.step.ensures.basin, c.month.ensures) at c.find.ensures.found)
+    (c.step.ensures.month (records_of w.months) w.stands) c.flush.result _ _
+    (puts_kept _ _ _ c.flush.result _
+    (same_text (Extends (g.K.Sink.output c.args.out.now) (g.K.Sink.output c.put_found.new.out)) month_bytes
+    c.step.new.self.basin c.args.run.now.basin c.step.new.self.last _ c.find.new.self.found _ c.step.ensures.basin refl
+    refl c.in_ok-put_found.ensures.text)
     c.flush.ensures.bytes)
-    c.flush.ensures.all
-    (stood_done c.args.run.now c.step.new.self (records_of w.months) c.step.new.self.last w.stands
-    (c.step.ensures.month (records_of w.months) w.stands))
-    c.step.ensures.work).0
+    c.flush.ensures.all c.step.ensures.work).0
 
 pub returns-clause-stops : goal.returns-clause-stops
 returns-clause-stops g c =
     let w = c.requires.1.1.1.1.1 in
-    (month_put c.args.run.now.basin c.args.run.now.series c.step.new.self w.months
-    (record { month = c.step.new.self.last; found = c.find.new.self.found }) g.start
-    (g.K.Sink.output c.args.out.now) (g.K.Sink.output c.flush.new.self) c.flush.result c.args.run.now.done
-    c.args.work.now c.step.new.work c.step.ensures.basin c.step.ensures.series w.found
-    (rw (c.basin.ensures.value, c.step.ensures.basin, c.month.ensures) at c.find.ensures.found)
-    (c.step.ensures.month (records_of w.months) w.stands) w.text w.flushed
-    (puts_kept (g.K.Sink.output c.args.out.now) (g.K.Sink.output c.put_found.new.out)
-    (g.K.Sink.output c.flush.new.self) c.flush.result _
-    (month_moved c.step.new.self.basin c.args.run.now.basin c.step.new.self.last c.find.new.self.found
-    (g.K.Sink.output c.args.out.now) (g.K.Sink.output c.put_found.new.out) c.step.ensures.basin
-    c.in_ok-put_found.ensures.text)
+    (month_put _ _ c.args.run.now c.step.new.self
+    (record { month = c.step.new.self.last; found = c.find.new.self.found }) g.start _ _ w c.step.ensures.basin
+    c.step.ensures.series (rw (c.basin.ensures.value, c.step.ensures.basin, c.month.ensures) at c.find.ensures.found)
+    (c.step.ensures.month (records_of w.months) w.stands) c.flush.result _ _
+    (puts_kept _ _ _ c.flush.result _
+    (same_text (Extends (g.K.Sink.output c.args.out.now) (g.K.Sink.output c.put_found.new.out)) month_bytes
+    c.step.new.self.basin c.args.run.now.basin c.step.new.self.last _ c.find.new.self.found _ c.step.ensures.basin refl
+    refl c.in_ok-put_found.ensures.text)
     c.flush.ensures.bytes)
-    c.flush.ensures.all
-    (stood_done c.args.run.now c.step.new.self (records_of w.months) c.step.new.self.last w.stands
-    (c.step.ensures.month (records_of w.months) w.stands))
-    c.step.ensures.work).1
+    c.flush.ensures.all c.step.ensures.work).1
 
 pub returns-clause-finder : goal.returns-clause-finder
 returns-clause-finder g c = rw (c.basin.ensures.value, c.step.ensures.basin) at c.find.ensures.finder

@@ -8,8 +8,7 @@ pub returns-in_err-put_head-clause-stops : goal.returns-in_err-put_head-clause-s
 returns-in_err-put_head-clause-stops g c =
     stopped c.from_residual.result _
     (rw c.requires.1.1.1.1.1
-    (head_stops c.args.run.now.basin c.args.run.now.series c.args.run.now (g.K.Sink.output c.args.out.now)
-    (g.K.Sink.output c.put_head.new.sink) c.args.work.now refl refl c.requires.1.1.1.0
+    (head_stops _ _ c.args.run.now _ _ c.args.work.now refl refl c.requires.1.1.1.0
     (rw c.basin.ensures.value at c.in_err-put_head.ensures.text)))
 
 pub list_months-requires : goal.list_months-requires
@@ -35,33 +34,28 @@ list_months-requires g c = λ lifetimes lives. (
 pub returns-in_err-put_tail-clause-stops : goal.returns-in_err-put_tail-clause-stops
 returns-in_err-put_tail-clause-stops g c =
     stopped c.from_residual-in_err-put_tail.result _
-    (tail_stops c.args.run.now.basin c.args.run.now.series c.list_months.new.run g.start
-    (g.K.Sink.output c.list_months.new.out) (g.K.Sink.output c.put_tail.new.sink) c.args.work.now
-    c.list_months.new.work c.in_ok-list_months.ensures.series c.in_ok-list_months.ensures.done
+    (tail_stops _ _ c.list_months.new.run g.start _ _ _ _ c.in_ok-list_months.ensures.series
+    c.in_ok-list_months.ensures.done
     c.in_ok-list_months.ensures.listed
     (rw (c.basin-2.ensures.value, c.in_ok-list_months.ensures.listed.basin) at c.in_err-put_tail.ensures.text)
     c.in_ok-list_months.ensures.work)
 
 pub returns-clause-listed : goal.returns-clause-listed
 returns-clause-listed g c =
-    (tail_put c.args.run.now.basin c.args.run.now.series c.list_months.new.run g.start
-    (g.K.Sink.output c.list_months.new.out) (g.K.Sink.output c.flush.new.self) c.flush.result c.args.work.now
-    c.list_months.new.work c.in_ok-list_months.ensures.series c.in_ok-list_months.ensures.done
+    (tail_put _ _ c.list_months.new.run g.start _ _ c.flush.result _ _ c.in_ok-list_months.ensures.series
+    c.in_ok-list_months.ensures.done
     c.in_ok-list_months.ensures.listed
-    (puts_kept (g.K.Sink.output c.list_months.new.out) (g.K.Sink.output c.put_tail.new.sink)
-    (g.K.Sink.output c.flush.new.self) c.flush.result _
+    (puts_kept _ _ _ c.flush.result _
     (rw (c.basin-2.ensures.value, c.in_ok-list_months.ensures.listed.basin) at c.in_ok-put_tail.ensures.text)
     c.flush.ensures.bytes)
     c.in_ok-list_months.ensures.work).0
 
 pub returns-clause-stops : goal.returns-clause-stops
 returns-clause-stops g c =
-    (tail_put c.args.run.now.basin c.args.run.now.series c.list_months.new.run g.start
-    (g.K.Sink.output c.list_months.new.out) (g.K.Sink.output c.flush.new.self) c.flush.result c.args.work.now
-    c.list_months.new.work c.in_ok-list_months.ensures.series c.in_ok-list_months.ensures.done
+    (tail_put _ _ c.list_months.new.run g.start _ _ c.flush.result _ _ c.in_ok-list_months.ensures.series
+    c.in_ok-list_months.ensures.done
     c.in_ok-list_months.ensures.listed
-    (puts_kept (g.K.Sink.output c.list_months.new.out) (g.K.Sink.output c.put_tail.new.sink)
-    (g.K.Sink.output c.flush.new.self) c.flush.result _
+    (puts_kept _ _ _ c.flush.result _
     (rw (c.basin-2.ensures.value, c.in_ok-list_months.ensures.listed.basin) at c.in_ok-put_tail.ensures.text)
     c.flush.ensures.bytes)
     c.in_ok-list_months.ensures.work).1

@@ -1,5 +1,6 @@
 use Rattle.std.proofs.Common.{◌∙◌}
 use Rattle.call_list.specs.Lists.{month_bytes}
+use Rattle.water_edge.specs.Edge.{Puts}
 use Rattle.basin_cli.proofs.Monthly.{same_text}
 use Rattle.basin_cli.proofs.listing.put_found.Goals as goal
 
@@ -14,9 +15,7 @@ calls-calls-requires-clause-found g c = rw (c.basin.ensures.value, c.month.ensur
 
 pub returns-clause-text : goal.returns-clause-text
 returns-clause-text g c =
-    same_text month_bytes c.calls-calls.result.basin c.args.run.now.basin c.calls-calls.result.month c.args.run.now.last
-    c.calls-calls.result.found c.args.finder.now.found (g.K.Sink.output c.args.out.now)
-    (g.K.Sink.output c.put_month.new.sink)
-    c.put_month.result (c.calls-calls.ensures.basin ∙ c.basin.ensures.value)
-    (c.calls-calls.ensures.month ∙ c.month.ensures)
-    c.calls-calls.ensures.found c.put_month.ensures.text
+    same_text (Puts (g.K.Sink.output c.args.out.now) (g.K.Sink.output c.put_month.new.sink) c.put_month.result)
+    month_bytes c.calls-calls.result.basin c.args.run.now.basin c.calls-calls.result.month c.args.run.now.last
+    c.calls-calls.result.found c.args.finder.now.found (c.calls-calls.ensures.basin ∙ c.basin.ensures.value)
+    (c.calls-calls.ensures.month ∙ c.month.ensures) c.calls-calls.ensures.found c.put_month.ensures.text

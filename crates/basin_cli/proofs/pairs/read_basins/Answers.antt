@@ -1,4 +1,4 @@
-use Rattle.std.proofs.Common.{subst, List, [], ◌∷◌, ℕ, Option}
+use Rattle.std.proofs.Common.{subst, List, ℕ, Option}
 use Rattle.std.proofs.lemmas.Result.{err_from_is_err_and}
 use Rattle.std.specs.Prelude.{IfSome}
 use Rattle.basin_cli.specs.Command.{named}
@@ -22,49 +22,30 @@ returns-in_err-match_months-clause-stops g c =
 
 pub returns-in_err-basin-clause-up_to : goal.returns-in_err-basin-clause-up_to
 returns-in_err-basin-clause-up_to g c =
-    let old = g.S.Shelf.asked c.args.shelf.now in
-    let mid = g.S.Shelf.asked c.read_basin_file.new.shelf in
     let p = err_from_is_err_and c.from_residual.result c.from_residual.ensures.1 in
     rw (p.1, p.2)
-    (basin_stops (pair_to (named c.args.inputs) c.args.second.now) old mid _ _ c.in_err-basin.field-0.0
-    c.in_err-basin.ensures.ends
-    (asks_one old mid c.args.inputs.basin.now c.read_basin_file.ensures.asked))
+    (basin_stops (pair_to (named c.args.inputs) c.args.second.now) _ _ _ _ c.in_err-basin.field-0.0
+    c.in_err-basin.ensures.ends (asks_one _ _ _ c.read_basin_file.ensures.asked))
 
 pub returns-in_err-other-clause-up_to : goal.returns-in_err-other-clause-up_to
 returns-in_err-other-clause-up_to g c =
-    let old = g.S.Shelf.asked c.args.shelf.now in
-    let mid = g.S.Shelf.asked c.read_basin_file.new.shelf in
-    let new = g.S.Shelf.asked c.read_second.new.shelf in
-    let first = c.args.inputs.basin.now in
-    let second = c.args.second.now in
     let p = err_from_is_err_and c.from_residual-in_err-other.result c.from_residual-in_err-other.ensures.1 in
     rw (p.1, p.2)
-    (second_stops (pair_to (named c.args.inputs) second) old new _ _ c.in_err-other.field-0.0
+    (second_stops (pair_to (named c.args.inputs) c.args.second.now) _ _ _ _ c.in_err-other.field-0.0
     c.in_err-other.ensures.ends
-    (asks_then (first ∷ []) (second ∷ []) old mid new (asks_one old mid first c.read_basin_file.ensures.asked)
-    (asks_one mid new second c.read_second.ensures.asked)))
+    (asks_then _ _ _ _ _ (asks_one _ _ _ c.read_basin_file.ensures.asked)
+    (asks_one _ _ _ c.read_second.ensures.asked)))
 
 pub returns-in_err-match_months-clause-up_to : goal.returns-in_err-match_months-clause-up_to
 returns-in_err-match_months-clause-up_to g c =
-    let old = g.S.Shelf.asked c.args.shelf.now in
-    let mid = g.S.Shelf.asked c.read_basin_file.new.shelf in
-    let new = g.S.Shelf.asked c.read_second.new.shelf in
-    let first = c.args.inputs.basin.now in
-    let second = c.args.second.now in
     let p = err_from_is_err_and c.from_residual-in_err-match_months.result
     c.from_residual-in_err-match_months.ensures.1 in
     rw (p.1, p.2)
-    (other_run_stops (pair_to (named c.args.inputs) second) old new c.in_ok-basin.basin c.in_ok-other.other
+    (other_run_stops (pair_to (named c.args.inputs) c.args.second.now) _ _ c.in_ok-basin.basin c.in_ok-other.other
     c.in_err-match_months.field-0.0 c.in_err-match_months.ensures
-    (asks_then (first ∷ []) (second ∷ []) old mid new (asks_one old mid first c.read_basin_file.ensures.asked)
-    (asks_one mid new second c.read_second.ensures.asked)))
+    (asks_then _ _ _ _ _ (asks_one _ _ _ c.read_basin_file.ensures.asked)
+    (asks_one _ _ _ c.read_second.ensures.asked)))
 
 pub returns-clause-reads : goal.returns-clause-reads
 returns-clause-reads g c =
-    let old = g.S.Shelf.asked c.args.shelf.now in
-    let mid = g.S.Shelf.asked c.read_basin_file.new.shelf in
-    let new = g.S.Shelf.asked c.read_second.new.shelf in
-    let first = c.args.inputs.basin.now in
-    let second = c.args.second.now in
-    asks_then (first ∷ []) (second ∷ []) old mid new (asks_one old mid first c.read_basin_file.ensures.asked)
-    (asks_one mid new second c.read_second.ensures.asked)
+    asks_then _ _ _ _ _ (asks_one _ _ _ c.read_basin_file.ensures.asked) (asks_one _ _ _ c.read_second.ensures.asked)

@@ -1,6 +1,5 @@
-use Rattle.std.proofs.Common.{[], ◌∷◌}
 use Rattle.basin_cli.specs.Command.{named}
-use Rattle.basin_cli.specs.Failed.{pair_to, series_file}
+use Rattle.basin_cli.specs.Failed.{pair_to}
 use Rattle.basin_cli.proofs.Failing.{asks_then, both_stop}
 use Rattle.basin_cli.proofs.Stops.{rose_since, series_stops_later}
 use Rattle.basin_cli.proofs.pairs.read_pair.Goals as goal
@@ -17,12 +16,6 @@ returns-in-Err-clause-stops g c =
 
 pub returns-in-Err-clause-up_to : goal.returns-in-Err-clause-up_to
 returns-in-Err-clause-up_to g c =
-    let files = named c.args.inputs in
-    let second = c.args.second.now in
-    let old = g.S.Shelf.asked c.args.shelf.now in
-    let mid = g.S.Shelf.asked c.read_basins.new.shelf in
-    let new = g.S.Shelf.asked c.read_for_both.new.shelf in
-    both_stop (pair_to files second) old new c.in_ok-basin.basin c.in_ok-basin.other _ _ _ c.in-Err.ending
-    c.in-Err.ensures.ends
-    (asks_then (files.basin ∷ second ∷ []) (series_file files.series) old mid new c.in_ok-basin.ensures.reads
-    c.read_for_both.ensures.reads)
+    both_stop (pair_to (named c.args.inputs) c.args.second.now) _ _ c.in_ok-basin.basin c.in_ok-basin.other _ _ _
+    c.in-Err.ending c.in-Err.ensures.ends
+    (asks_then _ _ _ _ _ c.in_ok-basin.ensures.reads c.read_for_both.ensures.reads)

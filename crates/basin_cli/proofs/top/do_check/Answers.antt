@@ -7,7 +7,7 @@ use Rattle.basin_cli.specs.Answer.{LeavesAnswer}
 use Rattle.basin_cli.specs.Command.{check, named}
 use Rattle.basin_cli.specs.Ending.{status_of}
 use Rattle.basin_cli.specs.Failed.{files_to}
-use Rattle.basin_cli.specs.Out.{AsksNot, MayWrite}
+use Rattle.basin_cli.specs.Out.{MayWrite}
 use Rattle.basin_cli.proofs.Failing.{checking_asks, inputs_stop}
 use Rattle.basin_cli.proofs.Judged.{checking_cause, checking_writes, ends_later}
 use Rattle.basin_cli.proofs.Stops.{rose_since}
@@ -18,19 +18,17 @@ pub returns-in-Err : goal.returns-in-Err
 returns-in-Err g c = λ count.
     (let files = named c.args.inputs in
     let result = c.args.result_name.now in
-    let old = g.S.Shelf.asked c.args.shelf.now in
-    let new = g.S.Shelf.asked c.read_inputs.new.shelf in
     record {
       cause = first_of (search rules, grind (arith, common_steps));
       asked =
-          inputs_stop (files_to (check c.args.question files result)) old new files _ _ c.in-Err.ending
+          inputs_stop (files_to (check c.args.question files result)) _ _ files _ _ c.in-Err.ending
           (λ asks. asks) (λ asks. asks) c.in-Err.ensures.stops c.in-Err.ensures.up_to;
       can_be_printed = first_of (search rules, grind (arith, common_steps));
       writes = first_of (search rules, grind (arith, common_steps));
       out_stays = λ _. refl;
       flushed = first_of (search rules, grind (arith, common_steps));
       shown = tt;
-      unread = unread (AsksNot files result old new) c.in-Err.ending (λ _. c.read_inputs.ensures.asked result);
+      unread = unread _ c.in-Err.ending (λ _. c.read_inputs.ensures.asked result);
       idle = λ _. refl;
       work = refl;
     })
@@ -39,41 +37,36 @@ pub returns : goal.returns
 returns g c = λ count.
     (let known = g.S.Shelf.known c.args.shelf.now in
     let files = named c.args.inputs in
+    let asked = c.args.question in
     let result = c.args.result_name.now in
     let b = c.in-Ok.files.basin in
     let series = c.in-Ok.files.series in
+    let read = c.in-Ok.ensures in
     let how = c.check_file.result in
     let mid = Rose (g.S.Shelf.faults c.read_inputs.new.shelf) (g.S.Shelf.faults c.check_file.new.shelf) in
-    let read = Rose (g.S.Shelf.faults c.args.shelf.now) (g.S.Shelf.faults c.check_file.new.shelf) in
     let write = Rose (g.K.Sink.faults c.args.out.now) (g.K.Sink.faults c.check_file.new.out) in
     let old = g.K.Sink.output c.args.out.now in
     let new = g.K.Sink.output c.check_file.new.out in
     record {
       cause =
-          checking_cause known files b series c.in-Ok.ensures.valid c.in-Ok.ensures.fits c.in-Ok.ensures.loaded
-          c.args.question result how read write
-          (ends_later c.args.question b series (known result) how mid read write
-          (rose_since _ _ _ c.in-Ok.ensures.later)
-          (subst (λ (o : Option (List ℕ)). EndsChecking c.args.question b series o how mid write)
-          (c.in-Ok.ensures.same.known result)
+          checking_cause known files b series read.valid read.fits read.loaded asked result how _ _
+          (ends_later asked b series (known result) how _ _ _ (rose_since _ _ _ read.later)
+          (subst (λ (o : Option (List ℕ)). EndsChecking asked b series o how mid write) (read.same.known result)
           c.check_file.ensures.ends));
       asked =
-          checking_asks c.args.question files result b series _ how mid write (g.S.Shelf.asked c.args.shelf.now)
-          (g.S.Shelf.asked c.read_inputs.new.shelf) (g.S.Shelf.asked c.check_file.new.shelf) c.check_file.ensures.ends
-          c.in-Ok.ensures.reads c.check_file.ensures.reads;
+          checking_asks asked files result b series _ how _ _ _ _ _ c.check_file.ensures.ends read.reads
+          c.check_file.ensures.reads;
       can_be_printed = search rules;
       writes =
-          checking_writes known files b series c.in-Ok.ensures.valid c.in-Ok.ensures.fits c.in-Ok.ensures.loaded
-          c.args.question result (status_of how) old new
+          checking_writes known files b series read.valid read.fits read.loaded asked result (status_of how) _ _
           (subst (λ (o : Option (List ℕ)). IfSome o (λ text. MayWrite (status_of how) →
-          LeavesAnswer c.args.question b series text (status_of how) old new))
-          (c.in-Ok.ensures.same.known result) c.check_file.ensures.leaves);
+          LeavesAnswer asked b series text (status_of how) old new))
+          (read.same.known result) c.check_file.ensures.leaves);
       out_stays = c.check_file.ensures.out_stays;
       flushed = c.check_file.ensures.flushed;
       shown = tt;
       unread =
-          unread
-          (AsksNot files result (g.S.Shelf.asked c.args.shelf.now) (g.S.Shelf.asked c.check_file.new.shelf)) how
+          unread _ how
           (λ e not_basin not_series. ap (λ s. g.S.Shelf.asked s result) (c.check_file.ensures.unread e)
           ∙ c.read_inputs.ensures.asked result not_basin not_series);
       idle = search rules;

@@ -29,8 +29,7 @@ returns g c =
           editing_cause known files b series c.in-Ok.ensures.fits c.in-Ok.ensures.loaded script text is how _ _
           (rw c.deref.ensures.value c.in-Ok-read_file.ensures.within) c.edit_basin.ensures.ends;
       asked =
-          editing_stops (files_to (edit files script)) (g.S.Shelf.asked c.args.shelf.now)
-          (g.S.Shelf.asked c.read_file.new.shelf) b series text how _ c.edit_basin.ensures.ends;
+          editing_stops (files_to (edit files script)) _ _ b series text how _ c.edit_basin.ensures.ends;
       can_be_printed = search rules;
       writes =
           editing_writes known files b series c.in-Ok.ensures.fits c.in-Ok.ensures.loaded script text is
@@ -58,10 +57,8 @@ returns-in-Err-read_file g c =
           (c.in-Ok.ensures.same.known script) (rose_since _ _ _ c.in-Ok.ensures.later)
           c.in-Err-read_file.ensures.ends;
       asked =
-          script_asks files script _ _ ending
-          (g.S.Shelf.asked c.args.shelf.now) (g.S.Shelf.asked c.read_inputs.new.shelf)
-          (g.S.Shelf.asked c.read_file.new.shelf)
-          c.in-Err-read_file.ensures.ends c.in-Ok.ensures.reads c.read_file.ensures.asked;
+          script_asks files script _ _ ending _ _ _ c.in-Err-read_file.ensures.ends c.in-Ok.ensures.reads
+          c.read_file.ensures.asked;
       can_be_printed = first_of (search rules, grind (arith, common_steps));
       writes = first_of (search rules, grind (arith, common_steps));
       out_stays = λ _. refl;
@@ -81,8 +78,7 @@ returns-in-Err g c =
     record {
       cause = first_of (search rules, grind (arith, common_steps));
       asked =
-          inputs_stop (files_to (edit files script)) (g.S.Shelf.asked c.args.shelf.now)
-          (g.S.Shelf.asked c.read_inputs.new.shelf) files _ _ ending (λ asks. asks) (λ asks. asks)
+          inputs_stop (files_to (edit files script)) _ _ files _ _ ending (λ asks. asks) (λ asks. asks)
           c.in-Err.ensures.stops c.in-Err.ensures.up_to;
       can_be_printed = first_of (search rules, grind (arith, common_steps));
       writes = first_of (search rules, grind (arith, common_steps));

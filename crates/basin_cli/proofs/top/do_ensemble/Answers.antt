@@ -4,8 +4,8 @@ use Rattle.month_fold.specs.Works.{Solves}
 use Rattle.basin_cli.specs.Command.{ensemble, named}
 use Rattle.basin_cli.specs.Failed.{files_to}
 use Rattle.basin_cli.proofs.Failing.{solving_stops}
-use Rattle.basin_cli.proofs.Known.{of_basin}
-use Rattle.basin_cli.proofs.Solved.{gathering_cause, gathering_writes}
+use Rattle.basin_cli.proofs.Known.{of_basin, writes}
+use Rattle.basin_cli.proofs.Solved.{gathering_cause}
 use Rattle.basin_cli.proofs.top.do_ensemble.Goals as goal
 
 pub returns : goal.returns
@@ -20,12 +20,10 @@ returns g c =
           gathering_cause known files b series c.in-Ok.ensures.fits c.in-Ok.ensures.loaded how _ _
           c.in-Ok.ensures.whole c.ensemble_basin.ensures.ends;
       asked =
-          solving_stops (files_to (ensemble files)) (g.S.Shelf.asked c.args.shelf.now)
-          (g.S.Shelf.asked c.read_record.new.shelf) how _ c.ensemble_basin.ensures.ends;
+          solving_stops (files_to (ensemble files)) _ _ how _ c.ensemble_basin.ensures.ends;
       can_be_printed = search rules;
       writes =
-          gathering_writes known files b series c.in-Ok.ensures.fits c.in-Ok.ensures.loaded how _ _
-          c.ensemble_basin.ensures.leaves;
+          writes known files b series c.in-Ok.ensures.fits c.in-Ok.ensures.loaded _ _ c.ensemble_basin.ensures.leaves;
       out_stays = c.ensemble_basin.ensures.out_stays;
       flushed = c.ensemble_basin.ensures.flushed;
       shown = tt;

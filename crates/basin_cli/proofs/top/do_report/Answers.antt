@@ -4,8 +4,8 @@ use Rattle.basin_cli.specs.Ending.{status_of}
 use Rattle.basin_cli.specs.Failed.{files_to}
 use Rattle.basin_cli.proofs.Failing.{solving_stops}
 use Rattle.basin_cli.proofs.Idle.{stopped_writes}
-use Rattle.basin_cli.proofs.Known.{of_basin}
-use Rattle.basin_cli.proofs.Solved.{report_writes, solving_cause, solving_prints}
+use Rattle.basin_cli.proofs.Known.{of_basin, writes}
+use Rattle.basin_cli.proofs.Solved.{solving_cause, solving_prints}
 use Rattle.basin_cli.proofs.top.do_report.Goals as goal
 
 pub returns : goal.returns
@@ -20,12 +20,10 @@ returns g c =
           solving_cause known files b series c.in-Ok.ensures.fits c.in-Ok.ensures.loaded how _ _
           c.report_basin.ensures.ends;
       asked =
-          solving_stops (files_to (report files)) (g.S.Shelf.asked c.args.shelf.now)
-          (g.S.Shelf.asked c.read_inputs.new.shelf) how _ c.report_basin.ensures.ends;
+          solving_stops (files_to (report files)) _ _ how _ c.report_basin.ensures.ends;
       can_be_printed = solving_prints how _ c.report_basin.ensures.ends;
       writes =
-          report_writes known files b series c.in-Ok.ensures.fits c.in-Ok.ensures.loaded how
-          (g.K.Sink.output c.args.out.now) (g.K.Sink.output c.report_basin.new.out) c.report_basin.ensures.leaves;
+          writes known files b series c.in-Ok.ensures.fits c.in-Ok.ensures.loaded _ _ c.report_basin.ensures.leaves;
       out_stays = c.report_basin.ensures.out_stays;
       flushed = c.report_basin.ensures.flushed;
       shown = tt;

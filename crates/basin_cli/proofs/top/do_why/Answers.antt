@@ -5,8 +5,8 @@ use Rattle.basin_cli.specs.Explained.{WorkUpTo}
 use Rattle.basin_cli.specs.Failed.{files_to}
 use Rattle.basin_cli.proofs.Idle.{stopped_writes}
 use Rattle.basin_cli.proofs.Failing.{asking_stops}
-use Rattle.basin_cli.proofs.Accounts.{asking_cause, asking_writes}
-use Rattle.basin_cli.proofs.Known.{of_basin}
+use Rattle.basin_cli.proofs.Accounts.{asking_cause}
+use Rattle.basin_cli.proofs.Known.{of_basin, writes}
 use Rattle.basin_cli.proofs.top.do_why.Goals as goal
 
 pub returns : goal.returns
@@ -22,13 +22,12 @@ returns g c =
           asking_cause known files b series c.in-Ok.ensures.fits c.in-Ok.ensures.loaded c.args.month right how _ _
           c.in-Ok.ensures.valid (rw c.as_bytes.ensures.value at c.explain_right.ensures.ends);
       asked =
-          asking_stops (files_to (why c.args.account files c.args.month right)) (g.S.Shelf.asked c.args.shelf.now)
-          (g.S.Shelf.asked c.read_inputs.new.shelf) b series c.args.month right how _
+          asking_stops (files_to (why c.args.account files c.args.month right)) _ _ b series c.args.month right how _
           (rw c.as_bytes.ensures.value at c.explain_right.ensures.ends);
       can_be_printed = search rules;
       writes =
-          asking_writes known files b series c.in-Ok.ensures.fits c.in-Ok.ensures.loaded c.args.month right
-          c.args.account how _ _ (rw c.as_bytes.ensures.value at c.explain_right.ensures.answers);
+          writes known files b series c.in-Ok.ensures.fits c.in-Ok.ensures.loaded _ _
+          (rw c.as_bytes.ensures.value at c.explain_right.ensures.answers);
       out_stays = c.explain_right.ensures.out_stays;
       flushed = c.explain_right.ensures.flushed;
       shown = tt;

@@ -11,13 +11,11 @@ use Rattle.basin_cli.proofs.upgrading.do_upgrade.Goals as goal
 pub returns-in-Err : goal.returns-in-Err
 returns-in-Err g c = λ done.
     (let name = c.args.name.now in
-    let old = g.S.Shelf.asked c.args.shelf.now in
-    let new = g.S.Shelf.asked c.read_basin_file.new.shelf in
     record {
       cause = first_of (search rules, grind (arith, common_steps));
       asked =
-          basin_stops (files_to (upgrade name)) old new _ _ c.in-Err.ending c.in-Err.ensures.ends
-          (asks_one old new name c.read_basin_file.ensures.asked);
+          basin_stops (files_to (upgrade name)) _ _ _ _ c.in-Err.ending c.in-Err.ensures.ends
+          (asks_one _ _ _ c.read_basin_file.ensures.asked);
       can_be_printed = first_of (search rules, grind (arith, common_steps));
       writes = first_of (search rules, grind (arith, common_steps));
       out_stays = λ _. refl;
@@ -35,8 +33,7 @@ returns-in-Ok-put_whole g c = λ done. record {
   can_be_printed = tt;
   writes =
       upgrade_writes (g.S.Shelf.known c.args.shelf.now) c.args.name.now c.in-Ok.basin
-      (string_bytes c.in-Ok-upgraded.text) its.Done (g.K.Sink.output c.args.out.now)
-      (g.K.Sink.output c.put_whole.new.out) c.in-Ok.ensures.text c.in-Ok-upgraded.ensures.table
+      (string_bytes c.in-Ok-upgraded.text) its.Done _ _ c.in-Ok.ensures.text c.in-Ok-upgraded.ensures.table
       c.in-Ok-upgraded.ensures.spells c.in-Ok-upgraded.ensures.sound
       (rw c.as_bytes.ensures.value at c.in-Ok-put_whole.ensures.text);
   out_stays = λ silent. absurd (silent tt);
@@ -55,8 +52,7 @@ returns g c = λ done. record {
   writes =
       (let put = rw c.as_bytes.ensures.value at c.in-Err-put_whole.ensures.text in
       upgrade_writes (g.S.Shelf.known c.args.shelf.now) c.args.name.now c.in-Ok.basin
-      (string_bytes c.in-Ok-upgraded.text) its.WriteFault (g.K.Sink.output c.args.out.now)
-      (g.K.Sink.output c.put_whole.new.out) c.in-Ok.ensures.text c.in-Ok-upgraded.ensures.table
+      (string_bytes c.in-Ok-upgraded.text) its.WriteFault _ _ c.in-Ok.ensures.text c.in-Ok-upgraded.ensures.table
       c.in-Ok-upgraded.ensures.spells c.in-Ok-upgraded.ensures.sound (put.0, put.2));
   out_stays = λ silent. absurd (silent tt);
   flushed = λ quiet. absurd quiet;

@@ -1,5 +1,5 @@
 use Rattle.basin_cli.proofs.Flushed.{puts_kept}
-use Rattle.basin_cli.proofs.Written.{last_fits, month_put, month_stopped, stood_done, stopped}
+use Rattle.basin_cli.proofs.Written.{last_fits, month_put, month_stopped, stopped}
 use Rattle.basin_cli.proofs.writing.write_month.Goals as goal
 
 pub put_month-requires-clause-month : goal.put_month-requires-clause-month
@@ -16,45 +16,27 @@ pub returns-in_err-put_month-clause-stops : goal.returns-in_err-put_month-clause
 returns-in_err-put_month-clause-stops g c =
     let w = c.requires.1.1.1.1 in
     stopped c.from_residual.result _
-    (month_stopped c.args.run.now.basin c.args.run.now.series c.step.new.self w.records c.step.new.self.last g.start
-    (g.K.Sink.output c.args.out.now) (g.K.Sink.output c.put_month.new.sink) c.args.run.now.done c.args.work.now
-    c.step.new.work c.step.ensures.basin c.step.ensures.series (c.step.ensures.month w.records w.stands)
-    w.text w.flushed
+    (month_stopped _ _ c.args.run.now c.step.new.self c.step.new.self.last g.start _ _ w c.step.ensures.basin
+    c.step.ensures.series (c.step.ensures.month w.records w.stands) _ _
     (rw (c.basin.ensures.value, c.step.ensures.basin, c.month.ensures) at c.in_err-put_month.ensures.text)
-    (stood_done c.args.run.now c.step.new.self w.records c.step.new.self.last w.stands
-    (c.step.ensures.month w.records w.stands))
     c.step.ensures.work)
 
 pub returns-clause-written : goal.returns-clause-written
 returns-clause-written g c =
     let w = c.requires.1.1.1.1 in
-    (month_put c.args.run.now.basin c.args.run.now.series c.step.new.self w.records c.step.new.self.last g.start
-    (g.K.Sink.output c.args.out.now) (g.K.Sink.output c.flush.new.self) c.flush.result c.args.run.now.done
-    c.args.work.now
-    c.step.new.work c.step.ensures.basin c.step.ensures.series (c.step.ensures.month w.records w.stands)
-    w.text w.flushed (puts_kept (g.K.Sink.output c.args.out.now) (g.K.Sink.output c.put_month.new.sink)
-    (g.K.Sink.output c.flush.new.self)
-    c.flush.result _
+    (month_put _ _ c.args.run.now c.step.new.self c.step.new.self.last g.start _ _ w c.step.ensures.basin
+    c.step.ensures.series (c.step.ensures.month w.records w.stands) c.flush.result _ _
+    (puts_kept _ _ _ c.flush.result _
     (rw (c.basin.ensures.value, c.step.ensures.basin, c.month.ensures) at c.in_ok-put_month.ensures.text)
     c.flush.ensures.bytes)
-    c.flush.ensures.all
-    (stood_done c.args.run.now c.step.new.self w.records c.step.new.self.last w.stands
-    (c.step.ensures.month w.records w.stands))
-    c.step.ensures.work).0
+    c.flush.ensures.all c.step.ensures.work).0
 
 pub returns-clause-stops : goal.returns-clause-stops
 returns-clause-stops g c =
     let w = c.requires.1.1.1.1 in
-    (month_put c.args.run.now.basin c.args.run.now.series c.step.new.self w.records c.step.new.self.last g.start
-    (g.K.Sink.output c.args.out.now) (g.K.Sink.output c.flush.new.self) c.flush.result c.args.run.now.done
-    c.args.work.now
-    c.step.new.work c.step.ensures.basin c.step.ensures.series (c.step.ensures.month w.records w.stands)
-    w.text w.flushed (puts_kept (g.K.Sink.output c.args.out.now) (g.K.Sink.output c.put_month.new.sink)
-    (g.K.Sink.output c.flush.new.self)
-    c.flush.result _
+    (month_put _ _ c.args.run.now c.step.new.self c.step.new.self.last g.start _ _ w c.step.ensures.basin
+    c.step.ensures.series (c.step.ensures.month w.records w.stands) c.flush.result _ _
+    (puts_kept _ _ _ c.flush.result _
     (rw (c.basin.ensures.value, c.step.ensures.basin, c.month.ensures) at c.in_ok-put_month.ensures.text)
     c.flush.ensures.bytes)
-    c.flush.ensures.all
-    (stood_done c.args.run.now c.step.new.self w.records c.step.new.self.last w.stands
-    (c.step.ensures.month w.records w.stands))
-    c.step.ensures.work).1
+    c.flush.ensures.all c.step.ensures.work).1

@@ -7,8 +7,7 @@ pub returns-in_err-put_head-clause-stops : goal.returns-in_err-put_head-clause-s
 returns-in_err-put_head-clause-stops g c =
     stopped c.from_residual.result _
     (rw c.requires.1.1.1.1
-    (head_stops c.args.run.now.basin c.args.run.now.series c.args.run.now (g.K.Sink.output c.args.out.now)
-    (g.K.Sink.output c.put_head.new.sink) c.args.work.now refl refl c.requires.1.1.1.0
+    (head_stops _ _ c.args.run.now _ _ c.args.work.now refl refl c.requires.1.1.1.0
     (rw c.basin.ensures.value at c.in_err-put_head.ensures.text)))
 
 pub write_months-requires : goal.write_months-requires
@@ -31,33 +30,28 @@ write_months-requires g c = λ lifetimes lives. (
 pub returns-in_err-put_tail-clause-stops : goal.returns-in_err-put_tail-clause-stops
 returns-in_err-put_tail-clause-stops g c =
     stopped c.from_residual-in_err-put_tail.result _
-    (tail_stops c.args.run.now.basin c.args.run.now.series c.write_months.new.run g.start
-    (g.K.Sink.output c.write_months.new.out) (g.K.Sink.output c.put_tail.new.sink) c.args.work.now
-    c.write_months.new.work c.in_ok-write_months.ensures.series c.in_ok-write_months.ensures.done
+    (tail_stops _ _ c.write_months.new.run g.start _ _ _ _ c.in_ok-write_months.ensures.series
+    c.in_ok-write_months.ensures.done
     c.in_ok-write_months.ensures.written
     (rw (c.basin-2.ensures.value, c.in_ok-write_months.ensures.written.basin) at c.in_err-put_tail.ensures.text)
     c.in_ok-write_months.ensures.work)
 
 pub returns-clause-written : goal.returns-clause-written
 returns-clause-written g c =
-    (tail_put c.args.run.now.basin c.args.run.now.series c.write_months.new.run g.start
-    (g.K.Sink.output c.write_months.new.out) (g.K.Sink.output c.flush.new.self) c.flush.result c.args.work.now
-    c.write_months.new.work c.in_ok-write_months.ensures.series c.in_ok-write_months.ensures.done
+    (tail_put _ _ c.write_months.new.run g.start _ _ c.flush.result _ _ c.in_ok-write_months.ensures.series
+    c.in_ok-write_months.ensures.done
     c.in_ok-write_months.ensures.written
-    (puts_kept (g.K.Sink.output c.write_months.new.out) (g.K.Sink.output c.put_tail.new.sink)
-    (g.K.Sink.output c.flush.new.self) c.flush.result _
+    (puts_kept _ _ _ c.flush.result _
     (rw (c.basin-2.ensures.value, c.in_ok-write_months.ensures.written.basin) at c.in_ok-put_tail.ensures.text)
     c.flush.ensures.bytes)
     c.in_ok-write_months.ensures.work).0
 
 pub returns-clause-stops : goal.returns-clause-stops
 returns-clause-stops g c =
-    (tail_put c.args.run.now.basin c.args.run.now.series c.write_months.new.run g.start
-    (g.K.Sink.output c.write_months.new.out) (g.K.Sink.output c.flush.new.self) c.flush.result c.args.work.now
-    c.write_months.new.work c.in_ok-write_months.ensures.series c.in_ok-write_months.ensures.done
+    (tail_put _ _ c.write_months.new.run g.start _ _ c.flush.result _ _ c.in_ok-write_months.ensures.series
+    c.in_ok-write_months.ensures.done
     c.in_ok-write_months.ensures.written
-    (puts_kept (g.K.Sink.output c.write_months.new.out) (g.K.Sink.output c.put_tail.new.sink)
-    (g.K.Sink.output c.flush.new.self) c.flush.result _
+    (puts_kept _ _ _ c.flush.result _
     (rw (c.basin-2.ensures.value, c.in_ok-write_months.ensures.written.basin) at c.in_ok-put_tail.ensures.text)
     c.flush.ensures.bytes)
     c.in_ok-write_months.ensures.work).1
