@@ -103,3 +103,15 @@ preferred b month supply want kept flow p valid best keeps sent =
     let same = no_less_same b month supply want p (with_flow p flow) best plan
     (λ r l. sent_delivers b want kept flow p (length b.rights) r keeps sent l (λ e. link_in b r e valid l)) in
     (same, same_greatest b month supply want p (with_flow p flow) best plan same)
+
+-- the same of a plan into which the flow was written, and whose flow went into it
+pub preferred_written : (b : Basin) (month : Month) (supply want kept old flow written : List ℕ) (p : Plan) →
+    IsValidBasin b → old ≡ p.flow → written ≡ flow → KeepsInstream b want old (length b.rights) kept →
+    IsSent b kept old flow → IsGreatest b month supply want p →
+    DeliversSame b want p (with_flow p written) × IsGreatest b month supply want (with_flow p written)
+preferred_written b month supply want kept old flow written p valid from into keeps sent best =
+    subst (λ (f : List ℕ). DeliversSame b want p (with_flow p f) × IsGreatest b month supply want (with_flow p f))
+    (sym into)
+    (preferred b month supply want kept flow p valid best
+    (subst (λ (f : List ℕ). KeepsInstream b want f (length b.rights) kept) from keeps)
+    (subst (λ (f : List ℕ). IsSent b kept f flow) from sent))
