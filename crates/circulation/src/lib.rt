@@ -9,7 +9,7 @@
 //! borrows them: no call takes memory.
 #![tactic(auto)]
 
-ghost use Rattle.std.specs.Prelude.{IsTrue, ◌↔◌, ◌≡◌, ◌+◌, ◌-◌, ◌*◌, ◌^◌, ◌<◌, ◌≤◌, ◌≢◌, length};
+ghost use Rattle.std.specs.Prelude.{◌≡◌, ◌+◌, ◌-◌, ◌*◌, ◌^◌, ◌<◌, ◌≤◌, ◌≢◌, length};
 ghost use Rattle.std.specs.Prelude.{IfOk, OnOk, OnErr, All, ◌++◌, drop, replicate};
 ghost use Rattle.circulation.specs.Contents.{Contents, empty_contents, month_contents, on_last, IsStart};
 ghost use Rattle.circulation.specs.Rows.{Rows};
@@ -179,68 +179,4 @@ fn write_month(words: &mut [u64], arcs: usize, supply: &[u64], upper: &[u64], st
     uppers.copy_from_slice(upper);
     lowers.fill(0);
     words[..supply.len()].copy_from_slice(supply);
-}
-
-#[cfg(test)]
-mod tests {
-    use super::*;
-    use std::test::Fail;
-
-    // Arcs over three basin nodes and the outside node, 3.
-    static ENDS: [Ends; 5] = [
-        Ends { from: 0, to: 1 },
-        Ends { from: 1, to: 2 },
-        Ends { from: 2, to: 3 },
-        Ends { from: 0, to: 3 },
-        Ends { from: 3, to: 0 },
-    ];
-
-    // What three nodes and five arcs take: 8 * 5 + 8 * 3 + 16.
-    const NEEDED: usize = 80;
-
-    /// Whether arcs with these ends may be opened.
-    fn are_ends(nodes: u32, ends: &[Ends]) -> bool
-        ensures { IsTrue result ↔ All (λ e. (e.from ≤ nodes) × (e.to ≤ nodes) × (e.from ≢ e.to)) ends.now }
-    {
-        ends.iter()
-            .all(|e| e.from <= nodes && e.to <= nodes && e.from != e.to)
-    }
-
-    #[test]
-    fn is_full_with_fewer_words_than_it_needs(rt: HostRuntime) -> Result<(), Fail> {
-        assert_eq!(rt; words(3, 5), NEEDED);
-        assert!(rt; are_ends(3, &ENDS));
-        for free in 0..NEEDED {
-            let mut region = Region::open(rt.alloc(), free + 2)?;
-            let before = region.take(2).expect(&rt, "two words are free");
-            region.put(before, &[7, 8]);
-            assert_eq!(rt;
-                Circulation::open(3, &ENDS, &mut region),
-                Err(Full),
-                "at {free}"
-            );
-            assert_eq!(rt; region.free(), free, "at {free}");
-            assert_eq!(rt; region.words(before), [7, 8].as_slice(), "at {free}");
-        }
-        Ok(())
-    }
-
-    #[test]
-    fn takes_exactly_the_words_that_it_needs(rt: HostRuntime) -> Result<(), Fail> {
-        assert!(rt; are_ends(3, &ENDS));
-        let mut region = Region::open(rt.alloc(), NEEDED + 2)?;
-        let before = region.take(2).expect(&rt, "two words are free");
-        region.put(before, &[7, 8]);
-        let opened = Circulation::open(3, &ENDS, &mut region).expect(&rt, "80 words are free");
-        assert_eq!(rt;
-            opened.place,
-            Place {
-                from: 2,
-                len: NEEDED
-            }
-        );
-        assert_eq!(rt; region.free(), 0);
-        assert_eq!(rt; region.words(before), [7, 8].as_slice());
-        Ok(())
-    }
 }

@@ -207,7 +207,7 @@ pub static CASES: [Case; 14] = [
 ];
 
 /// Whether arcs with these ends may be opened.
-fn are_ends(nodes: u32, ends: &[Ends]) -> bool
+pub fn are_ends(nodes: u32, ends: &[Ends]) -> bool
     ensures { IsTrue result ↔ All (λ e. (e.from ≤ nodes) × (e.to ≤ nodes) × (e.from ≢ e.to)) ends.now }
 {
     ends.iter()
