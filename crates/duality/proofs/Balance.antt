@@ -1,11 +1,11 @@
 -- The balance of a month and of a run.
-use Rattle.std.proofs.Common.{◌≡◌, ℕ, zero, suc, ◌+◌, ◌-◌, ◌<◌, ◌≤◌, Bool, true, false, refl, sym, ◌∙◌, ap, arith}
+use Rattle.std.proofs.Common.{◌≡◌, ℕ, zero, suc, ◌+◌, ◌-◌, ◌<◌, ◌≤◌, true, false, refl, sym, ◌∙◌, ap, arith}
 use Rattle.std.proofs.Common.{List, [], ◌∷◌, length, map, sum, take, add-one, subst, length-take}
-use Rattle.std.proofs.lemmas.List.{length-replicate}
+use Rattle.std.proofs.lemmas.List.{length-replicate, take_all}
 use Rattle.std.proofs.lemmas.Option.{get_or_from_slice_get}
-use Rattle.std.proofs.lemmas.Bool.Decides.{nat_tests}
+use Rattle.std.proofs.lemmas.Bool.{lt-ltb}
 use Rattle.std.proofs.lemmas.List.Sums.{sum_by_more}
-use Rattle.std.specs.Prelude.{if◌then◌else◌, ◌==◌, nat_lt, ◌&&◌, not, slice_index, slice_get, sum_by, Option, Some}
+use Rattle.std.specs.Prelude.{if◌then◌else◌, ◌==◌, nat_lt, slice_index, slice_get, sum_by, Option, Some}
 use Rattle.std.specs.Prelude.{None, unwrap_or, option_map}
 use Rattle.finite_sums.specs.Sums.{total}
 use Rattle.water_model.specs.Lookups.{has}
@@ -51,18 +51,17 @@ plan_balance b month supply want p valid plan =
     (λ r. slice_index p.take r) take_within in
     omega (arith, cut, supplies, outs, ins, leave, takes)
   where
-    both_in : (x y : Bool) → x ≡ true → y ≡ true → x && not y ≡ false
-    both_in x y h i = grind (arith, nat_tests)
-
     none_enters : (e : ℕ) → e < length b.links → enters b (all_nodes b) e ≡ false
-    none_enters e l = both_in (has (all_nodes b) (head_of b e)) (has (all_nodes b) (tail_of b e))
-        (has_all (length b.nodes) (head_of b e) (ends b valid e l).1)
-        (has_all (length b.nodes) (tail_of b e) (ends b valid e l).0)
+    none_enters e l = rw (
+      has_all (length b.nodes) (head_of b e) (ends b valid e l).1,
+      has_all (length b.nodes) (tail_of b e) (ends b valid e l).0,
+    ) refl
 
     none_leaves : (e : ℕ) → e < length b.links → leaves b (all_nodes b) e ≡ false
-    none_leaves e l = both_in (has (all_nodes b) (tail_of b e)) (has (all_nodes b) (head_of b e))
-        (has_all (length b.nodes) (tail_of b e) (ends b valid e l).0)
-        (has_all (length b.nodes) (head_of b e) (ends b valid e l).1)
+    none_leaves e l = rw (
+      has_all (length b.nodes) (tail_of b e) (ends b valid e l).0,
+      has_all (length b.nodes) (head_of b e) (ends b valid e l).1,
+    ) refl
 
     take_within : (r : ℕ) → r < length b.rights →
         (if takes_within b (all_nodes b) r then slice_index p.take r else 0) ≡ slice_index p.take r
@@ -89,14 +88,9 @@ take_goes b series before m valid follows r l = of_kind k.kind k.link k.diversio
     k : KindIs b r
     k = kind_is b valid r l
 
-    x : ℕ
-    x = slice_index m.plan.take r
-
     no_zones : ((v : ℕ) → is_zone_of b r v ≡ false) →
         total (length b.reservoirs) (λ v. if is_zone_of b r v then slice_index m.plan.take r else 0) ≡ 0
-    no_zones h =
-        total_where_none_pass (length b.reservoirs) (λ v. is_zone_of b r v) (λ v. slice_index m.plan.take r)
-        (λ v l. h v)
+    no_zones h = total_where_none_pass _ _ _ (λ v l. h v)
 
     of_kind : (kind : RightKind) → instream_link b r ≡ link_of_kind kind → is_diversion b r ≡ is_diversion_kind kind →
         ((v : ℕ) → is_zone_of b r v ≡ is_zone_of_kind kind v) → taking_node b r ≡ taking_node_of_kind b kind →
@@ -117,11 +111,12 @@ take_goes b series before m valid follows r l = of_kind k.kind k.link k.diversio
         (λ v. if reservoir == v then slice_index m.plan.take r else 0)
         (λ v l. ap (λ t. if t then slice_index m.plan.take r else 0) (z v)) in
         let one = total_at (length b.reservoirs) reservoir (slice_index m.plan.take r) in
-        let inside = in_range (slice_index m.plan.take r) reservoir (length b.reservoirs) h.0 in
-        rw d (omega arith)
-      where
-        in_range : (x k n : ℕ) → k < n → (if nat_lt k n then x else 0) ≡ x
-        in_range x k n h = grind (arith, nat_tests)
+        let inside : nat_lt reservoir (length b.reservoirs) ≡ true = lt-ltb reservoir (length b.reservoirs) h.0 in
+        rw d (omega (arith, rw inside at one))
+
+-- a list's sum, by its length
+pub sum_of : (xs : List ℕ) (n : ℕ) → length xs ≡ n → sum xs ≡ total n (λ k. slice_index xs k)
+sum_of xs n e = sum_total xs ∙ ap (λ k. total k (λ i. slice_index xs i)) e
 
 -- the balance of a month
 pub month_balance : (b : Basin) (series : Inflows) (before : List MonthRecord) (m : MonthRecord) → IsValidBasin b →
@@ -157,11 +152,11 @@ month_balance b series before m valid follows =
       split,
       swap,
       closing,
-      by_list m.opening reservoirs follows.after.fits.opening,
-      by_list m.evaporated reservoirs follows.after.fits.evaporated,
-      by_list m.closing reservoirs follows.after.fits.closing,
-      by_list m.returned nodes follows.after.fits.returned,
-      by_list m.plan.out nodes follows.after.plan.out_len,
+      sum_of m.opening reservoirs follows.after.fits.opening,
+      sum_of m.evaporated reservoirs follows.after.fits.evaporated,
+      sum_of m.closing reservoirs follows.after.fits.closing,
+      sum_of m.returned nodes follows.after.fits.returned,
+      sum_of m.plan.out nodes follows.after.plan.out_len,
     )
   where
     nodes : ℕ
@@ -178,9 +173,6 @@ month_balance b series before m valid follows =
 
     zone_part : ℕ → ℕ → ℕ
     zone_part r v = if is_zone_of b r v then slice_index m.plan.take r else 0
-
-    by_list : (xs : List ℕ) (n : ℕ) → length xs ≡ n → sum xs ≡ total n (λ k. slice_index xs k)
-    by_list xs n e = sum_total xs ∙ ap (λ k. total k (λ i. slice_index xs i)) e
 
     -- what stands at nodes is what the reservoirs hold
     stored : total nodes (λ n. stored_at b m.opening m.evaporated n) ≡ total reservoirs
@@ -269,8 +261,4 @@ balanced_up_to b series records valid partial (suc i) l =
 pub balanced : HistoriesAreBalanced
 balanced b series records valid partial =
     let whole = balanced_up_to b series records valid partial (length records) (omega arith) in
-    subst (λ xs. IsBalanced b series xs) (take_all records) whole
-  where
-    take_all : {X : Type 0} (xs : List X) → take (length xs) xs ≡ xs
-    take_all [] = refl
-    take_all (x ∷ xs) = ap (λ t. x ∷ t) (take_all xs)
+    subst (λ xs. IsBalanced b series xs) (take_all (length records) records (omega arith)) whole

@@ -1,7 +1,7 @@
 -- What return rows bring.
 use Rattle.std.proofs.Common.{◌≡◌, ℕ, zero, suc, ◌+◌, ◌-◌, ◌*◌, ◌/◌, ◌<◌, ◌≤◌, Bool, true, false, refl, ap, arith, List}
 use Rattle.std.proofs.Common.{length}
-use Rattle.std.proofs.lemmas.Bool.Decides.{nat_tests}
+use Rattle.std.proofs.lemmas.Bool.{eqb-true}
 use Rattle.std.proofs.Math.Nat.{mul-div-le}
 use Rattle.std.specs.Prelude.{if◌then◌else◌, slice_get, Some, ◌==◌}
 use Rattle.finite_sums.specs.Sums.{total}
@@ -35,15 +35,7 @@ arrives : (row : ReturnRow) (deliveries : List (List ℕ)) (n : ℕ) →
     returned_by row deliveries n + brought row deliveries (n - row.lag) ≡ brought row deliveries (n + 1 - row.lag)
 unfolding brought
 arrives row deliveries n =
-    difference (brought_grows row deliveries (n - row.lag) (n + 1 - row.lag) (omega arith))
-    (is_difference row deliveries n)
-  where
-    difference : {x y z : ℕ} → x ≤ y → z ≡ y - x → z + x ≡ y
-    difference l e = omega arith
-
-    is_difference : (row : ReturnRow) (deliveries : List (List ℕ)) (n : ℕ) →
-        returned_by row deliveries n ≡ brought row deliveries (n + 1 - row.lag) - brought row deliveries (n - row.lag)
-    is_difference row deliveries n = refl
+    omega (arith, brought_grows row deliveries (n - row.lag) (n + 1 - row.lag) (omega arith))
 
 -- the months' arrivals telescope
 telescope : (row : ReturnRow) (deliveries : List (List ℕ)) (n : ℕ) →
@@ -100,22 +92,15 @@ covered b deliveries right i valid in_range =
             delivered_before deliveries right i
         one row lag false e = omega arith
         one row lag true e =
-            let same : delivered_before deliveries row.right i ≡ delivered_before deliveries right i =
-            ap (λ r. delivered_before deliveries r i) (e refl) in
-            let part : row.part * delivered_before deliveries row.right i ≡ row.part * delivered_before deliveries right
-            i =
-            ap (λ x. row.part * x) same in
-            omega (
+            rw (← e refl)
+            (omega (
               arith,
               telescope row deliveries (i + 1),
               brought_none row deliveries,
               brought_grows row deliveries (i + 1 - row.lag) i (omega arith),
               brought_part row deliveries i,
-            )
+            ))
 
         of_row : (row : ReturnRow) × (slice_get b.returns k ≡ Some row) × IsValidReturn b row →
             10000 * share k ≤ part k * delivered_before deliveries right i
-        of_row found = rw found.1 (one found.0 found.2.lag.0 (found.0.right == right) (is_same found.0.right right))
-          where
-            is_same : (x y : ℕ) → x == y ≡ true → x ≡ y
-            is_same x y h = grind (arith, nat_tests)
+        of_row found = rw found.1 (one found.0 found.2.lag.0 (found.0.right == right) (eqb-true found.0.right right))
