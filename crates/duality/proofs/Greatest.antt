@@ -99,23 +99,6 @@ gives_most b carry supply want delivered q r l plan (inr cut) serves =
       cut_slack b carry supply delivered r cut.0 supply want q l cut.1.is_cut plan (λ n k h. refl) serves,
     )
 
--- and so that of any that delivers the same to these
-pub no_more : (b : Basin) (carry : ℕ → ℕ) (supply want delivered : List ℕ) (p q : Plan) (r : ℕ) →
-    r < length b.rights → IsFeasible b carry supply want q → AreDeliveries b want p delivered →
-    IsMetOrFull b carry supply want delivered r →
-    ((s : ℕ) → s < length b.rights → is_senior b s r ≡ true → delivery b want p s ≡ delivery b want q s) →
-    delivery b want q r ≤ delivery b want p r
-no_more b carry supply want delivered p q r l plan are full same =
-    omega (
-      arith,
-      are.each r l,
-      gives_most b carry supply want delivered q r l plan full (λ s k h. at_least s k (same s k h)),
-    )
-  where
-    at_least : (s : ℕ) → s < length b.rights → delivery b want p s ≡ delivery b want q s →
-        slice_index delivered s ≤ delivery b want q s
-    at_least s k e = omega (arith, are.each s k)
-
 -- a plan in which each right is met or has such a cut is greatest
 pub full_make_greatest : (b : Basin) (carry : ℕ → ℕ) (supply want delivered : List ℕ) (p : Plan) →
     IsFeasible b carry supply want p → AreDeliveries b want p delivered →
@@ -141,7 +124,12 @@ full_make_greatest b carry supply want delivered p plan are full = record { plan
           right = r;
           in_range = first.below;
           more = above (delivery b want p r) (delivery b want q r) first.holds
-              (no_more b carry supply want delivered p q r first.below other are (full r first.below) seniors);
+              (omega (
+                arith,
+                are.each r first.below,
+                gives_most b carry supply want delivered q r first.below other
+                    (full r first.below) (λ s k h. le_of_eq (are.each s k ∙ seniors s k h)),
+              ));
           same_to_seniors = seniors;
         }
           where

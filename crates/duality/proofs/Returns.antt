@@ -3,7 +3,7 @@ use Rattle.std.proofs.Common.{◌≡◌, ℕ, zero, suc, ◌+◌, ◌-◌, ◌*�
 use Rattle.std.proofs.Common.{length}
 use Rattle.std.proofs.lemmas.Bool.{eqb-true}
 use Rattle.std.proofs.Math.Nat.{mul-div-le}
-use Rattle.std.specs.Prelude.{if◌then◌else◌, slice_get, Some, ◌==◌}
+use Rattle.std.specs.Prelude.{if◌then◌else◌, ◌==◌}
 use Rattle.finite_sums.specs.Sums.{total}
 use Rattle.water_model.specs.Lookups.{of_entry}
 use Rattle.water_model.specs.Hydrology.{returned_by, delivered_before, delivered_in}
@@ -85,7 +85,9 @@ covered b deliveries right i valid in_range =
     at_most p x d h l = grind arith
 
     bound : (k : ℕ) → k < length b.returns → 10000 * share k ≤ part k * delivered_before deliveries right i
-    bound k l = of_row (entry_holds (λ row. IsValidReturn b row) b.returns k valid.returns l)
+    bound k l =
+        let found = entry_holds (λ row. IsValidReturn b row) b.returns k valid.returns l in
+        rw found.1 (one found.0 found.2.lag.0 (found.0.right == right) (eqb-true found.0.right right))
       where
         one : (row : ReturnRow) → 1 ≤ row.lag → (t : Bool) → (t ≡ true → row.right ≡ right) →
             10000 * (if t then total (i + 1) (λ j. returned_by row deliveries j) else 0) ≤ (if t then row.part else 0) *
@@ -100,7 +102,3 @@ covered b deliveries right i valid in_range =
               brought_grows row deliveries (i + 1 - row.lag) i (omega arith),
               brought_part row deliveries i,
             ))
-
-        of_row : (row : ReturnRow) × (slice_get b.returns k ≡ Some row) × IsValidReturn b row →
-            10000 * share k ≤ part k * delivered_before deliveries right i
-        of_row found = rw found.1 (one found.0 found.2.lag.0 (found.0.right == right) (eqb-true found.0.right right))
