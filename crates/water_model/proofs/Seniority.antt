@@ -13,10 +13,7 @@ use Rattle.water_model.specs.declared.types.Right.{Right}
 -- no right is senior to itself
 pub not_lower : (xs : List ℕ) → is_lower xs xs ≡ false
 not_lower [] = refl
-not_lower (x ∷ xs) = step x (is_lower xs xs) (not_lower xs)
-  where
-    step : (x : ℕ) (t : Bool) → t ≡ false → nat_lt x x || (x == x && t) ≡ false
-    step x t h = grind (arith, nat_tests)
+not_lower (x ∷ xs) = let h = not_lower xs in grind (arith, nat_tests)
 
 pub not_senior_to_itself : (b : Basin) (r : ℕ) → is_senior b r r ≡ false
 not_senior_to_itself b r = not_lower (priority_of b r)
@@ -85,23 +82,11 @@ pub lower_total : (xs ys : List ℕ) → length xs ≡ length ys → xs ≢ ys �
 lower_total [] [] e n = absurd (n refl)
 lower_total [] (y ∷ ys) e n = absurd (omega arith)
 lower_total (x ∷ xs) [] e n = absurd (omega arith)
-lower_total (x ∷ xs) (y ∷ ys) e n = by_head (lower_total xs ys (omega arith)) (cases_order x y)
-  where
-    first : (x y : ℕ) (t : Bool) → x < y → nat_lt x y || (x == y && t) ≡ true
-    first x y t h = grind (arith, nat_tests)
-
-    rest : (x y : ℕ) (t : Bool) → x ≡ y → t ≡ true → nat_lt x y || (x == y && t) ≡ true
-    rest x y t e h = grind (arith, nat_tests)
-
-    by_head : (xs ≢ ys → (is_lower xs ys ≡ true) ⊎ (is_lower ys xs ≡ true)) → (x ≡ y) ⊎ ((x < y) ⊎ (y < x)) →
-        (nat_lt x y || (x == y && is_lower xs ys) ≡ true) ⊎ (nat_lt y x || (y == x && is_lower ys xs) ≡ true)
-    by_head tails (inr (inl l)) = inl (first x y (is_lower xs ys) l)
-    by_head tails (inr (inr l)) = inr (first y x (is_lower ys xs) l)
-    by_head tails (inl same) =
-        elim (tails (λ t. n (cc (same, t)))) [
-          | inl h ↦ inl (rest x y (is_lower xs ys) same h)
-          | inr h ↦ inr (rest y x (is_lower ys xs) (sym same) h)
-        ]
+lower_total (x ∷ xs) (y ∷ ys) e n = elim (cases_order x y) [
+  | inl same ↦ elim (lower_total xs ys (omega arith) (λ t. n (cc (same, t))))
+      [ inl h ↦ inl (grind (arith, nat_tests)) | inr h ↦ inr (grind (arith, nat_tests)) ]
+  | inr o ↦ elim o [ inl l ↦ inl (grind (arith, nat_tests)) | inr l ↦ inr (grind (arith, nat_tests)) ]
+]
 
 -- of two different rights one is senior to the other
 pub senior_total : (rights : List Right) → AreStrict rights → (r s : ℕ) → r < length rights → s < length rights →

@@ -54,8 +54,7 @@ pub at_some_index : (n : ℕ) (set : List Bool) → length set ≡ n → (o : Op
 at_some_index n set len None x = total_zero n (λ v. if has set v then 0 else 0) (λ v l. same (has set v) 0)
   where
     same : (b : Bool) (z : ℕ) → (if b then z else z) ≡ z
-    same true z = refl
-    same false z = refl
+    same b z = grind (arith, nat_tests)
 at_some_index n set len (Some k) x = at_index n set len k x
 
 -- a sum over a set splits like its terms
@@ -66,8 +65,7 @@ total_where_add n y f g =
     ∙ total_add n (λ k. if y k then f k else 0) (λ k. if y k then g k else 0)
   where
     split : (b : Bool) (x z : ℕ) → (if b then x + z else 0) ≡ (if b then x else 0) + (if b then z else 0)
-    split true x z = refl
-    split false x z = refl
+    split b x z = grind (arith, nat_tests)
 
 pub total_where_same : (n : ℕ) (y : ℕ → Bool) (f g : ℕ → ℕ) → ((k : ℕ) → k < n → f k ≡ g k) →
     total_where n y f ≡ total_where n y g
