@@ -125,33 +125,24 @@ pub month_balance : (b : Basin) (series : Inflows) (before : List MonthRecord) (
     ≡ sum m.closing + sum m.evaporated + diverted b m + sum m.plan.out
 month_balance b series before m valid follows =
     let balance = plan_balance b m.month m.supply m.want m.plan valid follows.after.plan in
-    let supply = total_same nodes (λ n. slice_index m.supply n)
-    (λ n. inflow_at b series n m.index + slice_index m.returned n + stored_at b m.opening m.evaporated n)
-    follows.after.supply in
     let parts =
     total_add nodes (λ n. inflow_at b series n m.index + slice_index m.returned n)
     (λ n. stored_at b m.opening m.evaporated n) in
     let parts2 = total_add nodes (λ n. inflow_at b series n m.index) (λ n. slice_index m.returned n) in
-    let takes =
-    total_same rights (λ r. slice_index m.plan.take r)
-    (λ r. diverted_part r + total reservoirs (λ v. zone_part r v))
-    (take_goes b series before m valid follows) in
     let split = total_add rights diverted_part (λ r. total reservoirs (λ v. zone_part r v)) in
     let swap = total_exchange rights reservoirs zone_part in
-    let closing =
-    total_same reservoirs (λ v. slice_index m.closing v) (λ v. total rights (λ r. zone_part r v)) follows.closing in
     omega (
       arith,
       balance,
-      supply,
+      total_same _ _ _ follows.after.supply,
       parts,
       parts2,
       stored,
       kept,
-      takes,
+      total_same _ _ _ (take_goes b series before m valid follows),
       split,
       swap,
-      closing,
+      total_same _ _ _ follows.closing,
       sum_of m.opening reservoirs follows.after.fits.opening,
       sum_of m.evaporated reservoirs follows.after.fits.evaporated,
       sum_of m.closing reservoirs follows.after.fits.closing,
@@ -242,14 +233,13 @@ balanced_up_to b series records valid partial (suc i) l =
         let m : MonthRecord = found.0 in
         let follows = partial.each i m found.1 in
         let month = month_balance b series (take i records) m valid follows in
-        let opens : sum m.opening ≡ sum (opening_after b (take i records)) = ap (λ xs. sum xs) follows.opening in
         let closes : sum (opening_after b (take (suc i) records)) ≡ sum m.closing =
         ap (λ xs. sum xs) (opening_after_more b records i m (omega arith) found.1) in
         omega (
           arith,
           before,
           month,
-          opens,
+          ap (λ (xs : List ℕ). sum xs) follows.opening,
           closes,
           step (λ m. total_inflow b series m.index) m found.1,
           step (λ m. sum m.returned) m found.1,
