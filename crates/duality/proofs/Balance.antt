@@ -38,18 +38,15 @@ pub plan_balance : (b : Basin) (month : Month) (supply want : List ℕ) (p : Pla
     ≡ total (length b.rights) (λ r. slice_index p.take r) + total (length b.nodes) (λ n. slice_index p.out n)
 plan_balance b month supply want p valid plan =
     let nodes : ℕ = length b.nodes in
-    let cut = cut_balance b (carry_of b month) supply want p (all_nodes b) plan (length-replicate nodes true) in
-    let supplies = total_where_all nodes (λ n. has (all_nodes b) n) (λ n. slice_index supply n) (has_all nodes) in
-    let outs = total_where_all nodes (λ n. has (all_nodes b) n) (λ n. slice_index p.out n) (has_all nodes) in
-    let ins =
-    total_where_none_pass (length b.links) (λ e. enters b (all_nodes b) e) (λ e. slice_index p.flow e)
-    none_enters in
-    let leave =
-    total_where_none_pass (length b.links) (λ e. leaves b (all_nodes b) e) (λ e. slice_index p.flow e)
-    none_leaves in
-    let takes = total_same (length b.rights) (λ r. if takes_within b (all_nodes b) r then slice_index p.take r else 0)
-    (λ r. slice_index p.take r) take_within in
-    omega (arith, cut, supplies, outs, ins, leave, takes)
+    omega (
+      arith,
+      cut_balance b (carry_of b month) supply want p (all_nodes b) plan (length-replicate nodes true),
+      total_where_all nodes (λ n. has (all_nodes b) n) (λ n. slice_index supply n) (has_all nodes),
+      total_where_all nodes (λ n. has (all_nodes b) n) (λ n. slice_index p.out n) (has_all nodes),
+      total_where_none_pass (length b.links) (λ e. enters b (all_nodes b) e) (λ e. slice_index p.flow e) none_enters,
+      total_where_none_pass (length b.links) (λ e. leaves b (all_nodes b) e) (λ e. slice_index p.flow e) none_leaves,
+      total_same _ _ _ take_within,
+    )
   where
     none_enters : (e : ℕ) → e < length b.links → enters b (all_nodes b) e ≡ false
     none_enters e l = rw (
@@ -124,24 +121,18 @@ pub month_balance : (b : Basin) (series : Inflows) (before : List MonthRecord) (
     sum m.opening + total_inflow b series m.index + sum m.returned
     ≡ sum m.closing + sum m.evaporated + diverted b m + sum m.plan.out
 month_balance b series before m valid follows =
-    let balance = plan_balance b m.month m.supply m.want m.plan valid follows.after.plan in
-    let parts =
-    total_add nodes (λ n. inflow_at b series n m.index + slice_index m.returned n)
-    (λ n. stored_at b m.opening m.evaporated n) in
-    let parts2 = total_add nodes (λ n. inflow_at b series n m.index) (λ n. slice_index m.returned n) in
-    let split = total_add rights diverted_part (λ r. total reservoirs (λ v. zone_part r v)) in
-    let swap = total_exchange rights reservoirs zone_part in
     omega (
       arith,
-      balance,
+      plan_balance b m.month m.supply m.want m.plan valid follows.after.plan,
       total_same _ _ _ follows.after.supply,
-      parts,
-      parts2,
+      total_add nodes (λ n. inflow_at b series n m.index + slice_index m.returned n)
+          (λ n. stored_at b m.opening m.evaporated n),
+      total_add nodes (λ n. inflow_at b series n m.index) (λ n. slice_index m.returned n),
       stored,
       kept,
       total_same _ _ _ (take_goes b series before m valid follows),
-      split,
-      swap,
+      total_add rights diverted_part (λ r. total reservoirs (λ v. zone_part r v)),
+      total_exchange rights reservoirs zone_part,
       total_same _ _ _ follows.closing,
       sum_of m.opening reservoirs follows.after.fits.opening,
       sum_of m.evaporated reservoirs follows.after.fits.evaporated,
