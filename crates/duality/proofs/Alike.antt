@@ -153,7 +153,8 @@ kept_there b c r t delivered given cut strict same served =
         (λ u. slice_index given u)
     into s l h =
         let tests = and_parts (takes_within b cut s) (is_senior b s r) h in
-        let x : (u : ℕ) × IsSame b c s u × (slice_index delivered s ≤ slice_index given u) = served s l (senior s h) in (
+        let x : (u : ℕ) × IsSame b c s u × (slice_index delivered s ≤ slice_index given u) =
+        served s l (senior s h) in (
           x.0,
           same_there b c s x.0 x.1,
           and_from _ _ (same_within b c s x.0 x.1 cut ∙ tests.0) (same_senior b c s r x.0 t x.1 same ∙ tests.1),

@@ -20,12 +20,13 @@ use Rattle.duality.proofs.Greatest.{tight_leaves_nothing}
 pub set_is_tight : {b : Basin} {series : Inflows} {before : List MonthRecord} {m : MonthRecord} →
     Follows b series before m → (r : ℕ) → r < length b.rights → (cut : List Bool) → cut_of m r ≡ Some cut →
     IsTight b m.month m.supply m.delivered r cut
-set_is_tight {b} {series} {before} {m} follows r l cut is = elim (cases_lt (slice_index m.delivered r) (slice_index m.want r)) [
-  | inl short ↦ (let other = follows.short r l short in
-      let same : other.0 ≡ cut = cc (other.1, is) in
-      subst (λ (set : List Bool). IsTight b m.month m.supply m.delivered r set) same other.2)
-  | inr met ↦ absurd (cc (follows.met r l met, is))
-]
+set_is_tight {b} {series} {before} {m} follows r l cut is =
+    elim (cases_lt (slice_index m.delivered r) (slice_index m.want r)) [
+      | inl short ↦ (let other = follows.short r l short in
+          let same : other.0 ≡ cut = cc (other.1, is) in
+          subst (λ (set : List Bool). IsTight b m.month m.supply m.delivered r set) same other.2)
+      | inr met ↦ absurd (cc (follows.met r l met, is))
+    ]
 
 pub record_leaves_nothing : {b : Basin} {series : Inflows} {before : List MonthRecord} {m : MonthRecord} →
     Follows b series before m → (r : ℕ) → r < length b.rights → (cut : List Bool) → cut_of m r ≡ Some cut →

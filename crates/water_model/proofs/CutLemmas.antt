@@ -244,14 +244,17 @@ module _ {rights nodes : ℕ} {r : Words} {right : ℕ} {part : List ℕ} (h : B
           ⊎ (get_or (begun r right part) o 0 + words_for nodes ≤ get_or (begun r right part) s 0)
       apart s o b c differ some held = elim (cases_eq s right) [
         | inl e ↦
-            let stays : get_or (begun r right part) o 0 ≡ get_or r.words o 0 = begun_other o c (λ f. differ (e ∙ sym f)) in
+            let stays : get_or (begun r right part) o 0 ≡ get_or r.words o 0 =
+            begun_other o c (λ f. differ (e ∙ sym f)) in
             inr (omega (arith, here s e, h.keeps.within o c (omega arith)))
         | inr e ↦ elim (cases_eq o right) [
-          | inl f ↦ inl (omega (arith, here o f, begun_other s b e, h.keeps.within s b (omega (arith, begun_other s b e))))
-          | inr f ↦ elim (h.keeps.apart s o b c differ (omega (arith, begun_other s b e)) (omega (arith, begun_other o c f))) [
-            | inl before ↦ inl (omega (arith, before, begun_other s b e, begun_other o c f))
-            | inr later ↦ inr (omega (arith, later, begun_other s b e, begun_other o c f))
-          ]
+          | inl f ↦
+              inl (omega (arith, here o f, begun_other s b e, h.keeps.within s b (omega (arith, begun_other s b e))))
+          | inr f ↦ elim (h.keeps.apart s o b c differ (omega (arith, begun_other s b e))
+              (omega (arith, begun_other o c f))) [
+                | inl before ↦ inl (omega (arith, before, begun_other s b e, begun_other o c f))
+                | inr later ↦ inr (omega (arith, later, begun_other s b e, begun_other o c f))
+              ]
         ]
       ]
 

@@ -37,8 +37,8 @@ module _ (rights nodes : ℕ) (words : List ℕ) {seen : CutSets} {right : ℕ} 
       by_word (suc w) h = omega arith
 
 -- a right's word, as it is read
-pub word_read : (words : List ℕ) (right : ℕ) {slots : Place} {rights word : ℕ} → slots ≡ record { from = 0; len = rights } →
-    word ≡ get_or words (slots.from + right) 0 → word ≡ get_or words right 0
+pub word_read : (words : List ℕ) (right : ℕ) {slots : Place} {rights word : ℕ} →
+    slots ≡ record { from = 0; len = rights } → word ≡ get_or words (slots.from + right) 0 → word ≡ get_or words right 0
 word_read words right {slots} first is =
     let at : slots.from + right ≡ right = omega (arith, ap (λ (p : Place). p.from) first) in
     is ∙ ap (λ (k : ℕ). get_or words k 0) at

@@ -122,7 +122,8 @@ has_cell b numbers cells number index n p valid are few size k within =
     let cell = cell_within index b.months (length numbers) (index_in numbers number) k within in
     let bounded : length numbers ≤ 2000 =
     omega (arith, ap length are, filter_short p (numbers_from 0 n), length-numbers_from 0 n) in
-    let most : b.months * length numbers ≤ 1200 * length numbers = mul-le-mul_right (length numbers) valid.run.months.1 in
+    let most : b.months * length numbers ≤ 1200 * length numbers =
+    mul-le-mul_right (length numbers) valid.run.months.1 in
     record { within = rw size cell; small = omega arith }
 
 -- that of the amount of a gauged node in a month

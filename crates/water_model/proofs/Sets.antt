@@ -123,7 +123,8 @@ into_more n m p q f g into one rest = by_last (p n) refl
       arith,
       x.3,
       total_crossing m q (λ j. j == x.0) g,
-      term_le_total_where m (λ j. q j && j == x.0) g x.0 x.1 (and_from (q x.0) (x.0 == x.0) x.2 (grind (arith, nat_tests))),
+      term_le_total_where m (λ j. q j && j == x.0) g x.0 x.1
+          (and_from (q x.0) (x.0 == x.0) x.2 (grind (arith, nat_tests))),
       rest (λ j. q j && not (j == x.0))
           (λ k l h. (let y = into k (one_above k n l) h in
           (y.0, y.1, passes (q y.0) y.0 x.0 y.2 (λ same. let e = apart k l h same in omega arith), y.3)))

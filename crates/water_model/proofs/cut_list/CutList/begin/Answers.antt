@@ -42,14 +42,15 @@ ends : (c : goal.After-set) → c.set.new.self ≡ record {
   used = c.self.inside.region.used + c.words_for.result;
 }
 ends c =
-    began c.self.inside.region c.args.right c.next_place-place.ensures.taken c.next_place-place.ensures.place c.rights_place.ensures
-    c.set.ensures
+    began c.self.inside.region c.args.right c.next_place-place.ensures.taken c.next_place-place.ensures.place
+    c.rights_place.ensures c.set.ensures
 
 pub invariant_of-self : goal.invariant_of-self
 invariant_of-self c =
     let i = c.self.inside in
     subst (KeepsSets i.rights i.nodes) (sym (ends c))
-    (begun_keeps (begins c) (i.region.used + c.words_for.result) (ap (λ (n : ℕ). i.region.used + n) c.words_for.ensures))
+    (begun_keeps (begins c) (i.region.used + c.words_for.result)
+    (ap (λ (n : ℕ). i.region.used + n) c.words_for.ensures))
 
 pub returns : goal.returns
 returns c =
