@@ -1,6 +1,7 @@
 -- What a right gets in a month depends on its seniors, and on no junior.
 use Rattle.std.proofs.Common.{◌≡◌, ℕ, ◌<◌, ◌≤◌, Bool, true, false, refl, sym, ◌∙◌, ap, ap₂, subst, arith, List, []}
 use Rattle.std.proofs.Common.{length, inl, inr}
+use Rattle.std.proofs.Math.Nat.{le_of_eq}
 use Rattle.std.proofs.lemmas.Bool.{and_parts, and_from, or_cases, or_left, or_right, cases_order, eqb-true}
 use Rattle.std.proofs.lemmas.Bool.Decides.{nat_tests}
 use Rattle.std.proofs.lemmas.Option.{slice_get_within}
@@ -20,11 +21,8 @@ use Rattle.duality.specs.Alike.{JuniorsChangeNothing, GreatestPlansIgnoreJuniors
 use Rattle.water_text.specs.declared.month.Month.{Month}
 use Rattle.water_model.specs.declared.types.Basin.{Basin}
 use Rattle.water_model.specs.declared.types.Inflows.{Inflows}
-use Rattle.water_model.specs.declared.types.Link.{Link}
 use Rattle.water_model.specs.declared.types.MonthRecord.{MonthRecord}
-use Rattle.water_model.specs.declared.types.Node.{Node}
 use Rattle.water_model.specs.declared.types.Plan.{Plan}
-use Rattle.water_model.specs.declared.types.Reservoir.{Reservoir}
 use Rattle.water_model.specs.declared.types.Right.{Right}
 use Rattle.water_model.specs.declared.types.RightKind.{RightKind}
 use Rattle.water_model.specs.declared.types.RightKind.TheVariants.{Diversion, Instream, Zone}
@@ -44,13 +42,8 @@ pub record IsSame (b c : Basin) (s u : ℕ) : Type 0 where
   pub entry : slice_get c.rights u ≡ slice_get b.rights s
 
 pub same_there : (b c : Basin) (s u : ℕ) → IsSame b c s u → u < length c.rights
-same_there b c s u same = of_entry_at (entry_at b.rights s same.here)
-  where
-    of_entry_at : (x : Right) × (slice_get b.rights s ≡ Some x) → u < length c.rights
-    of_entry_at x = slice_get_within c.rights u x.0 (same.entry ∙ x.1)
-
-pub same_back : (b c : Basin) (s u : ℕ) → IsSame b c s u → IsSame c b u s
-same_back b c s u same = record { here = same_there b c s u same; entry = sym same.entry }
+same_there b c s u same =
+    let x = entry_at b.rights s same.here in slice_get_within c.rights u x.0 (same.entry ∙ x.1)
 
 pub of_same : {Y : Type 0} (b c : Basin) (f : Right → Y) (d : Y) (s u : ℕ) → IsSame b c s u →
     of_entry c.rights u f d ≡ of_entry b.rights s f d
@@ -131,12 +124,12 @@ kept_there b c r t delivered given cut strict same served =
           (λ e l h. (ap (λ x. leaves b cut e && not x) (same_on_link b c r t same e) ∙ h, on_one e)),
       total_where_into (length b.rights) (length c.rights) (λ s. takes_within b cut s && is_senior b s r)
           (λ u. takes_within (on_network b c) cut u && is_senior c u t) (λ s. slice_index delivered s)
-          (λ u. slice_index given u) into one,
+          (λ u. slice_index given u) into (λ i k a d h w e. same_index b c i k _ _ strict
+          (served i a (senior i h)).1 (served k d (senior k w)).1 e),
     )
   where
     on_one : (e : ℕ) → kept_on b delivered r e ≤ kept_on (on_network b c) given t e
-    on_one e = greatest_where_le (length b.rights) (λ s. is_on_link b s e && is_senior b s r)
-        (λ s. slice_index delivered s) (kept_on (on_network b c) given t e) each
+    on_one e = greatest_where_le _ _ _ _ each
       where
         each : (s : ℕ) → s < length b.rights → is_on_link b s e && is_senior b s r ≡ true →
             slice_index delivered s ≤ kept_on (on_network b c) given t e
@@ -148,8 +141,8 @@ kept_there b c r t delivered given cut strict same served =
               x.2,
               term_le_greatest (length c.rights) (λ u. is_on_link (on_network b c) u e && is_senior c u t)
                   (λ u. slice_index given u) x.0 (same_there b c s x.0 x.1)
-                  (and_from (is_on_link (on_network b c) x.0 e) (is_senior c x.0 t)
-                  (same_on_link b c s x.0 x.1 e ∙ tests.0) (same_senior b c s r x.0 t x.1 same ∙ tests.1)),
+                  (and_from _ _ (same_on_link b c s x.0 x.1 e ∙ tests.0)
+                  (same_senior b c s r x.0 t x.1 same ∙ tests.1)),
             )
 
     senior : (s : ℕ) → takes_within b cut s && is_senior b s r ≡ true → is_senior b s r ≡ true
@@ -158,22 +151,15 @@ kept_there b c r t delivered given cut strict same served =
     into : Into (length b.rights) (length c.rights) (λ s. takes_within b cut s && is_senior b s r)
         (λ u. takes_within (on_network b c) cut u && is_senior c u t) (λ s. slice_index delivered s)
         (λ u. slice_index given u)
-    into s l h = (
-      (served s l (senior s h)).0,
-      same_there b c s (served s l (senior s h)).0 (served s l (senior s h)).1,
-      and_from (takes_within (on_network b c) cut (served s l (senior s h)).0)
-          (is_senior c (served s l (senior s h)).0 t)
-          (same_within b c s (served s l (senior s h)).0 (served s l (senior s h)).1 cut
-          ∙ (and_parts (takes_within b cut s) (is_senior b s r) h).0)
-          (same_senior b c s r (served s l (senior s h)).0 t (served s l (senior s h)).1 same ∙ senior s h),
-      (served s l (senior s h)).2,
-    )
-
-    one : (i k : ℕ) (a : i < length b.rights) (d : k < length b.rights)
-        (h : takes_within b cut i && is_senior b i r ≡ true) (w : takes_within b cut k && is_senior b k r ≡ true) →
-        (served i a (senior i h)).0 ≡ (served k d (senior k w)).0 → i ≡ k
-    one i k a d h w e = same_index b c i k (served i a (senior i h)).0 (served k d (senior k w)).0 strict
-        (served i a (senior i h)).1 (served k d (senior k w)).1 e
+    into s l h =
+        let tests = and_parts (takes_within b cut s) (is_senior b s r) h in
+        let x : (u : ℕ) × IsSame b c s u × (slice_index delivered s ≤ slice_index given u) =
+        served s l (senior s h) in (
+          x.0,
+          same_there b c s x.0 x.1,
+          and_from _ _ (same_within b c s x.0 x.1 cut ∙ tests.0) (same_senior b c s r x.0 t x.1 same ∙ tests.1),
+          x.2,
+        )
 
 -- In the second basin a right gets no more than in the first, where it is met or has a tight cut, if each of its
 -- seniors there is a right of the second, too, and gets no less: whatever other rights the second basin has.
@@ -195,11 +181,8 @@ no_more_there b c month supply want other delivered given q r t strict same (inr
       are.each t (same_there b c r t same),
       kept_there b c r t delivered given cut.0 strict same served,
       cut_slack (on_network b c) (carry_of b month) supply given t cut.0 supply other q (same_there b c r t same)
-          (same_cut b c r t same cut.0 cut.1.is_cut) plan (λ n l h. refl) (λ s l h. at_most (are.each s l)),
+          (same_cut b c r t same cut.0 cut.1.is_cut) plan (λ n l h. refl) (λ s l h. le_of_eq (are.each s l)),
     )
-  where
-    at_most : {x y : ℕ} → x ≡ y → x ≤ y
-    at_most e = omega arith
 
 -- whether a right, up to another one, is delivered another amount in the second basin
 abbrev differs : Basin → (ℕ → ℕ) → ℕ → List ℕ → List ℕ → ℕ → Bool
@@ -215,26 +198,16 @@ same_delivery : (b c : Basin) (at : ℕ → ℕ) (right : ℕ) (month : Month)
 same_delivery b c at right month supply want other delivered given p q strict strict' seniors wants cp cq =
     by_first (first_where b (differs b at right delivered given) (length b.rights))
   where
-    at_most : {x y : ℕ} → x ≡ y → x ≤ y
-    at_most e = omega arith
-
-    at_least : {x y : ℕ} → x ≡ y → y ≤ x
-    at_least e = omega arith
-
-    itself : (x : ℕ) → x == x ≡ true
-    itself x = grind (arith, nat_tests)
-
     settled : (t : Bool) (x y : ℕ) → t ≡ true → t && not (x == y) ≡ false → x ≡ y
     settled t x y h i = grind (arith, nat_tests)
-
-    apart : (x y : ℕ) → not (x == y) ≡ true → x ≡ y → ⊥
-    apart x y h e = grind (arith, nat_tests)
 
     as_same : (s : ℕ) → s < length b.rights → IsUpTo b s right → IsSame b c s (at s)
     as_same s l up = record { here = l; entry = seniors.same s l up }
 
     clash : (k : ℕ) → IsFirst b (differs b at right delivered given) (length b.rights) k → ⊥
-    clash k first = apart (slice_index delivered k) (slice_index given (at k)) tests.1 (omega (arith, one, two))
+    clash k first =
+        let equal : slice_index delivered k ≡ slice_index given (at k) = omega (arith, one, two) in
+        let differ = tests.1 in grind (arith, nat_tests)
       where
         tests : (k == right || is_senior b k right ≡ true)
             × (not (slice_index delivered k == slice_index given (at k)) ≡ true)
@@ -263,8 +236,8 @@ same_delivery b c at right month supply want other delivered given p q strict st
 
         one : slice_index given (at k) ≤ slice_index delivered k
         one = no_more_there b c month supply want other delivered given q k (at k) strict same_k
-            (cp.cuts k first.below) (at_most (wants.each k first.below up)) cq.plan cq.deliveries
-            (λ s l h. (at s, as_same s l (inr (above s h)), at_most (equal s l h)))
+            (cp.cuts k first.below) (le_of_eq (wants.each k first.below up)) cq.plan cq.deliveries
+            (λ s l h. (at s, as_same s l (inr (above s h)), le_of_eq (equal s l h)))
 
         above_there : (u : ℕ) → is_senior c u (at k) ≡ true → is_senior c u (at right) ≡ true
         above_there u h = elim up [
@@ -281,8 +254,8 @@ same_delivery b c at right month supply want other delivered given p q strict st
             of_other x = (
               x.0,
               record { here = l; entry = sym same.entry },
-              at_least (equal x.0 x.1 (sym (same_senior b c x.0 k u (at k) same same_k) ∙ h)
-                  ∙ ap (slice_index given) x.3),
+              le_of_eq (sym (equal x.0 x.1 (sym (same_senior b c x.0 k u (at k) same same_k) ∙ h)
+                  ∙ ap (slice_index given) x.3)),
             )
               where
                 same : IsSame b c x.0 u
@@ -291,24 +264,20 @@ same_delivery b c at right month supply want other delivered given p q strict st
         two : slice_index delivered k ≤ slice_index given (at k)
         two = no_more_there (on_network b c) b month supply other want given delivered p (at k) k strict'
             (record { here = same_there b c k (at k) same_k; entry = sym same_k.entry })
-            (cq.cuts (at k) (same_there b c k (at k) same_k)) (at_least (wants.each k first.below up)) cp.plan
+            (cq.cuts (at k) (same_there b c k (at k) same_k)) (le_of_eq (sym (wants.each k first.below up))) cp.plan
             cp.deliveries served
 
     by_first : ((k : ℕ) → k < length b.rights → differs b at right delivered given k ≡ false)
         ⊎ ((k : ℕ) × IsFirst b (differs b at right delivered given) (length b.rights) k) →
         slice_index delivered right ≡ slice_index given (at right)
     by_first (inl none) = settled (right == right || is_senior b right right) (slice_index delivered right)
-        (slice_index given (at right)) (or_left (right == right) (is_senior b right right) (itself right))
+        (slice_index given (at right)) (or_left (right == right) (is_senior b right right) (grind (arith, nat_tests)))
         (none right seniors.in_range)
     by_first (inr first) = absurd (clash first.0 first.1)
 
 -- a basin with the network of the first is itself on it
 network_is : (first second : Basin) → HaveOneNetwork first second → second ≡ on_network first second
-network_is first second net =
-    ap (λ (n : List Node). record second { nodes = n }) net.nodes
-    ∙ (ap (λ (l : List Link). record second { nodes = first.nodes; links = l }) net.links
-    ∙ ap (λ (v : List Reservoir). record second { nodes = first.nodes; links = first.links; reservoirs = v })
-    net.reservoirs)
+network_is first second net = rw (← net.nodes, ← net.links, ← net.reservoirs) refl
 
 pub juniors_change_nothing : JuniorsChangeNothing
 juniors_change_nothing first second at right month supply want other delivered given p q strict strict' net seniors
@@ -327,10 +296,10 @@ record_is_certified b series before m follows = record {
 }
 
 -- what a certified plan has is what any greatest plan delivers
-certified_is : (b : Basin) (month : Month) (supply want delivered : List ℕ) (p p' : Plan) → HasStrictPriority b →
+certified_is : {b : Basin} {month : Month} {supply want delivered : List ℕ} {p p' : Plan} → HasStrictPriority b →
     IsCertified b month supply want delivered p → IsGreatest b month supply want p' → (r : ℕ) → r < length b.rights →
     delivery b want p' r ≡ slice_index delivered r
-certified_is b month supply want delivered p p' strict cp gp r l =
+certified_is {b} {month} {supply} {want} {delivered} {p} {p'} strict cp gp r l =
     greatest_same b month supply want p' p strict gp
     (cuts_make_plan_greatest b month supply want delivered p cp.plan cp.deliveries cp.cuts) r l
     ∙ sym (cp.deliveries.each r l)
@@ -338,9 +307,9 @@ certified_is b month supply want delivered p p' strict cp gp r l =
 pub greatest_plans_ignore_juniors : GreatestPlansIgnoreJuniors
 greatest_plans_ignore_juniors first second at right month supply want other delivered given p q p' q' strict strict'
     net seniors wants cp cq gp gq =
-    certified_is first month supply want delivered p p' strict cp gp right seniors.in_range
+    certified_is strict cp gp right seniors.in_range
     ∙ (juniors_change_nothing first second at right month supply want other delivered given p q strict strict' net
     seniors wants cp cq
-    ∙ sym (certified_is second month supply other given q q' strict' cq gq (at right)
+    ∙ sym (certified_is strict' cq gq (at right)
     (same_there first second right (at right)
     (record { here = seniors.in_range; entry = seniors.same right seniors.in_range (inl refl) }))))

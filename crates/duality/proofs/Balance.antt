@@ -1,11 +1,11 @@
 -- The balance of a month and of a run.
-use Rattle.std.proofs.Common.{◌≡◌, ℕ, zero, suc, ◌+◌, ◌-◌, ◌<◌, ◌≤◌, Bool, true, false, refl, sym, ◌∙◌, ap, arith}
+use Rattle.std.proofs.Common.{◌≡◌, ℕ, zero, suc, ◌+◌, ◌-◌, ◌<◌, ◌≤◌, true, false, refl, sym, ◌∙◌, ap, arith}
 use Rattle.std.proofs.Common.{List, [], ◌∷◌, length, map, sum, take, add-one, subst, length-take}
-use Rattle.std.proofs.lemmas.List.{length-replicate}
+use Rattle.std.proofs.lemmas.List.{length-replicate, take_all}
 use Rattle.std.proofs.lemmas.Option.{get_or_from_slice_get}
-use Rattle.std.proofs.lemmas.Bool.Decides.{nat_tests}
+use Rattle.std.proofs.lemmas.Bool.{lt-ltb}
 use Rattle.std.proofs.lemmas.List.Sums.{sum_by_more}
-use Rattle.std.specs.Prelude.{if◌then◌else◌, ◌==◌, nat_lt, ◌&&◌, not, slice_index, slice_get, sum_by, Option, Some}
+use Rattle.std.specs.Prelude.{if◌then◌else◌, ◌==◌, nat_lt, slice_index, slice_get, sum_by, Option, Some}
 use Rattle.std.specs.Prelude.{None, unwrap_or, option_map}
 use Rattle.finite_sums.specs.Sums.{total}
 use Rattle.water_model.specs.Lookups.{has}
@@ -38,31 +38,27 @@ pub plan_balance : (b : Basin) (month : Month) (supply want : List ℕ) (p : Pla
     ≡ total (length b.rights) (λ r. slice_index p.take r) + total (length b.nodes) (λ n. slice_index p.out n)
 plan_balance b month supply want p valid plan =
     let nodes : ℕ = length b.nodes in
-    let cut = cut_balance b (carry_of b month) supply want p (all_nodes b) plan (length-replicate nodes true) in
-    let supplies = total_where_all nodes (λ n. has (all_nodes b) n) (λ n. slice_index supply n) (has_all nodes) in
-    let outs = total_where_all nodes (λ n. has (all_nodes b) n) (λ n. slice_index p.out n) (has_all nodes) in
-    let ins =
-    total_where_none_pass (length b.links) (λ e. enters b (all_nodes b) e) (λ e. slice_index p.flow e)
-    none_enters in
-    let leave =
-    total_where_none_pass (length b.links) (λ e. leaves b (all_nodes b) e) (λ e. slice_index p.flow e)
-    none_leaves in
-    let takes = total_same (length b.rights) (λ r. if takes_within b (all_nodes b) r then slice_index p.take r else 0)
-    (λ r. slice_index p.take r) take_within in
-    omega (arith, cut, supplies, outs, ins, leave, takes)
+    omega (
+      arith,
+      cut_balance b (carry_of b month) supply want p (all_nodes b) plan (length-replicate nodes true),
+      total_where_all nodes (λ n. has (all_nodes b) n) (λ n. slice_index supply n) (has_all nodes),
+      total_where_all nodes (λ n. has (all_nodes b) n) (λ n. slice_index p.out n) (has_all nodes),
+      total_where_none_pass (length b.links) (λ e. enters b (all_nodes b) e) (λ e. slice_index p.flow e) none_enters,
+      total_where_none_pass (length b.links) (λ e. leaves b (all_nodes b) e) (λ e. slice_index p.flow e) none_leaves,
+      total_same _ _ _ take_within,
+    )
   where
-    both_in : (x y : Bool) → x ≡ true → y ≡ true → x && not y ≡ false
-    both_in x y h i = grind (arith, nat_tests)
-
     none_enters : (e : ℕ) → e < length b.links → enters b (all_nodes b) e ≡ false
-    none_enters e l = both_in (has (all_nodes b) (head_of b e)) (has (all_nodes b) (tail_of b e))
-        (has_all (length b.nodes) (head_of b e) (ends b valid e l).1)
-        (has_all (length b.nodes) (tail_of b e) (ends b valid e l).0)
+    none_enters e l = rw (
+      has_all (length b.nodes) (head_of b e) (ends b valid e l).1,
+      has_all (length b.nodes) (tail_of b e) (ends b valid e l).0,
+    ) refl
 
     none_leaves : (e : ℕ) → e < length b.links → leaves b (all_nodes b) e ≡ false
-    none_leaves e l = both_in (has (all_nodes b) (tail_of b e)) (has (all_nodes b) (head_of b e))
-        (has_all (length b.nodes) (tail_of b e) (ends b valid e l).0)
-        (has_all (length b.nodes) (head_of b e) (ends b valid e l).1)
+    none_leaves e l = rw (
+      has_all (length b.nodes) (tail_of b e) (ends b valid e l).0,
+      has_all (length b.nodes) (head_of b e) (ends b valid e l).1,
+    ) refl
 
     take_within : (r : ℕ) → r < length b.rights →
         (if takes_within b (all_nodes b) r then slice_index p.take r else 0) ≡ slice_index p.take r
@@ -89,14 +85,9 @@ take_goes b series before m valid follows r l = of_kind k.kind k.link k.diversio
     k : KindIs b r
     k = kind_is b valid r l
 
-    x : ℕ
-    x = slice_index m.plan.take r
-
     no_zones : ((v : ℕ) → is_zone_of b r v ≡ false) →
         total (length b.reservoirs) (λ v. if is_zone_of b r v then slice_index m.plan.take r else 0) ≡ 0
-    no_zones h =
-        total_where_none_pass (length b.reservoirs) (λ v. is_zone_of b r v) (λ v. slice_index m.plan.take r)
-        (λ v l. h v)
+    no_zones h = total_where_none_pass _ _ _ (λ v l. h v)
 
     of_kind : (kind : RightKind) → instream_link b r ≡ link_of_kind kind → is_diversion b r ≡ is_diversion_kind kind →
         ((v : ℕ) → is_zone_of b r v ≡ is_zone_of_kind kind v) → taking_node b r ≡ taking_node_of_kind b kind →
@@ -117,11 +108,12 @@ take_goes b series before m valid follows r l = of_kind k.kind k.link k.diversio
         (λ v. if reservoir == v then slice_index m.plan.take r else 0)
         (λ v l. ap (λ t. if t then slice_index m.plan.take r else 0) (z v)) in
         let one = total_at (length b.reservoirs) reservoir (slice_index m.plan.take r) in
-        let inside = in_range (slice_index m.plan.take r) reservoir (length b.reservoirs) h.0 in
-        rw d (omega arith)
-      where
-        in_range : (x k n : ℕ) → k < n → (if nat_lt k n then x else 0) ≡ x
-        in_range x k n h = grind (arith, nat_tests)
+        let inside : nat_lt reservoir (length b.reservoirs) ≡ true = lt-ltb reservoir (length b.reservoirs) h.0 in
+        rw d (omega (arith, rw inside at one))
+
+-- a list's sum, by its length
+pub sum_of : (xs : List ℕ) (n : ℕ) → length xs ≡ n → sum xs ≡ total n (λ k. slice_index xs k)
+sum_of xs n e = sum_total xs ∙ ap (λ k. total k (λ i. slice_index xs i)) e
 
 -- the balance of a month
 pub month_balance : (b : Basin) (series : Inflows) (before : List MonthRecord) (m : MonthRecord) → IsValidBasin b →
@@ -129,39 +121,24 @@ pub month_balance : (b : Basin) (series : Inflows) (before : List MonthRecord) (
     sum m.opening + total_inflow b series m.index + sum m.returned
     ≡ sum m.closing + sum m.evaporated + diverted b m + sum m.plan.out
 month_balance b series before m valid follows =
-    let balance = plan_balance b m.month m.supply m.want m.plan valid follows.after.plan in
-    let supply = total_same nodes (λ n. slice_index m.supply n)
-    (λ n. inflow_at b series n m.index + slice_index m.returned n + stored_at b m.opening m.evaporated n)
-    follows.after.supply in
-    let parts =
-    total_add nodes (λ n. inflow_at b series n m.index + slice_index m.returned n)
-    (λ n. stored_at b m.opening m.evaporated n) in
-    let parts2 = total_add nodes (λ n. inflow_at b series n m.index) (λ n. slice_index m.returned n) in
-    let takes =
-    total_same rights (λ r. slice_index m.plan.take r)
-    (λ r. diverted_part r + total reservoirs (λ v. zone_part r v))
-    (take_goes b series before m valid follows) in
-    let split = total_add rights diverted_part (λ r. total reservoirs (λ v. zone_part r v)) in
-    let swap = total_exchange rights reservoirs zone_part in
-    let closing =
-    total_same reservoirs (λ v. slice_index m.closing v) (λ v. total rights (λ r. zone_part r v)) follows.closing in
     omega (
       arith,
-      balance,
-      supply,
-      parts,
-      parts2,
+      plan_balance b m.month m.supply m.want m.plan valid follows.after.plan,
+      total_same _ _ _ follows.after.supply,
+      total_add nodes (λ n. inflow_at b series n m.index + slice_index m.returned n)
+          (λ n. stored_at b m.opening m.evaporated n),
+      total_add nodes (λ n. inflow_at b series n m.index) (λ n. slice_index m.returned n),
       stored,
       kept,
-      takes,
-      split,
-      swap,
-      closing,
-      by_list m.opening reservoirs follows.after.fits.opening,
-      by_list m.evaporated reservoirs follows.after.fits.evaporated,
-      by_list m.closing reservoirs follows.after.fits.closing,
-      by_list m.returned nodes follows.after.fits.returned,
-      by_list m.plan.out nodes follows.after.plan.out_len,
+      total_same _ _ _ (take_goes b series before m valid follows),
+      total_add rights diverted_part (λ r. total reservoirs (λ v. zone_part r v)),
+      total_exchange rights reservoirs zone_part,
+      total_same _ _ _ follows.closing,
+      sum_of m.opening reservoirs follows.after.fits.opening,
+      sum_of m.evaporated reservoirs follows.after.fits.evaporated,
+      sum_of m.closing reservoirs follows.after.fits.closing,
+      sum_of m.returned nodes follows.after.fits.returned,
+      sum_of m.plan.out nodes follows.after.plan.out_len,
     )
   where
     nodes : ℕ
@@ -178,9 +155,6 @@ month_balance b series before m valid follows =
 
     zone_part : ℕ → ℕ → ℕ
     zone_part r v = if is_zone_of b r v then slice_index m.plan.take r else 0
-
-    by_list : (xs : List ℕ) (n : ℕ) → length xs ≡ n → sum xs ≡ total n (λ k. slice_index xs k)
-    by_list xs n e = sum_total xs ∙ ap (λ k. total k (λ i. slice_index xs i)) e
 
     -- what stands at nodes is what the reservoirs hold
     stored : total nodes (λ n. stored_at b m.opening m.evaporated n) ≡ total reservoirs
@@ -250,14 +224,13 @@ balanced_up_to b series records valid partial (suc i) l =
         let m : MonthRecord = found.0 in
         let follows = partial.each i m found.1 in
         let month = month_balance b series (take i records) m valid follows in
-        let opens : sum m.opening ≡ sum (opening_after b (take i records)) = ap (λ xs. sum xs) follows.opening in
         let closes : sum (opening_after b (take (suc i) records)) ≡ sum m.closing =
         ap (λ xs. sum xs) (opening_after_more b records i m (omega arith) found.1) in
         omega (
           arith,
           before,
           month,
-          opens,
+          ap (λ (xs : List ℕ). sum xs) follows.opening,
           closes,
           step (λ m. total_inflow b series m.index) m found.1,
           step (λ m. sum m.returned) m found.1,
@@ -269,8 +242,4 @@ balanced_up_to b series records valid partial (suc i) l =
 pub balanced : HistoriesAreBalanced
 balanced b series records valid partial =
     let whole = balanced_up_to b series records valid partial (length records) (omega arith) in
-    subst (λ xs. IsBalanced b series xs) (take_all records) whole
-  where
-    take_all : {X : Type 0} (xs : List X) → take (length xs) xs ≡ xs
-    take_all [] = refl
-    take_all (x ∷ xs) = ap (λ t. x ∷ t) (take_all xs)
+    subst (λ xs. IsBalanced b series xs) (take_all (length records) records (omega arith)) whole

@@ -1,5 +1,7 @@
 -- Weak duality: what a cut allows, over any plan.
-use Rattle.std.proofs.Common.{◌≡◌, ℕ, ◌+◌, ◌<◌, ◌≤◌, Bool, true, false, refl, ◌∙◌, ap, arith, List, length}
+use Rattle.std.proofs.Common.{◌≡◌, ℕ, ◌+◌, ◌<◌, ◌≤◌, Bool, true, refl, ap, arith, List, length}
+use Rattle.std.proofs.Math.Nat.{le_of_eq}
+use Rattle.std.proofs.lemmas.Bool.{and_parts, and_from}
 use Rattle.std.proofs.lemmas.Bool.Decides.{nat_tests}
 use Rattle.std.specs.Prelude.{◌==◌, slice_index, slice_get, ◌&&◌, not, Option, Some, None, nat_lt, unwrap_or}
 use Rattle.std.specs.Prelude.{option_map}
@@ -50,72 +52,6 @@ delivery_le_flow b want q s e h = of_link (instream_link b s) (slice_index want 
         let flows : slice_index q.flow link ≡ slice_index q.flow e = ap (slice_index q.flow) same in
         omega arith
 
--- the links that leave carry what is kept on them, and the right's own flow
-links_out : (b : Basin) (want delivered : List ℕ) (q : Plan) (r : ℕ) (cut : List Bool) →
-    ((s : ℕ) → s < length b.rights → is_senior b s r ≡ true → slice_index delivered s ≤ delivery b want q s) →
-    total_where (length b.links) (λ e. leaves b cut e && not (is_on_link b r e)) (λ e. kept_on b delivered r e)
-    + total_where (length b.links) (λ e. leaves b cut e && is_on_link b r e) (λ e. slice_index q.flow e)
-    ≤ total_where (length b.links) (λ e. leaves b cut e) (λ e. slice_index q.flow e)
-links_out b want delivered q r cut keeps =
-    let split =
-    total_crossing (length b.links) (λ e. leaves b cut e) (λ e. is_on_link b r e) (λ e. slice_index q.flow e) in
-    let kept = total_where_le (length b.links) (λ e. leaves b cut e && not (is_on_link b r e))
-    (λ e. leaves b cut e && not (is_on_link b r e)) (λ e. kept_on b delivered r e) (λ e. slice_index q.flow e)
-    (λ e l h. (
-      h,
-      greatest_where_le (length b.rights) (λ s. is_on_link b s e && is_senior b s r)
-          (λ s. slice_index delivered s) (slice_index q.flow e) (one e),
-    )) in
-    omega (arith, split, kept)
-  where
-    both : (p q : Bool) → p && q ≡ true → (p ≡ true) × (q ≡ true)
-    both p q h = grind (arith, nat_tests)
-
-    one : (e s : ℕ) → s < length b.rights → is_on_link b s e && is_senior b s r ≡ true →
-        slice_index delivered s ≤ slice_index q.flow e
-    one e s l h =
-        let tests = both (is_on_link b s e) (is_senior b s r) h in
-        let on_link = delivery_le_flow b want q s e tests.0 in
-        let kept = keeps s l tests.1 in
-        omega arith
-
--- the takes within are those of the seniors, the right's own and those of the juniors
-takes_in : (b : Basin) (want delivered : List ℕ) (q : Plan) (r : ℕ) (cut : List Bool) →
-    ((s : ℕ) → s < length b.rights → is_senior b s r ≡ true → slice_index delivered s ≤ delivery b want q s) →
-    total_where (length b.rights) (λ s. takes_within b cut s && is_senior b s r) (λ s. slice_index delivered s)
-    + total_where (length b.rights) (λ s. takes_within b cut s && s == r) (λ s. slice_index q.take s)
-    + total_where (length b.rights) (λ s. (takes_within b cut s && not (s == r)) && not (is_senior b s r))
-    (λ s. slice_index q.take s)
-    ≤ total_where (length b.rights) (λ s. takes_within b cut s) (λ s. slice_index q.take s)
-takes_in b want delivered q r cut keeps =
-    let split =
-    total_crossing (length b.rights) (λ s. takes_within b cut s) (λ s. s == r) (λ s. slice_index q.take s) in
-    let split2 =
-    total_crossing (length b.rights) (λ s. takes_within b cut s && not (s == r)) (λ s. is_senior b s r)
-    (λ s. slice_index q.take s) in
-    let kept = total_where_le (length b.rights) (λ s. takes_within b cut s && is_senior b s r)
-    (λ s. (takes_within b cut s && not (s == r)) && is_senior b s r)
-    (λ s. slice_index delivered s) (λ s. slice_index q.take s) one in
-    omega (arith, split, split2, kept)
-  where
-    both : (p q : Bool) → p && q ≡ true → (p ≡ true) × (q ≡ true)
-    both p q h = grind (arith, nat_tests)
-
-    not_same : (s : ℕ) → is_senior b s r ≡ true → s == r ≡ false
-    not_same s h = grind (arith, nat_tests, not_senior_to_itself b r)
-
-    three : (p q t : Bool) → p ≡ true → q ≡ false → t ≡ true → (p && not q) && t ≡ true
-    three p q t h i j = grind (arith, nat_tests)
-
-    one : (s : ℕ) → s < length b.rights → takes_within b cut s && is_senior b s r ≡ true →
-        ((takes_within b cut s && not (s == r)) && is_senior b s r ≡ true) ×
-        (slice_index delivered s ≤ slice_index q.take s)
-    one s l h =
-        let tests = both (takes_within b cut s) (is_senior b s r) h in
-        let take = delivery_by_take b want q s (taking_on_no_link b cut s tests.0) in
-        let kept = keeps s l tests.1 in
-        (three (takes_within b cut s) (s == r) (is_senior b s r) tests.0 (not_same s tests.1) tests.1, omega arith)
-
 -- the right's own delivery leaves the cut
 own_part : (b : Basin) (want : List ℕ) (q : Plan) (r : ℕ) (cut : List Bool) → r < length b.rights → IsCut b r cut →
     delivery b want q r ≤ total_where (length b.links) (λ e. leaves b cut e && is_on_link b r e)
@@ -124,20 +60,6 @@ own_part : (b : Basin) (want : List ℕ) (q : Plan) (r : ℕ) (cut : List Bool) 
 own_part b want q r cut l is_cut =
     of_link (instream_link b r) refl is_cut.separates
   where
-    two : (p q : Bool) → p ≡ true → q ≡ true → p && q ≡ true
-    two p q h i = grind (arith, nat_tests)
-
-    both_of : (p q : Bool) → p && q ≡ true → (p ≡ true) × (q ≡ true)
-    both_of true true h = (refl, refl)
-    both_of true false h = cc
-    both_of false q h = cc
-
-    below : (x y : ℕ) → nat_lt x y ≡ true → x < y
-    below x y h = grind (arith, nat_tests)
-
-    same : (n : ℕ) → n == n ≡ true
-    same n = grind (arith, nat_tests)
-
     of_link : (o : Option ℕ) → instream_link b r ≡ o → separates b (taking_node b r) o cut ≡ true →
         delivery_by_link o (slice_index want r) q r
         ≤ total_where (length b.links) (λ e. leaves b cut e && is_on_link b r e) (λ e. slice_index q.flow e)
@@ -146,16 +68,15 @@ own_part b want q r cut l is_cut =
         omega (
           arith,
           term_le_total_where (length b.rights) (λ s. takes_within b cut s && s == r) (λ s. slice_index q.take s) r l
-              (two (takes_within b cut r) (r == r) within (same r)),
+              (and_from _ _ within (grind (arith, nat_tests))),
         )
     of_link (Some link) h apart =
-        let crosses = both_of (nat_lt link (length b.links)) (leaves b cut link) apart in
-        let on_link : is_on_link b r link ≡ true = ap (λ o. is_at o link) h ∙ same link in
+        let crosses = and_parts (nat_lt link (length b.links)) (leaves b cut link) apart in
+        let on_link : is_on_link b r link ≡ true = rw h (grind (arith, nat_tests)) in
         omega (
           arith,
           term_le_total_where (length b.links) (λ e. leaves b cut e && is_on_link b r e) (λ e. slice_index q.flow e)
-              link (below link (length b.links) crosses.0)
-              (two (leaves b cut link) (is_on_link b r link) crosses.1 on_link),
+              link (grind (arith, nat_tests)) (and_from _ _ crosses.1 on_link),
         )
 
 -- the most that can come into a set under some carries
@@ -176,18 +97,38 @@ pub cut_slack : (b : Basin) (carry : ℕ → ℕ) (supply delivered : List ℕ) 
     + total_where (length b.nodes) (λ n. has cut n) (λ n. slice_index q.out n)
     ≤ capacity_within b carry supply cut
 cut_slack b carry supply delivered r cut supply' want' q l is_cut plan agree keeps =
-    let balance = cut_balance b carry supply' want' q cut plan is_cut.one_each in
-    let links = links_out b want' delivered q r cut keeps in
-    let takes = takes_in b want' delivered q r cut keeps in
-    let own = own_part b want' q r cut l is_cut in
-    let supplies =
-    total_where_le (length b.nodes) (λ n. has cut n) (λ n. has cut n) (λ n. slice_index supply' n)
-    (λ n. slice_index supply n)
-    (λ n l h. (h, le_of_eq (agree n l h))) in
-    let carries =
-    total_where_le (length b.links) (λ e. enters b cut e) (λ e. enters b cut e) (λ e. slice_index q.flow e)
-    carry (λ e l h. (h, plan.carries e l)) in
-    omega (arith, balance, links, takes, own, supplies, carries)
+    omega (
+      arith,
+      cut_balance b carry supply' want' q cut plan is_cut.one_each,
+      own_part b want' q r cut l is_cut,
+      total_crossing (length b.links) (λ e. leaves b cut e) (λ e. is_on_link b r e) (λ e. slice_index q.flow e),
+      total_where_le _ _ _ _ _ kept,
+      total_crossing (length b.rights) (λ s. takes_within b cut s) (λ s. s == r) (λ s. slice_index q.take s),
+      total_crossing (length b.rights) (λ s. takes_within b cut s && not (s == r)) (λ s. is_senior b s r)
+          (λ s. slice_index q.take s),
+      total_where_le _ _ _ _ _ taken,
+      total_where_le (length b.nodes) (λ n. has cut n) (λ n. has cut n) (λ n. slice_index supply' n)
+          (λ n. slice_index supply n) (λ n l h. (h, le_of_eq (agree n l h))),
+      total_where_le (length b.links) (λ e. enters b cut e) (λ e. enters b cut e) (λ e. slice_index q.flow e) carry
+          (λ e l h. (h, plan.carries e l)),
+    )
   where
-    le_of_eq : {x y : ℕ} → x ≡ y → x ≤ y
-    le_of_eq h = omega arith
+    -- the links that leave carry what is kept on them, besides the right's own flow
+    kept : (e : ℕ) → e < length b.links → leaves b cut e && not (is_on_link b r e) ≡ true →
+        (leaves b cut e && not (is_on_link b r e) ≡ true) × (kept_on b delivered r e ≤ slice_index q.flow e)
+    kept e l h = (h, greatest_where_le _ _ _ _ each)
+      where
+        each : (s : ℕ) → s < length b.rights → is_on_link b s e && is_senior b s r ≡ true →
+            slice_index delivered s ≤ slice_index q.flow e
+        each s k on =
+            let tests = and_parts (is_on_link b s e) (is_senior b s r) on in
+            omega (arith, delivery_le_flow b want' q s e tests.0, keeps s k tests.1)
+
+    -- the takes within are those of the seniors, besides the right's own and those of the juniors
+    taken : (s : ℕ) → s < length b.rights → takes_within b cut s && is_senior b s r ≡ true →
+        ((takes_within b cut s && not (s == r)) && is_senior b s r ≡ true) ×
+        (slice_index delivered s ≤ slice_index q.take s)
+    taken s k within =
+        let tests = and_parts (takes_within b cut s) (is_senior b s r) within in
+        let take = delivery_by_take b want' q s (taking_on_no_link b cut s tests.0) in
+        (grind (arith, nat_tests, not_senior_to_itself b r), omega (arith, keeps s k tests.1))

@@ -1,6 +1,7 @@
 -- Tight cuts and greatest plans.
-use Rattle.std.proofs.Common.{◌≡◌, ℕ, suc, pos, ◌-ℤ◌, ◌≤ℤ◌, ◌+◌, ◌<◌, ◌≤◌, Bool, true, false, refl, sym, ◌∙◌, ap, arith}
+use Rattle.std.proofs.Common.{◌≡◌, ℕ, suc, ◌+◌, ◌<◌, ◌≤◌, Bool, true, false, refl, sym, ◌∙◌, ap, arith}
 use Rattle.std.proofs.Common.{List, [], ◌∷◌, length, inl, inr, take}
+use Rattle.std.proofs.Math.Nat.{le_of_eq}
 use Rattle.std.proofs.lemmas.Int.{ints}
 use Rattle.std.proofs.lemmas.Bool.{cases_lt, cases_eq}
 use Rattle.std.proofs.lemmas.Bool.Decides.{nat_tests}
@@ -27,21 +28,22 @@ use Rattle.water_model.proofs.Seniority.{not_senior_to_itself, first_where, IsFi
 
 pub cut_bounds : CutBounds
 cut_bounds b month supply delivered r cut supply' want' q l is_cut plan agrees serves =
-    let slack =
-    cut_slack b (carry_of b month) supply delivered r cut supply' want' q l is_cut plan (λ n k h. agrees.each n h)
-    serves.each in
-    bound (delivery b want' q r) (cut_kept b delivered r cut) (cut_capacity b month supply cut) (omega arith)
-  where
-    bound : (d k c : ℕ) → d + k ≤ c → pos d ≤ℤ (pos c -ℤ pos k)
-    bound d k c h = omega (arith, ints)
+    omega (
+      arith,
+      ints,
+      cut_slack b (carry_of b month) supply delivered r cut supply' want' q l is_cut plan (λ n k h. agrees.each n h)
+          serves.each,
+    )
 
 pub tight_leaves_nothing : TightCutLeavesNothing
 tight_leaves_nothing b month supply want delivered p r cut l plan are tight = record {
-  juniors = λ s k within junior. total_where_none (length b.rights)
-      (λ s. (takes_within b cut s && not (s == r)) && not (is_senior b s r)) (λ s. slice_index p.take s) none_taken s k
-      (tests (takes_within b cut s) (s == r) (is_senior b s r) within (not_same s junior) (not_senior s junior));
+  juniors = λ s k within junior.
+      let test : (takes_within b cut s && not (s == r)) && not (is_senior b s r) ≡ true =
+      grind (arith, nat_tests, not_senior_to_itself b r, senior_trans b.rights r s r junior) in
+      total_where_none (length b.rights) (λ s. (takes_within b cut s && not (s == r)) && not (is_senior b s r))
+      (λ s. slice_index p.take s) none_taken s k test;
   outlets = λ n h. total_where_none (length b.nodes) (λ n. has cut n) (λ n. slice_index p.out n) none_out n
-      (in_range n h) h;
+      (omega (arith, has_below cut n h, tight.is_cut.one_each)) h;
 }
   where
     slack : delivery b want p r + cut_kept b delivered r cut
@@ -51,9 +53,6 @@ tight_leaves_nothing b month supply want delivered p r cut l plan are tight = re
         ≤ cut_capacity b month supply cut
     slack = cut_slack b (carry_of b month) supply delivered r cut supply want p l tight.is_cut plan (λ n k h. refl)
         (λ s k h. le_of_eq (are.each s k))
-      where
-        le_of_eq : {x y : ℕ} → x ≡ y → x ≤ y
-        le_of_eq h = omega arith
 
     none_taken : total_where (length b.rights) (λ s. (takes_within b cut s && not (s == r)) && not (is_senior b s r))
         (λ s. slice_index p.take s) ≡ 0
@@ -61,22 +60,6 @@ tight_leaves_nothing b month supply want delivered p r cut l plan are tight = re
 
     none_out : total_where (length b.nodes) (λ n. has cut n) (λ n. slice_index p.out n) ≡ 0
     none_out = omega (arith, slack, tight.tight, are.each r l)
-
-    in_range : (n : ℕ) → has cut n ≡ true → n < length b.nodes
-    in_range n h = omega (arith, has_below cut n h, tight.is_cut.one_each)
-
-    not_same : (s : ℕ) → is_senior b r s ≡ true → s == r ≡ false
-    not_same s h = grind (arith, nat_tests, not_senior_to_itself b r)
-
-    not_senior : (s : ℕ) → is_senior b r s ≡ true → is_senior b s r ≡ false
-    not_senior s h = by_test (is_senior b s r) refl
-      where
-        by_test : (t : Bool) → is_senior b s r ≡ t → t ≡ false
-        by_test false e = refl
-        by_test true e = let both = senior_trans b.rights r s r h e in cc (not_senior_to_itself b r)
-
-    tests : (p q t : Bool) → p ≡ true → q ≡ false → t ≡ false → (p && not q) && not t ≡ true
-    tests p q t h i j = grind (arith, nat_tests)
 
 -- a plan delivers no more than the want
 pub delivery_le_want : (b : Basin) (carry : ℕ → ℕ) (supply want : List ℕ) (q : Plan) (r : ℕ) → r < length b.rights →
@@ -116,23 +99,6 @@ gives_most b carry supply want delivered q r l plan (inr cut) serves =
       cut_slack b carry supply delivered r cut.0 supply want q l cut.1.is_cut plan (λ n k h. refl) serves,
     )
 
--- and so that of any that delivers the same to these
-pub no_more : (b : Basin) (carry : ℕ → ℕ) (supply want delivered : List ℕ) (p q : Plan) (r : ℕ) →
-    r < length b.rights → IsFeasible b carry supply want q → AreDeliveries b want p delivered →
-    IsMetOrFull b carry supply want delivered r →
-    ((s : ℕ) → s < length b.rights → is_senior b s r ≡ true → delivery b want p s ≡ delivery b want q s) →
-    delivery b want q r ≤ delivery b want p r
-no_more b carry supply want delivered p q r l plan are full same =
-    omega (
-      arith,
-      are.each r l,
-      gives_most b carry supply want delivered q r l plan full (λ s k h. at_least s k (same s k h)),
-    )
-  where
-    at_least : (s : ℕ) → s < length b.rights → delivery b want p s ≡ delivery b want q s →
-        slice_index delivered s ≤ delivery b want q s
-    at_least s k e = omega (arith, are.each s k)
-
 -- a plan in which each right is met or has such a cut is greatest
 pub full_make_greatest : (b : Basin) (carry : ℕ → ℕ) (supply want delivered : List ℕ) (p : Plan) →
     IsFeasible b carry supply want p → AreDeliveries b want p delivered →
@@ -158,7 +124,12 @@ full_make_greatest b carry supply want delivered p plan are full = record { plan
           right = r;
           in_range = first.below;
           more = above (delivery b want p r) (delivery b want q r) first.holds
-              (no_more b carry supply want delivered p q r first.below other are (full r first.below) seniors);
+              (omega (
+                arith,
+                are.each r first.below,
+                gives_most b carry supply want delivered q r first.below other
+                    (full r first.below) (λ s k h. le_of_eq (are.each s k ∙ seniors s k h)),
+              ));
           same_to_seniors = seniors;
         }
           where
@@ -236,23 +207,9 @@ reach_unique b month supply delivered r one other f g =
 -- tightness by sums is tightness by the bound
 pub tight_bound : TightMeansBound
 tight_bound b month supply delivered r cut = (
-  (λ t. (
-    t.is_cut,
-    to_bound (cut_capacity b month supply cut) (slice_index delivered r) (cut_kept b delivered r cut)
-        t.tight,
-  )),
-  λ h. record {
-    is_cut = h.0;
-    tight =
-        from_bound (cut_capacity b month supply cut) (slice_index delivered r) (cut_kept b delivered r cut) h.1;
-  },
+  (λ t. (t.is_cut, omega (arith, ints, t.tight))),
+  λ h. record { is_cut = h.0; tight = omega (arith, ints, h.1) },
 )
-  where
-    to_bound : (c d k : ℕ) → c ≡ d + k → (pos c -ℤ pos k) ≡ pos d
-    to_bound c d k h = omega (arith, ints)
-
-    from_bound : (c d k : ℕ) → (pos c -ℤ pos k) ≡ pos d → c ≡ d + k
-    from_bound c d k h = omega (arith, ints)
 
 pub cuts_let_nobody_get_more : CutsLetNobodyGetMore
 cuts_let_nobody_get_more b series records history i m at q plan r l serves =

@@ -1,15 +1,12 @@
 -- Two histories have one outcome.
-use Rattle.std.proofs.Common.{◌≡◌, ℕ, zero, suc, ◌+◌, ◌<◌, ◌≤◌, refl, sym, ◌∙◌, ap, ap₂, subst, arith, List, [], ◌∷◌}
-use Rattle.std.proofs.Common.{◌++◌, length, map, sum, take, length-take}
+use Rattle.std.proofs.Common.{◌≡◌, ℕ, zero, suc, ◌<◌, ◌≤◌, refl, sym, ◌∙◌, ap, ap₂, arith, List, [], ◌∷◌}
+use Rattle.std.proofs.Common.{◌++◌, length, map, take, length-take}
 use Rattle.std.proofs.lemmas.Grind.{same_number_lists}
 use Rattle.std.proofs.lemmas.Option.{slice_get_within}
 use Rattle.std.specs.Prelude.{if◌then◌else◌, slice_index, slice_get, Some, None, unwrap_or}
-use Rattle.finite_sums.specs.Sums.{total}
-use Rattle.water_model.specs.Lookups.{of_entry}
 use Rattle.water_model.specs.Basin.{taking_node, taking_node_of_kind, instream_link, link_of_kind}
-use Rattle.water_model.specs.Plans.{IsPlan, IsGreatest, DeliversSame, delivery}
-use Rattle.water_model.specs.Hydrology.{run_month, inflow_at, stored_at, evaporation, in_year, returned_at, used_of}
-use Rattle.water_model.specs.Hydrology.{want_of}
+use Rattle.water_model.specs.Plans.{IsPlan, IsGreatest, DeliversSame}
+use Rattle.water_model.specs.Hydrology.{run_month, inflow_at, returned_at}
 use Rattle.water_model.specs.History.{IsPartialHistory, Follows, is_zone_of, opening_after}
 use Rattle.duality.specs.Laws.{HaveSameOutcome, HistoriesHaveOneOutcome}
 use Rattle.water_model.specs.Valid.{IsValidBasin}
@@ -22,9 +19,8 @@ use Rattle.water_model.specs.declared.types.Right.{Right}
 use Rattle.water_model.specs.declared.types.RightKind.{RightKind}
 use Rattle.water_model.specs.declared.types.RightKind.TheVariants.{Diversion, Instream, Zone}
 use Rattle.finite_sums.proofs.Totals.{total_same}
-use Rattle.duality.proofs.Balance.{plan_balance, opening_after_more}
+use Rattle.duality.proofs.Balance.{sum_of, plan_balance, opening_after_more}
 use Rattle.water_model.proofs.Valid.{kind_is, KindIs, entry_at}
-use Rattle.water_model.proofs.Sets.{sum_total}
 use Rattle.duality.proofs.Duality.{delivery_by_take}
 use Rattle.duality.proofs.Greatest.{greatest_same, record_is_greatest}
 
@@ -82,12 +78,9 @@ begin_alike b rights series other before others m n count storage returns inflow
   evaporated = evaporated;
   returned = returned;
   supply = same_lists m.supply n.supply (length b.nodes) f.after.fits.supply g.after.fits.supply
-      (λ k l. f.after.supply k l ∙ (by_parts k ∙ sym (g.after.supply k l)));
+      (λ k l. f.after.supply k l ∙ rw (inflows k, opening, index, returned, evaporated) (sym (g.after.supply k l)));
 }
   where
-    c : Basin
-    c = record b { rights = rights }
-
     index : m.index ≡ n.index
     index = f.after.index ∙ (count ∙ sym g.after.index)
 
@@ -96,25 +89,11 @@ begin_alike b rights series other before others m n count storage returns inflow
 
     evaporated : m.evaporated ≡ n.evaporated
     evaporated = same_lists m.evaporated n.evaporated (length b.reservoirs) f.after.fits.evaporated
-        g.after.fits.evaporated (λ v l. f.after.evaporated v l ∙ (by_opening v ∙ sym (g.after.evaporated v l)))
-      where
-        by_opening : (v : ℕ) →
-            of_entry b.reservoirs v
-            (λ r. evaporation r.area (slice_index m.opening v) (slice_index r.rate (in_year b m.index))) 0
-            ≡ of_entry b.reservoirs v
-            (λ r. evaporation r.area (slice_index n.opening v) (slice_index r.rate (in_year b n.index))) 0
-        by_opening v = rw (opening, index) refl
+        g.after.fits.evaporated (λ v l. f.after.evaporated v l ∙ rw (opening, index) (sym (g.after.evaporated v l)))
 
     returned : m.returned ≡ n.returned
     returned = same_lists m.returned n.returned (length b.nodes) f.after.fits.returned g.after.fits.returned
-        (λ k l. f.after.returned k l
-        ∙ (returns k
-        ∙ (ap (λ i. returned_at c (map (λ k. k.delivered) others) k i) index ∙ sym (g.after.returned k l))))
-
-    by_parts : (k : ℕ) →
-        inflow_at b series k m.index + slice_index m.returned k + stored_at b m.opening m.evaporated k
-        ≡ inflow_at c other k n.index + slice_index n.returned k + stored_at b n.opening n.evaporated k
-    by_parts k = rw (inflows k, opening, index, returned, evaporated) refl
+        (λ k l. f.after.returned k l ∙ (returns k ∙ rw index (sym (g.after.returned k l))))
 
 -- one month
 same_month : (b : Basin) (series : Inflows) (before others : List MonthRecord) (m n : MonthRecord) → IsValidBasin b →
@@ -129,51 +108,34 @@ same_month b series before others m n valid same f g = record {
   used = used;
   want = want;
   delivered = same_lists m.delivered n.delivered (length b.rights) f.after.fits.delivered g.after.fits.delivered
-      (λ r l. f.after.delivered r l ∙ (deliver r l ∙ sym (g_delivered r l)));
+      (λ r l. f.after.delivered r l ∙ (deliver r l ∙ rw want (sym (g.after.delivered r l))));
   closing = same_lists m.closing n.closing (length b.reservoirs) f.after.fits.closing g.after.fits.closing
       (λ v l. f.closing v l
-      ∙ (total_same (length b.rights) (λ r. if is_zone_of b r v then slice_index m.plan.take r else 0)
-      (λ r. if is_zone_of b r v then slice_index n.plan.take r else 0)
-      (λ r k. ap (λ x. if is_zone_of b r v then x else 0) (takes r k)) ∙ sym (g.closing v l)));
+      ∙ (total_same _ _ _ (λ r k. ap (λ x. if is_zone_of b r v then x else 0) (takes r k)) ∙ sym (g.closing v l)));
   outflow = omega (
     arith,
     plan_balance b m.month m.supply m.want m.plan valid f.after.plan,
-    plan_balance b m.month m.supply m.want n.plan valid g_plan,
+    plan_balance b m.month m.supply m.want n.plan valid g_greatest.plan,
     total_same (length b.rights) (λ r. slice_index m.plan.take r) (λ r. slice_index n.plan.take r) takes,
-    by_list m.plan.out f.after.plan.out_len,
-    by_list n.plan.out g.after.plan.out_len,
+    sum_of m.plan.out (length b.nodes) f.after.plan.out_len,
+    sum_of n.plan.out (length b.nodes) g.after.plan.out_len,
   );
 }
   where
-    by_list : (xs : List ℕ) → length xs ≡ length b.nodes → sum xs ≡ total (length b.nodes) (λ k. slice_index xs k)
-    by_list xs e = sum_total xs ∙ ap (λ k. total k (λ i. slice_index xs i)) e
-
     alike : BeginAlike m n
     alike = begin_alike b b.rights series series before others m n same.count same.storage
         (λ k. ap (λ ds. returned_at b ds k m.index) same.deliveries) (λ k. refl) f g
 
     used : m.used ≡ n.used
     used = same_lists m.used n.used (length b.rights) f.after.fits.used g.after.fits.used
-        (λ r l. f.after.used r l
-        ∙ (ap₂ (λ ds i. used_of b ds r i) same.deliveries alike.index ∙ sym (g.after.used r l)))
+        (λ r l. f.after.used r l ∙ rw (same.deliveries, alike.index) (sym (g.after.used r l)))
 
     want : m.want ≡ n.want
     want = same_lists m.want n.want (length b.rights) f.after.fits.want g.after.fits.want
-        (λ r l. f.after.want r l
-        ∙ (ap₂ (λ us i. want_of b series r i (slice_index us r)) used alike.index ∙ sym (g.after.want r l)))
-
-    g_plan : IsPlan b m.month m.supply m.want n.plan
-    g_plan = subst (λ w. IsPlan b m.month m.supply w n.plan) (sym want)
-        (subst (λ s. IsPlan b m.month s n.want n.plan) (sym alike.supply)
-        (subst (λ t. IsPlan b t n.supply n.want n.plan) (sym alike.month) g.after.plan))
+        (λ r l. f.after.want r l ∙ rw (used, alike.index) (sym (g.after.want r l)))
 
     g_greatest : IsGreatest b m.month m.supply m.want n.plan
-    g_greatest = subst (λ w. IsGreatest b m.month m.supply w n.plan) (sym want)
-        (subst (λ s. IsGreatest b m.month s n.want n.plan) (sym alike.supply)
-        (subst (λ t. IsGreatest b t n.supply n.want n.plan) (sym alike.month) (record_is_greatest b series others n g)))
-
-    g_delivered : (r : ℕ) → r < length b.rights → slice_index n.delivered r ≡ delivery b m.want n.plan r
-    g_delivered r l = g.after.delivered r l ∙ ap (λ w. delivery b w n.plan r) (sym want)
+    g_greatest = rw (want, alike.supply, alike.month) (record_is_greatest b series others n g)
 
     deliver : DeliversSame b m.want m.plan n.plan
     deliver =
@@ -181,7 +143,7 @@ same_month b series before others m n valid same f g = record {
         g_greatest
 
     takes : (r : ℕ) → r < length b.rights → slice_index m.plan.take r ≡ slice_index n.plan.take r
-    takes = same_takes b m.month m.supply m.want m.plan n.plan valid f.after.plan g_plan deliver
+    takes = same_takes b m.month m.supply m.want m.plan n.plan valid f.after.plan g_greatest.plan deliver
 
 map_take_suc : {X Y : Type 0} (f : X → Y) (xs : List X) (i : ℕ) (x : X) → slice_get xs i ≡ Some x →
     map f (take (suc i) xs) ≡ map f (take i xs) ++ f x ∷ []

@@ -1,6 +1,6 @@
 -- Amounts in parts of a unit: what counts k-fold.
 use Rattle.std.proofs.Common.{◌≡◌, ℕ, zero, suc, ◌+◌, ◌*◌, ◌<◌, min, max, Bool, true, false, refl, sym, ◌∙◌, ap}
-use Rattle.std.proofs.Common.{ap₂, subst, arith, List, [], ◌∷◌, length, inl, inr, take}
+use Rattle.std.proofs.Common.{ap₂, arith, List, [], ◌∷◌, length, inl, inr, take}
 use Rattle.std.proofs.Math.Nat.{mul-add, mul-zero, one-mul, mul-le-mul_left, max-eq_left, max-eq_right, min-eq_left}
 use Rattle.std.proofs.Math.Nat.{min-eq_right}
 use Rattle.std.proofs.Math.Path.{fun_ext}
@@ -55,9 +55,7 @@ total_times (suc n) k f = omega (arith, total_times n k f, mul-add k (total n f)
 
 total_where_times : (n k : ℕ) (p : ℕ → Bool) (f : ℕ → ℕ) → total_where n p (λ j. k * f j) ≡ k * total_where n p f
 total_where_times n k p f =
-    total_same n (λ j. if p j then k * f j else 0) (λ j. k * (if p j then f j else 0))
-    (λ j l. term_times k (p j) (f j))
-    ∙ total_times n k (λ j. if p j then f j else 0)
+    total_same _ _ _ (λ j l. term_times k (p j) (f j)) ∙ total_times n k (λ j. if p j then f j else 0)
 
 greatest_times : (n k : ℕ) (p : ℕ → Bool) (f : ℕ → ℕ) → greatest_where n p (λ j. k * f j) ≡ k * greatest_where n p f
 unfolding greatest_where
@@ -70,50 +68,34 @@ greatest_times (suc n) k p f =
 sum_times : (n k : ℕ) (p : ℕ → Bool) (xs : List ℕ) →
     total_where n p (λ j. slice_index (times k xs) j) ≡ k * total_where n p (λ j. slice_index xs j)
 sum_times n k p xs =
-    total_where_same n p (λ j. slice_index (times k xs) j) (λ j. k * slice_index xs j) (λ j l. times_at k xs j)
-    ∙ total_where_times n k p (λ j. slice_index xs j)
+    total_where_same n p _ _ (λ j l. times_at k xs j) ∙ total_where_times n k p (λ j. slice_index xs j)
 
 -- ---- cuts
 
 kept_on_times : (b : Basin) (k : ℕ) (delivered : List ℕ) (r e : ℕ) →
     kept_on b (times k delivered) r e ≡ k * kept_on b delivered r e
 kept_on_times b k delivered r e =
-    greatest_same_terms (length b.rights) (λ s. is_on_link b s e && is_senior b s r)
-    (λ s. slice_index (times k delivered) s) (λ s. k * slice_index delivered s) (λ s l h. times_at k delivered s)
+    greatest_same_terms _ _ _ _ (λ s l h. times_at k delivered s)
     ∙ greatest_times (length b.rights) k (λ s. is_on_link b s e && is_senior b s r) (λ s. slice_index delivered s)
 
 kept_times : (b : Basin) (k : ℕ) (delivered : List ℕ) (r : ℕ) (cut : List Bool) →
     cut_kept b (times k delivered) r cut ≡ k * cut_kept b delivered r cut
 kept_times b k delivered r cut =
-    ap₂ ◌+◌ links rights
-    ∙ sym (mul-add k (total_where (length b.links) (λ e. leaves b cut e && not (is_on_link b r e))
+    ap₂ ◌+◌
+    (total_where_same (length b.links) (λ e. leaves b cut e && not (is_on_link b r e))
+    (λ e. kept_on b (times k delivered) r e) (λ e. k * kept_on b delivered r e)
+    (λ e l. kept_on_times b k delivered r e)
+    ∙ total_where_times (length b.links) k (λ e. leaves b cut e && not (is_on_link b r e))
     (λ e. kept_on b delivered r e))
-    (total_where (length b.rights) (λ s. takes_within b cut s && is_senior b s r) (λ s. slice_index delivered s)))
-  where
-    links : total_where (length b.links) (λ e. leaves b cut e && not (is_on_link b r e))
-        (λ e. kept_on b (times k delivered) r e)
-        ≡ k * total_where (length b.links) (λ e. leaves b cut e && not (is_on_link b r e))
-        (λ e. kept_on b delivered r e)
-    links =
-        total_where_same (length b.links) (λ e. leaves b cut e && not (is_on_link b r e))
-        (λ e. kept_on b (times k delivered) r e) (λ e. k * kept_on b delivered r e)
-        (λ e l. kept_on_times b k delivered r e)
-        ∙ total_where_times (length b.links) k (λ e. leaves b cut e && not (is_on_link b r e))
-        (λ e. kept_on b delivered r e)
-
-    rights : total_where (length b.rights) (λ s. takes_within b cut s && is_senior b s r)
-        (λ s. slice_index (times k delivered) s)
-        ≡ k * total_where (length b.rights) (λ s. takes_within b cut s && is_senior b s r)
-        (λ s. slice_index delivered s)
-    rights = sum_times (length b.rights) k (λ s. takes_within b cut s && is_senior b s r) delivered
+    (sum_times (length b.rights) k (λ s. takes_within b cut s && is_senior b s r) delivered)
+    ∙ sym (mul-add k _ _)
 
 capacity_times : (b : Basin) (k : ℕ) (carry : ℕ → ℕ) (supply : List ℕ) (cut : List Bool) →
     capacity_within b (λ e. k * carry e) (times k supply) cut ≡ k * capacity_within b carry supply cut
 capacity_times b k carry supply cut =
     ap₂ ◌+◌ (sum_times (length b.nodes) k (λ n. has cut n) supply)
     (total_where_times (length b.links) k (λ e. enters b cut e) carry)
-    ∙ sym (mul-add k (total_where (length b.nodes) (λ n. has cut n) (λ n. slice_index supply n))
-    (total_where (length b.links) (λ e. enters b cut e) carry))
+    ∙ sym (mul-add k _ _)
 
 -- a cut that is full is so k-fold
 full_times : (b : Basin) (k : ℕ) (carry : ℕ → ℕ) (supply delivered : List ℕ) (r : ℕ) (cut : List Bool) →
@@ -220,17 +202,9 @@ one_fold (x ∷ xs) = ap₂ ◌∷◌ (one-mul x) (one_fold xs)
 
 pub one_part_is_unit : OnePartIsUnit
 one_part_is_unit b month supply want p = (
-  through (λ e. 1 * carry_of b month e) (carry_of b month) (times 1 supply) supply (times 1 want) want carries
-      (one_fold supply) (one_fold want),
-  through (carry_of b month) (λ e. 1 * carry_of b month e) supply (times 1 supply) want (times 1 want) (sym carries)
-      (sym (one_fold supply)) (sym (one_fold want)),
+  (λ plan. rw (← one_fold supply, ← one_fold want, ← carries) plan),
+  (λ plan. rw (one_fold supply, one_fold want, carries) plan),
 )
   where
     carries : (λ e. 1 * carry_of b month e) ≡ carry_of b month
     carries = fun_ext (λ e. one-mul (carry_of b month e))
-
-    through : (c c' : ℕ → ℕ) (s s' w w' : List ℕ) → c ≡ c' → s ≡ s' → w ≡ w' → IsFeasible b c s w p →
-        IsFeasible b c' s' w' p
-    through c c' s s' w w' e f g plan =
-        subst (λ x. IsFeasible b c' s' x p) g
-        (subst (λ x. IsFeasible b c' x w p) f (subst (λ x. IsFeasible b x s w p) e plan))

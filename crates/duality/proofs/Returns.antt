@@ -1,9 +1,9 @@
 -- What return rows bring.
 use Rattle.std.proofs.Common.{◌≡◌, ℕ, zero, suc, ◌+◌, ◌-◌, ◌*◌, ◌/◌, ◌<◌, ◌≤◌, Bool, true, false, refl, ap, arith, List}
 use Rattle.std.proofs.Common.{length}
-use Rattle.std.proofs.lemmas.Bool.Decides.{nat_tests}
+use Rattle.std.proofs.lemmas.Bool.{eqb-true}
 use Rattle.std.proofs.Math.Nat.{mul-div-le}
-use Rattle.std.specs.Prelude.{if◌then◌else◌, slice_get, Some, ◌==◌}
+use Rattle.std.specs.Prelude.{if◌then◌else◌, ◌==◌}
 use Rattle.finite_sums.specs.Sums.{total}
 use Rattle.water_model.specs.Lookups.{of_entry}
 use Rattle.water_model.specs.Hydrology.{returned_by, delivered_before, delivered_in}
@@ -35,15 +35,7 @@ arrives : (row : ReturnRow) (deliveries : List (List ℕ)) (n : ℕ) →
     returned_by row deliveries n + brought row deliveries (n - row.lag) ≡ brought row deliveries (n + 1 - row.lag)
 unfolding brought
 arrives row deliveries n =
-    difference (brought_grows row deliveries (n - row.lag) (n + 1 - row.lag) (omega arith))
-    (is_difference row deliveries n)
-  where
-    difference : {x y z : ℕ} → x ≤ y → z ≡ y - x → z + x ≡ y
-    difference l e = omega arith
-
-    is_difference : (row : ReturnRow) (deliveries : List (List ℕ)) (n : ℕ) →
-        returned_by row deliveries n ≡ brought row deliveries (n + 1 - row.lag) - brought row deliveries (n - row.lag)
-    is_difference row deliveries n = refl
+    omega (arith, brought_grows row deliveries (n - row.lag) (n + 1 - row.lag) (omega arith))
 
 -- the months' arrivals telescope
 telescope : (row : ReturnRow) (deliveries : List (List ℕ)) (n : ℕ) →
@@ -93,29 +85,20 @@ covered b deliveries right i valid in_range =
     at_most p x d h l = grind arith
 
     bound : (k : ℕ) → k < length b.returns → 10000 * share k ≤ part k * delivered_before deliveries right i
-    bound k l = of_row (entry_holds (λ row. IsValidReturn b row) b.returns k valid.returns l)
+    bound k l =
+        let found = entry_holds (λ row. IsValidReturn b row) b.returns k valid.returns l in
+        rw found.1 (one found.0 found.2.lag.0 (found.0.right == right) (eqb-true found.0.right right))
       where
         one : (row : ReturnRow) → 1 ≤ row.lag → (t : Bool) → (t ≡ true → row.right ≡ right) →
             10000 * (if t then total (i + 1) (λ j. returned_by row deliveries j) else 0) ≤ (if t then row.part else 0) *
             delivered_before deliveries right i
         one row lag false e = omega arith
         one row lag true e =
-            let same : delivered_before deliveries row.right i ≡ delivered_before deliveries right i =
-            ap (λ r. delivered_before deliveries r i) (e refl) in
-            let part : row.part * delivered_before deliveries row.right i ≡ row.part * delivered_before deliveries right
-            i =
-            ap (λ x. row.part * x) same in
-            omega (
+            rw (← e refl)
+            (omega (
               arith,
               telescope row deliveries (i + 1),
               brought_none row deliveries,
               brought_grows row deliveries (i + 1 - row.lag) i (omega arith),
               brought_part row deliveries i,
-            )
-
-        of_row : (row : ReturnRow) × (slice_get b.returns k ≡ Some row) × IsValidReturn b row →
-            10000 * share k ≤ part k * delivered_before deliveries right i
-        of_row found = rw found.1 (one found.0 found.2.lag.0 (found.0.right == right) (is_same found.0.right right))
-          where
-            is_same : (x y : ℕ) → x == y ≡ true → x ≡ y
-            is_same x y h = grind (arith, nat_tests)
+            ))

@@ -1,5 +1,6 @@
 -- A tight cut stays tight while only juniors change.
 use Rattle.std.proofs.Common.{◌≡◌, ℕ, zero, suc, ◌<◌, Bool, true, false, refl, ap, ap₂, arith, length}
+use Rattle.std.proofs.lemmas.Bool.{and_parts}
 use Rattle.std.proofs.lemmas.Bool.Decides.{nat_tests}
 use Rattle.std.specs.Prelude.{slice_index, ◌&&◌, not, if◌then◌else◌, max}
 use Rattle.finite_sums.specs.Sums.{greatest_where}
@@ -32,15 +33,12 @@ tight_stays b month supply d d' r cut l own seniors tight = record {
         (λ e k. ap (λ x. if leaves b cut e && not (is_on_link b r e) then x else 0)
         (greatest_same_terms (length b.rights) (λ s. is_on_link b s e && is_senior b s r) (λ s. slice_index d s)
         (λ s. slice_index d' s)
-        (λ s m h. seniors s m (right_of (is_on_link b s e) (is_senior b s r) h)))),
+        (λ s m h. seniors s m (and_parts (is_on_link b s e) (is_senior b s r) h).1))),
     total_same (length b.rights) (λ s. if takes_within b cut s && is_senior b s r then slice_index d s else 0)
         (λ s. if takes_within b cut s && is_senior b s r then slice_index d' s else 0)
         (λ s m. term (takes_within b cut s) (is_senior b s r) (slice_index d s) (slice_index d' s) (seniors s m)),
   );
 }
   where
-    right_of : (p q : Bool) → p && q ≡ true → q ≡ true
-    right_of p q h = grind (arith, nat_tests)
-
     term : (p q : Bool) (x y : ℕ) → (q ≡ true → x ≡ y) → (if p && q then x else 0) ≡ (if p && q then y else 0)
     term p q x y h = grind (arith, nat_tests)

@@ -8,6 +8,7 @@ ghost use Rattle.duality.specs.Laws.{NoFractionHelps, WholeUnitsAreGreatest, One
 ghost use Rattle.duality.specs.Alike.{JuniorsChangeNothing, GreatestPlansIgnoreJuniors};
 
 /// A cut bounds what its right can be delivered.
+#[tactic(auto, using(crate::proofs::Greatest::cut_bounds))]
 pub fn cut_bounds()
     ensures { CutBounds }
 {}
@@ -23,6 +24,7 @@ pub fn cuts_let_nobody_get_more()
 {}
 
 /// In a tight cut juniors take nothing.
+#[tactic(auto, using(crate::proofs::Greatest::tight_leaves_nothing))]
 pub fn tight_cut_leaves_nothing()
     ensures { TightCutLeavesNothing }
 {}
@@ -48,11 +50,13 @@ pub fn greatest_plans_deliver_same()
 {}
 
 /// A right has one reach at most.
+#[tactic(auto, using(crate::proofs::Greatest::reach_unique))]
 pub fn reach_is_unique()
     ensures { ReachIsUnique }
 {}
 
 /// No water is made or lost.
+#[tactic(auto, using(crate::proofs::Balance::balanced))]
 pub fn histories_are_balanced()
     ensures { HistoriesAreBalanced }
 {}
@@ -63,16 +67,19 @@ pub fn histories_have_one_outcome()
 {}
 
 /// A cut is tight exactly where its bound is the delivery.
+#[tactic(auto, using(crate::proofs::Greatest::tight_bound))]
 pub fn tight_means_bound()
     ensures { TightMeansBound }
 {}
 
 /// Returns are at most what was delivered before.
+#[tactic(auto, using(crate::proofs::Returns::covered))]
 pub fn returns_are_covered()
     ensures { ReturnsAreCovered }
 {}
 
 /// A tight cut stays tight while only juniors change.
+#[tactic(auto, using(crate::proofs::Stays::tight_stays))]
 pub fn tight_stays()
     ensures { TightStays }
 {}
@@ -88,6 +95,7 @@ pub fn whole_units_are_greatest()
 {}
 
 /// A plan in parts of one to a unit is a plan.
+#[tactic(auto, using(crate::proofs::Parts::one_part_is_unit))]
 pub fn one_part_is_unit()
     ensures { OnePartIsUnit }
 {}

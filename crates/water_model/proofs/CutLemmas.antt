@@ -53,28 +53,16 @@ one_set rights nodes before now right set is stay =
 
 -- ---- how much is used
 
-used_within : (rights each count all used : ℕ) → count ≤ rights → all ≡ rights * (1 + each) →
-    used ≡ rights + each * count → used ≤ all
-used_within rights each count all used bounded size is =
-    omega (arith, size, is, mul-le-mul_left each bounded, mul-add rights 1 each, mul_comm rights each)
-
-one_more_within : (rights each count all used : ℕ) → count + 1 ≤ rights → all ≡ rights * (1 + each) →
-    used ≡ rights + each * count → used + each ≤ all
-one_more_within rights each count all used bounded size is =
+pub used_fits : {rights nodes : ℕ} {r : Words} → KeepsSets rights nodes r → r.used ≤ length r.words
+used_fits {rights} {nodes} {r} k =
     omega (
       arith,
-      size,
-      is,
-      mul-le-mul_left each bounded,
-      mul-add rights 1 each,
-      mul_comm rights each,
-      mul-add each count 1,
+      k.size,
+      k.used,
+      mul-le-mul_left (words_for nodes) (count_at_most rights (has_set r.words)),
+      mul-add rights 1 (words_for nodes),
+      mul_comm rights (words_for nodes),
     )
-
-pub used_fits : (rights nodes : ℕ) (r : Words) → KeepsSets rights nodes r → r.used ≤ length r.words
-used_fits rights nodes r k =
-    used_within rights (words_for nodes) (count_where rights (has_set r.words)) (length r.words) r.used
-    (count_at_most rights (has_set r.words)) k.size k.used
 
 -- what a right's word counts
 abbrev counted : ℕ → ℕ
@@ -95,20 +83,24 @@ counted_more rights before now right b none some stay =
     )
 
 -- a right without a set has room for one
-pub next_fits : (rights nodes : ℕ) (r : Words) (right : ℕ) → KeepsSets rights nodes r → right < rights →
-    get_or r.words right 0 ≡ 0 →
-    r.used + words_for nodes ≤ length r.words
-next_fits rights nodes r right k b none =
-    one_more_within rights (words_for nodes) (count_where rights (has_set r.words)) (length r.words) r.used
-    (omega (arith, more, count_at_most rights (has_set (slice_set r.words right 1)))) k.size k.used
-  where
-    there : right < length r.words
-    there = omega (arith, used_fits rights nodes r k, k.used)
-
-    more : count_where rights (has_set (slice_set r.words right 1)) ≡ count_where rights (has_set r.words) + 1
-    more = counted_more rights r.words (slice_set r.words right 1) right b none
-        (omega (arith, get_or-set_same r.words right 1 0 there))
-        (λ s c differ. get_or-set_other r.words right s 1 0 differ)
+pub next_fits : {rights nodes : ℕ} {r : Words} {right : ℕ} → KeepsSets rights nodes r → right < rights →
+    get_or r.words right 0 ≡ 0 → r.used + words_for nodes ≤ length r.words
+next_fits {rights} {nodes} {r} {right} k b none =
+    let there : right < length r.words = omega (arith, used_fits k, k.used) in
+    let more = counted_more rights r.words (slice_set r.words right 1) right b none
+    (omega (arith, get_or-set_same r.words right 1 0 there))
+    (λ s c differ. get_or-set_other r.words right s 1 0 differ) in
+    let fits : count_where rights (has_set r.words) + 1 ≤ rights =
+    omega (arith, more, count_at_most rights (has_set (slice_set r.words right 1))) in
+    omega (
+      arith,
+      k.size,
+      k.used,
+      mul-le-mul_left (words_for nodes) fits,
+      mul-add rights 1 (words_for nodes),
+      mul_comm rights (words_for nodes),
+      mul-add (words_for nodes) (count_where rights (has_set r.words)) 1,
+    )
 
 -- ---- a set that is written over
 
@@ -136,57 +128,49 @@ pub record Rewrites (rights nodes : ℕ) (r : Words) (right : ℕ) (part : List 
   pub held : 0 < get_or r.words right 0
   pub size : length part ≡ words_for nodes
 
-part_fits : (rights nodes : ℕ) (r : Words) (right : ℕ) (part : List ℕ) → Rewrites rights nodes r right part →
-    get_or r.words right 0 + length part ≤ length r.words
-part_fits rights nodes r right part h =
-    omega (arith, h.keeps.within right h.is_right h.held, used_fits rights nodes r h.keeps, h.size, h.held)
+module _ {rights nodes : ℕ} {r : Words} {right : ℕ} {part : List ℕ} (h : Rewrites rights nodes r right part) where
+  part_fits : get_or r.words right 0 + length part ≤ length r.words
+  part_fits = omega (arith, h.keeps.within right h.is_right h.held, used_fits h.keeps, h.size, h.held)
 
-rewritten_right : (rights nodes : ℕ) (r : Words) (right : ℕ) (part : List ℕ) → Rewrites rights nodes r right part →
-    (s : ℕ) → s < rights →
-    get_or (with_words r.words (get_or r.words right 0) part) s 0 ≡ get_or r.words s 0
-rewritten_right rights nodes r right part h s b =
-    get_or-with_words_before r.words (get_or r.words right 0) part s
-    (omega (arith, h.keeps.after right h.is_right h.held)) (omega (arith, part_fits rights nodes r right part h))
+  rewritten_right : (s : ℕ) → s < rights →
+      get_or (with_words r.words (get_or r.words right 0) part) s 0 ≡ get_or r.words s 0
+  rewritten_right s b =
+      get_or-with_words_before r.words (get_or r.words right 0) part s
+      (omega (arith, h.keeps.after right h.is_right h.held)) (omega (arith, part_fits))
 
-pub rewritten_keeps : (rights nodes : ℕ) (r : Words) (right : ℕ) (part : List ℕ) → Rewrites rights nodes r right part →
-    KeepsSets rights nodes (record r { words = with_words r.words (get_or r.words right 0) part })
-rewritten_keeps rights nodes r right part h =
-    rights_stay rights nodes r (with_words r.words (get_or r.words right 0) part) h.keeps
-    (length-with_words r.words (get_or r.words right 0) part (part_fits rights nodes r right part h))
-    (rewritten_right rights nodes r right part h)
+  pub rewritten_keeps : KeepsSets rights nodes (record r { words = with_words r.words (get_or r.words right 0) part })
+  rewritten_keeps =
+      rights_stay rights nodes r (with_words r.words (get_or r.words right 0) part) h.keeps
+      (length-with_words r.words (get_or r.words right 0) part part_fits) rewritten_right
 
-pub rewritten_sets : (rights nodes : ℕ) (r : Words) (right : ℕ) (part : List ℕ) → Rewrites rights nodes r right part →
-    cut_sets rights nodes (with_words r.words (get_or r.words right 0) part)
-    ≡ with_set (cut_sets rights nodes r.words) right (Some (marks nodes part))
-rewritten_sets rights nodes r right part h =
-    let begin : ℕ = get_or r.words right 0 in
-    let now : List ℕ = with_words r.words begin part in
-    let fits = part_fits rights nodes r right part h in
-    let stay = rewritten_right rights nodes r right part h in
-    one_set rights nodes r.words now right (Some (marks nodes part))
-    (ap (set_at nodes now) (stay right h.is_right)
-    ∙ set_is nodes now begin part h.held
-    (words_at-with_words r.words part (set_place nodes begin) (omega (arith, fits)) h.size))
-    (λ s b differ. set_stays nodes r.words now (get_or r.words s 0) (get_or now s 0) (stay s b) (λ held.
-    words_at-with_words_other r.words begin part (set_place nodes (get_or r.words s 0)) fits (outside s b differ held)))
-  where
-    outside : (s : ℕ) → s < rights → s ≢ right → 0 < get_or r.words s 0 →
-        LiesOutside (set_place nodes (get_or r.words s 0)) (get_or r.words right 0)
-        (get_or r.words right 0 + length part)
-    outside s b differ held = elim (h.keeps.apart s right b h.is_right differ held h.held) [
-      | inl before ↦ inl (omega (arith, before, held))
-      | inr later ↦ inr (omega (arith, later, h.size, h.held))
-    ]
+  pub rewritten_sets : cut_sets rights nodes (with_words r.words (get_or r.words right 0) part)
+      ≡ with_set (cut_sets rights nodes r.words) right (Some (marks nodes part))
+  rewritten_sets =
+      let begin : ℕ = get_or r.words right 0 in
+      let now : List ℕ = with_words r.words begin part in
+      one_set rights nodes r.words now right (Some (marks nodes part))
+      (ap (set_at nodes now) (rewritten_right right h.is_right)
+      ∙ set_is nodes now begin part h.held
+      (words_at-with_words r.words part (set_place nodes begin) (omega (arith, part_fits)) h.size))
+      (λ s b differ. set_stays nodes r.words now (get_or r.words s 0) (get_or now s 0) (rewritten_right s b) (λ held.
+      words_at-with_words_other r.words begin part (set_place nodes (get_or r.words s 0)) part_fits
+      (outside s b differ held)))
+    where
+      outside : (s : ℕ) → s < rights → s ≢ right → 0 < get_or r.words s 0 →
+          LiesOutside (set_place nodes (get_or r.words s 0)) (get_or r.words right 0)
+          (get_or r.words right 0 + length part)
+      outside s b differ held = elim (h.keeps.apart s right b h.is_right differ held h.held) [
+        | inl before ↦ inl (omega (arith, before, held))
+        | inr later ↦ inr (omega (arith, later, h.size, h.held))
+      ]
 
--- what a list that is written through a `&mut` leaves
-pub rewritten_is : (rights nodes : ℕ) (r : Words) (right : ℕ) (part : List ℕ) (from : ℕ) →
-    Rewrites rights nodes r right part →
-    from ≡ get_or r.words right 0 →
-    take (length r.words) (with_words r.words from part) ≡ with_words r.words (get_or r.words right 0) part
-rewritten_is rights nodes r right part from h at =
-    ap (λ (k : ℕ). take (length r.words) (with_words r.words k part)) at
-    ∙ take_all (length r.words) (with_words r.words (get_or r.words right 0) part)
-    (omega (arith, length-with_words r.words (get_or r.words right 0) part (part_fits rights nodes r right part h)))
+  -- what a list that is written through a `&mut` leaves
+  pub rewritten_is : (from : ℕ) → from ≡ get_or r.words right 0 →
+      take (length r.words) (with_words r.words from part) ≡ with_words r.words (get_or r.words right 0) part
+  rewritten_is from at =
+      ap (λ (k : ℕ). take (length r.words) (with_words r.words k part)) at
+      ∙ take_all (length r.words) (with_words r.words (get_or r.words right 0) part)
+      (omega (arith, length-with_words r.words (get_or r.words right 0) part part_fits))
 
 -- ---- a set that begins
 
@@ -200,124 +184,111 @@ pub record Begins (rights nodes : ℕ) (r : Words) (right : ℕ) (part : List �
 abbrev pub begun : Words → ℕ → List ℕ → List ℕ
 begun r right part = slice_set (with_words r.words r.used part) right r.used
 
-begun_length : (rights nodes : ℕ) (r : Words) (right : ℕ) (part : List ℕ) → Begins rights nodes r right part →
-    length (with_words r.words r.used part) ≡ length r.words
-begun_length rights nodes r right part h =
-    length-with_words r.words r.used part
-    (omega (arith, h.size, next_fits rights nodes r right h.keeps h.is_right h.free))
+module _ {rights nodes : ℕ} {r : Words} {right : ℕ} {part : List ℕ} (h : Begins rights nodes r right part) where
+  begun_length : length (with_words r.words r.used part) ≡ length r.words
+  begun_length =
+      length-with_words r.words r.used part (omega (arith, h.size, next_fits h.keeps h.is_right h.free))
 
-begun_right : (rights nodes : ℕ) (r : Words) (right : ℕ) (part : List ℕ) → Begins rights nodes r right part →
-    get_or (begun r right part) right 0 ≡ r.used
-begun_right rights nodes r right part h =
-    get_or-set_same (with_words r.words r.used part) right r.used 0
-    (omega (
-      arith,
-      begun_length rights nodes r right part h,
-      used_fits rights nodes r h.keeps,
-      h.keeps.used,
-      h.is_right,
-    ))
+  begun_right : get_or (begun r right part) right 0 ≡ r.used
+  begun_right =
+      get_or-set_same (with_words r.words r.used part) right r.used 0
+      (omega (arith, begun_length, used_fits h.keeps, h.keeps.used, h.is_right))
 
-begun_other : (rights nodes : ℕ) (r : Words) (right : ℕ) (part : List ℕ) → Begins rights nodes r right part → (s : ℕ) →
-    s < rights → s ≢ right →
-    get_or (begun r right part) s 0 ≡ get_or r.words s 0
-begun_other rights nodes r right part h s b differ =
-    get_or-set_other (with_words r.words r.used part) right s r.used 0 differ
-    ∙ get_or-with_words_before r.words r.used part s (omega (arith, h.keeps.used)) (used_fits rights nodes r h.keeps)
+  begun_other : (s : ℕ) → s < rights → s ≢ right → get_or (begun r right part) s 0 ≡ get_or r.words s 0
+  begun_other s b differ =
+      get_or-set_other (with_words r.words r.used part) right s r.used 0 differ
+      ∙ get_or-with_words_before r.words r.used part s (omega (arith, h.keeps.used)) (used_fits h.keeps)
 
-pub begun_keeps : (rights nodes : ℕ) (r : Words) (right : ℕ) (part : List ℕ) (now_used : ℕ) →
-    Begins rights nodes r right part →
-    now_used ≡ r.used + words_for nodes →
-    KeepsSets rights nodes (record { words = begun r right part; used = now_used })
-begun_keeps rights nodes r right part now_used h more =
-    let now : List ℕ = begun r right part in
-    record {
-      size =
-          length-set (with_words r.words r.used part) right r.used
-          ∙ (begun_length rights nodes r right part h ∙ h.keeps.size);
-      used = used;
-      after = λ s b some. elim (cases_eq s right) [
-        | inl e ↦ (let n : get_or now s 0 ≡ r.used = here s e in omega (arith, h.keeps.used))
-        | inr e ↦ (let n : get_or now s 0 ≡ get_or r.words s 0 = other s b e in
-            omega (arith, h.keeps.after s b (omega arith)))
-      ];
-      within = λ s b some. elim (cases_eq s right) [
-        | inl e ↦ (let n : get_or now s 0 ≡ r.used = here s e in omega arith)
-        | inr e ↦ (let n : get_or now s 0 ≡ get_or r.words s 0 = other s b e in
-            omega (arith, h.keeps.within s b (omega arith)))
-      ];
-      apart = apart;
-    }
-  where
-    here : (s : ℕ) → s ≡ right → get_or (begun r right part) s 0 ≡ r.used
-    here s e = ap (λ (k : ℕ). get_or (begun r right part) k 0) e ∙ begun_right rights nodes r right part h
+  pub begun_keeps : (now_used : ℕ) → now_used ≡ r.used + words_for nodes →
+      KeepsSets rights nodes (record { words = begun r right part; used = now_used })
+  begun_keeps now_used more =
+      let now : List ℕ = begun r right part in
+      record {
+        size =
+            length-set (with_words r.words r.used part) right r.used
+            ∙ (begun_length ∙ h.keeps.size);
+        used = used;
+        after = λ s b some. elim (cases_eq s right) [
+          | inl e ↦ (let n : get_or now s 0 ≡ r.used = here s e in omega (arith, h.keeps.used))
+          | inr e ↦ (let n : get_or now s 0 ≡ get_or r.words s 0 = begun_other s b e in
+              omega (arith, h.keeps.after s b (omega arith)))
+        ];
+        within = λ s b some. elim (cases_eq s right) [
+          | inl e ↦ (let n : get_or now s 0 ≡ r.used = here s e in omega arith)
+          | inr e ↦ (let n : get_or now s 0 ≡ get_or r.words s 0 = begun_other s b e in
+              omega (arith, h.keeps.within s b (omega arith)))
+        ];
+        apart = apart;
+      }
+    where
+      here : (s : ℕ) → s ≡ right → get_or (begun r right part) s 0 ≡ r.used
+      here s e = ap (λ (k : ℕ). get_or (begun r right part) k 0) e ∙ begun_right
 
-    other : (s : ℕ) → s < rights → s ≢ right → get_or (begun r right part) s 0 ≡ get_or r.words s 0
-    other = begun_other rights nodes r right part h
+      count : count_where rights (has_set (begun r right part)) ≡ count_where rights (has_set r.words) + 1
+      count =
+          counted_more rights r.words (begun r right part) right h.is_right h.free
+          (omega (arith, here right refl)) begun_other
 
-    count : count_where rights (has_set (begun r right part)) ≡ count_where rights (has_set r.words) + 1
-    count =
-        counted_more rights r.words (begun r right part) right h.is_right h.free
-        (omega (arith, here right refl)) other
+      used : now_used ≡ rights + words_for nodes * count_where rights (has_set (begun r right part))
+      used = omega (
+        arith,
+        more,
+        h.keeps.used,
+        ap (λ (n : ℕ). words_for nodes * n) count,
+        mul-add (words_for nodes) (count_where rights (has_set r.words)) 1,
+      )
 
-    used : now_used ≡ rights + words_for nodes * count_where rights (has_set (begun r right part))
-    used = omega (
-      arith,
-      more,
-      h.keeps.used,
-      ap (λ (n : ℕ). words_for nodes * n) count,
-      mul-add (words_for nodes) (count_where rights (has_set r.words)) 1,
-    )
-
-    apart : (s o : ℕ) → s < rights → o < rights → s ≢ o → 0 < get_or (begun r right part) s 0 →
-        0 < get_or (begun r right part) o 0 →
-        (get_or (begun r right part) s 0 + words_for nodes ≤ get_or (begun r right part) o 0)
-        ⊎ (get_or (begun r right part) o 0 + words_for nodes ≤ get_or (begun r right part) s 0)
-    apart s o b c differ some held = elim (cases_eq s right) [
-      | inl e ↦
-          let stays : get_or (begun r right part) o 0 ≡ get_or r.words o 0 = other o c (λ f. differ (e ∙ sym f)) in
-          inr (omega (arith, here s e, h.keeps.within o c (omega arith)))
-      | inr e ↦ elim (cases_eq o right) [
-        | inl f ↦ inl (omega (arith, here o f, other s b e, h.keeps.within s b (omega (arith, other s b e))))
-        | inr f ↦ elim (h.keeps.apart s o b c differ (omega (arith, other s b e)) (omega (arith, other o c f))) [
-          | inl before ↦ inl (omega (arith, before, other s b e, other o c f))
-          | inr later ↦ inr (omega (arith, later, other s b e, other o c f))
+      apart : (s o : ℕ) → s < rights → o < rights → s ≢ o → 0 < get_or (begun r right part) s 0 →
+          0 < get_or (begun r right part) o 0 →
+          (get_or (begun r right part) s 0 + words_for nodes ≤ get_or (begun r right part) o 0)
+          ⊎ (get_or (begun r right part) o 0 + words_for nodes ≤ get_or (begun r right part) s 0)
+      apart s o b c differ some held = elim (cases_eq s right) [
+        | inl e ↦
+            let stays : get_or (begun r right part) o 0 ≡ get_or r.words o 0 =
+            begun_other o c (λ f. differ (e ∙ sym f)) in
+            inr (omega (arith, here s e, h.keeps.within o c (omega arith)))
+        | inr e ↦ elim (cases_eq o right) [
+          | inl f ↦
+              inl (omega (arith, here o f, begun_other s b e, h.keeps.within s b (omega (arith, begun_other s b e))))
+          | inr f ↦ elim (h.keeps.apart s o b c differ (omega (arith, begun_other s b e))
+              (omega (arith, begun_other o c f))) [
+                | inl before ↦ inl (omega (arith, before, begun_other s b e, begun_other o c f))
+                | inr later ↦ inr (omega (arith, later, begun_other s b e, begun_other o c f))
+              ]
         ]
       ]
-    ]
 
-pub begun_sets : (rights nodes : ℕ) (r : Words) (right : ℕ) (part : List ℕ) → Begins rights nodes r right part →
-    cut_sets rights nodes (begun r right part)
-    ≡ with_set (cut_sets rights nodes r.words) right (Some (marks nodes part))
-begun_sets rights nodes r right part h =
-    let now : List ℕ = begun r right part in
-    let some : 0 < r.used = omega (arith, h.keeps.used, h.is_right) in
-    one_set rights nodes r.words now right (Some (marks nodes part))
-    (ap (set_at nodes now) (begun_right rights nodes r right part h) ∙ set_is nodes now r.used part some here)
-    (λ s b differ. set_stays nodes r.words now (get_or r.words s 0) (get_or now s 0)
-    (begun_other rights nodes r right part h s b differ) (λ held.
-    before_rights s b held
-    ∙ words_at-with_words_other r.words r.used part (set_place nodes (get_or r.words s 0))
-    (omega (arith, fits, h.size)) (inl (omega (arith, h.keeps.within s b held)))))
-  where
-    fits : r.used + words_for nodes ≤ length r.words
-    fits = next_fits rights nodes r right h.keeps h.is_right h.free
+  pub begun_sets : cut_sets rights nodes (begun r right part)
+      ≡ with_set (cut_sets rights nodes r.words) right (Some (marks nodes part))
+  begun_sets =
+      let now : List ℕ = begun r right part in
+      let some : 0 < r.used = omega (arith, h.keeps.used, h.is_right) in
+      one_set rights nodes r.words now right (Some (marks nodes part))
+      (ap (set_at nodes now) (begun_right) ∙ set_is nodes now r.used part some here)
+      (λ s b differ. set_stays nodes r.words now (get_or r.words s 0) (get_or now s 0)
+      (begun_other s b differ) (λ held.
+      before_rights s b held
+      ∙ words_at-with_words_other r.words r.used part (set_place nodes (get_or r.words s 0))
+      (omega (arith, fits, h.size)) (inl (omega (arith, h.keeps.within s b held)))))
+    where
+      fits : r.used + words_for nodes ≤ length r.words
+      fits = next_fits h.keeps h.is_right h.free
 
-    -- the word of a right lies before the sets
-    before : (place : Place) → rights ≤ place.from →
-        words_at (begun r right part) place ≡ words_at (with_words r.words r.used part) place
-    before place far =
-        words_at-set_other (with_words r.words r.used part) place right r.used (inr (omega (arith, h.is_right)))
+      -- the word of a right lies before the sets
+      before : (place : Place) → rights ≤ place.from →
+          words_at (begun r right part) place ≡ words_at (with_words r.words r.used part) place
+      before place far =
+          words_at-set_other (with_words r.words r.used part) place right r.used (inr (omega (arith, h.is_right)))
 
-    before_rights : (s : ℕ) → s < rights → 0 < get_or r.words s 0 →
-        words_at (begun r right part) (set_place nodes (get_or r.words s 0))
-        ≡ words_at (with_words r.words r.used part) (set_place nodes (get_or r.words s 0))
-    before_rights s b held = before (set_place nodes (get_or r.words s 0)) (omega (arith, h.keeps.after s b held))
+      before_rights : (s : ℕ) → s < rights → 0 < get_or r.words s 0 →
+          words_at (begun r right part) (set_place nodes (get_or r.words s 0))
+          ≡ words_at (with_words r.words r.used part) (set_place nodes (get_or r.words s 0))
+      before_rights s b held = before (set_place nodes (get_or r.words s 0)) (omega (arith, h.keeps.after s b held))
 
-    here : words_at (begun r right part) (set_place nodes r.used) ≡ part
-    here =
-        before (set_place nodes r.used) (omega (arith, h.keeps.used))
-        ∙ words_at-with_words r.words part (set_place nodes r.used) (used_fits rights nodes r h.keeps) h.size
+      here : words_at (begun r right part) (set_place nodes r.used) ≡ part
+      here =
+          before (set_place nodes r.used) (omega (arith, h.keeps.used))
+          ∙ words_at-with_words r.words part (set_place nodes r.used) (used_fits h.keeps) h.size
 
 -- ---- no set at all
 

@@ -1,9 +1,11 @@
 -- The entries of a basin: how many there are, and their order.
-use Rattle.std.proofs.Common.{◌≡◌, ◌≢◌, ℕ, zero, suc, ◌<◌, ◌≤◌, Bool, true, false, List, [], ◌∷◌, length, get_or, refl}
+use Rattle.std.proofs.Common.{◌≡◌, ◌≢◌, ℕ, zero, suc, ◌<◌, ◌≤◌, true, List, [], ◌∷◌, length, get_or, refl}
 use Rattle.std.proofs.Common.{sym, ap, ◌∙◌, inl, inr, arith, Some, None, map}
 use Rattle.std.specs.Prelude.{slice_get, All, nat_eq}
 use Rattle.std.specs.List.{list_any, AllPairs}
 use Rattle.std.proofs.lemmas.Bool.Decides.{nat_tests, Decides-eqb}
+use Rattle.std.proofs.lemmas.Bool.{cases_Bool}
+use Rattle.std.proofs.lemmas.List.{length-map}
 use Rattle.std.proofs.lemmas.List.Elements.{All-tail}
 use Rattle.std.proofs.lemmas.Map.Made.{IsDistinct-from_AllPairs}
 use Rattle.std.proofs.lemmas.Map.Steps.{length-le_from_distinct_below}
@@ -27,26 +29,20 @@ node_at [] i d l = absurd (omega arith)
 node_at (v ∷ vs) zero d l = refl
 node_at (v ∷ vs) (suc i) d l = node_at vs i d (omega arith)
 
-nodes_listed : (vs : List Reservoir) → length (map (λ v. v.node) vs) ≡ length vs
-nodes_listed [] = refl
-nodes_listed (v ∷ vs) = ap suc (nodes_listed vs)
-
 nodes_differ : (b : Basin) → IsValidBasin b → AllPairs (λ x y. x ≢ y) (map (λ v. v.node) b.reservoirs)
 nodes_differ b valid i j d before within same =
-    let l : j < length b.reservoirs = omega (arith, within, nodes_listed b.reservoirs) in
+    let l : j < length b.reservoirs = omega (arith, within, length-map b.reservoirs (λ v. v.node)) in
     valid.names.reservoirs i j before l
     (node_at b.reservoirs i d (omega arith) ∙ (ap (λ n. Some n) same ∙ sym (node_at b.reservoirs j d l)))
 
 nodes_within : (n : ℕ) (vs : List Reservoir) → All (λ v. v.node < n) vs → (q : ℕ) →
     list_any (nat_eq q) (map (λ v. v.node) vs) ≡ true → q < n
 nodes_within n [] h q e = cc
-nodes_within n (v ∷ vs) h q e = by_test (nat_eq q v.node) refl (nodes_within n vs (All-tail (λ v. v.node < n) v vs h) q)
-  where
-    by_test : (t : Bool) → nat_eq q v.node ≡ t → (list_any (nat_eq q) (map (λ v. v.node) vs) ≡ true → q < n) → q < n
-    by_test true t further =
-        let here : v.node < n = h 0 v (omega arith) in
-        let same : q ≡ v.node = grind (arith, nat_tests) in omega arith
-    by_test false t further = further (rw t at e)
+nodes_within n (v ∷ vs) h q e = elim (cases_Bool (nat_eq q v.node)) [
+  | inl t ↦ (let here : v.node < n = h 0 v (omega arith) in
+      let same : q ≡ v.node = grind (arith, nat_tests) in omega arith)
+  | inr t ↦ nodes_within n vs (All-tail (λ v. v.node < n) v vs h) q (rw t at e)
+]
 
 pub bounded_reservoirs : (b : Basin) → IsValidBasin b → length b.reservoirs ≤ 2000
 bounded_reservoirs b valid =
@@ -54,7 +50,7 @@ bounded_reservoirs b valid =
     let within : All (λ v. v.node < length b.nodes) b.reservoirs = λ k d l. (valid.reservoirs k d l).node in
     omega (
       arith,
-      nodes_listed b.reservoirs,
+      length-map b.reservoirs (λ v. v.node),
       length-le_from_distinct_below nodes (length b.nodes)
           (IsDistinct-from_AllPairs Decides-eqb nodes (nodes_differ b valid))
           (nodes_within (length b.nodes) b.reservoirs within),

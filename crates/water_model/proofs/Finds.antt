@@ -31,7 +31,7 @@ pub none_found : (p : ℕ → Bool) (from n : ℕ) → find p (range_with_len fr
 none_found p from zero none j a b = absurd (omega arith)
 none_found p from (suc n) none j a b = elim (cases_Bool (p from)) [
   | inl passes ↦
-      absurd (found (sym (ap (λ t. cond t (Some from) (find p (range_with_len (from + 1) n))) passes) ∙ none))
+      absurd (cc (sym (ap (λ t. cond t (Some from) (find p (range_with_len (from + 1) n))) passes) ∙ none))
   | inr fails ↦ elim (cases_eq j from) [
     | inl here ↦ ap p here ∙ fails
     | inr later ↦
@@ -39,6 +39,3 @@ none_found p from (suc n) none j a b = elim (cases_Bool (p from)) [
         ∙ none) j (omega arith) (omega arith)
   ]
 ]
-  where
-    found : {x : ℕ} → Some x ≡ None → ⊥
-    found h = cc

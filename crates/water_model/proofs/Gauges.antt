@@ -1,11 +1,11 @@
 -- Where a gauge's amounts and a right's wants stand in a series.
-use Rattle.std.proofs.Common.{◌≡◌, ℕ, suc, ◌+◌, ◌*◌, ◌^◌, ◌<◌, ◌≤◌, Bool, true, false, refl, sym, ap, subst, ◌∙◌, arith}
+use Rattle.std.proofs.Common.{◌≡◌, ℕ, ◌+◌, ◌*◌, ◌^◌, ◌<◌, ◌≤◌, Bool, true, false, refl, sym, ap, subst, ◌∙◌, arith}
 use Rattle.std.proofs.Common.{List, [], ◌∷◌, length, get_or, inl, inr, filter}
 use Rattle.std.specs.Prelude.{◌==◌, if◌then◌else◌, slice_get, slice_index, Some, unwrap_or, option_map, Result, Ok, Err}
 use Rattle.std.specs.Prelude.{MatchResult}
 use Rattle.std.specs.List.Sorted.{IsBinarySearchResult, IsStrictlyIncreasing}
 use Rattle.std.specs.Ordering.{nat_cmp}
-use Rattle.std.proofs.lemmas.Bool.{cases_lt}
+use Rattle.std.proofs.lemmas.Bool.{cases_lt, cases_Bool}
 use Rattle.std.proofs.lemmas.Bool.Decides.{nat_tests}
 use Rattle.std.proofs.lemmas.List.Kept.{AllPairs-from_increasing, IsStrictlyIncreasing-filter}
 use Rattle.std.proofs.lemmas.List.Sorted.{searched}
@@ -27,14 +27,8 @@ use Rattle.water_model.proofs.Order.{Has, numbers_from-get, numbers_from-has, le
 pub index_is : (xs : List ℕ) (x i : ℕ) → i ≤ length xs → ((k : ℕ) → k < i → get_or xs k 0 ≡ x → ⊥) →
     (i < length xs → get_or xs i 0 ≡ x) → i ≡ index_in xs x
 index_is xs x i within before here =
-    sym (position_or_len_is (λ y. y == x) xs i 0 within (λ k l. differs (get_or xs k 0) x (before k l))
-    (λ l. same (get_or xs i 0) x (here l)))
-  where
-    differs : (a c : ℕ) → (a ≡ c → ⊥) → a == c ≡ false
-    differs a c h = grind (arith, nat_tests)
-
-    same : (a c : ℕ) → a ≡ c → a == c ≡ true
-    same a c h = grind (arith, nat_tests)
+    sym (position_or_len_is (λ y. y == x) xs i 0 within (λ k l. let apart = before k l in grind (arith, nat_tests))
+    (λ l. let is = here l in grind (arith, nat_tests)))
 
 -- The gauges of a series rise, so that a binary search finds one.
 
@@ -83,17 +77,13 @@ searched_index xs x r up h = by_result r (searched xs x r h no_less)
 
 has_index : (xs : List ℕ) (x : ℕ) → Has xs x → index_in xs x < length xs
 has_index [] x h = absurd h
-has_index (y ∷ ys) x h = by_test (y == x) refl (has_index ys x)
-  where
-    is_same : (a c : ℕ) → c ≡ a → a == c ≡ true
-    is_same a c h = grind (arith, nat_tests)
-
-    by_test : (t : Bool) → y == x ≡ t → (Has ys x → index_in ys x < length ys) → index_in (y ∷ ys) x < length (y ∷ ys)
-    by_test true e further = rw e (omega arith)
-    by_test false e further = elim h [
-      | inl is ↦ let clash : false ≡ true = sym e ∙ is_same y x is in cc
-      | inr rest ↦ rw e (let k = further rest in omega arith)
-    ]
+has_index (y ∷ ys) x h = elim (cases_Bool (y == x)) [
+  | inl e ↦ rw e (omega arith)
+  | inr e ↦ elim h [
+    | inl is ↦ absurd (let clash : y == x ≡ true = grind (arith, nat_tests) in cc)
+    | inr rest ↦ rw e (omega (arith, has_index ys x rest))
+  ]
+]
 
 -- a gauged node stands in the series
 pub gauge_within : (b : Basin) (series : Inflows) (node : ℕ) → IsSeriesOf b series → node < length b.nodes →
@@ -109,12 +99,10 @@ cell_within i m l p h k = let below : (i + 1) * l ≤ m * l = mul-le-mul_right l
 
 pub filter_short : (p : ℕ → Bool) (xs : List ℕ) → length (filter p xs) ≤ length xs
 filter_short p [] = omega arith
-filter_short p (x ∷ xs) = by_test (p x) (filter_short p xs)
-  where
-    by_test : (t : Bool) → length (filter p xs) ≤ length xs →
-        length (if t then x ∷ filter p xs else filter p xs) ≤ suc (length xs)
-    by_test true h = omega arith
-    by_test false h = omega arith
+filter_short p (x ∷ xs) = elim (cases_Bool (p x)) [
+  | inl e ↦ rw e (omega (arith, filter_short p xs))
+  | inr e ↦ rw e (omega (arith, filter_short p xs))
+]
 
 -- a node whose entry is gauged is gauged
 gauged_here : (b : Basin) (node : ℕ) (n : Node) → slice_get b.nodes node ≡ Some n → n.inflow ≡ Gauged →
@@ -122,36 +110,29 @@ gauged_here : (b : Basin) (node : ℕ) (n : Node) → slice_get b.nodes node ≡
 gauged_here b node n at e = ap (λ o. unwrap_or (option_map (λ m. is_gauged_kind m.inflow) o) false) at
     ∙ ap is_gauged_kind e
 
--- the index of a cell, in a table of at most 1,200 rows and 2,000 columns, fits in 64 bits
-small_cell : (i m l p : ℕ) → i * l + p < m * l → m ≤ 1200 → l ≤ 2000 → i * l + p < 2 ^ 64
-small_cell i m l p h months bounded = let most : m * l ≤ 1200 * l = mul-le-mul_right l months in omega arith
+-- the index of a cell in a table that has a row for each month and a column for each of some numbers
+pub record HasCell (numbers cells : List ℕ) (number index : ℕ) : Type 0 where
+  pub within : index * length numbers + index_in numbers number < length cells
+  pub small : index * length numbers + index_in numbers number < 2 ^ 64
 
--- the index of the amount of a gauged node in a month
-pub record HasCell (b : Basin) (series : Inflows) (node index : ℕ) : Type 0 where
-  pub within : index * length series.gauged + index_in series.gauged node < length series.amount
-  pub small : index * length series.gauged + index_in series.gauged node < 2 ^ 64
+has_cell : (b : Basin) (numbers cells : List ℕ) (number index n : ℕ) (p : ℕ → Bool) → IsValidBasin b →
+    numbers ≡ filter p (numbers_from 0 n) → n ≤ 2000 → length cells ≡ b.months * length numbers → index < b.months →
+    index_in numbers number < length numbers → HasCell numbers cells number index
+has_cell b numbers cells number index n p valid are few size k within =
+    let cell = cell_within index b.months (length numbers) (index_in numbers number) k within in
+    let bounded : length numbers ≤ 2000 =
+    omega (arith, ap length are, filter_short p (numbers_from 0 n), length-numbers_from 0 n) in
+    let most : b.months * length numbers ≤ 1200 * length numbers =
+    mul-le-mul_right (length numbers) valid.run.months.1 in
+    record { within = rw size cell; small = omega arith }
 
-pub has_cell : (b : Basin) (series : Inflows) (node index : ℕ) (n : Node) → IsValidBasin b → IsSeriesOf b series →
-    node < length b.nodes →
-    index < b.months → slice_get b.nodes node ≡ Some n → n.inflow ≡ Gauged → HasCell b series node index
-has_cell b series node index n valid fits l k at e = record {
-  within = rw fits.amounts cell;
-  small = small_cell index b.months (length series.gauged) (index_in series.gauged node) cell valid.run.months.1
-      bounded;
-}
-  where
-    cell : index * length series.gauged + index_in series.gauged node < b.months * length series.gauged
-    cell = cell_within index b.months (length series.gauged) (index_in series.gauged node) k
-        (gauge_within b series node fits l (gauged_here b node n at e))
-
-    bounded : length series.gauged ≤ 2000
-    bounded = rw fits.gauged
-        (omega (
-          arith,
-          filter_short (λ m. is_gauged b m) (indices_of b.nodes),
-          length-numbers_from 0 (length b.nodes),
-          valid.bounded.nodes,
-        ))
+-- that of the amount of a gauged node in a month
+pub inflow_cell : {b : Basin} {series : Inflows} {node index : ℕ} {n : Node} → IsValidBasin b → IsSeriesOf b series →
+    node < length b.nodes → index < b.months → slice_get b.nodes node ≡ Some n → n.inflow ≡ Gauged →
+    HasCell series.gauged series.amount node index
+inflow_cell {b} {series} {node} {index} {n} valid fits l k at e =
+    has_cell b series.gauged series.amount node index (length b.nodes) (λ m. is_gauged b m) valid fits.gauged
+    (omega (arith, valid.bounded.nodes)) fits.amounts k (gauge_within b series node fits l (gauged_here b node n at e))
 
 -- what stands there is the inflow
 pub cell_is_inflow : (b : Basin) (series : Inflows) (node index : ℕ) (n : Node) (x : ℕ) →
@@ -172,34 +153,13 @@ wanted_within b series right fits l e =
     (numbers_from-has 0 (length b.rights) right right l (omega arith)) e))
 
 -- the index of the want of a right in a month
-pub record HasWant (b : Basin) (series : Inflows) (right index : ℕ) : Type 0 where
-  pub within : index * length series.wanted + index_in series.wanted right < length series.want
-  pub small : index * length series.wanted + index_in series.wanted right < 2 ^ 64
-
-pub has_want : (b : Basin) (series : Inflows) (right index : ℕ) (r : Right) → IsValidBasin b → IsSeriesOf b series →
-    right < length b.rights →
-    index < b.months → slice_get b.rights right ≡ Some r → r.series ≡ true → HasWant b series right index
-has_want b series right index r valid fits l k at e = record {
-  within = rw fits.wants cell;
-  small = small_cell index b.months (length series.wanted) (index_in series.wanted right) cell valid.run.months.1
-      bounded;
-}
-  where
-    named : is_in_series b right ≡ true
-    named = ap (λ o. unwrap_or (option_map (λ (x : Right). x.series) o) false) at ∙ e
-
-    cell : index * length series.wanted + index_in series.wanted right < b.months * length series.wanted
-    cell = cell_within index b.months (length series.wanted) (index_in series.wanted right) k
-        (wanted_within b series right fits l named)
-
-    bounded : length series.wanted ≤ 2000
-    bounded = rw fits.wanted
-        (omega (
-          arith,
-          filter_short (λ x. is_in_series b x) (indices_of b.rights),
-          length-numbers_from 0 (length b.rights),
-          valid.bounded.rights,
-        ))
+pub want_cell : {b : Basin} {series : Inflows} {right index : ℕ} {r : Right} → IsValidBasin b → IsSeriesOf b series →
+    right < length b.rights → index < b.months → slice_get b.rights right ≡ Some r → r.series ≡ true →
+    HasCell series.wanted series.want right index
+want_cell {b} {series} {right} {index} {r} valid fits l k at e =
+    has_cell b series.wanted series.want right index (length b.rights) (λ x. is_in_series b x) valid fits.wanted
+    (omega (arith, valid.bounded.rights)) fits.wants k (wanted_within b series right fits l
+    (ap (λ o. unwrap_or (option_map (λ (x : Right). x.series) o) false) at ∙ e))
 
 -- what stands there is the right's number
 pub want_is_number : (b : Basin) (series : Inflows) (right index : ℕ) (r : Right) (x : ℕ) →

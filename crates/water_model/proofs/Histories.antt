@@ -24,10 +24,7 @@ at_end (z ∷ zs) y x (suc i) h =
     elim (at_end zs y x i h) [ inl within ↦ inl within | inr last ↦ inr (ap suc last.0, last.1) ]
 
 pub nothing_is_partial : (b : Basin) (series : Inflows) → IsPartialHistory b series []
-nothing_is_partial b series = record { within = omega arith; each = λ i m h. none i m h }
-  where
-    none : (i : ℕ) (m : MonthRecord) → slice_get [] i ≡ Some m → Follows b series (take i []) m
-    none i m h = let never : None ≡ Some m = h in cc
+nothing_is_partial b series = record { within = omega arith; each = λ i m h. absurd (cc (h)) }
 
 -- a record that follows a partial history makes a longer one
 pub one_month_more : (b : Basin) (series : Inflows) (records : List MonthRecord) (m : MonthRecord) →

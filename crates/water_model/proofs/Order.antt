@@ -1,8 +1,9 @@
 -- Lists of numbers, and the order of rights.
 use Rattle.std.proofs.Common.{◌≡◌, ℕ, zero, suc, ◌+◌, ◌≤◌, ◌<◌, Bool, true, false, List, [], ◌∷◌, length, refl, sym, ap}
 use Rattle.std.proofs.Common.{◌∙◌, arith, inl, inr, map}
+use Rattle.std.proofs.lemmas.Bool.{cases_Bool}
 use Rattle.std.specs.List.{flat_map}
-use Rattle.std.specs.Prelude.{slice_get, Some, None, find, filter, ◌⊎◌, ◌≢◌, if◌then◌else◌}
+use Rattle.std.specs.Prelude.{slice_get, Some, None, find, filter, ◌⊎◌, ◌≢◌}
 use Rattle.water_model.specs.Rights.{is_senior_in, AreStrict}
 use Rattle.water_model.specs.declared.types.Right.{Right}
 use Rattle.water_model.proofs.Seniority.{senior_trans, senior_total}
@@ -50,61 +51,46 @@ flat_same f g (x ∷ xs) h = rw (h x (inl refl), flat_same f g xs (λ y m. h y (
 -- the elements that pass a test
 pub has-filter : (p : ℕ → Bool) (xs : List ℕ) (k : ℕ) → Has xs k → p k ≡ true → Has (filter p xs) k
 has-filter p [] k h e = absurd h
-has-filter p (x ∷ xs) k h e = by_test (p x) refl h (λ m. has-filter p xs k m e)
-  where
-    by_test : (t : Bool) → p x ≡ t → Has (x ∷ xs) k → (Has xs k → Has (filter p xs) k) → Has (filter p (x ∷ xs)) k
-    by_test true f (inl is) further = rw f (inl is)
-    by_test true f (inr m) further = rw f (inr (further m))
-    by_test false f (inl is) further = let no_pass : false ≡ true = sym f ∙ (ap p (sym is) ∙ e) in cc
-    by_test false f (inr m) further = rw f (further m)
+has-filter p (x ∷ xs) k h e = elim (cases_Bool (p x)) [
+  | inl f ↦ rw f (elim h [ inl is ↦ inl is | inr m ↦ inr (has-filter p xs k m e) ])
+  | inr f ↦ elim h [ inl is ↦ absurd (cc (f, ap p is, e)) | inr m ↦ rw f (has-filter p xs k m e) ]
+]
 
 pub filter-has : (p : ℕ → Bool) (xs : List ℕ) (k : ℕ) → Has (filter p xs) k → Has xs k × (p k ≡ true)
 filter-has p [] k h = absurd h
-filter-has p (x ∷ xs) k h = by_test (p x) refl (λ m. filter-has p xs k m)
-  where
-    by_test : (t : Bool) → p x ≡ t → (Has (filter p xs) k → Has xs k × (p k ≡ true)) → Has (x ∷ xs) k × (p k ≡ true)
-    by_test true f further = here (rw f at h)
-      where
-        here : Has (x ∷ filter p xs) k → Has (x ∷ xs) k × (p k ≡ true)
-        here (inl is) = (inl is, ap p is ∙ f)
-        here (inr m) = let r = further m in (inr r.0, r.1)
-    by_test false f further = let r = further (rw f at h) in (inr r.0, r.1)
+filter-has p (x ∷ xs) k h = elim (cases_Bool (p x)) [
+  | inl f ↦ (let here : Has (x ∷ filter p xs) k = rw f at h in elim here [
+    | inl is ↦ (inl is, ap p is ∙ f)
+    | inr m ↦ (let r = filter-has p xs k m in (inr r.0, r.1))
+  ])
+  | inr f ↦ (let r = filter-has p xs k (rw f at h) in (inr r.0, r.1))
+]
 
 put_right-has : (rights : List Right) (r : ℕ) (xs : List ℕ) (x : ℕ) → Has (put_right rights r xs) x → (x ≡ r) ⊎ Has xs x
 put_right-has rights r [] x h = h
-put_right-has rights r (y ∷ ys) x h = by_test (is_senior_in rights r y) refl (put_right-has rights r ys x)
-  where
-    by_test : (t : Bool) → is_senior_in rights r y ≡ t → (Has (put_right rights r ys) x → (x ≡ r) ⊎ Has ys x) →
-        (x ≡ r) ⊎ Has (y ∷ ys) x
-    by_test true e further = let here : Has (r ∷ y ∷ ys) x = rw e at h in here
-    by_test false e further = by_index (rw e at h)
-      where
-        by_index : Has (y ∷ put_right rights r ys) x → (x ≡ r) ⊎ Has (y ∷ ys) x
-        by_index (inl same) = inr (inl same)
-        by_index (inr rest) = elim (further rest) [ inl is ↦ inl is | inr in_rest ↦ inr (inr in_rest) ]
+put_right-has rights r (y ∷ ys) x h = elim (cases_Bool (is_senior_in rights r y)) [
+  | inl e ↦ rw e at h
+  | inr e ↦ (let here : Has (y ∷ put_right rights r ys) x = rw e at h in elim here [
+    | inl same ↦ inr (inl same)
+    | inr rest ↦ elim (put_right-has rights r ys x rest) [ inl is ↦ inl is | inr m ↦ inr (inr m) ]
+  ])
+]
 
 has-put_right : (rights : List Right) (r : ℕ) (xs : List ℕ) (x : ℕ) → (x ≡ r) ⊎ Has xs x → Has (put_right rights r xs) x
 has-put_right rights r [] x h = h
-has-put_right rights r (y ∷ ys) x h = by_test (is_senior_in rights r y) refl (has-put_right rights r ys x)
-  where
-    by_test : (t : Bool) → is_senior_in rights r y ≡ t → ((x ≡ r) ⊎ Has ys x → Has (put_right rights r ys) x) →
-        Has (put_right rights r (y ∷ ys)) x
-    by_test true e further = rw e h
-    by_test false e further = rw e (by_index h)
-      where
-        by_index : (x ≡ r) ⊎ Has (y ∷ ys) x → Has (y ∷ put_right rights r ys) x
-        by_index (inl is) = inr (further (inl is))
-        by_index (inr (inl same)) = inl same
-        by_index (inr (inr rest)) = inr (further (inr rest))
+has-put_right rights r (y ∷ ys) x h = elim (cases_Bool (is_senior_in rights r y)) [
+  | inl e ↦ rw e h
+  | inr e ↦ rw e (elim h [
+    | inl is ↦ inr (has-put_right rights r ys x (inl is))
+    | inr m ↦ elim m [ inl same ↦ inl same | inr rest ↦ inr (has-put_right rights r ys x (inr rest)) ]
+  ])
+]
 
 sort_rights-has : (rights : List Right) (xs : List ℕ) (x : ℕ) → Has (sort_rights rights xs) x → Has xs x
 sort_rights-has rights [] x h = h
 sort_rights-has rights (y ∷ ys) x h =
-    elim (put_right-has rights y (sort_rights rights ys) x h) [
-      | inl is ↦ inl is
-      | inr rest ↦
-          inr (sort_rights-has rights ys x rest)
-    ]
+    elim (put_right-has rights y (sort_rights rights ys) x h)
+    [ inl is ↦ inl is | inr rest ↦ inr (sort_rights-has rights ys x rest) ]
 
 has-sort_rights : (rights : List Right) (xs : List ℕ) (x : ℕ) → Has xs x → Has (sort_rights rights xs) x
 has-sort_rights rights [] x h = h
@@ -128,12 +114,10 @@ seniors_below rights r h =
 
 length-put_right : (rights : List Right) (r : ℕ) (xs : List ℕ) → length (put_right rights r xs) ≡ suc (length xs)
 length-put_right rights r [] = refl
-length-put_right rights r (x ∷ xs) = by_test (is_senior_in rights r x) (length-put_right rights r xs)
-  where
-    by_test : (t : Bool) → length (put_right rights r xs) ≡ suc (length xs) →
-        length (if t then r ∷ x ∷ xs else x ∷ put_right rights r xs) ≡ suc (suc (length xs))
-    by_test true further = refl
-    by_test false further = ap suc further
+length-put_right rights r (x ∷ xs) = elim (cases_Bool (is_senior_in rights r x)) [
+  | inl e ↦ rw e refl
+  | inr e ↦ rw e (ap suc (length-put_right rights r xs))
+]
 
 length-sort_rights : (rights : List Right) (xs : List ℕ) → length (sort_rights rights xs) ≡ length xs
 length-sort_rights rights [] = refl
@@ -154,23 +138,22 @@ put_right-ordered : (rights : List Right) (r : ℕ) (xs : List ℕ) →
     ((y : ℕ) → Has xs y → is_senior_in rights r y ≡ false → is_senior_in rights y r ≡ true) →
     IsOrdered rights xs → IsOrdered rights (put_right rights r xs)
 put_right-ordered rights r [] t h = (λ y k. absurd k, tt)
-put_right-ordered rights r (y ∷ ys) t h =
-    by_test (is_senior_in rights r y) refl (put_right-ordered rights r ys (λ z k. t z (inr k)) h.1)
-  where
-    by_test : (s : Bool) → is_senior_in rights r y ≡ s → IsOrdered rights (put_right rights r ys) →
-        IsOrdered rights (put_right rights r (y ∷ ys))
-    by_test true e further = rw e (in_prefix, h)
-      where
-        in_prefix : (z : ℕ) → Has (y ∷ ys) z → is_senior_in rights r z ≡ true
-        in_prefix z (inl same) = ap (λ q. is_senior_in rights r q) same ∙ e
-        in_prefix z (inr rest) = senior_trans rights r y z e (h.0 z rest)
-    by_test false e further = rw e (in_prefix, further)
-      where
-        in_prefix : (z : ℕ) → Has (put_right rights r ys) z → is_senior_in rights y z ≡ true
-        in_prefix z k = elim (put_right-has rights r ys z k) [
-          | inl same ↦ ap (λ q. is_senior_in rights y q) same ∙ t y (inl refl) e
-          | inr rest ↦ h.0 z rest
-        ]
+put_right-ordered rights r (y ∷ ys) t h = elim (cases_Bool (is_senior_in rights r y)) [
+  | inl e ↦ rw e (
+    λ z k. elim k [
+      | inl same ↦ ap (λ q. is_senior_in rights r q) same ∙ e
+      | inr rest ↦ senior_trans rights r y z e (h.0 z rest)
+    ],
+    h,
+  )
+  | inr e ↦ rw e (
+    λ z k. elim (put_right-has rights r ys z k) [
+      | inl same ↦ ap (λ q. is_senior_in rights y q) same ∙ t y (inl refl) e
+      | inr rest ↦ h.0 z rest
+    ],
+    put_right-ordered rights r ys (λ z k. t z (inr k)) h.1,
+  )
+]
 
 sort_rights-ordered : (rights : List Right) → AreStrict rights → (from n : ℕ) → from + n ≤ length rights →
     IsOrdered rights (sort_rights rights (numbers_from from n))
@@ -186,12 +169,9 @@ sort_rights-ordered rights strict from (suc n) h =
         let within = numbers_from-below (suc from) n y (sort_rights-has rights (numbers_from (suc from) n) y k) in
         let differ : from ≢ y = λ same. omega (arith, within.0) in
         elim (senior_total rights strict from y (omega arith) (omega (arith, within.1)) differ) [
-          | inl senior ↦ absurd (clash (sym senior ∙ e))
+          | inl senior ↦ absurd (cc (senior, e))
           | inr senior ↦ senior
         ]
-      where
-        clash : true ≡ false → ⊥
-        clash e = cc
 
 pub seniors_ordered : (rights : List Right) → AreStrict rights → IsOrdered rights (by_seniority rights)
 unfolding by_seniority
@@ -200,41 +180,29 @@ seniors_ordered rights strict = sort_rights-ordered rights strict 0 (length righ
 -- the first that passes a test is senior to each other that does
 pub find-passes : (p : ℕ → Bool) (xs : List ℕ) (c : ℕ) → find p xs ≡ Some c → (p c ≡ true) × Has xs c
 find-passes p [] c h = let none : None ≡ Some c = h in cc
-find-passes p (x ∷ xs) c h = by_test (p x) refl (find-passes p xs c)
-  where
-    by_test : (t : Bool) → p x ≡ t → (find p xs ≡ Some c → (p c ≡ true) × Has xs c) → (p c ≡ true) × Has (x ∷ xs) c
-    by_test true e further = let here : Some x ≡ Some c = rw e at h in let same : x ≡ c = cc in
-        (ap p (sym same) ∙ e, inl (sym same))
-    by_test false e further = let f = further (rw e at h) in (f.0, inr f.1)
+find-passes p (x ∷ xs) c h = elim (cases_Bool (p x)) [
+  | inl e ↦ (let here : Some x ≡ Some c = rw e at h in let same : x ≡ c = cc in (ap p (sym same) ∙ e, inl (sym same)))
+  | inr e ↦ (let f = find-passes p xs c (rw e at h) in (f.0, inr f.1))
+]
 
 pub find-first : (rights : List Right) (p : ℕ → Bool) (xs : List ℕ) (c o : ℕ) → IsOrdered rights xs →
     find p xs ≡ Some c → Has xs o → p o ≡ true →
     (o ≡ c) ⊎ (is_senior_in rights c o ≡ true)
 find-first rights p [] c o w h k q = absurd k
-find-first rights p (x ∷ xs) c o w h k q = by_test (p x) refl (find-first rights p xs c o w.1)
-  where
-    by_test : (t : Bool) → p x ≡ t →
-        (find p xs ≡ Some c → Has xs o → p o ≡ true → (o ≡ c) ⊎ (is_senior_in rights c o ≡ true)) → (o ≡ c) ⊎
-        (is_senior_in rights c o ≡ true)
-    by_test true e further = let here : Some x ≡ Some c = rw e at h in let same : x ≡ c = cc in by_index k same
-      where
-        by_index : Has (x ∷ xs) o → x ≡ c → (o ≡ c) ⊎ (is_senior_in rights c o ≡ true)
-        by_index (inl is) same = inl (is ∙ same)
-        by_index (inr rest) same = inr (ap (λ z. is_senior_in rights z o) (sym same) ∙ w.0 o rest)
-    by_test false e further = by_index k
-      where
-        by_index : Has (x ∷ xs) o → (o ≡ c) ⊎ (is_senior_in rights c o ≡ true)
-        by_index (inl is) = let no : false ≡ true = sym e ∙ (ap p (sym is) ∙ q) in cc
-        by_index (inr rest) = further (rw e at h) rest q
+find-first rights p (x ∷ xs) c o w h k q = elim (cases_Bool (p x)) [
+  | inl e ↦ (let here : Some x ≡ Some c = rw e at h in let same : x ≡ c = cc in elim k [
+    | inl is ↦ inl (is ∙ same)
+    | inr rest ↦ inr (ap (λ z. is_senior_in rights z o) (sym same) ∙ w.0 o rest)
+  ])
+  | inr e ↦ elim k [
+    | inl is ↦ absurd (cc (ap p is, e, q))
+    | inr rest ↦ find-first rights p xs c o w.1 (rw e at h) rest q
+  ]
+]
 
 pub find-none : (p : ℕ → Bool) (xs : List ℕ) (o : ℕ) → find p xs ≡ None → Has xs o → p o ≡ false
 find-none p [] o h k = absurd k
-find-none p (x ∷ xs) o h k = by_test (p x) refl (find-none p xs o)
-  where
-    by_test : (t : Bool) → p x ≡ t → (find p xs ≡ None → Has xs o → p o ≡ false) → p o ≡ false
-    by_test true e further = let none : Some x ≡ None = rw e at h in cc
-    by_test false e further = by_index k
-      where
-        by_index : Has (x ∷ xs) o → p o ≡ false
-        by_index (inl is) = ap p is ∙ e
-        by_index (inr rest) = further (rw e at h) rest
+find-none p (x ∷ xs) o h k = elim (cases_Bool (p x)) [
+  | inl e ↦ (let none : Some x ≡ None = rw e at h in absurd (cc))
+  | inr e ↦ elim k [ inl is ↦ ap p is ∙ e | inr rest ↦ find-none p xs o (rw e at h) rest ]
+]

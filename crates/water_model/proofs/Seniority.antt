@@ -1,7 +1,7 @@
 -- The order of seniority.
 use Rattle.std.proofs.Common.{◌≡◌, ℕ, zero, suc, ◌<◌, Bool, true, false, refl, sym, ◌∙◌, ap, arith, List, [], ◌∷◌}
 use Rattle.std.proofs.Common.{length, inl, inr}
-use Rattle.std.proofs.lemmas.Bool.{cases_order}
+use Rattle.std.proofs.lemmas.Bool.{cases_order, cases_Bool}
 use Rattle.std.proofs.lemmas.Bool.Decides.{nat_tests}
 use Rattle.std.specs.Prelude.{◌==◌, ◌&&◌, ◌||◌, nat_lt, ◌⊎◌, ◌≢◌}
 use Rattle.water_model.specs.Lookups.{of_entry}
@@ -13,10 +13,7 @@ use Rattle.water_model.specs.declared.types.Right.{Right}
 -- no right is senior to itself
 pub not_lower : (xs : List ℕ) → is_lower xs xs ≡ false
 not_lower [] = refl
-not_lower (x ∷ xs) = step x (is_lower xs xs) (not_lower xs)
-  where
-    step : (x : ℕ) (t : Bool) → t ≡ false → nat_lt x x || (x == x && t) ≡ false
-    step x t h = grind (arith, nat_tests)
+not_lower (x ∷ xs) = let h = not_lower xs in grind (arith, nat_tests)
 
 pub not_senior_to_itself : (b : Basin) (r : ℕ) → is_senior b r r ≡ false
 not_senior_to_itself b r = not_lower (priority_of b r)
@@ -50,19 +47,15 @@ first_where b d (suc n) = more (first_where b d n) (d n) refl
     at_or_below : (s n : ℕ) → s < suc n → (s ≡ n) ⊎ (s < n)
     at_or_below s n l = grind arith
 
-    all_more : ((k : ℕ) → k < n → d k ≡ false) → d n ≡ false → (k : ℕ) → k < suc n → d k ≡ false
-    all_more h i k l = elim (at_or_below k n l) [ inl e ↦ ap d e ∙ i | inr b ↦ h k b ]
-
-    here_only : ((k : ℕ) → k < n → d k ≡ false) → d n ≡ true → IsFirst b d (suc n) n
-    here_only h i = record {
+    here : ((s : ℕ) → s < n → is_senior b s n ≡ true → d s ≡ false) → d n ≡ true → IsFirst b d (suc n) n
+    here h i = record {
       below = omega arith;
       holds = i;
-      none_senior = λ s l t. elim (at_or_below s n l) [ inl e ↦ absurd (clash s e t) | inr c ↦ h s c ];
+      none_senior = λ s l t. elim (at_or_below s n l) [ inl e ↦ absurd (clash s e t) | inr c ↦ h s c t ];
     }
       where
         clash : (s : ℕ) → s ≡ n → is_senior b s n ≡ true → ⊥
-        clash s e t = let f : is_senior b n n ≡ true = ap (λ k. is_senior b k n) (sym e) ∙ t in
-            cc (not_senior_to_itself b n)
+        clash s e t = cc (not_senior_to_itself b n, ap (λ k. is_senior b k n) e, t)
 
     keep : (k : ℕ) → IsFirst b d n k → (is_senior b n k ≡ true → d n ≡ false) → IsFirst b d (suc n) k
     keep k f i = record {
@@ -74,30 +67,14 @@ first_where b d (suc n) = more (first_where b d n) (d n) refl
       ];
     }
 
-    replace : (k : ℕ) → IsFirst b d n k → is_senior b n k ≡ true → d n ≡ true → IsFirst b d (suc n) n
-    replace k f t i = record {
-      below = omega arith;
-      holds = i;
-      none_senior = λ s l u. elim (at_or_below s n l) [
-        | inl e ↦ absurd (clash s e u)
-        | inr c ↦ f.none_senior s c (senior_trans b.rights s n k u t)
-      ];
-    }
-      where
-        clash : (s : ℕ) → s ≡ n → is_senior b s n ≡ true → ⊥
-        clash s e u = let f : is_senior b n n ≡ true = ap (λ k. is_senior b k n) (sym e) ∙ u in
-            cc (not_senior_to_itself b n)
-
-    by_senior : (k : ℕ) → IsFirst b d n k → d n ≡ true → (t : Bool) → is_senior b n k ≡ t → (j : ℕ) ×
-        IsFirst b d (suc n) j
-    by_senior k f i true e = (n, replace k f e i)
-    by_senior k f i false e = (k, keep k f (λ t. cc))
-
     more : ((k : ℕ) → k < n → d k ≡ false) ⊎ ((k : ℕ) × IsFirst b d n k) → (t : Bool) → d n ≡ t →
         ((k : ℕ) → k < suc n → d k ≡ false) ⊎ ((k : ℕ) × IsFirst b d (suc n) k)
-    more (inl h) true i = inr (n, here_only h i)
-    more (inl h) false i = inl (all_more h i)
-    more (inr f) true i = inr (by_senior f.0 f.1 i (is_senior b n f.0) refl)
+    more (inl h) true i = inr (n, here (λ s c t. h s c) i)
+    more (inl h) false i = inl (λ k l. elim (at_or_below k n l) [ inl e ↦ ap d e ∙ i | inr c ↦ h k c ])
+    more (inr f) true i = elim (cases_Bool (is_senior b n f.0)) [
+      | inl e ↦ inr (n, here (λ s c t. f.1.none_senior s c (senior_trans b.rights s n f.0 t e)) i)
+      | inr e ↦ inr (f.0, keep f.0 f.1 (λ t. absurd (cc (t, e))))
+    ]
     more (inr f) false i = inr (f.0, keep f.0 f.1 (λ t. i))
 
 -- of two different lists of one length one is lower
@@ -105,23 +82,11 @@ pub lower_total : (xs ys : List ℕ) → length xs ≡ length ys → xs ≢ ys �
 lower_total [] [] e n = absurd (n refl)
 lower_total [] (y ∷ ys) e n = absurd (omega arith)
 lower_total (x ∷ xs) [] e n = absurd (omega arith)
-lower_total (x ∷ xs) (y ∷ ys) e n = by_head (lower_total xs ys (omega arith)) (cases_order x y)
-  where
-    first : (x y : ℕ) (t : Bool) → x < y → nat_lt x y || (x == y && t) ≡ true
-    first x y t h = grind (arith, nat_tests)
-
-    rest : (x y : ℕ) (t : Bool) → x ≡ y → t ≡ true → nat_lt x y || (x == y && t) ≡ true
-    rest x y t e h = grind (arith, nat_tests)
-
-    by_head : (xs ≢ ys → (is_lower xs ys ≡ true) ⊎ (is_lower ys xs ≡ true)) → (x ≡ y) ⊎ ((x < y) ⊎ (y < x)) →
-        (nat_lt x y || (x == y && is_lower xs ys) ≡ true) ⊎ (nat_lt y x || (y == x && is_lower ys xs) ≡ true)
-    by_head tails (inr (inl l)) = inl (first x y (is_lower xs ys) l)
-    by_head tails (inr (inr l)) = inr (first y x (is_lower ys xs) l)
-    by_head tails (inl same) =
-        elim (tails (λ t. n (cc (same, t)))) [
-          | inl h ↦ inl (rest x y (is_lower xs ys) same h)
-          | inr h ↦ inr (rest y x (is_lower ys xs) (sym same) h)
-        ]
+lower_total (x ∷ xs) (y ∷ ys) e n = elim (cases_order x y) [
+  | inl same ↦ elim (lower_total xs ys (omega arith) (λ t. n (cc (same, t))))
+      [ inl h ↦ inl (grind (arith, nat_tests)) | inr h ↦ inr (grind (arith, nat_tests)) ]
+  | inr o ↦ elim o [ inl l ↦ inl (grind (arith, nat_tests)) | inr l ↦ inr (grind (arith, nat_tests)) ]
+]
 
 -- of two different rights one is senior to the other
 pub senior_total : (rights : List Right) → AreStrict rights → (r s : ℕ) → r < length rights → s < length rights →

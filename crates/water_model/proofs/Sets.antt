@@ -1,6 +1,6 @@
 -- Sums over the nodes of a set.
 use Rattle.std.proofs.Common.{◌≡◌, ℕ, zero, suc, ◌+◌, ◌<◌, Bool, true, false, refl, sym, ◌∙◌, ap, arith, List, []}
-use Rattle.std.proofs.Common.{◌∷◌, length, ◌≤◌, inl, inr, ◌-◌, replicate, sum}
+use Rattle.std.proofs.Common.{◌∷◌, length, ◌≤◌, inl, inr, replicate, sum}
 use Rattle.std.specs.Prelude.{if◌then◌else◌, ◌==◌, nat_lt, Option, Some, None, ◌&&◌, not, slice_index}
 use Rattle.std.proofs.lemmas.Bool.{and_from}
 use Rattle.std.proofs.lemmas.Bool.Decides.{nat_tests, eqb_tells}
@@ -28,21 +28,15 @@ pub grouped : (n m : ℕ) (y : ℕ → Bool) (p : ℕ → ℕ → Bool) (within 
     total n (λ v. if y v then total m (λ e. if p e v then f e else 0) else 0) ≡ total m
     (λ e. if within e then f e else 0)
 grouped n m y p within f one =
-    total_same n (λ v. if y v then total m (λ e. if p e v then f e else 0) else 0)
-    (λ v. total m (λ e. if y v then (if p e v then f e else 0) else 0))
-    (λ v l. mask_total (y v) m (λ e. if p e v then f e else 0))
+    total_same _ _ _ (λ v l. mask_total (y v) m (λ e. if p e v then f e else 0))
     ∙ total_exchange n m (λ v e. if y v then (if p e v then f e else 0) else 0)
-    ∙ total_same m (λ e. total n (λ v. if y v then (if p e v then f e else 0) else 0))
-    (λ e. if within e then f e else 0)
-    (λ e l. one e (f e))
+    ∙ total_same _ _ _ (λ e l. one e (f e))
 
 -- one index: what stands at node k
 pub at_index : (n : ℕ) (set : List Bool) → length set ≡ n → (k x : ℕ) →
     total n (λ v. if has set v then (if k == v then x else 0) else 0) ≡ (if has set k then x else 0)
 at_index n set len k x =
-    total_same n (λ v. if has set v then (if k == v then x else 0) else 0)
-    (λ v. if k == v then (if has set k then x else 0) else 0)
-    (λ v l. swap_tests (has set) k v x)
+    total_same _ _ _ (λ v l. swap_tests (has set) k v x)
     ∙ (total_at n k (if has set k then x else 0)
     ∙ drop_test k n (has set k) x (λ h. let l = has_below set k h in omega arith))
   where
@@ -60,35 +54,28 @@ pub at_some_index : (n : ℕ) (set : List Bool) → length set ≡ n → (o : Op
 at_some_index n set len None x = total_zero n (λ v. if has set v then 0 else 0) (λ v l. same (has set v) 0)
   where
     same : (b : Bool) (z : ℕ) → (if b then z else z) ≡ z
-    same true z = refl
-    same false z = refl
+    same b z = grind (arith, nat_tests)
 at_some_index n set len (Some k) x = at_index n set len k x
 
 -- a sum over a set splits like its terms
 pub total_where_add : (n : ℕ) (y : ℕ → Bool) (f g : ℕ → ℕ) →
     total_where n y (λ k. f k + g k) ≡ total_where n y f + total_where n y g
 total_where_add n y f g =
-    total_same n (λ k. if y k then f k + g k else 0) (λ k. (if y k then f k else 0) + (if y k then g k else 0))
-    (λ k l. split (y k) (f k) (g k))
+    total_same _ _ _ (λ k l. split (y k) (f k) (g k))
     ∙ total_add n (λ k. if y k then f k else 0) (λ k. if y k then g k else 0)
   where
     split : (b : Bool) (x z : ℕ) → (if b then x + z else 0) ≡ (if b then x else 0) + (if b then z else 0)
-    split true x z = refl
-    split false x z = refl
+    split b x z = grind (arith, nat_tests)
 
 pub total_where_same : (n : ℕ) (y : ℕ → Bool) (f g : ℕ → ℕ) → ((k : ℕ) → k < n → f k ≡ g k) →
     total_where n y f ≡ total_where n y g
-total_where_same n y f g h =
-    total_same n (λ k. if y k then f k else 0) (λ k. if y k then g k else 0)
-    (λ k l. ap (λ x. if y k then x else 0) (h k l))
+total_where_same n y f g h = total_same _ _ _ (λ k l. ap (λ x. if y k then x else 0) (h k l))
 
 -- what has an end in the set has its other end there too, or crosses
 pub total_crossing : (n : ℕ) (a c : ℕ → Bool) (f : ℕ → ℕ) →
     total_where n a f ≡ total_where n (λ k. a k && not (c k)) f + total_where n (λ k. a k && c k) f
 total_crossing n a c f =
-    total_same n (λ k. if a k then f k else 0)
-    (λ k. (if a k && not (c k) then f k else 0) + (if a k && c k then f k else 0))
-    (λ k l. split (a k) (c k) (f k))
+    total_same _ _ _ (λ k l. split (a k) (c k) (f k))
     ∙ total_add n (λ k. if a k && not (c k) then f k else 0) (λ k. if a k && c k then f k else 0)
   where
     split : (p q : Bool) (x : ℕ) → (if p then x else 0) ≡ (if p && not q then x else 0) + (if p && q then x else 0)
@@ -96,9 +83,7 @@ total_crossing n a c f =
 
 pub total_swap : (n : ℕ) (a c : ℕ → Bool) (f : ℕ → ℕ) →
     total_where n (λ k. a k && c k) f ≡ total_where n (λ k. c k && a k) f
-total_swap n a c f =
-    total_same n (λ k. if a k && c k then f k else 0) (λ k. if c k && a k then f k else 0)
-    (λ k l. swap (a k) (c k) (f k))
+total_swap n a c f = total_same _ _ _ (λ k l. swap (a k) (c k) (f k))
   where
     swap : (p q : Bool) (x : ℕ) → (if p && q then x else 0) ≡ (if q && p then x else 0)
     swap p q x = grind (arith, nat_tests)
@@ -131,9 +116,6 @@ into_more n m p q f g into one rest = by_last (p n) refl
       | inr apart ↦ and_from t (not (j == y)) h (ap not apart.0)
     ]
 
-    itself : (j : ℕ) → j == j ≡ true
-    itself j = grind (arith, nat_tests)
-
     with_last : (x : (j : ℕ) × (j < m) × (q j ≡ true) × (f n ≤ g j)) →
         ((k : ℕ) (l : k < n) (h : p k ≡ true) → (into k (one_above k n l) h).0 ≡ x.0 → k ≡ n) →
         total_where n p f + f n ≤ total_where m q g
@@ -141,20 +123,13 @@ into_more n m p q f g into one rest = by_last (p n) refl
       arith,
       x.3,
       total_crossing m q (λ j. j == x.0) g,
-      term_le_total_where m (λ j. q j && j == x.0) g x.0 x.1 (and_from (q x.0) (x.0 == x.0) x.2 (itself x.0)),
+      term_le_total_where m (λ j. q j && j == x.0) g x.0 x.1
+          (and_from (q x.0) (x.0 == x.0) x.2 (grind (arith, nat_tests))),
       rest (λ j. q j && not (j == x.0))
-          (λ k l h. (
-            (into k (one_above k n l) h).0,
-            (into k (one_above k n l) h).1,
-            passes (q (into k (one_above k n l) h).0) (into k (one_above k n l) h).0 x.0
-                (into k (one_above k n l) h).2 (λ same. below k l (apart k l h same)),
-            (into k (one_above k n l) h).3,
-          ))
+          (λ k l h. (let y = into k (one_above k n l) h in
+          (y.0, y.1, passes (q y.0) y.0 x.0 y.2 (λ same. let e = apart k l h same in omega arith), y.3)))
           (λ i k a c h w same. one i k (one_above i n a) (one_above k n c) h w same),
     )
-      where
-        below : (k : ℕ) → k < n → k ≡ n → ⊥
-        below k l e = omega arith
 
     by_last : (t : Bool) → p n ≡ t → total_where n p f + (if t then f n else 0) ≤ total_where m q g
     by_last true e =
@@ -190,5 +165,4 @@ pub total_where_all : (n : ℕ) (p : ℕ → Bool) (f : ℕ → ℕ) → ((k : �
 total_where_all n p f h = total_same n (λ k. if p k then f k else 0) f (λ k l. ap (λ t. if t then f k else 0) (h k l))
 
 pub total_where_none_pass : (n : ℕ) (p : ℕ → Bool) (f : ℕ → ℕ) → ((k : ℕ) → k < n → p k ≡ false) → total_where n p f ≡ 0
-total_where_none_pass n p f h =
-    total_zero n (λ k. if p k then f k else 0) (λ k l. ap (λ t. if t then f k else 0) (h k l))
+total_where_none_pass n p f h = total_zero _ _ (λ k l. ap (λ t. if t then f k else 0) (h k l))

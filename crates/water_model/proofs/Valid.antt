@@ -1,5 +1,5 @@
 -- What a valid basin's entries are.
-use Rattle.std.proofs.Common.{◌≡◌, ℕ, zero, suc, ◌-◌, ◌<◌, Bool, true, false, refl, ap, arith, List, [], ◌∷◌, length}
+use Rattle.std.proofs.Common.{◌≡◌, ℕ, zero, suc, ◌<◌, Bool, true, false, refl, ap, arith, List, [], ◌∷◌, length}
 use Rattle.std.proofs.Common.{replicate}
 use Rattle.std.specs.Prelude.{slice_get, Some, None, All, unwrap_or, option_map}
 use Rattle.water_model.specs.Basin.{head_of, tail_of, taking_node, taking_node_of_kind, node_of_reservoir}
@@ -9,7 +9,6 @@ use Rattle.water_model.specs.History.{is_zone_of, is_zone_of_kind}
 use Rattle.water_model.specs.Valid.{IsValidBasin, IsValidLink, IsValidReservoir, IsValidRight, HasValidSite}
 use Rattle.water_model.specs.Valid.{is_diversion, is_diversion_kind}
 use Rattle.water_model.specs.declared.types.Basin.{Basin}
-use Rattle.water_model.specs.declared.types.Link.{Link}
 use Rattle.water_model.specs.declared.types.RightKind.{RightKind}
 use Rattle.water_model.proofs.Sets.{has_all}
 
@@ -28,13 +27,10 @@ entry_holds P (x ∷ xs) (suc k) h l = entry_holds P xs k (λ i d m. h (suc i) d
 pub ends : (b : Basin) → IsValidBasin b → (e : ℕ) → e < length b.links →
     (tail_of b e < length b.nodes) × (head_of b e < length b.nodes)
 ends b valid e l =
-    let entry = entry_holds (λ l. IsValidLink b l) b.links e valid.links l in
-    let link : Link = entry.0 in
-    let tail : tail_of b e ≡ link.from = ap (λ o. unwrap_or (option_map (λ x. x.from) o) 0) entry.1 in
-    let head : head_of b e ≡ link.to = ap (λ o. unwrap_or (option_map (λ x. x.to) o) 0) entry.1 in
-    let ok : IsValidLink b link = entry.2 in
-    let t = ok.ends.from in let h = ok.ends.to in
-    (omega arith, omega arith)
+    let entry = entry_holds (λ l. IsValidLink b l) b.links e valid.links l in (
+      rw (ap (λ o. unwrap_or (option_map (λ x. x.from) o) 0) entry.1) entry.2.ends.from,
+      rw (ap (λ o. unwrap_or (option_map (λ x. x.to) o) 0) entry.1) entry.2.ends.to,
+    )
 
 -- a valid basin's reservoir is at a node
 pub at_reservoir : (b : Basin) → IsValidBasin b → (v : ℕ) → v < length b.reservoirs →
@@ -67,6 +63,4 @@ kind_is b valid r l =
     }
 
 pub entry_at : {X : Type 0} (xs : List X) (k : ℕ) → k < length xs → (x : X) × (slice_get xs k ≡ Some x)
-entry_at [] k l = absurd (omega arith)
-entry_at (x ∷ xs) zero l = (x, refl)
-entry_at (x ∷ xs) (suc k) l = entry_at xs k (omega arith)
+entry_at xs k l = let entry = entry_holds (λ x. Unit {0}) xs k (λ i d m. tt) l in (entry.0, entry.1)

@@ -1,25 +1,22 @@
 use Rattle.std.proofs.Common.{arith}
-use Rattle.water_model.proofs.Gauges.{HasCell, has_cell, cell_is_inflow, gauges_rise}
+use Rattle.water_model.proofs.Gauges.{inflow_cell, cell_is_inflow, gauges_rise}
 use Rattle.water_model.proofs.calls.inflow_of.Goals as goal
 
 pub overflow_mul-index : goal.overflow_mul-index
 overflow_mul-index c =
-    let cell : HasCell c.args.basin.now c.args.inflows.now c.args.node c.args.index =
-    has_cell c.args.basin.now c.args.inflows.now c.args.node c.args.index c.index.result.now c.requires.basin
+    let cell = inflow_cell c.requires.basin
     c.requires.series c.requires.node c.requires.index c.index.ensures c.in-Gauged.is in
     rw c.len.ensures (omega (arith, cell.small))
 
 pub overflow_add-index : goal.overflow_add-index
 overflow_add-index c =
-    let cell : HasCell c.args.basin.now c.args.inflows.now c.args.node c.args.index =
-    has_cell c.args.basin.now c.args.inflows.now c.args.node c.args.index c.index.result.now c.requires.basin
+    let cell = inflow_cell c.requires.basin
     c.requires.series c.requires.node c.requires.index c.index.ensures c.in-Gauged.is in
     rw (c.len.ensures, c.index_of-gauge.ensures, c.as_slice.ensures) (omega (arith, cell.small))
 
 pub index-requires-in-Gauged : goal.index-requires-in-Gauged
 index-requires-in-Gauged c =
-    let cell : HasCell c.args.basin.now c.args.inflows.now c.args.node c.args.index =
-    has_cell c.args.basin.now c.args.inflows.now c.args.node c.args.index c.index.result.now c.requires.basin
+    let cell = inflow_cell c.requires.basin
     c.requires.series c.requires.node c.requires.index c.index.ensures c.in-Gauged.is in
     rw (c.len.ensures, c.index_of-gauge.ensures, c.as_slice.ensures) cell.within
 

@@ -13,17 +13,16 @@ use Rattle.water_model.proofs.cut_list.CutList.add.Goals as goal
 pub get-begin-requires-clause-at : goal.get-begin-requires-clause-at
 get-begin-requires-clause-at c =
     let i = c.self.inside in
-    let b = is_right i.rights i.nodes i.region.words c.args.self.now c.args.right c.self.view_is c.requires.right in
+    let b = is_right i.rights i.nodes i.region.words c.self.view_is c.requires.right in
     omega (arith, b, ap (λ (p : Place). p.len) c.rights_place.ensures)
 
 pub words_mut-words-requires : goal.words_mut-words-requires
 words_mut-words-requires c =
     let i = c.self.inside in
-    let b = is_right i.rights i.nodes i.region.words c.args.self.now c.args.right c.self.view_is c.requires.right in
-    let some = is_held i.rights i.nodes i.region.words c.args.self.now c.args.right c.self.view_is c.requires.right
+    let b = is_right i.rights i.nodes i.region.words c.self.view_is c.requires.right in
+    let some = is_held i.rights i.nodes i.region.words c.self.view_is c.requires.right
     c.requires.held in
-    let word = word_read i.region.words c.rights_place.result i.rights c.args.right c.get-begin.result
-    c.rights_place.ensures c.get-begin.ensures.word in
+    let word = word_read i.region.words c.args.right c.rights_place.ensures c.get-begin.ensures.word in
     omega (
       arith,
       word,
@@ -38,16 +37,15 @@ rewrites c =
     let i = c.self.inside in
     record {
       keeps = c.self.invariant;
-      is_right = is_right i.rights i.nodes i.region.words c.args.self.now c.args.right c.self.view_is c.requires.right;
-      held = is_held i.rights i.nodes i.region.words c.args.self.now c.args.right c.self.view_is c.requires.right
+      is_right = is_right i.rights i.nodes i.region.words c.self.view_is c.requires.right;
+      held = is_held i.rights i.nodes i.region.words c.self.view_is c.requires.right
           c.requires.held;
       size = c.mark.ensures.count ∙ c.words_mut-words.ensures.count ∙ ap (λ (p : Place). p.len) c.set_place.ensures;
     }
 
 word : (c : goal.After-self-1) → c.get-begin.result ≡ get_or c.self.inside.region.words c.args.right 0
 word c =
-    word_read c.self.inside.region.words c.rights_place.result c.self.inside.rights c.args.right c.get-begin.result
-    c.rights_place.ensures c.get-begin.ensures.word
+    word_read c.self.inside.region.words c.args.right c.rights_place.ensures c.get-begin.ensures.word
 
 written : (c : goal.After-self-1) →
     take (length c.self.inside.region.words)
@@ -55,7 +53,7 @@ written : (c : goal.After-self-1) →
     ≡ with_words c.self.inside.region.words (get_or c.self.inside.region.words c.args.right 0) c.mark.new.words
 written c =
     let i = c.self.inside in
-    rewritten_is i.rights i.nodes i.region c.args.right c.mark.new.words c.set_place.result.from (rewrites c)
+    rewritten_is (rewrites c) c.set_place.result.from
     (ap (λ (p : Place). p.from) c.set_place.ensures ∙ word c)
 
 pub invariant_of-self : goal.invariant_of-self
@@ -63,7 +61,7 @@ invariant_of-self c =
     let i = c.self.inside in
     subst (λ (words : List ℕ). KeepsSets i.rights i.nodes (record { words = words; used = i.region.used }))
     (sym (written c))
-    (rewritten_keeps i.rights i.nodes i.region c.args.right c.mark.new.words (rewrites c))
+    (rewritten_keeps (rewrites c))
 
 -- the set as it was
 the_set : (c : goal.After-self-1) →
@@ -73,7 +71,7 @@ the_set c =
     let held = (rewrites c).held in
     let part = c.words_mut-words.ensures.words
     ∙ ap (words_at i.region.words) (c.set_place.ensures ∙ ap (set_place i.nodes) (word c)) in
-    set_seen i.rights i.nodes i.region.words c.args.self.now c.args.right c.self.view_is c.requires.right
+    set_seen i.rights i.nodes i.region.words c.self.view_is c.requires.right
     ∙ set_is i.nodes i.region.words (get_or i.region.words c.args.right 0) c.words_mut-words.result.now held (sym part)
 
 pub returns : goal.returns
@@ -81,7 +79,7 @@ returns c =
     let i = c.self.inside in
     rw (the_set c)
     (ap (cut_sets i.rights i.nodes) (written c)
-    ∙ rewritten_sets i.rights i.nodes i.region c.args.right c.mark.new.words (rewrites c)
+    ∙ rewritten_sets (rewrites c)
     ∙ ap (λ (set : List Bool). with_set (cut_sets i.rights i.nodes i.region.words) c.args.right (Some set))
     (marks_one i.nodes c.words_mut-words.result.now c.mark.new.words c.args.node true c.mark.ensures.on
     c.mark.ensures.off)

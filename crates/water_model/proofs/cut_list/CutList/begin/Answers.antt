@@ -13,16 +13,16 @@ use Rattle.water_model.proofs.cut_list.CutList.begin.Goals as goal
 pub next_place-place-requires : goal.next_place-place-requires
 next_place-place-requires c =
     let i = c.self.inside in
-    let b = is_right i.rights i.nodes i.region.words c.args.self.now c.args.right c.self.view_is c.requires.right in
+    let b = is_right i.rights i.nodes i.region.words c.self.view_is c.requires.right in
     let none =
-    is_free i.rights i.nodes i.region.words c.args.self.now c.args.right c.self.view_is c.requires.right
+    is_free i.rights i.nodes i.region.words c.self.view_is c.requires.right
     c.requires.free in
-    omega (arith, c.words_for.ensures, next_fits i.rights i.nodes i.region c.args.right c.self.invariant b none)
+    omega (arith, c.words_for.ensures, next_fits c.self.invariant b none)
 
 pub set-requires-clause-at : goal.set-requires-clause-at
 set-requires-clause-at c =
     let i = c.self.inside in
-    let b = is_right i.rights i.nodes i.region.words c.args.self.now c.args.right c.self.view_is c.requires.right in
+    let b = is_right i.rights i.nodes i.region.words c.self.view_is c.requires.right in
     omega (arith, b, ap (λ (p : Place). p.len) c.rights_place.ensures)
 
 begins : (c : goal.After-set) →
@@ -32,8 +32,8 @@ begins c =
     let seen = c.args.self.now in
     record {
       keeps = c.self.invariant;
-      is_right = is_right i.rights i.nodes i.region.words seen c.args.right c.self.view_is c.requires.right;
-      free = is_free i.rights i.nodes i.region.words seen c.args.right c.self.view_is c.requires.right c.requires.free;
+      is_right = is_right i.rights i.nodes i.region.words c.self.view_is c.requires.right;
+      free = is_free i.rights i.nodes i.region.words c.self.view_is c.requires.right c.requires.free;
       size = length-replicate {A = ℕ} c.words_for.result 0 ∙ c.words_for.ensures;
     }
 
@@ -42,25 +42,21 @@ ends : (c : goal.After-set) → c.set.new.self ≡ record {
   used = c.self.inside.region.used + c.words_for.result;
 }
 ends c =
-    began c.self.inside.region c.next_place-place.new.region c.set.new.self c.next_place-place.result
-    c.rights_place.result
-    c.args.right c.words_for.result c.self.inside.rights c.next_place-place.ensures.taken
-    c.next_place-place.ensures.place
+    began c.self.inside.region c.args.right c.next_place-place.ensures.taken c.next_place-place.ensures.place
     c.rights_place.ensures c.set.ensures
 
 pub invariant_of-self : goal.invariant_of-self
 invariant_of-self c =
     let i = c.self.inside in
     subst (KeepsSets i.rights i.nodes) (sym (ends c))
-    (begun_keeps i.rights i.nodes i.region c.args.right (replicate c.words_for.result 0)
-    (i.region.used + c.words_for.result)
-    (begins c) (ap (λ (n : ℕ). i.region.used + n) c.words_for.ensures))
+    (begun_keeps (begins c) (i.region.used + c.words_for.result)
+    (ap (λ (n : ℕ). i.region.used + n) c.words_for.ensures))
 
 pub returns : goal.returns
 returns c =
     let i = c.self.inside in
     ap (λ (r : Words). cut_sets i.rights i.nodes r.words) (ends c)
-    ∙ begun_sets i.rights i.nodes i.region c.args.right (replicate c.words_for.result 0) (begins c)
+    ∙ begun_sets (begins c)
     ∙ ap (λ (set : List Bool). with_set (cut_sets i.rights i.nodes i.region.words) c.args.right (Some set))
     (marks-zero i.nodes c.words_for.result)
     ∙ ap (λ (v : CutSets). with_set v c.args.right (Some (replicate v.nodes false))) c.self.view_is

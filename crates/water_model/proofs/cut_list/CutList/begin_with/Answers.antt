@@ -12,17 +12,17 @@ use Rattle.water_model.proofs.cut_list.CutList.begin_with.Goals as goal
 pub next_place-place-requires : goal.next_place-place-requires
 next_place-place-requires c =
     let i = c.self.inside in
-    let b = is_right i.rights i.nodes i.region.words c.args.self.now c.args.right c.self.view_is c.requires.right in
+    let b = is_right i.rights i.nodes i.region.words c.self.view_is c.requires.right in
     let none =
-    is_free i.rights i.nodes i.region.words c.args.self.now c.args.right c.self.view_is c.requires.right
+    is_free i.rights i.nodes i.region.words c.self.view_is c.requires.right
     c.requires.free in
     let nodes = ap (λ (v : CutSets). v.nodes) c.self.view_is in
-    omega (arith, c.requires.words, nodes, next_fits i.rights i.nodes i.region c.args.right c.self.invariant b none)
+    omega (arith, c.requires.words, nodes, next_fits c.self.invariant b none)
 
 pub set-requires-clause-at : goal.set-requires-clause-at
 set-requires-clause-at c =
     let i = c.self.inside in
-    let b = is_right i.rights i.nodes i.region.words c.args.self.now c.args.right c.self.view_is c.requires.right in
+    let b = is_right i.rights i.nodes i.region.words c.self.view_is c.requires.right in
     omega (arith, b, ap (λ (p : Place). p.len) c.rights_place.ensures)
 
 begins : (c : goal.After-set) →
@@ -32,8 +32,8 @@ begins c =
     let seen = c.args.self.now in
     record {
       keeps = c.self.invariant;
-      is_right = is_right i.rights i.nodes i.region.words seen c.args.right c.self.view_is c.requires.right;
-      free = is_free i.rights i.nodes i.region.words seen c.args.right c.self.view_is c.requires.right c.requires.free;
+      is_right = is_right i.rights i.nodes i.region.words c.self.view_is c.requires.right;
+      free = is_free i.rights i.nodes i.region.words c.self.view_is c.requires.right c.requires.free;
       size = c.requires.words ∙ ap (λ (v : CutSets). words_for v.nodes) (sym c.self.view_is);
     }
 
@@ -42,9 +42,7 @@ ends : (c : goal.After-set) → c.set.new.self ≡ record {
   used = c.self.inside.region.used + length c.args.words.now;
 }
 ends c =
-    began_with c.self.inside.region c.next_place-place.new.region c.put.new.self c.set.new.self c.args.words.now
-    c.next_place-place.result c.rights_place.result c.args.right c.self.inside.rights
-    (used_fits c.self.inside.rights c.self.inside.nodes c.self.inside.region c.self.invariant)
+    began_with c.self.inside.region c.args.right c.args.words.now (used_fits c.self.invariant)
     c.next_place-place.ensures.taken c.next_place-place.ensures.place c.put.ensures c.rights_place.ensures c.set.ensures
 
 pub invariant_of-self : goal.invariant_of-self
@@ -52,12 +50,11 @@ invariant_of-self c =
     let i = c.self.inside in
     let h = begins c in
     subst (KeepsSets i.rights i.nodes) (sym (ends c))
-    (begun_keeps i.rights i.nodes i.region c.args.right c.args.words.now (i.region.used + length c.args.words.now)
-    h (ap (λ (n : ℕ). i.region.used + n) h.size))
+    (begun_keeps h (i.region.used + length c.args.words.now) (ap (λ (n : ℕ). i.region.used + n) h.size))
 
 pub returns : goal.returns
 returns c =
     let i = c.self.inside in
     ap (λ (r : Words). cut_sets i.rights i.nodes r.words) (ends c)
-    ∙ begun_sets i.rights i.nodes i.region c.args.right c.args.words.now (begins c)
+    ∙ begun_sets (begins c)
     ∙ ap (λ (v : CutSets). with_set v c.args.right (Some (marks v.nodes c.args.words.now))) c.self.view_is

@@ -13,14 +13,12 @@ invariant_of-result c =
     let size : length words ≡ c.args.rights * (1 + words_for c.args.nodes) =
     length-replicate {A = ℕ} (c.args.rights * (1 + c.words_for.result)) 0
     ∙ ap (λ (n : ℕ). c.args.rights * (1 + n)) c.words_for.ensures in
-    let ends = cleared words c.in_ok-region.region c.next_place.new.region c.args.rights c.in_ok-region.ensures
-    c.next_place.ensures.taken in
+    let ends = cleared words c.args.rights c.in_ok-region.ensures c.next_place.ensures.taken in
     subst (KeepsSets c.args.rights c.args.nodes) (sym ends)
     (cleared_keeps c.args.rights c.args.nodes words (0 + c.args.rights) size (zero-add c.args.rights))
 
 pub returns : goal.returns
 returns c =
     let words : List ℕ = replicate (c.args.rights * (1 + c.words_for.result)) 0 in
-    let ends = cleared words c.in_ok-region.region c.next_place.new.region c.args.rights c.in_ok-region.ensures
-    c.next_place.ensures.taken in
+    let ends = cleared words c.args.rights c.in_ok-region.ensures c.next_place.ensures.taken in
     ap (λ (r : Words). cut_sets c.args.rights c.args.nodes r.words) ends ∙ cleared_sets c.args.rights c.args.nodes words

@@ -13,15 +13,14 @@ use Rattle.water_model.proofs.cut_list.CutList.words.Goals.{After-words}
 pub get-begin-requires-clause-at : goal.get-begin-requires-clause-at
 get-begin-requires-clause-at c =
     let i = c.self.inside in
-    let b = is_right i.rights i.nodes i.region.words c.args.self.now c.args.right c.self.view_is c.requires in
+    let b = is_right i.rights i.nodes i.region.words c.self.view_is c.requires in
     omega (arith, b, ap (λ (p : Place). p.len) c.rights_place.ensures)
 
 pub words-requires : goal.words-requires
 words-requires c =
     let i = c.self.inside in
-    let b = is_right i.rights i.nodes i.region.words c.args.self.now c.args.right c.self.view_is c.requires in
-    let word = word_read i.region.words c.rights_place.result i.rights c.args.right c.get-begin.result
-    c.rights_place.ensures c.get-begin.ensures.word in
+    let b = is_right i.rights i.nodes i.region.words c.self.view_is c.requires in
+    let word = word_read i.region.words c.args.right c.rights_place.ensures c.get-begin.ensures.word in
     omega (
       arith,
       word,
@@ -34,9 +33,8 @@ words-requires c =
 no_set : (c : goal.Then-begin-eq0) → set_of c.args.self.now c.args.right ≡ None
 no_set c =
     let i = c.self.inside in
-    let word = word_read i.region.words c.rights_place.result i.rights c.args.right c.get-begin.result
-    c.rights_place.ensures c.get-begin.ensures.word in
-    set_seen i.rights i.nodes i.region.words c.args.self.now c.args.right c.self.view_is c.requires
+    let word = word_read i.region.words c.args.right c.rights_place.ensures c.get-begin.ensures.word in
+    set_seen i.rights i.nodes i.region.words c.self.view_is c.requires
     ∙ ap (set_at i.nodes i.region.words) (sym word ∙ c.if-begin-eq0.true)
 
 -- and another has the set that begins there
@@ -44,10 +42,9 @@ the_set : (c : After-words) →
     set_of c.args.self.now c.args.right ≡ Some (marks c.self.inside.nodes c.words.result.now)
 the_set c =
     let i = c.self.inside in
-    let word = word_read i.region.words c.rights_place.result i.rights c.args.right c.get-begin.result
-    c.rights_place.ensures c.get-begin.ensures.word in
+    let word = word_read i.region.words c.args.right c.rights_place.ensures c.get-begin.ensures.word in
     let part = c.words.ensures.words ∙ ap (words_at i.region.words) c.set_place.ensures in
-    set_seen i.rights i.nodes i.region.words c.args.self.now c.args.right c.self.view_is c.requires
+    set_seen i.rights i.nodes i.region.words c.self.view_is c.requires
     ∙ ap (set_at i.nodes i.region.words) (sym word)
     ∙ set_is i.nodes i.region.words c.get-begin.result c.words.result.now (omega (arith, c.if-begin-eq0.false))
     (sym part)
