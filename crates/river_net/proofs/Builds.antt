@@ -30,12 +30,10 @@ river_or_none links node None first =
     (eq-eqb (tail_in links out.link) node out.tail) out.river)))
 river_or_none links node (Some e) first =
     let parts = and_parts (tail_in links e == node) (is_river_in links e) first.2 in
-    not_from_true (has_river links node)
-    (found_river links node record {
+    not_from_true (has_river links node) (found_river links node record {
       link = e;
       in_range = first.1;
-      tail =
-          eqb-true (tail_in links e) node parts.0;
+      tail = eqb-true (tail_in links e) node parts.0;
       river = parts.1;
     })
 
@@ -51,8 +49,7 @@ without_river nodes links rivers firsts =
 
 -- the first river of a node of a sound network
 river_of : (nodes : List Node) (links : List Link) (v : ℕ) (o : Option ℕ) → IsSoundNetwork nodes links →
-    v < length nodes →
-    IsFirstFrom (leaves_as_river links v) 0 (length links) o → IsRiverOf nodes links v o
+    v < length nodes → IsFirstFrom (leaves_as_river links v) 0 (length links) o → IsRiverOf nodes links v o
 river_of nodes links v None sound l first = elim (cases_Bool (is_outlet_in nodes v)) [
   | inl outlet ↦ outlet
   | inr inner ↦ (let out = sound.rivers v l inner in absurd (false≢true (sym (first out.link (omega arith) out.in_range)
@@ -88,10 +85,8 @@ heads_count (x ∷ links) = ap suc (heads_count links)
 
 -- the network of sound nodes and links
 pub net_is : (nodes : List Node) (links : List Link) (order heads : List ℕ) (rivers : List (Option ℕ)) →
-    All (λ l. HasNodes nodes l) links →
-    IsSoundNetwork nodes links → IsRunningOrder nodes links order →
-    AreFirsts (leaves_as_river links) (length nodes) 0 (length links) rivers →
-    heads ≡ map (λ (l : Link). l.to) links →
+    All (λ l. HasNodes nodes l) links → IsSoundNetwork nodes links → IsRunningOrder nodes links order →
+    AreFirsts (leaves_as_river links) (length nodes) 0 (length links) rivers → heads ≡ map (λ (l : Link). l.to) links →
     IsNet nodes links (record { order = order; rivers = rivers; heads = heads })
 net_is nodes links order heads rivers ends sound run firsts heads_is = record {
   ends = ends;
@@ -116,5 +111,5 @@ pub order_runs : (nodes : List Node) (links : List Link) (g : GraphView) (order 
     g ≡ record { nodes = length nodes; links = links } → IsReleased g order waits (length order) →
     IsRunningOrder nodes links order
 order_runs nodes links g order waits ends sound is now =
-    running_order nodes links order waits record { ends = ends_in nodes links ends }
+    running_order nodes links record { ends = ends_in nodes links ends }
     (subst (λ (h : GraphView). IsReleased h order waits (length order)) is now) sound.acyclic

@@ -31,7 +31,7 @@ chain_of links nodes within (suc k) v l h =
     let head : head_in links at.0 ≡ v =
     ap (λ o. unwrap_or (option_map (λ (l : Link). l.to) o) 0) at.2 ∙ eqb-true at.1.to v parts.0 in
     let tail : tail_in links at.0 ≡ at.1.from = ap (λ o. unwrap_or (option_map (λ (l : Link). l.from) o) 0) at.2 in
-    subst (Chain links nodes (suc k)) head (chain_more links nodes k at.0 below (within.ends at.0 below).1
+    subst (Chain links nodes (suc k)) head (chain_more at.0 below (within.ends at.0 below).1
     (chain_of links nodes within k (tail_in links at.0) (within.ends at.0 below).0
     (ap (has_chain links k) tail ∙ parts.1)))
 
@@ -88,7 +88,7 @@ forward_numbers nodes links within sound = record {
   where
     short : (v : ℕ) → v < length nodes → has_chain links (length nodes) v ≡ true → ⊥
     short v l h =
-        let turn = chain_turns links (length nodes) v (chain_of links (length nodes) within (length nodes) v l h) in
+        let turn = chain_turns (chain_of links (length nodes) within (length nodes) v l h) in
         false≢true (sym (sound.acyclic turn.0 turn.1) ∙ turn.2)
 
     up : (n e : ℕ) → e < length links → n ≡ length nodes →

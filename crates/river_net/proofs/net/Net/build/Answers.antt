@@ -14,8 +14,7 @@ pub returns-in-Some-clause-refused : goal.returns-in-Some-clause-refused
 returns-in-Some-clause-refused c =
     let nodes = c.args.nodes.now in let links = c.args.links.now in
     fault_is nodes links (Some c.in-Some.link) (first_from_outlet nodes links) (first_without_river nodes links)
-    (first_on_cycle nodes links)
-    (sym c.in-Some.ensures.first) refl refl refl
+    (first_on_cycle nodes links) (sym c.in-Some.ensures.first) refl refl refl
 
 pub returns-in-Some-link_from_outlet-clause-refused : goal.returns-in-Some-link_from_outlet-clause-refused
 returns-in-Some-link_from_outlet-clause-refused c =
@@ -31,8 +30,7 @@ rivers_lead : (nodes : List Node) (links : List Link) (rivers items : List (Opti
     first_without_river nodes links ≡ o
 rivers_lead nodes links rivers items o firsts same search =
     without_river nodes links rivers firsts
-    ∙ sym (search ∙ ap (λ (xs : List (Option ℕ)). find (keeps_water nodes xs) (range_with_len 0 (length nodes)))
-    same)
+    ∙ sym (search ∙ ap (λ (xs : List (Option ℕ)). find (keeps_water nodes xs) (range_with_len 0 (length nodes))) same)
 
 pub returns-in-Some-node_without_river-clause-refused : goal.returns-in-Some-node_without_river-clause-refused
 returns-in-Some-node_without_river-clause-refused c =
@@ -40,13 +38,10 @@ returns-in-Some-node_without_river-clause-refused c =
     fault_is nodes links None None (Some c.in-Some-node_without_river.node) (first_on_cycle nodes links)
     (sym c.in_default.ensures.first) (sym c.in_default-link_from_outlet.ensures.first)
     (rivers_lead nodes links c.in_ok-rivers.rivers.items c.deref.result.now (Some c.in-Some-node_without_river.node)
-    c.in_ok-rivers.ensures c.deref.ensures.value c.in-Some-node_without_river.ensures.first)
-    refl
+    c.in_ok-rivers.ensures c.deref.ensures.value c.in-Some-node_without_river.ensures.first) refl
 
 pub node_on_cycle-requires-clause-waiting : goal.node_on_cycle-requires-clause-waiting
-node_on_cycle-requires-clause-waiting c = λ v l free.
-    off_cycle c.in_ok-graph.graph c.in_ok-order.field-0.order.items c.in_ok-order.field-0.waits.items
-    (length c.in_ok-order.field-0.order.items) c.in_ok-order.ensures v l
+node_on_cycle-requires-clause-waiting c = λ v l free. off_cycle c.in_ok-order.ensures v l
     (ap (λ (xs : List ℕ). slice_index xs v) (sym c.deref-2.ensures.value) ∙ free)
 
 pub returns-in-Some-2-clause-refused : goal.returns-in-Some-2-clause-refused
@@ -79,5 +74,4 @@ returns-clause-ok c =
     net_is nodes links c.in_ok-order.field-0.order.items c.in_ok-heads.heads.items c.in_ok-rivers.rivers.items
     c.requires.ends sound
     (order_runs nodes links c.in_ok-graph.graph c.in_ok-order.field-0.order.items c.in_ok-order.field-0.waits.items
-    c.requires.ends sound c.in_ok-graph.ensures c.in_ok-order.ensures)
-    c.in_ok-rivers.ensures c.in_ok-heads.ensures
+    c.requires.ends sound c.in_ok-graph.ensures c.in_ok-order.ensures) c.in_ok-rivers.ensures c.in_ok-heads.ensures
