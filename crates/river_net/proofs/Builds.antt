@@ -3,6 +3,7 @@ use Rattle.std.proofs.Common.{◌≡◌, ℕ, zero, suc, ◌<◌, refl, sym, ◌
 use Rattle.std.proofs.Common.{map, inl, inr}
 use Rattle.std.proofs.lemmas.Bool.{cases_Bool, and_parts, and_from, false_from_ne_true, false≢true, eqb-true, eq-eqb}
 use Rattle.std.proofs.lemmas.Bool.{not_from_true, not_from_false}
+use Rattle.std.proofs.lemmas.List.{length-map}
 use Rattle.std.specs.Prelude.{◌==◌, ◌&&◌, not, Option, Some, None, is_none, All, slice_index}
 use Rattle.std.specs.List.{find, range_with_len}
 use Rattle.water_model.specs.Network.{tail_in, head_in, is_river_in, is_outlet_in, HasNodes, IsSoundNetwork}
@@ -78,38 +79,33 @@ heads_are [] e l = absurd (omega arith)
 heads_are (x ∷ links) zero l = refl
 heads_are (x ∷ links) (suc e) l = heads_are links e (omega arith)
 
--- there are as many heads as links
-heads_count : (links : List Link) → length (map (λ (l : Link). l.to) links) ≡ length links
-heads_count [] = refl
-heads_count (x ∷ links) = ap suc (heads_count links)
-
 -- the network of sound nodes and links
-pub net_is : (nodes : List Node) (links : List Link) (order heads : List ℕ) (rivers : List (Option ℕ)) →
+pub net_is : {nodes : List Node} {links : List Link} {order heads : List ℕ} {rivers : List (Option ℕ)} →
     All (λ l. HasNodes nodes l) links → IsSoundNetwork nodes links → IsRunningOrder nodes links order →
     AreFirsts (leaves_as_river links) (length nodes) 0 (length links) rivers → heads ≡ map (λ (l : Link). l.to) links →
     IsNet nodes links (record { order = order; rivers = rivers; heads = heads })
-net_is nodes links order heads rivers ends sound run firsts heads_is = record {
+net_is {nodes} {links} {order} {heads} {rivers} ends sound run firsts heads_is = record {
   ends = ends;
   run = run;
   river_count = firsts.count;
   river = λ v l. river_of nodes links v (get_or rivers v None) sound l (firsts.each v l);
-  head_count = ap length heads_is ∙ heads_count links;
+  head_count = ap length heads_is ∙ length-map links (λ l. l.to);
   head = λ e l. ap (λ (xs : List ℕ). slice_index xs e) heads_is ∙ heads_are links e l;
 }
 
 -- the node on a cycle that the search over the graph found
-pub on_cycle : (nodes : List Node) (links : List Link) (g : GraphView) (o found : Option ℕ) →
+pub on_cycle : (nodes : List Node) (links : List Link) {g : GraphView} (o found : Option ℕ) →
     g ≡ record { nodes = length nodes; links = links } →
     found ≡ find (reaches_itself g) (range_with_len 0 g.nodes) → found ≡ o → first_on_cycle nodes links ≡ o
 unfolding first_on_cycle
-on_cycle nodes links g o found is search same =
+on_cycle nodes links o found is search same =
     sym (ap (λ (h : GraphView). find (reaches_itself h) (range_with_len 0 h.nodes)) is) ∙ (sym search ∙ same)
 
 -- the order that the graph was sorted into
-pub order_runs : (nodes : List Node) (links : List Link) (g : GraphView) (order waits : List ℕ) →
+pub order_runs : {nodes : List Node} {links : List Link} {g : GraphView} {order waits : List ℕ} →
     All (λ l. HasNodes nodes l) links → IsSoundNetwork nodes links →
     g ≡ record { nodes = length nodes; links = links } → IsReleased g order waits (length order) →
     IsRunningOrder nodes links order
-order_runs nodes links g order waits ends sound is now =
+order_runs {nodes} {links} {g} {order} {waits} ends sound is now =
     running_order nodes links record { ends = ends_in nodes links ends }
     (subst (λ (h : GraphView). IsReleased h order waits (length order)) is now) sound.acyclic

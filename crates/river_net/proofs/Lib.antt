@@ -11,6 +11,6 @@ pub mod Searches
 pub mod Finds
 pub mod NoFault
 pub mod Builds
-pub mod Runs
 pub mod Ranks
 pub mod RiverPlan
+pub mod Runs

@@ -51,8 +51,7 @@ returns-in-Some-2-clause-refused c =
     (sym c.in_default.ensures.first) (sym c.in_default-link_from_outlet.ensures.first)
     (rivers_lead nodes links c.in_ok-rivers.rivers.items c.deref.result.now None
     c.in_ok-rivers.ensures c.deref.ensures.value c.in_default-node_without_river.ensures.first)
-    (on_cycle nodes links c.in_ok-graph.graph (Some c.in-Some-2.node) c.in_ok-node.field-0
-    c.in_ok-graph.ensures c.in_ok-node.ensures c.in-Some-2.is)
+    (on_cycle nodes links (Some c.in-Some-2.node) c.in_ok-node.field-0 c.in_ok-graph.ensures c.in_ok-node.ensures c.in-Some-2.is)
 
 pub returns-clause-faultless : goal.returns-clause-faultless
 returns-clause-faultless c =
@@ -61,8 +60,7 @@ returns-clause-faultless c =
     (sym c.in_default.ensures.first) (sym c.in_default-link_from_outlet.ensures.first)
     (rivers_lead nodes links c.in_ok-rivers.rivers.items c.deref.result.now None
     c.in_ok-rivers.ensures c.deref.ensures.value c.in_default-node_without_river.ensures.first)
-    (on_cycle nodes links c.in_ok-graph.graph None c.in_ok-node.field-0
-    c.in_ok-graph.ensures c.in_ok-node.ensures c.in_default-2.is)
+    (on_cycle nodes links None c.in_ok-node.field-0 c.in_ok-graph.ensures c.in_ok-node.ensures c.in_default-2.is)
 
 pub returns-clause-sound : goal.returns-clause-sound
 returns-clause-sound c = faultless_sound c.args.nodes.now c.args.links.now (returns-clause-faultless c)
@@ -71,7 +69,5 @@ pub returns-clause-ok : goal.returns-clause-ok
 returns-clause-ok c =
     let nodes = c.args.nodes.now in let links = c.args.links.now in
     let sound = returns-clause-sound c in
-    net_is nodes links c.in_ok-order.field-0.order.items c.in_ok-heads.heads.items c.in_ok-rivers.rivers.items
-    c.requires.ends sound
-    (order_runs nodes links c.in_ok-graph.graph c.in_ok-order.field-0.order.items c.in_ok-order.field-0.waits.items
+    net_is c.requires.ends sound (order_runs
     c.requires.ends sound c.in_ok-graph.ensures c.in_ok-order.ensures) c.in_ok-rivers.ensures c.in_ok-heads.ensures
