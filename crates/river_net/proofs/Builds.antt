@@ -94,11 +94,11 @@ net_is {nodes} {links} {order} {heads} {rivers} ends sound run firsts heads_is =
 }
 
 -- the node on a cycle that the search over the graph found
-pub on_cycle : (nodes : List Node) (links : List Link) {g : GraphView} (o found : Option ℕ) →
+pub on_cycle : (nodes : List Node) (links : List Link) {g : GraphView} {o found : Option ℕ} →
     g ≡ record { nodes = length nodes; links = links } →
     found ≡ find (reaches_itself g) (range_with_len 0 g.nodes) → found ≡ o → first_on_cycle nodes links ≡ o
 unfolding first_on_cycle
-on_cycle nodes links o found is search same =
+on_cycle nodes links is search same =
     sym (ap (λ (h : GraphView). find (reaches_itself h) (range_with_len 0 h.nodes)) is) ∙ (sym search ∙ same)
 
 -- the order that the graph was sorted into

@@ -17,7 +17,7 @@ use Rattle.river_net.specs.NetFaults.{is_self_link, leaves_outlet, lacks_river, 
 use Rattle.river_net.specs.NetFaults.{first_without_river, first_on_cycle, net_fault}
 use Rattle.river_net.specs.declared.refused.NetRefused.{NetRefused}
 use Rattle.river_net.specs.declared.refused.NetRefused.TheVariants.{SelfLink, LinkFromOutlet, NoRiver, DirectedCycle}
-use Rattle.river_net.proofs.Entries.{ends_in}
+use Rattle.river_net.proofs.Entries.{ends_in, tail_is, head_is}
 use Rattle.water_model.proofs.Finds.{find_none, none_found}
 use Rattle.river_net.proofs.Walks.{any_index, index_any, walk_one, walk_within}
 
@@ -44,14 +44,6 @@ all_fail {X} p xs fails = elim (cases_Bool (nat_lt (position_or_len p xs) (lengt
       ∙ (ap p (sym (get_or_from_slice_get xs (position_or_len p xs) entry.0 entry.0 entry.1))
       ∙ passes_at_first p xs entry.0 (ltb-true (position_or_len p xs) (length xs) some)))))
 ]
-
--- what a link says where its entry is given
-tail_is : (links : List Link) (k : ℕ) (x : Link) → slice_get links k ≡ Some x → tail_in links k ≡ x.from
-tail_is links k x at = ap (λ o. unwrap_or (option_map (λ (l : Link). l.from) o) 0) at
-
--- the head of a link
-head_is : (links : List Link) (k : ℕ) (x : Link) → slice_get links k ≡ Some x → head_in links k ≡ x.to
-head_is links k x at = ap (λ o. unwrap_or (option_map (λ (l : Link). l.to) o) 0) at
 
 -- whether a link is a river
 river_is : (links : List Link) (k : ℕ) (x : Link) → slice_get links k ≡ Some x →
@@ -119,8 +111,7 @@ faultless_sound nodes links h = record {
         ∙ and_from (not (is_outlet_in nodes v)) (not (has_river links v)) (not_from_false (is_outlet_in nodes v) inner)
         (not_from_false (has_river links v) none)))
   ]);
-  acyclic =
-      λ v l. none_found (is_on_cycle nodes links) 0 (length nodes) parts.3 v (omega arith) (omega arith);
+  acyclic = λ v l. none_found (is_on_cycle nodes links) 0 (length nodes) parts.3 v (omega arith) (omega arith);
 }
   where
     parts : (first_self_link links ≡ None) × (first_from_outlet nodes links ≡ None) ×
