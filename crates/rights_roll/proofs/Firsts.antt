@@ -1,9 +1,8 @@
 -- The first index at which a test holds.
-use Rattle.std.proofs.Common.{◌≡◌, ℕ, suc, ◌+◌, ◌<◌, Bool, true, false, cond, List, [], ◌∷◌, length, get_or}
-use Rattle.std.proofs.Common.{Option, Some, None, refl, sym, ap, ◌∙◌, arith, add-zero}
+use Rattle.std.proofs.Common.{◌≡◌, ℕ, suc, ◌+◌, ◌<◌, Bool, cond, List, [], ◌∷◌, length, get_or}
+use Rattle.std.proofs.Common.{Option, Some, refl, sym, ap, ◌∙◌, arith, add-zero}
 use Rattle.std.specs.List.{find, position, position_from, range_with_len}
 use Rattle.std.proofs.lemmas.Iterator.Adapters.{position_from-zero}
-use Rattle.water_model.proofs.Finds.{find_first, find_none, none_found}
 
 find-from : (p q : ℕ → Bool) (m : ℕ) (xs : List ℕ) → ((k : ℕ) → k < length xs → p (m + k) ≡ q (get_or xs k 0)) →
     find p (range_with_len m (length xs)) ≡ position_from q m xs
@@ -17,24 +16,10 @@ find-from p q m (x ∷ xs) same =
 
 -- a test of indices, as a test of the elements there
 pub find-indices : (p q : ℕ → Bool) (xs : List ℕ) (n : ℕ) → n ≡ length xs →
-    ((k : ℕ) → k < length xs → p k ≡ q (get_or xs k 0)) →
-    find p (range_with_len 0 n) ≡ position q xs
+    ((k : ℕ) → k < length xs → p k ≡ q (get_or xs k 0)) → find p (range_with_len 0 n) ≡ position q xs
 find-indices p q xs n e same =
     ap (λ c. find p (range_with_len 0 c)) e
     ∙ (find-from p q 0 xs (λ k below. zero_first k ∙ same k below) ∙ sym (position_from-zero q xs))
   where
     zero_first : (k : ℕ) → p (0 + k) ≡ p k
     zero_first k = let e : 0 + k ≡ k = omega arith in ap p e
-
--- the first index that passes
-pub find-place : (p : ℕ → Bool) (n at : ℕ) → at < n → ((k : ℕ) → k < at → p k ≡ false) → p at ≡ true →
-    find p (range_with_len 0 n) ≡ Some at
-find-place p n at below before here = find_first p 0 n at (omega arith) (omega arith) here (λ k f b. before k b)
-
--- no index passes
-pub find-no_index : (p : ℕ → Bool) (n : ℕ) → ((k : ℕ) → k < n → p k ≡ false) → find p (range_with_len 0 n) ≡ None
-find-no_index p n all = find_none p 0 n (λ k f b. all k (omega arith))
-
--- where none is found, no index passes
-pub place-fails : (p : ℕ → Bool) (n k : ℕ) → find p (range_with_len 0 n) ≡ None → k < n → p k ≡ false
-place-fails p n k none below = none_found p 0 n none k (omega arith) (omega arith)

@@ -45,19 +45,18 @@ part_for_same row right e = grind (arith, nat_tests)
 part_for_other : (row : ReturnRow) (right : ℕ) → right ≢ row.right → part_for row right ≡ 0
 part_for_other row right e = grind (arith, nat_tests)
 
-pub parts-start : (rights : ℕ) (sums : List ℕ) → sums ≡ replicate rights 0 → AreParts [] rights sums
-parts-start rights sums e = record {
+pub parts-start : {rights : ℕ} {sums : List ℕ} → sums ≡ replicate rights 0 → AreParts [] rights sums
+parts-start {rights} e = record {
   count = ap length e ∙ length-replicate rights 0;
   each = λ right below.
       ap (λ xs. get_or xs right 0) e ∙ (get_or-replicate rights right 0 0 below ∙ omega (arith, parts_in-none right));
 }
 
-pub parts-more : (rows : List ReturnRow) (rights : ℕ) (sums : List ℕ) (i : ℕ) (d : ReturnRow) (sum : ℕ) →
-    i < length rows →
-    (get_or rows i d).right < rights →
+pub parts-more : (rows : List ReturnRow) {rights : ℕ} {sums : List ℕ} (i : ℕ) (d : ReturnRow) {sum : ℕ} →
+    i < length rows → (get_or rows i d).right < rights →
     sum ≡ min (get_or sums (get_or rows i d).right 0 + (get_or rows i d).part) (2 ^ 32 - 1) →
     AreParts (take i rows) rights sums → AreParts (take (i + 1) rows) rights (set sums (get_or rows i d).right sum)
-parts-more rows rights sums i d sum below at is before = record {
+parts-more rows {rights} {sums} i d {sum} below at is before = record {
   count = length-set sums (get_or rows i d).right sum ∙ before.count;
   each = λ right fits. elim (cases_eq right (get_or rows i d).right) [
     | inl same ↦ here right fits same
@@ -72,8 +71,7 @@ parts-more rows rights sums i d sum below at is before = record {
     here right fits same =
         let in_sums : (get_or rows i d).right < length sums = omega (arith, before.count) in
         ap (λ k. get_or (set sums (get_or rows i d).right sum) k 0) same
-        ∙ (get_or-set_same sums (get_or rows i d).right sum 0 in_sums
-        ∙ omega (
+        ∙ (get_or-set_same sums (get_or rows i d).right sum 0 in_sums ∙ omega (
           arith,
           is,
           before.each right fits,
@@ -93,10 +91,10 @@ parts-more rows rights sums i d sum below at is before = record {
         )
 
 -- the first sum above 10,000 is that of the first right at fault
-pub parts_fault_is : (rights : List Right) (returns : List ReturnRow) (sums : List ℕ) (found : Option ℕ) →
+pub parts_fault_is : (rights : List Right) (returns : List ReturnRow) {sums : List ℕ} {found : Option ℕ} →
     AreParts returns (length rights) sums →
     found ≡ position (nat_lt 10000) sums → parts_fault rights returns ≡ option_map ReturnParts found
-parts_fault_is rights returns sums found parts is =
+parts_fault_is rights returns {sums} parts is =
     ap (λ (o : Option ℕ). option_map ReturnParts o)
     (find-indices (has_many_parts returns) (nat_lt 10000) sums (length rights) (sym parts.count) same ∙ sym is)
   where

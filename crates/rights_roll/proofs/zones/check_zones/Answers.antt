@@ -9,8 +9,7 @@ use Rattle.rights_roll.proofs.zones.check_zones.Goals.{in_default}
 
 pub returns-then-not-is_new-clause-refused : goal.returns-then-not-is_new-clause-refused
 returns-then-not-is_new-clause-refused c =
-    zone_fault-first c.args.rights.now c.loop-at.at c.loop-at.seen c.loop-at-test.true c.loop-at.invariant
-    (elim c.then-not-is_new.branch [
+    zone_fault-first c.loop-at-test.true c.loop-at.invariant (elim c.then-not-is_new.branch [
       | then-not-is_new-via-then-not-is_new w ↦
           fault-repeats c.args.rights.now c.loop-at.at c.index-rights-at.result c.in-Zone.reservoir c.in-Zone.level
           c.in_ok-zones.zones c.loop-at.seen c.in_ok-is_new.is_new
@@ -20,8 +19,7 @@ returns-then-not-is_new-clause-refused c =
           fault-lacks c.args.rights.now c.loop-at.at c.index-rights-at.result c.in-Zone.reservoir c.in-Zone.level
           c.in_ok-zones.zones c.loop-at.seen (numbers_of w.of.result)
           w.lacks_lower_zone.result c.loop-at-test.true c.index-rights-at.is c.in-Zone.is
-          c.in_ok-zones.ensures c.loop-at.invariant w.of.ensures
-          w.lacks_lower_zone.ensures w.if-lacks_lower_zone.true
+          c.in_ok-zones.ensures c.loop-at.invariant w.of.ensures w.lacks_lower_zone.ensures w.if-lacks_lower_zone.true
     ])
 
 pub loop-at-preserved : goal.loop-at-preserved
@@ -43,5 +41,4 @@ loop-at-preserved c =
     ]
 
 pub returns-clause-none : goal.returns-clause-none
-returns-clause-none c =
-    zone_fault-none c.args.rights.now c.loop-at.at c.loop-at.seen c.loop-at-test.false c.loop-at.invariant
+returns-clause-none c = zone_fault-none c.loop-at-test.false c.loop-at.invariant
