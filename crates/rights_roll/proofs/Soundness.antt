@@ -80,8 +80,8 @@ sound-from_faultless rights returns none =
           (sym (position_from-zero has_bad_date rights) ∙ none-mapped BadDate (position has_bad_date rights) four.0);
       strict = strict-from_none rights four.1;
       zones = λ r h. none_found (has_zone_fault rights) 0 (length rights)
-          (none-mapped ZoneOrder (find (has_zone_fault rights) (range_with_len 0 (length rights))) four.2) r (omega arith)
-          (omega arith);
+          (none-mapped ZoneOrder (find (has_zone_fault rights) (range_with_len 0 (length rights))) four.2) r
+          (omega arith) (omega arith);
       parts = λ r h. bounded_parts returns r (none_found (has_many_parts returns) 0 (length rights)
           (none-mapped ReturnParts (find (has_many_parts returns) (range_with_len 0 (length rights))) four.3) r
           (omega arith) (omega arith));

@@ -57,7 +57,8 @@ pub zone_fault-first : {rights : List Right} {i : ℕ} {seen : ZoneSet} → i < 
     has_zone_fault rights i ≡ true → zone_fault rights ≡ Some (ZoneOrder i)
 zone_fault-first {rights} {i} below so_far here =
     ap (λ (o : Option ℕ). option_map ZoneOrder o)
-    (find_first (has_zone_fault rights) 0 (length rights) i (omega arith) (omega arith) here (λ k _ b. so_far.clear k b))
+    (find_first (has_zone_fault rights) 0 (length rights) i (omega arith) (omega arith) here
+    (λ k _ b. so_far.clear k b))
 
 pub zone_fault-none : {rights : List Right} {i : ℕ} {seen : ZoneSet} → length rights ≤ i → AreClear rights seen i →
     zone_fault rights ≡ None

@@ -45,6 +45,6 @@ loop-flow-preserved c = record {
   where
     node : c.flow-item.result.row.node < length c.loop-flow.into
     node =
-        let n = row_at (λ row. row.node < length c.args.into.now) c.args.flows.now c.loop-flow.flow-index c.requires.nodes
-        c.loop-flow-test.true c.flow-item.is in
+        let n = row_at (λ row. row.node < length c.args.into.now) c.args.flows.now c.loop-flow.flow-index
+        c.requires.nodes c.loop-flow-test.true c.flow-item.is in
         omega arith
