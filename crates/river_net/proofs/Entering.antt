@@ -56,8 +56,8 @@ entering_next {g} {k} {counts} {x} {old} below inside read at now = record {
     zero {v} other = ap (λ t. if t then 1 else 0) (ne_eqb (head_in g.links k) v (λ h. other (sym h ∙ head)))
 
 -- a count is small
-pub entering_small : {g : GraphView} {k : ℕ} {counts : List ℕ} (v : ℕ) {old : ℕ} → v < g.nodes → old ≡ get_or counts v old →
-    AreEntering g k counts → old ≤ k
+pub entering_small : {g : GraphView} {k : ℕ} {counts : List ℕ} (v : ℕ) {old : ℕ} → v < g.nodes →
+    old ≡ get_or counts v old → AreEntering g k counts → old ≤ k
 entering_small {g} {k} {counts} v {old} inside at now =
     let c = now.count in
     let room : v < length counts = omega arith in

@@ -38,7 +38,8 @@ splits g node from (Some e) first f l at =
 -- an order has no more nodes than there are
 pub order_fits : {g : GraphView} {order : List ℕ} {position : ℕ → ℕ} → IsPlacing g order position →
     length order ≤ g.nodes
-order_fits {g} {order} {position} now = omega (arith, now.number, count_at_most g.nodes (λ v. nat_lt (position v) g.nodes))
+order_fits {g} {order} {position} now =
+    omega (arith, now.number, count_at_most g.nodes (λ v. nat_lt (position v) g.nodes))
 
 -- the node that has a position is the one that stands there
 own_node : {g : GraphView} {order : List ℕ} {position : ℕ → ℕ} (done v : ℕ) → IsPlacing g order position → v < g.nodes →
@@ -93,15 +94,16 @@ pub release_next : {g : GraphView} {order waits order' waits' : List ℕ} {done 
     waits' ≡ slice_set waits (head_in g.links e) (slice_index waits (head_in g.links e) - 1) →
     order' ≡ (if slice_index waits (head_in g.links e) == 1 then order ++ head_in g.links e ∷ [] else order) →
     IsReleasing g order' waits' done node next
-release_next {g} {order} {waits} {order'} {waits'} {done} {node} {e} {next} within now first waits_are order_is = record {
-  position = s.position';
-  handled = and_link now.handled e;
-  sorting = s.sorting;
-  within = (let b = now.within in let m = s.more in omega arith);
-  at = s.same done now.within ∙ now.at;
-  leaves = first_leaves g node (e + 1) next on;
-  which = λ f l. which f l;
-}
+release_next {g} {order} {waits} {order'} {waits'} {done} {node} {e} {next} within now first waits_are
+    order_is = record {
+      position = s.position';
+      handled = and_link now.handled e;
+      sorting = s.sorting;
+      within = (let b = now.within in let m = s.more in omega arith);
+      at = s.same done now.within ∙ now.at;
+      leaves = first_leaves g node (e + 1) next on;
+      which = λ f l. which f l;
+    }
   where
     on : IsFirstFrom (leaves g.links node) (e + 1) (length g.links) next
     on = subst (λ v. IsFirstFrom (leaves g.links v) (e + 1) (length g.links) next) now.leaves.1 first

@@ -1,7 +1,8 @@
 -- The run of the river is a plan.
 use Rattle.std.proofs.Common.{◌≡◌, ℕ, ◌+◌, ◌<◌, ◌≤◌, Bool, true, false, refl, sym, ◌∙◌, ap, arith, List}
 use Rattle.std.proofs.Common.{length, inl, inr}
-use Rattle.std.proofs.lemmas.Bool.{cases_lt, cases_order, cases_Bool, false_from_ne_true, and_parts, and_from, eqb-true, eq-eqb, false≢true}
+use Rattle.std.proofs.lemmas.Bool.{cases_lt, cases_order, cases_Bool, false_from_ne_true, and_parts, and_from}
+use Rattle.std.proofs.lemmas.Bool.{eqb-true, eq-eqb, false≢true}
 use Rattle.std.proofs.lemmas.Bool.Decides.{nat_tests}
 use Rattle.std.specs.Prelude.{◌==◌, ◌&&◌, ◌^◌, nat_lt, nat_le, if◌then◌else◌, slice_index, slice_get, Option, Some}
 use Rattle.std.specs.Prelude.{None, unwrap_or, option_map}

@@ -3,11 +3,12 @@ use Rattle.std.proofs.Common.{◌≡◌, ◌≢◌, ℕ, ◌+◌, ◌<◌, Bool,
 use Rattle.std.proofs.Common.{inl, inr}
 use Rattle.std.proofs.lemmas.Bool.{cases_lt, cases_eq, eqb-true}
 use Rattle.std.proofs.lemmas.Bool.Decides.{nat_tests}
-use Rattle.std.specs.Prelude.{◌==◌, ◌^◌, slice_index, slice_index_or, Option, Some, None, IfSome, IfNone, All, nat_lt}
+use Rattle.std.specs.Prelude.{◌==◌, ◌^◌, slice_index, slice_index_or, Option, Some, None, IfSome, IfNone, All}
 use Rattle.std.specs.Prelude.{if◌then◌else◌}
 use Rattle.finite_sums.specs.Sums.{total, total_where}
 use Rattle.finite_sums.proofs.Totals.{total_same, total_zero, total_add, total_at, total_change, total_pick}
 use Rattle.finite_sums.proofs.Totals.{term_le_total}
+use Rattle.finite_sums.proofs.Counts.{at_inside}
 use Rattle.water_model.specs.Network.{tail_in, head_in, is_outlet_in, HasNodes, IsSoundNetwork}
 use Rattle.water_model.specs.RunOfRiver.{IsFirstRiver, RunsNaturally}
 use Rattle.water_model.specs.declared.types.Link.{Link}
@@ -66,43 +67,45 @@ pub running_next : {nodes : List Node} {links : List Link} {supply : ℕ →
     All (λ l. HasNodes nodes l) links → i < length nodes → IsFirstRiver links e →
     tail_in links e ≡ slice_index order i → IsSent e (slice_index order i) (head_in links e) flow flow' out out' →
     IsRunning nodes links supply run.position i flow out → IsRunning nodes links supply run.position (i + 1) flow' out'
-running_next {nodes} {links} {supply} {order} run {i} {e} {flow} {flow'} {out} {out'} ends l first at sent now = record {
-  balance = λ u k. omega (arith, now.balance u k, ins u, outs u, moved u);
-  all = omega (
-    arith,
-    now.all,
-    total_same (length nodes) (λ u. out' u + (if v == u then out v else 0))
-        (λ u. out u + (if head_in links e == u then out v else 0)) (λ u k. moved u),
-    total_add (length nodes) out' (λ u. if v == u then out v else 0),
-    total_add (length nodes) out (λ u. if head_in links e == u then out v else 0),
-    total_at (length nodes) v (out v),
-    total_at (length nodes) (head_in links e) (out v),
-    inside v (length nodes) (out v) v_in,
-    inside (head_in links e) (length nodes) (out v) head_below,
-  );
-  empty = λ u k below inner. elim (cases_eq u v) [
-    | inl here ↦ ap out' here ∙ sent.left
-    | inr other ↦ (let before : run.position u < i = at_index run i u l k other below in
-        sent.others u other (λ at. let p = ap run.position at in absurd (omega (arith, forward)))
-        ∙ now.empty u k before inner)
-  ];
-  quiet = λ f k. elim (cases_eq f e) [
-    | inl here ↦
-        inr (
-          subst (IsFirstRiver links) (sym here) first,
-          let p = ap (λ x. run.position (tail_in links x)) here in
-              omega (arith, v_index, tail_index),
-        )
-    | inr other ↦ elim (now.quiet f k) [
-      | inl none ↦ inl (sent.off f other ∙ none)
-      | inr some ↦ inr (some.0, let s = some.1 in omega arith)
-    ]
-  ];
-  small = λ f k. elim (cases_eq f e) [
-    | inl here ↦ (let same = ap flow' here in omega (arith, sent.on, now.all, term_le_total (length nodes) out v v_in))
-    | inr other ↦ omega (arith, sent.off f other, now.small f k)
-  ];
-}
+running_next {nodes} {links} {supply} {order} run {i} {e} {flow} {flow'} {out} {out'} ends l first at sent
+    now = record {
+      balance = λ u k. omega (arith, now.balance u k, ins u, outs u, moved u);
+      all = omega (
+        arith,
+        now.all,
+        total_same (length nodes) (λ u. out' u + (if v == u then out v else 0))
+            (λ u. out u + (if head_in links e == u then out v else 0)) (λ u k. moved u),
+        total_add (length nodes) out' (λ u. if v == u then out v else 0),
+        total_add (length nodes) out (λ u. if head_in links e == u then out v else 0),
+        total_at (length nodes) v (out v),
+        total_at (length nodes) (head_in links e) (out v),
+        at_inside v (length nodes) (out v) v_in,
+        at_inside (head_in links e) (length nodes) (out v) head_below,
+      );
+      empty = λ u k below inner. elim (cases_eq u v) [
+        | inl here ↦ ap out' here ∙ sent.left
+        | inr other ↦ (let before : run.position u < i = at_index run i u l k other below in
+            sent.others u other (λ at. let p = ap run.position at in absurd (omega (arith, forward)))
+            ∙ now.empty u k before inner)
+      ];
+      quiet = λ f k. elim (cases_eq f e) [
+        | inl here ↦
+            inr (
+              subst (IsFirstRiver links) (sym here) first,
+              let p = ap (λ x. run.position (tail_in links x)) here in
+                  omega (arith, v_index, tail_index),
+            )
+        | inr other ↦ elim (now.quiet f k) [
+          | inl none ↦ inl (sent.off f other ∙ none)
+          | inr some ↦ inr (some.0, let s = some.1 in omega arith)
+        ]
+      ];
+      small = λ f k. elim (cases_eq f e) [
+        | inl here ↦ (let same = ap flow' here in
+            omega (arith, sent.on, now.all, term_le_total (length nodes) out v v_in))
+        | inr other ↦ omega (arith, sent.off f other, now.small f k)
+      ];
+    }
   where
     v : ℕ
     v = slice_index order i
@@ -124,9 +127,6 @@ running_next {nodes} {links} {supply} {order} run {i} {e} {flow} {flow'} {out} {
 
     forward : i < run.position (head_in links e)
     forward = let up = run.forward.runs e e_in in omega (arith, v_index, tail_index)
-
-    inside : (k n x : ℕ) → k < n → (if nat_lt k n then x else 0) ≡ x
-    inside k n x l = grind (arith, nat_tests)
 
     dry : flow e ≡ 0
     dry = elim (now.quiet e e_in) [

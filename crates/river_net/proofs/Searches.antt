@@ -95,7 +95,8 @@ pub expand_next : {g : GraphView} {start : ℕ} {seen : List Bool} {queue : List
     queue' ≡ (if has seen (head_in g.links e) then queue else queue ++ head_in g.links e ∷ []) →
     IsFirstFrom (leaves g.links (tail_in g.links e)) (e + 1) (length g.links) next →
     IsExpanding g start seen' queue' done node next
-expand_next {g} {start} {seen} {queue} {done} {node} {e} {seen'} {queue'} {next} within now other seen_is queue_is first =
+expand_next {g} {start} {seen} {queue} {done} {node} {e} {seen'} {queue'} {next} within now other seen_is
+    queue_is first =
     elim (cases_Bool (has seen h)) [
       | inl old ↦ (let same : queue' ≡ queue = queue_is ∙ ap (λ t. if t then queue else queue ++ h ∷ []) old in
           subst (λ xs. IsExpanding g start seen' xs done node next) (sym same)

@@ -28,8 +28,8 @@ sorting_index : {g : GraphView} {order waits : List ℕ} (position : ℕ → ℕ
     ((e : ℕ) → e < length g.links → handled e ≡ true → position (tail_in g.links e) < length order) →
     v < g.nodes → v < bound → position v ≡ g.nodes → slice_index waits v ≡ 0 →
     IsSorting g (order ++ v ∷ []) waits (with_index position v (length order)) handled bound
-sorting_index {g} {order} {waits} position {handled} bound v within placing count waiting free idle tails inside below unplaced
-    none = record {
+sorting_index {g} {order} {waits} position {handled} bound v within placing count waiting free idle tails inside below
+    unplaced none = record {
       placing = placing_next v within placing inside unplaced (λ e l at. tails e l (all_handled e l at));
       count = count;
       waiting = waiting;
@@ -189,7 +189,8 @@ pub settled : {g : GraphView} {order waits : List ℕ} {position : ℕ → ℕ} 
     waits' ≡ slice_set waits (head_in g.links e) (slice_index waits (head_in g.links e) - 1) →
     order' ≡ (if slice_index waits (head_in g.links e) == 1 then order ++ head_in g.links e ∷ [] else order) →
     IsSettled g order waits position handled e order' waits'
-settled {g} {order} {waits} {position} {handled} e {order'} {waits'} within now below unhandled_yet after waits_are order_is =
+settled {g} {order} {waits} {position} {handled} e {order'} {waits'} within now below unhandled_yet after waits_are
+    order_is =
     elim (cases_eq (slice_index waits h) 1) [
       | inl last ↦
           subst (λ xs. IsSettled g order waits position handled e xs waits')

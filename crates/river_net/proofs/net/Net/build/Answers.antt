@@ -47,7 +47,8 @@ returns-in-Some-2-clause-refused c =
     rw (
       sym c.in_default.ensures.first,
       sym c.in_default-link_from_outlet.ensures.first,
-      rivers_lead nodes links c.in_ok-rivers.ensures c.deref.ensures.value c.in_default-node_without_river.ensures.first,
+      rivers_lead nodes links c.in_ok-rivers.ensures c.deref.ensures.value
+          c.in_default-node_without_river.ensures.first,
       on_cycle nodes links c.in_ok-graph.ensures c.in_ok-node.ensures c.in-Some-2.is,
     )
 
@@ -58,7 +59,8 @@ returns-clause-faultless c =
     rw (
       sym c.in_default.ensures.first,
       sym c.in_default-link_from_outlet.ensures.first,
-      rivers_lead nodes links c.in_ok-rivers.ensures c.deref.ensures.value c.in_default-node_without_river.ensures.first,
+      rivers_lead nodes links c.in_ok-rivers.ensures c.deref.ensures.value
+          c.in_default-node_without_river.ensures.first,
       on_cycle nodes links c.in_ok-graph.ensures c.in_ok-node.ensures c.in_default-2.is,
     )
 
