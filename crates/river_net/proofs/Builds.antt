@@ -1,6 +1,6 @@
 -- The network of nodes and links that have no fault.
 use Rattle.std.proofs.Common.{◌≡◌, ℕ, zero, suc, ◌<◌, refl, sym, ◌∙◌, ap, subst, arith, List, [], ◌∷◌, length, get_or}
-use Rattle.std.proofs.Common.{map, inl, inr}
+use Rattle.std.proofs.Common.{◌+◌, ◌≤◌, Bool, cond, map, inl, inr}
 use Rattle.std.proofs.lemmas.Bool.{cases_Bool, and_parts, and_from, false_from_ne_true, false≢true, eqb-true, eq-eqb}
 use Rattle.std.proofs.lemmas.Bool.{not_from_true, not_from_false}
 use Rattle.std.proofs.lemmas.List.{length-map}
@@ -17,8 +17,15 @@ use Rattle.river_net.specs.Sorting.{IsReleased}
 use Rattle.river_net.specs.NetFaults.{first_without_river, first_on_cycle, lacks_river, keeps_water}
 use Rattle.river_net.proofs.Entries.{ends_in}
 use Rattle.river_net.proofs.Sorted.{running_order}
-use Rattle.river_net.proofs.Finds.{find_same}
 use Rattle.river_net.proofs.NoFault.{has_river, river_found, found_river}
+
+-- tests that agree find the same
+find_same : (p q : ℕ → Bool) (from n : ℕ) → ((j : ℕ) → from ≤ j → j < from + n → p j ≡ q j) →
+    find p (range_with_len from n) ≡ find q (range_with_len from n)
+find_same p q from zero same = refl
+find_same p q from (suc n) same =
+    ap (λ t. cond t (Some from) (find p (range_with_len (from + 1) n))) (same from (omega arith) (omega arith))
+    ∙ ap (λ o. cond (q from) (Some from) o) (find_same p q (from + 1) n (λ j a b. same j (omega arith) (omega arith)))
 
 -- a node has a first river exactly where a river leaves it
 river_or_none : (links : List Link) (node : ℕ) (o : Option ℕ) →

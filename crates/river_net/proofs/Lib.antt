@@ -8,7 +8,6 @@ pub mod Walks
 pub mod Chains
 pub mod Sorted
 pub mod Searches
-pub mod Finds
 pub mod NoFault
 pub mod Builds
 pub mod Ranks
