@@ -1,7 +1,8 @@
 -- Sums of the parts of return rows.
 use Rattle.std.proofs.Common.{◌≡◌, ◌≢◌, ℕ, ◌+◌, ◌-◌, ◌^◌, ◌<◌, ◌==◌, min, List, [], ◌∷◌, ◌++◌, length, take, replicate}
 use Rattle.std.proofs.Common.{get_or, set, nat_lt, Option, option_map, if◌then◌else◌, sym, ap, ◌∙◌, inl, inr, arith}
-use Rattle.std.specs.List.{position}
+use Rattle.std.specs.List.{find, position, position_from, range_with_len}
+use Rattle.std.proofs.Common.{suc, Bool, cond, Some, refl, add-zero}
 use Rattle.std.proofs.lemmas.Bool.{cases_eq}
 use Rattle.std.proofs.lemmas.Bool.Decides.{nat_tests}
 use Rattle.std.proofs.lemmas.List.{take_more, length-replicate, get_or-replicate, length-set, get_or-set_same}
@@ -14,7 +15,7 @@ use Rattle.water_model.specs.declared.types.Right.{Right}
 use Rattle.rights_roll.specs.RollFaults.{has_many_parts, parts_fault}
 use Rattle.rights_roll.specs.Tables.{AreParts}
 use Rattle.rights_roll.specs.declared.RollRefused.TheVariants.{ReturnParts}
-use Rattle.rights_roll.proofs.Firsts.{find-indices}
+use Rattle.std.proofs.lemmas.Iterator.Adapters.{position_from-zero}
 
 -- what a row adds to the parts of a right
 abbrev pub part_for : ReturnRow → ℕ → ℕ
@@ -89,6 +90,27 @@ parts-more rows {rights} {sums} i d {sum} below at is before = record {
           parts_in_more rows i d right below,
           part_for_other (get_or rows i d) right other,
         )
+
+-- a test of indices from m on, as a test of the elements there
+find-from : (p q : ℕ → Bool) (m : ℕ) (xs : List ℕ) → ((k : ℕ) → k < length xs → p (m + k) ≡ q (get_or xs k 0)) →
+    find p (range_with_len m (length xs)) ≡ position_from q m xs
+find-from p q m [] same = refl
+find-from p q m (x ∷ xs) same =
+    let here : p m ≡ q x = ap p (sym (add-zero m)) ∙ same 0 (omega arith) in
+    rw here (ap (λ (o : Option ℕ). cond (q x) (Some m) o) (find-from p q (m + 1) xs later))
+  where
+    later : (k : ℕ) → k < length xs → p (m + 1 + k) ≡ q (get_or xs k 0)
+    later k below = (let e : m + 1 + k ≡ m + suc k = omega arith in ap p e) ∙ same (suc k) (omega arith)
+
+-- a test of indices, as a test of the elements there
+find-indices : (p q : ℕ → Bool) (xs : List ℕ) (n : ℕ) → n ≡ length xs →
+    ((k : ℕ) → k < length xs → p k ≡ q (get_or xs k 0)) → find p (range_with_len 0 n) ≡ position q xs
+find-indices p q xs n e same =
+    ap (λ c. find p (range_with_len 0 c)) e
+    ∙ (find-from p q 0 xs (λ k below. zero_first k ∙ same k below) ∙ sym (position_from-zero q xs))
+  where
+    zero_first : (k : ℕ) → p (0 + k) ≡ p k
+    zero_first k = let e : 0 + k ≡ k = omega arith in ap p e
 
 -- the first sum above 10,000 is that of the first right at fault
 pub parts_fault_is : (rights : List Right) (returns : List ReturnRow) {sums : List ℕ} {found : Option ℕ} →
