@@ -1,9 +1,8 @@
 -- What is due by what a row keeps is what the sums over all months say.
-use Rattle.std.proofs.Common.{◌≡◌, ◌∙◌, ℕ, ◌+◌, ◌-◌, ◌*◌, ◌/◌, ◌%◌, ◌<◌, ◌≤◌, List, length, get_or, refl, sym, ap}
+use Rattle.std.proofs.Common.{◌≡◌, ◌∙◌, ℕ, ◌+◌, ◌-◌, ◌*◌, ◌/◌, ◌%◌, ◌<◌, List, length, get_or, refl, sym, ap}
 use Rattle.std.proofs.Common.{arith, inl, inr, true, false}
 use Rattle.std.specs.Prelude.{slice_index, nat_lt, unwrap_or}
-use Rattle.std.proofs.lemmas.Bool.{cases_Bool}
-use Rattle.std.proofs.lemmas.Bool.Decides.{nat_tests}
+use Rattle.std.proofs.lemmas.Bool.{cases_Bool, ltb-true, ltb-false}
 use Rattle.std.proofs.lemmas.List.{length-map, length-drop, get_or-drop}
 use Rattle.std.proofs.lemmas.Option.{slice_get-map, unwrap_or-slice_get}
 use Rattle.std.proofs.Math.Nat.{mul-add}
@@ -45,21 +44,15 @@ pub record IsDue (deliveries : List (List ℕ)) (w : InTransit) (amount : ℕ) :
   pub parts : due w ≡ (w.row.part * delivered_before deliveries w.row.right (length deliveries - w.row.lag)) % 10000 +
       w.row.part * amount
 
-pub is_due : (deliveries : List (List ℕ)) (w : InTransit) → IsInTransit deliveries w → (amount : ℕ) ×
+pub is_due : {deliveries : List (List ℕ)} {w : InTransit} → IsInTransit deliveries w → (amount : ℕ) ×
     IsDue deliveries w amount
-is_due deliveries w h = elim (cases_Bool (nat_lt (length w.waiting) w.row.lag)) [
+is_due {deliveries} {w} h = elim (cases_Bool (nat_lt (length w.waiting) w.row.lag)) [
   | inl bounded ↦ (0, none bounded)
   | inr full ↦ (delivered_in deliveries w.row.right (length deliveries - w.row.lag), some full)
 ]
   where
     waiting : length w.waiting ≡ length deliveries - (length deliveries - w.row.lag)
     waiting = ap length h.waiting ∙ in_transit deliveries w.row.right w.row.lag
-
-    below : (m n : ℕ) → nat_lt m n ≡ true → m < n
-    below m n e = grind (arith, nat_tests)
-
-    above : (m n : ℕ) → nat_lt m n ≡ false → n ≤ m
-    above m n e = grind (arith, nat_tests)
 
     none_due : nat_lt (length w.waiting) w.row.lag ≡ true → due w ≡ 0
     none_due bounded = rw bounded refl
@@ -79,7 +72,7 @@ is_due deliveries w h = elim (cases_Bool (nat_lt (length w.waiting) w.row.lag)) 
 
     none : nat_lt (length w.waiting) w.row.lag ≡ true → IsDue deliveries w 0
     none bounded =
-        let l = below (length w.waiting) w.row.lag bounded in
+        let l = ltb-true (length w.waiting) w.row.lag bounded in
         let m : length deliveries < w.row.lag = omega (arith, waiting) in
         let e : length deliveries + 1 - w.row.lag ≡ length deliveries - w.row.lag = omega arith in
         record {
@@ -92,16 +85,14 @@ is_due deliveries w h = elim (cases_Bool (nat_lt (length w.waiting) w.row.lag)) 
     some : nat_lt (length w.waiting) w.row.lag ≡ false →
         IsDue deliveries w (delivered_in deliveries w.row.right (length deliveries - w.row.lag))
     some full =
-        let l = above (length w.waiting) w.row.lag full in
+        let l = ltb-false (length w.waiting) w.row.lag full in
         let e : length deliveries + 1 - w.row.lag ≡ length deliveries - w.row.lag + 1 = omega (arith, waiting) in
         record {
           more = ap (delivered_before deliveries w.row.right) e
               ∙ total_more (length deliveries - w.row.lag) (λ k. delivered_in deliveries w.row.right k);
-          parts = due_of_oldest full ∙ ap (λ r. r + w.row.part * slice_index w.waiting 0) h.remainder
-              ∙ ap (λ d.
+          parts = due_of_oldest full ∙ ap (λ r. r + w.row.part * slice_index w.waiting 0) h.remainder ∙ ap (λ d.
               (w.row.part * delivered_before deliveries w.row.right (length deliveries - w.row.lag)) % 10000 +
-              w.row.part * d)
-              (ap (λ xs. slice_index xs 0) h.waiting ∙ oldest deliveries w.row.right w.row.lag);
+              w.row.part * d) (ap (λ xs. slice_index xs 0) h.waiting ∙ oldest deliveries w.row.right w.row.lag);
         }
 
 quotient : (x y : ℕ) → (x % 10000 + y) / 10000 ≡ (x + y) / 10000 - x / 10000
@@ -110,9 +101,9 @@ quotient x y = omega arith
 pub remainder : (x y : ℕ) → (x % 10000 + y) % 10000 ≡ (x + y) % 10000
 remainder x y = omega arith
 
-pub arriving_is : (deliveries : List (List ℕ)) (w : InTransit) → IsInTransit deliveries w →
+pub arriving_is : {deliveries : List (List ℕ)} {w : InTransit} → IsInTransit deliveries w →
     arriving w ≡ returned_by w.row deliveries (length deliveries)
-arriving_is deliveries w h = by (is_due deliveries w h)
+arriving_is {deliveries} {w} h = by (is_due h)
   where
     by : (amount : ℕ) × IsDue deliveries w amount → arriving w ≡ returned_by w.row deliveries (length deliveries)
     by found = rw (found.1.parts, quotient, found.1.more, mul-add) refl

@@ -20,13 +20,11 @@ use Rattle.lag_returns.proofs.Arrivals.{arriving_is}
 
 -- what holds of each row
 pub of_row : (P : ReturnRow → Type 0) (lags : List InTransit) → All P (return_rows lags) → All (λ w. P w.row) lags
-of_row P lags h k d l =
-    subst P (get_or-map (λ w. w.row) lags k d d.row l) (h k d.row (rw length-map l))
+of_row P lags h k d l = subst P (get_or-map (λ w. w.row) lags k d d.row l) (h k d.row (rw length-map l))
 
-pub row_at : (P : ReturnRow → Type 0) (lags : List InTransit) (i : ℕ) (w : InTransit) → All P (return_rows lags) →
-    i < length lags →
-    w ≡ get_or lags i w → P w.row
-row_at P lags i w h l read = subst (λ x. P x.row) (sym read) (of_row P lags h i w l)
+pub row_at : (P : ReturnRow → Type 0) (lags : List InTransit) (i : ℕ) {w : InTransit} → All P (return_rows lags) →
+    i < length lags → w ≡ get_or lags i w → P w.row
+row_at P lags i {w} h l read = subst (λ x. P x.row) (sym read) (of_row P lags h i w l)
 
 pub lagged_fresh : (rows : List ReturnRow) → All IsLagged rows → All (λ w. IsLagged w.row) (map fresh rows)
 lagged_fresh rows h = All-map (λ w. IsLagged w.row) fresh rows h
@@ -59,12 +57,12 @@ index_after : (xs : List ℕ) (k n a : ℕ) → k < length xs →
 index_after xs k n a l = grind (arith, common_steps, nat_tests)
 
 -- once one more row has come
-pub one_row_more : (lags : List InTransit) (i : ℕ) (w : InTransit) (into : List ℕ) (n before : ℕ) → i < length lags →
+pub one_row_more : (lags : List InTransit) (i : ℕ) {w : InTransit} (into : List ℕ) (n before : ℕ) → i < length lags →
     w ≡ get_or lags i w → w.row.node < length into →
     get_or into n 0 ≡ before + total i (λ k. of_entry lags k (brought_to n) 0) →
     get_or (set into w.row.node (get_or into w.row.node 0 + arriving w)) n 0 ≡ before + total (i + 1)
     (λ k. of_entry lags k (brought_to n) 0)
-one_row_more lags i w into n before l read node h =
+one_row_more lags i {w} into n before l read node h =
     omega (
       arith,
       index_after into w.row.node n (arriving w) node,
@@ -81,12 +79,12 @@ one_row_little w into n node little =
     at_most k n a x y l e = grind (arith, nat_tests)
 
 -- a row has room at its node while the rows before it have brought what they bring, at most 10^9 each
-pub room_at : (lags : List InTransit) (i : ℕ) (w : InTransit) (into now : List ℕ) → i < length lags →
+pub room_at : (lags : List InTransit) (i : ℕ) {w : InTransit} (into now : List ℕ) → i < length lags →
     w ≡ get_or lags i w → w.row.node < length into → HasRoomFor lags into →
     get_or now w.row.node 0 ≡ get_or into w.row.node 0 + total i (λ k. of_entry lags k (brought_to w.row.node) 0) →
     get_or now w.row.node 0 ≤ get_or into w.row.node 0 + 10 ^ 9 * i →
     get_or now w.row.node 0 + min (arriving w) (10 ^ 9) < 2 ^ 64
-room_at lags i w into now l read node room added little =
+room_at lags i {w} into now l read node room added little =
     omega (
       arith,
       room w.row.node node,
@@ -102,10 +100,9 @@ room_at lags i w into now l read node room added little =
     own n a = grind (arith, nat_tests)
 
 -- what the rows bring is what the sums over all months say
-pub arrivals : (lags : List InTransit) (rows : List ReturnRow) (deliveries : List (List ℕ)) (node : ℕ) →
-    LagsStandFor lags rows deliveries →
-    brought lags node ≡ arrivals_at rows deliveries node
-arrivals lags rows deliveries node h =
+pub arrivals : {lags : List InTransit} {rows : List ReturnRow} {deliveries : List (List ℕ)} (node : ℕ) →
+    LagsStandFor lags rows deliveries → brought lags node ≡ arrivals_at rows deliveries node
+arrivals {lags} {rows} {deliveries} node h =
     total_same (length lags) (λ k. of_entry lags k (brought_to node) 0) (λ k. of_entry (return_rows lags) k brings 0)
     (λ k l. entry k (entry_holds (IsInTransit deliveries) lags k h.each l))
     ∙ ap (λ n. total n (λ k. of_entry (return_rows lags) k brings 0)) (sym (length-map lags (λ w. w.row)))
@@ -118,4 +115,4 @@ arrivals lags rows deliveries node h =
         of_entry lags k (brought_to node) 0 ≡ of_entry (return_rows lags) k brings 0
     entry k found =
         rw (slice_get-map (λ w. w.row) lags k, found.1)
-        (ap (λ a. if found.0.row.node == node then a else 0) (arriving_is deliveries found.0 found.2))
+        (ap (λ a. if found.0.row.node == node then a else 0) (arriving_is found.2))

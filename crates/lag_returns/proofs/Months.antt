@@ -30,8 +30,7 @@ last_of_more : {X : Type 0} (n : ℕ) (xs : List X) (x : X) →
     keep_last n (keep_last n xs ++ x ∷ []) ≡ keep_last n (xs ++ x ∷ [])
 last_of_more {X = X} n xs x =
     ap (drop (length (keep_last n xs ++ x ∷ []) - n)) (sym (drop-append-le (length xs - n) xs (x ∷ []) (omega arith)))
-    ∙ drop-drop (length (keep_last n xs ++ x ∷ []) - n) (length xs - n) (xs ++ x ∷ [])
-    ∙ ap (λ k. drop k (xs ++ x ∷ []))
+    ∙ drop-drop (length (keep_last n xs ++ x ∷ []) - n) (length xs - n) (xs ++ x ∷ []) ∙ ap (λ k. drop k (xs ++ x ∷ []))
     (omega (
       arith,
       length-append (keep_last n xs) (x ∷ []),
@@ -39,9 +38,9 @@ last_of_more {X = X} n xs x =
       length-append xs (x ∷ []),
     ))
 
-in_transit_after : (deliveries : List (List ℕ)) (delivered : List ℕ) (w : InTransit) → 1 ≤ w.row.lag →
+in_transit_after : {deliveries : List (List ℕ)} (delivered : List ℕ) {w : InTransit} → 1 ≤ w.row.lag →
     IsInTransit deliveries w → IsInTransit (deliveries ++ delivered ∷ []) (after_month delivered w)
-in_transit_after deliveries delivered w lag h = record { waiting = waiting; remainder = by (is_due deliveries w h) }
+in_transit_after {deliveries} delivered {w} lag h = record { waiting = waiting; remainder = by (is_due h) }
   where
     more : length (deliveries ++ delivered ∷ []) ≡ length deliveries + 1
     more = length-append deliveries (delivered ∷ [])
@@ -58,8 +57,7 @@ in_transit_after deliveries delivered w lag h = record { waiting = waiting; rema
         ≡ delivered_before deliveries w.row.right (length deliveries + 1 - w.row.lag)
     before =
         earlier deliveries delivered w.row.right (length (deliveries ++ delivered ∷ []) - w.row.lag)
-        (omega (arith, more))
-        ∙ ap (λ n. delivered_before deliveries w.row.right (n - w.row.lag)) more
+        (omega (arith, more)) ∙ ap (λ n. delivered_before deliveries w.row.right (n - w.row.lag)) more
 
     by : (amount : ℕ) × IsDue deliveries w amount → due w % 10000
         ≡ (w.row.part * delivered_before (deliveries ++ delivered ∷ []) w.row.right
@@ -71,13 +69,13 @@ pub rows_after : (delivered : List ℕ) (lags : List InTransit) →
 rows_after delivered [] = refl
 rows_after delivered (w ∷ lags) = ap (λ rows. w.row ∷ rows) (rows_after delivered lags)
 
-pub stands_after : (deliveries : List (List ℕ)) (delivered : List ℕ) (rows : List ReturnRow) (lags : List InTransit) →
+pub stands_after : {deliveries : List (List ℕ)} (delivered : List ℕ) {rows : List ReturnRow} {lags : List InTransit} →
     All (λ w. IsLagged w.row) lags → LagsStandFor lags rows deliveries →
     LagsStandFor (map (after_month delivered) lags) rows (deliveries ++ delivered ∷ [])
-stands_after deliveries delivered rows lags lagged h = record {
+stands_after {deliveries} delivered {rows} {lags} lagged h = record {
   of_rows = rows_after delivered lags ∙ h.of_rows;
   each = All-map (IsInTransit (deliveries ++ delivered ∷ [])) (after_month delivered) lags
-      (λ k d l. in_transit_after deliveries delivered _ (lagged k d l).lag.0 (h.each k d l));
+      (λ k d l. in_transit_after delivered (lagged k d l).lag.0 (h.each k d l));
 }
 
 pub lagged_after : (delivered : List ℕ) (lags : List InTransit) → All (λ w. IsLagged w.row) lags →
@@ -90,11 +88,9 @@ pub unchanged : {X : Type 0} (f : X → X) (now before : List X) (i : ℕ) (d : 
 unchanged {X = X} f now before i d l e = grind (arith, common_steps)
 
 -- the list after its elements were written as a slice
-pub written : {X Z : Type 0} (f : X → X) (v : Vec X Z) (now seen : List X) → now ≡ map f seen → seen ≡ v.items →
-    length seen ≡ v.len →
-    (with_items v now).items ≡ map f v.items
-written f v now seen e same len =
-    with_items_is v now (ap length e ∙ length-map seen f ∙ len) ∙ e ∙ ap (map f) same
+pub written : {X Z : Type 0} (f : X → X) (v : Vec X Z) {now seen : List X} → now ≡ map f seen → seen ≡ v.items →
+    length seen ≡ v.len → (with_items v now).items ≡ map f v.items
+written f v {now} {seen} e same len = with_items_is v now (ap length e ∙ length-map seen f ∙ len) ∙ e ∙ ap (map f) same
 
 -- rows with nothing on their way any more are those before the first month
 pub emptied_are : (lags : List InTransit) → map emptied lags ≡ map fresh (return_rows lags)

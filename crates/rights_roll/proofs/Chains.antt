@@ -33,11 +33,10 @@ skip rights link k (Some right) apart next = (
 )
 
 -- a right on a link goes before the first on it
-pub chains-more : (rights : List Right) (first_on next_on : List (Option ℕ)) (at k link : ℕ) (further : Option ℕ) →
-    at ≡ k + 1 → k < length rights →
-    link_in rights k ≡ Some link → further ≡ get_or first_on link None →
+pub chains-more : {rights : List Right} {first_on next_on : List (Option ℕ)} {at : ℕ} (k link : ℕ) {further :
+    Option ℕ} → at ≡ k + 1 → k < length rights → link_in rights k ≡ Some link → further ≡ get_or first_on link None →
     ChainsFrom rights first_on next_on at → ChainsFrom rights (set first_on link (Some k)) (set next_on k further) k
-chains-more rights first_on next_on at k link further after below on is h = record {
+chains-more {rights} {first_on} {next_on} k link {further} after below on is h = record {
   count = length-set next_on k further ∙ h.count;
   links = λ right its e. let b = h.links right its e in omega (arith, b, length-set first_on link (Some k));
   firsts = first;

@@ -1,6 +1,6 @@
 -- The first index at which a list of keys has a key.
 use Rattle.std.proofs.Common.{◌≡◌, ℕ, zero, suc, ◌+◌, ◌<◌, ◌≤◌, Bool, true, false, cond, List, [], ◌∷◌, ◌++◌, length}
-use Rattle.std.proofs.Common.{take, get_or, Some, None, refl, sym, ap, ◌∙◌, arith, add-zero}
+use Rattle.std.proofs.Common.{take, get_or, Some, None, refl, sym, ap, ◌∙◌, arith, add-zero, inl, inr}
 use Rattle.std.proofs.lemmas.Iterator.Adapters.{position_from-zero}
 use Rattle.std.proofs.lemmas.List.{get_or-take, length-take-le}
 use Rattle.std.proofs.lemmas.List.Quantifiers.{position-Some}
@@ -9,7 +9,7 @@ use Rattle.std.proofs.lemmas.Slice.Eq.{bytes_eq-Decides}
 use Rattle.std.specs.List.{position, position_from, position_or_len}
 use Rattle.std.specs.Option.{option_or}
 use Rattle.std.specs.Str.{bytes_eq}
-use Rattle.std.proofs.lemmas.Bool.{lt-ltb}
+use Rattle.std.proofs.lemmas.Bool.{lt-ltb, cases_Bool, false_from_ne_true}
 
 pub same_bytes : (xs ys : List ℕ) → xs ≡ ys → bytes_eq xs ys ≡ true
 same_bytes xs ys e = (bytes_eq-Decides xs ys).1 e
@@ -22,8 +22,7 @@ from-append : {X : Type 0} (p : X → Bool) (n : ℕ) (xs : List X) (x : X) →
 from-append p n [] x = ap (λ k. cond (p x) (Some k) None) (sym (add-zero n))
 from-append p n (y ∷ ys) x = by_test (p y) (from-append p (n + 1) ys x)
   where
-    by_test : (t : Bool) →
-        position_from p (n + 1) (ys ++ x ∷ []) ≡ option_or (position_from p (n + 1) ys)
+    by_test : (t : Bool) → position_from p (n + 1) (ys ++ x ∷ []) ≡ option_or (position_from p (n + 1) ys)
         (cond (p x) (Some (n + 1 + length ys)) None) →
         cond t (Some n) (position_from p (n + 1) (ys ++ x ∷ [])) ≡ option_or
         (cond t (Some n) (position_from p (n + 1) ys)) (cond (p x) (Some (n + suc (length ys))) None)
@@ -37,8 +36,7 @@ pub position-append : {X : Type 0} (p : X → Bool) (xs : List X) (x : X) →
     position p (xs ++ x ∷ []) ≡ option_or (position p xs) (cond (p x) (Some (length xs)) None)
 position-append p xs x =
     let count : 0 + length xs ≡ length xs = omega arith in
-    position_from-zero p (xs ++ x ∷ [])
-    ∙ (from-append p 0 xs x
+    position_from-zero p (xs ++ x ∷ []) ∙ (from-append p 0 xs x
     ∙ (ap (λ k. option_or (position_from p 0 xs) (cond (p x) (Some k) None)) count
     ∙ ap (λ o. option_or o (cond (p x) (Some (length xs)) None)) (sym (position_from-zero p xs))))
 
@@ -47,11 +45,11 @@ pub position_or_len-at_most : {X : Type 0} (p : X → Bool) (xs : List X) (k : �
     p (get_or xs k d) ≡ true → position_or_len p xs ≤ k
 position_or_len-at_most p [] k d h e = absurd (omega arith)
 position_or_len-at_most p (x ∷ xs) zero d h e = rw e (omega arith)
-position_or_len-at_most p (x ∷ xs) (suc k) d h e = by_test (p x) refl (position_or_len-at_most p xs k d (omega arith) e)
-  where
-    by_test : (t : Bool) → p x ≡ t → position_or_len p xs ≤ k → position_or_len p (x ∷ xs) ≤ suc k
-    by_test true f further = rw f (omega arith)
-    by_test false f further = rw f (omega arith)
+position_or_len-at_most p (x ∷ xs) (suc k) d h e =
+    let further = position_or_len-at_most p xs k d (omega arith) e in elim (cases_Bool (p x)) [
+      | inl passes ↦ rw passes (omega arith)
+      | inr fails ↦ rw fails (omega arith)
+    ]
 
 pub position_or_len-at_least : {X : Type 0} (p : X → Bool) (xs : List X) (k : ℕ) (d : X) → k ≤ length xs →
     ((j : ℕ) → j < k → p (get_or xs j d) ≡ false) → k ≤ position_or_len p xs
@@ -66,19 +64,14 @@ position_or_len-at_least p (x ∷ xs) (suc k) d h all =
 -- where none of a prefix passes
 position-fails : {X : Type 0} (p : X → Bool) (xs : List X) (k : ℕ) (d : X) → position p xs ≡ None → k < length xs →
     p (get_or xs k d) ≡ false
-position-fails p xs k d none below = by_test (p (get_or xs k d)) refl
-  where
-    by_test : (t : Bool) → p (get_or xs k d) ≡ t → p (get_or xs k d) ≡ false
-    by_test false e = e
-    by_test true e =
-        let at_most = position_or_len-at_most p xs k d below e in
-        let found : Some (position_or_len p xs) ≡ None =
-        rw (lt-ltb (position_or_len p xs) (length xs) (omega (arith, at_most))) at none in cc
+position-fails p xs k d none below = false_from_ne_true _ (λ e.
+    let at_most = position_or_len-at_most p xs k d below e in
+    let found : Some (position_or_len p xs) ≡ None =
+    rw (lt-ltb (position_or_len p xs) (length xs) (omega (arith, at_most))) at none in cc)
 
 -- what is found in a prefix is the first index of the whole list
 pub position_or_len-found : {X : Type 0} (p : X → Bool) (xs : List X) (i first : ℕ) (d : X) → i ≤ length xs →
-    position p (take i xs) ≡ Some first →
-    (first < i) × (position_or_len p xs ≡ first)
+    position p (take i xs) ≡ Some first → (first < i) × (position_or_len p xs ≡ first)
 position_or_len-found {X} p xs i first d h found =
     let at = position-Some p (take i xs) first d found in
     let before : first < i = omega (arith, at.0, length-take-le i xs h) in (
@@ -92,6 +85,5 @@ position_or_len-found {X} p xs i first d h found =
 pub position_or_len-past : {X : Type 0} (p : X → Bool) (xs : List X) (i : ℕ) (d : X) → i ≤ length xs →
     position p (take i xs) ≡ None → i ≤ position_or_len p xs
 position_or_len-past p xs i d h none =
-    position_or_len-at_least p xs i d h
-    (λ j l. ap p (sym (get_or-take i xs j d l))
+    position_or_len-at_least p xs i d h (λ j l. ap p (sym (get_or-take i xs j d l))
     ∙ position-fails p (take i xs) j d none (omega (arith, length-take-le i xs h)))

@@ -1,5 +1,4 @@
 pub mod Chains
-pub mod Firsts
 pub mod Parts
 pub mod Indices
 pub mod Ranks

@@ -14,7 +14,7 @@ use Rattle.std.specs.Map.{lookup, keys_of, values_of}
 use Rattle.std.specs.Option.{option_or}
 use Rattle.std.specs.Ordering.{is_eq}
 use Rattle.std.specs.Str.{bytes_eq}
-use Rattle.std.proofs.lemmas.Bool.{lt-ltb}
+use Rattle.std.proofs.lemmas.Bool.{lt-ltb, cases_Bool, false_from_ne_true, false≢true}
 use Rattle.water_model.specs.Indices.{by_seniority}
 use Rattle.water_model.specs.Rights.{priority, priority_in, is_senior_in, is_lower, AreStrict}
 use Rattle.water_model.specs.declared.types.Right.{Right}
@@ -40,9 +40,9 @@ pub record AreFresh (rights : List Right) (ranks : BTreeMap Priority ℕ) (i : �
 abbrev pub at_prefix : List Right → ℕ → Priority → Option ℕ
 at_prefix rights i p = position (bytes_eq (numbers_of p)) (take i (map priority rights))
 
-prefix_is : (rights : List Right) (ranks : BTreeMap Priority ℕ) (i : ℕ) (p : Priority) → AreFresh rights ranks i →
+prefix_is : {rights : List Right} {ranks : BTreeMap Priority ℕ} {i : ℕ} (p : Priority) → AreFresh rights ranks i →
     tree.get priority_cmp ranks p ≡ at_prefix rights i p
-prefix_is rights ranks i p fresh =
+prefix_is {rights} {ranks} {i} p fresh =
     fresh.ranked p ∙ ap (position (bytes_eq (numbers_of p))) (sym (take-map priority i rights))
 
 key_is : (rights : List Right) (i : ℕ) (r : Right) (p : Priority) → i < length rights → r ≡ get_or rights i r →
@@ -56,52 +56,46 @@ key_is rights i r p below is parts = parts ∙ at_index rights i r below is
     at_index (y ∷ ys) (suc k) x h e = at_index ys k x (omega arith) e
 
 -- a right whose priority the map has
-pub ranks-found : (rights : List Right) (ranks : BTreeMap Priority ℕ) (i first : ℕ) (r : Right) (p : Priority) →
+pub ranks-found : {rights : List Right} {ranks : BTreeMap Priority ℕ} {i first : ℕ} {r : Right} (p : Priority) →
     i < length rights → r ≡ get_or rights i r → numbers_of p ≡ priority r →
     AreFresh rights ranks i → Some first ≡ tree.get priority_cmp ranks p →
     same_seniority rights ≡ Some (SameSeniority first i)
-ranks-found rights ranks i first r p below is parts fresh found =
+ranks-found {rights} {ranks} {i} {first} {r} p below is parts fresh found =
     let at = position_or_len-found (bytes_eq (numbers_of p)) (map priority rights) i first []
-    (omega (arith, length-map rights priority)) (sym (prefix_is rights ranks i p fresh) ∙ sym found) in
+    (omega (arith, length-map rights priority)) (sym (prefix_is p fresh) ∙ sym found) in
     let like : first_like (map priority rights) i ≡ first =
     ap (λ q. position_or_len (bytes_eq q) (map priority rights)) (sym (key_is rights i r p below is parts)) ∙ at.1 in
     same_seniority-found rights i below fresh.fresh (omega (arith, at.0, like))
     ∙ ap (λ k. Some (SameSeniority k i)) like
 
 -- one more right
-pub ranks-more : (rights : List Right) (old new : BTreeMap Priority ℕ) (i : ℕ) (r : Right) (p : Priority) →
+pub ranks-more : {rights : List Right} {old new : BTreeMap Priority ℕ} {i : ℕ} {r : Right} (p : Priority) →
     i < length rights → r ≡ get_or rights i r → numbers_of p ≡ priority r →
     None ≡ tree.get priority_cmp old p → Updates priority_cmp old new p (Some i) → AreFresh rights old i →
     AreFresh rights new (i + 1)
-ranks-more rights old new i r p below is parts absent updates fresh = record {
-  ranked = λ q.
-      updates.0 q
-      ∙ (ap (λ t. cond t (Some i) (tree.get priority_cmp old q)) (same_priority p q)
+ranks-more {rights} {old} {new} {i} {r} p below is parts absent updates fresh = record {
+  ranked = λ q. updates.0 q ∙ (ap (λ t. cond t (Some i) (tree.get priority_cmp old q)) (same_priority p q)
       ∙ (by_test (bytes_eq (numbers_of p) (numbers_of q)) (tree.get priority_cmp old q)
-      (λ same. none_at q (bytes_same (numbers_of p) (numbers_of q) same))
-      ∙ target q));
+      (λ same. none_at q (bytes_same (numbers_of p) (numbers_of q) same)) ∙ target q));
   fresh = below_more (λ k. IsFresh (map priority rights) k) i fresh.fresh here;
 }
   where
     prefix : position (bytes_eq (numbers_of p)) (take i (map priority rights)) ≡ None
-    prefix = sym (prefix_is rights old i p fresh) ∙ sym absent
+    prefix = sym (prefix_is p fresh) ∙ sym absent
 
     here : IsFresh (map priority rights) i
     here =
-        let past =
-        position_or_len-past (bytes_eq (numbers_of p)) (map priority rights) i []
+        let past = position_or_len-past (bytes_eq (numbers_of p)) (map priority rights) i []
         (omega (arith, length-map rights priority)) prefix in
         omega (
           arith,
           past,
-          ap (λ q. position_or_len (bytes_eq q) (map priority rights))
-              (key_is rights i r p below is parts),
+          ap (λ q. position_or_len (bytes_eq q) (map priority rights)) (key_is rights i r p below is parts),
         )
 
     none_at : (q : Priority) → numbers_of p ≡ numbers_of q → tree.get priority_cmp old q ≡ None
     none_at q same =
-        prefix_is rights old i q fresh
-        ∙ (ap (λ n. position (bytes_eq n) (take i (map priority rights))) (sym same) ∙ prefix)
+        prefix_is q fresh ∙ (ap (λ n. position (bytes_eq n) (take i (map priority rights))) (sym same) ∙ prefix)
 
     by_test : (t : Bool) (o : Option ℕ) → (t ≡ true → o ≡ None) → cond t (Some i) o ≡ option_or o (cond t (Some i) None)
     by_test true o none = ap (λ x. option_or x (Some i)) (sym (none refl))
@@ -109,14 +103,11 @@ ranks-more rights old new i r p below is parts absent updates fresh = record {
     by_test false (Some x) none = refl
 
     flip : (xs ys : List ℕ) → bytes_eq xs ys ≡ bytes_eq ys xs
-    flip xs ys =
-        by_tests (bytes_eq xs ys) (bytes_eq ys xs) (λ h. same_bytes ys xs (sym (bytes_same xs ys h)))
-        (λ h. same_bytes xs ys (sym (bytes_same ys xs h)))
-      where
-        by_tests : (s t : Bool) → (s ≡ true → t ≡ true) → (t ≡ true → s ≡ true) → s ≡ t
-        by_tests true t f g = sym (f refl)
-        by_tests false true f g = g refl
-        by_tests false false f g = refl
+    flip xs ys = elim (cases_Bool (bytes_eq ys xs)) [
+      | inl same ↦ same_bytes xs ys (sym (bytes_same ys xs same)) ∙ sym same
+      | inr apart ↦ false_from_ne_true _ (λ h. false≢true (sym apart ∙ same_bytes ys xs (sym (bytes_same xs ys h))))
+          ∙ sym apart
+    ]
 
     target : (q : Priority) →
         option_or (tree.get priority_cmp old q) (cond (bytes_eq (numbers_of p) (numbers_of q)) (Some i) None)
@@ -134,9 +125,9 @@ ranks-more rights old new i r p below is parts absent updates fresh = record {
         ∙ ap (position (bytes_eq (numbers_of q))) (sym (map_more priority rights i r below)))))
 
 -- all rights
-pub ranks-all : (rights : List Right) (ranks : BTreeMap Priority ℕ) (i : ℕ) → length rights ≤ i →
+pub ranks-all : {rights : List Right} {ranks : BTreeMap Priority ℕ} {i : ℕ} → length rights ≤ i →
     AreFresh rights ranks i → AreRanks rights ranks × (same_seniority rights ≡ None)
-ranks-all rights ranks i past fresh = (
+ranks-all {rights} {ranks} {i} past fresh = (
   λ p. fresh.ranked p ∙ ap (λ rs. position (bytes_eq (numbers_of p)) (map priority rs)) (take_all i rights past),
   same_seniority-none rights (λ k h. fresh.fresh k (omega arith)),
 )
@@ -149,13 +140,11 @@ AreEntries rights [] = Unit {0}
 AreEntries rights (e ∷ es) = (e.1 < length rights) × ((numbers_of e.0 ≡ priority_in rights e.1) × AreEntries rights es)
 
 entry_is : (rights : List Right) (ranks : BTreeMap Priority ℕ) (p : Priority) (r : ℕ) → AreRanks rights ranks →
-    tree.get priority_cmp ranks p ≡ Some r →
-    (r < length rights) × (numbers_of p ≡ priority_in rights r)
+    tree.get priority_cmp ranks p ≡ Some r → (r < length rights) × (numbers_of p ≡ priority_in rights r)
 entry_is rights ranks p r all found =
     let at = position-Some (bytes_eq (numbers_of p)) (map priority rights) r [] (sym (all p) ∙ found) in (
       omega (arith, at.0, length-map rights priority),
-      bytes_same (numbers_of p) (get_or (map priority rights) r []) at.1
-          ∙ sym (priority_in-is rights r),
+      bytes_same (numbers_of p) (get_or (map priority rights) r []) at.1 ∙ sym (priority_in-is rights r),
     )
 
 are_entries : (rights : List Right) (ranks : BTreeMap Priority ℕ) → AreRanks rights ranks → (es : List (Priority × ℕ)) →
@@ -217,14 +206,9 @@ found_by_priority : (rights : List Right) (ranks : BTreeMap Priority ℕ) (r : �
 found_by_priority rights ranks r p strict all below key = all p ∙ found
   where
     apart : (k : ℕ) → k < r → bytes_eq (numbers_of p) (get_or (map priority rights) k []) ≡ false
-    apart k before = by_test (bytes_eq (numbers_of p) (get_or (map priority rights) k [])) refl
-      where
-        by_test : (t : Bool) → bytes_eq (numbers_of p) (get_or (map priority rights) k []) ≡ t → t ≡ false
-        by_test false e = refl
-        by_test true e = absurd (strict k r before below
-            (priority_in-is rights k
-            ∙ (sym (bytes_same (numbers_of p) (get_or (map priority rights) k []) e)
-            ∙ (key ∙ sym (priority_in-is rights r)))))
+    apart k before = false_from_ne_true _ (λ e. strict k r before below (priority_in-is rights k
+        ∙ (sym (bytes_same (numbers_of p) (get_or (map priority rights) k []) e)
+        ∙ (key ∙ sym (priority_in-is rights r)))))
 
     place : position_or_len (bytes_eq (numbers_of p)) (map priority rights) ≡ r
     place = position_or_len_is (bytes_eq (numbers_of p)) (map priority rights) r []
@@ -242,8 +226,7 @@ has-right rights ranks strict all r below =
     (found_by_priority rights ranks r at.0 strict all below at.1)
 
 pub values_by_seniority : (rights : List Right) (ranks : BTreeMap Priority ℕ) → IsOrdered priority_cmp ranks →
-    AreRanks rights ranks → same_seniority rights ≡ None →
-    values ranks ≡ by_seniority rights
+    AreRanks rights ranks → same_seniority rights ≡ None → values ranks ≡ by_seniority rights
 values_by_seniority rights ranks ordered all none =
     let strict = strict-from_none rights none in
     let entries = are_entries rights ranks all ranks.entries (All-found priority_total ranks ordered) in

@@ -1,7 +1,7 @@
 -- Rights of one priority.
-use Rattle.std.proofs.Common.{◌≡◌, ℕ, zero, suc, ◌+◌, ◌<◌, ◌≤◌, Bool, true, false, List, [], ◌∷◌, length, map, get_or}
+use Rattle.std.proofs.Common.{◌≡◌, ℕ, zero, suc, ◌+◌, ◌<◌, ◌≤◌, true, false, List, [], ◌∷◌, length, map, get_or}
 use Rattle.std.proofs.Common.{Some, None, refl, sym, ap, ◌∙◌, inl, inr, arith}
-use Rattle.std.proofs.lemmas.Bool.{cases_eq, cases_lt, le-ltb, lt-ltb}
+use Rattle.std.proofs.lemmas.Bool.{cases_eq, cases_lt, le-ltb, lt-ltb, false_from_ne_true}
 use Rattle.std.proofs.lemmas.List.{length-map}
 use Rattle.std.specs.Prelude.{nat_lt}
 use Rattle.std.specs.List.{position_or_len}
@@ -44,8 +44,7 @@ from-fresh keys n key rest is fresh =
 
 -- at a key that an earlier index has, the search ends
 from-like : (keys : List (List ℕ)) (n : ℕ) (key : List ℕ) (rest : List (List ℕ)) → key ≡ get_or keys n [] →
-    first_like keys n < n →
-    same_from keys n (key ∷ rest) ≡ Some (SameSeniority (first_like keys n) n)
+    first_like keys n < n → same_from keys n (key ∷ rest) ≡ Some (SameSeniority (first_like keys n) n)
 from-like keys n key rest is like =
     let at : position_or_len (bytes_eq key) keys ≡ first_like keys n = ap (λ q. position_or_len (bytes_eq q) keys) is in
     let test : nat_lt (position_or_len (bytes_eq key) keys) n ≡ true =
@@ -53,8 +52,7 @@ from-like keys n key rest is like =
     rw test (ap (λ k. Some (SameSeniority k n)) at)
 
 from-found : (keys : List (List ℕ)) (n : ℕ) (rest : List (List ℕ)) (i : ℕ) → AreAfter keys n rest → n ≤ i →
-    i < n + length rest →
-    ((k : ℕ) → n ≤ k → k < i → IsFresh keys k) → first_like keys i < i →
+    i < n + length rest → ((k : ℕ) → n ≤ k → k < i → IsFresh keys k) → first_like keys i < i →
     same_from keys n rest ≡ Some (SameSeniority (first_like keys i) i)
 from-found keys n [] i after from below fresh like = absurd (omega arith)
 from-found keys n (key ∷ rest) i after from below fresh like = elim (cases_eq n i) [
@@ -95,13 +93,11 @@ after_all keys k h = let e : k ≡ 0 + k = omega arith in ap (λ j. get_or keys 
 
 -- the first right with the priority of an earlier one
 pub same_seniority-found : (rights : List Right) (i : ℕ) → i < length rights →
-    ((k : ℕ) → k < i → IsFresh (map priority rights) k) →
-    first_like (map priority rights) i < i →
+    ((k : ℕ) → k < i → IsFresh (map priority rights) k) → first_like (map priority rights) i < i →
     same_seniority rights ≡ Some (SameSeniority (first_like (map priority rights) i) i)
 same_seniority-found rights i below fresh like =
     from-found (map priority rights) 0 (map priority rights) i (after_all (map priority rights)) (omega arith)
-    (omega (arith, length-map rights priority))
-    (λ k f b. fresh k b) like
+    (omega (arith, length-map rights priority)) (λ k f b. fresh k b) like
 
 pub same_seniority-none : (rights : List Right) → ((k : ℕ) → k < length rights → IsFresh (map priority rights) k) →
     same_seniority rights ≡ None
@@ -132,16 +128,9 @@ none-from_strict rights strict = same_seniority-none rights fresh
   where
     apart : (k j : ℕ) → k < length rights → j < k →
         bytes_eq (get_or (map priority rights) k []) (get_or (map priority rights) j []) ≡ false
-    apart k j below before =
-        by_test (bytes_eq (get_or (map priority rights) k []) (get_or (map priority rights) j [])) refl
-      where
-        by_test : (t : Bool) → bytes_eq (get_or (map priority rights) k []) (get_or (map priority rights) j []) ≡ t →
-            t ≡ false
-        by_test false e = refl
-        by_test true e = absurd (strict j k before below
-            (priority_in-is rights j
-            ∙ (sym (bytes_same (get_or (map priority rights) k []) (get_or (map priority rights) j []) e)
-            ∙ sym (priority_in-is rights k))))
+    apart k j below before = false_from_ne_true _ (λ e. strict j k before below (priority_in-is rights j
+        ∙ (sym (bytes_same (get_or (map priority rights) k []) (get_or (map priority rights) j []) e)
+        ∙ sym (priority_in-is rights k))))
 
     fresh : (k : ℕ) → k < length rights → IsFresh (map priority rights) k
     fresh k below =

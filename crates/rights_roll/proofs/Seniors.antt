@@ -1,9 +1,12 @@
 -- The list of the rights by seniority: it is the only one, and the index of each right in it.
-use Rattle.std.proofs.Common.{◌≡◌, ℕ, zero, suc, ◌<◌, ◌≤◌, Bool, true, false, List, [], ◌∷◌, length, get_or, refl, sym}
+use Rattle.std.proofs.Common.{◌≡◌, ℕ, zero, suc, ◌<◌, ◌≤◌, true, false, List, [], ◌∷◌, length, get_or, refl, sym}
 use Rattle.std.proofs.Common.{ap, ◌∙◌, inl, inr, arith}
-use Rattle.std.proofs.lemmas.Bool.{cases_eq, cases_order}
+use Rattle.std.proofs.lemmas.Bool.{cases_order, false_from_ne_true, eq-eqb, eqb-true, ne_eqb, false≢true}
+use Rattle.std.proofs.lemmas.List.Sums.{passes_at_first, position_or_len_is}
+use Rattle.std.specs.List.{position_or_len}
+use Rattle.rights_roll.proofs.Indices.{position_or_len-at_most}
 use Rattle.std.proofs.lemmas.Bool.Decides.{nat_tests}
-use Rattle.std.specs.Prelude.{◌==◌, nat_lt, ◌≢◌, if◌then◌else◌}
+use Rattle.std.specs.Prelude.{◌==◌, nat_lt, ◌≢◌}
 use Rattle.water_model.specs.Rights.{is_senior_in, priority_in, AreStrict}
 use Rattle.water_model.specs.Indices.{by_seniority}
 use Rattle.water_model.specs.declared.types.Right.{Right}
@@ -39,8 +42,7 @@ one_order rights [] (y ∷ ys) first second there back = absurd (back y (inl ref
 one_order rights (x ∷ xs) [] first second there back = absurd (there x (inl refl))
 one_order rights (x ∷ xs) (y ∷ ys) first second there back =
     let e : x ≡ y = same_first rights x y xs ys first second (there x (inl refl)) (back y (inl refl)) in
-    let rest : xs ≡ ys =
-    one_order rights xs ys first.1 second.1 (λ r h. later x y xs ys r first e h (there r (inr h)))
+    let rest : xs ≡ ys = one_order rights xs ys first.1 second.1 (λ r h. later x y xs ys r first e h (there r (inr h)))
     (λ r h. later y x ys xs r second (sym e) h (back r (inr h))) in
     ap (λ z. z ∷ xs) e ∙ ap (λ zs. y ∷ zs) rest
   where
@@ -51,8 +53,7 @@ one_order rights (x ∷ xs) (y ∷ ys) first second there back =
 
 -- a list that has each right, seniors first
 pub is_by_seniority : (rights : List Right) (xs : List ℕ) → AreStrict rights → IsOrdered rights xs →
-    ((r : ℕ) → r < length rights → Has xs r) → ((r : ℕ) → Has xs r → r < length rights) →
-    xs ≡ by_seniority rights
+    ((r : ℕ) → r < length rights → Has xs r) → ((r : ℕ) → Has xs r → r < length rights) → xs ≡ by_seniority rights
 is_by_seniority rights xs strict order all only =
     one_order rights xs (by_seniority rights) order (seniors_ordered rights strict)
     (λ r h. seniors_have rights r (only r h)) (λ r h. all r (seniors_below rights r h))
@@ -71,48 +72,26 @@ by_seniority-below rights i h =
     seniors_below rights (get_or (by_seniority rights) i 0)
     (has-get_or (by_seniority rights) i (omega (arith, length-by_seniority rights)))
 
+-- an index at which a number stands
+has-index : (xs : List ℕ) (r : ℕ) → Has xs r → (i : ℕ) × (i < length xs) × (get_or xs i 0 ≡ r)
+has-index [] r h = absurd h
+has-index (x ∷ xs) r (inl is) = (0, omega arith, sym is)
+has-index (x ∷ xs) r (inr h) = let at = has-index xs r h in (suc at.0, (let l = at.1 in omega arith), at.2)
+
 -- the first index at which a number stands, or the length
-abbrev pub index_in : List ℕ → ℕ → ℕ
-index_in [] r = 0
-index_in (x ∷ xs) r = if r == x then 0 else suc (index_in xs r)
-
-index_in-here : (x r : ℕ) (xs : List ℕ) → r ≡ x → index_in (x ∷ xs) r ≡ 0
-index_in-here x r xs e = let test : r == x ≡ true = grind (arith, nat_tests) in rw test refl
-
-index_in-further : (x r : ℕ) (xs : List ℕ) → r ≢ x → index_in (x ∷ xs) r ≡ suc (index_in xs r)
-index_in-further x r xs e = let test : r == x ≡ false = grind (arith, nat_tests) in rw test refl
+index_in : List ℕ → ℕ → ℕ
+index_in xs r = position_or_len (λ x. x == r) xs
 
 index_in-below : (xs : List ℕ) (r : ℕ) → Has xs r → index_in xs r < length xs
-index_in-below [] r h = absurd h
-index_in-below (x ∷ xs) r h = elim (cases_eq r x) [
-  | inl same ↦ (let e = index_in-here x r xs same in omega arith)
-  | inr other ↦
-      (let e = index_in-further x r xs other in let further : index_in xs r < length xs =
-      index_in-below xs r (later h other) in omega arith)
-]
-  where
-    later : Has (x ∷ xs) r → r ≢ x → Has xs r
-    later (inl is) other = absurd (other is)
-    later (inr rest) other = rest
+unfolding index_in
+index_in-below xs r h =
+    let at = has-index xs r h in let below = at.1 in
+    omega (arith, position_or_len-at_most (λ x. x == r) xs at.0 0 below (eq-eqb (get_or xs at.0 0) r at.2))
 
 get_or-index_in : (xs : List ℕ) (r : ℕ) → Has xs r → get_or xs (index_in xs r) 0 ≡ r
-get_or-index_in [] r h = absurd h
-get_or-index_in (x ∷ xs) r h = elim (cases_eq r x) [
-  | inl same ↦ ap (λ k. get_or (x ∷ xs) k 0) (index_in-here x r xs same) ∙ sym same
-  | inr other ↦ ap (λ k. get_or (x ∷ xs) k 0) (index_in-further x r xs other) ∙ get_or-index_in xs r (later h other)
-]
-  where
-    later : Has (x ∷ xs) r → r ≢ x → Has xs r
-    later (inl is) other = absurd (other is)
-    later (inr rest) other = rest
-
-index_in-get_or : (rights : List Right) (xs : List ℕ) (i : ℕ) → IsOrdered rights xs → i < length xs →
-    index_in xs (get_or xs i 0) ≡ i
-index_in-get_or rights [] i order h = absurd (omega arith)
-index_in-get_or rights (x ∷ xs) zero order h = index_in-here x x xs refl
-index_in-get_or rights (x ∷ xs) (suc i) order h =
-    index_in-further x (get_or xs i 0) xs (not_after rights x xs (get_or xs i 0) order (has-get_or xs i (omega arith)))
-    ∙ ap suc (index_in-get_or rights xs i order.1 (omega arith))
+unfolding index_in
+get_or-index_in xs r h = eqb-true (get_or xs (position_or_len (λ x. x == r) xs) 0) r
+    (passes_at_first (λ x. x == r) xs 0 (index_in-below xs r h))
 
 -- of two entries the one at the lower index is senior
 pub senior_by_index : (rights : List Right) (xs : List ℕ) (i j : ℕ) → IsOrdered rights xs → i < j → j < length xs →
@@ -123,6 +102,14 @@ senior_by_index rights (x ∷ xs) zero (suc j) order h k = order.0 (get_or xs j 
 senior_by_index rights (x ∷ xs) (suc i) (suc j) order h k =
     senior_by_index rights xs i j order.1 (omega arith) (omega arith)
 
+index_in-get_or : (rights : List Right) (xs : List ℕ) (i : ℕ) → IsOrdered rights xs → i < length xs →
+    index_in xs (get_or xs i 0) ≡ i
+unfolding index_in
+index_in-get_or rights xs i order h = position_or_len_is (λ x. x == get_or xs i 0) xs i 0 (omega arith)
+    (λ k l. ne_eqb (get_or xs k 0) (get_or xs i 0) (λ same. false≢true
+    (sym (not_senior_to_same rights (get_or xs k 0) (get_or xs i 0) same) ∙ senior_by_index rights xs k i order l h)))
+    (λ l. eq-eqb (get_or xs i 0) (get_or xs i 0) refl)
+
 senior-indices : (rights : List Right) (xs : List ℕ) (i j : ℕ) → IsOrdered rights xs → i < length xs → j < length xs →
     is_senior_in rights (get_or xs i 0) (get_or xs j 0) ≡ nat_lt i j
 senior-indices rights xs i j order h k = elim (cases_order i j) [
@@ -131,8 +118,8 @@ senior-indices rights xs i j order h k = elim (cases_order i j) [
   | inr o ↦ elim o [
     | inl before ↦ senior_by_index rights xs i j order before k ∙ lt i j before
     | inr after ↦
-        false_by (is_senior_in rights (get_or xs i 0) (get_or xs j 0)) refl
-        (senior_by_index rights xs j i order after h) ∙ not_lt i j (omega arith)
+        false_from_ne_true _ (λ e. not_both rights (get_or xs i 0) (get_or xs j 0) e
+        (senior_by_index rights xs j i order after h)) ∙ not_lt i j (omega arith)
   ]
 ]
   where
@@ -141,11 +128,6 @@ senior-indices rights xs i j order h k = elim (cases_order i j) [
 
     not_lt : (i j : ℕ) → j ≤ i → false ≡ nat_lt i j
     not_lt i j l = grind (arith, nat_tests)
-
-    false_by : (t : Bool) → is_senior_in rights (get_or xs i 0) (get_or xs j 0) ≡ t →
-        is_senior_in rights (get_or xs j 0) (get_or xs i 0) ≡ true → t ≡ false
-    false_by true e back = absurd (not_both rights (get_or xs i 0) (get_or xs j 0) e back)
-    false_by false e back = refl
 
 -- the rights by seniority are in an order with indices
 pub by_seniority_order : (rights : List Right) → AreStrict rights → IsSeniorityOrder rights (by_seniority rights)

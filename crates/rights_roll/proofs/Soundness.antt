@@ -15,7 +15,7 @@ use Rattle.rights_roll.specs.RollFaults.{roll_fault, IsRefusal}
 use Rattle.rights_roll.specs.declared.RollRefused.{RollRefused}
 use Rattle.rights_roll.specs.declared.RollRefused.TheVariants.{BadDate, SameSeniority, ZoneOrder, ReturnParts}
 use Rattle.rights_roll.specs.declared.RollRefused.TheVariants.{OutOfMemory}
-use Rattle.rights_roll.proofs.Firsts.{find-no_index, place-fails}
+use Rattle.water_model.proofs.Finds.{find_none, none_found}
 use Rattle.rights_roll.proofs.SameSeniority.{strict-from_none, none-from_strict}
 
 -- where there is no fault, no index was found
@@ -56,20 +56,6 @@ not_many_parts returns r h = not_above (parts_in returns r) h
     not_above : (n : ℕ) → n ≤ 10000 → nat_lt 10000 n ≡ false
     not_above n e = grind (arith, nat_tests)
 
-pub sound-from_none : (rights : List Right) (returns : List ReturnRow) → date_fault rights ≡ None →
-    same_seniority rights ≡ None → zone_fault rights ≡ None → parts_fault rights returns ≡ None →
-    IsSoundRoll rights returns
-sound-from_none rights returns dates seniority zones parts = record {
-  dates = dates-from rights 0
-      (sym (position_from-zero has_bad_date rights) ∙ none-mapped BadDate (position has_bad_date rights) dates);
-  strict = strict-from_none rights seniority;
-  zones = λ r h. place-fails (has_zone_fault rights) (length rights) r
-      (none-mapped ZoneOrder (find (has_zone_fault rights) (range_with_len 0 (length rights))) zones) h;
-  parts = λ r h. bounded_parts returns r
-      (place-fails (has_many_parts returns) (length rights) r
-      (none-mapped ReturnParts (find (has_many_parts returns) (range_with_len 0 (length rights))) parts) h);
-}
-
 -- the fault of the whole is the first of the four
 pub roll_fault-is : (rights : List Right) (returns : List ReturnRow) →
     roll_fault rights returns ≡ option_or (date_fault rights)
@@ -77,93 +63,52 @@ pub roll_fault-is : (rights : List Right) (returns : List ReturnRow) →
 unfolding roll_fault
 roll_fault-is rights returns = refl
 
-pub none-of_four : (rights : List Right) (returns : List ReturnRow) → date_fault rights ≡ None →
-    same_seniority rights ≡ None → zone_fault rights ≡ None → parts_fault rights returns ≡ None →
-    roll_fault rights returns ≡ None
-none-of_four rights returns dates seniority zones parts =
-    roll_fault-is rights returns ∙ four dates seniority zones parts
-  where
-    four : {a b c d : Option RollRefused} → a ≡ None → b ≡ None → c ≡ None → d ≡ None →
-        option_or a (option_or b (option_or c d)) ≡ None
-    four {a} {b} {c} {d} h i j k = rw h (rw i (rw j k))
+none-of_four : (a b c d : Option RollRefused) → option_or a (option_or b (option_or c d)) ≡ None →
+    (a ≡ None) × (b ≡ None) × (c ≡ None) × (d ≡ None)
+none-of_four None None None d h = (refl, refl, refl, h)
+none-of_four (Some e) b c d h = cc
+none-of_four None (Some e) c d h = cc
+none-of_four None None (Some e) d h = cc
 
 -- a roll without a fault is sound
 pub sound-from_faultless : (rights : List Right) (returns : List ReturnRow) → roll_fault rights returns ≡ None →
     IsSoundRoll rights returns
 sound-from_faultless rights returns none =
-    let all = sym (roll_fault-is rights returns) ∙ none in
-    let dates =
-    both (date_fault rights)
-    (option_or (same_seniority rights) (option_or (zone_fault rights) (parts_fault rights returns))) all in
-    let seniority = both (same_seniority rights) (option_or (zone_fault rights) (parts_fault rights returns)) dates.1 in
-    let zones = both (zone_fault rights) (parts_fault rights returns) seniority.1 in
-    sound-from_none rights returns dates.0 seniority.0 zones.0 zones.1
-  where
-    both : (a b : Option RollRefused) → option_or a b ≡ None → (a ≡ None) × (b ≡ None)
-    both None b h = (refl, h)
-    both (Some e) b h = let found : Some e ≡ None = h in cc
+    let four = none-of_four (date_fault rights) (same_seniority rights) (zone_fault rights) (parts_fault rights returns)
+    (sym (roll_fault-is rights returns) ∙ none) in record {
+      dates = dates-from rights 0
+          (sym (position_from-zero has_bad_date rights) ∙ none-mapped BadDate (position has_bad_date rights) four.0);
+      strict = strict-from_none rights four.1;
+      zones = λ r h. none_found (has_zone_fault rights) 0 (length rights)
+          (none-mapped ZoneOrder (find (has_zone_fault rights) (range_with_len 0 (length rights))) four.2) r
+          (omega arith) (omega arith);
+      parts = λ r h. bounded_parts returns r (none_found (has_many_parts returns) 0 (length rights)
+          (none-mapped ReturnParts (find (has_many_parts returns) (range_with_len 0 (length rights))) four.3) r
+          (omega arith) (omega arith));
+    }
 
 -- a sound roll has no fault
 pub roll_fault-sound : (rights : List Right) (returns : List ReturnRow) → IsSoundRoll rights returns →
     roll_fault rights returns ≡ None
 roll_fault-sound rights returns sound =
-    none-of_four rights returns
-    (ap (λ (o : Option ℕ). option_map BadDate o)
-    (position_from-zero has_bad_date rights ∙ none-from_dates rights 0 sound.dates))
-    (none-from_strict rights sound.strict)
-    (ap (λ (o : Option ℕ). option_map ZoneOrder o) (find-no_index (has_zone_fault rights) (length rights) sound.zones))
-    (ap (λ (o : Option ℕ). option_map ReturnParts o)
-    (find-no_index (has_many_parts returns) (length rights) (λ r h. not_many_parts returns r (sound.parts r h))))
-
--- A refusal of one part is a refusal of the whole where the parts before it have no fault.
-
-refused : (e : RollRefused) (whole part : Option RollRefused) → whole ≡ part → IsRefusal e part → IsRefusal e whole
-refused (BadDate a) whole part same h = same ∙ h
-refused (SameSeniority a b) whole part same h = same ∙ h
-refused (ZoneOrder a) whole part same h = same ∙ h
-refused (ReturnParts a) whole part same h = same ∙ h
-refused OutOfMemory whole part same h = h
-
-pub refused-date : (rights : List Right) (returns : List ReturnRow) (e : RollRefused) → date_fault rights ≡ Some e →
-    IsRefusal e (roll_fault rights returns)
-refused-date rights returns e found =
-    by_variant e
-    (roll_fault-is rights returns
-    ∙ ap (λ o. option_or o
-    (option_or (same_seniority rights) (option_or (zone_fault rights) (parts_fault rights returns)))) found)
+    roll_fault-is rights returns ∙ rw (dates, none-from_strict rights sound.strict, zones) parts
   where
-    by_variant : (e : RollRefused) → roll_fault rights returns ≡ Some e → IsRefusal e (roll_fault rights returns)
-    by_variant (BadDate a) h = h
-    by_variant (SameSeniority a b) h = h
-    by_variant (ZoneOrder a) h = h
-    by_variant (ReturnParts a) h = h
-    by_variant OutOfMemory h = tt
+    dates : date_fault rights ≡ None
+    dates = ap (λ (o : Option ℕ). option_map BadDate o)
+        (position_from-zero has_bad_date rights ∙ none-from_dates rights 0 sound.dates)
 
-some_or : (e : RollRefused) (part rest : Option RollRefused) → IsRefusal e part → IsRefusal e (option_or part rest)
+    zones : zone_fault rights ≡ None
+    zones = ap (λ (o : Option ℕ). option_map ZoneOrder o)
+        (find_none (has_zone_fault rights) 0 (length rights) (λ r _ h. sound.zones r (omega arith)))
+
+    parts : parts_fault rights returns ≡ None
+    parts = ap (λ (o : Option ℕ). option_map ReturnParts o) (find_none (has_many_parts returns) 0 (length rights)
+        (λ r _ h. not_many_parts returns r (sound.parts r (omega arith))))
+
+-- a refusal of one part is a refusal of it and what follows
+pub some_or : (e : RollRefused) (part rest : Option RollRefused) → IsRefusal e part → IsRefusal e (option_or part rest)
 some_or (BadDate a) part rest h = ap (λ o. option_or o rest) h
 some_or (SameSeniority a b) part rest h = ap (λ o. option_or o rest) h
 some_or (ZoneOrder a) part rest h = ap (λ o. option_or o rest) h
 some_or (ReturnParts a) part rest h = ap (λ o. option_or o rest) h
 some_or OutOfMemory part rest h = h
-
-pub refused-seniority : (rights : List Right) (returns : List ReturnRow) (e : RollRefused) → date_fault rights ≡ None →
-    IsRefusal e (same_seniority rights) → IsRefusal e (roll_fault rights returns)
-refused-seniority rights returns e dates h =
-    refused e (roll_fault rights returns)
-    (option_or (same_seniority rights) (option_or (zone_fault rights) (parts_fault rights returns)))
-    (roll_fault-is rights returns ∙ rw dates refl)
-    (some_or e (same_seniority rights) (option_or (zone_fault rights) (parts_fault rights returns)) h)
-
-pub refused-zone : (rights : List Right) (returns : List ReturnRow) (e : RollRefused) → date_fault rights ≡ None →
-    same_seniority rights ≡ None → IsRefusal e (zone_fault rights) → IsRefusal e (roll_fault rights returns)
-refused-zone rights returns e dates seniority h =
-    refused e (roll_fault rights returns) (option_or (zone_fault rights) (parts_fault rights returns))
-    (roll_fault-is rights returns ∙ rw dates (rw seniority refl))
-    (some_or e (zone_fault rights) (parts_fault rights returns) h)
-
-pub refused-parts : (rights : List Right) (returns : List ReturnRow) (e : RollRefused) → date_fault rights ≡ None →
-    same_seniority rights ≡ None → zone_fault rights ≡ None →
-    IsRefusal e (parts_fault rights returns) → IsRefusal e (roll_fault rights returns)
-refused-parts rights returns e dates seniority zones h =
-    refused e (roll_fault rights returns) (parts_fault rights returns)
-    (roll_fault-is rights returns ∙ rw dates (rw seniority (rw zones refl))) h

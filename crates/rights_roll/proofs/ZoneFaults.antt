@@ -15,7 +15,7 @@ use Rattle.water_model.specs.declared.types.RightKind.TheVariants.{Diversion, In
 use Rattle.rights_roll.specs.RollFaults.{zone_fault}
 use Rattle.rights_roll.specs.Zones.{ZoneTable, same_zone, has_senior, AreSeniorZones}
 use Rattle.rights_roll.specs.declared.RollRefused.TheVariants.{ZoneOrder}
-use Rattle.rights_roll.proofs.Firsts.{find-place, find-no_index}
+use Rattle.water_model.proofs.Finds.{find_first, find_none}
 use Rattle.rights_roll.proofs.ZoneTables.{other_kind}
 
 -- a set of reservoirs and levels
@@ -35,87 +35,44 @@ of_entry-within [] k f default x below is = absurd (omega arith)
 of_entry-within (y ∷ ys) zero f default x below is = ap f (sym is)
 of_entry-within (y ∷ ys) (suc k) f default x below is = of_entry-within ys k f default x (omega arith) is
 
--- what decides whether a zone is at fault
-has_zone_fault-is : (rights : List Right) (i : ℕ) (r : Right) (at its : ℕ) (zones : ZoneTable) (seen : ZoneSet) →
-    i < length rights →
+-- what decides whether a zone is at fault: its level is not new, or it lacks a senior zone
+pub has_zone_fault-is : {rights : List Right} {i : ℕ} {r : Right} {at its : ℕ} (zones : ZoneTable) {seen : ZoneSet}
+    {key : List ℕ} {is_new lacks : Bool} → i < length rights →
     r ≡ get_or rights i r → r.kind ≡ Zone at its → AreSeniorZones rights zones → AreClear rights seen i →
-    has_zone_fault rights i ≡ contains same_zone seen
-    (at, its) || (nat_lt 1 its && not (has_senior zones at (its - 1) (priority r)))
-has_zone_fault-is rights i r at its zones seen below is kind seniors so_far =
+    key ≡ priority r → is_new ≡ not (contains same_zone seen (at, its)) →
+    lacks ≡ nat_lt 1 its && not (has_senior zones at (its - 1) key) → has_zone_fault rights i ≡ not is_new || lacks
+has_zone_fault-is {rights} {i} {r} {at} {its} zones {seen} below is kind seniors so_far same_key added known =
     of_entry-within rights i (λ x. is_zone_fault rights (take i rights) (priority x) x.kind) false r below is
     ∙ (ap (is_zone_fault rights (take i rights) (priority r)) kind
     ∙ (ap (λ b. b || (nat_lt 1 its && not (list_any (is_senior_zone at (its - 1) (priority r)) rights)))
     (sym (so_far.levels at its))
-    ∙ ap (λ b. contains same_zone seen (at, its) || (nat_lt 1 its && not b)) (sym (seniors at (its - 1) (priority r)))))
-
--- a zone whose reservoir and level the set has
-pub fault-repeats : (rights : List Right) (i : ℕ) (r : Right) (at its : ℕ) (zones : ZoneTable) (seen : ZoneSet)
-    (is_new : Bool) → i < length rights →
-    r ≡ get_or rights i r → r.kind ≡ Zone at its → AreSeniorZones rights zones → AreClear rights seen i →
-    is_new ≡ not (contains same_zone seen (at, its)) → is_new ≡ false → has_zone_fault rights i ≡ true
-fault-repeats rights i r at its zones seen is_new below is kind seniors so_far added old =
-    by_test (has_zone_fault rights i) (contains same_zone seen (at, its))
-    (nat_lt 1 its && not (has_senior zones at (its - 1) (priority r)))
-    (has_zone_fault-is rights i r at its zones seen below is kind seniors so_far) (sym added ∙ old)
+    ∙ (ap (λ b. contains same_zone seen (at, its) || (nat_lt 1 its && not b)) (sym (seniors at (its - 1) (priority r)))
+    ∙ rw (added, known, same_key) (twice (contains same_zone seen (at, its)) _))))
   where
-    by_test : (f c l : Bool) → f ≡ c || l → not c ≡ false → f ≡ true
-    by_test f true l e n = e
-    by_test f false l e n = cc
+    twice : (t s : Bool) → t || s ≡ not (not t) || s
+    twice true s = refl
+    twice false s = refl
 
--- a zone that lacks a senior one
-pub fault-lacks : (rights : List Right) (i : ℕ) (r : Right) (at its : ℕ) (zones : ZoneTable) (seen : ZoneSet)
-    (key : List ℕ) (lacks : Bool) → i < length rights →
-    r ≡ get_or rights i r → r.kind ≡ Zone at its → AreSeniorZones rights zones → AreClear rights seen i →
-    key ≡ priority r →
-    lacks ≡ nat_lt 1 its && not (has_senior zones at (its - 1) key) → lacks ≡ true → has_zone_fault rights i ≡ true
-fault-lacks rights i r at its zones seen key lacks below is kind seniors so_far same_key known so =
-    by_test (has_zone_fault rights i) (contains same_zone seen (at, its))
-    (nat_lt 1 its && not (has_senior zones at (its - 1) (priority r)))
-    (has_zone_fault-is rights i r at its zones seen below is kind seniors so_far)
-    (ap (λ q. nat_lt 1 its && not (has_senior zones at (its - 1) q)) (sym same_key) ∙ (sym known ∙ so))
-  where
-    by_test : (f c l : Bool) → f ≡ c || l → l ≡ true → f ≡ true
-    by_test f true l e n = e
-    by_test f false l e n = e ∙ n
-
--- a zone that does neither
-pub no_fault : (rights : List Right) (i : ℕ) (r : Right) (at its : ℕ) (zones : ZoneTable) (seen : ZoneSet)
-    (key : List ℕ) (is_new lacks : Bool) → i < length rights →
-    r ≡ get_or rights i r → r.kind ≡ Zone at its → AreSeniorZones rights zones → AreClear rights seen i →
-    key ≡ priority r →
-    is_new ≡ not (contains same_zone seen (at, its)) → is_new ≡ true →
-    lacks ≡ nat_lt 1 its && not (has_senior zones at (its - 1) key) → lacks ≡ false → has_zone_fault rights i ≡ false
-no_fault rights i r at its zones seen key is_new lacks below is kind seniors so_far same_key added fresh known neither =
-    by_test (has_zone_fault rights i) (contains same_zone seen (at, its))
-    (nat_lt 1 its && not (has_senior zones at (its - 1) (priority r)))
-    (has_zone_fault-is rights i r at its zones seen below is kind seniors so_far) (sym added ∙ fresh)
-    (ap (λ q. nat_lt 1 its && not (has_senior zones at (its - 1) q)) (sym same_key) ∙ (sym known ∙ neither))
-  where
-    by_test : (f c l : Bool) → f ≡ c || l → not c ≡ true → l ≡ false → f ≡ false
-    by_test f true l e n o = cc
-    by_test f false l e n o = e ∙ o
-
-pub zone_fault-first : (rights : List Right) (i : ℕ) (seen : ZoneSet) → i < length rights → AreClear rights seen i →
-    has_zone_fault rights i ≡ true →
-    zone_fault rights ≡ Some (ZoneOrder i)
-zone_fault-first rights i seen below so_far here =
+pub zone_fault-first : {rights : List Right} {i : ℕ} {seen : ZoneSet} → i < length rights → AreClear rights seen i →
+    has_zone_fault rights i ≡ true → zone_fault rights ≡ Some (ZoneOrder i)
+zone_fault-first {rights} {i} below so_far here =
     ap (λ (o : Option ℕ). option_map ZoneOrder o)
-    (find-place (has_zone_fault rights) (length rights) i below so_far.clear here)
+    (find_first (has_zone_fault rights) 0 (length rights) i (omega arith) (omega arith) here
+    (λ k _ b. so_far.clear k b))
 
-pub zone_fault-none : (rights : List Right) (i : ℕ) (seen : ZoneSet) → length rights ≤ i → AreClear rights seen i →
+pub zone_fault-none : {rights : List Right} {i : ℕ} {seen : ZoneSet} → length rights ≤ i → AreClear rights seen i →
     zone_fault rights ≡ None
-zone_fault-none rights i seen past all =
+zone_fault-none {rights} past all =
     ap (λ (o : Option ℕ). option_map ZoneOrder o)
-    (find-no_index (has_zone_fault rights) (length rights) (λ k below. all.clear k (omega arith)))
+    (find_none (has_zone_fault rights) 0 (length rights) (λ k _ b. all.clear k (omega arith)))
 
 -- one more zone that is not at fault
-pub clear-zone : (rights : List Right) (i : ℕ) (r : Right) (at its : ℕ) (seen new : ZoneSet) → i < length rights →
+pub clear-zone : {rights : List Right} {i : ℕ} {r : Right} {at its : ℕ} {seen new : ZoneSet} → i < length rights →
     r ≡ get_or rights i r → r.kind ≡ Zone at its →
     Updates same_zone seen new (at, its) true → has_zone_fault rights i ≡ false → AreClear rights seen i →
     AreClear rights new (i + 1)
-clear-zone rights i r at its seen new below is kind updates fine so_far = record {
-  levels = λ reservoir level.
-      updates.0 (reservoir, level)
+clear-zone {rights} {i} {r} {at} {its} {seen} below is kind updates fine so_far = record {
+  levels = λ reservoir level. updates.0 (reservoir, level)
       ∙ (by_test (same_zone (at, its) (reservoir, level)) (contains same_zone seen (reservoir, level))
       ∙ (ap (λ b. b || same_zone (at, its) (reservoir, level)) (so_far.levels reservoir level)
       ∙ (ap (λ b. list_any (λ x. is_zone_kind reservoir level x.kind) (take i rights) || b)
@@ -131,12 +88,11 @@ clear-zone rights i r at its seen new below is kind updates fine so_far = record
     by_test false false = refl
 
 -- one more right that is no zone
-pub clear-other : (rights : List Right) (i : ℕ) (r : Right) (seen : ZoneSet) → i < length rights →
+pub clear-other : {rights : List Right} {i : ℕ} {r : Right} {seen : ZoneSet} → i < length rights →
     r ≡ get_or rights i r →
     ((at its : ℕ) → r.kind ≡ Zone at its → ⊥) → AreClear rights seen i → AreClear rights seen (i + 1)
-clear-other rights i r seen below is apart so_far = record {
-  levels = λ reservoir level.
-      so_far.levels reservoir level
+clear-other {rights} {i} {r} below is apart so_far = record {
+  levels = λ reservoir level. so_far.levels reservoir level
       ∙ (or_false (list_any (λ x. is_zone_kind reservoir level x.kind) (take i rights))
       ∙ (ap (λ b. list_any (λ x. is_zone_kind reservoir level x.kind) (take i rights) || b)
       (sym (other_kind r.kind reservoir level apart) ∙ ap (λ x. is_zone_kind reservoir level x.kind) is)

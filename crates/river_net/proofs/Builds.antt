@@ -1,8 +1,9 @@
 -- The network of nodes and links that have no fault.
 use Rattle.std.proofs.Common.{◌≡◌, ℕ, zero, suc, ◌<◌, refl, sym, ◌∙◌, ap, subst, arith, List, [], ◌∷◌, length, get_or}
-use Rattle.std.proofs.Common.{map, inl, inr}
+use Rattle.std.proofs.Common.{◌+◌, ◌≤◌, Bool, cond, map, inl, inr}
 use Rattle.std.proofs.lemmas.Bool.{cases_Bool, and_parts, and_from, false_from_ne_true, false≢true, eqb-true, eq-eqb}
 use Rattle.std.proofs.lemmas.Bool.{not_from_true, not_from_false}
+use Rattle.std.proofs.lemmas.List.{length-map}
 use Rattle.std.specs.Prelude.{◌==◌, ◌&&◌, not, Option, Some, None, is_none, All, slice_index}
 use Rattle.std.specs.List.{find, range_with_len}
 use Rattle.water_model.specs.Network.{tail_in, head_in, is_river_in, is_outlet_in, HasNodes, IsSoundNetwork}
@@ -16,8 +17,15 @@ use Rattle.river_net.specs.Sorting.{IsReleased}
 use Rattle.river_net.specs.NetFaults.{first_without_river, first_on_cycle, lacks_river, keeps_water}
 use Rattle.river_net.proofs.Entries.{ends_in}
 use Rattle.river_net.proofs.Sorted.{running_order}
-use Rattle.river_net.proofs.Finds.{find_same}
 use Rattle.river_net.proofs.NoFault.{has_river, river_found, found_river}
+
+-- tests that agree find the same
+find_same : (p q : ℕ → Bool) (from n : ℕ) → ((j : ℕ) → from ≤ j → j < from + n → p j ≡ q j) →
+    find p (range_with_len from n) ≡ find q (range_with_len from n)
+find_same p q from zero same = refl
+find_same p q from (suc n) same =
+    ap (λ t. cond t (Some from) (find p (range_with_len (from + 1) n))) (same from (omega arith) (omega arith))
+    ∙ ap (λ o. cond (q from) (Some from) o) (find_same p q (from + 1) n (λ j a b. same j (omega arith) (omega arith)))
 
 -- a node has a first river exactly where a river leaves it
 river_or_none : (links : List Link) (node : ℕ) (o : Option ℕ) →
@@ -30,12 +38,10 @@ river_or_none links node None first =
     (eq-eqb (tail_in links out.link) node out.tail) out.river)))
 river_or_none links node (Some e) first =
     let parts = and_parts (tail_in links e == node) (is_river_in links e) first.2 in
-    not_from_true (has_river links node)
-    (found_river links node record {
+    not_from_true (has_river links node) (found_river links node record {
       link = e;
       in_range = first.1;
-      tail =
-          eqb-true (tail_in links e) node parts.0;
+      tail = eqb-true (tail_in links e) node parts.0;
       river = parts.1;
     })
 
@@ -51,8 +57,7 @@ without_river nodes links rivers firsts =
 
 -- the first river of a node of a sound network
 river_of : (nodes : List Node) (links : List Link) (v : ℕ) (o : Option ℕ) → IsSoundNetwork nodes links →
-    v < length nodes →
-    IsFirstFrom (leaves_as_river links v) 0 (length links) o → IsRiverOf nodes links v o
+    v < length nodes → IsFirstFrom (leaves_as_river links v) 0 (length links) o → IsRiverOf nodes links v o
 river_of nodes links v None sound l first = elim (cases_Bool (is_outlet_in nodes v)) [
   | inl outlet ↦ outlet
   | inr inner ↦ (let out = sound.rivers v l inner in absurd (false≢true (sym (first out.link (omega arith) out.in_range)
@@ -81,40 +86,33 @@ heads_are [] e l = absurd (omega arith)
 heads_are (x ∷ links) zero l = refl
 heads_are (x ∷ links) (suc e) l = heads_are links e (omega arith)
 
--- there are as many heads as links
-heads_count : (links : List Link) → length (map (λ (l : Link). l.to) links) ≡ length links
-heads_count [] = refl
-heads_count (x ∷ links) = ap suc (heads_count links)
-
 -- the network of sound nodes and links
-pub net_is : (nodes : List Node) (links : List Link) (order heads : List ℕ) (rivers : List (Option ℕ)) →
-    All (λ l. HasNodes nodes l) links →
-    IsSoundNetwork nodes links → IsRunningOrder nodes links order →
-    AreFirsts (leaves_as_river links) (length nodes) 0 (length links) rivers →
-    heads ≡ map (λ (l : Link). l.to) links →
+pub net_is : {nodes : List Node} {links : List Link} {order heads : List ℕ} {rivers : List (Option ℕ)} →
+    All (λ l. HasNodes nodes l) links → IsSoundNetwork nodes links → IsRunningOrder nodes links order →
+    AreFirsts (leaves_as_river links) (length nodes) 0 (length links) rivers → heads ≡ map (λ (l : Link). l.to) links →
     IsNet nodes links (record { order = order; rivers = rivers; heads = heads })
-net_is nodes links order heads rivers ends sound run firsts heads_is = record {
+net_is {nodes} {links} {order} {heads} {rivers} ends sound run firsts heads_is = record {
   ends = ends;
   run = run;
   river_count = firsts.count;
   river = λ v l. river_of nodes links v (get_or rivers v None) sound l (firsts.each v l);
-  head_count = ap length heads_is ∙ heads_count links;
+  head_count = ap length heads_is ∙ length-map links (λ l. l.to);
   head = λ e l. ap (λ (xs : List ℕ). slice_index xs e) heads_is ∙ heads_are links e l;
 }
 
 -- the node on a cycle that the search over the graph found
-pub on_cycle : (nodes : List Node) (links : List Link) (g : GraphView) (o found : Option ℕ) →
+pub on_cycle : (nodes : List Node) (links : List Link) {g : GraphView} {o found : Option ℕ} →
     g ≡ record { nodes = length nodes; links = links } →
     found ≡ find (reaches_itself g) (range_with_len 0 g.nodes) → found ≡ o → first_on_cycle nodes links ≡ o
 unfolding first_on_cycle
-on_cycle nodes links g o found is search same =
+on_cycle nodes links is search same =
     sym (ap (λ (h : GraphView). find (reaches_itself h) (range_with_len 0 h.nodes)) is) ∙ (sym search ∙ same)
 
 -- the order that the graph was sorted into
-pub order_runs : (nodes : List Node) (links : List Link) (g : GraphView) (order waits : List ℕ) →
+pub order_runs : {nodes : List Node} {links : List Link} {g : GraphView} {order waits : List ℕ} →
     All (λ l. HasNodes nodes l) links → IsSoundNetwork nodes links →
     g ≡ record { nodes = length nodes; links = links } → IsReleased g order waits (length order) →
     IsRunningOrder nodes links order
-order_runs nodes links g order waits ends sound is now =
-    running_order nodes links order waits record { ends = ends_in nodes links ends }
+order_runs {nodes} {links} {g} {order} {waits} ends sound is now =
+    running_order nodes links record { ends = ends_in nodes links ends }
     (subst (λ (h : GraphView). IsReleased h order waits (length order)) is now) sound.acyclic

@@ -28,8 +28,7 @@ repeats n f below = elim (all_or_one n (λ v. nat_lt (count_where (suc n) (λ k.
     all : total n (λ v. count_where (suc n) (λ k. f k == v)) ≡ suc n
     all = total_exchange n (suc n) (λ v k. if f k == v then 1 else 0)
         ∙ (total_same (suc n) (λ k. total n (λ v. if f k == v then 1 else 0)) (λ k. 1)
-        (λ k l. total_at n (f k) 1 ∙ at_inside (f k) n 1 (below k (omega arith)))
-        ∙ total_ones (suc n))
+        (λ k l. total_at n (f k) 1 ∙ at_inside (f k) n 1 (below k (omega arith))) ∙ total_ones (suc n))
 
     too_few_counted : ((v : ℕ) → v < n → nat_lt (count_where (suc n) (λ k. f k == v)) 2 ≡ true) → ⊥
     too_few_counted fewer = omega (
@@ -95,11 +94,10 @@ before f x zero = x
 before f x (suc i) = f i
 
 -- a link to a node, before the links to its tail
-pub chain_more : (links : List Link) (nodes k e : ℕ) → e < length links → head_in links e < nodes →
-    Chain links nodes k (tail_in links e) →
-    Chain links nodes (suc k) (head_in links e)
+pub chain_more : {links : List Link} {nodes k : ℕ} (e : ℕ) → e < length links → head_in links e < nodes →
+    Chain links nodes k (tail_in links e) → Chain links nodes (suc k) (head_in links e)
 unfolding before
-chain_more links nodes k e l m c = record {
+chain_more {links} {nodes} {k} e l m c = record {
   at = before c.at (head_in links e);
   start = refl;
   inside = inside;
@@ -126,30 +124,28 @@ chain_more links nodes k e l m c = record {
     tail (suc i) b = c.tail i (omega arith)
 
 -- a walk leads from each node of a chain to each that stands before it
-chain_walk : (links : List Link) (nodes k node : ℕ) → (c : Chain links nodes k node) → (i j : ℕ) → i < j → j ≤ k →
+chain_walk : {links : List Link} {nodes k node : ℕ} → (c : Chain links nodes k node) → (i j : ℕ) → i < j → j ≤ k →
     walks links j (c.at j) (c.at i) ≡ true
-chain_walk links nodes k node c i zero l m = absurd (omega arith)
-chain_walk links nodes k node c i (suc j) l m = walk_by links j (c.at (suc j)) (c.at i) record {
+chain_walk c i zero l m = absurd (omega arith)
+chain_walk {links} c i (suc j) l m = walk_by links j (c.at (suc j)) (c.at i) record {
   link = c.link j;
   in_range = c.in_range j (omega arith);
   tail = c.tail j (omega arith);
   rest = elim (cases_eq i j) [
     | inl same ↦ inl (c.head j (omega arith) ∙ ap c.at (sym same))
     | inr other ↦
-        inr (ap (λ v. walks links j v (c.at i)) (c.head j (omega arith))
-        ∙ chain_walk links nodes k node c i j (omega arith) (omega arith))
+        inr (ap (λ v. walks links j v (c.at i)) (c.head j (omega arith)) ∙ chain_walk c i j (omega arith) (omega arith))
   ];
 }
 
 -- a chain of as many links as there are nodes has a node that reaches itself
-pub chain_turns : (links : List Link) (nodes node : ℕ) → Chain links nodes nodes node → (v : ℕ) × (v < nodes) ×
+pub chain_turns : {links : List Link} {nodes node : ℕ} → Chain links nodes nodes node → (v : ℕ) × (v < nodes) ×
     (walks links nodes v v ≡ true)
-chain_turns links nodes node c =
+chain_turns {links} {nodes} c =
     let r = repeats nodes c.at c.inside in
     let o = r.order in let w = r.within in (
       c.at r.first,
       c.inside r.first (omega arith),
       ap (λ v. walks links nodes v (c.at r.first)) r.same
-          ∙ walk_within links r.second nodes (c.at r.second) (c.at r.first) w
-          (chain_walk links nodes nodes node c r.first r.second o w),
+          ∙ walk_within links r.second nodes (c.at r.second) (c.at r.first) w (chain_walk c r.first r.second o w),
     )

@@ -13,19 +13,18 @@ use Rattle.river_net.specs.Sorting.{AreEntering}
 use Rattle.river_net.proofs.Entries.{entry_is}
 
 -- before the first link all counts are 0
-pub entering_start : (g : GraphView) (counts : List ℕ) → counts ≡ replicate g.nodes 0 → AreEntering g 0 counts
-entering_start g counts is = record {
+pub entering_start : {g : GraphView} {counts : List ℕ} → counts ≡ replicate g.nodes 0 → AreEntering g 0 counts
+entering_start {g} is = record {
   count = ap length is ∙ length-replicate g.nodes 0;
   each = λ v l. ap (λ (xs : List ℕ). get_or xs v 0) is ∙ get_or-replicate g.nodes v 0 0 l
       ∙ sym (total_where_start (λ e. head_in g.links e == v) (λ e. 1));
 }
 
 -- one more link
-pub entering_next : (g : GraphView) (k : ℕ) (counts : List ℕ) (x : Link) (old : ℕ) → k < length g.links →
-    x.to < g.nodes →
-    x ≡ get_or g.links k x → old ≡ get_or counts x.to old → AreEntering g k counts →
+pub entering_next : {g : GraphView} {k : ℕ} {counts : List ℕ} {x : Link} {old : ℕ} → k < length g.links →
+    x.to < g.nodes → x ≡ get_or g.links k x → old ≡ get_or counts x.to old → AreEntering g k counts →
     AreEntering g (k + 1) (slice_set counts x.to (old + 1))
-entering_next g k counts x old below inside read at now = record {
+entering_next {g} {k} {counts} {x} {old} below inside read at now = record {
   count = length-set counts x.to (old + 1) ∙ now.count;
   each = λ v l. elim (cases_eq v x.to) [
     | inl same ↦ ap (λ u. slice_index (slice_set counts x.to (old + 1)) u) same
@@ -46,8 +45,7 @@ entering_next g k counts x old below inside read at now = record {
     old_is : old ≡ slice_index counts x.to
     old_is = at ∙ get_or_default counts x.to old 0 room
 
-    counted : (v : ℕ) →
-        count_where (k + 1) (λ e. head_in g.links e == v) ≡ count_where k
+    counted : (v : ℕ) → count_where (k + 1) (λ e. head_in g.links e == v) ≡ count_where k
         (λ e. head_in g.links e == v) + (if head_in g.links k == v then 1 else 0)
     counted v = total_where_more k (λ e. head_in g.links e == v) (λ e. 1)
 
@@ -58,9 +56,9 @@ entering_next g k counts x old below inside read at now = record {
     zero {v} other = ap (λ t. if t then 1 else 0) (ne_eqb (head_in g.links k) v (λ h. other (sym h ∙ head)))
 
 -- a count is small
-pub entering_small : (g : GraphView) (k : ℕ) (counts : List ℕ) (v old : ℕ) → v < g.nodes → old ≡ get_or counts v old →
-    AreEntering g k counts → old ≤ k
-entering_small g k counts v old inside at now =
+pub entering_small : {g : GraphView} {k : ℕ} {counts : List ℕ} (v : ℕ) {old : ℕ} → v < g.nodes →
+    old ≡ get_or counts v old → AreEntering g k counts → old ≤ k
+entering_small {g} {k} {counts} v {old} inside at now =
     let c = now.count in
     let room : v < length counts = omega arith in
     let old_is : old ≡ slice_index counts v = at ∙ get_or_default counts v old 0 room in

@@ -1,7 +1,7 @@
 -- What is read of the entries of a list.
 use Rattle.std.proofs.Common.{◌≡◌, ℕ, ◌<◌, List, length, refl, ap, get_or, arith}
 use Rattle.std.proofs.lemmas.Option.{slice_get_read}
-use Rattle.std.specs.Prelude.{All, unwrap_or, option_map}
+use Rattle.std.specs.Prelude.{All, Some, slice_get, unwrap_or, option_map}
 use Rattle.water_model.specs.Lookups.{of_entry}
 use Rattle.water_model.specs.Network.{HasNodes, tail_in, head_in}
 use Rattle.water_model.specs.declared.types.Link.{Link}
@@ -10,19 +10,23 @@ use Rattle.water_model.proofs.Valid.{entry_holds}
 
 -- what is said of an entry, where it was read
 pub entry_is : {X Y : Type 0} (xs : List X) (k : ℕ) (x : X) (f : X → Y) (default : Y) → k < length xs →
-    x ≡ get_or xs k x →
-    of_entry xs k f default ≡ f x
+    x ≡ get_or xs k x → of_entry xs k f default ≡ f x
 entry_is xs k x f default l read =
     ap (λ o. unwrap_or (option_map f o) default) (slice_get_read xs (length xs) k x refl l read)
+
+-- what a link says where its entry is given
+pub tail_is : (links : List Link) (k : ℕ) (x : Link) → slice_get links k ≡ Some x → tail_in links k ≡ x.from
+tail_is links k x at = ap (λ o. unwrap_or (option_map (λ (l : Link). l.from) o) 0) at
+
+-- the head of a link
+pub head_is : (links : List Link) (k : ℕ) (x : Link) → slice_get links k ≡ Some x → head_in links k ≡ x.to
+head_is links k x at = ap (λ o. unwrap_or (option_map (λ (l : Link). l.to) o) 0) at
 
 -- the ends of links are nodes
 pub ends_in : (nodes : List Node) (links : List Link) → All (λ l. HasNodes nodes l) links → (e : ℕ) → e < length links →
     (tail_in links e < length nodes) × (head_in links e < length nodes)
 ends_in nodes links h e l =
     let entry = entry_holds (λ l. HasNodes nodes l) links e h l in
-    let link : Link = entry.0 in
-    let tail : tail_in links e ≡ link.from = ap (λ o. unwrap_or (option_map (λ (x : Link). x.from) o) 0) entry.1 in
-    let head : head_in links e ≡ link.to = ap (λ o. unwrap_or (option_map (λ (x : Link). x.to) o) 0) entry.1 in
     let from = entry.2.from in
     let to = entry.2.to in
-    (omega arith, omega arith)
+    (omega (arith, tail_is links e entry.0 entry.1), omega (arith, head_is links e entry.0 entry.1))

@@ -26,17 +26,16 @@ first_skip test e bound (Some position) fails h = (
 )
 
 -- one more link, before the others of its tail
-pub leaving_next : (nodes : ℕ) (links : List Link) (e : ℕ) (first next : List (Option ℕ)) (v : ℕ) (x : Option ℕ) →
+pub leaving_next : {nodes : ℕ} {links : List Link} (e : ℕ) {first next : List (Option ℕ)} {v : ℕ} {x : Option ℕ} →
     e < length links → v < nodes → tail_in links e ≡ v → x ≡ get_or first v None →
     IsLeaving nodes links (e + 1) first next → IsLeaving nodes links e (slice_set first v (Some e)) (slice_set next e x)
-leaving_next nodes links e first next v x below inside at read now = record {
+leaving_next {nodes} {links} e {first} {next} {v} {x} below inside at read now = record {
   firsts = record {
     count = length-set first v (Some e) ∙ now.firsts.count;
     each = λ u l. elim (cases_eq u v) [
       | inl same ↦
           subst (λ u. IsFirstFrom (leaves links u) e (length links) (get_or (slice_set first v (Some e)) u None))
-          (sym same)
-          (subst (IsFirstFrom (leaves links v) e (length links))
+          (sym same) (subst (IsFirstFrom (leaves links v) e (length links))
           (sym (get_or-set_same first v (Some e) None (let c = now.firsts.count in omega arith)))
           (omega arith, below, eq-eqb (tail_in links e) v at, λ k a b. absurd (omega arith)))
       | inr other ↦
@@ -56,8 +55,7 @@ leaving_next nodes links e first next v x below inside at read now = record {
         (now.firsts.each v inside)))
     | inr other ↦
         subst (IsFirstFrom (leaves links (tail_in links f)) (f + 1) (length links))
-        (sym (get_or-set_other next e f x None other))
-        (now.nexts f (omega arith) b)
+        (sym (get_or-set_other next e f x None other)) (now.nexts f (omega arith) b)
   ];
 }
 

@@ -36,20 +36,18 @@ placing_start g = record {
     no n x = grind (arith, nat_tests)
 
 -- an order has fewer nodes than there are, where a node has no position
-pub room : (g : GraphView) (order : List ℕ) (position : ℕ → ℕ) (v : ℕ) → IsPlacing g order position → v < g.nodes →
-    position v ≡ g.nodes →
-    length order < g.nodes
-room g order position v now l unplaced =
+pub room : {g : GraphView} {order : List ℕ} {position : ℕ → ℕ} (v : ℕ) → IsPlacing g order position → v < g.nodes →
+    position v ≡ g.nodes → length order < g.nodes
+room {g} {order} {position} v now l unplaced =
     let f = fewer g.nodes (λ u. nat_lt (position u) g.nodes) v l (le-ltb (position v) g.nodes (omega arith)) in
     omega (arith, now.number)
 
 -- a node gets the next position, after all tails of links to it
-pub placing_next : (g : GraphView) (order : List ℕ) (position : ℕ → ℕ) (v : ℕ) → IsWithin g.nodes g.links →
-    IsPlacing g order position →
-    v < g.nodes → position v ≡ g.nodes →
+pub placing_next : {g : GraphView} {order : List ℕ} {position : ℕ → ℕ} (v : ℕ) → IsWithin g.nodes g.links →
+    IsPlacing g order position → v < g.nodes → position v ≡ g.nodes →
     ((e : ℕ) → e < length g.links → head_in g.links e ≡ v → position (tail_in g.links e) < length order) →
     IsPlacing g (order ++ v ∷ []) (with_index position v (length order))
-placing_next g order position v within now inside unplaced tails = record {
+placing_next {g} {order} {position} v within now inside unplaced tails = record {
   each = λ u l. elim (cases_eq u v) [
     | inl same ↦ (let at : position' u ≡ length order = ap position' same ∙ here in
         inr (omega (arith, count), ap (slice_index order') at ∙ last ∙ sym same))
@@ -91,7 +89,7 @@ placing_next g order position v within now inside unplaced tails = record {
     position' = with_index position v (length order)
 
     full : length order < g.nodes
-    full = room g order position v now inside unplaced
+    full = room v now inside unplaced
 
     count : length order' ≡ length order + 1
     count = grind (arith, common_steps)
@@ -113,8 +111,7 @@ placing_next g order position v within now inside unplaced tails = record {
     tail_stays u l = there u (λ same. let p = ap position same in absurd (omega (arith, full)))
 
     runs : (e : ℕ) → e < length g.links → position' (head_in g.links e) < length order' → (head_in g.links e ≡ v) ⊎
-        (head_in g.links e ≢ v) →
-        position' (tail_in g.links e) < position' (head_in g.links e)
+        (head_in g.links e ≢ v) → position' (tail_in g.links e) < position' (head_in g.links e)
     runs e l below (inl at) =
         let h = ap position' at in
         let t = tails e l at in

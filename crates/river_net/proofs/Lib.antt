@@ -8,9 +8,8 @@ pub mod Walks
 pub mod Chains
 pub mod Sorted
 pub mod Searches
-pub mod Finds
 pub mod NoFault
 pub mod Builds
-pub mod Runs
 pub mod Ranks
 pub mod RiverPlan
+pub mod Runs

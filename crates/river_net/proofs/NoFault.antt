@@ -17,7 +17,7 @@ use Rattle.river_net.specs.NetFaults.{is_self_link, leaves_outlet, lacks_river, 
 use Rattle.river_net.specs.NetFaults.{first_without_river, first_on_cycle, net_fault}
 use Rattle.river_net.specs.declared.refused.NetRefused.{NetRefused}
 use Rattle.river_net.specs.declared.refused.NetRefused.TheVariants.{SelfLink, LinkFromOutlet, NoRiver, DirectedCycle}
-use Rattle.river_net.proofs.Entries.{ends_in}
+use Rattle.river_net.proofs.Entries.{ends_in, tail_is, head_is}
 use Rattle.water_model.proofs.Finds.{find_none, none_found}
 use Rattle.river_net.proofs.Walks.{any_index, index_any, walk_one, walk_within}
 
@@ -44,14 +44,6 @@ all_fail {X} p xs fails = elim (cases_Bool (nat_lt (position_or_len p xs) (lengt
       ∙ (ap p (sym (get_or_from_slice_get xs (position_or_len p xs) entry.0 entry.0 entry.1))
       ∙ passes_at_first p xs entry.0 (ltb-true (position_or_len p xs) (length xs) some)))))
 ]
-
--- what a link says where its entry is given
-tail_is : (links : List Link) (k : ℕ) (x : Link) → slice_get links k ≡ Some x → tail_in links k ≡ x.from
-tail_is links k x at = ap (λ o. unwrap_or (option_map (λ (l : Link). l.from) o) 0) at
-
--- the head of a link
-head_is : (links : List Link) (k : ℕ) (x : Link) → slice_get links k ≡ Some x → head_in links k ≡ x.to
-head_is links k x at = ap (λ o. unwrap_or (option_map (λ (l : Link). l.to) o) 0) at
 
 -- whether a link is a river
 river_is : (links : List Link) (k : ℕ) (x : Link) → slice_get links k ≡ Some x →
@@ -90,21 +82,10 @@ chain one two three four =
 
 -- the first fault is that of the first part of the chain that has one
 pub fault_is : (nodes : List Node) (links : List Link) (one two three four : Option ℕ) → first_self_link links ≡ one →
-    first_from_outlet nodes links ≡ two →
-    first_without_river nodes links ≡ three → first_on_cycle nodes links ≡ four →
+    first_from_outlet nodes links ≡ two → first_without_river nodes links ≡ three → first_on_cycle nodes links ≡ four →
     net_fault nodes links ≡ chain one two three four
 unfolding net_fault
-fault_is nodes links one two three four a b c d =
-    ap (λ x. chain x (first_from_outlet nodes links) (first_without_river nodes links) (first_on_cycle nodes links)) a
-    ∙ (ap (λ x. chain one x (first_without_river nodes links) (first_on_cycle nodes links)) b
-    ∙ (ap (λ x. chain one two x (first_on_cycle nodes links)) c ∙ ap (chain one two three) d))
-
--- no part of the chain has a fault
-pub record HasNoFault (nodes : List Node) (links : List Link) : Type 0 where
-  pub self_links : first_self_link links ≡ None
-  pub from_outlets : first_from_outlet nodes links ≡ None
-  pub without_river : first_without_river nodes links ≡ None
-  pub on_cycle : first_on_cycle nodes links ≡ None
+fault_is nodes links one two three four a b c d = rw a (rw b (rw c (rw d refl)))
 
 -- a chain is empty where its parts are
 no_chain : (one two three four : Option ℕ) → chain one two three four ≡ None → (one ≡ None) × (two ≡ None) ×
@@ -115,44 +96,33 @@ no_chain None (Some x) three four h = cc
 no_chain None None (Some x) four h = cc
 no_chain None None None (Some x) h = cc
 
--- a network without a fault has none in any part
-no_fault : (nodes : List Node) (links : List Link) → net_fault nodes links ≡ None → HasNoFault nodes links
-no_fault nodes links h =
-    let parts =
-    no_chain (first_self_link links) (first_from_outlet nodes links) (first_without_river nodes links)
-    (first_on_cycle nodes links)
-    (sym (fault_is nodes links (first_self_link links) (first_from_outlet nodes links) (first_without_river nodes links)
-    (first_on_cycle nodes links) refl refl refl refl) ∙ h) in
-    record { self_links = parts.0; from_outlets = parts.1; without_river = parts.2; on_cycle = parts.3 }
-
 -- a network without a fault is sound
 pub faultless_sound : (nodes : List Node) (links : List Link) → net_fault nodes links ≡ None →
     IsSoundNetwork nodes links
-unfolding first_without_river first_on_cycle
+unfolding net_fault first_without_river first_on_cycle
 faultless_sound nodes links h = record {
   outlets_end = λ e l. (let at = entry_at links e l in
-      ap (is_outlet_in nodes) (tail_is links e at.0 at.1)
-      ∙ none_at (leaves_outlet nodes) links (no_fault nodes links h).from_outlets e at.0 at.1);
+      ap (is_outlet_in nodes) (tail_is links e at.0 at.1) ∙ none_at (leaves_outlet nodes) links parts.1 e at.0 at.1);
   rivers = λ v l inner. river_found links v (elim (cases_Bool (has_river links v)) [
     | inl some ↦ some
     | inr none ↦
-        absurd (false≢true
-        (sym (none_found (lacks_river nodes links) 0 (length nodes) (no_fault nodes links h).without_river v
+        absurd (false≢true (sym (none_found (lacks_river nodes links) 0 (length nodes) parts.2 v
         (omega arith) (omega arith))
         ∙ and_from (not (is_outlet_in nodes v)) (not (has_river links v)) (not_from_false (is_outlet_in nodes v) inner)
         (not_from_false (has_river links v) none)))
   ]);
-  acyclic =
-      λ v l. none_found (is_on_cycle nodes links) 0 (length nodes) (no_fault nodes links h).on_cycle v (omega arith)
-      (omega arith);
+  acyclic = λ v l. none_found (is_on_cycle nodes links) 0 (length nodes) parts.3 v (omega arith) (omega arith);
 }
+  where
+    parts : (first_self_link links ≡ None) × (first_from_outlet nodes links ≡ None) ×
+        (first_without_river nodes links ≡ None) × (first_on_cycle nodes links ≡ None)
+    parts = no_chain _ _ _ _ h
 
 -- a sound network, whose links lead between its nodes, has no fault
 pub sound_faultless : (nodes : List Node) (links : List Link) → All (λ l. HasNodes nodes l) links →
     IsSoundNetwork nodes links → net_fault nodes links ≡ None
 unfolding first_without_river first_on_cycle
-sound_faultless nodes links ends sound = fault_is nodes links None None None None
-    (all_fail is_self_link links
+sound_faultless nodes links ends sound = fault_is nodes links None None None None (all_fail is_self_link links
     (λ k x at. false_from_ne_true (is_self_link x) (λ self. turns k x at (eqb-true x.from x.to self))))
     (all_fail (leaves_outlet nodes) links (λ k x at. ap (is_outlet_in nodes) (sym (tail_is links k x at))
     ∙ sound.outlets_end k (slice_get_within links k x at)))
@@ -162,15 +132,13 @@ sound_faultless nodes links ends sound = fault_is nodes links None None None Non
       | inr inner ↦
           and_right (not (is_outlet_in nodes v)) (not (has_river links v))
           (not_from_true (has_river links v) (found_river links v (sound.rivers v (omega arith) inner)))
-    ]))
-    (find_none (is_on_cycle nodes links) 0 (length nodes) (λ v _ l. sound.acyclic v (omega arith)))
+    ])) (find_none (is_on_cycle nodes links) 0 (length nodes) (λ v _ l. sound.acyclic v (omega arith)))
   where
     turns : (k : ℕ) (x : Link) → slice_get links k ≡ Some x → x.from ≡ x.to → ⊥
     turns k x at same =
         let l = slice_get_within links k x at in
         let inside = (ends_in nodes links ends k l).0 in
         let back : head_in links k ≡ tail_in links k = head_is links k x at ∙ sym (tail_is links k x at ∙ same) in
-        false≢true
-        (sym (sound.acyclic (tail_in links k) inside)
+        false≢true (sym (sound.acyclic (tail_in links k) inside)
         ∙ walk_within links 1 (length nodes) (tail_in links k) (tail_in links k) (omega arith)
         (subst (λ v. walks links 1 (tail_in links k) v ≡ true) back (walk_one links 0 k l)))

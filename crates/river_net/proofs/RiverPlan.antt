@@ -1,12 +1,14 @@
 -- The run of the river is a plan.
-use Rattle.std.proofs.Common.{◌≡◌, ℕ, zero, suc, ◌+◌, ◌<◌, ◌≤◌, Bool, true, false, refl, sym, ◌∙◌, ap, arith, List}
+use Rattle.std.proofs.Common.{◌≡◌, ℕ, ◌+◌, ◌<◌, ◌≤◌, Bool, true, false, refl, sym, ◌∙◌, ap, arith, List}
 use Rattle.std.proofs.Common.{length, inl, inr}
-use Rattle.std.proofs.lemmas.Bool.{cases_lt, cases_eq, cases_Bool, and_parts, and_from, eqb-true, eq-eqb, false≢true}
+use Rattle.std.proofs.lemmas.Bool.{cases_lt, cases_order, cases_Bool, false_from_ne_true, and_parts, and_from}
+use Rattle.std.proofs.lemmas.Bool.{eqb-true, eq-eqb, false≢true}
 use Rattle.std.proofs.lemmas.Bool.Decides.{nat_tests}
-use Rattle.std.specs.Prelude.{◌==◌, ◌&&◌, ◌^◌, nat_lt, nat_le, if◌then◌else◌, ◌⊎◌, slice_index, slice_get, Option, Some}
+use Rattle.std.specs.Prelude.{◌==◌, ◌&&◌, ◌^◌, nat_lt, nat_le, if◌then◌else◌, slice_index, slice_get, Option, Some}
 use Rattle.std.specs.Prelude.{None, unwrap_or, option_map}
 use Rattle.finite_sums.specs.Sums.{total, total_where}
 use Rattle.finite_sums.proofs.Totals.{total_same, total_zero, total_add, total_at, total_pick, total_le}
+use Rattle.finite_sums.proofs.Totals.{count_less, index_counted}
 use Rattle.water_model.specs.Network.{tail_in, head_in, is_outlet_in, is_river_in, is_river_kind, IsForward}
 use Rattle.water_model.specs.Network.{IsSoundNetwork, HasRiverOut}
 use Rattle.water_model.specs.RunOfRiver.{IsFirstRiver, RunsNaturally, water_at}
@@ -22,80 +24,54 @@ use Rattle.water_model.proofs.Valid.{ends}
 use Rattle.water_model.proofs.Sets.{grouped, total_where_add}
 use Rattle.river_net.specs.Firsts.{IsWithin}
 use Rattle.river_net.specs.Laws.{RunOfRiverIsPlan}
-use Rattle.finite_sums.proofs.Counts.{at_inside}
+use Rattle.finite_sums.proofs.Counts.{at_inside, none_passes}
 use Rattle.river_net.proofs.Ranks.{forward_numbers}
-
--- the least index that passes
-pub record IsLeast (p : ℕ → Bool) (n k : ℕ) : Type 0 where
-  pub below : k < n
-  pub passes : p k ≡ true
-  pub before : (j : ℕ) → j < k → p j ≡ false
-
--- there is a least index that passes, or none passes
-least : (n : ℕ) (p : ℕ → Bool) → ((k : ℕ) × IsLeast p n k) ⊎ ((k : ℕ) → k < n → p k ≡ false)
-least zero p = inr (λ k l. absurd (omega arith))
-least (suc n) p = elim (least n p) [
-  | inl some ↦
-      (let b = some.1.below in
-      inl (some.0, record { below = omega arith; passes = some.1.passes; before = some.1.before }))
-  | inr none ↦ elim (cases_Bool (p n)) [
-    | inl here ↦ inl (n, record { below = omega arith; passes = here; before = none })
-    | inr fails ↦ inr (λ k l. elim (cases_lt k n) [
-      | inl below ↦ none k below
-      | inr above ↦ (let same : k ≡ n = omega arith in ap p same ∙ fails)
-    ])
-  ]
-]
 
 -- a node that a river leaves has a first river
 first_river : (links : List Link) (v : ℕ) → HasRiverOut links v → (e : ℕ) × IsFirstRiver links e × (tail_in links e ≡ v)
-first_river links v out = elim (least (length links) test) [
-  | inl some ↦ (let parts = and_parts (tail_in links some.0 == v) (is_river_in links some.0) some.1.passes in
-      let tail = eqb-true (tail_in links some.0) v parts.0 in (
-        some.0,
-        record {
-          in_range = some.1.below;
-          river = parts.1;
-          first = λ other less same. elim (cases_Bool (is_river_in links other)) [
-            | inl river ↦
-                absurd (false≢true
-                (sym (some.1.before other less)
-                ∙ and_from (tail_in links other == v) (is_river_in links other)
-                (eq-eqb (tail_in links other) v (same ∙ tail)) river))
-            | inr canal ↦ canal
-          ];
-        },
-        tail,
-      ))
-  | inr none ↦
-      absurd (false≢true
-      (sym (none out.link out.in_range)
-      ∙ and_from (tail_in links out.link == v) (is_river_in links out.link) (eq-eqb (tail_in links out.link) v out.tail)
-      out.river))
-]
+first_river links v out =
+    let some = index_counted (length links) 0 test (let more = count_less out.link (length links) test out.in_range
+    (and_from (tail_in links out.link == v) (is_river_in links out.link)
+    (eq-eqb (tail_in links out.link) v out.tail) out.river) in omega arith) in
+    let parts = and_parts (tail_in links some.place == v) (is_river_in links some.place) some.passes in
+    let tail = eqb-true (tail_in links some.place) v parts.0 in (
+      some.place,
+      record {
+        in_range = some.below;
+        river = parts.1;
+        first = λ other less same. false_from_ne_true (is_river_in links other)
+            (λ river. false≢true (sym (none_passes some.place test some.number other less)
+            ∙ and_from (tail_in links other == v) (is_river_in links other)
+            (eq-eqb (tail_in links other) v (same ∙ tail)) river));
+      },
+      tail,
+    )
   where
     test : ℕ → Bool
     test e = tail_in links e == v && is_river_in links e
 
 -- two first rivers of one node are one
-same_river : (links : List Link) (e f : ℕ) → IsFirstRiver links e → IsFirstRiver links f →
+pub same_river : {links : List Link} {e f : ℕ} → IsFirstRiver links e → IsFirstRiver links f →
     tail_in links e ≡ tail_in links f → e ≡ f
-same_river links e f a b at = elim (cases_eq e f) [
+same_river {links} {e} {f} a b at = elim (cases_order e f) [
   | inl same ↦ same
-  | inr other ↦ elim (cases_lt e f) [
-    | inl less ↦
-        (let no : is_river_in links e ≡ false = b.first e less at in let yes = a.river in
-        absurd (false≢true (sym no ∙ yes)))
-    | inr more ↦
-        (let no : is_river_in links f ≡ false = a.first f (omega arith) (sym at) in let yes = b.river in
-        absurd (false≢true (sym no ∙ yes)))
+  | inr o ↦ elim o [
+    | inl less ↦ absurd (false≢true (sym (b.first e less at) ∙ a.river))
+    | inr more ↦ absurd (false≢true (sym (a.first f more (sym at)) ∙ b.river))
   ]
 ]
 
+-- a term of a sum that counts only where a test holds
+pub no_value : (t : Bool) (x : ℕ) → (t ≡ true → x ≡ 0) → (if t then x else 0) ≡ 0
+no_value true x h = h refl
+no_value false x h = refl
+
+pub own_value : (u v x : ℕ) → u ≡ v → (if u == v then x else 0) ≡ x
+own_value u v x e = grind (arith, nat_tests)
+
 -- what leaves a node by links, and what leaves the basin there, is the water that stands there
 pub river_balance : (nodes : List Node) (links : List Link) (supply flow out : List ℕ) → IsSoundNetwork nodes links →
-    RunsNaturally nodes links supply flow out →
-    (v : ℕ) → v < length nodes →
+    RunsNaturally nodes links supply flow out → (v : ℕ) → v < length nodes →
     water_at links supply flow v ≡ total_where (length links) (λ e. tail_in links e == v)
     (λ e. slice_index flow e) + slice_index out v
 river_balance nodes links supply flow out sound run v l = elim (cases_Bool (is_outlet_in nodes v)) [
@@ -108,20 +84,11 @@ river_balance nodes links supply flow out sound run v l = elim (cases_Bool (is_o
       let dry = run.inner v l inner in
       let flows = run.rivers river.0 river.1 in
       let here = ap (water_at links supply flow) river.2 in
-      let one =
-      total_pick (length links) river.0 (λ e. if tail_in links e == v then slice_index flow e else 0)
-      river.1.in_range (λ e m ne.
-      no_value (tail_in links e == v) (slice_index flow e) (λ at. run.others e m (λ first.
-      ne (same_river links e river.0 first river.1 (eqb-true (tail_in links e) v at ∙ sym river.2))))) in
+      let one = total_pick (length links) river.0 (λ e. if tail_in links e == v then slice_index flow e else 0)
+      river.1.in_range (λ e m ne. no_value (tail_in links e == v) (slice_index flow e) (λ at. run.others e m (λ first.
+      ne (same_river first river.1 (eqb-true (tail_in links e) v at ∙ sym river.2))))) in
       let own = own_value (tail_in links river.0) v (slice_index flow river.0) river.2 in omega arith)
 ]
-  where
-    no_value : (t : Bool) (x : ℕ) → (t ≡ true → x ≡ 0) → (if t then x else 0) ≡ 0
-    no_value true x h = h refl
-    no_value false x h = refl
-
-    own_value : (u v x : ℕ) → u ≡ v → (if u == v then x else 0) ≡ x
-    own_value u v x e = grind (arith, nat_tests)
 
 -- no link carries more than all nodes are supplied with: no water comes to the nodes up to its tail from those after it
 pub river_small : (nodes : List Node) (links : List Link) (rank : ℕ → ℕ) (supply flow out : List ℕ) →
@@ -235,25 +202,19 @@ river_is_plan b month supply want p valid bounded natural = record {
   instream = λ r l _. natural.takes r l;
   outlets = λ n l inner. natural.run.inner n l inner;
   balance = λ n l. (let bal = river_balance b.nodes b.links supply p.flow p.out valid.network natural.run n l in
-      let none =
-      total_zero (length b.rights) (λ r. if takes_at b r n then slice_index p.take r else 0)
-      (λ r k. no_take (takes_at b r n) (slice_index p.take r) (natural.takes r k)) in omega arith);
+      let none = total_zero (length b.rights) (λ r. if takes_at b r n then slice_index p.take r else 0)
+      (λ r k. no_value (takes_at b r n) (slice_index p.take r) (λ _. natural.takes r k)) in omega arith);
 }
   where
     within : IsWithin (length b.nodes) b.links
     within = record { ends = ends b valid }
-
-    no_take : (t : Bool) (x : ℕ) → x ≡ 0 → (if t then x else 0) ≡ 0
-    no_take true x h = h
-    no_take false x h = refl
 
     carried : (e : ℕ) → e < length b.links → ((IsFirstRiver b.links e → ⊥) → slice_index p.flow e ≡ 0) →
         slice_index p.flow e ≤ carry_of b month e
     carried e l dry = elim (cases_lt (carry_of b month e) (slice_index p.flow e)) [
       | inr fits ↦ fits
       | inl more ↦ (let some = dry (λ first. let numbers = forward_numbers b.nodes b.links within valid.network in
-          let small =
-          river_small b.nodes b.links numbers.rank supply p.flow p.out within valid.network numbers.forward
+          let small = river_small b.nodes b.links numbers.rank supply p.flow p.out within valid.network numbers.forward
           natural.run e l in
           let carry = river_carry b month e first in absurd (omega arith)) in absurd (omega arith))
     ]

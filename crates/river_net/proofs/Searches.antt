@@ -31,9 +31,9 @@ has_more seen v u l = elim (cases_eq u v) [
     there u v t e = grind (arith, nat_tests)
 
 -- at the start one node is seen
-pub search_start : (g : GraphView) (start : ℕ) (seen : List Bool) (queue : List ℕ) → start < g.nodes →
+pub search_start : {g : GraphView} {start : ℕ} {seen : List Bool} {queue : List ℕ} → start < g.nodes →
     seen ≡ slice_set (replicate g.nodes false) start true → queue ≡ start ∷ [] → IsExpanded g start seen queue 0
-search_start g start seen queue inside seen_is queue_is = record {
+search_start {g} {start} {seen} {queue} inside seen_is queue_is = record {
   search = record {
     count = ap length seen_is ∙ (length-set (replicate g.nodes false) start true ∙ length-replicate g.nodes false);
     start_seen = only start inside ∙ own start;
@@ -44,8 +44,7 @@ search_start g start seen queue inside seen_is queue_is = record {
     each = λ v l h. (
       0,
       (let n = ap length queue_is in omega arith),
-      ap (λ (xs : List ℕ). slice_index xs 0) queue_is
-          ∙ sym (is_start v (sym (only v l) ∙ h)),
+      ap (λ (xs : List ℕ). slice_index xs 0) queue_is ∙ sym (is_start v (sym (only v l) ∙ h)),
     );
     reached = λ j e l m at. subst (λ v. walks g.links (j + 1) v (head_in g.links e) ≡ true) (at ∙ first j l)
         (walk_within g.links 1 (j + 1) (tail_in g.links e) (head_in g.links e) (omega arith) (walk_one g.links 0 e m));
@@ -78,9 +77,9 @@ search_start g start seen queue inside seen_is queue_is = record {
         ap (slice_index queue) none ∙ ap (λ (xs : List ℕ). slice_index xs 0) queue_is
 
 -- a link to the start closes a walk
-pub expand_found : (g : GraphView) (start : ℕ) (seen : List Bool) (queue : List ℕ) (done node e : ℕ) →
+pub expand_found : {g : GraphView} {start : ℕ} {seen : List Bool} {queue : List ℕ} {done node e : ℕ} →
     IsExpanding g start seen queue done node (Some e) → head_in g.links e ≡ start → reaches_itself g start ≡ true
-expand_found g start seen queue done node e now found =
+expand_found {g} {start} {seen} {queue} {done} {node} {e} now found =
     let number = now.expanded.search.number in
     let bounded = count_at_most g.nodes (λ v. has seen v) in
     let within = now.within in
@@ -89,14 +88,15 @@ expand_found g start seen queue done node e now found =
     (now.expanded.search.reached done e within now.leaves.0 (now.leaves.1 ∙ sym now.at)))
 
 -- a link is followed that does not lead to the start
-pub expand_next : (g : GraphView) (start : ℕ) (seen : List Bool) (queue : List ℕ) (done node e : ℕ) (seen' : List Bool)
-    (queue' : List ℕ) (next : Option ℕ) →
+pub expand_next : {g : GraphView} {start : ℕ} {seen : List Bool} {queue : List ℕ} {done node e : ℕ} {seen' : List Bool}
+    {queue' : List ℕ} {next : Option ℕ} →
     IsWithin g.nodes g.links → IsExpanding g start seen queue done node (Some e) → (head_in g.links e ≡ start → ⊥) →
     seen' ≡ slice_set seen (head_in g.links e) true →
     queue' ≡ (if has seen (head_in g.links e) then queue else queue ++ head_in g.links e ∷ []) →
     IsFirstFrom (leaves g.links (tail_in g.links e)) (e + 1) (length g.links) next →
     IsExpanding g start seen' queue' done node next
-expand_next g start seen queue done node e seen' queue' next within now other seen_is queue_is first =
+expand_next {g} {start} {seen} {queue} {done} {node} {e} {seen'} {queue'} {next} within now other seen_is
+    queue_is first =
     elim (cases_Bool (has seen h)) [
       | inl old ↦ (let same : queue' ≡ queue = queue_is ∙ ap (λ t. if t then queue else queue ++ h ∷ []) old in
           subst (λ xs. IsExpanding g start seen' xs done node next) (sym same)
@@ -208,8 +208,7 @@ expand_next g start seen queue done node e seen' queue' next within now other se
             walks g.links (done + 1 + 1) start (head_in g.links f) ≡ true
         further f m at =
             ap (λ k. walks g.links k start (head_in g.links f)) (one_more (done + 1))
-            ∙ walk_on g.links (done + 1) start f m
-            (subst (λ v. walks g.links (done + 1) start v ≡ true) (sym at)
+            ∙ walk_on g.links (done + 1) start f m (subst (λ v. walks g.links (done + 1) start v ≡ true) (sym at)
             (s.reached done e now.within now.leaves.0 (now.leaves.1 ∙ sym now.at)))
 
     all : (queue' : List ℕ) → IsSearch g start seen' queue' → length queue ≤ length queue' →
@@ -243,15 +242,15 @@ expand_next g start seen queue done node e seen' queue' next within now other se
         less f e apart h = grind (arith, nat_tests)
 
 -- where the links of all nodes in the queue were followed, no walk leads back
-pub search_ends : (g : GraphView) (start : ℕ) (seen : List Bool) (queue : List ℕ) (done : ℕ) →
+pub search_ends : {g : GraphView} {start : ℕ} {seen : List Bool} {queue : List ℕ} {done : ℕ} →
     IsWithin g.nodes g.links → start < g.nodes → length queue ≤ done →
     IsExpanded g start seen queue done → reaches_itself g start ≡ false
-search_ends g start seen queue done within inside all now = false_from_ne_true (reaches_itself g start) (λ h.
+search_ends {g} {start} {seen} within inside all now = false_from_ne_true (reaches_itself g start) (λ h.
     walk_stays g.links (has seen) start g.nodes start (λ e l t. let at =
     now.search.each (tail_in g.links e) (within.ends e l).0 t in
     let b = at.1 in now.closed at.0 e (omega arith) l (sym at.2)) now.search.start_seen h)
 
 -- the queue is no longer than there are nodes
-pub queue_fits : (g : GraphView) (start : ℕ) (seen : List Bool) (queue : List ℕ) → IsSearch g start seen queue →
+pub queue_fits : {g : GraphView} {start : ℕ} {seen : List Bool} {queue : List ℕ} → IsSearch g start seen queue →
     length queue ≤ g.nodes
-queue_fits g start seen queue now = omega (arith, now.number, count_at_most g.nodes (λ v. has seen v))
+queue_fits {g} {start} {seen} now = omega (arith, now.number, count_at_most g.nodes (λ v. has seen v))

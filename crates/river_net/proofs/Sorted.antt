@@ -17,10 +17,9 @@ use Rattle.river_net.proofs.Chains.{Chain, chain_start, chain_more, chain_turns}
 use Rattle.river_net.proofs.Releases.{order_fits}
 
 -- a node that waits for no link is on no cycle
-pub off_cycle : (g : GraphView) (order waits : List ℕ) (done : ℕ) → IsReleased g order waits done → (v : ℕ) →
-    v < g.nodes → slice_index waits v ≡ 0 →
-    walks g.links g.nodes v v ≡ false
-off_cycle g order waits done now v l free = false_from_ne_true (walks g.links g.nodes v v) (λ h.
+pub off_cycle : {g : GraphView} {order waits : List ℕ} {done : ℕ} → IsReleased g order waits done → (v : ℕ) →
+    v < g.nodes → slice_index waits v ≡ 0 → walks g.links g.nodes v v ≡ false
+off_cycle {g} {order} now v l free = false_from_ne_true (walks g.links g.nodes v v) (λ h.
     let up = walk_rises g.links now.position (length order) g.nodes v v now.sorting.placing.forward
     (now.sorting.free v l l free) h in absurd (omega arith))
 
@@ -32,10 +31,9 @@ pub record HasOpenLink (g : GraphView) (order : List ℕ) (position : ℕ → �
   pub tail : length order ≤ position (tail_in g.links link)
 
 -- a node without a position waits for such a link
-open_link : (g : GraphView) (order waits : List ℕ) → (now : IsReleased g order waits (length order)) → (v : ℕ) →
-    v < g.nodes → length order ≤ now.position v →
-    HasOpenLink g order now.position v
-open_link g order waits now v l unplaced = elim (cases_eq (slice_index waits v) 0) [
+open_link : {g : GraphView} {order waits : List ℕ} → (now : IsReleased g order waits (length order)) → (v : ℕ) →
+    v < g.nodes → length order ≤ now.position v → HasOpenLink g order now.position v
+open_link {g} {order} {waits} now v l unplaced = elim (cases_eq (slice_index waits v) 0) [
   | inl free ↦ (let p = now.sorting.free v l l free in absurd (omega arith))
   | inr some ↦
       (let w = now.sorting.waiting v l in
@@ -57,31 +55,31 @@ open_link g order waits now v l unplaced = elim (cases_eq (slice_index waits v) 
         }
 
 -- so there are chains of any length to it
-chain_to : (g : GraphView) (order waits : List ℕ) → IsWithin g.nodes g.links →
+chain_to : {g : GraphView} {order waits : List ℕ} → IsWithin g.nodes g.links →
     (now : IsReleased g order waits (length order)) →
     (k v : ℕ) → v < g.nodes → length order ≤ now.position v → Chain g.links g.nodes k v
-chain_to g order waits within now zero v l unplaced = chain_start g.links g.nodes v l
-chain_to g order waits within now (suc k) v l unplaced =
-    let one = open_link g order waits now v l unplaced in
+chain_to {g} within now zero v l unplaced = chain_start g.links g.nodes v l
+chain_to {g} within now (suc k) v l unplaced =
+    let one = open_link now v l unplaced in
     subst (Chain g.links g.nodes (suc k)) one.head
-    (chain_more g.links g.nodes k one.link one.in_range (within.ends one.link one.in_range).1
-    (chain_to g order waits within now k (tail_in g.links one.link) (within.ends one.link one.in_range).0 one.tail))
+    (chain_more one.link one.in_range (within.ends one.link one.in_range).1
+    (chain_to within now k (tail_in g.links one.link) (within.ends one.link one.in_range).0 one.tail))
 
 -- where no node is on a cycle, every node has its position
-pub all_placed : (g : GraphView) (order waits : List ℕ) → IsWithin g.nodes g.links →
+pub all_placed : {g : GraphView} {order waits : List ℕ} → IsWithin g.nodes g.links →
     (now : IsReleased g order waits (length order)) →
     ((v : ℕ) → v < g.nodes → walks g.links g.nodes v v ≡ false) → (v : ℕ) → v < g.nodes → now.position v < length order
-all_placed g order waits within now none v l = elim (cases_lt (now.position v) (length order)) [
+all_placed {g} {order} within now none v l = elim (cases_lt (now.position v) (length order)) [
   | inl placed ↦ placed
-  | inr unplaced ↦ (let turn = chain_turns g.links g.nodes v (chain_to g order waits within now g.nodes v l unplaced) in
+  | inr unplaced ↦ (let turn = chain_turns (chain_to within now g.nodes v l unplaced) in
       absurd (false≢true (sym (none turn.0 turn.1) ∙ turn.2)))
 ]
 
 -- an order of all nodes
-pub running_order : (nodes : List Node) (links : List Link) (order waits : List ℕ) → IsWithin (length nodes) links →
+pub running_order : (nodes : List Node) (links : List Link) {order waits : List ℕ} → IsWithin (length nodes) links →
     IsReleased (record { nodes = length nodes; links = links }) order waits (length order) →
     ((v : ℕ) → v < length nodes → walks links (length nodes) v v ≡ false) → IsRunningOrder nodes links order
-running_order nodes links order waits within now none = record {
+running_order nodes links {order} within now none = record {
   count = count;
   position = now.position;
   below = λ i l. (now.sorting.placing.placed i (omega (arith, count))).0;
@@ -95,10 +93,10 @@ running_order nodes links order waits within now none = record {
     g = record { nodes = length nodes; links = links }
 
     placed : (v : ℕ) → v < length nodes → now.position v < length order
-    placed = all_placed g order waits within now none
+    placed = all_placed within now none
 
     fits : length order ≤ length nodes
-    fits = order_fits g order now.position now.sorting.placing
+    fits = order_fits now.sorting.placing
 
     count : length order ≡ length nodes
     count = sym now.sorting.placing.number

@@ -20,7 +20,7 @@ abbrev pub waiting_at : GraphView → (ℕ → Bool) → ℕ → ℕ
 waiting_at g handled v = count_where (length g.links) (λ e. head_in g.links e == v && not (handled e))
 
 -- a node that waits for none gets its position
-sorting_index : (g : GraphView) (order waits : List ℕ) (position : ℕ → ℕ) (handled : ℕ → Bool) (bound v : ℕ) →
+sorting_index : {g : GraphView} {order waits : List ℕ} (position : ℕ → ℕ) {handled : ℕ → Bool} (bound v : ℕ) →
     IsWithin g.nodes g.links → IsPlacing g order position → length waits ≡ g.nodes →
     ((u : ℕ) → u < g.nodes → slice_index waits u ≡ waiting_at g handled u) →
     ((u : ℕ) → u < g.nodes → u < bound → u ≢ v → slice_index waits u ≡ 0 → position u < length order) →
@@ -28,10 +28,9 @@ sorting_index : (g : GraphView) (order waits : List ℕ) (position : ℕ → ℕ
     ((e : ℕ) → e < length g.links → handled e ≡ true → position (tail_in g.links e) < length order) →
     v < g.nodes → v < bound → position v ≡ g.nodes → slice_index waits v ≡ 0 →
     IsSorting g (order ++ v ∷ []) waits (with_index position v (length order)) handled bound
-sorting_index g order waits position handled bound v within placing count waiting free idle tails inside below unplaced
-    none = record {
-      placing = placing_next g order position v within placing inside unplaced
-          (λ e l at. tails e l (all_handled e l at));
+sorting_index {g} {order} {waits} position {handled} bound v within placing count waiting free idle tails inside below
+    unplaced none = record {
+      placing = placing_next v within placing inside unplaced (λ e l at. tails e l (all_handled e l at));
       count = count;
       waiting = waiting;
       free = λ u l b zero. elim (cases_eq u v) [
@@ -51,7 +50,7 @@ sorting_index g order waits position handled bound v within placing count waitin
     position' = with_index position v (length order)
 
     full : length order < g.nodes
-    full = room g order position v placing inside unplaced
+    full = room v placing inside unplaced
 
     more : length (order ++ v ∷ []) ≡ length order + 1
     more = grind (arith, common_steps)
@@ -78,9 +77,9 @@ sorting_index g order waits position handled bound v within placing count waitin
         says x v h same fails = grind (arith, nat_tests)
 
 -- at the start no link is handled
-pub sources_start : (g : GraphView) (order waits : List ℕ) → order ≡ [] → AreEntering g (length g.links) waits →
+pub sources_start : {g : GraphView} {order waits : List ℕ} → order ≡ [] → AreEntering g (length g.links) waits →
     HasSources g order waits 0
-sources_start g order waits none entering = subst (λ xs. HasSources g xs waits 0) (sym none) record {
+sources_start {g} {order} {waits} none entering = subst (λ xs. HasSources g xs waits 0) (sym none) record {
   position = λ v. g.nodes;
   sorting = record {
     placing = placing_start g;
@@ -99,28 +98,25 @@ sources_start g order waits none entering = subst (λ xs. HasSources g xs waits 
     unhandled false = refl
 
 -- a node that no link leads to gets its position
-pub source_next : (g : GraphView) (order order' waits : List ℕ) (v : ℕ) → IsWithin g.nodes g.links → v < g.nodes →
-    slice_index waits v ≡ 0 →
-    order' ≡ order ++ v ∷ [] → HasSources g order waits v → HasSources g order' waits (v + 1)
-source_next g order order' waits v within inside none more now =
+pub source_next : {g : GraphView} {order order' waits : List ℕ} {v : ℕ} → IsWithin g.nodes g.links → v < g.nodes →
+    slice_index waits v ≡ 0 → order' ≡ order ++ v ∷ [] → HasSources g order waits v → HasSources g order' waits (v + 1)
+source_next {g} {order} {order'} {waits} {v} within inside none more now =
     subst (λ xs. HasSources g xs waits (v + 1)) (sym more) record {
       position = with_index now.position v (length order);
       sorting =
-          sorting_index g order waits now.position (λ e. false) (v + 1) v within now.sorting.placing now.sorting.count
-          now.sorting.waiting
+          sorting_index now.position (v + 1) v within now.sorting.placing now.sorting.count now.sorting.waiting
           (λ u l b other zero. now.sorting.free u l (omega arith) zero)
           (λ u l placed. let i = now.sorting.idle u l placed in let b = i.0 in (omega arith, i.1))
-          (λ e l h. absurd (false≢true h)) inside (omega arith)
-          (elim (now.sorting.placing.each v inside) [
+          (λ e l h. absurd (false≢true h)) inside (omega arith) (elim (now.sorting.placing.each v inside) [
             | inl unplaced ↦ unplaced
             | inr placed ↦ (let b = (now.sorting.idle v inside placed.0).0 in absurd (omega arith))
           ]) none;
     }
 
 -- any other node waits
-pub source_skip : (g : GraphView) (order waits : List ℕ) (v : ℕ) → slice_index waits v ≢ 0 →
+pub source_skip : {g : GraphView} {order waits : List ℕ} {v : ℕ} → slice_index waits v ≢ 0 →
     HasSources g order waits v → HasSources g order waits (v + 1)
-source_skip g order waits v some now = record {
+source_skip {g} {order} {waits} {v} some now = record {
   position = now.position;
   sorting = record {
     placing = now.sorting.placing;
@@ -161,11 +157,11 @@ less_waiting g handled e v below unhandled_yet =
     one t h x unhandled_yet = grind (arith, nat_tests)
 
 -- the head of a link that is not handled waits
-pub waits_for : (g : GraphView) (order waits : List ℕ) (position : ℕ → ℕ) (handled : ℕ → Bool) (e : ℕ) →
+pub waits_for : {g : GraphView} {order waits : List ℕ} {position : ℕ → ℕ} {handled : ℕ → Bool} (e : ℕ) →
     IsWithin g.nodes g.links →
     IsSorting g order waits position handled g.nodes → e < length g.links → handled e ≡ false →
     0 < slice_index waits (head_in g.links e)
-waits_for g order waits position handled e within now below unhandled_yet =
+waits_for {g} {order} {waits} {position} {handled} e within now below unhandled_yet =
     let inside = (within.ends e below).1 in
     let less = less_waiting g handled e (head_in g.links e) below unhandled_yet in
     let one = own (head_in g.links e) 1 in
@@ -186,15 +182,15 @@ pub record IsSettled (g : GraphView) (order waits : List ℕ) (position : ℕ �
   pub more : length order ≤ length order'
 
 -- handling a link
-pub settled : (g : GraphView) (order waits : List ℕ) (position : ℕ → ℕ) (handled : ℕ →
-    Bool) (e : ℕ) (order' waits' : List ℕ) →
+pub settled : {g : GraphView} {order waits : List ℕ} {position : ℕ → ℕ} {handled : ℕ →
+    Bool} (e : ℕ) {order' waits' : List ℕ} →
     IsWithin g.nodes g.links → IsSorting g order waits position handled g.nodes → e < length g.links →
-    handled e ≡ false →
-    position (tail_in g.links e) < length order →
+    handled e ≡ false → position (tail_in g.links e) < length order →
     waits' ≡ slice_set waits (head_in g.links e) (slice_index waits (head_in g.links e) - 1) →
     order' ≡ (if slice_index waits (head_in g.links e) == 1 then order ++ head_in g.links e ∷ [] else order) →
     IsSettled g order waits position handled e order' waits'
-settled g order waits position handled e order' waits' within now below unhandled_yet after waits_are order_is =
+settled {g} {order} {waits} {position} {handled} e {order'} {waits'} within now below unhandled_yet after waits_are
+    order_is =
     elim (cases_eq (slice_index waits h) 1) [
       | inl last ↦
           subst (λ xs. IsSettled g order waits position handled e xs waits')
@@ -213,7 +209,7 @@ settled g order waits position handled e order' waits' within now below unhandle
     inside = (within.ends e below).1
 
     some : 0 < slice_index waits h
-    some = waits_for g order waits position handled e within now below unhandled_yet
+    some = waits_for e within now below unhandled_yet
 
     at : slice_index waits' h ≡ slice_index waits h - 1
     at = ap (λ (xs : List ℕ). slice_index xs h) waits_are ∙ get_or-set_same waits h (slice_index waits h - 1) 0 (let c =
@@ -287,17 +283,16 @@ settled g order waits position handled e order' waits' within now below unhandle
     placed : slice_index waits h ≡ 1 → IsSettled g order waits position handled e (order ++ h ∷ []) waits'
     placed last = record {
       position' = with_index position h (length order);
-      sorting = sorting_index g order waits' position (and_link handled e) g.nodes h within now.placing count waiting
+      sorting = sorting_index position g.nodes h within now.placing count waiting
           (λ u l b other zero. now.free u l b (sym (off u other) ∙ zero)) idle tails inside inside unplaced
           (omega (arith, at));
       keeps = λ u l. off_index position h (length order) u (λ same. let p = ap position same in let r =
-          room g order position h now.placing inside unplaced in absurd (omega (arith, unplaced)));
+          room h now.placing inside unplaced in absurd (omega (arith, unplaced)));
       grows = λ u l. elim (cases_eq u h) [
         | inl same ↦
             inr (
               ap position same ∙ unplaced,
-              ap (with_index position h (length order)) same
-                  ∙ at_index position h (length order),
+              ap (with_index position h (length order)) same ∙ at_index position h (length order),
             )
         | inr other ↦ inl (off_index position h (length order) u other)
       ];

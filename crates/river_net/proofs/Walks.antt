@@ -4,10 +4,12 @@ use Rattle.std.proofs.Common.{length, inl, inr}
 use Rattle.std.proofs.lemmas.Bool.{cases_lt, or_cases, or_left, or_right, and_parts, and_from, eqb-true, eq-eqb}
 use Rattle.std.proofs.lemmas.Bool.{false≢true}
 use Rattle.std.proofs.lemmas.Option.{slice_get_within}
-use Rattle.std.specs.Prelude.{◌==◌, ◌&&◌, ◌||◌, ◌⊎◌, Some, slice_get, unwrap_or, option_map}
+use Rattle.std.specs.Prelude.{◌==◌, ◌&&◌, ◌||◌, ◌⊎◌, Some, slice_get}
 use Rattle.std.specs.List.{list_any}
 use Rattle.water_model.specs.Network.{walks, tail_in, head_in}
 use Rattle.water_model.specs.declared.types.Link.{Link}
+use Rattle.water_model.proofs.Valid.{entry_at}
+use Rattle.river_net.proofs.Entries.{tail_is, head_is}
 
 -- an entry that passes
 pub any_index : {X : Type 0} (p : X → Bool) (xs : List X) → list_any p xs ≡ true → (k : ℕ) × (x : X) ×
@@ -25,13 +27,6 @@ index_any p [] k x at h = cc
 index_any p (y ∷ xs) zero x at h = or_left (p y) (list_any p xs) (let same : y ≡ x = cc in ap p same ∙ h)
 index_any p (y ∷ xs) (suc k) x at h = or_right (p y) (list_any p xs) (index_any p xs k x at h)
 
--- the link at an index
-pub link_at : (links : List Link) (e : ℕ) → e < length links → (l : Link) × (slice_get links e ≡ Some l) ×
-    (tail_in links e ≡ l.from) × (head_in links e ≡ l.to)
-link_at [] e l = absurd (omega arith)
-link_at (x ∷ links) zero l = (x, refl, refl, refl)
-link_at (x ∷ links) (suc e) l = link_at links e (omega arith)
-
 -- the first link of a walk of at most k more links
 pub record BeginsWalk (links : List Link) (k from to : ℕ) : Type 0 where
   pub link : ℕ
@@ -45,11 +40,10 @@ unfolding walks
 walk_begins links k from to h =
     let at = any_index (λ l. l.from == from && (l.to == to || walks links k l.to to)) links h in
     let parts = and_parts (at.1.from == from) (at.1.to == to || walks links k at.1.to to) at.3 in
-    let tail : tail_in links at.0 ≡ at.1.from = ap (λ o. unwrap_or (option_map (λ (l : Link). l.from) o) 0) at.2 in
-    let head : head_in links at.0 ≡ at.1.to = ap (λ o. unwrap_or (option_map (λ (l : Link). l.to) o) 0) at.2 in record {
+    let head = head_is links at.0 at.1 at.2 in record {
       link = at.0;
       in_range = slice_get_within links at.0 at.1 at.2;
-      tail = tail ∙ eqb-true at.1.from from parts.0;
+      tail = tail_is links at.0 at.1 at.2 ∙ eqb-true at.1.from from parts.0;
       rest = elim (or_cases (at.1.to == to) (walks links k at.1.to to) parts.1) [
         | inl there ↦ inl (head ∙ eqb-true at.1.to to there)
         | inr further ↦ inr (ap (λ v. walks links k v to) head ∙ further)
@@ -60,13 +54,14 @@ walk_begins links k from to h =
 pub walk_by : (links : List Link) (k from to : ℕ) → BeginsWalk links k from to → walks links (suc k) from to ≡ true
 unfolding walks
 walk_by links k from to begin =
-    let at = link_at links begin.link begin.in_range in
+    let at = entry_at links begin.link begin.in_range in
+    let head = head_is links begin.link at.0 at.1 in
     index_any (λ l. l.from == from && (l.to == to || walks links k l.to to)) links begin.link at.0 at.1
     (and_from (at.0.from == from) (at.0.to == to || walks links k at.0.to to)
-    (eq-eqb at.0.from from (sym at.2 ∙ begin.tail)) (elim begin.rest [
-      | inl there ↦ or_left (at.0.to == to) (walks links k at.0.to to) (eq-eqb at.0.to to (sym at.3 ∙ there))
+    (eq-eqb at.0.from from (sym (tail_is links begin.link at.0 at.1) ∙ begin.tail)) (elim begin.rest [
+      | inl there ↦ or_left (at.0.to == to) (walks links k at.0.to to) (eq-eqb at.0.to to (sym head ∙ there))
       | inr further ↦
-          or_right (at.0.to == to) (walks links k at.0.to to) (ap (λ v. walks links k v to) (sym at.3) ∙ further)
+          or_right (at.0.to == to) (walks links k at.0.to to) (ap (λ v. walks links k v to) (sym head) ∙ further)
     ]))
 
 -- no link is no walk
@@ -91,8 +86,7 @@ walk_up links (suc k) from to h =
       tail = begin.tail;
       rest = elim begin.rest [
         | inl there ↦ inl there
-        | inr further ↦
-            inr (walk_up links k (head_in links begin.link) to further)
+        | inr further ↦ inr (walk_up links k (head_in links begin.link) to further)
       ];
     }
 
@@ -140,8 +134,7 @@ walk_rises links rank bound (suc k) from to forward below h =
 -- a walk does not leave a set that no link leaves
 pub walk_stays : (links : List Link) (inside : ℕ → Bool) (start k from : ℕ) →
     ((e : ℕ) → e < length links → inside (tail_in links e) ≡ true → (inside (head_in links e) ≡ true) ×
-    (head_in links e ≡ start → ⊥)) →
-    inside from ≡ true → walks links k from start ≡ true → ⊥
+    (head_in links e ≡ start → ⊥)) → inside from ≡ true → walks links k from start ≡ true → ⊥
 walk_stays links inside start zero from closed here h = no_walk links from start h
 walk_stays links inside start (suc k) from closed here h =
     let begin = walk_begins links k from start h in

@@ -8,4 +8,4 @@ pub returns-clause-adds : goal.returns-clause-adds
 returns-clause-adds c rows deliveries stands node l =
     c.arrive_each.ensures.adds node l
     ∙ ap (λ lags. slice_index c.args.into.now node + brought lags node) (c.deref.ensures.value ∙ c.self.view_is)
-    ∙ ap (λ a. slice_index c.args.into.now node + a) (arrivals c.args.self.now rows deliveries node stands)
+    ∙ ap (λ a. slice_index c.args.into.now node + a) (arrivals node stands)

@@ -7,22 +7,20 @@ use Rattle.lag_returns.proofs.Lags.month_done.Goals as goal
 
 pub invariant_of-self : goal.invariant_of-self
 invariant_of-self c =
-    subst (All (λ w. IsLagged w.row))
-    (sym (written (after_month c.args.delivered.now) c.self.inside.flows c.take_each.new.flows c.deref_mut.result.now
+    subst (All (λ w. IsLagged w.row)) (sym (written (after_month c.args.delivered.now) c.self.inside.flows
     c.take_each.ensures c.deref_mut.ensures.value c.deref_mut.ensures.len))
     (lagged_after c.args.delivered.now c.self.inside.flows.items c.self.invariant)
 
 pub returns-clause-rows : goal.returns-clause-rows
 returns-clause-rows c =
-    ap return_rows
-    (written (after_month c.args.delivered.now) c.self.inside.flows c.take_each.new.flows c.deref_mut.result.now
+    ap return_rows (written (after_month c.args.delivered.now) c.self.inside.flows
     c.take_each.ensures c.deref_mut.ensures.value c.deref_mut.ensures.len)
     ∙ rows_after c.args.delivered.now c.self.inside.flows.items ∙ ap return_rows c.self.view_is
 
 pub returns-clause-stands : goal.returns-clause-stands
 returns-clause-stands c rows deliveries stands =
     subst (λ lags. LagsStandFor lags rows (deliveries ++ c.args.delivered.now ∷ []))
-    (sym (written (after_month c.args.delivered.now) c.self.inside.flows c.take_each.new.flows c.deref_mut.result.now
+    (sym (written (after_month c.args.delivered.now) c.self.inside.flows
     c.take_each.ensures c.deref_mut.ensures.value c.deref_mut.ensures.len))
-    (stands_after deliveries c.args.delivered.now rows c.self.inside.flows.items c.self.invariant
+    (stands_after c.args.delivered.now c.self.invariant
     (subst (λ lags. LagsStandFor lags rows deliveries) (sym c.self.view_is) stands))

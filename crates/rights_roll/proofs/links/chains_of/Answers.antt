@@ -8,9 +8,7 @@ index-requires c = omega (arith, c.loop-at.invariant.links (c.loop-at.at - 1) c.
 
 pub loop-at-preserved-in-Some : goal.loop-at-preserved-in-Some
 loop-at-preserved-in-Some c =
-    chains-more c.args.rights.now c.loop-at.first_on.items c.loop-at.next_on.items c.loop-at.at (c.loop-at.at - 1)
-    c.in-Some.link c.index.result.now
-    (omega arith) (omega arith) (sym c.in-Some.ensures)
+    chains-more (c.loop-at.at - 1) c.in-Some.link (omega arith) (omega arith) (sym c.in-Some.ensures)
     (get_or_read c.loop-at.first_on.items c.in-Some.link c.index.result.now
     (c.loop-at.invariant.links (c.loop-at.at - 1) c.in-Some.link (sym c.in-Some.ensures)) c.index.ensures None)
     c.loop-at.invariant

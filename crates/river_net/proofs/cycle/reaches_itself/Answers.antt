@@ -4,13 +4,10 @@ use Rattle.river_net.proofs.cycle.reaches_itself.Goals as goal
 
 pub loop-done-smaller : goal.loop-done-smaller
 loop-done-smaller c =
-    let fits =
-    queue_fits c.args.graph.now c.args.node c.loop-done.search.seen.items c.loop-done.search.queue.items
-    c.loop-done.invariant.search in
+    let fits = queue_fits c.loop-done.invariant.search in
     omega (arith, c.loop-done-test.true, c.len.ensures)
 
 pub returns : goal.returns
 returns c =
-    sym (search_ends c.args.graph.now c.args.node c.loop-done.search.seen.items c.loop-done.search.queue.items
-    c.loop-done.done c.in_ok-search.ensures.within c.requires
+    sym (search_ends c.in_ok-search.ensures.within c.requires
     (omega (arith, c.loop-done-test.false, c.len.ensures)) c.loop-done.invariant)

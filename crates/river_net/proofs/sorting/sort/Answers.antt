@@ -4,7 +4,5 @@ use Rattle.river_net.proofs.sorting.sort.Goals as goal
 
 pub loop-done-smaller : goal.loop-done-smaller
 loop-done-smaller c =
-    let fits =
-    order_fits c.args.graph.now c.loop-done.sorting.order.items c.loop-done.invariant.position
-    c.loop-done.invariant.sorting.placing in
+    let fits = order_fits c.loop-done.invariant.sorting.placing in
     omega (arith, c.loop-done-test.true, c.len.ensures)

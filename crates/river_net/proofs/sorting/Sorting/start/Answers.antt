@@ -6,9 +6,7 @@ use Rattle.river_net.proofs.sorting.Sorting.start.Goals as goal
 use Rattle.river_net.proofs.sorting.Sorting.start.Goals.{then-index-eq0+in_ok-push, else-index-eq0}
 
 pub loop-node-init : goal.loop-node-init
-loop-node-init c =
-    sources_start c.args.graph.now c.new-order.result.items c.in_ok-waits.waits.items c.new-order.ensures.items
-    c.in_ok-waits.ensures.entering
+loop-node-init c = sources_start c.new-order.ensures.items c.in_ok-waits.ensures.entering
 
 pub loop-node-preserved : goal.loop-node-preserved
 loop-node-preserved c =
@@ -19,13 +17,11 @@ loop-node-preserved c =
     c.index.ensures ∙ get_or_default waits c.loop-node.node c.index.result.now 0 below in
     elim c.if-index-eq0.branch [
       | then-index-eq0+in_ok-push w ↦
-          subst (λ (v : Vec ℕ Global). HasSources g v.items waits (c.loop-node.node + 1)) (sym w.order-is)
-          (source_next g c.loop-node.order.items w.push.new.self.items waits c.loop-node.node
+          subst (λ (v : Vec ℕ Global). HasSources g v.items waits (c.loop-node.node + 1)) (sym w.order-is) (source_next
           c.in_ok-waits.ensures.within
           (let n = c.in_ok-waits.ensures.entering.count in omega arith) (sym count ∙ w.if-index-eq0.true)
           w.in_ok-push.ensures.items c.loop-node.invariant)
       | else-index-eq0 w ↦
           subst (λ (v : Vec ℕ Global). HasSources g v.items waits (c.loop-node.node + 1)) (sym w.order-is)
-          (source_skip g c.loop-node.order.items waits c.loop-node.node (λ zero. w.if-index-eq0.false (count ∙ zero))
-          c.loop-node.invariant)
+          (source_skip (λ zero. w.if-index-eq0.false (count ∙ zero)) c.loop-node.invariant)
     ]
