@@ -5,7 +5,7 @@ use Rattle.std.proofs.lemmas.Bool.{eq-eqb, ne_eqb, eqb-true, eqb-false, lt-ltb, 
 use Rattle.std.proofs.lemmas.Bool.{cases_lt, cases_eq, cases_Bool, and_from, and_parts, and_cases, and_left, and_right}
 use Rattle.std.proofs.lemmas.Bool.{both_ways}
 use Rattle.finite_sums.specs.Sums.{total, when}
-use Rattle.circulation.specs.Network.{Network, IsFlow, HasEnds, IsTight, LeadsOut}
+use Rattle.circulation.specs.Network.{Network, IsFlow, HasEnds, IsCut, IsTight, LeadsOut, enters, leaves}
 use Rattle.circulation.specs.Residual.{arc_of, is_backward, by_direction, start_of}
 use Rattle.finite_sums.proofs.Totals.{total_change, total_most, total_pick}
 use Rattle.circulation.proofs.Scans.{by_direction_both}
@@ -180,6 +180,11 @@ unreached_before nodes old new size more v grows b none = elim (cases_eq (old v)
   | inr ne ↦ absurd (omega (arith, grows.same v b (omega arith)))
 ]
 
+-- the head of the arc is reached
+pub head_reached : {w : Network} {g : ℕ → ℕ} {r least : ℕ} {position node step : ℕ → ℕ} {size : ℕ} →
+    IsTree w g r least position node step size → 0 < position (w.to r)
+head_reached {position = position} t = omega (arith, ap position t.root, (t.placed 0 t.some).1)
+
 -- the path to the outside is reached
 reached_along : (w : Network) (g : ℕ → ℕ) (r : ℕ) (position : ℕ → ℕ) (v : ℕ) (path : List ℕ) → HasEnds w → IsFlow w g →
     IsClosed w g r 1 position → v ≤ w.nodes → 0 < position v → LeadsOut w r v path → 0 < position w.nodes
@@ -209,60 +214,73 @@ not_in_set nodes position v b out e = elim (and_cases (nat_lt v nodes) (position
   | inr f ↦ let ne = eqb-false (position v) 0 f in omega (arith, ne)
 ]
 
+-- an arc that leads from a node that was reached to one that was not is nearly full
+pub nearly_full : (w : Network) (g : ℕ → ℕ) (r least : ℕ) (position : ℕ → ℕ) (a : ℕ) → HasEnds w →
+    IsClosed w g r least position → 0 < position (w.to r) → a < w.arcs → 0 < position (w.from a) →
+    position (w.to a) ≡ 0 → w.upper a ≤ g a + (least - 1)
+nearly_full w g r least position a ends closed head b from to = elim (cases_lt (g a + (least - 1)) (w.upper a)) [
+  | inl room ↦
+      let ne : a ≢ r = λ is. omega (arith, head, to, ap (λ (x : ℕ). position (w.to x)) is) in
+      absurd (omega (arith, (closed (w.from a) (ends.from_in a b) from).out a b refl ne (omega arith), to))
+  | inr full ↦ full
+]
+
+-- another arc, from a node that was not reached to one that was, carries little more than it must
+pub nearly_empty : (w : Network) (g : ℕ → ℕ) (r least : ℕ) (position : ℕ → ℕ) (a : ℕ) → HasEnds w →
+    IsClosed w g r least position → a < w.arcs → a ≢ r → 0 < position (w.to a) → position (w.from a) ≡ 0 →
+    g a ≤ w.lower a + (least - 1)
+nearly_empty w g r least position a ends closed b ne to from = elim (cases_lt (w.lower a + (least - 1)) (g a)) [
+  | inl room ↦ absurd (omega (arith, (closed (w.to a) (ends.to_in a b) to).into a b refl ne (omega arith), from))
+  | inr empty ↦ empty
+]
+
+-- a node with another place than the outside is in the basin
+pub in_basin : (nodes : ℕ) (position : ℕ → ℕ) (v : ℕ) → v ≤ nodes → position v ≢ position nodes → v < nodes
+in_basin nodes position v b ne = elim (cases_eq v nodes) [ inl e ↦ absurd (ne (ap position e)) | inr other ↦ omega arith ]
+
+-- the first test holds and the second fails
+pub crosses : (p q : Bool) → (p && not q) ≡ true → (p ≡ true) × (q ≡ false)
+crosses p q e = let parts = and_parts p (not q) e in (parts.0, not-true q parts.1)
+
+-- the flow of r can rise only by what the arcs across the cut have left, which is at most d for each
+pub record IsNearlyTight (w : Network) (g : ℕ → ℕ) (r d : ℕ) (y : ℕ → Bool) : Type 0 where
+  pub cut : IsCut w r y
+  pub full : (a : ℕ) → a < w.arcs → enters w y a ≡ true → w.upper a ≤ g a + d
+  pub empty : (a : ℕ) → a < w.arcs → leaves w y a ≡ true → a ≢ r → g a ≤ w.lower a + d
+
+-- where the search came to the outside and not to the tail, the nodes that it did not reach are such a cut
+pub nearly_tight : (w : Network) (g : ℕ → ℕ) (r least : ℕ) (position : ℕ → ℕ) → r < w.arcs → HasEnds w →
+    IsClosed w g r least position → 0 < position w.nodes → 0 < position (w.to r) → position (w.from r) ≡ 0 →
+    IsNearlyTight w g r (least - 1) (λ v. nat_lt v w.nodes && (position v == 0))
+nearly_tight w g r least position b ends closed out head none = record {
+  cut = record {
+    basin = λ v c. and_left (nat_lt v w.nodes) (position v == 0) (le-ltb v w.nodes c);
+    tail = set_from w.nodes position (w.from r)
+        (in_basin w.nodes position (w.from r) (ends.from_in r b) (omega arith)) none;
+    head = and_right (nat_lt (w.to r) w.nodes) (position (w.to r) == 0) (ne_eqb (position (w.to r)) 0 (omega arith));
+  };
+  full = λ a c e.
+      let across = crosses _ _ e in
+      nearly_full w g r least position a ends closed head c
+      (not_in_set w.nodes position (w.from a) (ends.from_in a c) out across.1)
+      (in_set w.nodes position (w.to a) across.0).1;
+  empty = λ a c e ne.
+      let across = crosses _ _ e in
+      nearly_empty w g r least position a ends closed c ne
+      (not_in_set w.nodes position (w.to a) (ends.to_in a c) out across.1)
+      (in_set w.nodes position (w.from a) across.0).1;
+}
+
 -- where the search reached all that it could and not the tail, the nodes that it did not reach are a tight cut
 pub tight_cut : (w : Network) (g : ℕ → ℕ) (r : ℕ) (position node step : ℕ → ℕ) (size : ℕ) → r < w.arcs → HasEnds w →
     IsFlow w g → HasPathOut w r → IsTree w g r 1 position node step size → IsClosed w g r 1 position →
     position (w.from r) ≡ 0 → IsTight w g r (λ v. nat_lt v w.nodes && (position v == 0))
 tight_cut w g r position node step size b ends flow way t closed none =
-    let head : 0 < position (w.to r) = omega (arith, ap position t.root, (t.placed 0 t.some).1) in
+    let head = head_reached t in
     let out = reached_along w g r position (w.to r) way.path ends flow closed (ends.to_in r b) head way.leads in
-    let tail_in : w.from r < w.nodes = elim (cases_lt (w.from r) w.nodes) [
-      | inl c ↦ c
-      | inr c ↦
-          let from_in = ends.from_in r b in
-          let is : w.from r ≡ w.nodes = omega arith in
-          absurd (omega (arith, ap position is))
-    ] in
-    tight-from_closed w r (λ v. nat_lt v w.nodes && (position v == 0)) g b
-    record {
-      basin = λ v c. and_left (nat_lt v w.nodes) (position v == 0) (le-ltb v w.nodes c);
-      tail = set_from w.nodes position (w.from r) tail_in none;
-      head = and_right (nat_lt (w.to r) w.nodes) (position (w.to r) == 0)
-          (ne_eqb (position (w.to r)) 0 (λ e. absurd (omega arith)));
-    }
-    flow
-    (λ a c e.
-    let parts = and_parts (nat_lt (w.to a) w.nodes && (position (w.to a) == 0))
-    (not (nat_lt (w.from a) w.nodes && (position (w.from a) == 0))) e in
-    let into = in_set w.nodes position (w.to a) parts.0 in
-    let from = not_in_set w.nodes position (w.from a) (ends.from_in a c) out
-    (not-true (nat_lt (w.from a) w.nodes && (position (w.from a) == 0)) parts.1) in
-    elim (cases_lt (g a) (w.upper a)) [
-      | inl room ↦
-          elim (cases_eq a r) [
-            | inl is ↦ absurd (omega (arith, head, into.1, ap (λ (x : ℕ). position (w.to x)) is))
-            | inr ne ↦ absurd (omega (
-              arith,
-              (closed (w.from a) (ends.from_in a c) from).out a c refl ne (omega arith),
-              into.1,
-            ))
-          ]
-      | inr full ↦ omega (arith, flow.high a c)
-    ])
-    (λ a c e ne.
-    let parts = and_parts (nat_lt (w.from a) w.nodes && (position (w.from a) == 0))
-    (not (nat_lt (w.to a) w.nodes && (position (w.to a) == 0))) e in
-    let from = in_set w.nodes position (w.from a) parts.0 in
-    let into = not_in_set w.nodes position (w.to a) (ends.to_in a c) out
-    (not-true (nat_lt (w.to a) w.nodes && (position (w.to a) == 0)) parts.1) in
-    elim (cases_lt (w.lower a) (g a)) [
-      | inl room ↦ absurd (omega (
-        arith,
-        (closed (w.to a) (ends.to_in a c) into).into a c refl ne (omega arith),
-        from.1,
-      ))
-      | inr empty ↦ omega (arith, flow.low a c)
-    ])
+    let near = nearly_tight w g r 1 position b ends closed out head none in
+    tight-from_closed w r _ g b near.cut flow (λ a c e. omega (arith, near.full a c e, flow.high a c))
+    (λ a c e ne. omega (arith, near.empty a c e ne, flow.low a c))
 
 -- no step with room leads into a set whose arcs have none
 blocked : (back : Bool) (w : Network) (g : ℕ → ℕ) (r least a : ℕ) (z : ℕ → Bool) → IsSaturated w g r z → a < w.arcs →
