@@ -235,7 +235,7 @@ pub trail_step : (c d : Contents) (r least size node nodes place s : ℕ) → Ha
 trail_step c d r least size node nodes place s t below inside marked is at word =
     let there : place ≡ position_of c node = at ∙ below node (omega arith) in
     let index : 2 * nodes + 1 + place ≡ 2 * c.nodes + 2 + (position_of c node - 1) = omega arith in
-    let most = tree_size _ _ _ _ _ _ _ _ t in
+    let most = tree_size t in
     let short = (t.marked node inside marked).0 in
     word ∙ ap (step_of d) index ∙ below (2 * c.nodes + 2 + (position_of c node - 1)) (omega arith)
 

@@ -30,42 +30,52 @@ total_less (suc n) v f b h z = elim (cases_eq v n) [
 ]
 
 -- while a node was not reached, there is room for it
-pub tree_room : (w : Network) (g : ℕ → ℕ) (r least : ℕ) (position node step : ℕ → ℕ) (size v : ℕ) →
+pub tree_room : {w : Network} {g : ℕ → ℕ} {r least : ℕ} {position node step : ℕ → ℕ} {size : ℕ} (v : ℕ) →
     IsTree w g r least position node step size → v ≤ w.nodes → position v ≡ 0 → size ≤ w.nodes
-tree_room w g r least position node step size v t b z =
+tree_room {w = w} {position = position} v t b z =
     let less = total_less (w.nodes + 1) v (λ u. when (nat_lt 0 (position u)) 1) (omega arith)
     (λ u. when_one (nat_lt 0 (position u))) (ap (λ (x : ℕ). when (nat_lt 0 x) 1) z) in
     omega (arith, less, t.counted)
 
 -- no more nodes are reached than there are
-pub tree_size : (w : Network) (g : ℕ → ℕ) (r least : ℕ) (position node step : ℕ → ℕ) (size : ℕ) →
+pub tree_size : {w : Network} {g : ℕ → ℕ} {r least : ℕ} {position node step : ℕ → ℕ} {size : ℕ} →
     IsTree w g r least position node step size → size ≤ w.nodes + 1
-tree_size w g r least position node step size t = omega (
+tree_size {w = w} {position = position} t = omega (
   arith,
   t.counted,
-  total_most (w.nodes + 1) 1 (λ u. when (nat_lt 0 (position u)) 1)
-      (λ u l. when_one (nat_lt 0 (position u))),
+  total_most (w.nodes + 1) 1
+      (λ u. when (nat_lt 0 (position u)) 1) (λ u l. when_one (nat_lt 0 (position u))),
 )
 
+-- the node v was added after `size` nodes, by the step s
+pub record IsAdded (nodes : ℕ) (old position node node' step step' : ℕ → ℕ) (size s v : ℕ) : Type 0 where
+  pub inside : v ≤ nodes
+  pub none : old v ≡ 0
+  pub here : position v ≡ size + 1
+  pub others : (u : ℕ) → u ≤ nodes → u ≢ v → position u ≡ old u
+  pub at_node : node' size ≡ v
+  pub nodes_before : (k : ℕ) → k < size → node' k ≡ node k
+  pub at_step : step' size ≡ s
+  pub steps_before : (k : ℕ) → k < size → step' k ≡ step k
+
 -- the tree of the root alone
-pub tree_start : (w : Network) (g : ℕ → ℕ) (r least : ℕ) (position node step : ℕ → ℕ) → w.to r ≤ w.nodes →
-    node 0 ≡ w.to r → position (w.to r) ≡ 1 → ((v : ℕ) → v ≤ w.nodes → v ≢ w.to r → position v ≡ 0) →
-    IsTree w g r least position node step 1
-tree_start w g r least position node step b root here none = record {
+pub tree_start : {w : Network} {g : ℕ → ℕ} {r least : ℕ} {old position node node' step step' : ℕ → ℕ} {s v : ℕ} →
+    IsAdded w.nodes old position node node' step step' 0 s v → ((u : ℕ) → u ≤ w.nodes → old u ≡ 0) → v ≡ w.to r →
+    IsTree w g r least position node' step' 1
+tree_start {w = w} {position = position} {node' = node'} {v = v} a none is = record {
   some = omega arith;
-  root = root;
-  counted = sym (total_pick (w.nodes + 1) (w.to r) (λ v. when (nat_lt 0 (position v)) 1) (omega arith)
-      (λ v c ne. ap (λ (x : ℕ). when (nat_lt 0 x) 1) (none v (omega arith) ne)) ∙ ap
-      (λ (x : ℕ). when (nat_lt 0 x) 1) here);
+  root = a.at_node ∙ is;
+  counted = sym (total_pick (w.nodes + 1) v (λ u. when (nat_lt 0 (position u)) 1) (omega (arith, a.inside))
+      (λ u c ne. ap (λ (x : ℕ). when (nat_lt 0 x) 1) (a.others u (omega arith) ne ∙ none u (omega arith))) ∙ ap
+      (λ (x : ℕ). when (nat_lt 0 x) 1) a.here);
   placed = λ k c.
       let first : k ≡ 0 = omega arith in
-      subst (λ (j : ℕ). (node j ≤ w.nodes) × (position (node j) ≡ j + 1)) (sym first)
-      (omega (arith, root), ap position root ∙ here);
-  marked = λ v c m. elim (cases_eq v (w.to r)) [
+      rw first (omega (arith, a.at_node, a.inside), ap position a.at_node ∙ a.here);
+  marked = λ u c m. elim (cases_eq u v) [
     | inl e ↦
-        let one : position v ≡ 1 = ap position e ∙ here in
-        (omega arith, ap (λ (x : ℕ). node (x - 1)) one ∙ root ∙ sym e)
-    | inr ne ↦ absurd (omega (arith, none v c ne))
+        let one : position u ≡ 1 = ap position e ∙ a.here in
+        (omega arith, ap (λ (x : ℕ). node' (x - 1)) one ∙ a.at_node ∙ sym e)
+    | inr ne ↦ absurd (omega (arith, a.others u c ne, none u c))
   ];
   grown = λ k c d. absurd (omega arith);
 }
@@ -76,12 +86,11 @@ start_within w s ends b = by_direction_both (is_backward s) (w.from (arc_of s)) 
     (ends.from_in (arc_of s) b) (ends.to_in (arc_of s) b)
 
 -- a branch stays when more nodes are reached
-branch-kept : (w : Network) (g : ℕ → ℕ) (r least : ℕ) (old new : ℕ → ℕ) (k s v : ℕ) → HasEnds w →
+branch-kept : {w : Network} {g : ℕ → ℕ} {r least : ℕ} {old new : ℕ → ℕ} {k s v : ℕ} → HasEnds w →
     ((u : ℕ) → u ≤ w.nodes → 0 < old u → new u ≡ old u) → IsBranch w g r least old k s v →
     IsBranch w g r least new k s v
-branch-kept w g r least old new k s v ends same b =
-    let within = start_within w s ends b.arc in
-    let e = same (start_of w s) within b.marked in
+branch-kept {w = w} {s = s} ends same b =
+    let e = same (start_of w s) (start_within w s ends b.arc) b.marked in
     record {
       arc = b.arc;
       other = b.other;
@@ -92,74 +101,63 @@ branch-kept w g r least old new k s v ends same b =
     }
 
 -- one more node
-pub tree_next : (w : Network) (g : ℕ → ℕ) (r least : ℕ) (old position node node' step step' : ℕ → ℕ) (size s v : ℕ) →
-    HasEnds w → IsTree w g r least old node step size → v ≤ w.nodes → old v ≡ 0 → position v ≡ size + 1 →
-    ((u : ℕ) → u ≤ w.nodes → u ≢ v → position u ≡ old u) → node' size ≡ v → ((k : ℕ) → k < size → node' k ≡ node k) →
-    step' size ≡ s → ((k : ℕ) → k < size → step' k ≡ step k) → IsBranch w g r least old size s v →
-    IsTree w g r least position node' step' (size + 1)
-tree_next w g r least old position node node' step step' size s v ends t b none here others at_node nodes at_step steps
+pub tree_next : {w : Network} {g : ℕ → ℕ} {r least : ℕ} {old position node node' step step' : ℕ → ℕ} {size s v : ℕ} →
+    HasEnds w → IsTree w g r least old node step size → IsAdded w.nodes old position node node' step step' size s v →
+    IsBranch w g r least old size s v → IsTree w g r least position node' step' (size + 1)
+tree_next {w = w} {old = old} {position = position} {node = node} {node' = node'} {size = size} {v = v} ends t a
     branch =
-    let kept = λ (u : ℕ) (c : u ≤ w.nodes) (m : 0 < old u). others u c (λ e. absurd (omega (arith, ap old e, none))) in
+    let kept = λ (u : ℕ) (c : u ≤ w.nodes) (m : 0 < old u). a.others u c
+    (λ e. absurd (omega (arith, ap old e, a.none))) in
     let count = total_change (w.nodes + 1) v (λ u. when (nat_lt 0 (position u)) 1) (λ u. when (nat_lt 0 (old u)) 1)
-    (omega arith) (λ u c ne. ap (λ (x : ℕ). when (nat_lt 0 x) 1) (others u (omega arith) ne)) in
-    let was : when (nat_lt 0 (old v)) 1 ≡ 0 = ap (λ (x : ℕ). when (nat_lt 0 x) 1) none in
-    let is : when (nat_lt 0 (position v)) 1 ≡ 1 = ap (λ (x : Bool). when x 1) (lt-ltb 0 (position v) (omega arith)) in
+    (omega (arith, a.inside)) (λ u c ne. ap (λ (x : ℕ). when (nat_lt 0 x) 1) (a.others u (omega arith) ne)) in
+    let was = ap (λ (x : ℕ). when (nat_lt 0 x) 1) a.none in
+    let is = ap (λ (x : ℕ). when (nat_lt 0 x) 1) a.here in
+    let one : when (nat_lt 0 (size + 1)) 1 ≡ 1 = ap (λ (x : Bool). when x 1) (lt-ltb 0 (size + 1) (omega arith)) in
     record {
       some = omega arith;
-      root = nodes 0 t.some ∙ t.root;
-      counted = omega (arith, count, was, is, t.counted);
+      root = a.nodes_before 0 t.some ∙ t.root;
+      counted = omega (arith, count, was, is, one, t.counted);
       placed = λ k c. elim (cases_eq k size) [
-        | inl e ↦ subst (λ (j : ℕ). (node' j ≤ w.nodes) × (position (node' j) ≡ j + 1)) (sym e)
-            (omega (arith, at_node), ap position at_node ∙ here)
+        | inl e ↦ rw e (omega (arith, a.at_node, a.inside), ap position a.at_node ∙ a.here)
         | inr ne ↦
             let old_place = t.placed k (omega arith) in
-            let same : node' k ≡ node k = nodes k (omega arith) in
-            let still = kept (node k) old_place.0 (omega (arith, old_place.1)) in
-            (omega (arith, same, old_place.0), ap position same ∙ still ∙ old_place.1)
+            rw (a.nodes_before k (omega arith))
+            (old_place.0, kept (node k) old_place.0 (omega (arith, old_place.1)) ∙ old_place.1)
       ];
       marked = λ u c m. elim (cases_eq u v) [
         | inl e ↦
-            let place : position u ≡ size + 1 = ap position e ∙ here in
-            let back : position u - 1 ≡ size = omega arith in
-            (omega arith, ap node' back ∙ at_node ∙ sym e)
+            let back : position u - 1 ≡ size = omega (arith, ap position e, a.here) in
+            (omega arith, ap node' back ∙ a.at_node ∙ sym e)
         | inr ne ↦
-            let same : position u ≡ old u = others u c ne in
+            let same = a.others u c ne in
             let there = t.marked u c (omega arith) in (
               omega (arith, there.0),
-              nodes (position u - 1) (omega (arith, there.0)) ∙ ap
-                  (λ (x : ℕ). node (x - 1)) same ∙ there.1,
+              a.nodes_before (position u - 1) (omega (arith, there.0)) ∙ ap (λ (x : ℕ). node (x - 1)) same ∙ there.1,
             )
       ];
       grown = λ k c d. elim (cases_eq k size) [
-        | inl e ↦
-            let last = branch-kept w g r least old position size s v ends kept branch in
-            let moved = subst (λ (x : ℕ). IsBranch w g r least position size x v) (sym at_step) last in
-            let at_last = subst (λ (x : ℕ). IsBranch w g r least position size (step' size) x) (sym at_node) moved in
-            subst (λ (j : ℕ). IsBranch w g r least position j (step' j) (node' j)) (sym e) at_last
-        | inr ne ↦
-            let before : k < size = omega arith in
-            let last = branch-kept w g r least old position k (step k) (node k) ends kept (t.grown k c before) in
-            let moved = subst (λ (x : ℕ). IsBranch w g r least position k x (node k)) (sym (steps k before)) last in
-            subst (λ (x : ℕ). IsBranch w g r least position k (step' k) x) (sym (nodes k before)) moved
+        | inl e ↦ rw (e, a.at_step, a.at_node) (branch-kept ends kept branch)
+        | inr ne ↦ rw (a.steps_before k (omega arith), a.nodes_before k (omega arith))
+            (branch-kept ends kept (t.grown k c (omega arith)))
       ];
     }
 
 -- one more node is after those before
-pub grows_next : (nodes : ℕ) (old new : ℕ → ℕ) (size v : ℕ) → old v ≡ 0 → new v ≡ size + 1 →
-    ((u : ℕ) → u ≤ nodes → u ≢ v → new u ≡ old u) → Grows nodes old new size (size + 1)
-grows_next nodes old new size v none here others = record {
-  same = λ u c m. others u c (λ e. absurd (omega (arith, ap old e, none)));
+pub grows_next : {nodes : ℕ} {old new node node' step step' : ℕ → ℕ} {size s v : ℕ} →
+    IsAdded nodes old new node node' step step' size s v → Grows nodes old new size (size + 1)
+grows_next {old = old} {new = new} {v = v} a = record {
+  same = λ u c m. a.others u c (λ e. absurd (omega (arith, ap old e, a.none)));
   fresh = λ u c z m. elim (cases_eq u v) [
-    | inl e ↦ omega (arith, ap new e, here)
-    | inr ne ↦ absurd (omega (arith, others u c ne))
+    | inl e ↦ omega (arith, ap new e, a.here)
+    | inr ne ↦ absurd (omega (arith, a.others u c ne))
   ];
   larger = omega arith;
 }
 
 -- growing twice
-pub grows_more : (nodes : ℕ) (a b c : ℕ → ℕ) (n m k : ℕ) → Grows nodes a b n m → Grows nodes b c m k →
+pub grows_more : {nodes : ℕ} {a b c : ℕ → ℕ} {n m k : ℕ} → Grows nodes a b n m → Grows nodes b c m k →
     Grows nodes a c n k
-grows_more nodes a b c n m k first second = record {
+grows_more {b = b} first second = record {
   same = λ u d z. second.same u d (omega (arith, first.same u d z)) ∙ first.same u d z;
   fresh = λ u d z p. elim (cases_eq (b u) 0) [
     | inl e ↦ omega (arith, second.fresh u d e p, first.larger)
@@ -173,9 +171,9 @@ pub grows_none : (nodes : ℕ) (a : ℕ → ℕ) (n : ℕ) → Grows nodes a a n
 grows_none nodes a n = record { same = λ u d z. refl; fresh = λ u d z p. absurd (omega arith); larger = omega arith }
 
 -- a node that is not reached was not reached before
-pub unreached_before : (nodes : ℕ) (old new : ℕ → ℕ) (size more v : ℕ) → Grows nodes old new size more → v ≤ nodes →
-    new v ≡ 0 → old v ≡ 0
-unreached_before nodes old new size more v grows b none = elim (cases_eq (old v) 0) [
+pub unreached_before : {nodes : ℕ} {old new : ℕ → ℕ} {size more : ℕ} (v : ℕ) → Grows nodes old new size more →
+    v ≤ nodes → new v ≡ 0 → old v ≡ 0
+unreached_before {old = old} v grows b none = elim (cases_eq (old v) 0) [
   | inl e ↦ e
   | inr ne ↦ absurd (omega (arith, grows.same v b (omega arith)))
 ]
@@ -236,7 +234,8 @@ nearly_empty w g r least position a ends closed b ne to from = elim (cases_lt (w
 
 -- a node with another place than the outside is in the basin
 pub in_basin : (nodes : ℕ) (position : ℕ → ℕ) (v : ℕ) → v ≤ nodes → position v ≢ position nodes → v < nodes
-in_basin nodes position v b ne = elim (cases_eq v nodes) [ inl e ↦ absurd (ne (ap position e)) | inr other ↦ omega arith ]
+in_basin nodes position v b ne = elim (cases_eq v nodes)
+    [ inl e ↦ absurd (ne (ap position e)) | inr other ↦ omega arith ]
 
 -- the first test holds and the second fails
 pub crosses : (p q : Bool) → (p && not q) ≡ true → (p ≡ true) × (q ≡ false)

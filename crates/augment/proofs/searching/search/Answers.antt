@@ -8,14 +8,14 @@ use Rattle.augment.proofs.searching.search.Goals as goal
 
 pub word-node-requires-clause-at : goal.word-node-requires-clause-at
 word-node-requires-clause-at c =
-    let size = tree_size _ _ _ _ _ _ _ _ c.loop-done.invariant.tree in
+    let size = tree_size c.loop-done.invariant.tree in
     let rest = ap (λ (x : Contents). x.nodes) c.loop-done.invariant.rest in
     let first = ap (λ (x : Contents). x.nodes) c.plant.ensures.rest in
     omega (arith, size, rest, first, c.nodes-nodes.ensures.number, c.loop-done-test.true)
 
 pub overflow_add-nodes-in-loop-done : goal.overflow_add-nodes-in-loop-done
 overflow_add-nodes-in-loop-done c =
-    let size = tree_size _ _ _ _ _ _ _ _ c.loop-done.invariant.tree in
+    let size = tree_size c.loop-done.invariant.tree in
     let rest = ap (λ (x : Contents). x.nodes) c.loop-done.invariant.rest in
     let first = ap (λ (x : Contents). x.nodes) c.plant.ensures.rest in
     omega (
@@ -50,16 +50,15 @@ loop-done-preserved c =
       tree = all.tree;
       kept = c.scan-size.ensures.kept;
       done = λ none.
-          let before = unreached_before _ _ _ _ _ _ all.grows (omega (arith, tail, rest)) none in
-          done_next c.args.circ.now c.loop-done.circ c.scan-size.new.circ _ _ _ _ _ ends
-          inv.rest inv.tree c.loop-done-test.true (inv.done before) all
+          let before = unreached_before _ all.grows (omega (arith, tail, rest)) none in
+          done_next c.args.circ.now ends inv.rest inv.tree c.loop-done-test.true (inv.done before) all
           (scanned (ap (position_of c.scan-size.new.circ) same ∙ none));
       within = omega (arith, larger, c.loop-done-test.true);
     }
 
 pub loop-done-smaller : goal.loop-done-smaller
 loop-done-smaller c =
-    let size = tree_size _ _ _ _ _ _ _ _ c.loop-done.invariant.tree in
+    let size = tree_size c.loop-done.invariant.tree in
     let rest = ap (λ (x : Contents). x.nodes) c.loop-done.invariant.rest in
     let less : c.args.circ.now.nodes + 1 - (c.loop-done.done + 1) < c.args.circ.now.nodes + 1 - c.loop-done.done =
     omega (arith, size, rest, c.loop-done-test.true) in

@@ -13,7 +13,7 @@ loop-node-init c =
     let kept = c.requires.kept in
     let tree = c.requires.tree.1 in
     let inside = kept.ends.from_in c.args.arc c.requires.arc in
-    let size = tree_size _ _ _ _ _ _ _ _ tree in
+    let size = tree_size tree in
     let place = (tree.marked (slice_index c.args.circ.now.from c.args.arc) inside c.requires.reached).0 in
     let start = trail_start (network c.args.circ.now) (flow_of c.args.circ.now) c.args.arc c.args.most
     (position_of c.args.circ.now) (step_of c.args.circ.now)
