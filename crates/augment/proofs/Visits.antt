@@ -13,8 +13,8 @@ use Rattle.augment.proofs.Trees.{IsAdded, tree_next, grows_next, grows_none}
 -- the words of a node that is visited for the first time
 pub node_added : (c : Contents) (size node s : ℕ) → IsCirculation c → node ≤ c.nodes → size ≤ c.nodes →
     position_of c node ≡ 0 →
-    IsAdded c.nodes (position_of c) (position_of (with_node c size node s)) (node_at c) (node_at (with_node c size node s))
-    (step_at c) (step_at (with_node c size node s)) size s node
+    IsAdded c.nodes (position_of c) (position_of (with_node c size node s)) (node_at c)
+    (node_at (with_node c size node s)) (step_at c) (step_at (with_node c size node s)) size s node
 node_added c size node s kept inside room none =
     let long = kept.shape.scratch in
     record {

@@ -9,11 +9,7 @@ use Rattle.augment.proofs.Raises.{stopped_cut, stopped_rise, pushed_first}
 use Rattle.augment.proofs.raising.round.Goals as goal
 
 pub trace-walk-requires-clause-tree : goal.trace-walk-requires-clause-tree
-trace-walk-requires-clause-tree g c = (
-  c.search.result,
-  tree_weak (network c.search.new.circ)
-      (flow_of c.search.new.circ) _ _ _ _ _ _ c.requires.least c.search.ensures.tree,
-)
+trace-walk-requires-clause-tree g c = (c.search.result, tree_weak c.requires.least c.search.ensures.tree)
 
 pub returns-then-not-reached-clause-rise : goal.returns-then-not-reached-clause-rise
 returns-then-not-reached-clause-rise g c = λ _.
