@@ -106,10 +106,10 @@ inside_not nodes position v b outside e = elim (cases_lt v nodes) [
 ]
 
 -- when nothing more is reached over rooms of at least `least`, the flow of r can rise by less than that for each arc
-pub remaining_rise : (w : Network) (g h : ℕ → ℕ) (r least : ℕ) (position node step : ℕ → ℕ) (size : ℕ) → r < w.arcs →
-    0 < least → HasEnds w → IsFlow w g → IsFlow w h → IsTree w g r least position node step size →
+pub remaining_rise : {w : Network} {g h : ℕ → ℕ} {r least : ℕ} {position node step : ℕ → ℕ} {size : ℕ} →
+    r < w.arcs → 0 < least → HasEnds w → IsFlow w g → IsFlow w h → IsTree w g r least position node step size →
     IsClosed w g r least position → position (w.from r) ≡ 0 → h r ≤ g r + open_arcs w * (least - 1)
-remaining_rise w g h r least position node step size b some ends fg fh t closed none =
+remaining_rise {w = w} {g = g} {h = h} {r = r} {least = least} {position = position} b some ends fg fh t closed none =
     let head = head_reached t in
     elim (cases_eq (position w.nodes) 0) [
       | inl outside ↦

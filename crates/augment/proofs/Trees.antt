@@ -271,10 +271,10 @@ nearly_tight w g r least position b ends closed out head none = record {
 }
 
 -- where the search reached all that it could and not the tail, the nodes that it did not reach are a tight cut
-pub tight_cut : (w : Network) (g : ℕ → ℕ) (r : ℕ) (position node step : ℕ → ℕ) (size : ℕ) → r < w.arcs → HasEnds w →
+pub tight_cut : {w : Network} {g : ℕ → ℕ} {r : ℕ} {position node step : ℕ → ℕ} {size : ℕ} → r < w.arcs → HasEnds w →
     IsFlow w g → HasPathOut w r → IsTree w g r 1 position node step size → IsClosed w g r 1 position →
     position (w.from r) ≡ 0 → IsTight w g r (λ v. nat_lt v w.nodes && (position v == 0))
-tight_cut w g r position node step size b ends flow way t closed none =
+tight_cut {w = w} {g = g} {r = r} {position = position} b ends flow way t closed none =
     let head = head_reached t in
     let out = reached_along w g r position (w.to r) way.path ends flow closed (ends.to_in r b) head way.leads in
     let near = nearly_tight w g r 1 position b ends closed out head none in
@@ -295,37 +295,33 @@ blocked true w g r least a z s b ne p out room = elim (cases_Bool (z (w.from a))
 ]
 
 -- no node of a tight cut was reached
-reached_outside : (n : ℕ) (w : Network) (g : ℕ → ℕ) (r : ℕ) (position node step : ℕ → ℕ) (size : ℕ) (z : ℕ → Bool) →
+reached_outside : (n : ℕ) {w : Network} {g : ℕ → ℕ} {r : ℕ} {position node step : ℕ → ℕ} {size : ℕ} (z : ℕ → Bool) →
     HasEnds w → IsTree w g r 1 position node step size → IsSaturated w g r z → z (w.to r) ≡ false → (k : ℕ) → k < n →
     k < size → z (node k) ≡ false
-reached_outside zero w g r position node step size z ends t s head k b c = absurd (omega arith)
-reached_outside (suc n) w g r position node step size z ends t s head k b c = elim (cases_eq k 0) [
+reached_outside zero z ends t s head k b c = absurd (omega arith)
+reached_outside (suc n) {w} {g} {r} {position} {node} {step} z ends t s head k b c = elim (cases_eq k 0) [
   | inl e ↦ ap z (ap node e ∙ t.root) ∙ head
   | inr ne ↦
       let branch = t.grown k (omega arith) c in
-      let within = start_within w (step k) ends branch.arc in
-      let there = t.marked (start_of w (step k)) within branch.marked in
-      let earlier = reached_outside n w g r position node step size z ends t s head
-      (position (start_of w (step k)) - 1) (omega (arith, branch.marked, branch.before))
-      (omega (arith, branch.marked, there.0)) in
-      let start : z (start_of w (step k)) ≡ false = sym (ap z there.1) ∙ earlier in
+      let there = t.marked (start_of w (step k)) (start_within w (step k) ends branch.arc) branch.marked in
+      let earlier = reached_outside n z ends t s head (position (start_of w (step k)) - 1)
+      (omega (arith, branch.marked, branch.before)) (omega (arith, branch.marked, there.0)) in
       sym (ap z branch.enters) ∙ blocked (is_backward (step k)) w g r 1 (arc_of (step k)) z s branch.arc branch.other
-      (omega arith) start branch.room
+      (omega arith) (sym (ap z there.1) ∙ earlier) branch.room
 ]
 
 -- the nodes that were not reached contain every tight cut
-pub greatest_cut : (w : Network) (g : ℕ → ℕ) (r : ℕ) (position node step : ℕ → ℕ) (size : ℕ) → r < w.arcs → HasEnds w →
+pub greatest_cut : {w : Network} {g : ℕ → ℕ} {r : ℕ} {position node step : ℕ → ℕ} {size : ℕ} → r < w.arcs → HasEnds w →
     IsFlow w g → IsTree w g r 1 position node step size → (z : ℕ → Bool) → IsTight w g r z → (v : ℕ) → z v ≡ true →
     (nat_lt v w.nodes && (position v == 0)) ≡ true
-greatest_cut w g r position node step size b ends flow t z tight v e =
+greatest_cut {w = w} {g = g} {r = r} {position = position} {size = size} b ends flow t z tight v e =
     let basin : v < w.nodes = elim (cases_lt v w.nodes)
     [ inl c ↦ c | inr c ↦ absurd (both_ways (z v) (tight.cut.basin v c) e) ] in
     elim (cases_eq (position v) 0) [
       | inl none ↦ set_from w.nodes position v basin none
       | inr ne ↦
           let there = t.marked v (omega arith) (omega arith) in
-          let outside = reached_outside size w g r position node step size z ends t
-          (saturated-from_tight w r z g b flow tight) tight.cut.head (position v - 1) (omega (arith, there.0, ne))
-          (omega (arith, there.0, ne)) in
+          let outside = reached_outside size z ends t (saturated-from_tight w r z g b flow tight) tight.cut.head
+          (position v - 1) (omega (arith, there.0, ne)) (omega (arith, there.0, ne)) in
           absurd (both_ways (z v) (sym (ap z there.1) ∙ outside) e)
     ]
