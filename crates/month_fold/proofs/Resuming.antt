@@ -4,7 +4,6 @@ use Rattle.std.proofs.Common.{◌∷◌, ◌++◌, length, get_or, map, take, le
 use Rattle.std.specs.Prelude.{All, replicate, slice_get, slice_index, Option, Some, None, option_map, unwrap_or}
 use Rattle.std.proofs.lemmas.List.{length-map, length-replicate, map-append, take_more}
 use Rattle.std.proofs.lemmas.Option.{slice_get-map, slice_get-get_or, slice_get_within}
-use Rattle.lag_returns.specs.Lags as lag
 use Rattle.water_model.specs.History.{IsPartialHistory, opening_after, HaveReaches}
 use Rattle.water_model.specs.Hydrology.{delivered_in, used_of}
 use Rattle.water_model.proofs.Valid.{entry_at}
@@ -14,7 +13,7 @@ use Rattle.water_model.specs.declared.types.Inflows.{Inflows}
 use Rattle.water_model.specs.declared.types.MonthRecord.{MonthRecord}
 use Rattle.month_terms.specs.Terms.{HasUsed}
 use Rattle.month_fold.specs.Uses.{HasDeliveries, StateUse, StatesUse}
-use Rattle.month_fold.specs.Runs.{EngineView, RunView, WentThrough, run_with}
+use Rattle.month_fold.specs.Runs.{RunView, WentThrough}
 use Rattle.month_terms.proofs.Amounts.{deliveries_small as all_small}
 use Rattle.month_terms.proofs.WaterYears.{nothing_used, used_most}
 use Rattle.month_fold.proofs.Following.{deliveries_small}
@@ -181,21 +180,3 @@ none_state b i m at = let none : None ≡ Some m = at in cc
 
 pub none_reach : (b : Basin) → HaveReaches b []
 none_reach b i m at = let none : None ≡ Some m = at in cc
-
--- an engine after some months makes a run that went through them
-pub starts_after : (engine : EngineView) (series : Inflows) (records : List MonthRecord) (done : ℕ) →
-    IsValidBasin engine.basin → IsSeriesOf engine.basin series → IsPartialHistory engine.basin series records →
-    done ≡ length records →
-    engine.last.closing ≡ opening_after engine.basin records →
-    lag.LagsStandFor engine.lags engine.basin.returns (map (λ m. m.delivered) records) →
-    HasUsed engine.basin (map (λ m. m.delivered) records) engine.used → WentThrough (run_with engine series done)
-    records
-starts_after engine series records done valid fits partial count stored lags used = record {
-  valid = valid;
-  fits = fits;
-  partial = partial;
-  done = count;
-  stored = stored;
-  lags = lags;
-  used = used;
-}
