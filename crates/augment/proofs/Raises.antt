@@ -12,16 +12,17 @@ use Rattle.augment.proofs.Rises.{remaining_rise}
 use Rattle.augment.proofs.Visits.{arc-forward, way-forward}
 
 -- the answer that the tail was not reached
-pub missed : (c : Contents) {d : Contents} (r : ℕ) {tail : ℕ} {answer : Bool} → SameButScratch c d → tail ≡ slice_index d.from r →
-    IsTrue answer ↔ IsReached d tail → answer ≡ false → position_of d (slice_index c.from r) ≡ 0
+pub missed : (c : Contents) {d : Contents} (r : ℕ) {tail : ℕ} {answer : Bool} → SameButScratch c d →
+    tail ≡ slice_index d.from r → IsTrue answer ↔ IsReached d tail → answer ≡ false →
+    position_of d (slice_index c.from r) ≡ 0
 missed c {d = d} r {tail = tail} {answer = answer} rest is reached fails = elim (cases_eq (position_of d tail) 0) [
   | inl e ↦ let here = rw rest at is in rw here at e
   | inr ne ↦ absurd (both_ways answer fails (reached.1 (omega arith)))
 ]
 
 -- a search over rooms of 1 that misses the tail leaves the greatest tight cut
-pub stopped_cut : (c : Contents) {d : Contents} {r size : ℕ} → r < arcs c → SameButScratch c d → HasPathOut (network c) r →
-    IsCirculation d → HasTree d r 1 size → position_of d (slice_index c.from r) ≡ 0 →
+pub stopped_cut : (c : Contents) {d : Contents} {r size : ℕ} → r < arcs c → SameButScratch c d →
+    HasPathOut (network c) r → IsCirculation d → HasTree d r 1 size → position_of d (slice_index c.from r) ≡ 0 →
     IsClosed (network c) (flow_of c) r 1 (position_of d) → IsGreatestCut (network c) (flow_of c) r (not_reached d)
 stopped_cut c b rest way kept t none closed =
     let ends = rw rest at kept.ends in

@@ -31,8 +31,9 @@ AreDone c d r least done = (v : ℕ) → v ≤ c.nodes → 0 < position_of d v �
     (network c) (flow_of c) r least (position_of d) v
 
 -- one more node is done after its scan
-pub done_next : (c : Contents) {d e : Contents} {r least size more done : ℕ} → HasEnds (network c) → SameButScratch c d →
-    HasTree d r least size → done < size → AreDone c d r least done → IsVisitedBy d e r least size more →
+pub done_next : (c : Contents) {d e : Contents} {r least size more done : ℕ} → HasEnds (network c) →
+    SameButScratch c d → HasTree d r least size → done < size → AreDone c d r least done →
+    IsVisitedBy d e r least size more →
     IsExpanded (network d) (flow_of d) r least (position_of e) (node_at d done) → AreDone c e r least (done + 1)
 done_next c {d = d} {e = e} {done = done} k rest t b before all scanned v within marked upto =
     let nodes : d.nodes ≡ c.nodes = ap (λ (x : Contents). x.nodes) rest in

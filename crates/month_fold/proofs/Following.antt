@@ -1,5 +1,5 @@
 -- The record of a solved month follows the records before it.
-use Rattle.std.proofs.Common.{◌≡◌, ℕ, zero, suc, ◌+◌, ◌^◌, ◌<◌, ◌≤◌, Bool, refl, sym, ◌∙◌, ap, subst, arith, List}
+use Rattle.std.proofs.Common.{◌≡◌, ℕ, zero, suc, ◌+◌, ◌^◌, ◌<◌, ◌≤◌, Bool, refl, sym, ◌∙◌, ap, arith, List}
 use Rattle.std.proofs.Common.{[], ◌∷◌, length, map, inl, inr, get_or}
 use Rattle.std.specs.Prelude.{slice_index, Option, Some, None, All}
 use Rattle.finite_sums.proofs.Totals.{total_same, term_le_total}
@@ -220,7 +220,7 @@ run_begun run records m went is returned used = record {
   partial = went.partial;
   stored = ap (λ k. k.closing) is ∙ went.stored;
   returned = returned;
-  used = subst (HasUsed run.basin (map (λ k. k.delivered) records)) (sym used) went.used;
+  used = rw used went.used;
 }
 
 pub begun_fits : (b : Basin) (m begun : MonthRecord) → FitsRecord b m →
