@@ -1,6 +1,5 @@
-use Rattle.std.proofs.Common.{◌≡◌, ◌∙◌, ◌+◌, ◌*◌, ℕ, List, ap, arith, length, slice_index, sym, subst}
+use Rattle.std.proofs.Common.{◌≡◌, ◌∙◌, ◌*◌, ℕ, List, ap, arith, length, slice_index, sym, subst}
 use Rattle.std.proofs.lemmas.List.{length-replicate}
-use Rattle.index_seq.specs.Sums.{HaveSums, IsEmptyYear}
 use Rattle.index_seq.specs.Traces.{years_of}
 use Rattle.index_seq.proofs.Running.{one_part, sums_start, within_parts}
 use Rattle.index_seq.proofs.Rotation.{turn_of_same}
@@ -17,8 +16,7 @@ returns-in_err-engine-clause-work g c =
 
 pub returns-clause-sums : goal.returns-clause-sums
 returns-clause-sums g c =
-    subst (λ (n : ℕ). HaveSums c.args.basin.now c.args.series.now n c.loop-trace.sums)
-    (let all : c.loop-trace.trace ≡ years_of c.args.basin.now = omega arith in all) c.loop-trace.invariant.sums
+    let all : c.loop-trace.trace ≡ years_of c.args.basin.now = omega arith in rw all at c.loop-trace.invariant.sums
 
 pub loop-trace-init : goal.loop-trace-init
 loop-trace-init g c = record {
@@ -41,14 +39,10 @@ loop-trace-preserved g c =
     record {
       engine = traced.engine;
       begun = traced.begun;
-      sums = subst (λ (sums : List (List ℕ)). HaveSums c.args.basin.now c.args.series.now (c.loop-trace.trace + 1) sums)
-          (sym (whole_rows c.loop-trace.sums c.run_trace.new.sums
-          (traced.sums.sums.count ∙ sym c.loop-trace.invariant.sums.sums.count)))
-          traced.sums;
-      year = subst (λ (year : List ℕ). IsEmptyYear c.args.basin.now year)
-          (sym (whole_rows c.loop-trace.year c.run_trace.new.year
-          (traced.year.count ∙ sym c.loop-trace.invariant.year.count)))
-          traced.year;
+      sums = rw (whole_rows c.loop-trace.sums c.run_trace.new.sums
+          (traced.sums.sums.count ∙ sym c.loop-trace.invariant.sums.sums.count)) traced.sums;
+      year = rw (whole_rows c.loop-trace.year c.run_trace.new.year
+          (traced.year.count ∙ sym c.loop-trace.invariant.year.count)) traced.year;
       work = one_part c.args.basin.now.months c.loop-trace.trace c.args.basin.now c.args.work.now c.loop-trace.work
           c.run_trace.new.work c.loop-trace.invariant.work traced.work;
     }
