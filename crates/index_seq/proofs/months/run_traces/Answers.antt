@@ -1,10 +1,9 @@
-use Rattle.std.proofs.Common.{◌≡◌, ◌∙◌, ◌*◌, ℕ, List, ap, arith, length, slice_index, sym, subst}
+use Rattle.std.proofs.Common.{◌≡◌, ◌∙◌, ◌*◌, ℕ, List, ap, arith, length, slice_index, sym}
 use Rattle.std.proofs.lemmas.List.{length-replicate}
 use Rattle.index_seq.specs.Traces.{years_of}
 use Rattle.index_seq.proofs.Running.{one_part, sums_start, within_parts}
 use Rattle.index_seq.proofs.Rotation.{turn_of_same}
 use Rattle.index_seq.proofs.months.run_traces.Goals as goal
-use Rattle.month_fold.specs.Works.{Solves}
 use Rattle.month_fold.proofs.Works.{Solves-none}
 use Rattle.water_model.proofs.Lists.{no_numbers, whole_rows}
 
@@ -28,9 +27,8 @@ loop-trace-init g c = record {
     count = ap length c.in_ok-year.ensures ∙ (length-replicate c.len-2.result 0 ∙ c.len-2.ensures);
     zeros = λ r l. ap (λ (xs : List ℕ). slice_index xs r) c.in_ok-year.ensures ∙ no_numbers c.len-2.result r;
   };
-  work = subst (λ (n : ℕ). Solves n c.args.basin.now c.args.work.now c.args.work.now)
-      (let none : 0 ≡ 0 * c.args.basin.now.months = omega arith in none)
-      (Solves-none c.args.basin.now c.args.work.now);
+  work = (let none : 0 * c.args.basin.now.months ≡ 0 = omega arith in
+      rw none (Solves-none c.args.basin.now c.args.work.now));
 }
 
 pub loop-trace-preserved : goal.loop-trace-preserved
