@@ -7,5 +7,5 @@ use Rattle.index_seq.proofs.writer.put_ensemble.Goals as goal
 
 pub returns-clause-text : goal.returns-clause-text
 returns-clause-text g c =
-    rw (append-nil (flat_map (right_lines (λ r. slice_index_or c.args.amounts.now r [])) (seniors_first c.args.basin.now)))
-    at c.put_listing.ensures.text
+    rw (append-nil (flat_map (right_lines (λ r. slice_index_or c.args.amounts.now r []))
+    (seniors_first c.args.basin.now))) at c.put_listing.ensures.text
