@@ -93,36 +93,37 @@ crossing w y g basin flow =
     (λ a. when (y (w.from a) && y (w.to a)) (g a)) (λ a b. both_ways (y (w.to a)) (y (w.from a)) (g a)) in
     omega (arith, all, into, out, inner)
 
--- a test that fails leaves the rest as it is
-leaves_other : (p : Bool) (t : Bool) (x : ℕ) → t ≡ false → when p x ≡ when (p && not t) x
-leaves_other true t x e = sym (ap (λ (b : Bool). when (not b) x) e)
-leaves_other false t x e = refl
+-- a sum without the term of r
+pub without : (n r : ℕ) (p : ℕ → Bool) (f : ℕ → ℕ) → r < n → p r ≡ true →
+    total n (λ a. when (p a) (f a)) ≡ f r + total n (λ a. when (p a && not (a == r)) (f a))
+without n r p f b own =
+    let change = total_change n r (λ a. when (p a) (f a)) (λ a. when (p a && not (a == r)) (f a)) b
+    (λ a c ne. other (p a) (a == r) (f a) (ne_eqb a r ne)) in
+    let none = and_right (p r) (not (r == r)) (ap not (eq-eqb r r refl)) in
+    omega (arith, change, ap (λ (t : Bool). when t (f r)) own, ap (λ (t : Bool). when t (f r)) none)
+  where
+    other : (p t : Bool) (x : ℕ) → t ≡ false → when p x ≡ when (p && not t) x
+    other true t x e = rw e refl
+    other false t x e = refl
 
--- of what leaves a cut of r, r's own part
-own_part : (w : Network) (r : ℕ) (y : ℕ → Bool) (g : ℕ → ℕ) → r < w.arcs → IsCut w r y →
-    total w.arcs (λ a. when (leaves w y a) (g a)) ≡ g r + total w.arcs (λ a. when (leaves w y a && not (a == r)) (g a))
-own_part w r y g b cut =
-    let change = total_change w.arcs r (λ a. when (leaves w y a) (g a))
-    (λ a. when (leaves w y a && not (a == r)) (g a)) b
-    (λ a c ne. leaves_other (leaves w y a) (a == r) (g a) (ne_eqb a r ne)) in
-    let leaving : leaves w y r ≡ true = and_from (y (w.from r)) (not (y (w.to r))) cut.tail (ap not cut.head) in
-    let own : when (leaves w y r) (g r) ≡ g r = ap (λ (t : Bool). when t (g r)) leaving in
-    let none : when (leaves w y r && not (r == r)) (g r) ≡ 0 = ap (λ (t : Bool). when t (g r))
-    (and_right (leaves w y r) (not (r == r)) (ap not (eq-eqb r r refl))) in
-    omega (arith, change, own, none)
+-- what is supplied in a cut of r and enters it is what leaves it, of which r has its own part
+cut_balance : (w : Network) (r : ℕ) (y : ℕ → Bool) (g : ℕ → ℕ) → r < w.arcs → IsCut w r y → IsFlow w g →
+    total w.nodes (λ v. when (y v) (w.supply v)) + total w.arcs (λ a. when (enters w y a) (g a)) ≡ g r +
+    total w.arcs (λ a. when (leaves w y a && not (a == r)) (g a))
+cut_balance w r y g b cut flow = crossing w y g cut.basin flow ∙ without w.arcs r (leaves w y) g b
+    (and_from (y (w.from r)) (not (y (w.to r))) cut.tail (ap not cut.head))
 
 -- a flow of the arc is at most the bound of a cut
 pub cut-bounds : (w : Network) (r : ℕ) (y : ℕ → Bool) (g : ℕ → ℕ) → r < w.arcs → IsCut w r y → IsFlow w g →
     g r + cut_out w r y ≤ cut_in w y
 cut-bounds w r y g b cut flow =
-    let cross = crossing w y g cut.basin flow in
-    let own = own_part w r y g b cut in
+    let balance = cut_balance w r y g b cut flow in
     let entering = total_le w.arcs (λ a. when (enters w y a) (g a)) (λ a. when (enters w y a) (w.upper a))
     (λ a c. when-le (enters w y a) (g a) (w.upper a) (λ _. flow.high a c)) in
     let leaving = total_le w.arcs (λ a. when (leaves w y a && not (a == r)) (w.lower a))
     (λ a. when (leaves w y a && not (a == r)) (g a))
     (λ a c. when-le (leaves w y a && not (a == r)) (w.lower a) (g a) (λ _. flow.low a c)) in
-    omega (arith, cross, own, entering, leaving)
+    omega (arith, balance, entering, leaving)
 
 -- where a cut is tight, no flow of the arc is greater
 pub tight-greatest : (w : Network) (r : ℕ) (y : ℕ → Bool) (g h : ℕ → ℕ) → r < w.arcs → IsTight w g r y → IsFlow w h →
@@ -139,8 +140,7 @@ pub tight-from_closed : (w : Network) (r : ℕ) (y : ℕ → Bool) (g : ℕ → 
     ((a : ℕ) → a < w.arcs → enters w y a ≡ true → g a ≡ w.upper a) →
     ((a : ℕ) → a < w.arcs → leaves w y a ≡ true → a ≢ r → g a ≡ w.lower a) → IsTight w g r y
 tight-from_closed w r y g b cut flow full empty =
-    let cross = crossing w y g cut.basin flow in
-    let own = own_part w r y g b cut in
+    let balance = cut_balance w r y g b cut flow in
     let entering = total_same w.arcs (λ a. when (enters w y a) (g a)) (λ a. when (enters w y a) (w.upper a))
     (λ a c. when-same (enters w y a) (g a) (w.upper a) (full a c)) in
     let leaving = total_same w.arcs (λ a. when (leaves w y a && not (a == r)) (g a))
@@ -148,7 +148,7 @@ tight-from_closed w r y g b cut flow full empty =
     (λ a c. when-same (leaves w y a && not (a == r)) (g a) (w.lower a)
     (λ e. empty a c (and_parts (leaves w y a) (not (a == r)) e).0
     (eqb-false a r (not-true (a == r) (and_parts (leaves w y a) (not (a == r)) e).1)))) in
-    record { cut = cut; equal = omega (arith, cross, own, entering, leaving) }
+    record { cut = cut; equal = omega (arith, balance, entering, leaving) }
 
 -- terms that are each at most others, with an equal sum, are equal
 total-squeeze : (n : ℕ) (f g : ℕ → ℕ) → ((k : ℕ) → k < n → f k ≤ g k) → total n g ≤ total n f → (k : ℕ) → k < n →
@@ -172,8 +172,7 @@ pub record IsSaturated (w : Network) (g : ℕ → ℕ) (r : ℕ) (y : ℕ → Bo
 pub saturated-from_tight : (w : Network) (r : ℕ) (y : ℕ → Bool) (g : ℕ → ℕ) → r < w.arcs → IsFlow w g →
     IsTight w g r y → IsSaturated w g r y
 saturated-from_tight w r y g b flow tight =
-    let cross = crossing w y g tight.cut.basin flow in
-    let own = own_part w r y g b tight.cut in
+    let balance = cut_balance w r y g b tight.cut flow in
     let above = λ (a : ℕ) (c : a < w.arcs). when-le (enters w y a) (g a) (w.upper a) (λ _. flow.high a c) in
     let below = λ (a : ℕ) (c : a < w.arcs).
     when-le (leaves w y a && not (a == r)) (w.lower a) (g a) (λ _. flow.low a c) in
@@ -182,9 +181,9 @@ saturated-from_tight w r y g b flow tight =
     (λ a. when (leaves w y a && not (a == r)) (g a)) below in
     let equal = tight.equal in
     let full = total-squeeze w.arcs (λ a. when (enters w y a) (g a)) (λ a. when (enters w y a) (w.upper a)) above
-    (omega (arith, cross, own, entering, leaving, equal)) in
+    (omega (arith, balance, entering, leaving, equal)) in
     let empty = total-squeeze w.arcs (λ a. when (leaves w y a && not (a == r)) (w.lower a))
-    (λ a. when (leaves w y a && not (a == r)) (g a)) below (omega (arith, cross, own, entering, leaving, equal)) in
+    (λ a. when (leaves w y a && not (a == r)) (g a)) below (omega (arith, balance, entering, leaving, equal)) in
     record {
       full = λ a c e. subst (λ (t : Bool). when t (g a) ≡ when t (w.upper a)) e (full a c);
       empty = λ a c e ne. sym (subst (λ (t : Bool). when t (w.lower a) ≡ when t (g a))

@@ -1,37 +1,37 @@
 -- What a round and a raise leave.
-use Rattle.std.proofs.Common.{◌≤◌, ◌-◌, ℕ, Bool, not, nat_lt, ◌==◌, ◌&&◌, ◌≡◌, ◌+◌, ◌*◌, ◌<◌, slice_index, arith, ap}
-use Rattle.std.proofs.Common.{sym, subst}
-use Rattle.finite_sums.specs.Sums.{when}
-use Rattle.circulation.specs.Network.{IsFlow, HasEnds}
+use Rattle.std.proofs.Common.{◌≤◌, ◌-◌, ℕ, Bool, ◌≡◌, ◌+◌, ◌*◌, ◌<◌, slice_index, arith}
+use Rattle.std.proofs.Common.{inl, inr, IsTrue, ◌↔◌, false}
+use Rattle.std.proofs.lemmas.Bool.{cases_eq, both_ways}
+use Rattle.circulation.specs.Network.{IsFlow}
 use Rattle.circulation.specs.Contents.{Contents, network, flow_of, arcs, IsCirculation}
-use Rattle.circulation.specs.Residual.{is_backward, IsPushed}
-use Rattle.augment.specs.Search.{node_at, step_at, IsTree, IsClosed, HasTree, SameButScratch}
-use Rattle.augment.specs.Raised.{open_arcs, HasPathOut, IsGreatestCut, position_of, SameButFlow, not_reached}
+use Rattle.circulation.specs.Residual.{IsPushed}
+use Rattle.augment.specs.Search.{IsClosed, HasTree, SameButScratch}
+use Rattle.augment.specs.Raised.{IsReached, open_arcs, HasPathOut, IsGreatestCut, position_of, SameButFlow, not_reached}
 use Rattle.augment.proofs.Trees.{tight_cut, greatest_cut}
 use Rattle.augment.proofs.Rises.{remaining_rise}
 use Rattle.augment.proofs.Visits.{arc-forward, way-forward}
 
--- only scratch words differ: the network is the same
-pub over_same : (c d : Contents) (r least size : ℕ) → SameButScratch c d → HasTree d r least size →
-    IsTree (network c) (flow_of c) r least (position_of d) (node_at d) (step_at d) size
-over_same c d r least size rest t = subst
-    (λ (x : Contents). IsTree (network x) (flow_of x) r least (position_of d) (node_at d) (step_at d) size) rest t
+-- the answer that the tail was not reached
+pub missed : (c : Contents) {d : Contents} (r : ℕ) {tail : ℕ} {answer : Bool} → SameButScratch c d →
+    tail ≡ slice_index d.from r → IsTrue answer ↔ IsReached d tail → answer ≡ false →
+    position_of d (slice_index c.from r) ≡ 0
+missed c {d = d} r {tail = tail} {answer = answer} rest is reached fails = elim (cases_eq (position_of d tail) 0) [
+  | inl e ↦ let here = rw rest at is in rw here at e
+  | inr ne ↦ absurd (both_ways answer fails (reached.1 (omega arith)))
+]
 
 -- a search over rooms of 1 that misses the tail leaves the greatest tight cut
-pub stopped_cut : (c d : Contents) (r size : ℕ) → r < arcs c → SameButScratch c d → HasPathOut (network c) r →
-    IsCirculation d → HasTree d r 1 size → position_of d (slice_index c.from r) ≡ 0 →
+pub stopped_cut : (c : Contents) {d : Contents} {r size : ℕ} → r < arcs c → SameButScratch c d →
+    HasPathOut (network c) r → IsCirculation d → HasTree d r 1 size → position_of d (slice_index c.from r) ≡ 0 →
     IsClosed (network c) (flow_of c) r 1 (position_of d) → IsGreatestCut (network c) (flow_of c) r (not_reached d)
-stopped_cut c d r size b rest way kept t none closed =
-    let ends = subst (λ (x : Contents). HasEnds (network x)) rest kept.ends in
-    let flow = subst (λ (x : Contents). IsFlow (network x) (flow_of x)) rest kept.flow in
-    let tree = over_same c d r 1 size rest t in
-    let cut : IsGreatestCut (network c) (flow_of c) r (λ v. nat_lt v c.nodes && (position_of d v == 0)) = record {
-      tight = tight_cut (network c) (flow_of c) r (position_of d) (node_at d) (step_at d) size b ends flow way tree
-          closed none;
-      greatest = greatest_cut (network c) (flow_of c) r (position_of d) (node_at d) (step_at d) size b ends flow tree;
-    } in
-    let nodes = ap (λ (x : Contents). x.nodes) (sym rest) in
-    subst (λ (n : ℕ). IsGreatestCut (network c) (flow_of c) r (λ v. nat_lt v n && (position_of d v == 0))) nodes cut
+stopped_cut c b rest way kept t none closed =
+    let ends = rw rest at kept.ends in
+    let flow = rw rest at kept.flow in
+    let tree = rw rest at t in
+    rw rest record {
+      tight = tight_cut b ends flow way tree closed none;
+      greatest = greatest_cut b ends flow tree;
+    }
 
 -- the first step of the walk goes over the arc itself
 pub pushed_first : (old new step : ℕ → ℕ) (first last amount r : ℕ) → IsPushed old new step first last amount →
@@ -40,22 +40,17 @@ pushed_first old new step first last amount r p b is =
     let arc = arc-forward r (step first) is in
     let way = way-forward r (step first) is in
     let on = p.on first (omega arith) b in
-    let at = subst (λ (a : ℕ). new a + when (is_backward (step first)) amount ≡ old a + when
-    (not (is_backward (step first))) amount) arc on in
-    let done = subst (λ (t : Bool). new r + when t amount ≡ old r + when (not t) amount) way at in
+    let done = rw (arc, way) at on in
     omega (arith, done)
 
 -- a flow within the bounds of before
-pub flow_over : (c d : Contents) → SameButFlow c d → IsCirculation d → IsFlow (network c) (flow_of d)
-flow_over c d rest kept = subst (λ (x : Contents). IsFlow (network x) (flow_of d)) rest kept.flow
+pub flow_over : (c : Contents) {d : Contents} → SameButFlow c d → IsCirculation d → IsFlow (network c) (flow_of d)
+flow_over c rest kept = rw rest at kept.flow
 
 -- a search that misses the tail bounds how much the flow can still rise
-pub stopped_rise : (c d : Contents) (r least size : ℕ) → r < arcs c → 0 < least → SameButScratch c d → IsCirculation d →
-    HasTree d r least size → position_of d (slice_index c.from r) ≡ 0 →
+pub stopped_rise : (c : Contents) {d : Contents} {r least size : ℕ} → r < arcs c → 0 < least → SameButScratch c d →
+    IsCirculation d → HasTree d r least size → position_of d (slice_index c.from r) ≡ 0 →
     IsClosed (network c) (flow_of c) r least (position_of d) → (h : ℕ → ℕ) → IsFlow (network c) h →
     h r ≤ flow_of c r + open_arcs (network c) * (least - 1)
-stopped_rise c d r least size b some rest kept t none closed h fh =
-    let ends = subst (λ (x : Contents). HasEnds (network x)) rest kept.ends in
-    let flow = subst (λ (x : Contents). IsFlow (network x) (flow_of x)) rest kept.flow in
-    remaining_rise (network c) (flow_of c) h r least (position_of d) (node_at d) (step_at d) size b some ends flow fh
-    (over_same c d r least size rest t) closed none
+stopped_rise c b some rest kept t none closed h fh =
+    remaining_rise b some (rw rest at kept.ends) (rw rest at kept.flow) fh (rw rest at t) closed none

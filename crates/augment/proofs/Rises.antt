@@ -1,17 +1,17 @@
 -- How much a flow can still rise when a search over rooms of at least `least` is done.
 use Rattle.std.proofs.Common.{ℕ, min, ◌^◌, ◌/◌, zero, suc, Bool, true, false, not, nat_lt, ◌==◌, ◌&&◌, ◌≡◌, ◌≢◌, ◌+◌}
-use Rattle.std.proofs.Common.{◌-◌, ◌*◌, ◌<◌, ◌≤◌, refl, arith, ap, sym, inl, inr, ◌∙◌}
+use Rattle.std.proofs.Common.{◌-◌, ◌*◌, ◌<◌, ◌≤◌, refl, arith, ap, inl, inr, ◌∙◌, add-one}
 use Rattle.std.proofs.Math.Nat.{mul-le-mul_left, mul-le-mul_right, pow-suc}
 use Rattle.std.proofs.Math.Pow.{pow_mono}
-use Rattle.std.proofs.lemmas.Bool.{eq-eqb, ne_eqb, eqb-false, lt-ltb, le-ltb, ltb-true, not-true, cases_lt, cases_eq}
+use Rattle.std.proofs.lemmas.Bool.{eqb-false, lt-ltb, le-ltb, ltb-true, not-true, cases_lt, cases_eq}
 use Rattle.std.proofs.lemmas.Bool.{and_from, and_parts, and_right, and_left, both_ways}
 use Rattle.finite_sums.specs.Sums.{total, when}
 use Rattle.circulation.specs.Network.{Network, IsFlow, HasEnds, enters, leaves}
-use Rattle.finite_sums.proofs.Totals.{total_le, total_add, total_change, term_le_total}
+use Rattle.finite_sums.proofs.Totals.{total_le, total_add, term_le_total}
 use Rattle.augment.specs.Raised.{open_arcs}
 use Rattle.augment.specs.Search.{IsTree, IsClosed}
-use Rattle.augment.proofs.Cuts.{crossing}
-use Rattle.augment.proofs.Trees.{in_set, set_from, not_in_set}
+use Rattle.augment.proofs.Cuts.{crossing, without}
+use Rattle.augment.proofs.Trees.{head_reached, in_basin, crosses, nearly_full, nearly_empty, nearly_tight}
 
 -- a number for each index that passes
 total-counted : (n d : ℕ) (p : ℕ → Bool) → total n (λ k. when (p k) d) ≡ total n (λ k. when (p k) 1) * d
@@ -53,22 +53,6 @@ open_room upper d x y most room = elim (cases_lt 0 upper) [
   | inr none ↦ omega (arith, most)
 ]
 
--- a test that fails leaves the rest as it is
-same_when : (p t : Bool) (x : ℕ) → t ≡ false → when p x ≡ when (p && not t) x
-same_when true t x e = sym (ap (λ (b : Bool). when (not b) x) e)
-same_when false t x e = refl
-
--- a sum without the term of r
-without : (n r : ℕ) (p : ℕ → Bool) (f : ℕ → ℕ) → r < n → p r ≡ true →
-    total n (λ a. when (p a) (f a)) ≡ f r + total n (λ a. when (p a && not (a == r)) (f a))
-without n r p f b own =
-    let change = total_change n r (λ a. when (p a) (f a)) (λ a. when (p a && not (a == r)) (f a)) b
-    (λ a c ne. same_when (p a) (a == r) (f a) (ne_eqb a r ne)) in
-    let here : when (p r) (f r) ≡ f r = ap (λ (t : Bool). when t (f r)) own in
-    let none : when (p r && not (r == r)) (f r) ≡ 0 = ap (λ (t : Bool). when t (f r))
-    (and_right (p r) (not (r == r)) (ap not (eq-eqb r r refl))) in
-    omega (arith, change, here, none)
-
 -- an arc does not cross a set both ways
 apart_way : (t f e : Bool) (d : ℕ) → when (t && not f) d + when (f && not t && e) d ≤ d
 apart_way true true e d = omega arith
@@ -109,24 +93,6 @@ rise_over w r d along against g h inner outer b own fg fh apart cross_g cross_h 
       total-counted w.arcs d (λ a. nat_lt 0 (w.upper a)),
     )
 
--- a set with r's tail and not its head
-rise_out : (w : Network) (r d : ℕ) (y : ℕ → Bool) (g h : ℕ → ℕ) → r < w.arcs → ((v : ℕ) → w.nodes ≤ v → y v ≡ false) →
-    leaves w y r ≡ true → IsFlow w g → IsFlow w h → ((a : ℕ) → a < w.arcs → enters w y a ≡ true → w.upper a ≤ g a + d) →
-    ((a : ℕ) → a < w.arcs → leaves w y a ≡ true → a ≢ r → g a ≤ w.lower a + d) → h r ≤ g r + open_arcs w * d
-rise_out w r d y g h b basin own fg fh full empty =
-    rise_over w r d (leaves w y) (enters w y) g h (total w.nodes (λ v. when (y v) (w.supply v))) 0 b own fg fh
-    (λ a x. apart_way (y (w.to a)) (y (w.from a)) (not (a == r)) x)
-    (omega (arith, crossing w y g basin fg)) (omega (arith, crossing w y h basin fh)) full empty
-
--- a set with r's head and not its tail
-rise_in : (w : Network) (r d : ℕ) (y : ℕ → Bool) (g h : ℕ → ℕ) → r < w.arcs → ((v : ℕ) → w.nodes ≤ v → y v ≡ false) →
-    enters w y r ≡ true → IsFlow w g → IsFlow w h → ((a : ℕ) → a < w.arcs → leaves w y a ≡ true → w.upper a ≤ g a + d) →
-    ((a : ℕ) → a < w.arcs → enters w y a ≡ true → a ≢ r → g a ≤ w.lower a + d) → h r ≤ g r + open_arcs w * d
-rise_in w r d y g h b basin own fg fh full empty =
-    rise_over w r d (enters w y) (leaves w y) g h 0 (total w.nodes (λ v. when (y v) (w.supply v))) b own fg fh
-    (λ a x. apart_way (y (w.from a)) (y (w.to a)) (not (a == r)) x)
-    (omega (arith, crossing w y g basin fg)) (omega (arith, crossing w y h basin fh)) full empty
-
 -- a node that is not a reached basin node was not reached
 inside_not : (nodes : ℕ) (position : ℕ → ℕ) (v : ℕ) → v ≤ nodes → position nodes ≡ 0 →
     (nat_lt v nodes && nat_lt 0 (position v)) ≡ false → position v ≡ 0
@@ -140,141 +106,55 @@ inside_not nodes position v b outside e = elim (cases_lt v nodes) [
 ]
 
 -- when nothing more is reached over rooms of at least `least`, the flow of r can rise by less than that for each arc
-pub remaining_rise : (w : Network) (g h : ℕ → ℕ) (r least : ℕ) (position node step : ℕ → ℕ) (size : ℕ) → r < w.arcs →
-    0 < least → HasEnds w → IsFlow w g → IsFlow w h → IsTree w g r least position node step size →
+pub remaining_rise : {w : Network} {g h : ℕ → ℕ} {r least : ℕ} {position node step : ℕ → ℕ} {size : ℕ} →
+    r < w.arcs → 0 < least → HasEnds w → IsFlow w g → IsFlow w h → IsTree w g r least position node step size →
     IsClosed w g r least position → position (w.from r) ≡ 0 → h r ≤ g r + open_arcs w * (least - 1)
-remaining_rise w g h r least position node step size b some ends fg fh t closed none =
-    let head : 0 < position (w.to r) = omega (arith, ap position t.root, (t.placed 0 t.some).1) in
-    let from_in = ends.from_in r b in
-    let to_in = ends.to_in r b in
+remaining_rise {w = w} {g = g} {h = h} {r = r} {least = least} {position = position} b some ends fg fh t closed none =
+    let head = head_reached t in
     elim (cases_eq (position w.nodes) 0) [
       | inl outside ↦
-          let inner : w.to r < w.nodes = elim (cases_lt (w.to r) w.nodes) [
-            | inl c ↦ c
-            | inr c ↦ let is : w.to r ≡ w.nodes = omega arith in absurd (omega (arith, ap position is))
-          ] in
-          rise_in w r (least - 1) (λ v. nat_lt v w.nodes && nat_lt 0 (position v)) g h b
-          (λ v c. and_left (nat_lt v w.nodes) (nat_lt 0 (position v)) (le-ltb v w.nodes c))
-          (and_from (nat_lt (w.to r) w.nodes && nat_lt 0 (position (w.to r)))
-          (not (nat_lt (w.from r) w.nodes && nat_lt 0 (position (w.from r))))
+          let y : ℕ → Bool = λ v. nat_lt v w.nodes && nat_lt 0 (position v) in
+          let basin = λ (v : ℕ) (c : w.nodes ≤ v). and_left (nat_lt v w.nodes) (nat_lt 0 (position v))
+          (le-ltb v w.nodes c) in
+          let inner = in_basin w.nodes position (w.to r) (ends.to_in r b) (omega arith) in
+          rise_over w r (least - 1) (enters w y) (leaves w y) g h 0 (total w.nodes (λ v. when (y v) (w.supply v))) b
+          (and_from (y (w.to r)) (not (y (w.from r)))
           (and_from (nat_lt (w.to r) w.nodes) (nat_lt 0 (position (w.to r))) (lt-ltb (w.to r) w.nodes inner)
-          (lt-ltb 0 (position (w.to r)) head)) (ap not
-          (and_right (nat_lt (w.from r) w.nodes) (nat_lt 0 (position (w.from r)))
+          (lt-ltb 0 (position (w.to r)) head))
+          (ap not (and_right (nat_lt (w.from r) w.nodes) (nat_lt 0 (position (w.from r)))
           (le-ltb 0 (position (w.from r)) (omega arith)))))
-          fg fh
+          fg fh (λ a x. apart_way (y (w.from a)) (y (w.to a)) (not (a == r)) x)
+          (omega (arith, crossing w y g basin fg)) (omega (arith, crossing w y h basin fh))
           (λ a c e.
-          let parts = and_parts (nat_lt (w.from a) w.nodes && nat_lt 0 (position (w.from a)))
-          (not (nat_lt (w.to a) w.nodes && nat_lt 0 (position (w.to a)))) e in
-          let here = and_parts (nat_lt (w.from a) w.nodes) (nat_lt 0 (position (w.from a))) parts.0 in
-          let there = inside_not w.nodes position (w.to a) (ends.to_in a c) outside
-          (not-true (nat_lt (w.to a) w.nodes && nat_lt 0 (position (w.to a))) parts.1) in
-          elim (cases_lt (g a + (least - 1)) (w.upper a)) [
-            | inl room ↦ elim (cases_eq a r) [
-              | inl is ↦ absurd (omega (
-                arith,
-                ltb-true 0 (position (w.from a)) here.1,
-                ap
-                    (λ (x : ℕ). position (w.from x)) is,
-                none,
-              ))
-              | inr ne ↦ absurd (omega (
-                arith,
-                (closed (w.from a) (ends.from_in a c)
-                    (ltb-true 0 (position (w.from a)) here.1)).out a c refl ne (omega arith),
-                there,
-              ))
-            ]
-            | inr full ↦ full
-          ])
+          let across = crosses _ _ e in
+          nearly_full w g r least position a ends closed head c
+          (ltb-true 0 (position (w.from a)) (and_parts (nat_lt (w.from a) w.nodes) _ across.0).1)
+          (inside_not w.nodes position (w.to a) (ends.to_in a c) outside across.1))
           (λ a c e ne.
-          let parts = and_parts (nat_lt (w.to a) w.nodes && nat_lt 0 (position (w.to a)))
-          (not (nat_lt (w.from a) w.nodes && nat_lt 0 (position (w.from a)))) e in
-          let here = and_parts (nat_lt (w.to a) w.nodes) (nat_lt 0 (position (w.to a))) parts.0 in
-          let there = inside_not w.nodes position (w.from a) (ends.from_in a c) outside
-          (not-true (nat_lt (w.from a) w.nodes && nat_lt 0 (position (w.from a))) parts.1) in
-          elim (cases_lt (w.lower a + (least - 1)) (g a)) [
-            | inl room ↦ absurd (omega (
-              arith,
-              (closed (w.to a) (ends.to_in a c)
-                  (ltb-true 0 (position (w.to a)) here.1)).into a c refl ne (omega arith),
-              there,
-            ))
-            | inr empty ↦ empty
-          ])
+          let across = crosses _ _ e in
+          nearly_empty w g r least position a ends closed c ne
+          (ltb-true 0 (position (w.to a)) (and_parts (nat_lt (w.to a) w.nodes) _ across.0).1)
+          (inside_not w.nodes position (w.from a) (ends.from_in a c) outside across.1))
       | inr reached ↦
-          let out : 0 < position w.nodes = omega arith in
-          let tail_in : w.from r < w.nodes = elim (cases_lt (w.from r) w.nodes) [
-            | inl c ↦ c
-            | inr c ↦ let is : w.from r ≡ w.nodes = omega arith in absurd (omega (arith, ap position is))
-          ] in
-          rise_out w r (least - 1) (λ v. nat_lt v w.nodes && (position v == 0)) g h b
-          (λ v c. and_left (nat_lt v w.nodes) (position v == 0) (le-ltb v w.nodes c))
-          (and_from (nat_lt (w.from r) w.nodes && (position (w.from r) == 0))
-          (not (nat_lt (w.to r) w.nodes && (position (w.to r) == 0)))
-          (set_from w.nodes position (w.from r) tail_in none)
-          (ap not (and_right (nat_lt (w.to r) w.nodes) (position (w.to r) == 0)
-          (ne_eqb (position (w.to r)) 0 (λ e. absurd (omega arith))))))
-          fg fh
-          (λ a c e.
-          let parts = and_parts (nat_lt (w.to a) w.nodes && (position (w.to a) == 0))
-          (not (nat_lt (w.from a) w.nodes && (position (w.from a) == 0))) e in
-          let into = in_set w.nodes position (w.to a) parts.0 in
-          let from = not_in_set w.nodes position (w.from a) (ends.from_in a c) out
-          (not-true (nat_lt (w.from a) w.nodes && (position (w.from a) == 0)) parts.1) in
-          elim (cases_lt (g a + (least - 1)) (w.upper a)) [
-            | inl room ↦ elim (cases_eq a r) [
-              | inl is ↦ absurd (omega (arith, head, into.1, ap (λ (x : ℕ). position (w.to x)) is))
-              | inr ne ↦ absurd (omega (
-                arith,
-                (closed (w.from a) (ends.from_in a c) from).out a c refl ne (omega arith),
-                into.1,
-              ))
-            ]
-            | inr full ↦ full
-          ])
-          (λ a c e ne.
-          let parts = and_parts (nat_lt (w.from a) w.nodes && (position (w.from a) == 0))
-          (not (nat_lt (w.to a) w.nodes && (position (w.to a) == 0))) e in
-          let from = in_set w.nodes position (w.from a) parts.0 in
-          let into = not_in_set w.nodes position (w.to a) (ends.to_in a c) out
-          (not-true (nat_lt (w.to a) w.nodes && (position (w.to a) == 0)) parts.1) in
-          elim (cases_lt (w.lower a + (least - 1)) (g a)) [
-            | inl room ↦ absurd (omega (
-              arith,
-              (closed (w.to a) (ends.to_in a c) into).into a c refl ne (omega arith),
-              from.1,
-            ))
-            | inr empty ↦ empty
-          ])
+          let y : ℕ → Bool = λ v. nat_lt v w.nodes && (position v == 0) in
+          let near = nearly_tight w g r least position b ends closed (omega arith) head none in
+          rise_over w r (least - 1) (leaves w y) (enters w y) g h (total w.nodes (λ v. when (y v) (w.supply v))) 0 b
+          (and_from (y (w.from r)) (not (y (w.to r))) near.cut.tail (ap not near.cut.head)) fg fh
+          (λ a x. apart_way (y (w.to a)) (y (w.from a)) (not (a == r)) x)
+          (omega (arith, crossing w y g near.cut.basin fg)) (omega (arith, crossing w y h near.cut.basin fh))
+          near.full near.empty
     ]
 
--- one less is not more
-below_twice : (least : ℕ) → 2 * least - 1 ≤ 2 * least
-below_twice least = omega arith
-
--- order is passed on
-le_trans_here : {a b c : ℕ} → a ≤ b → b ≤ c → a ≤ c
-le_trans_here {a} {b} {c} x y = omega arith
-
--- more pushes than twice the arcs would raise the flow too far
-too_many : (least arcs pushes : ℕ) → 0 < least → 2 * arcs < pushes → pushes * least ≤ arcs * (2 * least - 1) → ⊥
-too_many least arcs pushes some more each =
-    let enough : 2 * arcs + 1 ≤ pushes = omega arith in
-    let steps = mul-le-mul_right least enough in
-    let rise = mul-le-mul_left arcs (below_twice least) in
-    omega (arith, steps, rise, each, some)
-
 -- pushes of a phase: each but the last raises the flow by `least`, and it can rise by at most `arcs * (2 * least - 1)`
-pub phase_pushes : (least arcs pushes rise : ℕ) → 0 < least → pushes * least ≤ rise → rise ≤ arcs * (2 * least - 1) →
+phase_pushes : (least arcs pushes rise : ℕ) → 0 < least → pushes * least ≤ rise → rise ≤ arcs * (2 * least - 1) →
     pushes ≤ 2 * arcs
 phase_pushes least arcs pushes rise some each limit = elim (cases_lt (2 * arcs) pushes) [
-  | inl more ↦ absurd (too_many least arcs pushes some more (le_trans_here each limit))
+  | inl more ↦
+      let steps : (2 * arcs + 1) * least ≤ pushes * least = mul-le-mul_right least (omega arith) in
+      let most : arcs * (2 * least - 1) ≤ arcs * (2 * least) = mul-le-mul_left arcs (omega arith) in
+      absurd (omega arith)
   | inr fits ↦ fits
 ]
-
--- a product with one more
-next_product : (n d : ℕ) → (n + 1) * d ≡ n * d + d
-next_product n d = omega arith
 
 -- one more push in a phase
 pub phase_next : (least arcs start before after from now next want : ℕ) → 0 < least → start ≤ before →
@@ -288,26 +168,20 @@ phase_next least arcs start before after from now next want some order step each
       λ short.
           let more : after - start ≡ before - start + 1 = omega arith in
           let whole : now + least ≤ next = omega (arith, wide, short) in
-          let product : (after - start) * least ≡ (before - start) * least + least = ap
-          (λ (n : ℕ). n * least) more ∙ next_product (before - start) least in
+          let product = ap (λ (n : ℕ). n * least) more in
           omega (arith, product, whole, each),
     )
 
--- an order and its opposite
-contradicts : {a b : ℕ} → a ≤ b → b < a → ⊥
-contradicts {a} {b} x y = omega arith
-
--- one more, as powers count
-next_is_suc : (k : ℕ) → k + 1 ≡ suc k
-next_is_suc k = omega arith
-
 -- a lesser power has a lesser exponent
 pub power_below : (k n : ℕ) → 2 ^ k < 2 ^ n → k < n
-power_below k n b = elim (cases_lt k n) [ inl c ↦ c | inr c ↦ absurd (contradicts (pow_mono c) b) ]
+power_below k n b = elim (cases_lt k n) [
+  | inl c ↦ c
+  | inr c ↦ let more : 2 ^ n ≤ 2 ^ k = pow_mono c in absurd (omega arith)
+]
 
 -- the next power of two
 pub power_next : (k : ℕ) → 2 ^ (k + 1) ≡ 2 ^ k * 2
-power_next k = ap (λ (n : ℕ). 2 ^ n) (next_is_suc k) ∙ pow-suc 2 k
+power_next k = rw add-one (pow-suc 2 k)
 
 -- half of a power of two
 pub power_half : (k x : ℕ) → 0 < k → x ≡ 2 ^ k → (x / 2 ≡ 2 ^ (k - 1)) × (2 * (x / 2) ≡ x)
@@ -322,7 +196,7 @@ pub phases_cost : (count left arcs start before after : ℕ) → left < count �
     after ≤ start + (count - left) * (2 * arcs + 1)
 phases_cost count left arcs start before after b each more =
     let split : count - left ≡ count - (left + 1) + 1 = omega arith in
-    let product = ap (λ (n : ℕ). n * (2 * arcs + 1)) split ∙ next_product (count - (left + 1)) (2 * arcs + 1) in
+    let product = ap (λ (n : ℕ). n * (2 * arcs + 1)) split in
     omega (arith, product, each, more)
 
 -- the cost of at most thirty phases

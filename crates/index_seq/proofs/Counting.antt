@@ -1,10 +1,10 @@
 -- The different amounts of a list, and how often each came.
 use Rattle.std.proofs.Common.{◌≡◌, ◌≢◌, ℕ, suc, ◌+◌, ◌<◌, ◌≤◌, Bool, true, false, refl, sym, ap, ◌∙◌, arith}
 use Rattle.std.proofs.Common.{List, [], ◌∷◌, length, drop, map, inl, inr, get_or}
-use Rattle.std.specs.Prelude.{nat_lt, ◌==◌, if◌then◌else◌, cond, ◌⊎◌, slice_index}
+use Rattle.std.specs.Prelude.{nat_lt, ◌==◌, cond, ◌⊎◌, slice_index}
 use Rattle.std.specs.List.{prefix_len}
 use Rattle.std.specs.List.Sorted.{IsNonDecreasingBy, IsPermutation}
-use Rattle.std.proofs.lemmas.Bool.{cases_eq}
+use Rattle.std.proofs.lemmas.Bool.{cases_eq, cases_lt}
 use Rattle.std.proofs.lemmas.Bool.Decides.{nat_tests}
 use Rattle.std.proofs.lemmas.List.Sums.{sum_by-cons}
 use Rattle.std.proofs.lemmas.List.Sorted.{sum_by-IsPermutation}
@@ -12,9 +12,6 @@ use Rattle.water_model.proofs.Order.{Has, map_same}
 use Rattle.index_seq.specs.Counts.{put_amount, rising, count_of}
 use Rattle.index_seq.specs.Text.{yearly_lines}
 use Rattle.index_seq.specs.declared.entry.EnsembleLine.TheVariants as line
-
-same_is : (x y : ℕ) → x == y ≡ true → x ≡ y
-same_is x y h = grind (arith, nat_tests)
 
 is_same : (x y : ℕ) → x ≡ y → x == y ≡ true
 is_same x y h = grind (arith, nat_tests)
@@ -63,26 +60,27 @@ one_rising (x ∷ xs) (y ∷ ys) first second there back =
 -- what stands in a list into which an amount was put
 put_has : (x : ℕ) (ys : List ℕ) (z : ℕ) → Has (put_amount x ys) z → (z ≡ x) ⊎ Has ys z
 put_has x [] z h = h
-put_has x (y ∷ ys) z h = by_less (put_has x ys z) (nat_lt x y) h
+put_has x (y ∷ ys) z h = elim (cases_lt x y) [
+  | inl less ↦ rw (is_less x y less) at h
+  | inr no_less ↦ elim (cases_eq x y) [
+    | inl same ↦ inr (rw (is_no_less x y no_less, is_same x y same) at h)
+    | inr other ↦ after (put_has x ys z) (rw (is_no_less x y no_less, is_other x y other) at h)
+  ]
+]
   where
     after : (Has (put_amount x ys) z → (z ≡ x) ⊎ Has ys z) → Has (y ∷ put_amount x ys) z → (z ≡ x) ⊎ Has (y ∷ ys) z
     after further (inl e) = inr (inl e)
     after further (inr k) = elim (further k) [ inl e ↦ inl e | inr there ↦ inr (inr there) ]
 
-    by_same : (Has (put_amount x ys) z → (z ≡ x) ⊎ Has ys z) → (t : Bool) →
-        Has (if t then y ∷ ys else y ∷ put_amount x ys) z → (z ≡ x) ⊎ Has (y ∷ ys) z
-    by_same further true h = inr h
-    by_same further false h = after further h
-
-    by_less : (Has (put_amount x ys) z → (z ≡ x) ⊎ Has ys z) → (t : Bool) →
-        Has (if t then x ∷ y ∷ ys else if x == y then y ∷ ys else y ∷ put_amount x ys) z →
-        (z ≡ x) ⊎ Has (y ∷ ys) z
-    by_less further true h = h
-    by_less further false h = by_same further (x == y) h
-
 has_put : (x : ℕ) (ys : List ℕ) (z : ℕ) → (z ≡ x) ⊎ Has ys z → Has (put_amount x ys) z
 has_put x [] z h = h
-has_put x (y ∷ ys) z h = by_less (has_put x ys z) (nat_lt x y)
+has_put x (y ∷ ys) z h = elim (cases_lt x y) [
+  | inl less ↦ rw (is_less x y less) h
+  | inr no_less ↦ elim (cases_eq x y) [
+    | inl same ↦ rw (is_no_less x y no_less, is_same x y same) (here same h)
+    | inr other ↦ rw (is_no_less x y no_less, is_other x y other) (after (has_put x ys z) h)
+  ]
+]
   where
     after : ((z ≡ x) ⊎ Has ys z → Has (put_amount x ys) z) → (z ≡ x) ⊎ Has (y ∷ ys) z → Has (y ∷ put_amount x ys) z
     after further (inl e) = inr (further (inl e))
@@ -93,42 +91,22 @@ has_put x (y ∷ ys) z h = by_less (has_put x ys z) (nat_lt x y)
     here e (inl is) = inl (is ∙ e)
     here e (inr k) = k
 
-    by_same : ((z ≡ x) ⊎ Has ys z → Has (put_amount x ys) z) → (t : Bool) → x == y ≡ t →
-        Has (if t then y ∷ ys else y ∷ put_amount x ys) z
-    by_same further true e = here (same_is x y e) h
-    by_same further false e = after further h
-
-    by_less : ((z ≡ x) ⊎ Has ys z → Has (put_amount x ys) z) → (t : Bool) →
-        Has (if t then x ∷ y ∷ ys else if x == y then y ∷ ys else y ∷ put_amount x ys) z
-    by_less further true = h
-    by_less further false = by_same further (x == y) refl
-
 put_rising : (x : ℕ) (ys : List ℕ) → IsRising ys → IsRising (put_amount x ys)
 put_rising x [] h = (λ z k. absurd k, tt)
-put_rising x (y ∷ ys) h = by_less (put_rising x ys h.1) (nat_lt x y) refl
+put_rising x (y ∷ ys) h = elim (cases_lt x y) [
+  | inl less ↦ rw (is_less x y less) (in_prefix less, h)
+  | inr no_less ↦ elim (cases_eq x y) [
+    | inl same ↦ rw (is_no_less x y no_less, is_same x y same) h
+    | inr other ↦ rw (is_no_less x y no_less, is_other x y other) (after (omega arith), put_rising x ys h.1)
+  ]
+]
   where
-    less : nat_lt x y ≡ true → x < y
-    less e = grind (arith, nat_tests)
-
-    more : nat_lt x y ≡ false → x == y ≡ false → y < x
-    more e f = grind (arith, nat_tests)
-
     in_prefix : x < y → (z : ℕ) → Has (y ∷ ys) z → x < z
     in_prefix l z (inl e) = omega arith
     in_prefix l z (inr k) = omega (arith, h.0 z k)
 
     after : y < x → (z : ℕ) → Has (put_amount x ys) z → y < z
     after l z k = elim (put_has x ys z k) [ inl e ↦ omega arith | inr there ↦ h.0 z there ]
-
-    by_same : IsRising (put_amount x ys) → (t : Bool) → x == y ≡ t → nat_lt x y ≡ false →
-        IsRising (if t then y ∷ ys else y ∷ put_amount x ys)
-    by_same further true e f = h
-    by_same further false e f = (after (more f e), further)
-
-    by_less : IsRising (put_amount x ys) → (t : Bool) → nat_lt x y ≡ t →
-        IsRising (if t then x ∷ y ∷ ys else if x == y then y ∷ ys else y ∷ put_amount x ys)
-    by_less further true e = (in_prefix (less e), h)
-    by_less further false e = by_same further (x == y) refl e
 
 rising_is : (xs : List ℕ) → IsRising (rising xs)
 rising_is [] = tt

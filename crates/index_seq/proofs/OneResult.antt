@@ -1,9 +1,11 @@
 -- Traces of one record have the same yearly deliveries.
-use Rattle.std.proofs.Common.{◌≡◌, ℕ, zero, suc, ◌*◌, refl, sym, ap, ◌∙◌, arith, List, [], ◌∷◌, ◌++◌, length}
-use Rattle.std.proofs.Common.{take, drop, map, Some}
+use Rattle.std.proofs.Common.{◌≡◌, ℕ, suc, ◌*◌, refl, sym, ap, ◌∙◌, arith, List, [], ◌∷◌, ◌++◌, length}
+use Rattle.std.proofs.Common.{take, drop, map, Some, ap₂, ◌+◌}
 use Rattle.std.specs.Prelude.{slice_index, slice_get, sum_by}
 use Rattle.std.specs.List.{flat_map}
+use Rattle.std.proofs.lemmas.List.{drop-map, take-map}
 use Rattle.std.proofs.lemmas.List.Sums.{sum_by-cons}
+use Rattle.water_model.proofs.Order.{map_same}
 use Rattle.water_model.specs.History.{IsHistory}
 use Rattle.water_model.specs.Indices.{numbers_from}
 use Rattle.water_model.specs.declared.types.MonthRecord.{MonthRecord}
@@ -11,58 +13,41 @@ use Rattle.duality.proofs.Outcome.{one_outcome}
 use Rattle.index_seq.specs.Laws.{TracesHaveOneResult}
 use Rattle.index_seq.specs.Traces.{begun_after, delivered_in_year, years_of}
 
--- two lists of records whose rights are delivered the same
-abbrev AreAlike : List MonthRecord → List MonthRecord → Type 0
-AreAlike [] [] = Unit {0}
-AreAlike [] (n ∷ ns) = ⊥
-AreAlike (m ∷ ms) [] = ⊥
-AreAlike (m ∷ ms) (n ∷ ns) = (m.delivered ≡ n.delivered) × AreAlike ms ns
+-- what the months delivered, one after the other
+abbrev delivered_by : List MonthRecord → List (List ℕ)
+delivered_by ms = map (λ m. m.delivered) ms
 
 alike : (ms ns : List MonthRecord) → length ms ≡ length ns →
     ((i : ℕ) (m n : MonthRecord) → slice_get ms i ≡ Some m → slice_get ns i ≡ Some n → m.delivered ≡ n.delivered) →
-    AreAlike ms ns
-alike [] [] e h = tt
+    delivered_by ms ≡ delivered_by ns
+alike [] [] e h = refl
 alike [] (n ∷ ns) e h = absurd (omega arith)
 alike (m ∷ ms) [] e h = absurd (omega arith)
-alike (m ∷ ms) (n ∷ ns) e h = (h 0 m n refl refl, alike ms ns (omega arith) (λ i p q at at'. h (suc i) p q at at'))
+alike (m ∷ ms) (n ∷ ns) e h =
+    ap₂ (λ d ds. d ∷ ds) (h 0 m n refl refl) (alike ms ns (omega arith) (λ i p q at at'. h (suc i) p q at at'))
 
-alike_take : (k : ℕ) (ms ns : List MonthRecord) → AreAlike ms ns → AreAlike (take k ms) (take k ns)
-alike_take zero ms ns h = tt
-alike_take (suc k) [] [] h = tt
-alike_take (suc k) [] (n ∷ ns) h = absurd h
-alike_take (suc k) (m ∷ ms) [] h = absurd h
-alike_take (suc k) (m ∷ ms) (n ∷ ns) h = (h.0, alike_take k ms ns h.1)
+-- a sum over months is one over what they delivered
+summed : (right : ℕ) (ms : List MonthRecord) →
+    sum_by (λ m. slice_index m.delivered right) ms ≡ sum_by (λ ds. slice_index ds right) (delivered_by ms)
+summed right [] = refl
+summed right (m ∷ ms) = sum_by-cons (λ k. slice_index k.delivered right) m ms
+    ∙ (ap (λ n. slice_index m.delivered right + n) (summed right ms)
+    ∙ sym (sum_by-cons (λ ds. slice_index ds right) m.delivered (delivered_by ms)))
 
-alike_drop : (k : ℕ) (ms ns : List MonthRecord) → AreAlike ms ns → AreAlike (drop k ms) (drop k ns)
-alike_drop zero ms ns h = h
-alike_drop (suc k) [] [] h = tt
-alike_drop (suc k) [] (n ∷ ns) h = absurd h
-alike_drop (suc k) (m ∷ ms) [] h = absurd h
-alike_drop (suc k) (m ∷ ms) (n ∷ ns) h = alike_drop k ms ns h.1
+in_year : (right : ℕ) (ms : List MonthRecord) (year : ℕ) → delivered_in_year ms right year
+    ≡ sum_by (λ ds. slice_index ds right) (take 12 (drop (12 * year) (delivered_by ms)))
+in_year right ms year = rw (drop-map, take-map) (summed right (take 12 (drop (12 * year) ms)))
 
-alike_sums : (right : ℕ) (ms ns : List MonthRecord) → AreAlike ms ns →
-    sum_by (λ m. slice_index m.delivered right) ms ≡ sum_by (λ m. slice_index m.delivered right) ns
-alike_sums right [] [] h = refl
-alike_sums right [] (n ∷ ns) h = absurd h
-alike_sums right (m ∷ ms) [] h = absurd h
-alike_sums right (m ∷ ms) (n ∷ ns) h =
-    let f : MonthRecord → ℕ = λ k. slice_index k.delivered right in
-    sum_by-cons f m ms
-    ∙ (omega (arith, ap (λ ds. slice_index ds right) h.0, alike_sums right ms ns h.1) ∙ sym (sum_by-cons f n ns))
-
-same_years : (right : ℕ) (ms ns : List MonthRecord) → AreAlike ms ns → (years : List ℕ) →
+same_years : (right : ℕ) (ms ns : List MonthRecord) → delivered_by ms ≡ delivered_by ns → (years : List ℕ) →
     map (delivered_in_year ms right) years ≡ map (delivered_in_year ns right) years
-same_years right ms ns h [] = refl
-same_years right ms ns h (year ∷ years) =
-    ap (λ x. x ∷ map (delivered_in_year ms right) years)
-    (alike_sums right (take 12 (drop (12 * year) ms)) (take 12 (drop (12 * year) ns))
-    (alike_take 12 (drop (12 * year) ms) (drop (12 * year) ns) (alike_drop (12 * year) ms ns h)))
-    ∙ ap (λ xs. delivered_in_year ns right year ∷ xs) (same_years right ms ns h years)
+same_years right ms ns h years = map_same (delivered_in_year ms right) (delivered_in_year ns right) years
+    (λ year k. in_year right ms year ∙ (ap (λ all. sum_by (λ ds. slice_index ds right)
+    (take 12 (drop (12 * year) all))) h ∙ sym (in_year right ns year)))
 
 -- trace by trace
 same_traces : (right : ℕ) (years : List ℕ) (traces others : List (List MonthRecord)) → length traces ≡ length others →
     ((y : ℕ) (ms ns : List MonthRecord) → slice_get traces y ≡ Some ms → slice_get others y ≡ Some ns →
-    AreAlike ms ns) →
+    delivered_by ms ≡ delivered_by ns) →
     flat_map (λ records. map (delivered_in_year records right) years) traces ≡ flat_map
     (λ records. map (delivered_in_year records right) years) others
 same_traces right years [] [] e h = refl
@@ -80,7 +65,7 @@ traces_have_one_result b series traces others valid one other right =
     (λ y ms ns at at'. like y ms ns (one.each y ms at) (other.each y ns at'))
   where
     like : (y : ℕ) (ms ns : List MonthRecord) → IsHistory b (begun_after series y) ms →
-        IsHistory b (begun_after series y) ns → AreAlike ms ns
+        IsHistory b (begun_after series y) ns → delivered_by ms ≡ delivered_by ns
     like y ms ns f g =
         let count : length ms ≡ length ns = f.whole ∙ sym g.whole in
         alike ms ns count

@@ -1,5 +1,5 @@
 -- The lines of different amounts, put one after another.
-use Rattle.std.proofs.Common.{◌≡◌, ℕ, ◌<◌, ◌≤◌, List, [], ◌∷◌, ◌++◌, length, drop, sym, ap, subst, ◌∙◌}
+use Rattle.std.proofs.Common.{◌≡◌, ℕ, ◌<◌, ◌≤◌, List, [], ◌∷◌, ◌++◌, length, drop, sym, ap, ◌∙◌}
 use Rattle.std.proofs.Common.{arith, append_assoc, append-nil, Result}
 use Rattle.std.specs.Prelude.{slice_index, IsErr, ◌==◌}
 use Rattle.std.specs.List.{flat_map, prefix_len}
@@ -58,8 +58,7 @@ pub put_fails : {E : Type 0} (b : Basin) (amounts rest : List ℕ) (count : ℕ)
     PutsPrefix mid new (flat_map (whole_line b) (line.Yearly (slice_index rest 0) count ∷ [])) → IsErr r →
     Puts old new r (flat_map (whole_line b) (yearly_lines amounts))
 put_fails b amounts rest count old mid new before between r s l is here failed =
-    subst (λ (bytes : List ℕ). Puts old new r bytes)
-    (sym (s.whole ∙ ap (λ t. s.done ++ t) (rest_lines b rest count s.sorted l is)))
+    rw (s.whole, rest_lines b rest count s.sorted l is)
     (PutsPrefix-fails old new r (s.done ++ (piece ++ further)) failed
     (PutsPrefix-then old mid new s.done (piece ++ further) s.put (PutsPrefix-cut mid new piece further here)))
   where

@@ -1,6 +1,6 @@
 -- A series that begins in another year.
 use Rattle.std.proofs.Common.{◌≡◌, ℕ, ◌+◌, ◌-◌, ◌*◌, ◌%◌, ◌<◌, ◌≤◌, ◌^◌, refl, sym, ap, ◌∙◌, arith, List}
-use Rattle.std.proofs.Common.{◌++◌, subst, length, take, drop, get_or, inl, inr, length-append}
+use Rattle.std.proofs.Common.{◌++◌, length, take, drop, get_or, inl, inr, length-append}
 use Rattle.std.specs.Prelude.{All}
 use Rattle.std.proofs.Math.ListN.{get_or-append}
 use Rattle.std.proofs.Math.Nat.{mod-eq_of_lt, add-mod_left, mul-le-mul, mul-le-mul_right, add-mul}
@@ -95,7 +95,7 @@ begun_fits b series years fits h = record {
 
 -- an equal series differs in nothing
 pub turn_of_same : (series begun : Inflows) → begun ≡ series → IsRotationOf series begun
-turn_of_same series begun e = subst (IsRotationOf series) (sym e) (record { rest = refl; count = refl })
+turn_of_same series begun e = rw e record { rest = refl; count = refl }
 
 -- gauges are nodes, so the index is small
 pub small_place : (b : Basin) (series : Inflows) (years : ℕ) → IsValidBasin b → IsSeriesOf b series →

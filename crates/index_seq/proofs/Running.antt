@@ -1,5 +1,5 @@
 -- The sums of traces, from one month to the next, from one year to the next, and from one trace to the next.
-use Rattle.std.proofs.Common.{◌≡◌, ℕ, zero, suc, ◌+◌, ◌*◌, ◌<◌, ◌≤◌, ◌^◌, refl, sym, ap, subst, ◌∙◌, arith, List}
+use Rattle.std.proofs.Common.{◌≡◌, ℕ, zero, suc, ◌+◌, ◌*◌, ◌<◌, ◌≤◌, ◌^◌, refl, sym, ap, ◌∙◌, arith, List}
 use Rattle.std.proofs.Common.{[], ◌∷◌, ◌++◌, length, take, drop, map, inl, inr, append-nil, append_assoc, length-append}
 use Rattle.std.proofs.Common.{take_all, add-one}
 use Rattle.std.specs.Prelude.{slice_index, slice_index_or, slice_get, sum_by, Some}
@@ -218,8 +218,7 @@ trace_over b series trace run all none u whole = record {
       | inl before ↦ u.first.each y records before
       | inr last ↦
           let number : trace ≡ y = sym (last.0 ∙ u.number) in
-          subst (λ (ms : List MonthRecord). IsHistory b (begun_after series y) ms) last.1
-          (subst (λ (k : ℕ). IsHistory b (begun_after series k) u.records) number history)
+          rw (← last.1, ← number) history
     ]
 
     sums : (r : ℕ) → yearly_deliveries b u.traces r ++ map (delivered_in_year u.records r) (numbers_from 0 (years_of b))
@@ -267,8 +266,8 @@ sums_whole b series all h r l =
 pub one_part : (part i : ℕ) (b : Basin) (first before later : WorkDone) → Solves (i * part) b first before →
     Solves part b before later → Solves ((i + 1) * part) b first later
 one_part part i b first before later so_far more =
-    let count : i * part + part ≡ (i + 1) * part = omega (arith, add-mul i 1 part) in
-    subst (λ (n : ℕ). Solves n b first later) count (Solves-then (i * part) part b first before later so_far more)
+    let count : (i + 1) * part ≡ i * part + part = omega (arith, add-mul i 1 part) in
+    rw count (Solves-then (i * part) part b first before later so_far more)
 
 -- they are within all parts
 pub within_parts : (part i n : ℕ) (b : Basin) (first before later : WorkDone) → Solves (i * part) b first before →
@@ -281,4 +280,4 @@ within_parts part i n b first before later so_far more l =
 pub solves_run : (b : Basin) (first later : WorkDone) → HasWholeYears b → Solves (years_of b * 12) b first later →
     Solves b.months b first later
 solves_run b first later whole solves =
-    subst (λ (n : ℕ). Solves n b first later) (let is : years_of b * 12 ≡ b.months = omega arith in is) solves
+    let all : years_of b * 12 ≡ b.months = omega arith in rw all at solves

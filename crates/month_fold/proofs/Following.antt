@@ -1,16 +1,12 @@
 -- The record of a solved month follows the records before it.
-use Rattle.std.proofs.Common.{◌≡◌, ℕ, zero, suc, ◌+◌, ◌^◌, ◌<◌, ◌≤◌, Bool, refl, sym, ◌∙◌, ap, ap₂, subst, arith, List}
+use Rattle.std.proofs.Common.{◌≡◌, ℕ, zero, suc, ◌+◌, ◌^◌, ◌<◌, ◌≤◌, Bool, refl, sym, ◌∙◌, ap, arith, List}
 use Rattle.std.proofs.Common.{[], ◌∷◌, length, map, inl, inr, get_or}
-use Rattle.std.specs.Prelude.{slice_index, Option, Some, None, if◌then◌else◌, All}
+use Rattle.std.specs.Prelude.{slice_index, Option, Some, None, All}
 use Rattle.finite_sums.proofs.Totals.{total_same, term_le_total}
 use Rattle.water_model.specs.Cuts.{IsReach}
 use Rattle.water_model.specs.CutSets.{CutSets, set_of, without_sets}
-use Rattle.water_model.specs.History.{IsPartialHistory, Follows, IsShort, cut_of, opening_after, is_zone_of}
-use Rattle.water_model.specs.Lookups.{of_entry}
-use Rattle.water_model.specs.Hydrology.{inflow_at, returned_at, stored_at, run_month, in_year, evaporation, used_of}
-use Rattle.water_model.specs.Hydrology.{want_of}
-use Rattle.duality.specs.Laws.{AreDeliveries}
-use Rattle.water_model.specs.Plans.{IsPlan, delivery}
+use Rattle.water_model.specs.History.{IsPartialHistory, Follows, opening_after}
+use Rattle.water_model.specs.Hydrology.{inflow_at, returned_at, stored_at, used_of}
 use Rattle.water_model.specs.Valid.{IsValidBasin, IsSeriesOf}
 use Rattle.water_model.specs.declared.types.Basin.{Basin}
 use Rattle.water_model.specs.declared.types.Inflows.{Inflows}
@@ -33,6 +29,17 @@ pub record IsBegun (b : Basin) (series : Inflows) (records : List MonthRecord) (
   pub returned : HasReturned b (map (λ k. k.delivered) records) m.returned
   pub used : HasUsed b (map (λ k. k.delivered) records) m.used
 
+-- what is supplied to a node, by the records before
+supplied_to : (b : Basin) (series : Inflows) (records : List MonthRecord) (m : MonthRecord) (i : ℕ)
+    (evaporated : List ℕ) (n : ℕ) → IsBegun b series records m → i ≡ length records → n < length b.nodes →
+    inflow_at b series n i + slice_index m.returned n + stored_at b m.closing evaporated n ≡ inflow_at b series n i +
+    returned_at b (map (λ k. k.delivered) records) n i + stored_at b (opening_after b records) evaporated n
+supplied_to b series records m i evaporated n begun at l =
+    let back : slice_index m.returned n ≡ returned_at b (map (λ k. k.delivered) records) n i =
+    begun.returned.each n l
+    ∙ ap (returned_at b (map (λ k. k.delivered) records) n) (length-map records (λ k. k.delivered) ∙ sym at) in
+    rw (begun.stored, back) refl
+
 -- what is supplied to a node is within the whole supply of the month
 pub node_small : (b : Basin) (series : Inflows) (records : List MonthRecord) (m : MonthRecord) (i : ℕ)
     (evaporated : List ℕ) (n : ℕ) → IsValidBasin b →
@@ -43,12 +50,7 @@ node_small b series records m i evaporated n valid fits begun at l =
     let one = term_le_total (length b.nodes)
     (λ v. inflow_at b series v i + returned_at b (map (λ k. k.delivered) records) v i + stored_at b
     (opening_after b records) evaporated v) n l in
-    let back : slice_index m.returned n ≡ returned_at b (map (λ k. k.delivered) records) n i =
-    begun.returned.each n l
-    ∙ ap (returned_at b (map (λ k. k.delivered) records) n) (length-map records (λ k. k.delivered) ∙ sym at) in
-    let stored : stored_at b m.closing evaporated n ≡ stored_at b (opening_after b records) evaporated n =
-    ap (λ xs. stored_at b xs evaporated n) begun.stored in
-    omega (arith, whole, one, back, stored)
+    omega (arith, whole, one, supplied_to b series records m i evaporated n begun at l)
 
 -- the whole supply that is settled is less than a river can carry
 pub supplies_given : (b : Basin) (series : Inflows) (records : List MonthRecord) (m settled : MonthRecord) (i : ℕ) →
@@ -62,192 +64,93 @@ supplies_given b series records m settled i valid fits begun at is = record {
     supply_small b series records settled.evaporated i valid fits begun.partial,
     total_same (length b.nodes) (λ n. slice_index settled.supply n)
         (λ n. inflow_at b series n i + returned_at b (map (λ k. k.delivered) records) n i + stored_at b
-        (opening_after b records) settled.evaporated n) each,
+        (opening_after b records) settled.evaporated n)
+        (λ n l. rw is.opening at (is.supply.each n l)
+        ∙ supplied_to b series records m i settled.evaporated n begun at l),
   );
 }
-  where
-    opens : settled.opening ≡ opening_after b records
-    opens = is.opening ∙ begun.stored
-
-    each : (n : ℕ) → n < length b.nodes → slice_index settled.supply n
-        ≡ inflow_at b series n i + returned_at b (map (λ k. k.delivered) records) n i + stored_at b
-        (opening_after b records) settled.evaporated n
-    each n l =
-        let back : slice_index m.returned n ≡ returned_at b (map (λ k. k.delivered) records) n i =
-        begun.returned.each n l
-        ∙ ap (returned_at b (map (λ k. k.delivered) records) n) (length-map records (λ k. k.delivered) ∙ sym at) in
-        let stored : stored_at b settled.opening settled.evaporated n ≡ stored_at b (opening_after b records)
-        settled.evaporated n = ap (λ xs. stored_at b xs settled.evaporated n) opens in
-        omega (arith, is.supply.each n l, back, stored)
 
 -- a record that was settled, got a plan and cuts, and was concluded
-pub record IsMade (b : Basin) (series : Inflows) (i : ℕ) (begun settled planned made : MonthRecord) : Type 0 where
-  pub fits : FitsRecord b begun
-  pub is_settled : IsSettled b series i begun settled
-  pub is_planned : planned ≡ record settled { plan = planned.plan; cuts = planned.cuts }
-  pub solved : IsSolved b settled.month settled.supply settled.want planned.plan planned.cuts
-  pub fits_cuts : FitsCuts b planned.cuts
-  pub is_concluded : IsConcluded b planned made
+pub record IsMade (b : Basin) (series : Inflows) (i : ℕ) (begun settled : MonthRecord) (plan : Plan) (cuts : CutSets)
+    (made : MonthRecord) : Type 0
+  where
+    pub fits : FitsRecord b begun
+    pub is_settled : IsSettled b series i begun settled
+    pub solved : IsSolved b settled.month settled.supply settled.want plan cuts
+    pub fits_cuts : FitsCuts b cuts
+    pub is_concluded : IsConcluded b (record settled { plan = plan; cuts = cuts }) made
 
 -- what became of each field
-record Fields (b : Basin) (series : Inflows) (i : ℕ) (begun settled planned made : MonthRecord) : Type 0 where
-  index : made.index ≡ i
-  month : made.month ≡ settled.month
-  opening : made.opening ≡ settled.opening
-  evaporated : made.evaporated ≡ settled.evaporated
-  returned : made.returned ≡ begun.returned
-  supply : made.supply ≡ settled.supply
-  used : made.used ≡ begun.used
-  want : made.want ≡ settled.want
-  plan : made.plan ≡ planned.plan
-  cuts : made.cuts ≡ planned.cuts
-  planned_want : planned.want ≡ settled.want
-
-fields_of : (b : Basin) (series : Inflows) (i : ℕ) (begun settled planned made : MonthRecord) →
-    IsMade b series i begun settled planned made →
-    Fields b series i begun settled planned made
-fields_of b series i begun settled planned made is = record {
-  index = ap (λ m. m.index) last ∙ (ap (λ m. m.index) mid ∙ is.is_settled.index_is);
-  month = ap (λ m. m.month) last ∙ ap (λ m. m.month) mid;
-  opening = ap (λ m. m.opening) last ∙ ap (λ m. m.opening) mid;
-  evaporated = ap (λ m. m.evaporated) last ∙ ap (λ m. m.evaporated) mid;
-  returned = ap (λ m. m.returned) last ∙ (ap (λ m. m.returned) mid ∙ ap (λ m. m.returned) first);
-  supply = ap (λ m. m.supply) last ∙ ap (λ m. m.supply) mid;
-  used = ap (λ m. m.used) last ∙ (ap (λ m. m.used) mid ∙ ap (λ m. m.used) first);
-  want = ap (λ m. m.want) last ∙ ap (λ m. m.want) mid;
-  plan = ap (λ m. m.plan) last;
-  cuts = ap (λ m. m.cuts) last;
-  planned_want = ap (λ m. m.want) mid;
-}
-  where
-    first : settled ≡ record begun {
-      index = settled.index;
+made_of : {b : Basin} {series : Inflows} {i : ℕ} {begun settled made : MonthRecord} {plan : Plan} {cuts : CutSets} →
+    IsMade b series i begun settled plan cuts made → made ≡ record begun {
+      index = i;
       month = settled.month;
-      opening =
-          settled.opening;
+      opening = settled.opening;
       evaporated = settled.evaporated;
       supply = settled.supply;
       want = settled.want;
+      plan = plan;
+      cuts = cuts;
+      delivered = made.delivered;
+      closing = made.closing;
     }
-    first = is.is_settled.rest
-
-    mid : planned ≡ record settled { plan = planned.plan; cuts = planned.cuts }
-    mid = is.is_planned
-
-    last : made ≡ record planned { delivered = made.delivered; closing = made.closing }
-    last = is.is_concluded.rest
-
--- the record fits
-pub made_fits : (b : Basin) (series : Inflows) (i : ℕ) (begun settled planned made : MonthRecord) →
-    IsMade b series i begun settled planned made → FitsRecord b made
-made_fits b series i begun settled planned made is =
-    let f = fields_of b series i begun settled planned made is in
-    let plan = is.solved.greatest.plan in
-    record {
-      fits = record {
-        opening = ap length f.opening ∙ (ap length is.is_settled.opening ∙ is.fits.fits.closing);
-        evaporated = ap length f.evaporated ∙ is.is_settled.evaporated.count;
-        closing = is.is_concluded.closing_count;
-        returned = ap length f.returned ∙ is.fits.fits.returned;
-        supply = ap length f.supply ∙ is.is_settled.supply.count;
-        used = ap length f.used ∙ is.fits.fits.used;
-        want = ap length f.want ∙ is.is_settled.want.count;
-        delivered = is.is_concluded.delivered_count;
-        cuts = ap (λ c. length c.sets) f.cuts ∙ is.fits_cuts.rights;
-        cut_nodes = ap (λ c. c.nodes) f.cuts ∙ is.fits_cuts.nodes;
-      };
-      flow = ap (λ p. length p.flow) f.plan ∙ plan.flow_len;
-      take = ap (λ p. length p.take) f.plan ∙ plan.take_len;
-      out = ap (λ p. length p.out) f.plan ∙ plan.out_len;
-    }
+made_of is = rw (is.is_settled.rest, is.is_settled.index_is) at is.is_concluded.rest
 
 pub made_follows : (b : Basin) (series : Inflows) (records : List MonthRecord) (i : ℕ)
-    (begun settled planned made : MonthRecord) → IsValidBasin b →
+    (begun settled : MonthRecord) (plan : Plan) (cuts : CutSets) (made : MonthRecord) → IsValidBasin b →
     IsSeriesOf b series → IsBegun b series records begun → i ≡ length records →
-    IsMade b series i begun settled planned made → IsNext b series records made
-made_follows b series records i begun settled planned made valid fits starts at is = record {
-  follows = record {
-    after = record {
-      fits = (made_fits b series i begun settled planned made is).fits;
-      index = f.index ∙ at;
-      month = f.month ∙ (is.is_settled.month ∙ ap (run_month b) (sym f.index));
-      evaporated = λ v l. evaporated v l;
-      returned = λ n l. returned n l;
-      supply = λ n l. supplied n l;
-      used = λ r l. used r l;
-      want = λ r l. wanted r l;
-      plan = plan;
-      delivered = λ r l. delivered r l;
-    };
-    opening = f.opening ∙ (is.is_settled.opening ∙ starts.stored);
-    short = λ r l h. (let found = reach r l h in (found.0, found.1, found.2.is_tight));
-    met = λ r l h. met r l h;
-    closing =
-        λ v l. is.is_concluded.closing v l
-        ∙ total_same (length b.rights) _ _
-        (λ r k. ap (λ p. (if is_zone_of b r v then slice_index p.take r else 0)) (sym f.plan));
-  };
-  reaches = record { short = reach; met = met };
-}
+    IsMade b series i begun settled plan cuts made → IsNext b series records made
+made_follows b series records i begun settled plan cuts made valid fits starts at is =
+    let before = length-map records (λ (k : MonthRecord). k.delivered) ∙ sym at in
+    rw (made_of is) record {
+      follows = record {
+        after = record {
+          fits = record {
+            opening = ap length is.is_settled.opening ∙ is.fits.fits.closing;
+            evaporated = is.is_settled.evaporated.count;
+            closing = is.is_concluded.closing_count;
+            returned = is.fits.fits.returned;
+            supply = is.is_settled.supply.count;
+            used = is.fits.fits.used;
+            want = is.is_settled.want.count;
+            delivered = is.is_concluded.delivered_count;
+            cuts = is.fits_cuts.rights;
+            cut_nodes = is.fits_cuts.nodes;
+          };
+          index = at;
+          month = is.is_settled.month;
+          evaporated = is.is_settled.evaporated.each;
+          returned = λ n l. starts.returned.each n l
+              ∙ ap (returned_at b (map (λ k. k.delivered) records) n) before;
+          supply = is.is_settled.supply.each;
+          used = λ r l. starts.used.each r l ∙ ap (used_of b (map (λ k. k.delivered) records) r) before;
+          want = is.is_settled.want.each;
+          plan = is.solved.greatest.plan;
+          delivered = is.is_concluded.delivered;
+        };
+        opening = is.is_settled.opening ∙ starts.stored;
+        short = λ r l h. (let found = reach r l h in (found.0, found.1, found.2.is_tight));
+        met = met;
+        closing = is.is_concluded.closing;
+      };
+      reaches = record { short = reach; met = met };
+    }
   where
-    f : Fields b series i begun settled planned made
-    f = fields_of b series i begun settled planned made is
-
-    plan : IsPlan b made.month made.supply made.want made.plan
-    plan = rw (f.month, f.supply, f.want, f.plan) is.solved.greatest.plan
-
-    evaporated : (v : ℕ) → v < length b.reservoirs → slice_index made.evaporated v
-        ≡ of_entry b.reservoirs v
-        (λ r. evaporation r.area (slice_index made.opening v) (slice_index r.rate (in_year b made.index))) 0
-    evaporated = rw (f.evaporated, f.opening, f.index) is.is_settled.evaporated.each
-
-    returned : (n : ℕ) → n < length b.nodes →
-        slice_index made.returned n ≡ returned_at b (map (λ k. k.delivered) records) n made.index
-    returned n l =
-        rw f.returned
-        (starts.returned.each n l
-        ∙ ap (returned_at b (map (λ k. k.delivered) records) n)
-        (length-map records (λ k. k.delivered) ∙ (sym at ∙ sym f.index)))
-
-    supplied : (n : ℕ) → n < length b.nodes → slice_index made.supply n
-        ≡ inflow_at b series n made.index + slice_index made.returned n + stored_at b made.opening made.evaporated n
-    supplied = rw (f.supply, f.index, f.returned, f.opening, f.evaporated) is.is_settled.supply.each
-
-    used : (r : ℕ) → r < length b.rights →
-        slice_index made.used r ≡ used_of b (map (λ k. k.delivered) records) r made.index
-    used r l =
-        ap (λ xs. slice_index xs r) f.used ∙ (starts.used.each r l
-        ∙ ap (used_of b (map (λ k. k.delivered) records) r)
-        (length-map records (λ k. k.delivered) ∙ (sym at ∙ sym f.index)))
-
-    wanted : (r : ℕ) → r < length b.rights →
-        slice_index made.want r ≡ want_of b series r made.index (slice_index made.used r)
-    wanted r l =
-        ap (λ xs. slice_index xs r) f.want ∙ (is.is_settled.want.each r l
-        ∙ ap₂ (λ k xs. want_of b series r k (slice_index xs r)) (sym f.index) (sym f.used))
-
-    delivered : (r : ℕ) → r < length b.rights → slice_index made.delivered r ≡ delivery b made.want made.plan r
-    delivered = rw (f.want ∙ sym f.planned_want, f.plan) is.is_concluded.delivered
-
-    deliveries : AreDeliveries b settled.want planned.plan made.delivered
-    deliveries = record { each = rw (sym f.planned_want) is.is_concluded.delivered }
-
     settled_right : (r : ℕ) → r < length b.rights →
-        sweep.IsMetOrReached b settled.month settled.supply settled.want made.delivered planned.cuts r
-    settled_right r l = is.solved.settled made.delivered deliveries r l
+        sweep.IsMetOrReached b settled.month settled.supply settled.want made.delivered cuts r
+    settled_right = is.solved.settled made.delivered (record { each = is.is_concluded.delivered })
 
-    reach : (r : ℕ) → r < length b.rights → IsShort made r → (cut : List Bool) × (cut_of made r ≡ Some cut) ×
-        IsReach b made.month made.supply made.delivered r cut
+    reach : (r : ℕ) → r < length b.rights → slice_index made.delivered r < slice_index settled.want r →
+        (cut : List Bool) × (set_of cuts r ≡ Some cut) ×
+        IsReach b settled.month settled.supply made.delivered r cut
     reach r l h = elim (settled_right r l) [
-      | inl has ↦ absurd (omega (arith, has.0, h, ap (λ xs. slice_index xs r) f.want))
-      | inr short ↦ (short.1.0, ap (λ c. set_of c r) f.cuts ∙ short.1.1.0, rw (f.month, f.supply) short.1.1.1)
+      | inl has ↦ absurd (omega (arith, has.0, h))
+      | inr short ↦ (short.1.0, short.1.1.0, short.1.1.1)
     ]
 
-    met : (r : ℕ) → r < length b.rights → slice_index made.want r ≤ slice_index made.delivered r → cut_of made r ≡ None
-    met r l h = elim (settled_right r l) [
-      | inl has ↦ ap (λ c. set_of c r) f.cuts ∙ has.1
-      | inr short ↦ absurd (omega (arith, short.0, h, ap (λ xs. slice_index xs r) f.want))
-    ]
+    met : (r : ℕ) → r < length b.rights → slice_index settled.want r ≤ slice_index made.delivered r →
+        set_of cuts r ≡ None
+    met r l h = elim (settled_right r l) [ inl has ↦ has.1 | inr short ↦ absurd (omega (arith, short.0, h)) ]
 
 -- the wants that are settled are small, and of no instream right more than its link carries
 pub wants_given : (b : Basin) (series : Inflows) (i : ℕ) (m settled : MonthRecord) → IsValidBasin b →
@@ -317,7 +220,7 @@ run_begun run records m went is returned used = record {
   partial = went.partial;
   stored = ap (λ k. k.closing) is ∙ went.stored;
   returned = returned;
-  used = subst (HasUsed run.basin (map (λ k. k.delivered) records)) (sym used) went.used;
+  used = rw used went.used;
 }
 
 pub begun_fits : (b : Basin) (m begun : MonthRecord) → FitsRecord b m →

@@ -1,10 +1,10 @@
 -- Runs of one basin and series have one outcome.
-use Rattle.std.proofs.Common.{◌≡◌, ℕ, zero, suc, ◌<◌, ◌≤◌, Bool, refl, sym, ap, ◌∙◌, arith, List, [], ◌∷◌, length, inl}
+use Rattle.std.proofs.Common.{◌≡◌, ℕ, zero, suc, ◌<◌, Bool, refl, sym, ap, ◌∙◌, arith, List, [], ◌∷◌, length, inl}
 use Rattle.std.proofs.Common.{inr}
 use Rattle.std.specs.Prelude.{Option, Some, None, slice_index}
 use Rattle.std.proofs.lemmas.Bool.{cases_lt}
 use Rattle.water_model.specs.Cuts.{IsReach}
-use Rattle.water_model.specs.History.{IsShort, cut_of, HasReaches}
+use Rattle.water_model.specs.History.{cut_of, HasReaches}
 use Rattle.duality.specs.Laws.{HaveSameOutcome}
 use Rattle.water_model.specs.Lookups.{of_entry}
 use Rattle.water_model.specs.declared.types.Basin.{Basin}
@@ -27,27 +27,18 @@ same_sets (x ∷ xs) (y ∷ ys) e h =
 -- the set of a right in two records of one outcome, each with the reaches as its sets
 same_cut : (b : Basin) (m n : MonthRecord) → HaveSameOutcome m n → HasReaches b m → HasReaches b n → (r : ℕ) →
     r < length b.rights → cut_of m r ≡ cut_of n r
-same_cut b m n same f g r l = elim (cases_lt (slice_index m.delivered r) (slice_index m.want r)) [
-  | inl short ↦
-      let one = f.short r l short in
-      let other = g.short r l (along short) in
-      one.1 ∙ (ap (λ cut. Some cut)
-      (reach_unique b m.month m.supply m.delivered r one.0 other.0 one.2 (back other.0 other.2)) ∙ sym other.1)
-  | inr met ↦ f.met r l met ∙ sym (g.met r l (along_met met))
-]
+same_cut b m n same f g r l =
+    let delivered = ap (λ ds. slice_index ds r) same.delivered in
+    let want = ap (λ ws. slice_index ws r) same.want in
+    elim (cases_lt (slice_index m.delivered r) (slice_index m.want r)) [
+      | inl short ↦
+          let one = f.short r l short in
+          let other = g.short r l (omega (arith, delivered, want, short)) in
+          one.1 ∙ (ap (λ cut. Some cut)
+          (reach_unique b m.month m.supply m.delivered r one.0 other.0 one.2 (back other.0 other.2)) ∙ sym other.1)
+      | inr met ↦ f.met r l met ∙ sym (g.met r l (omega (arith, delivered, want, met)))
+    ]
   where
-    delivered : slice_index m.delivered r ≡ slice_index n.delivered r
-    delivered = ap (λ ds. slice_index ds r) same.delivered
-
-    want : slice_index m.want r ≡ slice_index n.want r
-    want = ap (λ ws. slice_index ws r) same.want
-
-    along : IsShort m r → IsShort n r
-    along h = omega (arith, delivered, want)
-
-    along_met : slice_index m.want r ≤ slice_index m.delivered r → slice_index n.want r ≤ slice_index n.delivered r
-    along_met h = omega (arith, delivered, want)
-
     back : (cut : List Bool) → IsReach b n.month n.supply n.delivered r cut →
         IsReach b m.month m.supply m.delivered r cut
     back cut h = rw (same.month, same.supply, same.delivered) h

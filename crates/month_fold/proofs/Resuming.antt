@@ -4,7 +4,6 @@ use Rattle.std.proofs.Common.{◌∷◌, ◌++◌, length, get_or, map, take, le
 use Rattle.std.specs.Prelude.{All, replicate, slice_get, slice_index, Option, Some, None, option_map, unwrap_or}
 use Rattle.std.proofs.lemmas.List.{length-map, length-replicate, map-append, take_more}
 use Rattle.std.proofs.lemmas.Option.{slice_get-map, slice_get-get_or, slice_get_within}
-use Rattle.lag_returns.specs.Lags as lag
 use Rattle.water_model.specs.History.{IsPartialHistory, opening_after, HaveReaches}
 use Rattle.water_model.specs.Hydrology.{delivered_in, used_of}
 use Rattle.water_model.proofs.Valid.{entry_at}
@@ -13,8 +12,8 @@ use Rattle.water_model.specs.declared.types.Basin.{Basin}
 use Rattle.water_model.specs.declared.types.Inflows.{Inflows}
 use Rattle.water_model.specs.declared.types.MonthRecord.{MonthRecord}
 use Rattle.month_terms.specs.Terms.{HasUsed}
-use Rattle.month_fold.specs.Uses.{HasDeliveries, StateUse, StatesUse}
-use Rattle.month_fold.specs.Runs.{EngineView, RunView, WentThrough, run_with}
+use Rattle.month_fold.specs.Uses.{HasDeliveries, StateUse}
+use Rattle.month_fold.specs.Runs.{RunView, WentThrough}
 use Rattle.month_terms.proofs.Amounts.{deliveries_small as all_small}
 use Rattle.month_terms.proofs.WaterYears.{nothing_used, used_most}
 use Rattle.month_fold.proofs.Following.{deliveries_small}
@@ -102,29 +101,19 @@ used_by_last b records m used tell at next =
     (next (map (λ k. k.delivered) (take (length records - 1) records))
     (length-map (take (length records - 1) records) (λ (k : MonthRecord). k.delivered) ∙ sym own.index) own.used)
 
-pub used_by_none : (b : Basin) (records : List MonthRecord) (used : List ℕ) →
-    None ≡ slice_get records (length records - 1) →
-    length used ≡ length b.rights → ((r : ℕ) → slice_index used r ≡ 0) → HasUsed b (map (λ k. k.delivered) records) used
-used_by_none b [] used none count zeros = nothing_used b used count zeros
-used_by_none b (m ∷ ms) used none count zeros =
-    let there = entry_at (m ∷ ms) (length (m ∷ ms) - 1) (omega arith) in
+-- where there is no last month there is none
+empty_of : {X : Type 0} (xs : List X) → None ≡ slice_get xs (length xs - 1) → xs ≡ []
+empty_of [] none = refl
+empty_of (x ∷ xs) none =
+    let there = entry_at (x ∷ xs) (length (x ∷ xs) - 1) (omega arith) in
     let never : None ≡ Some there.0 = none ∙ there.1 in absurd (cc)
-
--- what the record of the last of some months says
-pub last_holds : {X : Type 0} (f : X → MonthRecord) (b : Basin) (xs : List X) (x : X) (m : MonthRecord) →
-    StateUse b (map f xs) → m ≡ f x → Some x ≡ slice_get xs (length xs - 1) →
-    StatesUse b (take (length (map f xs) - 1) (map f xs)) m
-last_holds f b xs x m tell same at = tell (length (map f xs) - 1) m (last_at f xs x m same at)
 
 pub used_by_zeros : {X : Type 0} (f : X → MonthRecord) (b : Basin) (xs : List X) (used : List ℕ) →
     None ≡ slice_get xs (length xs - 1) → used ≡ replicate (length b.rights) 0 →
     HasUsed b (map (λ k. k.delivered) (map f xs)) used
 used_by_zeros f b xs used none zeros =
-    used_by_none b (map f xs) used
-    (sym (ap (λ k. slice_get (map f xs) (k - 1)) (length-map xs f)
-    ∙ (slice_get-map f xs (length xs - 1) ∙ ap (option_map f) (sym none))))
-    (ap length zeros ∙ length-replicate (length b.rights) 0)
-    (λ r. ap (λ ys. slice_index ys r) zeros ∙ no_numbers (length b.rights) r)
+    rw (empty_of xs none) (nothing_used b used (ap length zeros ∙ length-replicate (length b.rights) 0)
+    (λ r. ap (λ ys. slice_index ys r) zeros ∙ no_numbers (length b.rights) r))
 
 -- what a run keeps is little
 pub used_little : (run : RunView) (records : List MonthRecord) → WentThrough run records →
@@ -151,29 +140,24 @@ stored_count b series records partial = by_last (slice_get records (length recor
     by_last (Some m) e = (partial.each (length records - 1) m e).after.fits.closing
 
 -- after the last of some months it is what that one left
-pub stored_by_last : (b : Basin) (records : List MonthRecord) (m : MonthRecord) →
-    slice_get records (length records - 1) ≡ Some m → opening_after b records ≡ m.closing
-stored_by_last b records m at =
-    ap (λ o. unwrap_or (option_map (λ k. k.closing) o) (map (λ v. v.opening) b.reservoirs)) at
+pub stored_by_last : {X : Type 0} (f : X → MonthRecord) (b : Basin) (xs : List X) (x : X) (m : MonthRecord) → m ≡ f x →
+    Some x ≡ slice_get xs (length xs - 1) → opening_after b (map f xs) ≡ m.closing
+stored_by_last f b xs x m same at =
+    ap (λ o. unwrap_or (option_map (λ k. k.closing) o) (map (λ v. v.opening) b.reservoirs)) (last_at f xs x m same at)
 
 -- and after none what the basin file says
 pub stored_by_none : {X : Type 0} (f : X → MonthRecord) (b : Basin) (xs : List X) →
     None ≡ slice_get xs (length xs - 1) → opening_after b (map f xs) ≡ map (λ v. v.opening) b.reservoirs
-stored_by_none f b xs none =
-    ap (λ o. unwrap_or (option_map (λ k. k.closing) o) (map (λ v. v.opening) b.reservoirs))
-    (ap (λ k. slice_get (map f xs) (k - 1)) (length-map xs f)
-    ∙ (slice_get-map f xs (length xs - 1) ∙ ap (option_map f) (sym none)))
+stored_by_none f b xs none = rw (empty_of xs none) refl
 
 -- the deliveries of some months and one more
 pub deliveries_more : {X : Type 0} (f : X → MonthRecord) (xs : List X) (i : ℕ) (x : X) (delivered : List ℕ) →
     i < length xs → x ≡ get_or xs i x →
     delivered ≡ (f x).delivered →
     map (λ m. m.delivered) (map f (take (i + 1) xs)) ≡ map (λ m. m.delivered) (map f (take i xs)) ++ delivered ∷ []
-deliveries_more {X = X} f xs i x delivered l is e =
-    ap (λ (ys : List X). map (λ m. m.delivered) (map f ys)) (take_more xs i x l)
-    ∙ ap (map (λ m. m.delivered)) (map-append f (take i xs) (get_or xs i x ∷ []))
-    ∙ map-append (λ (m : MonthRecord). m.delivered) (map f (take i xs)) (f (get_or xs i x) ∷ [])
-    ∙ ap (λ (d : List ℕ). map (λ m. m.delivered) (map f (take i xs)) ++ d ∷ []) (sym (e ∙ ap (λ y. (f y).delivered) is))
+deliveries_more f xs i x delivered l is e =
+    rw (take_more xs i x l, map-append, map-append, e)
+    (ap (λ y. map (λ m. m.delivered) (map f (take i xs)) ++ (f y).delivered ∷ []) (sym is))
 
 -- before the first month nothing was used
 pub none_state : (b : Basin) → StateUse b []
@@ -181,21 +165,3 @@ none_state b i m at = let none : None ≡ Some m = at in cc
 
 pub none_reach : (b : Basin) → HaveReaches b []
 none_reach b i m at = let none : None ≡ Some m = at in cc
-
--- an engine after some months makes a run that went through them
-pub starts_after : (engine : EngineView) (series : Inflows) (records : List MonthRecord) (done : ℕ) →
-    IsValidBasin engine.basin → IsSeriesOf engine.basin series → IsPartialHistory engine.basin series records →
-    done ≡ length records →
-    engine.last.closing ≡ opening_after engine.basin records →
-    lag.LagsStandFor engine.lags engine.basin.returns (map (λ m. m.delivered) records) →
-    HasUsed engine.basin (map (λ m. m.delivered) records) engine.used → WentThrough (run_with engine series done)
-    records
-starts_after engine series records done valid fits partial count stored lags used = record {
-  valid = valid;
-  fits = fits;
-  partial = partial;
-  done = count;
-  stored = stored;
-  lags = lags;
-  used = used;
-}

@@ -48,7 +48,7 @@ went_lent engine series done records last used same_last same_used went = record
   done = went.done;
   stored = ap (λ m. m.closing) same_last ∙ went.stored;
   lags = went.lags;
-  used = subst (HasUsed engine.basin (map (λ m. m.delivered) records)) (sym same_used) went.used;
+  used = rw same_used went.used;
 }
 
 pub went_next : (run : RunView) (records : List MonthRecord) (m : MonthRecord) (lags : List InTransit)
@@ -71,8 +71,8 @@ went_next run records m lags used went left follows way spent = record {
   partial = one_month_more run.basin run.series records m went.partial (omega (arith, went.done)) follows;
   done = omega (arith, went.done, length-append records (m ∷ []));
   stored = sym (opens_with_last run.basin records m);
-  lags = subst (lag.LagsStandFor lags run.basin.returns) (sym delivered) way;
-  used = subst (λ ds. HasUsed run.basin ds used) (sym delivered) spent;
+  lags = rw delivered way;
+  used = rw delivered spent;
 }
   where
     delivered : map (λ k. k.delivered) (records ++ m ∷ []) ≡ map (λ k. k.delivered) records ++ m.delivered ∷ []

@@ -1,7 +1,6 @@
 -- All months of a run.
 use Rattle.std.proofs.Common.{◌≡◌, arith, List}
 use Rattle.water_model.specs.History.{IsHistory}
-use Rattle.water_model.specs.declared.types.Basin.{Basin}
 use Rattle.water_model.specs.declared.types.MonthRecord.{MonthRecord}
 use Rattle.water_model.proofs.Histories.{all_months}
 use Rattle.month_fold.specs.Runs.{RunView, RunStandsFor}

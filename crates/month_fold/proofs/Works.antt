@@ -1,6 +1,6 @@
 -- Months are solved one after the other.
-use Rattle.std.proofs.Common.{◌≡◌, ℕ, zero, suc, ◌+◌, ◌*◌, ◌<◌, ◌≤◌, arith}
-use Rattle.std.proofs.Math.Nat.{add-mul, mul-le-mul_right, mul_assoc}
+use Rattle.std.proofs.Common.{ℕ, ◌+◌, ◌*◌, ◌<◌, ◌≤◌, arith}
+use Rattle.std.proofs.Math.Nat.{add-mul, mul-le-mul_right}
 use Rattle.senior_hold.specs.MonthNetwork.{month_pushes}
 use Rattle.water_model.specs.declared.types.Basin.{Basin}
 use Rattle.month_fold.specs.Works.{Solves, SolvesBoth, WorkDone}

@@ -28,7 +28,7 @@ returns-then-flow-want-clause-exact g c = λ _.
 
 pub returns-else-flow-want-clause-exact : goal.returns-else-flow-want-clause-exact
 returns-else-flow-want-clause-exact g c = λ _.
-    let flow = flow_over c.args.circ.now c.run_phases.new.circ c.run_phases.ensures.rest c.run_phases.ensures.kept in
+    let flow = flow_over c.args.circ.now c.run_phases.ensures.rest c.run_phases.ensures.kept in
     let limit = c.run_phases.ensures.limit in
     let full = c.if-flow-want.false in
     (λ _. (flow_of c.run_phases.new.circ, (flow, omega (arith, limit, full, c.flow.ensures.amount))), λ _. refl)

@@ -1,24 +1,21 @@
-use Rattle.std.proofs.Common.{ℕ, inl, inr, ◌≡◌, ◌+◌, ◌-◌, ◌*◌, ◌^◌, ◌≤◌, arith, refl, subst, sym, ap, ◌∙◌}
+use Rattle.std.proofs.Common.{ℕ, inl, inr, ◌≡◌, ◌+◌, ◌-◌, ◌*◌, ◌^◌, ◌≤◌, arith, refl, subst, ap, ◌∙◌}
 use Rattle.std.proofs.lemmas.Bool.{cases_lt}
-use Rattle.circulation.specs.Network.{IsFlow}
 use Rattle.circulation.specs.Contents.{Contents, network, flow_of}
-use Rattle.augment.specs.Raised.{open_arcs, HasPathOut, IsGreatestCut, not_reached}
+use Rattle.augment.specs.Raised.{open_arcs}
 use Rattle.augment.proofs.Rises.{power_below, power_half, phases_cost, thirty, open_some, first_rise}
 use Rattle.augment.proofs.raising.run_phases.Goals as goal
 
 pub phase-requires-clause-path_out : goal.phase-requires-clause-path_out
-phase-requires-clause-path_out g c =
-    subst (λ (x : Contents). HasPathOut (network x) c.args.arc) (sym c.loop-left.invariant.rest) c.requires.path_out
+phase-requires-clause-path_out g c = rw c.loop-left.invariant.rest c.requires.path_out
 
 pub phase-requires-clause-rise : goal.phase-requires-clause-rise
 phase-requires-clause-rise g c = λ h flow most.
     let inv = c.loop-left.invariant in
-    let own = subst (λ (x : Contents). IsFlow (network x) h) inv.rest flow in
-    let count = ap (λ (x : Contents). open_arcs (network x) * (2 * c.loop-left.least - 1)) inv.rest in
-    elim (cases_lt (flow_of c.loop-left.circ c.args.arc) c.args.want) [
-      | inl less ↦ omega (arith, inv.reach less (omega (arith, c.loop-left-test.true)) h own most, count)
+    let own = rw inv.rest at flow in
+    rw inv.rest (elim (cases_lt (flow_of c.loop-left.circ c.args.arc) c.args.want) [
+      | inl less ↦ inv.reach less (omega (arith, c.loop-left-test.true)) h own most
       | inr full ↦ omega (arith, most, full)
-    ]
+    ])
 
 pub loop-left-init : goal.loop-left-init
 loop-left-init g c =
@@ -51,22 +48,19 @@ loop-left-preserved g c =
     let cost = subst (λ (n : ℕ). c.loop-left.searches ≤ c.args.searches.now + (c.first_phase-first.result.1 - n) *
     (2 * open_arcs (network c.args.circ.now) + 1)) before inv.cost in
     record {
-      rest = ended.rest ∙ ap (λ (x : Contents). record x
-          { flow = c.phase.new.circ.flow; scratch = c.phase.new.circ.scratch }) inv.rest;
+      rest = rw inv.rest at ended.rest;
       kept = ended.kept;
       limit = ended.limit;
       within = omega (arith, inv.within);
       power = λ more. (power_half (c.loop-left.left - 1) c.loop-left.least more power).0;
       reach = λ less more h flow most.
-          let own = subst (λ (x : Contents). IsFlow (network x) h) (sym inv.rest) flow in
           let half = (power_half (c.loop-left.left - 1) c.loop-left.least more power).1 in
           let same = ap (λ (n : ℕ). open_arcs (network c.args.circ.now) * (n - 1)) half in
-          let now = ap (λ (x : Contents). open_arcs (network x) * (c.loop-left.least - 1)) inv.rest in
-          omega (arith, ended.left less h own, same, now);
+          let left = rw inv.rest at (ended.left less h (rw inv.rest flow)) in
+          omega (arith, left, same);
       cut = λ less last.
           let one : c.loop-left.least ≡ 1 = power ∙ ap (λ (n : ℕ). 2 ^ n) last in
-          subst (λ (x : Contents). IsGreatestCut (network x) (flow_of c.phase.new.circ) c.args.arc
-          (not_reached c.phase.new.circ)) inv.rest (ended.cut less one);
+          rw inv.rest at (ended.cut less one);
       cost = phases_cost c.first_phase-first.result.1 (c.loop-left.left - 1)
           (open_arcs (network c.args.circ.now)) c.args.searches.now c.loop-left.searches c.phase.new.searches
           (omega (arith, inv.within, some)) cost (omega (arith, ended.cost, count));

@@ -16,5 +16,5 @@ returns-clause-tree c =
           (omega (arith, arcs_same, c.requires.arc)),
       nodes,
     ))) in
-    planted _ _ _ _ c.ends-head.result.to c.clear.ensures.kept (omega (arith, arcs_same, c.requires.arc))
+    planted c.clear.ensures.kept (omega (arith, arcs_same, c.requires.arc))
     (λ v b. c.clear.ensures.none v (omega (arith, nodes, b))) c.ends-head.ensures.to fresh.1

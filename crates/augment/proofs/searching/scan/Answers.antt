@@ -9,19 +9,16 @@ loop-place-init c = record {
 }
 
 pub step_at-step-requires : goal.step_at-step-requires
-step_at-step-requires c = trying_inside c.args.circ.now c.loop-place.circ _ _ _ _ c.args.node _ c.requires.kept
-    c.requires.node c.loop-place.invariant.trying
+step_at-step-requires c = trying_inside c.requires.kept c.requires.node c.loop-place.invariant.trying
     (omega (arith, c.loop-place-test.true, c.row_last-place-end.ensures.place))
 
 pub end_at-requires : goal.end_at-requires
-end_at-requires c = trying_inside c.args.circ.now c.loop-place.circ _ _ _ _ c.args.node _ c.requires.kept
-    c.requires.node c.loop-place.invariant.trying
+end_at-requires c = trying_inside c.requires.kept c.requires.node c.loop-place.invariant.trying
     (omega (arith, c.loop-place-test.true, c.row_last-place-end.ensures.place))
 
 pub try_step-count-requires : goal.try_step-count-requires
 try_step-count-requires c =
-    let at = trying_at c.args.circ.now c.loop-place.circ _ _ _ _ c.args.node _ _ _ c.requires.kept c.requires.node
-    c.requires.marked c.loop-place.invariant.trying
+    let at = trying_at _ _ c.requires.kept c.requires.node c.requires.marked c.loop-place.invariant.trying
     (omega (arith, c.loop-place.auto.place, c.row_first-place.ensures.place))
     (omega (arith, c.loop-place-test.true, c.row_last-place-end.ensures.place)) c.step_at-step.ensures
     c.end_at.ensures in
@@ -35,9 +32,8 @@ try_step-count-requires c =
 
 pub loop-place-preserved : goal.loop-place-preserved
 loop-place-preserved c = record {
-  trying = trying_next c.args.circ.now c.loop-place.circ _ _ _ _ _ _ c.args.node _ _ c.requires.kept c.requires.node
-      c.loop-place.invariant.trying c.step_at-step.ensures c.try_step-count.ensures.visited
-      c.try_step-count.ensures.done;
+  trying = trying_next _ c.requires.kept c.loop-place.invariant.trying c.step_at-step.ensures
+      c.try_step-count.ensures.visited c.try_step-count.ensures.done;
   kept = c.try_step-count.ensures.kept;
 }
 
@@ -45,6 +41,5 @@ pub returns-clause-visited : goal.returns-clause-visited
 returns-clause-visited c = c.loop-place.invariant.trying.visited
 
 pub returns-clause-done : goal.returns-clause-done
-returns-clause-done c = λ _. trying_end c.args.circ.now c.loop-place.circ _ _ _ _ c.args.node _ c.requires.kept
-    c.requires.node c.loop-place.invariant.trying
+returns-clause-done c = λ _. trying_end c.requires.kept c.requires.node c.loop-place.invariant.trying
     (omega (arith, c.loop-place-test.false, c.row_last-place-end.ensures.place))

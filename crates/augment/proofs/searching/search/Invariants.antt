@@ -12,7 +12,9 @@ invariant-loop-done l = record {
   kept : IsCirculation l.circ;
   done : position_of l.circ (slice_index l.fn.circ.from l.arc) ≡ 0 → AreDone l.fn.circ l.circ l.arc l.least l.done;
   within : l.done ≤ l.size;
+  nodes : l.nodes ≡ l.circ.nodes;
+  most : l.size ≤ l.nodes + 1;
 }
 
 abbrev pub decreases-loop-done : goal.decreases-loop-done
-decreases-loop-done l = l.fn.circ.nodes + 1 - l.done
+decreases-loop-done l = l.nodes + 1 - l.done

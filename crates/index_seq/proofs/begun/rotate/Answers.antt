@@ -1,7 +1,3 @@
-use Rattle.std.proofs.Common.{sym, subst}
-use Rattle.water_model.specs.Valid.{IsSeriesOf}
-use Rattle.water_model.specs.declared.types.Inflows.{Inflows}
-use Rattle.index_seq.specs.Traces.{IsBegunAfter}
 use Rattle.index_seq.proofs.Rotation.{begun_is, begun_fits, turn_of_same}
 use Rattle.index_seq.proofs.begun.rotate.Goals as goal
 
@@ -10,11 +6,10 @@ rotate_series-requires-clause-begun c = turn_of_same c.args.series.now c.in_ok-b
 
 pub returns-clause-inflows : goal.returns-clause-inflows
 returns-clause-inflows c =
-    subst (λ (s : Inflows). IsBegunAfter c.args.basin.now c.args.series.now c.args.years s)
-    (sym c.rotate_series.ensures.value)
+    rw c.rotate_series.ensures.value
     (begun_is c.args.basin.now c.args.series.now c.args.years c.requires.series c.requires.years)
 
 pub returns-clause-series : goal.returns-clause-series
 returns-clause-series c =
-    subst (λ (s : Inflows). IsSeriesOf c.args.basin.now s) (sym c.rotate_series.ensures.value)
+    rw c.rotate_series.ensures.value
     (begun_fits c.args.basin.now c.args.series.now c.args.years c.requires.series c.requires.years)

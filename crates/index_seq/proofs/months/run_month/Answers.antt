@@ -1,6 +1,4 @@
-use Rattle.std.proofs.Common.{◌∷◌, [], ◌++◌, ◌∙◌, sym, subst}
-use Rattle.month_fold.specs.Runs.{RunStandsFor}
-use Rattle.water_model.specs.declared.types.MonthRecord.{MonthRecord}
+use Rattle.std.proofs.Common.{◌∙◌}
 use Rattle.index_seq.specs.Traces.{begun_after}
 use Rattle.index_seq.proofs.Running.{partial_next, month_room, month_more, month_fits}
 use Rattle.index_seq.proofs.months.run_month.Goals as goal
@@ -32,6 +30,5 @@ returns-clause-under_way g c =
     month_more c.args.basin.now c.args.series.now c.args.at.trace c.args.at.years c.args.at.months c.args.run.now
     c.step.new.self c.args.sums.now c.args.year.now c.add_month.new.year c.month.result.now u
     c.step.ensures.basin c.step.ensures.series
-    (subst (λ (m : MonthRecord). RunStandsFor c.step.new.self (u.records ++ m ∷ [])) (sym c.month.ensures)
-    (c.step.ensures.month u.records u.stands))
+    (rw c.month.ensures (c.step.ensures.month u.records u.stands))
     c.add_month.ensures.count c.add_month.ensures.each

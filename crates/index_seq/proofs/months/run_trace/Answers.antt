@@ -1,16 +1,12 @@
-use Rattle.std.proofs.Common.{◌∙◌, sym, subst}
-use Rattle.water_model.specs.Valid.{IsSeriesOf}
-use Rattle.water_model.specs.declared.types.Basin.{Basin}
-use Rattle.water_model.specs.declared.types.Inflows.{Inflows}
+use Rattle.std.proofs.Common.{◌∙◌}
 use Rattle.index_seq.proofs.Running.{trace_start, trace_over, year_over}
 use Rattle.index_seq.proofs.Rotation.{begun_fits}
 use Rattle.index_seq.proofs.months.run_trace.Goals as goal
 
 pub begin-run-requires : goal.begin-run-requires
 begin-run-requires g c =
-    subst (λ (b : Basin). IsSeriesOf b c.rotate_series.new.begun) (sym c.requires.engine)
-    (subst (λ (s : Inflows). IsSeriesOf c.args.basin.now s) (sym c.rotate_series.ensures.value)
-    (begun_fits c.args.basin.now c.args.series.now c.args.trace c.requires.series c.requires.trace))
+    rw (c.requires.engine, c.rotate_series.ensures.value)
+    (begun_fits c.args.basin.now c.args.series.now c.args.trace c.requires.series c.requires.trace)
 
 pub run_years-requires-clause-first : goal.run_years-requires-clause-first
 run_years-requires-clause-first g c = c.begin-run.ensures.stands.done

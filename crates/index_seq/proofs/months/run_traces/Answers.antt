@@ -1,11 +1,9 @@
-use Rattle.std.proofs.Common.{◌≡◌, ◌∙◌, ◌+◌, ◌*◌, ℕ, List, ap, arith, length, slice_index, sym, subst}
+use Rattle.std.proofs.Common.{◌≡◌, ◌∙◌, ◌*◌, ℕ, List, ap, arith, length, slice_index, sym}
 use Rattle.std.proofs.lemmas.List.{length-replicate}
-use Rattle.index_seq.specs.Sums.{HaveSums, IsEmptyYear}
 use Rattle.index_seq.specs.Traces.{years_of}
 use Rattle.index_seq.proofs.Running.{one_part, sums_start, within_parts}
 use Rattle.index_seq.proofs.Rotation.{turn_of_same}
 use Rattle.index_seq.proofs.months.run_traces.Goals as goal
-use Rattle.month_fold.specs.Works.{Solves}
 use Rattle.month_fold.proofs.Works.{Solves-none}
 use Rattle.water_model.proofs.Lists.{no_numbers, whole_rows}
 
@@ -17,8 +15,7 @@ returns-in_err-engine-clause-work g c =
 
 pub returns-clause-sums : goal.returns-clause-sums
 returns-clause-sums g c =
-    subst (λ (n : ℕ). HaveSums c.args.basin.now c.args.series.now n c.loop-trace.sums)
-    (let all : c.loop-trace.trace ≡ years_of c.args.basin.now = omega arith in all) c.loop-trace.invariant.sums
+    let all : c.loop-trace.trace ≡ years_of c.args.basin.now = omega arith in rw all at c.loop-trace.invariant.sums
 
 pub loop-trace-init : goal.loop-trace-init
 loop-trace-init g c = record {
@@ -30,9 +27,8 @@ loop-trace-init g c = record {
     count = ap length c.in_ok-year.ensures ∙ (length-replicate c.len-2.result 0 ∙ c.len-2.ensures);
     zeros = λ r l. ap (λ (xs : List ℕ). slice_index xs r) c.in_ok-year.ensures ∙ no_numbers c.len-2.result r;
   };
-  work = subst (λ (n : ℕ). Solves n c.args.basin.now c.args.work.now c.args.work.now)
-      (let none : 0 ≡ 0 * c.args.basin.now.months = omega arith in none)
-      (Solves-none c.args.basin.now c.args.work.now);
+  work = (let none : 0 * c.args.basin.now.months ≡ 0 = omega arith in
+      rw none (Solves-none c.args.basin.now c.args.work.now));
 }
 
 pub loop-trace-preserved : goal.loop-trace-preserved
@@ -41,14 +37,10 @@ loop-trace-preserved g c =
     record {
       engine = traced.engine;
       begun = traced.begun;
-      sums = subst (λ (sums : List (List ℕ)). HaveSums c.args.basin.now c.args.series.now (c.loop-trace.trace + 1) sums)
-          (sym (whole_rows c.loop-trace.sums c.run_trace.new.sums
-          (traced.sums.sums.count ∙ sym c.loop-trace.invariant.sums.sums.count)))
-          traced.sums;
-      year = subst (λ (year : List ℕ). IsEmptyYear c.args.basin.now year)
-          (sym (whole_rows c.loop-trace.year c.run_trace.new.year
-          (traced.year.count ∙ sym c.loop-trace.invariant.year.count)))
-          traced.year;
+      sums = rw (whole_rows c.loop-trace.sums c.run_trace.new.sums
+          (traced.sums.sums.count ∙ sym c.loop-trace.invariant.sums.sums.count)) traced.sums;
+      year = rw (whole_rows c.loop-trace.year c.run_trace.new.year
+          (traced.year.count ∙ sym c.loop-trace.invariant.year.count)) traced.year;
       work = one_part c.args.basin.now.months c.loop-trace.trace c.args.basin.now c.args.work.now c.loop-trace.work
           c.run_trace.new.work c.loop-trace.invariant.work traced.work;
     }

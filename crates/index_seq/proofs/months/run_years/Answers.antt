@@ -1,9 +1,7 @@
-use Rattle.std.proofs.Common.{◌≡◌, ◌*◌, ℕ, arith, subst}
-use Rattle.index_seq.specs.Sums.{IsWithinTrace}
+use Rattle.std.proofs.Common.{◌≡◌, arith}
 use Rattle.index_seq.specs.Traces.{years_of}
 use Rattle.index_seq.proofs.Running.{solves_run, within_parts}
 use Rattle.index_seq.proofs.months.run_years.Goals as goal
-use Rattle.month_fold.specs.Works.{Solves}
 
 pub returns-in_err-next_year-clause-work : goal.returns-in_err-next_year-clause-work
 returns-in_err-next_year-clause-work g c =
@@ -13,13 +11,11 @@ returns-in_err-next_year-clause-work g c =
 
 pub returns-clause-work : goal.returns-clause-work
 returns-clause-work g c =
+    let all : c.loop-years.years ≡ years_of c.args.basin.now = omega arith in
     solves_run c.args.basin.now c.args.work.now c.loop-years.work c.requires.whole
-    (subst (λ (n : ℕ). Solves (n * 12) c.args.basin.now c.args.work.now c.loop-years.work)
-    (let all : c.loop-years.years ≡ years_of c.args.basin.now = omega arith in all) c.loop-years.invariant.work)
+    (rw all at c.loop-years.invariant.work)
 
 pub returns-clause-under_way : goal.returns-clause-under_way
 returns-clause-under_way g c =
-    subst (λ (n : ℕ). IsWithinTrace c.args.basin.now c.args.series.now c.args.trace n 0 c.loop-years.run
-    c.loop-years.sums
-    c.loop-years.year)
-    (let all : c.loop-years.years ≡ years_of c.args.basin.now = omega arith in all) c.loop-years.invariant.under_way
+    let all : c.loop-years.years ≡ years_of c.args.basin.now = omega arith in
+    rw all at c.loop-years.invariant.under_way

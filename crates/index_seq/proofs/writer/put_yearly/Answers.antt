@@ -1,6 +1,6 @@
-use Rattle.std.proofs.Common.{List, ℕ, arith, subst, sym}
+use Rattle.std.proofs.Common.{arith}
 use Rattle.std.proofs.lemmas.Bool.Decides.{nat_tests}
-use Rattle.index_seq.proofs.Putting.{IsPutSoFar, put_next, put_fails}
+use Rattle.index_seq.proofs.Putting.{put_next, put_fails}
 use Rattle.index_seq.proofs.writer.put_yearly.Goals as goal
 
 pub returns-in_err-put_line-clause-text : goal.returns-in_err-put_line-clause-text
@@ -13,9 +13,7 @@ returns-in_err-put_line-clause-text g c =
 
 pub loop-rest-preserved : goal.loop-rest-preserved
 loop-rest-preserved g c =
-    subst (λ (xs : List ℕ). IsPutSoFar c.args.basin.now c.args.amounts.now xs (g.K.Sink.output c.args.sink.now)
-    (g.K.Sink.output c.put_line.new.sink) (g.K.Sink.faults c.args.sink.now) (g.K.Sink.faults c.put_line.new.sink))
-    (sym c.after-rest.ensures)
+    rw c.after-rest.ensures
     (put_next c.args.basin.now c.args.amounts.now c.loop-rest.rest.now c.run_length-count.result
     (g.K.Sink.output c.args.sink.now) (g.K.Sink.output c.loop-rest.sink) (g.K.Sink.output c.put_line.new.sink)
     (g.K.Sink.faults c.args.sink.now) (g.K.Sink.faults c.loop-rest.sink)

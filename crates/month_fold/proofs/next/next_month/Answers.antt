@@ -1,4 +1,4 @@
-use Rattle.std.proofs.Common.{◌≡◌, ◌∙◌, refl, sym, ap, length}
+use Rattle.std.proofs.Common.{◌≡◌, ◌∙◌, sym, ap, length}
 use Rattle.senior_hold.specs.Solved.{IsSolved, FitsCuts}
 use Rattle.month_fold.proofs.Following.{node_small, settled_given, planned_small, next_small, made_follows, begun_fits}
 use Rattle.month_fold.proofs.Following.{run_begun}
@@ -50,14 +50,13 @@ returns-clause-next g c = λ records went.
     rw (c.requires.solver, c.as_slice.ensures, c.as_slice-2.ensures) at c.solve_month.ensures.solved in
     let cuts : FitsCuts c.args.basin.now c.solve_month.new.cuts = rw c.requires.solver at c.solve_month.ensures.cuts in
     made_follows c.args.basin.now c.args.series.now records c.args.index c.write_returns.new.month c.settle.new.month
-    (record c.settle.new.month { plan = c.solve_month.new.plan; cuts = c.solve_month.new.cuts }) c.conclude.new.month
+    c.solve_month.new.plan c.solve_month.new.cuts c.conclude.new.month
     went.valid went.fits
     (run_begun _ records c.write_returns.new.month went c.write_returns.ensures.rest
     (c.write_returns.ensures.each _ went.lags) c.write_returns.ensures.used) went.done (record {
       fits = begun_fits c.args.basin.now c.args.month.now c.write_returns.new.month c.requires.month
           c.write_returns.ensures.rest c.write_returns.ensures.length uses;
       is_settled = c.settle.ensures;
-      is_planned = refl;
       solved = solved;
       fits_cuts = cuts;
       is_concluded = c.conclude.ensures;

@@ -1,19 +1,13 @@
-use Rattle.std.proofs.Common.{◌∙◌, [], ◌∷◌, ◌++◌, sym, ap, subst, arith, length, List, ℕ}
+use Rattle.std.proofs.Common.{◌∙◌, ap, arith, length, List, ℕ}
 use Rattle.std.specs.Prelude.{slice_index}
-use Rattle.month_terms.specs.Terms.{HasUsed}
 use Rattle.water_model.proofs.Lists.{whole_rows}
 use Rattle.month_fold.proofs.next.use_volumes.Goals as goal
 
 pub returns : goal.returns
 returns c = λ deliveries count has.
-    let spent =
-    c.use_month.ensures.each deliveries count
-    (subst (HasUsed c.args.basin.now deliveries) (sym c.as_mut_slice.ensures.value) has) in
-    subst (HasUsed c.args.basin.now (deliveries ++ c.args.month.now.delivered ∷ []))
-    (sym (whole_rows c.args.used.now c.use_month.new.used
-    (c.use_month.ensures.length ∙ ap length c.as_mut_slice.ensures.value)))
-    (subst (λ (ds : List ℕ). HasUsed c.args.basin.now (deliveries ++ ds ∷ []) c.use_month.new.used)
-    c.as_slice.ensures spent)
+    rw (whole_rows c.args.used.now c.use_month.new.used
+    (c.use_month.ensures.length ∙ ap length c.as_mut_slice.ensures.value))
+    (rw c.as_slice.ensures at (c.use_month.ensures.each deliveries count (rw c.as_mut_slice.ensures.value has)))
 
 pub use_month-requires-clause-small : goal.use_month-requires-clause-small
 use_month-requires-clause-small c = λ r l. omega (

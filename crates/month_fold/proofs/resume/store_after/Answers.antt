@@ -1,7 +1,7 @@
-use Rattle.std.proofs.Common.{◌∙◌, ap, sym, length, map, List, ℕ}
+use Rattle.std.proofs.Common.{◌∙◌, ap, sym, length, List, ℕ}
 use Rattle.std.proofs.lemmas.List.{length-map}
 use Rattle.water_model.specs.declared.types.Reservoir.{Reservoir}
-use Rattle.month_fold.proofs.Resuming.{last_at, stored_by_last, stored_by_none}
+use Rattle.month_fold.proofs.Resuming.{stored_by_last, stored_by_none}
 use Rattle.water_model.proofs.Lists.{whole_rows}
 use Rattle.month_fold.proofs.resume.store_after.Goals as goal
 
@@ -9,9 +9,8 @@ pub copy_from_slice-requires : goal.copy_from_slice-requires
 copy_from_slice-requires c =
     ap length c.as_mut_slice.ensures.value ∙ c.requires.room
     ∙ sym (ap length (c.as_slice.ensures
-    ∙ sym (stored_by_last c.args.basin.now (map (λ m. m.value) c.args.months.now) c.deref.result.now
-    (last_at (λ m. m.value) c.args.months.now c.in-Some.last.now c.deref.result.now c.deref.ensures
-    c.in-Some.ensures.value)))
+    ∙ sym (stored_by_last (λ m. m.value) c.args.basin.now c.args.months.now c.in-Some.last.now c.deref.result.now
+    c.deref.ensures c.in-Some.ensures.value))
     ∙ c.requires.stored)
 
 pub returns-in-Some : goal.returns-in-Some
@@ -21,9 +20,8 @@ returns-in-Some c =
     (c.copy_from_slice.ensures.len ∙ ap length c.as_mut_slice.ensures.value)
     ∙ (c.copy_from_slice.ensures.after
     ∙ (c.as_slice.ensures
-    ∙ sym (stored_by_last c.args.basin.now (map (λ m. m.value) c.args.months.now) c.deref.result.now
-    (last_at (λ m. m.value) c.args.months.now c.in-Some.last.now c.deref.result.now c.deref.ensures
-    c.in-Some.ensures.value)))))
+    ∙ sym (stored_by_last (λ m. m.value) c.args.basin.now c.args.months.now c.in-Some.last.now c.deref.result.now
+    c.deref.ensures c.in-Some.ensures.value))))
 
 pub returns-in-None : goal.returns-in-None
 returns-in-None c =

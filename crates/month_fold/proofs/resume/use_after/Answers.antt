@@ -1,28 +1,21 @@
 use Rattle.std.proofs.Common.{◌∙◌, ap, length, map}
 use Rattle.std.specs.Prelude.{replicate}
-use Rattle.month_fold.proofs.Resuming.{last_at, last_holds, used_by_last, used_by_zeros}
+use Rattle.month_fold.proofs.Resuming.{last_at, used_by_last, used_by_zeros}
 use Rattle.water_model.proofs.Lists.{whole_rows}
 use Rattle.month_fold.proofs.resume.use_after.Goals as goal
 
-pub use_last-requires-clause-index : goal.use_last-requires-clause-index
-use_last-requires-clause-index c =
-    (last_holds (λ m. m.value) c.args.basin.now c.args.months.now c.in-Some.month.now c.deref.result.now
-    c.requires.stated c.deref.ensures c.in-Some.ensures.value).within
-
-pub use_last-requires-clause-deliveries : goal.use_last-requires-clause-deliveries
-use_last-requires-clause-deliveries c =
-    (last_holds (λ m. m.value) c.args.basin.now c.args.months.now c.in-Some.month.now c.deref.result.now
-    c.requires.stated c.deref.ensures c.in-Some.ensures.value).delivered
-
-pub use_last-requires-clause-before : goal.use_last-requires-clause-before
-use_last-requires-clause-before c =
-    (last_holds (λ m. m.value) c.args.basin.now c.args.months.now c.in-Some.month.now c.deref.result.now
-    c.requires.stated c.deref.ensures c.in-Some.ensures.value).used.count
-
-pub use_last-requires-clause-little : goal.use_last-requires-clause-little
-use_last-requires-clause-little c =
-    (last_holds (λ m. m.value) c.args.basin.now c.args.months.now c.in-Some.month.now c.deref.result.now
-    c.requires.stated c.deref.ensures c.in-Some.ensures.value).little
+pub use_last-requires : goal.use_last-requires
+use_last-requires c =
+    let last = c.requires.stated _ _ (last_at (λ m. m.value) c.args.months.now c.in-Some.month.now c.deref.result.now
+    c.deref.ensures c.in-Some.ensures.value) in
+    record {
+      basin = c.requires.basin;
+      index = last.within;
+      deliveries = last.delivered;
+      before = last.used.count;
+      little = last.little;
+      room = c.requires.room;
+    }
 
 pub returns-in-Some : goal.returns-in-Some
 returns-in-Some c =

@@ -1,6 +1,5 @@
-use Rattle.std.proofs.Common.{◌≡◌, ℕ, ◌<◌, List, [], length, ap, arith, subst, sym, ◌∙◌, slice_index_or}
+use Rattle.std.proofs.Common.{◌≡◌, ◌<◌, [], length, ap, arith, ◌∙◌, slice_index_or}
 use Rattle.std.proofs.lemmas.List.{get_or_default}
-use Rattle.std.specs.List.Sorted.{IsNonDecreasingBy}
 use Rattle.index_seq.specs.Text.{AmountsSeen, amounts_seen}
 use Rattle.index_seq.proofs.writer.Amounts.of.Goals as goal
 
@@ -16,4 +15,4 @@ returns-clause-sorted c =
     ) in
     let same : c.as_slice.result.now ≡ slice_index_or rows c.args.right [] =
     c.as_slice.ensures ∙ get_or_default rows c.args.right c.index-self-right.result [] within in
-    subst (λ (xs : List ℕ). IsNonDecreasingBy (λ x. x) xs) (sym same) (c.self.invariant.sorted c.args.right)
+    rw same (c.self.invariant.sorted c.args.right)
