@@ -37,12 +37,11 @@ accepted_answer b series text lines rest items a valid fits pieces accepts audit
     said = yes_gives_history b series lines rest items valid accepts
 
     spelled : text ≡ text_bytes b said.0
-    spelled = spelled_text b text (items_of b said.0)
+    spelled = spelled_text b (items_of b said.0)
         (pieces ∙ (ap (λ ls. ls ++ rest ∷ []) said.2 ∙ ap (λ r. map (line_of b) (items_of b said.0) ++ r ∷ []) said.3))
 
     so_far : (read_so_far b series (items_of b said.0)).months ≡ said.0
-    so_far = records_read b series said.0
-        (are_all_read b series said.0 (history_texts b series said.0 valid fits said.1.partial))
+    so_far = records_read b series said.0 (are_all_read b series said.0 (history_texts valid fits said.1.partial))
 
     found : IsFound b said.0 (items_of b said.0) a.other
     found = subst (λ (ms : List MonthRecord). IsFound b ms (items_of b said.0) a.other) so_far
@@ -77,12 +76,12 @@ audited_answer c lines text rest months finished a valid fits is stays answer ha
     accepted = ok_of (verdict c.basin c.series lines rest) ok.0
 
     progress : IsProgressOf c.basin c.series c.progress lines
-    progress = good_is c lines (not_refused c.refused finished months is stays) stands
+    progress = good_is (not_refused c.refused finished months is stays) stands
 
     same : progress.items ≡ accepted.0
     same =
         let both : Ok progress.items ≡ Ok accepted.0 =
-        sym progress.verdict ∙ (yes_says c.basin c.series lines rest accepted.0 accepted.1).lines_good in
+        sym progress.verdict ∙ (yes_says accepted.1).lines_good in
         cc
 
     audit : IsAuditOf c.basin (read_so_far c.basin c.series accepted.0) accepted.0 a

@@ -25,8 +25,7 @@ use Rattle.cert_check.proofs.Kept.{keeps_answered}
 -- the callers of some rights, and of those after them
 callers_split : (b : Basin) (m : MonthRecord) (xs : List ℕ) (k : ℕ) →
     callers_of b m xs ≡ callers_of b m (take k xs) ++ callers_of b m (drop k xs)
-callers_split b m xs k =
-    ap (callers_of b m) (sym (both xs k))
+callers_split b m xs k = ap (callers_of b m) (sym (both xs k))
     ∙ flat_map-append (λ r. caller_due r (calling_right b m r)) (take k xs) (drop k xs)
   where
     both : (xs : List ℕ) (k : ℕ) → take k xs ++ drop k xs ≡ xs
@@ -34,12 +33,9 @@ callers_split b m xs k =
     both [] (suc k) = refl
     both (x ∷ xs) (suc k) = ap (λ ys. x ∷ ys) (both xs k)
 
-pub due_here : (b : Basin) (series : Inflows) (a : CheckState) (t : ReadSoFar) (due : Due) → Keeps b series a t →
-    IsNextDue b a.month a.answered due →
-    slice_get (callers_due b t.now) t.called ≡ Some (due.right, due.caller)
-due_here b series a t due k next =
-    ap (λ xs. slice_get xs t.called) all
-    ∙ (ap (slice_get
+pub due_here : {b : Basin} {series : Inflows} {a : CheckState} {t : ReadSoFar} {due : Due} → Keeps b series a t →
+    IsNextDue b a.month a.answered due → slice_get (callers_due b t.now) t.called ≡ Some (due.right, due.caller)
+due_here {b} {series} {a} {t} {due} k next = ap (λ xs. slice_get xs t.called) all ∙ (ap (slice_get
     (callers_of b t.now (take a.answered (seniors_first b)) ++ (due.right, due.caller) ∷ callers_of b t.now
     (drop (due.position + 1) (seniors_first b)))) k.answered.called
     ∙ at_length (callers_of b t.now (take a.answered (seniors_first b))) (due.right, due.caller)
@@ -47,47 +43,39 @@ due_here b series a t due k next =
   where
     up_to : callers_of b t.now (take (due.position + 1) (seniors_first b)) ≡ callers_of b t.now
         (take a.answered (seniors_first b)) ++ (due.right, due.caller) ∷ []
-    up_to =
-        sym (callers_read b series a t k (take (due.position + 1) (seniors_first b)))
-        ∙ (next.up_to
-        ∙ ap (λ xs. xs ++ (due.right, due.caller) ∷ [])
-        (callers_read b series a t k (take a.answered (seniors_first b))))
+    up_to = sym (callers_read k (take (due.position + 1) (seniors_first b))) ∙ (next.up_to
+        ∙ ap (λ xs. xs ++ (due.right, due.caller) ∷ []) (callers_read k (take a.answered (seniors_first b))))
 
     all : callers_due b t.now ≡ callers_of b t.now
         (take a.answered (seniors_first b)) ++ (due.right, due.caller) ∷ callers_of b t.now
         (drop (due.position + 1) (seniors_first b))
-    all =
-        callers_split b t.now (seniors_first b) (due.position + 1)
+    all = callers_split b t.now (seniors_first b) (due.position + 1)
         ∙ (ap (λ xs. xs ++ callers_of b t.now (drop (due.position + 1) (seniors_first b))) up_to
         ∙ append_assoc (callers_of b t.now (take a.answered (seniors_first b))) ((due.right, due.caller) ∷ [])
         (callers_of b t.now (drop (due.position + 1) (seniors_first b))))
 
-count_is : (b : Basin) (series : Inflows) (a : CheckState) (t : ReadSoFar) → Keeps b series a t →
+count_is : {b : Basin} {series : Inflows} {a : CheckState} {t : ReadSoFar} → Keeps b series a t →
     callers_due b a.month ≡ callers_of b a.month (take a.answered (seniors_first b)) →
     t.called ≡ length (callers_due b t.now)
-count_is b series a t k all =
-    k.answered.called
-    ∙ ap length
-    (sym (sym (callers_read b series a t k (seniors_first b))
-    ∙ (all ∙ callers_read b series a t k (take a.answered (seniors_first b)))))
+count_is {b} {series} {a} {t} k all = k.answered.called ∙ ap length (sym (sym (callers_read k (seniors_first b))
+    ∙ (all ∙ callers_read k (take a.answered (seniors_first b)))))
 
-pub none_due : (b : Basin) (series : Inflows) (a : CheckState) (t : ReadSoFar) → Keeps b series a t →
+pub none_due : {b : Basin} {series : Inflows} {a : CheckState} {t : ReadSoFar} → Keeps b series a t →
     callers_due b a.month ≡ callers_of b a.month (take a.answered (seniors_first b)) →
     slice_get (callers_due b t.now) t.called ≡ None
-none_due b series a t k all = slice_get_past (callers_due b t.now) t.called (omega (arith, count_is b series a t k all))
+none_due {b} {series} {a} {t} k all = slice_get_past (callers_due b t.now) t.called (omega (arith, count_is k all))
 
-pub none_left : (b : Basin) (series : Inflows) (a : CheckState) (t : ReadSoFar) → Keeps b series a t →
+pub none_left : {b : Basin} {series : Inflows} {a : CheckState} {t : ReadSoFar} → Keeps b series a t →
     callers_due b a.month ≡ callers_of b a.month (take a.answered (seniors_first b)) →
     nat_lt t.called (length (callers_due b t.now)) ≡ false
-none_left b series a t k all = same t.called (length (callers_due b t.now)) (count_is b series a t k all)
+none_left {b} {series} {a} {t} k all = same t.called (length (callers_due b t.now)) (count_is k all)
   where
     same : (x y : ℕ) → x ≡ y → nat_lt x y ≡ false
     same x y e = grind (arith, nat_tests)
 
-pub some_left : (b : Basin) (series : Inflows) (a : CheckState) (t : ReadSoFar) (due : Due) → Keeps b series a t →
-    IsNextDue b a.month a.answered due →
-    nat_lt t.called (length (callers_due b t.now)) ≡ true
-some_left b series a t due k next = within (callers_due b t.now) t.called (due_here b series a t due k next)
+pub some_left : {b : Basin} {series : Inflows} {a : CheckState} {t : ReadSoFar} {due : Due} → Keeps b series a t →
+    IsNextDue b a.month a.answered due → nat_lt t.called (length (callers_due b t.now)) ≡ true
+some_left {b} {series} {a} {t} {due} k next = within (callers_due b t.now) t.called (due_here k next)
   where
     more : (n k : ℕ) → nat_lt n k ≡ true → nat_lt (suc n) (suc k) ≡ true
     more n k h = grind (arith, nat_tests)
@@ -101,12 +89,12 @@ some_left b series a t due k next = within (callers_due b t.now) t.called (due_h
     within (x ∷ xs) (suc n) e = more n (length xs) (within xs n e)
 
 -- where none is due all rights are answered
-pub keeps_all : (b : Basin) (series : Inflows) (a : CheckState) (t : ReadSoFar) → Keeps b series a t →
+pub keeps_all : {b : Basin} {series : Inflows} {a : CheckState} {t : ReadSoFar} → Keeps b series a t →
     callers_due b a.month ≡ callers_of b a.month (take a.answered (seniors_first b)) →
     Keeps b series (record a { answered = length b.rights }) t
-keeps_all b series a t k all =
-    keeps_answered b series a t (length b.rights) k (record {
+keeps_all {b} {series} {a} {t} k all =
+    keeps_answered k (record {
       within = omega arith;
-      called = count_is b series a t k all ∙ ap (λ xs. length (callers_of b t.now xs))
+      called = count_is k all ∙ ap (λ xs. length (callers_of b t.now xs))
           (sym (take_all (length b.rights) (seniors_first b) (omega (arith, length-by_seniority b.rights))));
     })

@@ -1,14 +1,14 @@
 -- A good month follows those before it.
 use Rattle.std.proofs.Common.{◌≡◌, ℕ, zero, suc, ◌+◌, ◌<◌, ◌≤◌, Bool, true, false, refl, sym, ap, ◌∙◌, arith, inl, inr}
 use Rattle.std.proofs.Common.{List, length, map, replicate}
-use Rattle.std.specs.Prelude.{Option, Some, None, ◌⊎◌, min, is_some, slice_index, filter, if◌then◌else◌}
+use Rattle.std.specs.Prelude.{Option, Some, None, ◌⊎◌, is_some, slice_index, filter, if◌then◌else◌}
 use Rattle.std.proofs.lemmas.Bool.{cases_Bool, eqb-true, le-ltb, lt-ltb, ltb-false}
 use Rattle.std.proofs.lemmas.Grind.{same_number_lists}
 use Rattle.std.proofs.lemmas.List.{length-replicate, length-map}
 use Rattle.result_reader.proofs.AllRead.{nothing_returns, nothing_used}
 use Rattle.water_model.specs.Basin.{taking_node, taking_node_of_kind, instream_link, link_of_kind}
 use Rattle.water_model.specs.History.{Follows, cut_of, opening_after}
-use Rattle.water_model.specs.Hydrology.{run_month, inflow_at, stored_at, returned_at, used_of}
+use Rattle.water_model.specs.Hydrology.{run_month, inflow_at, stored_at}
 use Rattle.water_model.specs.Entries.{count_in, in_order}
 use Rattle.water_model.specs.Indices.{numbers_from, indices_of, seniors_first}
 use Rattle.result_lines.specs.Quantities.{amounts_of, entries_with_line, has_line, space_of}
@@ -37,19 +37,17 @@ use Rattle.water_model.proofs.Lists.{no_numbers}
 
 -- Lists that were read.
 
-read_len : (xs : List ℕ) (a : ℕ → ℕ) (n : ℕ) (ys : List ℕ) → set_all xs a (replicate n 0) ≡ ys → length ys ≡ n
-read_len xs a n ys is = sym (ap length is) ∙ (length-set_all xs a (replicate n 0) ∙ length-replicate n 0)
+read_len : (xs : List ℕ) (a : ℕ → ℕ) {n : ℕ} {ys : List ℕ} → set_all xs a (replicate n 0) ≡ ys → length ys ≡ n
+read_len xs a {n} is = sym (ap length is) ∙ (length-set_all xs a (replicate n 0) ∙ length-replicate n 0)
 
-not_listed : (xs : List ℕ) (a : ℕ → ℕ) (n : ℕ) (ys : List ℕ) (k : ℕ) → set_all xs a (replicate n 0) ≡ ys →
-    (Has xs k → ⊥) →
-    slice_index ys k ≡ 0
-not_listed xs a n ys k is none =
+not_listed : (xs : List ℕ) (a : ℕ → ℕ) (n : ℕ) {ys : List ℕ} (k : ℕ) → set_all xs a (replicate n 0) ≡ ys →
+    (Has xs k → ⊥) → slice_index ys k ≡ 0
+not_listed xs a n k is none =
     sym (ap (λ zs. slice_index zs k) is) ∙ (set_all-other xs a (replicate n 0) k none ∙ no_numbers n k)
 
-read_at : (xs : List ℕ) (a : ℕ → ℕ) (n : ℕ) (ys : List ℕ) (k : ℕ) → set_all xs a (replicate n 0) ≡ ys → k < n →
+read_at : (xs : List ℕ) (a : ℕ → ℕ) {n : ℕ} {ys : List ℕ} {k : ℕ} → set_all xs a (replicate n 0) ≡ ys → k < n →
     Has xs k → slice_index ys k ≡ a k
-read_at xs a n ys k is l has =
-    sym (ap (λ zs. slice_index zs k) is)
+read_at xs a {n} {ys} {k} is l has = sym (ap (λ zs. slice_index zs k) is)
     ∙ set_all-has xs a (replicate n 0) k (omega (arith, length-replicate {A = ℕ} n 0)) has
 
 pub map_at : (f : ℕ → ℕ) (from n k : ℕ) → k < n → slice_index (map f (numbers_from from n)) k ≡ f (from + k)
@@ -60,9 +58,9 @@ map_at f from (suc n) (suc k) l = let e : suc from + k ≡ from + suc k = omega 
     map_at f (suc from) n k (omega arith) ∙ ap f e
 
 -- a number at an index that passes a test, or that was read to be 0
-by_filter : (p : ℕ → Bool) (xs : List ℕ) (k x y : ℕ) → Has xs k → (Has (filter p xs) k → x ≡ y) →
+by_filter : (p : ℕ → Bool) (xs : List ℕ) {k x y : ℕ} → Has xs k → (Has (filter p xs) k → x ≡ y) →
     ((Has (filter p xs) k → ⊥) → x ≡ 0) → (p k ≡ false → y ≡ 0) → x ≡ y
-by_filter p xs k x y has so_far none zero_there = elim (cases_Bool (p k)) [
+by_filter p xs {k} has so_far none zero_there = elim (cases_Bool (p k)) [
   | inl passes ↦ so_far (has-filter p xs k has passes)
   | inr fails ↦ none (λ h. (let both : false ≡ true = sym fails ∙ (filter-has p xs k h).1 in cc))
       ∙ sym (zero_there fails)
@@ -73,10 +71,10 @@ by_filter p xs k x y has so_far none zero_there = elim (cases_Bool (p k)) [
 TakesOrStays : Option ℕ → Option ℕ → Type 0
 TakesOrStays taking link = ((is_some taking ≡ true) × (link ≡ None)) ⊎ ((taking ≡ None) × (is_some link ≡ true))
 
-takes_or_stays : (b : Basin) (r : ℕ) → IsValidBasin b → r < length b.rights →
+takes_or_stays : {b : Basin} {r : ℕ} → IsValidBasin b → r < length b.rights →
     TakesOrStays (taking_node b r) (instream_link b r)
 unfolding TakesOrStays
-takes_or_stays b r valid l = (let k = kind_is b valid r l in rw (k.node, k.link) (by_kind k.kind k.site))
+takes_or_stays {b} {r} valid l = (let k = kind_is b valid r l in rw (k.node, k.link) (by_kind k.kind k.site))
   where
     by_kind : (k : RightKind) → HasValidSite b k →
         ((is_some (taking_node_of_kind b k) ≡ true) × (link_of_kind k ≡ None)) ⊎
@@ -93,33 +91,31 @@ record IsServed (b : Basin) (m : MonthRecord) (r : ℕ) : Type 0 where
   instream : taking_node b r ≡ None → slice_index m.plan.take r ≡ 0
   delivered : slice_index m.delivered r ≡ delivery_by_link (instream_link b r) (slice_index m.want r) m.plan r
 
-served : (b : Basin) (m : MonthRecord) (r : ℕ) (taking link : Option ℕ) → taking_node b r ≡ taking →
+served : {b : Basin} {m : MonthRecord} {r : ℕ} (taking link : Option ℕ) → taking_node b r ≡ taking →
     instream_link b r ≡ link → TakesOrStays taking link →
     slice_index m.plan.take r ≡ (if is_some taking then slice_index m.delivered r else 0) →
-    amount_wrong link m.plan.flow (slice_index m.delivered r) (slice_index m.want r) ≡ false →
-    IsServed b m r
+    amount_wrong link m.plan.flow (slice_index m.delivered r) (slice_index m.want r) ≡ false → IsServed b m r
 unfolding TakesOrStays
-served b m r (Some node) None t l s take right = record {
+served {b} {m} {r} (Some node) None t l s take right = record {
   most = omega (arith, take, ltb-false (slice_index m.want r) (slice_index m.delivered r) right);
   instream = λ e. (let never : Some node ≡ None = sym t ∙ e in cc);
   delivered = rw l (sym take);
 }
-served b m r None (Some link) t l s take right = record {
+served {b} {m} {r} None (Some link) t l s take right = record {
   most = omega (arith, take);
   instream = λ e. take;
   delivered =
-      rw l (is_same (slice_index m.delivered r) (min (slice_index m.want r) (slice_index m.plan.flow link)) right);
+      rw l (is_same right);
 }
-served b m r None None t l (inl (e, f)) take right = cc
-served b m r None None t l (inr (e, f)) take right = cc
-served b m r (Some node) (Some link) t l (inl (e, f)) take right = cc
-served b m r (Some node) (Some link) t l (inr (e, f)) take right = cc
+served None None t l (inl (e, f)) take right = cc
+served None None t l (inr (e, f)) take right = cc
+served (Some node) (Some link) t l (inl (e, f)) take right = cc
+served (Some node) (Some link) t l (inr (e, f)) take right = cc
 
-pub good_follows : (b : Basin) (series : Inflows) (before : List MonthRecord) (m : MonthRecord) → IsValidBasin b →
-    IsAllRead b series m → IsGoodMonth b series before m →
-    m.index ≡ length before → m.month ≡ run_month b m.index → length (opening_after b before) ≡ length b.reservoirs →
-    Follows b series before m
-good_follows b series before m valid a g index month opens = record {
+pub good_follows : {b : Basin} {series : Inflows} {before : List MonthRecord} {m : MonthRecord} → IsValidBasin b →
+    IsAllRead b series m → IsGoodMonth b series before m → m.index ≡ length before → m.month ≡ run_month b m.index →
+    length (opening_after b before) ≡ length b.reservoirs → Follows b series before m
+good_follows {b} {series} {before} {m} valid a g index month opens = record {
   after = record {
     fits = record {
       opening = opening_len;
@@ -129,8 +125,8 @@ good_follows b series before m valid a g index month opens = record {
       supply = sym (ap length a.supply)
           ∙ (length-map (indices_of b.nodes) supply_of ∙ length-numbers_from 0 (length b.nodes));
       used = listed_len quantity.Used;
-      want = read_len (seniors_first b) _ (length b.rights) m.want a.want;
-      delivered = read_len (seniors_first b) _ (length b.rights) m.delivered a.delivered;
+      want = read_len (seniors_first b) _ a.want;
+      delivered = read_len (seniors_first b) _ a.delivered;
       cuts = sym (ap length a.sets)
           ∙ (length-put_sets (seniors_first b) (λ r. cut_of m r) (replicate (length b.rights) None)
           ∙ length-replicate (length b.rights) None);
@@ -139,20 +135,18 @@ good_follows b series before m valid a g index month opens = record {
     index = index;
     month = month;
     evaporated = λ v l. g.evaporated v (with_line-has b quantity.Evaporated v l refl);
-    returned = λ n l. by_filter (λ k. has_line b quantity.Returned k) (in_order (space_of quantity.Returned) b) n
-        (slice_index m.returned n) (returned_at b (map (λ k. k.delivered) before) n m.index)
+    returned = λ n l. by_filter (λ k. has_line b quantity.Returned k) (in_order (space_of quantity.Returned) b)
         (in_order-has (space_of quantity.Returned) b n l) (g.returned n) (unlisted quantity.Returned n)
         (nothing_returns b (map (λ k. k.delivered) before) n m.index);
     supply = λ n l. sym (ap (λ xs. slice_index xs n) a.supply)
         ∙ (map_at supply_of 0 (length b.nodes) n l ∙ ap supply_of (zero_more n));
-    used = λ r l. by_filter (λ k. has_line b quantity.Used k) (in_order (space_of quantity.Used) b) r
-        (slice_index m.used r) (used_of b (map (λ k. k.delivered) before) r m.index)
+    used = λ r l. by_filter (λ k. has_line b quantity.Used k) (in_order (space_of quantity.Used) b)
         (in_order-has (space_of quantity.Used) b r l) (g.used r) (unlisted quantity.Used r)
         (nothing_used b (map (λ k. k.delivered) before) r m.index);
     want = λ r l. (g.deliver r (seniors_have b.rights r l)).0;
     plan = record {
       flow_len = listed_len quantity.Flow;
-      take_len = read_len (seniors_first b) _ (length b.rights) m.plan.take a.take;
+      take_len = read_len (seniors_first b) _ a.take;
       out_len = listed_len quantity.Outflow;
       carries = λ e l. ltb-false (carry_of b m.month e) (slice_index m.plan.flow e)
           (g.flow e (with_line-has b quantity.Flow e l refl));
@@ -160,8 +154,7 @@ good_follows b series before m valid a g index month opens = record {
       instream = λ r l e. (right r l).instream e;
       outlets = λ n l e. unlisted quantity.Outflow n
           (λ h. (let both : false ≡ true = sym e ∙ (has-with_line b quantity.Outflow n h).1 in cc));
-      balance =
-          λ n l. eqb-true (slice_index m.supply n + inflow_to b m.plan.flow n)
+      balance = λ n l. eqb-true (slice_index m.supply n + inflow_to b m.plan.flow n)
           (outflow_from b m.plan.flow n + taken_at b m.plan.take n + slice_index m.plan.out n) (g.balance n l);
     };
     delivered = λ r l. (right r l).delivered;
@@ -169,7 +162,7 @@ good_follows b series before m valid a g index month opens = record {
   opening = same_number_lists m.opening (opening_after b before) (opening_len
       ∙ sym opens) (λ k l. g.opening k (with_line-has b quantity.Opening k (omega (arith, opening_len)) refl));
   short = λ r l short. (let s = g.sets.short r l (lt-ltb (slice_index m.delivered r) (slice_index m.want r) short) in
-      (s.0, s.1, is_tight_is b m r s.0 s.2));
+      (s.0, s.1, is_tight_is m s.2));
   met = λ r l met. g.sets.met r l (le-ltb (slice_index m.delivered r) (slice_index m.want r) met);
   closing = λ v l. g.closing v (with_line-has b quantity.Closing v l refl);
 }
@@ -181,16 +174,15 @@ good_follows b series before m valid a g index month opens = record {
     zero_more n = omega arith
 
     listed_len : (q : Quantity) → length (amounts_of q m) ≡ count_in (space_of q) b
-    listed_len q = read_len (entries_with_line b q) _ (count_in (space_of q) b) (amounts_of q m) (a.listed q)
+    listed_len q = read_len (entries_with_line b q) _ (a.listed q)
 
     opening_len : length m.opening ≡ length b.reservoirs
     opening_len = listed_len quantity.Opening
 
     unlisted : (q : Quantity) (k : ℕ) → (Has (entries_with_line b q) k → ⊥) → slice_index (amounts_of q m) k ≡ 0
-    unlisted q k h = not_listed (entries_with_line b q) _ (count_in (space_of q) b) (amounts_of q m) k (a.listed q) h
+    unlisted q k h = not_listed (entries_with_line b q) _ (count_in (space_of q) b) k (a.listed q) h
 
     right : (r : ℕ) → r < length b.rights → IsServed b m r
-    right r l = served b m r (taking_node b r) (instream_link b r) refl refl (takes_or_stays b r valid l)
-        (read_at (seniors_first b) (take_of b (λ k. slice_index m.delivered k)) (length b.rights) m.plan.take r a.take l
-        (seniors_have b.rights r l))
+    right r l = served (taking_node b r) (instream_link b r) refl refl (takes_or_stays valid l)
+        (read_at (seniors_first b) (take_of b (λ k. slice_index m.delivered k)) a.take l (seniors_have b.rights r l))
         (g.deliver r (seniors_have b.rights r l)).1

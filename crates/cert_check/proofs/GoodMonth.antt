@@ -27,11 +27,10 @@ use Rattle.cert_check.proofs.Month.{returned_lines, used_lines, flow_lines, deli
 use Rattle.cert_check.proofs.Month.{due_lines, closing_lines, after_opening, after_evaporated, after_returned}
 use Rattle.cert_check.proofs.Month.{after_used, after_flow, after_deliver, after_out, after_calls, after_called}
 
-balance_out : (b : Basin) (series : Inflows) (m : MonthRecord) (t : ReadSoFar) → IsAllRead b series m →
-    t.now ≡ with_out b m → IsInBalance b series t.now →
-    (n : ℕ) → n < length b.nodes → balances b m n ≡ true
+balance_out : {b : Basin} {series : Inflows} {m : MonthRecord} (t : ReadSoFar) → IsAllRead b series m →
+    t.now ≡ with_out b m → IsInBalance b series t.now → (n : ℕ) → n < length b.nodes → balances b m n ≡ true
 unfolding IsInBalance
-balance_out b series m t a is h n l = sym (read_balance b series m t.now n a is) ∙ h n l
+balance_out {b} {series} {m} t a is h n l = sym (read_balance n a is) ∙ h n l
 
 -- the basin has an outlet
 pub record HasOutlet (b : Basin) : Type 0 where
@@ -39,29 +38,28 @@ pub record HasOutlet (b : Basin) : Type 0 where
   pub others : List ℕ
   pub are : outlets b ≡ first ∷ others
 
-outflows_balance : (b : Basin) (series : Inflows) (a : ℕ → ℕ) (t : ReadSoFar) → HasOutlet b →
+outflows_balance : {b : Basin} (series : Inflows) (a : ℕ → ℕ) (t : ReadSoFar) → HasOutlet b →
     AreGood b series t (map (λ n. line.Amount quantity.Outflow n (a n)) (outlets b)) →
     IsInBalance b series (fold (read_item b series) t (map (λ n. line.Amount quantity.Outflow n (a n)) (outlets b))).now
-outflows_balance b series a t h g =
-    subst (λ (xs : List ℕ). IsInBalance b series
+outflows_balance {b} series a t h g = subst (λ (xs : List ℕ). IsInBalance b series
     (fold (read_item b series) t (map (λ n. line.Amount quantity.Outflow n (a n)) xs)).now) (sym h.are)
     (outflows_read b series a h.first h.others [] t h.are
     (subst (λ (xs : List ℕ). AreGood b series t (map (λ n. line.Amount quantity.Outflow n (a n)) xs)) h.are g))
 
-past_of : (b : Basin) (series : Inflows) (a : ℕ → ℕ) (xs : List ℕ) (t : ReadSoFar) →
+past_of : {b : Basin} {series : Inflows} (a : ℕ → ℕ) (xs : List ℕ) {t : ReadSoFar} →
     AreGood b series t (map (λ x. line.Amount quantity.Closing x (a x)) xs ++ line.End ∷ []) → IsPast b series t
-past_of b series a [] t g = end_past b series t g.0
-past_of b series a (x ∷ xs) t g = closing_past b series t x (a x) g.0
+past_of a [] g = end_past g.0
+past_of a (x ∷ xs) g = closing_past x (a x) g.0
 
-nothing_more : (xs more dues : List (ℕ × ℕ)) → dues ≡ xs ++ more → length dues ≤ length xs → dues ≡ xs
-nothing_more xs [] dues is l = is ∙ append-nil xs
-nothing_more xs (x ∷ more) dues is l = absurd (omega (arith, ap length is, length-append xs (x ∷ more)))
+nothing_more : {xs : List (ℕ × ℕ)} (more : List (ℕ × ℕ)) {dues : List (ℕ × ℕ)} → dues ≡ xs ++ more →
+    length dues ≤ length xs → dues ≡ xs
+nothing_more {xs} [] is l = is ∙ append-nil xs
+nothing_more {xs} (x ∷ more) is l = absurd (omega (arith, ap length is, length-append xs (x ∷ more)))
 
-right_sets : (b : Basin) (series : Inflows) (m : MonthRecord) (t u : ReadSoFar) → IsAllRead b series m →
-    t.now ≡ with_out b m → AreGood b series t (call_lines b m) →
-    u.now ≡ with_calls b m → IsSettled b series (fold (read_item b series) t (call_lines b m)) → AllCalled b series u →
-    HasRightSets b m
-right_sets b series m t u a is g now settled all = record {
+right_sets : {b : Basin} {series : Inflows} {m : MonthRecord} (t : ReadSoFar) {u : ReadSoFar} → IsAllRead b series m →
+    t.now ≡ with_out b m → AreGood b series t (call_lines b m) → u.now ≡ with_calls b m →
+    IsSettled b series (fold (read_item b series) t (call_lines b m)) → AllCalled b series u → HasRightSets b m
+right_sets {b} {series} {m} t {u} a is g now settled all = record {
   sized = a.sized;
   short = λ r l short. by_set r l short (cut_of m r) refl;
   met = λ r l met. unset r l met (cut_of m r) refl;
@@ -69,9 +67,8 @@ right_sets b series m t u a is g now settled all = record {
   where
     so_far : (r : ℕ) (set : List Bool) → r < length b.rights → cut_of m r ≡ Some set → (is_short m r ≡ true) ×
         (is_tight b m r set ≡ true)
-    so_far r set l e =
-        calls_read b series m a.sized (seniors_first b) (λ s h. seniors_below b.rights s h) t
-        (read_sees b series m t.now a is) g settled r set (seniors_have b.rights r l) e
+    so_far r set l e = calls_read a.sized (seniors_first b) (λ s h. seniors_below b.rights s h) t
+        (read_sees a is) g settled r (seniors_have b.rights r l) e
 
     same_short : (r : ℕ) → is_short u.now r ≡ is_short m r
     same_short r = ap (λ k. is_short k r) now
@@ -89,29 +86,27 @@ right_sets b series m t u a is g now settled all = record {
     unset r l met None e = e
     unset r l met (Some set) e = let no_call : false ≡ true = sym met ∙ (so_far r set l e).0 in cc
 
-called_now : (b : Basin) (series : Inflows) (before : List MonthRecord) (m : MonthRecord) (dues : List (ℕ × ℕ))
-    (t : ReadSoFar) → AfterCalls b before m t → AreGood b series t (due_lines dues) →
+called_now : {b : Basin} {series : Inflows} {before : List MonthRecord} {m : MonthRecord} {dues : List (ℕ × ℕ)}
+    {t : ReadSoFar} → AfterCalls b before m t → AreGood b series t (due_lines dues) →
     IsPast b series (fold (read_item b series) t (due_lines dues)) →
     ((fold (read_item b series) t (due_lines dues)).now ≡ with_calls b m) × (callers_due b m ≡ dues) ×
     ((fold (read_item b series) t (due_lines dues)).called ≡ length (callers_due b m))
-called_now b series before m dues t at g past =
-    let c = called_read b series dues (callers_due b m) [] t g (read_callers b m t.now at.now_is) at.called in
+called_now {b} {series} {before} {m} {dues} {t} at g past =
+    let c = called_read dues [] g (read_callers b m at.now_is) at.called in
     let now : (fold (read_item b series) t (due_lines dues)).now ≡ with_calls b m = c.now ∙ at.now_is in
     let same : callers_due b (fold (read_item b series) t (due_lines dues)).now ≡ callers_due b m =
-    read_callers b m (fold (read_item b series) t (due_lines dues)).now now in
+    read_callers b m now in
     let dues_are =
-    nothing_more dues c.more (callers_due b m) c.are
+    nothing_more c.more c.are
     (omega (arith, past.count, ap length same, c.called, at.called)) in
     (now, dues_are, omega (arith, c.called, at.called, ap length dues_are))
 
-pub inner_is_good : (b : Basin) (series : Inflows) (before : List MonthRecord) (m : MonthRecord) (dues : List (ℕ × ℕ)) →
-    HasOutlet b → IsAllRead b series m →
-    (t : ReadSoFar) → At b before (begun b m) t → AreGood b series t (inner_lines b m dues) →
-    IsGoodMonth b series before m ×
-    (callers_due b m ≡ dues)
-inner_is_good b series before m dues outlet a t at g =
-    let s = stages b series before m a t at in
-    let after = calls_stage b series before m a (after_out b series m t) s.out in
+pub inner_is_good : {b : Basin} {series : Inflows} {before : List MonthRecord} {m : MonthRecord} {dues : List (ℕ × ℕ)} →
+    HasOutlet b → IsAllRead b series m → {t : ReadSoFar} → At b before (begun b m) t →
+    AreGood b series t (inner_lines b m dues) → IsGoodMonth b series before m × (callers_due b m ≡ dues)
+inner_is_good {b} {series} {before} {m} {dues} outlet a {t} at g =
+    let s = stages a at in
+    let after = calls_stage a s.out in
     let opening = good_parts b series t (opening_lines b m) _ g in
     let evaporated = good_parts b series (after_opening b series m t) (evaporated_lines b m) _ opening.1 in
     let returned = good_parts b series (after_evaporated b series m t) (returned_lines b m) _ evaporated.1 in
@@ -123,54 +118,46 @@ inner_is_good b series before m dues outlet a t at g =
     let dues_read = good_parts b series (after_calls b series m t) (due_lines dues) _ calls.1 in
     let closing = good_parts b series (after_called b series m dues t) (closing_lines b m) (line.End ∷ [])
     dues_read.1 in
-    let past = past_of b series (λ x. slice_index m.closing x) (entries_with_line b quantity.Closing)
-    (after_called b series m dues t) dues_read.1 in
-    let called = called_now b series before m dues (after_calls b series m t) after dues_read.0 past in
+    let past = past_of (λ x. slice_index m.closing x) (entries_with_line b quantity.Closing) dues_read.1 in
+    let called = called_now after dues_read.0 past in
     let settled = settled_called b series dues (after_calls b series m t) dues_read.0 past.all.settled in
     let stands : After b series (callers_due b m) m.plan.take (after_called b series m dues t) = record {
       callers =
           record {
             all = past.all;
-            due = read_callers b m (after_called b series m dues t).now called.0;
+            due = read_callers b m called.0;
             count =
                 called.2;
           };
       take_is = ap (λ k. k.plan.take) called.0;
     } in (
       record {
-        opening = good_section b series (section.After before) _
-            (λ x. line.Amount quantity.Opening x (slice_index m.opening x))
+        opening = good_section (section.After before)
             (section.openings b series before (λ x. slice_index m.opening x)) (entries_with_line b quantity.Opening)
             (t) (at.calling, at.months)
             opening.0;
-        evaporated = good_section b series (section.Opened m.index m.opening) _
-            (λ x. line.Amount quantity.Evaporated x (slice_index m.evaporated x))
+        evaporated = good_section (section.Opened m.index m.opening)
             (section.evaporations b series m.index m.opening (λ x. slice_index m.evaporated x))
             (entries_with_line b quantity.Evaporated) (after_opening b series m t)
             (s.opening.calling, ap (λ k. k.index) s.opening.now_is, ap (λ k. k.opening) s.opening.now_is)
             evaporated.0;
-        returned = good_section b series (section.AfterAt before m.index) _
-            (λ x. line.Amount quantity.Returned x (slice_index m.returned x))
+        returned = good_section (section.AfterAt before m.index)
             (section.returns b series before m.index (λ x. slice_index m.returned x))
             (entries_with_line b quantity.Returned) (after_evaporated b series m t)
             (s.evaporated.calling, s.evaporated.months, ap (λ k. k.index) s.evaporated.now_is)
             returned.0;
-        used = good_section b series (section.AfterAt before m.index) _
-            (λ x. line.Amount quantity.Used x (slice_index m.used x))
+        used = good_section (section.AfterAt before m.index)
             (section.uses b series before m.index (λ x. slice_index m.used x)) (entries_with_line b quantity.Used)
             (after_returned b series m t) (
               s.returned.calling,
               s.returned.months,
               ap (λ k. k.index) s.returned.now_is,
             ) used.0;
-        flow = good_section b series (section.InMonth m.month) _
-            (λ x. line.Amount quantity.Flow x (slice_index m.plan.flow x))
+        flow = good_section (section.InMonth m.month)
             (section.flows b series m.month (λ x. slice_index m.plan.flow x)) (entries_with_line b quantity.Flow)
             (after_used b series m t) (s.used.calling, ap (λ k. k.month) s.used.now_is)
             flow.0;
-        deliver =
-            good_section b series (section.Flows m.index m.used m.plan.flow) _
-            (λ x. line.Deliver x (slice_index m.delivered x) (slice_index m.want x))
+        deliver = good_section (section.Flows m.index m.used m.plan.flow)
             (section.deliveries b series m.index m.used m.plan.flow (λ x. slice_index m.delivered x)
             (λ x. slice_index m.want x)) (seniors_first b) (after_flow b series m t) (
               s.flow.calling,
@@ -179,14 +166,12 @@ inner_is_good b series before m dues outlet a t at g =
               ap (λ k. k.plan.flow) s.flow.now_is,
             )
             deliver.0;
-        balance =
-            balance_out b series m (after_out b series m t) a s.out.now_is
-            (outflows_balance b series (λ x. slice_index m.plan.out x) (after_deliver b series m t) outlet
+        balance = balance_out (after_out b series m t) a s.out.now_is
+            (outflows_balance series (λ x. slice_index m.plan.out x) (after_deliver b series m t) outlet
             out.0);
-        sets = right_sets b series m (after_out b series m t) (after_called b series m dues t) a s.out.now_is
+        sets = right_sets (after_out b series m t) a s.out.now_is
             calls.0 called.0 settled past.all;
-        closing = good_section b series (After b series (callers_due b m) m.plan.take) _
-            (λ x. line.Amount quantity.Closing x (slice_index m.closing x))
+        closing = good_section (After b series (callers_due b m) m.plan.take)
             (closings b series (callers_due b m) m.plan.take (λ x. slice_index m.closing x))
             (entries_with_line b quantity.Closing) (after_called b series m dues t) stands closing.0;
       },

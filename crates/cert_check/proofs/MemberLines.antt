@@ -11,15 +11,15 @@ use Rattle.result_lines.specs.declared.item.Item.{Item}
 use Rattle.result_lines.specs.declared.item.Item.TheVariants as line
 use Rattle.result_reader.specs.Due.{is_member}
 use Rattle.result_reader.specs.ReadSoFar.{ReadSoFar}
-use Rattle.cert_check.specs.Checking.{cut_missing, first_row, passes}
+use Rattle.cert_check.specs.Checking.{cut_missing, first_row}
 use Rattle.cert_check.specs.Ready.{IsReadyForLine}
 use Rattle.cert_check.specs.declared.state.CheckState.{CheckState}
 use Rattle.cert_check.specs.declared.state.Context.{Context}
 use Rattle.cert_check.proofs.FirstRows.{first_is}
 
-nowhere : (p : ℕ → Bool) → ((r : ℕ) → p r ≡ false) → (xs : List ℕ) → list_any p xs ≡ false
-nowhere p h [] = refl
-nowhere p h (x ∷ xs) = rw (h x) (nowhere p h xs)
+nowhere : {p : ℕ → Bool} → ((r : ℕ) → p r ≡ false) → (xs : List ℕ) → list_any p xs ≡ false
+nowhere h [] = refl
+nowhere {p} h (x ∷ xs) = rw (h x) (nowhere h xs)
 
 not_both : (x y : Bool) → (x && y && false) ≡ false
 not_both true true = refl
@@ -28,7 +28,7 @@ not_both false y = refl
 
 none_missing : (b : Basin) (t : ReadSoFar) (n : ℕ) → cut_missing b t (line.Member n) ≡ false
 none_missing b t n =
-    nowhere (λ r. is_short t.now r && is_none (cut_of t.now r) && passes b (line.Member n) r)
+    nowhere
     (λ r. not_both (is_short t.now r) (is_none (cut_of t.now r))) (indices_of b.rights)
 
 pub no_row : (b : Basin) (series : Inflows) (t : ReadSoFar) (i : Item) → is_member i ≡ true →
@@ -39,8 +39,7 @@ no_row b series t (line.Month month) h = cc
 no_row b series t (line.Amount q entry amount) h = cc
 no_row b series t (line.Deliver right amount want) h = cc
 no_row b series t (line.Call right) h = cc
-no_row b series t (line.Member node) h =
-    first_is b series t (line.Member node) ∙ rw (none_missing b t node) refl
+no_row b series t (line.Member node) h = first_is b series t (line.Member node) ∙ rw (none_missing b t node) refl
 no_row b series t (line.Called right by') h = cc
 no_row b series t line.End h = cc
 no_row b series t (line.Done months) h = cc

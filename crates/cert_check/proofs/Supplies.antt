@@ -14,15 +14,14 @@ use Rattle.cert_check.proofs.GoodFollows.{map_at}
 
 pub length-supply : (b : Basin) (series : Inflows) (m : MonthRecord) →
     length (with_supply b series m).supply ≡ length b.nodes
-length-supply b series m =
-    length-map (indices_of b.nodes)
+length-supply b series m = length-map (indices_of b.nodes)
     (λ n. inflow_at b series n m.index + slice_index m.returned n + stored_at b m.opening m.evaporated n)
     ∙ length-numbers_from 0 (length b.nodes)
 
-pub supply_at : (b : Basin) (series : Inflows) (m : MonthRecord) (n : ℕ) → n < length b.nodes →
+pub supply_at : (b : Basin) (series : Inflows) (m : MonthRecord) {n : ℕ} → n < length b.nodes →
     slice_index (with_supply b series m).supply n ≡ inflow_at b series n m.index + slice_index m.returned n + stored_at
     b m.opening m.evaporated n
-supply_at b series m n l =
+supply_at b series m {n} l =
     map_at (λ k. inflow_at b series k m.index + slice_index m.returned k + stored_at b m.opening m.evaporated k) 0
     (length b.nodes) n l
     ∙ ap (λ k. inflow_at b series k m.index + slice_index m.returned k + stored_at b m.opening m.evaporated k)
@@ -31,12 +30,10 @@ supply_at b series m n l =
     zero_more : (n : ℕ) → 0 + n ≡ n
     zero_more n = omega arith
 
-pub supply_is : (b : Basin) (series : Inflows) (m : MonthRecord) (supply : List ℕ) → length supply ≡ length b.nodes →
-    ((n : ℕ) → n < length b.nodes →
-    slice_index supply n ≡ inflow_at b series n m.index + slice_index m.returned n + stored_at b m.opening
-    m.evaporated n) →
-    supply ≡ (with_supply b series m).supply
-supply_is b series m supply len each =
+pub supply_is : (b : Basin) (series : Inflows) (m : MonthRecord) {supply : List ℕ} → length supply ≡ length b.nodes →
+    ((n : ℕ) → n < length b.nodes → slice_index supply n ≡ inflow_at b series n m.index + slice_index m.returned n +
+    stored_at b m.opening m.evaporated n) → supply ≡ (with_supply b series m).supply
+supply_is b series m {supply} len each =
     same_number_lists supply (with_supply b series m).supply (len ∙ sym (length-supply b series m))
     (λ k l. (let within : k < length b.nodes = omega (arith, len) in
-    each k within ∙ sym (supply_at b series m k within)))
+    each k within ∙ sym (supply_at b series m within)))
