@@ -1,4 +1,5 @@
 -- What a checker begins with.
+use Rattle.std.proofs.Math.Bool.{and-true}
 use Rattle.std.proofs.Common.{◌≡◌, ℕ, ◌+◌, ◌≤◌, Bool, true, false, refl, ap, ◌∙◌, arith, [], ◌∷◌, filter}
 use Rattle.std.proofs.Common.{add-one, zero-add}
 use Rattle.std.specs.Prelude.{◌&&◌, nat_le, if◌then◌else◌}
@@ -42,15 +43,11 @@ last_more p {k} {last} n most h =
     both : (x y n : ℕ) → x ≤ y → nat_le x n && (nat_le y n && true) ≡ nat_le y n
     both x y n l = grind (arith, nat_tests)
 
-    alone : (q : Bool) → q && true ≡ q
-    alone true = refl
-    alone false = refl
-
     by_test : (t : Bool) →
         list_all (λ other. nat_le other n) (filter p (numbers_from 0 k)) && list_all (λ other. nat_le other n)
         (if t then k ∷ [] else []) ≡ nat_le (if t then k else last) n
     by_test true = ap (λ q. q && (nat_le k n && true)) h ∙ both last k n most
-    by_test false = alone (list_all (λ other. nat_le other n) (filter p (numbers_from 0 k))) ∙ h
+    by_test false = and-true (list_all (λ other. nat_le other n) (filter p (numbers_from 0 k))) ∙ h
 
 pub most_more : (t : Bool) {k last : ℕ} → last ≤ k → (if t then k else last) ≤ k + 1
 most_more true l = omega arith

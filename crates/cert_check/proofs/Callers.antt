@@ -4,7 +4,7 @@ use Rattle.std.proofs.Common.{length, map, fold, append_assoc, append-nil, lengt
 use Rattle.std.specs.Prelude.{Option, Some, None, ◌&&◌, ◌==◌, not, nat_lt, slice_get, slice_index}
 use Rattle.std.specs.List.{flat_map}
 use Rattle.std.proofs.lemmas.Bool.Decides.{nat_tests}
-use Rattle.std.proofs.lemmas.Bool.{eqb-true}
+use Rattle.std.proofs.lemmas.Bool.{eqb-true, and_parts, not-false}
 use Rattle.finite_sums.specs.Sums.{total_where}
 use Rattle.water_model.specs.History.{cut_of, is_zone_of, calls, calling_right}
 use Rattle.result_lines.specs.Text.{called_items}
@@ -178,9 +178,7 @@ due_at [] [] h = clash h
 due_at [] (x ∷ rest) {r} {c} h = (rest, ap (λ y. y ∷ rest) (pair x (both (x.0 == r) (x.1 == c) h)))
   where
     both : (p q : Bool) → not (p && q) ≡ false → (p ≡ true) × (q ≡ true)
-    both true true k = (refl, refl)
-    both true false k = clash k
-    both false q k = clash k
+    both p q k = and_parts p q (not-false (p && q) k)
 
     pair : (x : ℕ × ℕ) → (x.0 == r ≡ true) × (x.1 == c ≡ true) → x ≡ (r, c)
     pair (i, j) k = rw (eqb-true i r k.0, eqb-true j c k.1) refl

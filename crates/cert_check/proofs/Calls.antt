@@ -1,10 +1,10 @@
 -- What the rows say of `call` lines and of the nodes of their sets.
 use Rattle.std.proofs.Common.{◌≡◌, ℕ, ◌+◌, ◌<◌, Bool, true, false, refl, sym, ap, subst, ◌∙◌, arith, inl}
 use Rattle.std.proofs.Common.{inr, List, [], ◌∷◌, ◌++◌, length, fold}
-use Rattle.std.specs.Prelude.{Option, Some, None, ◌&&◌, ◌||◌, not, is_none}
-use Rattle.std.specs.List.{list_any, flat_map}
+use Rattle.std.specs.Prelude.{Option, Some, None, ◌&&◌, not, is_none}
+use Rattle.std.specs.List.{flat_map}
 use Rattle.std.specs.Option.{option_map_or}
-use Rattle.std.proofs.lemmas.Bool.{cases_eq, not-false}
+use Rattle.std.proofs.lemmas.Bool.{cases_eq, not-false, and_parts, false_from_ne_true}
 use Rattle.std.proofs.Math.ListN.{length-set}
 use Rattle.water_model.specs.Basin.{is_senior}
 use Rattle.water_model.specs.History.{cut_of}
@@ -23,7 +23,7 @@ use Rattle.water_model.proofs.SetEntries.{set_of_with, set_of_other}
 use Rattle.result_reader.proofs.Telling.{tell_call, put_cut, fold-both}
 use Rattle.cut_cert.specs.Callers.{is_short}
 use Rattle.cert_check.specs.Checking.{rows, has_tight, is_tight, passes, cut_missing}
-use Rattle.cert_check.proofs.Rows.{NoneHolds, AreGood, members_good, good_both, good_rest}
+use Rattle.cert_check.proofs.Rows.{none_holds, each_fails, NoneHolds, AreGood, members_good, good_both, good_rest}
 
 clash : {X : Type 0} → true ≡ false → X
 clash h = cc
@@ -62,23 +62,17 @@ loose_fails b series t i h = by_call (not (is_member i)) t.calling refl
 pub settled : (b : Basin) (series : Inflows) (t : ReadSoFar) (i : Item) → is_member i ≡ false →
     not (is_member i) && option_map_or (λ r. not (has_tight b (with_supply b series t.now) r)) t.calling false ≡ false →
     IsSettled b series t
-settled b series t i other h r e = untrue (has_tight b (with_supply b series t.now) r) (rw (other, e) at h)
-  where
-    untrue : (p : Bool) → true && not p ≡ false → p ≡ true
-    untrue true k = refl
-    untrue false k = cc
+settled b series t i other h r e = not-false (has_tight b (with_supply b series t.now) r) (rw (other, e) at h)
 
 -- a short right without a set that the line passes over is missed
 pub missing_fails : (b : Basin) (t : ReadSoFar) (i : Item) →
     ((r : ℕ) → r < length b.rights → is_short t.now r ≡ true → cut_of t.now r ≡ None → passes b i r ≡ true → ⊥) →
     cut_missing b t i ≡ false
-missing_fails b t i h = over (indices_of b.rights) (λ r m. by_right r (numbers_from-below 0 (length b.rights) r m).1)
+missing_fails b t i h = none_holds (indices_of b.rights) (λ r m. by_right r (numbers_from-below 0 (length b.rights) r m).1)
   where
     none : (p q s : Bool) → (p ≡ true → q ≡ true → s ≡ true → ⊥) → p && q && s ≡ false
-    none true true true k = absurd (k refl refl refl)
-    none true true false k = refl
-    none true false s k = refl
-    none false q s k = refl
+    none p q s k = false_from_ne_true (p && q && s)
+        (λ e. (let parts = and_parts (p && q) s e in let two = and_parts p q parts.0 in k two.0 two.1 parts.1))
 
     no_set : (o : Option (List Bool)) → is_none o ≡ true → o ≡ None
     no_set None e = refl
@@ -88,37 +82,14 @@ missing_fails b t i h = over (indices_of b.rights) (λ r m. by_right r (numbers_
     by_right r l = none (is_short t.now r) (is_none (cut_of t.now r)) (passes b i r)
         (λ short free passed. h r (omega arith) short (no_set (cut_of t.now r) free) passed)
 
-    over : (xs : List ℕ) → ((r : ℕ) → Has xs r → is_short t.now r && is_none (cut_of t.now r) && passes b i r ≡ false) →
-        list_any (λ r. is_short t.now r && is_none (cut_of t.now r) && passes b i r) xs ≡ false
-    over [] k = refl
-    over (x ∷ xs) k = rw (k x (inl refl)) (over xs (λ r m. k r (inr m)))
-
 pub none_missing : (b : Basin) (t : ReadSoFar) (i : Item) → cut_missing b t i ≡ false → {r : ℕ} → r < length b.rights →
     is_short t.now r ≡ true → passes b i r ≡ true → (set : List Bool) × (cut_of t.now r ≡ Some set)
 none_missing b t i h {r} l short passed = by_set (cut_of t.now r) refl
-    (over (indices_of b.rights) h (numbers_from-has 0 (length b.rights) r r l (omega arith)))
+    (each_fails (λ r. is_short t.now r && is_none (cut_of t.now r) && passes b i r) (indices_of b.rights) h
+    (numbers_from-has 0 (length b.rights) r r l (omega arith)))
   where
-    first : (p q : Bool) → p || q ≡ false → p ≡ false
-    first true q k = cc
-    first false q k = refl
-
-    other : (p q : Bool) → p || q ≡ false → q ≡ false
-    other true q k = cc
-    other false q k = k
-
-    over : (xs : List ℕ) → list_any (λ r. is_short t.now r && is_none (cut_of t.now r) && passes b i r) xs ≡ false →
-        Has xs r → is_short t.now r && is_none (cut_of t.now r) && passes b i r ≡ false
-    over [] k m = absurd m
-    over (x ∷ xs) k (inl is) = rw is (first (is_short t.now x && is_none (cut_of t.now x) && passes b i x)
-        (list_any (λ r. is_short t.now r && is_none (cut_of t.now r) && passes b i r) xs) k)
-    over (x ∷ xs) k (inr m) = over xs (other (is_short t.now x && is_none (cut_of t.now x) && passes b i x)
-        (list_any (λ r. is_short t.now r && is_none (cut_of t.now r) && passes b i r) xs) k) m
-
     all : (p q s : Bool) → p ≡ true → q ≡ true → s ≡ true → p && q && s ≡ false → ⊥
-    all true true true e f g k = clash k
-    all true true false e f g k = clash (sym g)
-    all true false s e f g k = clash (sym f)
-    all false q s e f g k = clash (sym e)
+    all p q s e f g k = clash (rw (e, f, g) at k)
 
     by_set : (o : Option (List Bool)) → cut_of t.now r ≡ o →
         is_short t.now r && is_none (cut_of t.now r) && passes b i r ≡ false → (set : List Bool) ×

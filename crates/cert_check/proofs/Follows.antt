@@ -1,7 +1,7 @@
 -- A month that follows others is good.
 use Rattle.std.proofs.Common.{◌≡◌, ℕ, ◌+◌, ◌≤◌, Bool, true, false, refl, ap, arith, List, length}
 use Rattle.std.specs.Prelude.{Option, Some, None, ◌&&◌, ◌==◌, slice_index}
-use Rattle.std.proofs.lemmas.Bool.{eq-eqb, eqb-true, le-ltb, ltb-false, ltb-true}
+use Rattle.std.proofs.lemmas.Bool.{eq-eqb, eqb-true, le-ltb, ltb-false, ltb-true, and_parts}
 use Rattle.water_model.specs.Basin.{taking_node, instream_link}
 use Rattle.water_model.specs.Cuts.{separates, IsTight, cut_capacity, cut_kept}
 use Rattle.water_model.specs.History.{Follows}
@@ -46,10 +46,7 @@ is_tight_is {b} m {r} {cut} h =
     }
   where
     parts : (p q s : Bool) → p && q && s ≡ true → (p ≡ true) × (q ≡ true) × (s ≡ true)
-    parts true true true e = (refl, refl, refl)
-    parts true true false e = cc
-    parts true false s e = cc
-    parts false q s e = cc
+    parts p q s e = let two = and_parts (p && q) s e in let first = and_parts p q two.0 in (first.0, first.1, two.1)
 
 right_sets : {b : Basin} {series : Inflows} {before : List MonthRecord} {m : MonthRecord} → Follows b series before m →
     IsTextMonth b series before m → HasRightSets b m

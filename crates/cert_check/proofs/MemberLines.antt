@@ -1,7 +1,6 @@
 -- No row holds of an `in` line, and its tests look at nothing.
-use Rattle.std.proofs.Common.{◌≡◌, ℕ, Bool, true, false, refl, ◌∙◌, List, [], ◌∷◌}
+use Rattle.std.proofs.Common.{◌≡◌, ℕ, true, false, refl, ◌∙◌}
 use Rattle.std.specs.Prelude.{None, ◌&&◌, is_none}
-use Rattle.std.specs.List.{list_any}
 use Rattle.water_model.specs.History.{cut_of}
 use Rattle.water_model.specs.Indices.{indices_of}
 use Rattle.water_model.specs.declared.types.Basin.{Basin}
@@ -16,20 +15,12 @@ use Rattle.cert_check.specs.Ready.{IsReadyForLine}
 use Rattle.cert_check.specs.declared.state.CheckState.{CheckState}
 use Rattle.cert_check.specs.declared.state.Context.{Context}
 use Rattle.cert_check.proofs.FirstRows.{first_is}
-
-nowhere : {p : ℕ → Bool} → ((r : ℕ) → p r ≡ false) → (xs : List ℕ) → list_any p xs ≡ false
-nowhere h [] = refl
-nowhere {p} h (x ∷ xs) = rw (h x) (nowhere h xs)
-
-not_both : (x y : Bool) → (x && y && false) ≡ false
-not_both true true = refl
-not_both true false = refl
-not_both false y = refl
+use Rattle.cert_check.proofs.Rows.{none_holds}
+use Rattle.std.proofs.Math.Bool.{and-false}
 
 none_missing : (b : Basin) (t : ReadSoFar) (n : ℕ) → cut_missing b t (line.Member n) ≡ false
 none_missing b t n =
-    nowhere
-    (λ r. not_both (is_short t.now r) (is_none (cut_of t.now r))) (indices_of b.rights)
+    none_holds (indices_of b.rights) (λ r m. and-false (is_short t.now r && is_none (cut_of t.now r)))
 
 pub no_row : (b : Basin) (series : Inflows) (t : ReadSoFar) (i : Item) → is_member i ≡ true →
     first_row b series t i ≡ None

@@ -1,4 +1,5 @@
 -- Which rights a line passes over, by the order of seniority.
+use Rattle.std.proofs.Math.Bool.{or-false}
 use Rattle.std.proofs.Common.{◌≡◌, ℕ, zero, suc, ◌<◌, Bool, true, false, refl, sym, ap, ◌∙◌, arith, inl, inr, List, []}
 use Rattle.std.proofs.Common.{◌∷◌, length, take, drop}
 use Rattle.std.specs.Prelude.{None, ◌⊎◌, ◌||◌, is_none, slice_index}
@@ -103,10 +104,7 @@ some_missed {b} {series} {a} {t} {item} k m = elim (cases_Bool (cut_missing b t 
     so_far = sym (one (lacks_call a.month) (lacks_call t.now) (lacks_read k (r ∷ []))) ∙ m.lacks
       where
         either : (x y : Bool) → x || false ≡ y || false → x ≡ y
-        either true true e = refl
-        either true false e = e
-        either false true e = e
-        either false false e = refl
+        either x y e = sym (or-false x) ∙ (e ∙ or-false y)
 
         one : (p q : ℕ → Bool) → list_any p (r ∷ []) ≡ list_any q (r ∷ []) → p r ≡ q r
         one p q e = either (p r) (q r) e

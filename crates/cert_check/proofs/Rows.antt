@@ -3,6 +3,8 @@ use Rattle.std.proofs.Common.{◌≡◌, ℕ, Bool, true, false, refl, sym, arit
 use Rattle.std.specs.Prelude.{Some, None, ◌&&◌, ◌==◌, not, find, option_map, is_none}
 use Rattle.std.specs.List.{list_any}
 use Rattle.std.proofs.lemmas.Bool.Decides.{nat_tests}
+use Rattle.std.proofs.lemmas.Bool.{or_parts}
+use Rattle.std.proofs.Math.Bool.{and-false}
 use Rattle.water_model.specs.History.{cut_of}
 use Rattle.water_model.specs.Indices.{indices_of}
 use Rattle.result_lines.specs.declared.item.Item.{Item}
@@ -104,29 +106,29 @@ pub section_keeps : {b : Basin} {series : Inflows} (P : ReadSoFar → Type 0) {g
 section_keeps P s [] p = p
 section_keeps {b} {series} P {good} {item} s (x ∷ xs) {t} p = section_keeps P s xs (s.keeps x t p)
 
+-- A test of the numbers of a list.
+pub none_holds : {p : ℕ → Bool} (xs : List ℕ) → ((x : ℕ) → Has xs x → p x ≡ false) → list_any p xs ≡ false
+none_holds [] h = refl
+none_holds {p} (x ∷ xs) h = rw (h x (inl refl)) (none_holds {p = p} xs (λ y m. h y (inr m)))
+
+pub each_fails : (p : ℕ → Bool) (xs : List ℕ) → list_any p xs ≡ false → {x : ℕ} → Has xs x → p x ≡ false
+each_fails p [] h m = absurd m
+each_fails p (y ∷ ys) h (inl is) = rw is (or_parts (p y) (list_any p ys) h).0
+each_fails p (y ∷ ys) h (inr m) = each_fails p ys (or_parts (p y) (list_any p ys) h).1 m
+
 -- nothing is passed over before the `call` lines
 nothing_passed : (b : Basin) (t : ReadSoFar) (i : Item) → ((r : ℕ) → passes b i r ≡ false) → (xs : List ℕ) →
     list_any (λ r. is_short t.now r && is_none (cut_of t.now r) && passes b i r) xs ≡ false
-nothing_passed b t i h [] = refl
-nothing_passed b t i h (r ∷ rs) =
-    rw (h r, none (is_short t.now r && is_none (cut_of t.now r))) (nothing_passed b t i h rs)
-  where
-    none : (p : Bool) → p && false ≡ false
-    none true = refl
-    none false = refl
+nothing_passed b t i h xs = none_holds xs (λ r m. rw (h r) (and-false (is_short t.now r && is_none (cut_of t.now r))))
 
 -- of a line before the `call` lines only the row of its own kind can hold
 pub early_good : (b : Basin) (series : Inflows) (t : ReadSoFar) (i : Item) → t.calling ≡ None →
     ((r : ℕ) → passes b i r ≡ false) → cut_needless t i ≡ false → called_wrong b t i ≡ false →
     NoneHolds (own_rows b series t i) → NoneHolds (rows b series t i)
 early_good b series t i none passed needless called own = (
-  rw none (no_call (not (is_member i))),
+  rw none (and-false (not (is_member i))),
   (nothing_passed b t i passed (indices_of b.rights), (needless, (called, own))),
 )
-  where
-    no_call : (p : Bool) → p && false ≡ false
-    no_call true = refl
-    no_call false = refl
 
 -- Tests of numbers.
 pub is_same : {x y : ℕ} → not (x == y) ≡ false → x ≡ y

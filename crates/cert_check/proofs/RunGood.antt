@@ -1,7 +1,8 @@
 -- The lines of a history are not refuted.
+use Rattle.std.proofs.Math.Bool.{or-true}
 use Rattle.std.proofs.Common.{◌≡◌, ℕ, Bool, true, false, refl, sym, ap, subst, ◌∙◌, List, [], ◌∷◌, ◌++◌, length, map}
 use Rattle.std.proofs.Common.{fold, take, append_assoc, length-append}
-use Rattle.std.specs.Prelude.{Option, Some, None, Ok, ◌||◌, slice_get, slice_index}
+use Rattle.std.specs.Prelude.{Option, Some, None, Ok, slice_get, slice_index}
 use Rattle.std.specs.List.{flat_map}
 use Rattle.std.proofs.lemmas.List.Folds.{list_any-append}
 use Rattle.std.proofs.Math.Seq.{take-append_seam}
@@ -186,11 +187,7 @@ prefix_open (v ∷ xs) (z ∷ x) y d i e h =
     rw (← head, two.0) (prefix_open xs x y d i tail two.1)
 
 ends_whole : (xs : List Item) (n : ℕ) → is_whole (xs ++ line.Done n ∷ []) ≡ true
-ends_whole xs n = list_any-append is_done xs (line.Done n ∷ []) ∙ or_true (is_whole xs)
-  where
-    or_true : (p : Bool) → p || true ≡ true
-    or_true true = refl
-    or_true false = refl
+ends_whole xs n = list_any-append is_done xs (line.Done n ∷ []) ∙ or-true (is_whole xs)
 
 -- the verdict on the text of records of a history
 pub text_good : {b : Basin} {series : Inflows} {records : List MonthRecord} → IsValidBasin b →

@@ -115,8 +115,7 @@ nothing_after (x ∷ xs) (i ∷ items) {rest} d e none some =
     nothing_after xs items d tail two.1 (other (is_done i) (is_whole items) (ap is_done head ∙ two.0) some)
   where
     other : (p q : Bool) → p ≡ false → p || q ≡ true → q ≡ true
-    other true q e k = cc
-    other false q e k = k
+    other p q e k = rw e at k
 
 -- The months.
 

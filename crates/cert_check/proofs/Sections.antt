@@ -2,7 +2,7 @@
 use Rattle.std.proofs.Common.{◌≡◌, ℕ, Bool, true, false, refl, sym, ap, ◌∙◌, arith, List, map}
 use Rattle.std.specs.Prelude.{None, ◌&&◌, not, ◌==◌, nat_lt, slice_index}
 use Rattle.std.proofs.lemmas.Bool.Decides.{nat_tests}
-use Rattle.std.proofs.lemmas.Bool.{eqb-true, or_from, or_parts}
+use Rattle.std.proofs.lemmas.Bool.{eqb-true, and_parts, not-false, or_from, or_parts}
 use Rattle.water_text.specs.Months.{is_same_month}
 use Rattle.water_text.specs.declared.month.Month.{Month}
 use Rattle.water_model.specs.Basin.{instream_link}
@@ -145,10 +145,9 @@ pub head_is : (b : Basin) (series : Inflows) (t : ReadSoFar) {first : Month} {mo
 head_is b series t {first} {months} n = by_parts first b.first n.1.1.1.1.0
   where
     three : (p q r : Bool) → not ((p && q) && r) ≡ false → (p ≡ true) × (q ≡ true) × (r ≡ true)
-    three true true true h = (refl, refl, refl)
-    three true true false h = cc
-    three true false r h = cc
-    three false q r h = cc
+    three p q r h =
+        let parts = and_parts (p && q) r (not-false ((p && q) && r) h) in
+        let two = and_parts p q parts.0 in (two.0, two.1, parts.1)
 
     by_parts : (x y : Month) → not (is_same_month x y && months == b.months) ≡ false → (x ≡ y) × (months ≡ b.months)
     by_parts x y h =

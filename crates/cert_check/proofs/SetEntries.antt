@@ -1,4 +1,5 @@
 -- A check state keeps the sets that were read, with one more line.
+use Rattle.std.proofs.Math.Bool.{and-false}
 use Rattle.std.proofs.Common.{◌≡◌, ℕ, ◌<◌, Bool, true, false, refl, sym, ap, subst, ◌∙◌, arith, inl, inr, List, []}
 use Rattle.std.proofs.Common.{◌∷◌, length, replicate, take}
 use Rattle.std.specs.Prelude.{Option, Some, None, IsSome, ◌&&◌, is_none, slice_set, option_map}
@@ -33,14 +34,10 @@ settled_with b m {r} set l (x ∷ xs) h =
     let two = or_parts (is_short m x && is_none (cut_of m x)) (list_any (lacks_call m) xs) h in
     rw (here (is_short m x) two.0) (settled_with b m set l xs two.1)
   where
-    never : (p : Bool) → p && false ≡ false
-    never true = refl
-    never false = refl
-
     here : (p : Bool) → p && is_none (cut_of m x) ≡ false →
         p && is_none (set_of (with_set m.cuts r (Some set)) x) ≡ false
     here p e = elim (cases_eq x r) [
-      | inl same ↦ rw (same, set_of_with m.cuts r (Some set) l) (never p)
+      | inl same ↦ rw (same, set_of_with m.cuts r (Some set) l) (and-false p)
       | inr other ↦ rw (set_of_other m.cuts r x (Some set) other) e
     ]
 

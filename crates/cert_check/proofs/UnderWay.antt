@@ -4,7 +4,7 @@ use Rattle.std.proofs.Common.{List, [], ◌∷◌, length, map, fold, replicate}
 use Rattle.std.specs.Prelude.{Option, Some, None, ◌||◌, ◌==◌, not, is_some, slice_index, slice_get}
 use Rattle.std.specs.Prelude.{slice_set, unwrap_or, option_map, if◌then◌else◌}
 use Rattle.std.specs.List.{list_all}
-use Rattle.std.proofs.lemmas.Bool.{cases_lt, and_parts, eqb-true, ltb-false}
+use Rattle.std.proofs.lemmas.Bool.{cases_lt, and_parts, eqb-true, ltb-false, or_parts, not-false}
 use Rattle.std.proofs.lemmas.Bool.Decides.{nat_tests}
 use Rattle.std.proofs.lemmas.Option.{slice_get_past}
 use Rattle.water_model.specs.Basin.{instream_link, taking_node}
@@ -110,8 +110,7 @@ taken_most true h = h
 taken_most false h = omega arith
 
 both_fail : (p q : Bool) → not p || q ≡ false → (p ≡ true) × (q ≡ false)
-both_fail true q h = (refl, h)
-both_fail false q h = cc
+both_fail p q h = let two = or_parts (not p) q h in (not-false p two.0, two.1)
 
 -- one more line
 pub in_month_more : {b : Basin} → IsValidBasin b → {series : Inflows} → IsSeriesOf b series →

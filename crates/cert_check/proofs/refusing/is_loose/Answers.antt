@@ -1,4 +1,4 @@
-use Rattle.std.proofs.Common.{◌^◌, arith}
+use Rattle.std.proofs.Common.{arith}
 use Rattle.cert_check.proofs.Bounded.{supplies_small, all_most}
 use Rattle.cert_check.proofs.refusing.is_loose.Goals as goal
 
