@@ -68,7 +68,8 @@ settled b series t i other h r e = not-false (has_tight b (with_supply b series 
 pub missing_fails : (b : Basin) (t : ReadSoFar) (i : Item) →
     ((r : ℕ) → r < length b.rights → is_short t.now r ≡ true → cut_of t.now r ≡ None → passes b i r ≡ true → ⊥) →
     cut_missing b t i ≡ false
-missing_fails b t i h = none_holds (indices_of b.rights) (λ r m. by_right r (numbers_from-below 0 (length b.rights) r m).1)
+missing_fails b t i h = none_holds (indices_of b.rights)
+    (λ r m. by_right r (numbers_from-below 0 (length b.rights) r m).1)
   where
     none : (p q s : Bool) → (p ≡ true → q ≡ true → s ≡ true → ⊥) → p && q && s ≡ false
     none p q s k = false_from_ne_true (p && q && s)
