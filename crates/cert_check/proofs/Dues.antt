@@ -1,7 +1,7 @@
--- The next `called` line that is due, by the index that a check state keeps.
+-- A check state keeps what was read where only what follows from it is added.
 use Rattle.std.proofs.Common.{◌≡◌, ℕ, ◌+◌, zero, suc, true, false, refl, sym, ap, ◌∙◌, arith, List, [], ◌∷◌, ◌++◌}
 use Rattle.std.proofs.Common.{length, take, drop, append_assoc}
-use Rattle.std.specs.Prelude.{Some, None, nat_lt, slice_get}
+use Rattle.std.specs.Prelude.{Some, None, nat_lt, slice_get, Option}
 use Rattle.std.proofs.lemmas.Bool.Decides.{nat_tests}
 use Rattle.std.proofs.lemmas.Grind.{flat_map-append}
 use Rattle.std.proofs.lemmas.List.{take_all}
@@ -12,15 +12,53 @@ use Rattle.water_model.specs.History.{calling_right}
 use Rattle.water_model.specs.declared.types.Basin.{Basin}
 use Rattle.water_model.specs.declared.types.Inflows.{Inflows}
 use Rattle.water_model.specs.declared.types.MonthRecord.{MonthRecord}
-use Rattle.result_reader.specs.ReadSoFar.{ReadSoFar}
+use Rattle.result_reader.specs.ReadSoFar.{ReadSoFar, with_supply}
 use Rattle.cert_check.specs.Checking.{caller_due, callers_due}
-use Rattle.cert_check.specs.Keeping.{Keeps, callers_of}
+use Rattle.cert_check.specs.Keeping.{Keeps, callers_of, AreAnswered, AreSettled}
 use Rattle.cert_check.specs.Walks.{IsNextDue}
 use Rattle.cert_check.specs.declared.state.CheckState.{CheckState}
 use Rattle.cert_check.specs.declared.answering.Due.{Due}
 use Rattle.cert_check.proofs.Callers.{at_length}
 use Rattle.cert_check.proofs.Entries.{callers_read}
-use Rattle.cert_check.proofs.Kept.{keeps_answered}
+use Rattle.cut_cert.specs.Callers.{AreCallers}
+use Rattle.cert_check.specs.Shows.{Shows}
+use Rattle.cert_check.proofs.Bounded.{length-supply}
+
+same_supply : (b : Basin) (series : Inflows) {m : MonthRecord} (t : ReadSoFar) → Shows m t.now →
+    (with_supply b series m).supply ≡ (with_supply b series t.now).supply
+same_supply b series t s = rw (s.index, s.returned, s.opening, s.evaporated) refl
+
+-- the supply that was read is made
+pub keeps_supply : {b : Basin} {series : Inflows} {a : CheckState} {t : ReadSoFar} → Keeps b series a t →
+    Keeps b series (record a { month = with_supply b series a.month; has_supply = true }) t
+keeps_supply {b} {series} {a} {t} k =
+    assumption (length-supply b series a.month, same_supply b series t k.month.shows, callers)
+  where
+    callers : a.has_callers ≡ true → AreCallers b (with_supply b series a.month) a.callers
+    callers e = let known = k.callers e in assumption known
+
+-- this many rights are passed, or answered
+pub keeps_passed : {b : Basin} {series : Inflows} {a : CheckState} {t : ReadSoFar} {count : ℕ} → Keeps b series a t →
+    AreSettled b t.now count → Keeps b series (record a { passed = count }) t
+keeps_passed k settled = assumption
+
+pub keeps_answered : {b : Basin} {series : Inflows} {a : CheckState} {t : ReadSoFar} {count : ℕ} → Keeps b series a t →
+    AreAnswered b t.now count t.called → Keeps b series (record a { answered = count }) t
+keeps_answered k answered = assumption
+
+-- the callers are those of the deliveries and sets that were read
+pub keeps_callers : {b : Basin} {series : Inflows} {a : CheckState} {t : ReadSoFar} {callers : List (Option ℕ)} →
+    Keeps b series a t → AreCallers b a.month callers →
+    Keeps b series (record a { callers = callers; has_callers = true }) t
+keeps_callers k known = assumption
+
+-- the room for sums may have any
+pub keeps_room : {b : Basin} {series : Inflows} {a : CheckState} {t : ReadSoFar} {into out_of : List ℕ} →
+    Keeps b series a t → length into ≡ length b.nodes → length out_of ≡ length b.nodes →
+    Keeps b series (record a { into = into; out_of = out_of }) t
+keeps_room k l h = assumption
+
+-- The next `called` line that is due, by the index that a check state keeps.
 
 -- the callers of some rights, and of those after them
 callers_split : (b : Basin) (m : MonthRecord) (xs : List ℕ) (k : ℕ) →

@@ -33,7 +33,7 @@ use Rattle.cert_check.specs.Checking.{callers_due, is_done, is_whole, verdict}
 use Rattle.cert_check.proofs.Callers.{called_line}
 use Rattle.cert_check.proofs.Follows.{follows_good}
 use Rattle.cert_check.proofs.Month.{At, begun, month_is, inner_lines, section_lines}
-use Rattle.cert_check.proofs.MonthGood.{inner_good}
+use Rattle.cert_check.proofs.GoodMonth.{inner_good}
 use Rattle.cert_check.proofs.Rows.{AreGood, good_both}
 use Rattle.cert_check.proofs.Spread.{onto}
 use Rattle.cert_check.proofs.Sections.{title_good, run_good, month_good, last_good}

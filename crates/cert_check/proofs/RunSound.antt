@@ -25,7 +25,7 @@ use Rattle.result_reader.specs.declared.shape.Shape.TheVariants as shape
 use Rattle.result_reader.proofs.WholeMonth.{IsAllRead, month_read}
 use Rattle.cert_check.specs.Checking.{callers_due, rows, is_done, is_whole}
 use Rattle.cert_check.specs.Laws.{YesGivesHistory}
-use Rattle.cert_check.proofs.GoodFollows.{good_follows}
+use Rattle.cert_check.proofs.Follows.{good_follows}
 use Rattle.cert_check.proofs.GoodMonth.{inner_is_good}
 use Rattle.cert_check.proofs.Inverts.{one_line}
 use Rattle.cert_check.proofs.Month.{At, begun, inner_lines, IsGoodMonth}

@@ -1,5 +1,6 @@
 //! Whether what comes into each node leaves it.
-ghost use Rattle.std.specs.Prelude.{if◌then◌else◌, ℕ, ◌≡◌, ◌+◌, ◌==◌, ◌^◌, ◌<◌, ◌≤◌, true, false, length, slice_index, slice_set};
+ghost use Rattle.std.specs.Prelude.{if◌then◌else◌, true, false, length, slice_index, slice_set};
+ghost use Rattle.std.specs.Prelude.{ℕ, ◌≡◌, ◌+◌, ◌==◌, ◌^◌, ◌<◌, ◌≤◌};
 ghost use Rattle.month_terms.specs.Terms.{FitsRecord};
 ghost use Rattle.water_model.specs.Basin.{taking_node};
 ghost use Rattle.water_model.specs.Plans.{inflow_to, outflow_from, taken_at};

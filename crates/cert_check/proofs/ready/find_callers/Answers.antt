@@ -1,4 +1,4 @@
-use Rattle.cert_check.proofs.Kept.{keeps_callers}
+use Rattle.cert_check.proofs.Dues.{keeps_callers}
 use Rattle.cert_check.proofs.ready.find_callers.Goals as goal
 
 pub returns-clause-keeps : goal.returns-clause-keeps

@@ -2,7 +2,7 @@ use Rattle.std.proofs.Common.{ap, ◌∙◌, arith, length}
 use Rattle.std.specs.Prelude.{slice_index}
 use Rattle.finite_sums.proofs.Totals.{term_le_total}
 use Rattle.cert_check.proofs.Bounded.{supplies_small}
-use Rattle.cert_check.proofs.Kept.{keeps_room}
+use Rattle.cert_check.proofs.Dues.{keeps_room}
 use Rattle.cert_check.proofs.ready.know_sums.Goals as goal
 
 pub make_sums-requires-clause-supply : goal.make_sums-requires-clause-supply

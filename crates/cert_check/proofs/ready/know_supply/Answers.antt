@@ -1,6 +1,6 @@
 use Rattle.std.proofs.Common.{arith}
 use Rattle.cert_check.proofs.Bounded.{node_small}
-use Rattle.cert_check.proofs.Kept.{keeps_supply}
+use Rattle.cert_check.proofs.Dues.{keeps_supply}
 use Rattle.cert_check.proofs.ready.know_supply.Goals as goal
 
 pub make_supply-requires-clause-small : goal.make_supply-requires-clause-small

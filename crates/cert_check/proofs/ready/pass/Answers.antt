@@ -1,6 +1,6 @@
 use Rattle.std.proofs.Common.{length, sym, ap, ◌∙◌, arith}
 use Rattle.water_model.proofs.Order.{length-by_seniority}
-use Rattle.cert_check.proofs.Kept.{keeps_passed}
+use Rattle.cert_check.proofs.Dues.{keeps_passed}
 use Rattle.cert_check.proofs.Missing.{lacks_read}
 use Rattle.cert_check.proofs.ready.pass.Goals as goal
 

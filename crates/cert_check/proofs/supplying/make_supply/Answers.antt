@@ -1,5 +1,5 @@
 use Rattle.std.proofs.Common.{◌∙◌, ap, length}
-use Rattle.cert_check.proofs.Supplies.{supply_is}
+use Rattle.cert_check.proofs.Bounded.{supply_is}
 use Rattle.water_model.proofs.Lists.{whole_rows}
 use Rattle.cert_check.proofs.supplying.make_supply.Goals as goal
 
