@@ -29,15 +29,15 @@ use Rattle.water_model.proofs.Lists.{prefix_partial}
 use Rattle.result_reader.specs.Records.{AreTextAmounts, HasTextAmounts, AreTextMonths}
 use Rattle.result_reader.proofs.Histories.{IsTextMonth-Follows}
 
-all_small : (xs : List ℕ) (n : ℕ) → length xs ≡ n → ((k : ℕ) → k < n → slice_index xs k ≤ 10 ^ 15) → AreTextAmounts xs
-all_small xs n len h = All-from_get_or (λ x. x ≤ 10 ^ 15) xs 0 (λ k l. h k (omega arith))
+all_small : (xs : List ℕ) {n : ℕ} → length xs ≡ n → ((k : ℕ) → k < n → slice_index xs k ≤ 10 ^ 15) → AreTextAmounts xs
+all_small xs len h = All-from_get_or (λ x. x ≤ 10 ^ 15) xs 0 (λ k l. h k (omega arith))
 
 -- Reservoirs.
 
-closing_small : (b : Basin) (series : Inflows) (before : List MonthRecord) (m : MonthRecord) → IsValidBasin b →
+closing_small : {b : Basin} {series : Inflows} {before : List MonthRecord} {m : MonthRecord} → IsValidBasin b →
     IsSeriesOf b series → Follows b series before m → (v : ℕ) → v < length b.reservoirs →
     slice_index m.closing v ≤ 10 ^ 15
-closing_small b series before m valid fits f v l =
+closing_small {b} {series} {before} {m} valid fits f v l =
     omega (
       arith,
       f.closing v l,
@@ -46,10 +46,10 @@ closing_small b series before m valid fits f v l =
           (λ r. slice_index m.plan.take r) (follows_small b series before m valid fits f).takes,
     )
 
-opening_small : (b : Basin) (series : Inflows) (before : List MonthRecord) → IsValidBasin b → IsSeriesOf b series →
-    IsPartialHistory b series before → (v : ℕ) → v < length b.reservoirs →
+opening_small : {b : Basin} {series : Inflows} {before : List MonthRecord} → IsValidBasin b → IsSeriesOf b series →
+    IsPartialHistory b series before → {v : ℕ} → v < length b.reservoirs →
     slice_index (opening_after b before) v ≤ 10 ^ 15
-opening_small b series before valid fits partial v l = by_last (slice_get before (length before - 1)) refl
+opening_small {b} {series} {before} valid fits partial {v} l = by_last (slice_get before (length before - 1)) refl
   where
     opens : Option MonthRecord → List ℕ
     opens o = unwrap_or (option_map (λ m. m.closing) o) (map (λ v. v.opening) b.reservoirs)
@@ -71,17 +71,14 @@ opening_small b series before valid fits partial v l = by_last (slice_get before
     by_last : (o : Option MonthRecord) → slice_get before (length before - 1) ≡ o →
         slice_index (opening_after b before) v ≤ 10 ^ 15
     by_last None e = rw (ap opens e) first
-    by_last (Some m) e =
-        rw (ap opens e)
-        (closing_small b series (take (length before - 1) before) m valid fits (partial.each (length before - 1) m e) v
-        l)
+    by_last (Some m) e = rw (ap opens e) (closing_small valid fits (partial.each (length before - 1) m e) v l)
 
 -- what a month supplies is small
 
-whole_supply : (b : Basin) (series : Inflows) (before : List MonthRecord) (m : MonthRecord) → IsValidBasin b →
+whole_supply : {b : Basin} {series : Inflows} {before : List MonthRecord} {m : MonthRecord} → IsValidBasin b →
     IsSeriesOf b series → IsPartialHistory b series before →
     Follows b series before m → total (length b.nodes) (λ n. slice_index m.supply n) ≤ 36 * 10 ^ 12
-whole_supply b series before m valid fits partial f =
+whole_supply {b} {series} {before} {m} valid fits partial f =
     let small = supply_small b series before m.evaporated m.index valid fits partial in
     let same = total_same (length b.nodes) (λ n. slice_index m.supply n)
     (λ n. inflow_at b series n m.index + returned_at b (map (λ k. k.delivered) before) n m.index + stored_at b
@@ -89,30 +86,27 @@ whole_supply b series before m valid fits partial f =
     (λ n l. f.after.supply n l ∙ rw (f.after.returned n l, f.opening) refl) in
     omega (arith, small, same)
 
-pub history_amounts : (b : Basin) (series : Inflows) (before : List MonthRecord) (m : MonthRecord) → IsValidBasin b →
+pub history_amounts : {b : Basin} {series : Inflows} {before : List MonthRecord} {m : MonthRecord} → IsValidBasin b →
     IsSeriesOf b series → IsPartialHistory b series before →
     length before < b.months → Follows b series before m → HasTextAmounts m
-history_amounts b series before m valid fits partial left f = record {
+history_amounts {b} {series} {before} {m} valid fits partial left f = record {
   listed = listed;
-  delivered = all_small m.delivered (length b.rights) f.after.fits.delivered
+  delivered = all_small m.delivered f.after.fits.delivered
       (λ r l. omega (arith, (follows_small b series before m valid fits f).delivered r));
-  want = all_small m.want (length b.rights) f.after.fits.want (λ r l. omega (arith, wanted r l));
+  want = all_small m.want f.after.fits.want (λ r l. omega (arith, wanted r l));
 }
   where
     month : IsMonth m.month
     month = subst IsMonth (sym f.after.month) (IsMonth-run_month b m.index valid.run (omega (arith, f.after.index)))
 
     opening : (v : ℕ) → v < length b.reservoirs → slice_index m.opening v ≤ 10 ^ 15
-    opening v l = rw (f.opening) (opening_small b series before valid fits partial v l)
+    opening v l = rw (f.opening) (opening_small valid fits partial l)
 
     evaporated : (v : ℕ) → v < length b.reservoirs → slice_index m.evaporated v ≤ 10 ^ 15
     evaporated v l =
         let entry = entry_at b.reservoirs v l in
         let is : slice_index m.evaporated v ≡ evaporation entry.0.area (slice_index m.opening v)
-        (slice_index entry.0.rate (in_year b m.index)) =
-        f.after.evaporated v l
-        ∙ ap (λ o. unwrap_or
-        (option_map
+        (slice_index entry.0.rate (in_year b m.index)) = f.after.evaporated v l ∙ ap (λ o. unwrap_or (option_map
         (λ (r : reservoir.Reservoir). evaporation r.area (slice_index m.opening v)
         (slice_index r.rate (in_year b m.index))) o) 0) entry.1 in
         omega (arith, is, opening v l)
@@ -121,16 +115,16 @@ history_amounts b series before m valid fits partial left f = record {
     wanted r l = rw (f.after.want r l) (want_most b series r m.index (slice_index m.used r) valid fits l)
 
     listed : (q : Quantity) → AreTextAmounts (amounts_of q m)
-    listed quantity.Opening = all_small m.opening (length b.reservoirs) f.after.fits.opening opening
-    listed quantity.Evaporated = all_small m.evaporated (length b.reservoirs) f.after.fits.evaporated evaporated
-    listed quantity.Returned = all_small m.returned (length b.nodes) f.after.fits.returned (λ n l. omega (
+    listed quantity.Opening = all_small m.opening f.after.fits.opening opening
+    listed quantity.Evaporated = all_small m.evaporated f.after.fits.evaporated evaporated
+    listed quantity.Returned = all_small m.returned f.after.fits.returned (λ n l. omega (
       arith,
       f.after.returned n l,
       term_le_total (length b.nodes) (λ n. returned_at b (map (λ k. k.delivered) before) n m.index) n l,
       returns_small b (map (λ k. k.delivered) before) m.index valid
           (deliveries_small b series before valid fits partial),
     ))
-    listed quantity.Used = all_small m.used (length b.rights) f.after.fits.used
+    listed quantity.Used = all_small m.used f.after.fits.used
         (λ r l. omega (
           arith,
           f.after.used r l,
@@ -139,25 +133,24 @@ history_amounts b series before m valid fits partial left f = record {
           f.after.index,
           valid.run.months.1,
         ))
-    listed quantity.Flow = all_small m.plan.flow (length b.links) f.after.plan.flow_len
+    listed quantity.Flow = all_small m.plan.flow f.after.plan.flow_len
         (λ e l. omega (arith, f.after.plan.carries e l, carry_most b m.month e valid month l))
-    listed quantity.Outflow = all_small m.plan.out (length b.nodes) f.after.plan.out_len (λ n l. omega (
+    listed quantity.Outflow = all_small m.plan.out f.after.plan.out_len (λ n l. omega (
       arith,
       term_le_total (length b.nodes) (λ n. slice_index m.plan.out n) n l,
       plan_balance b m.month m.supply m.want m.plan valid f.after.plan,
-      whole_supply b series before m valid fits partial f,
+      whole_supply valid fits partial f,
     ))
-    listed quantity.Closing = all_small m.closing (length b.reservoirs) f.after.fits.closing
-        (closing_small b series before m valid fits f)
+    listed quantity.Closing = all_small m.closing f.after.fits.closing (closing_small valid fits f)
 
 -- the records of a history are such as a text gives
-pub history_texts : (b : Basin) (series : Inflows) (records : List MonthRecord) → IsValidBasin b → IsSeriesOf b series →
+pub history_texts : {b : Basin} {series : Inflows} {records : List MonthRecord} → IsValidBasin b → IsSeriesOf b series →
     IsPartialHistory b series records → AreTextMonths b series records
-history_texts b series records valid fits h = record {
+history_texts {b} {series} {records} valid fits h = record {
   within = h.within;
   each = λ i m e. (let f = h.each i m e in
       IsTextMonth-Follows b series (take i records) m f
-      (history_amounts b series (take i records) m valid fits (prefix_partial b series records i h) (left i m e) f));
+      (history_amounts valid fits (prefix_partial b series records i h) (left i m e) f));
 }
   where
     shorter : {X : Type 0} (xs : List X) (i : ℕ) (x : X) → slice_get xs i ≡ Some x → length (take i xs) < length xs

@@ -43,9 +43,9 @@ use Rattle.cert_check.proofs.Verdicts.{read_more}
 pub ended-append : (xs ys : List Item) → ended_months (xs ++ ys) ≡ ended_months xs + ended_months ys
 ended-append xs ys = sum_by-append (λ x. cond (is_end x) 1 0) xs ys
 
-call_line_on : (items more : List Item) (month right number : ℕ) → IsCallLine items month right number →
+call_line_on : {items : List Item} (more : List Item) {month right number : ℕ} → IsCallLine items month right number →
     IsCallLine (items ++ more) month right number
-call_line_on items more month right number c =
+call_line_on {items} more {month} {right} c =
     let within = slice_get_within items c.position (line.Call right) c.at in
     record {
       position = c.position;
@@ -54,9 +54,9 @@ call_line_on items more month right number c =
       counted = c.counted;
     }
 
-first_on : (b : Basin) (months later : List MonthRecord) (items more : List Item) (number : ℕ) →
-    IsFirstOtherLine b months items number → IsFirstOtherLine b (months ++ later) (items ++ more) number
-first_on b months later items more number f =
+first_on : {b : Basin} {months : List MonthRecord} (later : List MonthRecord) {items : List Item} (more : List Item)
+    {number : ℕ} → IsFirstOtherLine b months items number → IsFirstOtherLine b (months ++ later) (items ++ more) number
+first_on {b} {months} later more f =
     let within = slice_get_within months f.month f.outcome f.is in
     record {
       month = f.month;
@@ -65,7 +65,7 @@ first_on b months later items more number f =
       right = f.right;
       other = f.other;
       before = subst (HaveReaches b) (sym (take-append-le f.month months later (omega (arith, within)))) f.before;
-      call = call_line_on items more f.month f.right number f.call;
+      call = call_line_on more f.call;
     }
 
 found_on : (b : Basin) (months : List MonthRecord) (items more : List Item) (o : Option ℕ) → IsFound b months items o →
@@ -73,7 +73,7 @@ found_on : (b : Basin) (months : List MonthRecord) (items more : List Item) (o :
 found_on b months items more None h = h
 found_on b months items more (Some number) h =
     subst (λ (ms : List MonthRecord). IsFirstOtherLine b ms (items ++ more) number) (append-nil months)
-    (first_on b months [] items more number h)
+    (first_on [] more h)
 
 -- A right without a set has none with a line more that is not its `call`.
 
@@ -81,9 +81,9 @@ never_some : {X : Type 0} {Y : Type 0} (o : Option X) → o ≡ None → IsSome 
 never_some None e h = cc
 never_some (Some x) e h = cc
 
-kept_free : (b : Basin) (series : Inflows) (a : CheckState) (t : ReadSoFar) → Keeps b series a t → (r : ℕ) →
+kept_free : {b : Basin} {series : Inflows} {a : CheckState} {t : ReadSoFar} → Keeps b series a t → {r : ℕ} →
     cut_of t.now r ≡ None → IsFree r t
-kept_free b series a t k r none = record {
+kept_free {b} {series} {a} {t} k {r} none = record {
   none = none;
   other = λ e. never_some (set_of a.month.cuts r)
       (ap (λ (sets : List (Option (List Bool))). of_entry sets r (λ s. s) None) k.month.shows.sets ∙ none)
@@ -91,9 +91,10 @@ kept_free b series a t k r none = record {
 }
 
 -- where none becomes none, some was some before
-some_before : (now later : Option (List Bool)) → (now ≡ None → later ≡ None) → IsSome later → IsSome now
-some_before None later h some = never_some later (h refl) some
-some_before (Some set) later h some = refl
+some_before : (now : Option (List Bool)) {later : Option (List Bool)} → (now ≡ None → later ≡ None) → IsSome later →
+    IsSome now
+some_before None {later} h some = never_some later (h refl) some
+some_before (Some set) h some = refl
 
 -- a line that is no `call`, and begins and ends no month
 record IsCalm (t u : ReadSoFar) (item : Item) : Type 0 where
@@ -102,25 +103,24 @@ record IsCalm (t u : ReadSoFar) (item : Item) : Type 0 where
   sets : (r : ℕ) → cut_of t.now r ≡ None → cut_of u.now r ≡ None
   no_end : is_end item ≡ false
 
-calm_more : (b : Basin) (t u : ReadSoFar) (items : List Item) (item : Item) (a : Audit) → IsCalm t u item →
+calm_more : {b : Basin} {t u : ReadSoFar} {items : List Item} {item : Item} {a : Audit} → IsCalm t u item →
     IsAuditOf b t items a → IsAuditOf b u (items ++ item ∷ []) a
-calm_more b t u items item a calm h = record {
+calm_more {b} {t} {u} {items} {item} {a} calm h = record {
   memory = h.memory;
   months = ended-append items (item ∷ []) ∙ (rw calm.no_end (omega (arith, h.months, ap length calm.months)));
   lines = λ index r some. subst (λ (n : ℕ). IsCallLine (items ++ item ∷ []) n r (slice_index a.call_lines r))
-      (ap length (sym calm.months))
-      (call_line_on items (item ∷ []) (length t.months) r (slice_index a.call_lines r)
+      (ap length (sym calm.months)) (call_line_on (item ∷ [])
       (h.lines (sym calm.index ∙ (index ∙ ap length calm.months)) r
-      (some_before (cut_of t.now r) (cut_of u.now r) (calm.sets r) some)));
+      (some_before (cut_of t.now r) (calm.sets r) some)));
   found = subst (λ (ms : List MonthRecord). IsFound b ms (items ++ item ∷ []) a.other) (sym calm.months)
       (found_on b t.months items (item ∷ []) a.other h.found);
 }
 
 -- a `month` line
-begun_more : (b : Basin) (series : Inflows) (t : ReadSoFar) (items : List Item) (a : Audit)
-    (u : ReadSoFar) (item : Item) → u.months ≡ t.months → is_end item ≡ false → ((r : ℕ) → cut_of u.now r ≡ None) →
+begun_more : {b : Basin} (series : Inflows) {t : ReadSoFar} {items : List Item} {a : Audit}
+    {u : ReadSoFar} (item : Item) → u.months ≡ t.months → is_end item ≡ false → ((r : ℕ) → cut_of u.now r ≡ None) →
     IsAuditOf b t items a → IsAuditOf b u (items ++ item ∷ []) a
-begun_more b series t items a u item months no_end none h = record {
+begun_more {b} series {t} {items} {a} {u} item months no_end none h = record {
   memory = h.memory;
   months = ended-append items (item ∷ []) ∙ (rw no_end (omega (arith, h.months, ap length months)));
   lines = λ index r some. never_some (cut_of u.now r) (none r) some;
@@ -129,12 +129,11 @@ begun_more b series t items a u item months no_end none h = record {
 }
 
 -- a `call` line
-call_more : (b : Basin) (series : Inflows) (t : ReadSoFar) (items : List Item) (x : ℕ) (a : Audit) →
-    x < length b.rights →
-    IsAuditOf b t items a →
+call_more : {b : Basin} (series : Inflows) {t : ReadSoFar} {items : List Item} {x : ℕ} {a : Audit} →
+    x < length b.rights → IsAuditOf b t items a →
     IsAuditOf b (read_item b series t (line.Call x)) (items ++ line.Call x ∷ [])
     (record a { call_lines = slice_set a.call_lines x (length items + 1) })
-call_more b series t items x a l h = record {
+call_more {b} series {t} {items} {x} {a} l h = record {
   memory = record {
     search = h.memory.search;
     lines = length-set a.call_lines x (length items + 1) ∙ h.memory.lines;
@@ -147,8 +146,7 @@ call_more b series t items x a l h = record {
         (subst (λ (s : ℕ). IsCallLine (items ++ line.Call x ∷ []) (length t.months) s (length items + 1)) (sym same)
         own)
     | inr other ↦ subst (λ (n : ℕ). IsCallLine (items ++ line.Call x ∷ []) (length t.months) r n)
-        (sym (get_or-set_other a.call_lines x r (length items + 1) 0 other))
-        (call_line_on items (line.Call x ∷ []) (length t.months) r (slice_index a.call_lines r)
+        (sym (get_or-set_other a.call_lines x r (length items + 1) 0 other)) (call_line_on (line.Call x ∷ [])
         (h.lines index r (rw (set_of_other t.now.cuts x r (Some (replicate (length b.nodes) false)) other) at some)))
   ];
   found = found_on b t.months items (line.Call x ∷ []) a.other h.found;
@@ -164,9 +162,9 @@ call_more b series t items x a l h = record {
 
 -- An `end` line.
 
-has_reaches : (b : Basin) (series : Inflows) (before : List MonthRecord) (m : MonthRecord) → Follows b series before m →
+has_reaches : {b : Basin} {series : Inflows} {before : List MonthRecord} {m : MonthRecord} → Follows b series before m →
     IsFirstOther b m None → HasReaches b m
-has_reaches b series before m f none = record {
+has_reaches {b} {series} {before} {m} f none = record {
   short = λ r l short. (let cut = f.short r l short in (
     cut.0,
     cut.1,
@@ -176,18 +174,18 @@ has_reaches b series before m f none = record {
   met = f.met;
 }
 
-reaches_more : (b : Basin) (months : List MonthRecord) (m : MonthRecord) → HaveReaches b months → HasReaches b m →
+reaches_more : {b : Basin} (months : List MonthRecord) {m : MonthRecord} → HaveReaches b months → HasReaches b m →
     HaveReaches b (months ++ m ∷ [])
-reaches_more b months m h own i k e = elim (at_end months m k i e) [
+reaches_more {b} months {m} h own i k e = elim (at_end months m k i e) [
   | inl before ↦ h i k before
   | inr last ↦ subst (HasReaches b) last.1 own
 ]
 
-first_here : (b : Basin) (series : Inflows) (t : ReadSoFar) (items : List Item) (lines : List ℕ) (r : ℕ) →
+first_here : {b : Basin} {series : Inflows} (t : ReadSoFar) {items : List Item} (lines : List ℕ) {r : ℕ} →
     t.now.index ≡ length t.months → HasCallLines t items lines → HaveReaches b t.months → MonthFollows b series t →
     IsFirstOther b (with_supply b series t.now) (Some r) →
     IsFirstOtherLine b (t.months ++ with_supply b series t.now ∷ []) (items ++ line.End ∷ []) (slice_index lines r)
-first_here b series t items lines r index has reaches follows first =
+first_here {b} {series} t {items} lines {r} index has reaches follows first =
     let cut = follows.short r first.0 first.1 in
     record {
       month = length t.months;
@@ -196,7 +194,7 @@ first_here b series t items lines r index has reaches follows first =
       right = r;
       other = first;
       before = subst (HaveReaches b) (sym (take-append_seam t.months (with_supply b series t.now ∷ []))) reaches;
-      call = call_line_on items (line.End ∷ []) (length t.months) r (slice_index lines r)
+      call = call_line_on (line.End ∷ [])
           (has index r (some_of (cut_of t.now r) cut.0 cut.1));
     }
   where
@@ -204,25 +202,24 @@ first_here b series t items lines r index has reaches follows first =
     some_of None set e = cc
     some_of (Some s) set e = refl
 
-end_found : (b : Basin) (series : Inflows) (t : ReadSoFar) (items : List Item) (lines : List ℕ) (old new : Option ℕ) →
+end_found : {b : Basin} (series : Inflows) (t : ReadSoFar) (items : List Item) (lines : List ℕ) (old new : Option ℕ) →
     t.now.index ≡ length t.months → HasCallLines t items lines → IsFound b t.months items old →
     MonthFollows b series t → IsAsked b (with_supply b series t.now) lines old new →
     IsFound b (t.months ++ with_supply b series t.now ∷ []) (items ++ line.End ∷ []) new
-end_found b series t items lines (Some number) new index has found follows asked =
+end_found {b} series t items lines (Some number) new index has found follows asked =
     subst (IsFound b (t.months ++ with_supply b series t.now ∷ []) (items ++ line.End ∷ [])) (sym asked)
-    (first_on b t.months (with_supply b series t.now ∷ []) items (line.End ∷ []) number found)
-end_found b series t items lines None new index has found follows (None, first, is) =
+    (first_on (with_supply b series t.now ∷ []) (line.End ∷ []) found)
+end_found {b} series t items lines None new index has found follows (None, first, is) =
     subst (IsFound b (t.months ++ with_supply b series t.now ∷ []) (items ++ line.End ∷ [])) (sym is)
-    (reaches_more b t.months (with_supply b series t.now) found
-    (has_reaches b series t.months (with_supply b series t.now) follows first))
-end_found b series t items lines None new index has found follows (Some r, first, is) =
+    (reaches_more t.months found (has_reaches follows first))
+end_found {b} series t items lines None new index has found follows (Some r, first, is) =
     subst (IsFound b (t.months ++ with_supply b series t.now ∷ []) (items ++ line.End ∷ [])) (sym is)
-    (first_here b series t items lines r index has found follows first)
+    (first_here t lines index has found follows first)
 
-end_more : (b : Basin) (series : Inflows) (t : ReadSoFar) (items : List Item) (old new : Audit) →
+end_more : {b : Basin} {series : Inflows} {t : ReadSoFar} {items : List Item} {old new : Audit} →
     t.now.index ≡ length t.months → MonthFollows b series t → AsksMonth b (with_supply b series t.now) old new →
     IsAuditOf b t items old → IsAuditOf b (read_item b series t line.End) (items ++ line.End ∷ []) new
-end_more b series t items old new index follows asks h = record {
+end_more {b} {series} {t} {items} {old} {new} index follows asks h = record {
   memory = record {
     search = subst (IsSearchOf b) (sym asks.search) h.memory.search;
     lines = ap length asks.lines ∙ h.memory.lines;
@@ -231,7 +228,7 @@ end_more b series t items old new index follows asks h = record {
       ∙ omega (arith, h.months, length-append t.months (with_supply b series t.now ∷ []));
   lines = λ later r some. absurd
       (omega (arith, later, index, length-append t.months (with_supply b series t.now ∷ [])));
-  found = end_found b series t items old.call_lines old.other new.other index h.lines h.found follows asks.other;
+  found = end_found series t items old.call_lines old.other new.other index h.lines h.found follows asks.other;
 }
 
 -- Any line.
@@ -251,76 +248,67 @@ member_calm : (t : ReadSoFar) (o : Option ℕ) (n : ℕ) → ((with_member t o n
 member_calm t None n = (refl, refl)
 member_calm t (Some right) n = (refl, refl)
 
-pub audit_more : (b : Basin) (series : Inflows) (a : CheckState) (t : ReadSoFar) (items : List Item) (item : Item)
-    (old new : Audit) → IsOfBasin b item → Keeps b series a t → MayCome b series t item → IsAuditOf b t items old →
+pub audit_more : {b : Basin} {series : Inflows} {a : CheckState} {t : ReadSoFar} {items : List Item} (item : Item)
+    {old new : Audit} → IsOfBasin b item → Keeps b series a t → MayCome b series t item → IsAuditOf b t items old →
     (item ≡ line.End → MonthFollows b series t) → TakesAudit b series t item (length items + 1) old new →
     IsAuditOf b (read_item b series t item) (items ++ item ∷ []) new
-audit_more b series a t items line.Title old new own k comes h ends takes =
-    subst (IsAuditOf b t (items ++ line.Title ∷ [])) (sym takes)
-    (calm_more b t t items line.Title old
+audit_more {b} {series} {a} {t} {items} line.Title own k comes h ends takes =
+    subst (IsAuditOf b t (items ++ line.Title ∷ [])) (sym takes) (calm_more
     (record { months = refl; index = refl; sets = λ r none. none; no_end = refl }) h)
-audit_more b series a t items (line.Run first months) old new own k comes h ends takes =
-    subst (IsAuditOf b t (items ++ line.Run first months ∷ [])) (sym takes)
-    (calm_more b t t items (line.Run first months) old
+audit_more {b} {series} {a} {t} {items} (line.Run first months) own k comes h ends takes =
+    subst (IsAuditOf b t (items ++ line.Run first months ∷ [])) (sym takes) (calm_more
     (record { months = refl; index = refl; sets = λ r none. none; no_end = refl }) h)
-audit_more b series a t items (line.Month month) old new own k comes h ends takes =
+audit_more {b} {series} {a} {t} {items} (line.Month month) own k comes h ends takes =
     subst (IsAuditOf b (read_item b series t (line.Month month)) (items ++ line.Month month ∷ [])) (sym takes)
-    (begun_more b series t items old (read_item b series t (line.Month month)) (line.Month month) refl refl
-    (λ r. no_sets (length b.rights) r) h)
-audit_more b series a t items (line.Amount q entry amount) old new own k comes h ends takes =
+    (begun_more series (line.Month month) refl refl (λ r. no_sets (length b.rights) r) h)
+audit_more {b} {series} {a} {t} {items} (line.Amount q entry amount) own k comes h ends takes =
     subst (IsAuditOf b (read_item b series t (line.Amount q entry amount)) (items ++ line.Amount q entry amount ∷ []))
     (sym takes)
-    (calm_more b t (read_item b series t (line.Amount q entry amount)) items (line.Amount q entry amount) old (record {
+    (calm_more (record {
       months = refl;
       index = calm_amount b series t q entry amount;
-      sets = λ r none. (free b series r (line.Amount q entry amount ∷ []) t refl
-          (kept_free b series a t k r none)).none;
+      sets = λ r none. (free b series (line.Amount q entry amount ∷ []) refl
+          (kept_free k none)).none;
       no_end = refl;
     }) h)
-audit_more b series a t items (line.Deliver r amount want) old new own k comes h ends takes =
+audit_more {b} {series} {a} {t} {items} (line.Deliver r amount want) own k comes h ends takes =
     subst (IsAuditOf b (read_item b series t (line.Deliver r amount want)) (items ++ line.Deliver r amount want ∷ []))
-    (sym takes)
-    (calm_more b t (read_item b series t (line.Deliver r amount want)) items (line.Deliver r amount want) old
-    (record { months = refl; index = refl; sets = λ s none. none; no_end = refl }) h)
-audit_more b series a t items (line.Call x) old new own k comes h ends takes =
+    (sym takes) (calm_more (record { months = refl; index = refl; sets = λ s none. none; no_end = refl }) h)
+audit_more {b} {series} {a} {t} {items} (line.Call x) own k comes h ends takes =
     subst (IsAuditOf b (read_item b series t (line.Call x)) (items ++ line.Call x ∷ [])) (sym takes)
-    (call_more b series t items x old own h)
-audit_more b series a t items (line.Member n) old new own k comes h ends takes =
+    (call_more series own h)
+audit_more {b} {series} {a} {t} {items} (line.Member n) own k comes h ends takes =
     let calm = member_calm t t.calling n in
     subst (IsAuditOf b (read_item b series t (line.Member n)) (items ++ line.Member n ∷ [])) (sym takes)
-    (calm_more b t (read_item b series t (line.Member n)) items (line.Member n) old (record {
+    (calm_more (record {
       months = calm.0;
       index = calm.1;
-      sets = λ r none. (free b series r (line.Member n ∷ []) t refl (kept_free b series a t k r none)).none;
+      sets = λ r none. (free b series (line.Member n ∷ []) refl (kept_free k none)).none;
       no_end = refl;
     }) h)
-audit_more b series a t items (line.Called r caller) old new own k comes h ends takes =
+audit_more {b} {series} {a} {t} {items} (line.Called r caller) own k comes h ends takes =
     subst (IsAuditOf b (read_item b series t (line.Called r caller)) (items ++ line.Called r caller ∷ [])) (sym takes)
-    (calm_more b t (read_item b series t (line.Called r caller)) items (line.Called r caller) old
-    (record { months = refl; index = refl; sets = λ s none. none; no_end = refl }) h)
-audit_more b series a t items line.End old new own k comes h ends takes =
-    end_more b series t items old new (comes.inner refl).index (ends refl) (takes (ends refl)) h
-audit_more b series a t items (line.Done months) old new own k comes h ends takes =
-    subst (IsAuditOf b t (items ++ line.Done months ∷ [])) (sym takes)
-    (calm_more b t t items (line.Done months) old
+    (calm_more (record { months = refl; index = refl; sets = λ s none. none; no_end = refl }) h)
+audit_more line.End own k comes h ends takes = end_more (comes.inner refl).index (ends refl) (takes (ends refl)) h
+audit_more {b} {series} {a} {t} {items} (line.Done months) own k comes h ends takes =
+    subst (IsAuditOf b t (items ++ line.Done months ∷ [])) (sym takes) (calm_more
     (record { months = refl; index = refl; sets = λ r none. none; no_end = refl }) h)
 
 -- a line that was read, where no row holds of it
-pub audit_taken : (b : Basin) (series : Inflows) (k : CheckProgress) (items : List Item) (item : Item)
-    (old new : Audit) →
-    IsOfBasin b item → IsRead b series k items item → first_row b series (read_so_far b series items) item ≡ None →
+pub audit_taken : {b : Basin} {series : Inflows} {k : CheckProgress} {items : List Item} {item : Item} {old new : Audit}
+    → IsOfBasin b item → IsRead b series k items item → first_row b series (read_so_far b series items) item ≡ None →
     k.audit ≡ Some old → TakesAudit b series (read_so_far b series items) item (k.read + 1) old new →
     IsAuditOf b (read_so_far b series (items ++ item ∷ [])) (items ++ item ∷ []) new
-audit_taken b series k items item old new own so_far none is takes =
+audit_taken {b} {series} {k} {items} {item} {old} {new} own so_far none is takes =
     subst (λ (t : ReadSoFar). IsAuditOf b t (items ++ item ∷ []) new) (sym (read_more b series items item))
-    (audit_more b series k.state.value (read_so_far b series items) items item old new own so_far.state so_far.comes
+    (audit_more item own so_far.state so_far.comes
     (subst (IsAuditIfAny b (read_so_far b series items) items) is so_far.audit) (λ end. so_far.ends end none)
     (subst (λ (n : ℕ). TakesAudit b series (read_so_far b series items) item (n + 1) old new) so_far.counts.read takes))
 
 -- An audit of no line.
 
-pub nothing_audited : (b : Basin) (a : Audit) → HasMemory b a → a.other ≡ None → IsAuditOf b (nothing_read b) [] a
-nothing_audited b a memory none = record {
+pub nothing_audited : {b : Basin} {a : Audit} → HasMemory b a → a.other ≡ None → IsAuditOf b (nothing_read b) [] a
+nothing_audited {b} memory none = record {
   memory = memory;
   months = refl;
   lines = λ index r some. never_some (cut_of (nothing_read b).now r) (no_sets (length b.rights) r) some;

@@ -1,4 +1,5 @@
 -- What a checker begins with.
+use Rattle.std.proofs.Math.Bool.{and-true}
 use Rattle.std.proofs.Common.{◌≡◌, ℕ, ◌+◌, ◌≤◌, Bool, true, false, refl, ap, ◌∙◌, arith, [], ◌∷◌, filter}
 use Rattle.std.proofs.Common.{add-one, zero-add}
 use Rattle.std.specs.Prelude.{◌&&◌, nat_le, if◌then◌else◌}
@@ -30,10 +31,10 @@ no_outlet p n = least n
     least : (n : ℕ) → true ≡ nat_le 0 n
     least n = grind (arith, nat_tests)
 
-pub last_more : (p : ℕ → Bool) (k last n : ℕ) → last ≤ k →
+pub last_more : (p : ℕ → Bool) {k last : ℕ} (n : ℕ) → last ≤ k →
     list_all (λ other. nat_le other n) (filter p (numbers_from 0 k)) ≡ nat_le last n →
     list_all (λ other. nat_le other n) (filter p (numbers_from 0 (k + 1))) ≡ nat_le (if p k then k else last) n
-last_more p k last n most h =
+last_more p {k} {last} n most h =
     rw add-one (ap (λ xs. list_all (λ other. nat_le other n) (filter p xs)) (numbers_more 0 k)
     ∙ (ap (list_all (λ other. nat_le other n)) (filter-append p (numbers_from 0 k) ((0 + k) ∷ []))
     ∙ (list_all-append (λ other. nat_le other n) (filter p (numbers_from 0 k)) (filter p ((0 + k) ∷ []))
@@ -42,36 +43,30 @@ last_more p k last n most h =
     both : (x y n : ℕ) → x ≤ y → nat_le x n && (nat_le y n && true) ≡ nat_le y n
     both x y n l = grind (arith, nat_tests)
 
-    alone : (q : Bool) → q && true ≡ q
-    alone true = refl
-    alone false = refl
-
     by_test : (t : Bool) →
         list_all (λ other. nat_le other n) (filter p (numbers_from 0 k)) && list_all (λ other. nat_le other n)
         (if t then k ∷ [] else []) ≡ nat_le (if t then k else last) n
     by_test true = ap (λ q. q && (nat_le k n && true)) h ∙ both last k n most
-    by_test false = alone (list_all (λ other. nat_le other n) (filter p (numbers_from 0 k))) ∙ h
+    by_test false = and-true (list_all (λ other. nat_le other n) (filter p (numbers_from 0 k))) ∙ h
 
-pub most_more : (t : Bool) (k last : ℕ) → last ≤ k → (if t then k else last) ≤ k + 1
-most_more true k last l = omega arith
-most_more false k last l = omega arith
+pub most_more : (t : Bool) {k last : ℕ} → last ≤ k → (if t then k else last) ≤ k + 1
+most_more true l = omega arith
+most_more false l = omega arith
 
 -- A check state of nothing.
 
-pub blank_is : (b : Basin) → IsValidBasin b → IsBlank b (blank_month b 0 b.first)
-blank_is b valid = record {
+pub blank_is : {b : Basin} → IsValidBasin b → IsBlank b (blank_month b 0 b.first)
+blank_is {b} valid = record {
   fits = blank_fits b 0 b.first;
   calendar = valid.run.first;
   shows = assumption (refl);
 }
 
 -- check progress of no line
-pub first_book : (b : Basin) (series : Inflows) (k : CheckProgress) → k.reader.basin ≡ b →
-    reader.ReaderStandsFor k.reader [] →
-    Keeps b series k.state.value (nothing_read b) →
-    k.read ≡ 0 → k.last_other ≡ 0 → k.ended ≡ false → IsAuditIfAny b (nothing_read b) [] k.audit →
-    IsProgressOf b series k []
-first_book b series k basin stands state read last ended audit = record {
+pub first_book : {b : Basin} {series : Inflows} {k : CheckProgress} → k.reader.basin ≡ b →
+    reader.ReaderStandsFor k.reader [] → Keeps b series k.state.value (nothing_read b) → k.read ≡ 0 → k.last_other ≡ 0 →
+    k.ended ≡ false → IsAuditIfAny b (nothing_read b) [] k.audit → IsProgressOf b series k []
+first_book basin stands state read last ended audit = record {
   items = [];
   verdict = refl;
   basin = basin;

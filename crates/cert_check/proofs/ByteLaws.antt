@@ -32,14 +32,13 @@ AreOfHistory b series bytes = (records : List MonthRecord) × IsHistory b series
 
 -- The text of a history is accepted.
 
-accepted : (b : Basin) (series : Inflows) (bytes : List ℕ) → IsValidBasin b → IsSeriesOf b series →
+accepted : {b : Basin} {series : Inflows} {bytes : List ℕ} → IsValidBasin b → IsSeriesOf b series →
     AreOfHistory b series bytes → IsOk (text_verdict b series bytes)
-accepted b series bytes valid fits h =
+accepted {b} {series} {bytes} valid fits h =
     let items = items_of b h.0 in
     let pieces : pieces_of bytes ≡ map (line_of b) items ++ [] ∷ [] =
-    ap pieces_of h.2
-    ∙ lines_of_bytes b valid items
-    (records_of_text b series h.0 valid (history_texts b series h.0 valid fits h.1.partial)) in
+    ap pieces_of h.2 ∙ lines_of_bytes b valid items
+    (records_of_text b series h.0 valid (history_texts valid fits h.1.partial)) in
     ap is_ok (ap (λ ps. verdict b series (lines_of_pieces ps) (rest_of_pieces ps)) pieces
     ∙ (short_rest b series (map (line_of b) items) [] (omega arith) ∙ histories_give_yes b series h.0 valid fits h.1))
 
@@ -50,24 +49,22 @@ joined : (b : Basin) (items : List Item) →
     join_with_byte 10 (map (line_of b) items ++ [] ∷ []) ≡ flat_map (whole_line b) items
 joined b [] = refl
 joined b (i ∷ []) = sym (append-nil (line_of b i ++ 10 ∷ []))
-joined b (i ∷ j ∷ items) =
-    ap (λ bytes. line_of b i ++ 10 ∷ bytes) (joined b (j ∷ items))
+joined b (i ∷ j ∷ items) = ap (λ bytes. line_of b i ++ 10 ∷ bytes) (joined b (j ∷ items))
     ∙ sym (append_assoc (line_of b i) (10 ∷ []) (flat_map (whole_line b) (j ∷ items)))
 
 -- bytes are the text of the lines that they are cut to
-pub spelled_text : (b : Basin) (bytes : List ℕ) (items : List Item) →
+pub spelled_text : (b : Basin) {bytes : List ℕ} (items : List Item) →
     pieces_of bytes ≡ map (line_of b) items ++ [] ∷ [] → bytes ≡ flat_map (whole_line b) items
-spelled_text b bytes items pieces =
+spelled_text b {bytes} items pieces =
     sym (join_with_byte-slice_split 10 bytes) ∙ (ap (join_with_byte 10) pieces ∙ joined b items)
 
 -- the last line of a text is short
-last_short : (b : Basin) (records : List MonthRecord) → IsValidBasin b →
+last_short : {b : Basin} (records : List MonthRecord) → IsValidBasin b →
     length (after_last (map (line_of b) (items_of b records))) ≤ 128
-last_short b records valid =
+last_short {b} records valid =
     let same : length (after_last (map (line_of b) (items_of b records))) ≡ length (line_of b (line.Done b.months)) =
     ap (λ ls. length (after_last ls))
-    (map-append (items_of_head b ++ flat_map (items_of_month b) records) (line.Done b.months))
-    ∙ ap length
+    (map-append (items_of_head b ++ flat_map (items_of_month b) records) (line.Done b.months)) ∙ ap length
     (after_last-end (map (line_of b) (items_of_head b ++ flat_map (items_of_month b) records))
     (line_of b (line.Done b.months))) in
     omega (arith, line_short b valid (line.Done b.months) (record { of_basin = tt; numbers = valid.run.months }))
@@ -95,9 +92,9 @@ some_end : (pieces : List (List ℕ)) → 0 < length pieces → HasEnd pieces
 some_end [] h = absurd (omega arith)
 some_end (piece ∷ pieces) h = end_of piece pieces
 
-of_history : (b : Basin) (series : Inflows) (bytes : List ℕ) → IsValidBasin b → IsOk (text_verdict b series bytes) →
+of_history : {b : Basin} {series : Inflows} {bytes : List ℕ} → IsValidBasin b → IsOk (text_verdict b series bytes) →
     AreOfHistory b series bytes
-of_history b series bytes valid h =
+of_history {b} {series} {bytes} valid h =
     by_rest (some_end (pieces_of bytes) (omega (arith, length-slice_split (λ byte. byte == 10) bytes)))
     (ok_of (text_verdict b series bytes) h)
   where
@@ -110,7 +107,7 @@ of_history b series bytes valid h =
           (sym (along ∙ long_rest b series end.prefix end.rest long) ∙ ok.1) in
           let last : length end.rest ≡ length (after_last (map (line_of b) (items_of b said.0))) =
           ap length (sym (after_last-end end.prefix end.rest) ∙ ap after_last said.2) in
-          absurd (omega (arith, last_short b said.0 valid))
+          absurd (omega (arith, last_short said.0 valid))
       | inr short ↦
           let said =
           yes_gives_history b series end.prefix end.rest ok.0 valid
@@ -120,7 +117,7 @@ of_history b series bytes valid h =
           ∙ ap (λ rest. map (line_of b) (items_of b said.0) ++ rest ∷ []) said.3) in (
             said.0,
             said.1,
-            spelled_text b bytes (items_of b said.0) pieces,
+            spelled_text b (items_of b said.0) pieces,
           )
     ]
       where
@@ -129,5 +126,4 @@ of_history b series bytes valid h =
         along = ap (λ ps. verdict b series (lines_of_pieces ps) (rest_of_pieces ps)) end.are
 
 pub yes_exactly_for_histories : YesExactlyForHistories
-yes_exactly_for_histories b series bytes valid fits =
-    (of_history b series bytes valid, accepted b series bytes valid fits)
+yes_exactly_for_histories b series bytes valid fits = (of_history valid, accepted valid fits)

@@ -4,7 +4,7 @@ use Rattle.std.proofs.Common.{length, map, fold, append_assoc, append-nil, lengt
 use Rattle.std.specs.Prelude.{Option, Some, None, ◌&&◌, ◌==◌, not, nat_lt, slice_get, slice_index}
 use Rattle.std.specs.List.{flat_map}
 use Rattle.std.proofs.lemmas.Bool.Decides.{nat_tests}
-use Rattle.std.proofs.lemmas.Bool.{eqb-true}
+use Rattle.std.proofs.lemmas.Bool.{eqb-true, and_parts, not-false}
 use Rattle.finite_sums.specs.Sums.{total_where}
 use Rattle.water_model.specs.History.{cut_of, is_zone_of, calls, calling_right}
 use Rattle.result_lines.specs.Text.{called_items}
@@ -66,14 +66,14 @@ pub at_length : (before : List (ℕ × ℕ)) (due : ℕ × ℕ) (others : List (
 at_length [] due others = refl
 at_length (x ∷ before) due others = at_length before due others
 
-pub called_good : (b : Basin) (series : Inflows) (dues others before : List (ℕ × ℕ)) (t : ReadSoFar) →
-    Callers b series dues before t → dues ≡ before ++ others →
-    AreGood b series t (map called_line others) ×
-    Callers b series dues dues (fold (read_item b series) t (map called_line others))
-called_good b series dues [] before t c is =
+pub called_good : {b : Basin} {series : Inflows} {dues : List (ℕ × ℕ)} (others : List (ℕ × ℕ)) {before : List (ℕ × ℕ)}
+    {t : ReadSoFar} → Callers b series dues before t → dues ≡ before ++ others →
+    AreGood b series t (map called_line others) × Callers b series dues dues
+    (fold (read_item b series) t (map called_line others))
+called_good {b} {series} {dues} [] {before} c is =
     (tt, record { all = c.all; due = c.due; count = c.count ∙ ap length (sym (append-nil before) ∙ sym is) })
-called_good b series dues (x ∷ xs) before t c is =
-    let rest = called_good b series dues xs (before ++ x ∷ []) (read_item b series t (called_line x)) (record {
+called_good {b} {series} {dues} (x ∷ xs) {before} {t} c is =
+    let rest = called_good xs (record {
       all = record { settled = λ r e. never r e; none_left = c.all.none_left };
       due = c.due;
       count = rw (c.count, length-append before (x ∷ [])) refl;
@@ -121,7 +121,7 @@ closings b series dues take a = record {
         (
           rw (p.callers.due, p.callers.count) (not_less (length dues)),
           (
-            same_is (a x) (total_where (length b.rights) (λ r. is_zone_of b r x) (λ r. slice_index t.now.plan.take r))
+            same_is
                 (rw p.take_is g),
             tt,
           ),
@@ -129,8 +129,7 @@ closings b series dues take a = record {
       ),
     ),
   );
-  reads = λ x t p n. is_same (a x)
-      (total_where (length b.rights) (λ r. is_zone_of b r x) (λ r. slice_index t.now.plan.take r)) n.1.1.1.1.0
+  reads = λ x t p n. is_same n.1.1.1.1.0
       ∙ ap (λ ts. total_where (length b.rights) (λ r. is_zone_of b r x) (λ r. slice_index ts r)) p.take_is;
   keeps = λ x t p. record {
     callers = record {
@@ -146,9 +145,9 @@ closings b series dues take a = record {
     never : {X : Type 0} (r : ℕ) → None ≡ Some r → X
     never r e = cc
 
-pub end_good : (b : Basin) (series : Inflows) (dues : List (ℕ × ℕ)) (t : ReadSoFar) → Callers b series dues dues t →
+pub end_good : {b : Basin} {series : Inflows} {dues : List (ℕ × ℕ)} {t : ReadSoFar} → Callers b series dues dues t →
     NoneHolds (rows b series t line.End)
-end_good b series dues t c = (
+end_good {b} {series} {dues} {t} c = (
   loose_fails b series t line.End c.all.settled,
   (
     missing_fails b t line.End (λ r l s f q. c.all.none_left r l s f),
@@ -172,29 +171,27 @@ pub record AreCalled (b : Basin) (series : Inflows) (others rest : List (ℕ × 
   pub now : (fold (read_item b series) t (map called_line others)).now ≡ t.now
   pub months : (fold (read_item b series) t (map called_line others)).months ≡ t.months
 
-due_at : (before rest : List (ℕ × ℕ)) (r c : ℕ) →
+due_at : (before rest : List (ℕ × ℕ)) {r c : ℕ} →
     not (is_due r c (slice_get (before ++ rest) (length before))) ≡ false → (more : List (ℕ × ℕ)) ×
     (rest ≡ (r, c) ∷ more)
-due_at [] [] r c h = clash h
-due_at [] (x ∷ rest) r c h = (rest, ap (λ y. y ∷ rest) (pair x (both (x.0 == r) (x.1 == c) h)))
+due_at [] [] h = clash h
+due_at [] (x ∷ rest) {r} {c} h = (rest, ap (λ y. y ∷ rest) (pair x (both (x.0 == r) (x.1 == c) h)))
   where
     both : (p q : Bool) → not (p && q) ≡ false → (p ≡ true) × (q ≡ true)
-    both true true k = (refl, refl)
-    both true false k = clash k
-    both false q k = clash k
+    both p q k = and_parts p q (not-false (p && q) k)
 
     pair : (x : ℕ × ℕ) → (x.0 == r ≡ true) × (x.1 == c ≡ true) → x ≡ (r, c)
     pair (i, j) k = rw (eqb-true i r k.0, eqb-true j c k.1) refl
-due_at (x ∷ before) rest r c h = due_at before rest r c h
+due_at (x ∷ before) rest {r} {c} h = due_at before rest h
 
-pub called_read : (b : Basin) (series : Inflows) (others rest before : List (ℕ × ℕ)) (t : ReadSoFar) →
-    AreGood b series t (map called_line others) →
-    callers_due b t.now ≡ before ++ rest → t.called ≡ length before → AreCalled b series others rest t
-called_read b series [] rest before t g is count =
+pub called_read : {b : Basin} {series : Inflows} (others : List (ℕ × ℕ)) {rest : List (ℕ × ℕ)} (before : List (ℕ × ℕ))
+    {t : ReadSoFar} → AreGood b series t (map called_line others) → callers_due b t.now ≡ before ++ rest →
+    t.called ≡ length before → AreCalled b series others rest t
+called_read {b} {series} [] {rest} before g is count =
     record { more = rest; are = refl; called = omega arith; now = refl; months = refl }
-called_read b series ((r, c) ∷ xs) rest before t g is count =
-    let first = due_at before rest r c (rw (← is, ← count) g.0.1.1.1.0) in
-    let further = called_read b series xs first.0 (before ++ (r, c) ∷ []) (read_item b series t (line.Called r c)) g.1
+called_read {b} {series} ((r, c) ∷ xs) {rest} before {t} g is count =
+    let first = due_at before rest (rw (← is, ← count) g.0.1.1.1.0) in
+    let further = called_read xs (before ++ (r, c) ∷ []) g.1
     (is ∙ (ap (λ ys. before ++ ys) first.1 ∙ sym (append_assoc before ((r, c) ∷ []) first.0)))
     (omega (arith, count, length-append before ((r, c) ∷ []))) in
     record {
@@ -217,27 +214,26 @@ pub record IsPast (b : Basin) (series : Inflows) (t : ReadSoFar) : Type 0 where
   pub all : AllCalled b series t
   pub count : length (callers_due b t.now) ≤ t.called
 
-at_most : (n k : ℕ) → nat_lt k n ≡ false → n ≤ k
-at_most n k h = grind (arith, nat_tests)
+at_most : {n k : ℕ} → nat_lt k n ≡ false → n ≤ k
+at_most h = grind (arith, nat_tests)
 
-pub closing_past : (b : Basin) (series : Inflows) (t : ReadSoFar) (v amount : ℕ) →
+pub closing_past : {b : Basin} {series : Inflows} {t : ReadSoFar} (v amount : ℕ) →
     NoneHolds (rows b series t (line.Amount quantity.Closing v amount)) → IsPast b series t
-closing_past b series t v amount n = record {
+closing_past {b} {series} {t} v amount n = record {
   all = record {
     settled = settled b series t (line.Amount quantity.Closing v amount) refl n.0;
-    none_left = λ r l s f. (let set = none_missing b t (line.Amount quantity.Closing v amount) n.1.0 r l s refl in
+    none_left = λ r l s f. (let set = none_missing b t (line.Amount quantity.Closing v amount) n.1.0 l s refl in
         let never : None ≡ Some set.0 = sym f ∙ set.1 in cc);
   };
-  count = at_most (length (callers_due b t.now)) t.called n.1.1.1.0;
+  count = at_most n.1.1.1.0;
 }
 
-pub end_past : (b : Basin) (series : Inflows) (t : ReadSoFar) → NoneHolds (rows b series t line.End) → IsPast b series t
-end_past b series t n = record {
+pub end_past : {b : Basin} {series : Inflows} {t : ReadSoFar} → NoneHolds (rows b series t line.End) → IsPast b series t
+end_past {b} {series} {t} n = record {
   all = record {
     settled = settled b series t line.End refl n.0;
-    none_left =
-        λ r l s f. (let set = none_missing b t line.End n.1.0 r l s refl in let never : None ≡ Some set.0 =
+    none_left = λ r l s f. (let set = none_missing b t line.End n.1.0 l s refl in let never : None ≡ Some set.0 =
         sym f ∙ set.1 in cc);
   };
-  count = at_most (length (callers_due b t.now)) t.called n.1.1.1.0;
+  count = at_most n.1.1.1.0;
 }

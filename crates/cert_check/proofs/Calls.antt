@@ -1,10 +1,10 @@
 -- What the rows say of `call` lines and of the nodes of their sets.
 use Rattle.std.proofs.Common.{◌≡◌, ℕ, ◌+◌, ◌<◌, Bool, true, false, refl, sym, ap, subst, ◌∙◌, arith, inl}
 use Rattle.std.proofs.Common.{inr, List, [], ◌∷◌, ◌++◌, length, fold}
-use Rattle.std.specs.Prelude.{Option, Some, None, ◌&&◌, ◌||◌, not, is_none}
-use Rattle.std.specs.List.{list_any, flat_map}
+use Rattle.std.specs.Prelude.{Option, Some, None, ◌&&◌, not, is_none}
+use Rattle.std.specs.List.{flat_map}
 use Rattle.std.specs.Option.{option_map_or}
-use Rattle.std.proofs.lemmas.Bool.{cases_eq, not-false}
+use Rattle.std.proofs.lemmas.Bool.{cases_eq, not-false, and_parts, false_from_ne_true}
 use Rattle.std.proofs.Math.ListN.{length-set}
 use Rattle.water_model.specs.Basin.{is_senior}
 use Rattle.water_model.specs.History.{cut_of}
@@ -23,7 +23,7 @@ use Rattle.water_model.proofs.SetEntries.{set_of_with, set_of_other}
 use Rattle.result_reader.proofs.Telling.{tell_call, put_cut, fold-both}
 use Rattle.cut_cert.specs.Callers.{is_short}
 use Rattle.cert_check.specs.Checking.{rows, has_tight, is_tight, passes, cut_missing}
-use Rattle.cert_check.proofs.Rows.{NoneHolds, AreGood, members_good, good_both, good_rest}
+use Rattle.cert_check.proofs.Rows.{none_holds, each_fails, NoneHolds, AreGood, members_good, good_both, good_rest}
 
 clash : {X : Type 0} → true ≡ false → X
 clash h = cc
@@ -37,14 +37,13 @@ pub record Sees (b : Basin) (series : Inflows) (m : MonthRecord) (now : MonthRec
   pub sets : length now.cuts.sets ≡ length b.rights
 
 -- the set is a tight cut, by what was read
-pub read_tight : (b : Basin) (series : Inflows) (m now : MonthRecord) (r : ℕ) (set : List Bool) → Sees b series m now →
-    cut_of now r ≡ Some set →
-    has_tight b (with_supply b series now) r ≡ is_tight b m r set
-read_tight b series m now r set s e = rw (e, s.supply, s.month, s.delivered) refl
+pub read_tight : {b : Basin} {series : Inflows} {m now : MonthRecord} (r : ℕ) {set : List Bool} → Sees b series m now →
+    cut_of now r ≡ Some set → has_tight b (with_supply b series now) r ≡ is_tight b m r set
+read_tight r s e = rw (e, s.supply, s.month, s.delivered) refl
 
-pub read_short : (b : Basin) (series : Inflows) (m now : MonthRecord) (r : ℕ) → Sees b series m now →
+pub read_short : {b : Basin} {series : Inflows} {m now : MonthRecord} (r : ℕ) → Sees b series m now →
     is_short now r ≡ is_short m r
-read_short b series m now r s = rw (s.delivered, s.want) refl
+read_short r s = rw (s.delivered, s.want) refl
 
 -- the set of the open call is a tight cut
 abbrev pub IsSettled : Basin → Inflows → ReadSoFar → Type 0
@@ -63,69 +62,35 @@ loose_fails b series t i h = by_call (not (is_member i)) t.calling refl
 pub settled : (b : Basin) (series : Inflows) (t : ReadSoFar) (i : Item) → is_member i ≡ false →
     not (is_member i) && option_map_or (λ r. not (has_tight b (with_supply b series t.now) r)) t.calling false ≡ false →
     IsSettled b series t
-settled b series t i other h r e = untrue (has_tight b (with_supply b series t.now) r) (rw (other, e) at h)
-  where
-    untrue : (p : Bool) → true && not p ≡ false → p ≡ true
-    untrue true k = refl
-    untrue false k = cc
+settled b series t i other h r e = not-false (has_tight b (with_supply b series t.now) r) (rw (other, e) at h)
 
 -- a short right without a set that the line passes over is missed
 pub missing_fails : (b : Basin) (t : ReadSoFar) (i : Item) →
     ((r : ℕ) → r < length b.rights → is_short t.now r ≡ true → cut_of t.now r ≡ None → passes b i r ≡ true → ⊥) →
     cut_missing b t i ≡ false
-missing_fails b t i h = over (indices_of b.rights) (λ r m. by_right r (numbers_from-below 0 (length b.rights) r m).1)
+missing_fails b t i h = none_holds (indices_of b.rights)
+    (λ r m. by_right r (numbers_from-below 0 (length b.rights) r m).1)
   where
     none : (p q s : Bool) → (p ≡ true → q ≡ true → s ≡ true → ⊥) → p && q && s ≡ false
-    none true true true k = absurd (k refl refl refl)
-    none true true false k = refl
-    none true false s k = refl
-    none false q s k = refl
+    none p q s k = false_from_ne_true (p && q && s)
+        (λ e. (let parts = and_parts (p && q) s e in let two = and_parts p q parts.0 in k two.0 two.1 parts.1))
 
     no_set : (o : Option (List Bool)) → is_none o ≡ true → o ≡ None
     no_set None e = refl
     no_set (Some x) e = cc
 
     by_right : (r : ℕ) → r < 0 + length b.rights → is_short t.now r && is_none (cut_of t.now r) && passes b i r ≡ false
-    by_right r l =
-        none (is_short t.now r) (is_none (cut_of t.now r)) (passes b i r)
+    by_right r l = none (is_short t.now r) (is_none (cut_of t.now r)) (passes b i r)
         (λ short free passed. h r (omega arith) short (no_set (cut_of t.now r) free) passed)
 
-    over : (xs : List ℕ) → ((r : ℕ) → Has xs r → is_short t.now r && is_none (cut_of t.now r) && passes b i r ≡ false) →
-        list_any (λ r. is_short t.now r && is_none (cut_of t.now r) && passes b i r) xs ≡ false
-    over [] k = refl
-    over (x ∷ xs) k = rw (k x (inl refl)) (over xs (λ r m. k r (inr m)))
-
-pub none_missing : (b : Basin) (t : ReadSoFar) (i : Item) → cut_missing b t i ≡ false → (r : ℕ) → r < length b.rights →
-    is_short t.now r ≡ true → passes b i r ≡ true →
-    (set : List Bool) × (cut_of t.now r ≡ Some set)
-none_missing b t i h r l short passed =
-    by_set (cut_of t.now r) refl
-    (over (indices_of b.rights) h (numbers_from-has 0 (length b.rights) r r l (omega arith)))
+pub none_missing : (b : Basin) (t : ReadSoFar) (i : Item) → cut_missing b t i ≡ false → {r : ℕ} → r < length b.rights →
+    is_short t.now r ≡ true → passes b i r ≡ true → (set : List Bool) × (cut_of t.now r ≡ Some set)
+none_missing b t i h {r} l short passed = by_set (cut_of t.now r) refl
+    (each_fails (λ r. is_short t.now r && is_none (cut_of t.now r) && passes b i r) (indices_of b.rights) h
+    (numbers_from-has 0 (length b.rights) r r l (omega arith)))
   where
-    first : (p q : Bool) → p || q ≡ false → p ≡ false
-    first true q k = cc
-    first false q k = refl
-
-    other : (p q : Bool) → p || q ≡ false → q ≡ false
-    other true q k = cc
-    other false q k = k
-
-    over : (xs : List ℕ) → list_any (λ r. is_short t.now r && is_none (cut_of t.now r) && passes b i r) xs ≡ false →
-        Has xs r →
-        is_short t.now r && is_none (cut_of t.now r) && passes b i r ≡ false
-    over [] k m = absurd m
-    over (x ∷ xs) k (inl is) =
-        rw is (first (is_short t.now x && is_none (cut_of t.now x) && passes b i x)
-        (list_any (λ r. is_short t.now r && is_none (cut_of t.now r) && passes b i r) xs) k)
-    over (x ∷ xs) k (inr m) =
-        over xs (other (is_short t.now x && is_none (cut_of t.now x) && passes b i x)
-        (list_any (λ r. is_short t.now r && is_none (cut_of t.now r) && passes b i r) xs) k) m
-
     all : (p q s : Bool) → p ≡ true → q ≡ true → s ≡ true → p && q && s ≡ false → ⊥
-    all true true true e f g k = clash k
-    all true true false e f g k = clash (sym g)
-    all true false s e f g k = clash (sym f)
-    all false q s e f g k = clash (sym e)
+    all p q s e f g k = clash (rw (e, f, g) at k)
 
     by_set : (o : Option (List Bool)) → cut_of t.now r ≡ o →
         is_short t.now r && is_none (cut_of t.now r) && passes b i r ≡ false → (set : List Bool) ×
@@ -157,20 +122,18 @@ pub record HasRightSets (b : Basin) (m : MonthRecord) : Type 0 where
   pub met : (r : ℕ) → r < length b.rights → is_short m r ≡ false → cut_of m r ≡ None
 
 -- what was read after a right's call
-pub sees_more : (b : Basin) (series : Inflows) (m : MonthRecord) (t : ReadSoFar) (r : ℕ) (set : List Bool) →
+pub sees_more : {b : Basin} {series : Inflows} {m : MonthRecord} (t : ReadSoFar) (r : ℕ) (set : List Bool) →
     Sees b series m t.now → Sees b series m (put_cut t r set).now
-sees_more b series m t r set s = assumption (length-set t.now.cuts.sets r (Some set) ∙ s.sets)
+sees_more t r set s = assumption (length-set t.now.cuts.sets r (Some set) ∙ s.sets)
 
 abbrev pub after_call : ReadSoFar → ℕ → List Bool → ReadSoFar
 after_call t r set = record (put_cut t r set) { calling = Some r }
 
-calling_more : (b : Basin) (series : Inflows) (m : MonthRecord) (r : ℕ) (rs : List ℕ) (set : List Bool)
-    (t : ReadSoFar) →
-    r < length b.rights → (Has rs r → ⊥) →
-    cut_of m r ≡ Some set → is_tight b m r set ≡ true → Calling b series m (r ∷ rs) t →
-    Calling b series m rs (after_call t r set)
-calling_more b series m r rs set t l once e tight c = record {
-  sees = sees_more b series m t r set c.sees;
+calling_more : {b : Basin} {series : Inflows} {m : MonthRecord} {r : ℕ} {rs : List ℕ} {set : List Bool} {t : ReadSoFar}
+    → r < length b.rights → (Has rs r → ⊥) → cut_of m r ≡ Some set → is_tight b m r set ≡ true →
+    Calling b series m (r ∷ rs) t → Calling b series m rs (after_call t r set)
+calling_more {b} {series} {m} {r} {rs} {set} {t} l once e tight c = record {
+  sees = sees_more t r set c.sees;
   settled =
       λ s is. (let same : Some r ≡ Some s = is in let eq : r ≡ s = cc in
       subst (λ (x : ℕ). has_tight b (with_supply b series (put_cut t r set).now) x ≡ true) eq here);
@@ -183,8 +146,7 @@ calling_more b series m r rs set t l once e tight c = record {
     within = omega (arith, c.sees.sets)
 
     here : has_tight b (with_supply b series (put_cut t r set).now) r ≡ true
-    here = read_tight b series m (put_cut t r set).now r set (sees_more b series m t r set c.sees)
-        (set_of_with t.now.cuts r (Some set) within) ∙ tight
+    here = read_tight r (sees_more t r set c.sees) (set_of_with t.now.cuts r (Some set) within) ∙ tight
 
     by_index : (s : ℕ) → s < length b.rights → (Has rs s → ⊥) → cut_of (put_cut t r set).now s ≡ cut_of m s
     by_index s k none = elim (cases_eq s r) [
@@ -201,8 +163,7 @@ once_in_order b r rs o h = clash (sym (o.0 r h) ∙ not_senior_to_itself b r)
 
 -- the `call` lines of right sets are not refuted
 pub calls_good : (b : Basin) (series : Inflows) (m : MonthRecord) → HasRightSets b m → (xs : List ℕ) →
-    IsOrdered b.rights xs → ((r : ℕ) → Has xs r → r < length b.rights) →
-    (t : ReadSoFar) → Calling b series m xs t →
+    IsOrdered b.rights xs → ((r : ℕ) → Has xs r → r < length b.rights) → (t : ReadSoFar) → Calling b series m xs t →
     AreGood b series t (flat_map (λ r. call_items r (cut_of m r)) xs) ×
     Calling b series m [] (fold (read_item b series) t (flat_map (λ r. call_items r (cut_of m r)) xs))
 calls_good b series m right [] o below t c = (tt, c)
@@ -228,10 +189,10 @@ calls_good b series m right (r ∷ rs) o below t c =
         tell_call b series r set t (omega (arith, within, c.sees.sets)) (right.sized r set e) in
         let rest =
         further (after_call t r set)
-        (calling_more b series m r rs set t within (once_in_order b r rs o) e tight c) in (
+        (calling_more within (once_in_order b r rs o) e tight c) in (
           good_both b series t (call_items r (Some set)) (flat_map (λ r. call_items r (cut_of m r)) rs) (
-            call_good b series t r c.settled (read_short b series m t.now r c.sees ∙ short)
-                (λ s k short free senior. unpassed s k (sym (read_short b series m t.now s c.sees) ∙ short) free
+            call_good b series t r c.settled (read_short r c.sees ∙ short)
+                (λ s k short free senior. unpassed s k (sym (read_short s c.sees) ∙ short) free
                 senior),
             members_good b series (members_from 0 set) (read_item b series t (line.Call r)),
           )
@@ -283,23 +244,21 @@ settled_before b series cut (r ∷ rs) t g h = by_set (cut r) (settled_before b 
   where
     by_set : (o : Option (List Bool)) → (AreGood b series t (flat_map (λ r. call_items r (cut r)) rs) →
         IsSettled b series (fold (read_item b series) t (flat_map (λ r. call_items r (cut r)) rs)) →
-        IsSettled b series t) →
-        AreGood b series t (call_items r o ++ flat_map (λ r. call_items r (cut r)) rs) →
+        IsSettled b series t) → AreGood b series t (call_items r o ++ flat_map (λ r. call_items r (cut r)) rs) →
         IsSettled b series (fold (read_item b series) t (call_items r o ++ flat_map (λ r. call_items r (cut r)) rs)) →
         IsSettled b series t
     by_set None further g h = further g h
     by_set (Some set) further g h = settled b series t (line.Call r) refl g.0.0
 
-pub calls_read : (b : Basin) (series : Inflows) (m : MonthRecord) →
+pub calls_read : {b : Basin} {series : Inflows} {m : MonthRecord} →
     ((r : ℕ) (set : List Bool) → cut_of m r ≡ Some set → length set ≡ length b.nodes) →
     (xs : List ℕ) → ((r : ℕ) → Has xs r → r < length b.rights) → (t : ReadSoFar) → Sees b series m t.now →
     AreGood b series t (flat_map (λ r. call_items r (cut_of m r)) xs) →
     IsSettled b series (fold (read_item b series) t (flat_map (λ r. call_items r (cut_of m r)) xs)) →
-    (r : ℕ) (set : List Bool) → Has xs r → cut_of m r ≡ Some set → (is_short m r ≡ true) × (is_tight b m r set ≡ true)
-calls_read b series m sized [] below t s g h r set k e = absurd k
-calls_read b series m sized (x ∷ xs) below t s g h r set k e =
-    by_set (cut_of m x) refl g h
-    (λ u v a c l. calls_read b series m sized xs (λ y z. below y (inr z)) u v a c r set l e)
+    (r : ℕ) {set : List Bool} → Has xs r → cut_of m r ≡ Some set → (is_short m r ≡ true) × (is_tight b m r set ≡ true)
+calls_read sized [] below t s g h r k e = absurd k
+calls_read {b} {series} {m} sized (x ∷ xs) below t s g h r {set} k e = by_set (cut_of m x) refl g h
+    (λ u v a c l. calls_read sized xs (λ y z. below y (inr z)) u v a c r l e)
   where
     Answer : Type 0
     Answer = (is_short m r ≡ true) × (is_tight b m r set ≡ true)
@@ -330,7 +289,7 @@ calls_read b series m sized (x ∷ xs) below t s g h r set k e =
         ended = rw (← so_far, ← fold-both (read_item b series) t (call_items x (Some own)) others) c
 
         sees : Sees b series m (put_cut t x own).now
-        sees = sees_more b series m t x own s
+        sees = sees_more t x own s
 
         by_index : Has (x ∷ xs) r → Answer
         by_index (inl is) =
@@ -339,7 +298,7 @@ calls_read b series m sized (x ∷ xs) below t s g h r set k e =
             let settled_now = settled_before b series (λ r. cut_of m r) xs (after_call t x own) rest ended x refl in
             let short : is_short t.now x ≡ true = not-false (is_short t.now x) (a.0.1.1.0) in
             let tight =
-            sym (read_tight b series m (put_cut t x own).now x own sees
+            sym (read_tight x sees
             (set_of_with t.now.cuts x (Some own) (omega (arith, below x (inl refl), s.sets)))) ∙ settled_now in
-            (ap (is_short m) is ∙ (sym (read_short b series m t.now x s) ∙ short), rw (is, ← eq) tight)
+            (ap (is_short m) is ∙ (sym (read_short x s) ∙ short), rw (is, ← eq) tight)
         by_index (inr l) = further (after_call t x own) sees rest ended l

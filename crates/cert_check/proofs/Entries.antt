@@ -33,22 +33,19 @@ clash : {X : Type 0} → false ≡ true → X
 clash e = cc
 
 -- the line of an amount
-pub keeps_amount : (b : Basin) (series : Inflows) (a : CheckState) (t : ReadSoFar) (q : Quantity) (x amount : ℕ) →
-    Keeps b series a t →
-    Keeps b series (record a {
-      month = with_amount q x amount a.month;
-      calling = None;
-      has_supply = a.has_supply && not (is_supplied q);
-    }) (read_item b series t (line.Amount q x amount))
-keeps_amount b series a t q x amount k = record {
+pub keeps_amount : {b : Basin} {series : Inflows} {a : CheckState} {t : ReadSoFar} (q : Quantity) (x amount : ℕ) →
+    Keeps b series a t → Keeps b series (record a
+    { month = with_amount q x amount a.month; calling = None; has_supply = a.has_supply && not (is_supplied q) })
+    (read_item b series t (line.Amount q x amount))
+keeps_amount {b} {series} {a} {t} q x amount k = record {
   left = k.left;
-  month = record_with b q x amount a.month t.now k.month;
+  month = record_with q x amount k.month;
   calling = nobody b (with_amount q x amount a.month).cuts;
   supply = supply_stays b series q x amount a.month t.now a.has_supply k.supply;
   closes = λ e v l. rw so_far.take (k.closes e v l);
-  callers = λ e. callers_stay b a.month (with_amount q x amount a.month) a.callers own (k.callers e);
-  passed = settled_stay b t.now (with_amount q x amount t.now) a.passed so_far k.passed;
-  answered = answered_stay b t.now (with_amount q x amount t.now) a.answered t.called so_far k.answered;
+  callers = λ e. callers_stay own (k.callers e);
+  passed = settled_stay so_far k.passed;
+  answered = answered_stay so_far k.answered;
   room = k.room;
 }
   where
@@ -59,24 +56,22 @@ keeps_amount b series a t q x amount k = record {
     so_far = stays q x amount t.now
 
 -- a `deliver` line, before the `called` lines
-pub keeps_delivery : (b : Basin) (series : Inflows) (a : CheckState) (t : ReadSoFar) (x amount want : ℕ) →
-    t.called ≡ 0 →
-    Keeps b series a t →
-    Keeps b series (record a {
+pub keeps_delivery : {b : Basin} {series : Inflows} {a : CheckState} {t : ReadSoFar} (x amount want : ℕ) →
+    t.called ≡ 0 → Keeps b series a t → Keeps b series (record a {
       month = record a.month {
         delivered = slice_set a.month.delivered x amount;
         want = slice_set a.month.want x want;
-        plan = record a.month.plan {
-          take = slice_set a.month.plan.take x (if is_some (taking_node b x) then amount else 0);
-        };
+        plan = record a.month.plan
+            { take = slice_set a.month.plan.take x (if is_some (taking_node b x) then amount else 0) };
       };
       calling = None;
       has_closes = false;
       has_callers = false;
       passed = 0;
       answered = 0;
-    }) (read_item b series t (line.Deliver x amount want))
-keeps_delivery b series a t x amount want none k = record {
+    })
+    (read_item b series t (line.Deliver x amount want))
+keeps_delivery {b} {series} {a} x amount want none k = record {
   left = k.left;
   month = assumption (
     put_both x amount k.month.fits.fits.delivered k.month.shows.delivered,
@@ -109,34 +104,38 @@ no_sets (x ∷ sets) zero e = absurd (omega (arith, e))
 no_sets (x ∷ sets) (suc n) e = ap (λ ys. None ∷ ys) (no_sets sets n (omega (arith, e)))
 
 -- a `month` line
-pub keeps_month : (b : Basin) (series : Inflows) (a : CheckState) (t : ReadSoFar) (month : Month) → IsMonth month →
-    Keeps b series a t →
-    Keeps b series (record a {
+pub keeps_month : {b : Basin} {series : Inflows} {a : CheckState} {t : ReadSoFar} {month : Month} → IsMonth month →
+    Keeps b series a t → Keeps b series (record a {
       month = record a.month {
         index = a.done;
         month = month;
         opening = replicate (length a.month.opening) 0;
-        evaporated = replicate (length a.month.evaporated) 0;
+        evaporated = replicate
+            (length a.month.evaporated) 0;
         returned = replicate (length a.month.returned) 0;
-        used = replicate (length a.month.used) 0;
+        used = replicate
+            (length a.month.used) 0;
         want = replicate (length a.month.want) 0;
         plan = record {
           flow = replicate (length a.month.plan.flow) 0;
           take = replicate (length a.month.plan.take) 0;
-          out = replicate (length a.month.plan.out) 0;
+          out = replicate
+              (length a.month.plan.out) 0;
         };
         delivered = replicate (length a.month.delivered) 0;
-        cuts = without_sets a.month.cuts;
+        cuts = without_sets
+            a.month.cuts;
         closing = replicate (length a.month.closing) 0;
       };
       calling = None;
       has_supply = false;
-      has_closes = false;
+      has_closes =
+          false;
       has_callers = false;
       passed = 0;
       answered = 0;
     }) (read_item b series t (line.Month month))
-keeps_month b series a t month calendar k = record {
+keeps_month {b} {series} {a} {t} {month} calendar k = record {
   left = k.left;
   month = assumption (
     k.left.done,
@@ -163,75 +162,63 @@ keeps_month b series a t month calendar k = record {
 }
 
 -- a `called` line, with the number of rights whose callers were read
-pub keeps_called : (b : Basin) (series : Inflows) (a : CheckState) (t : ReadSoFar) (x caller next : ℕ) →
+pub keeps_called : {b : Basin} {series : Inflows} {a : CheckState} {t : ReadSoFar} (x caller : ℕ) {next : ℕ} →
     AreAnswered b t.now next (t.called + 1) → Keeps b series a t →
     Keeps b series (record a { calling = None; answered = next }) (read_item b series t (line.Called x caller))
-keeps_called b series a t x caller next answered k = assumption (nobody b a.month.cuts)
+keeps_called {b} {series} {a} x caller answered k = assumption (nobody b a.month.cuts)
 
 -- the deliveries of one more month
-delivered_more : (b : Basin) (series : Inflows) (a : CheckState) (t : ReadSoFar) → Keeps b series a t →
+delivered_more : {b : Basin} {series : Inflows} {a : CheckState} {t : ReadSoFar} → Keeps b series a t →
     map (λ m. m.delivered) (t.months ++ with_supply b series t.now ∷ []) ≡ map (λ m. m.delivered)
     t.months ++ a.month.delivered ∷ []
-delivered_more b series a t k =
-    map-append (λ m. m.delivered) t.months (with_supply b series t.now ∷ [])
+delivered_more {b} {series} {a} {t} k = map-append (λ m. m.delivered) t.months (with_supply b series t.now ∷ [])
     ∙ ap (λ xs. map (λ m. m.delivered) t.months ++ xs ∷ []) (sym k.month.shows.delivered)
 
 -- an `end` line
-pub keeps_end : (b : Basin) (series : Inflows) (a : CheckState) (t : ReadSoFar) (lags : List InTransit)
-    (comes used : List ℕ) →
+pub keeps_end : {b : Basin} {series : Inflows} {a : CheckState} {t : ReadSoFar} {lags : List InTransit}
+    {comes used : List ℕ} →
     lag.LagsStandFor lags b.returns (map (λ m. m.delivered) t.months ++ a.month.delivered ∷ []) →
     HasReturned b (map (λ m. m.delivered) t.months ++ a.month.delivered ∷ []) comes →
-    HasUsed b (map (λ m. m.delivered) t.months ++ a.month.delivered ∷ []) used → Keeps b series a t →
-    Keeps b series (record a {
-      done = a.done + 1;
-      lags = lags;
-      opens = a.month.closing;
-      comes = comes;
-      used = used;
-      calling = None;
-    }) (read_item b series t line.End)
-keeps_end b series a t lags comes used stands back spent k = assumption (left, nobody b a.month.cuts)
+    HasUsed b (map (λ m. m.delivered) t.months ++ a.month.delivered ∷ []) used → Keeps b series a t → Keeps b series
+    (record a { done = a.done + 1; lags = lags; opens = a.month.closing; comes = comes; used = used; calling = None })
+    (read_item b series t line.End)
+keeps_end {b} {series} {a} {t} {lags} {comes} {used} stands back spent k = assumption (left, nobody b a.month.cuts)
   where
     left : AreLeft b (t.months ++ with_supply b series t.now ∷ []) (a.done + 1) lags a.month.closing comes used
     left = record {
       done = omega (arith, k.left.done, length-append t.months (with_supply b series t.now ∷ []));
-      lags = rw (delivered_more b series a t k) stands;
+      lags = rw (delivered_more k) stands;
       opens = k.month.shows.closing ∙ sym (opens_with_last b t.months (with_supply b series t.now));
       sized = k.month.fits.fits.closing;
-      comes = rw (delivered_more b series a t k) back;
-      used = rw (delivered_more b series a t k) spent;
+      comes = rw (delivered_more k) back;
+      used = rw (delivered_more k) spent;
     }
 
 -- the callers that were read are those of the check state's record
-pub callers_read : (b : Basin) (series : Inflows) (a : CheckState) (t : ReadSoFar) → Keeps b series a t →
-    (xs : List ℕ) →
-    callers_of b a.month xs ≡ callers_of b t.now xs
-callers_read b series a t k xs = callers_same b a.month t.now k.month.shows.delivered k.month.shows.want
+pub callers_read : {b : Basin} {series : Inflows} {a : CheckState} {t : ReadSoFar} → Keeps b series a t →
+    (xs : List ℕ) → callers_of b a.month xs ≡ callers_of b t.now xs
+callers_read {b} {series} {a} {t} k xs = callers_same b a.month t.now k.month.shows.delivered k.month.shows.want
     k.month.shows.sets xs
 
 -- a good `called` line is that of the next right that answers to a caller
-pub keeps_next : (b : Basin) (series : Inflows) (a : CheckState) (t : ReadSoFar) (x caller : ℕ) (due : Option Due) →
-    Keeps b series a t →
-    first_row b series t (line.Called x caller) ≡ None → IsDueFrom b a.month a.answered due →
+pub keeps_next : {b : Basin} {series : Inflows} {a : CheckState} {t : ReadSoFar} (x caller : ℕ) (due : Option Due) →
+    Keeps b series a t → first_row b series t (line.Called x caller) ≡ None → IsDueFrom b a.month a.answered due →
     Keeps b series (record a { calling = None; answered = after a.answered due })
     (read_item b series t (line.Called x caller))
-keeps_next b series a t x caller None k good all =
-    clash (sym
-    (ap (λ o. not (is_due x caller o))
+keeps_next {b} {series} {a} {t} x caller None k good all = clash (sym (ap (λ o. not (is_due x caller o))
     (past (callers_due b t.now) t.called (omega (arith, k.answered.called, ap length same))))
     ∙ (good_row b series t (line.Called x caller) good).1.1.1.0)
   where
     same : callers_due b t.now ≡ callers_of b t.now (take a.answered (seniors_first b))
-    same = sym (callers_read b series a t k (seniors_first b))
-        ∙ (all ∙ callers_read b series a t k (take a.answered (seniors_first b)))
+    same = sym (callers_read k (seniors_first b)) ∙ (all ∙ callers_read k (take a.answered (seniors_first b)))
 
     past : (xs : List (ℕ × ℕ)) (n : ℕ) → n ≡ length xs → slice_get xs n ≡ None
     past xs n e = slice_get_past xs n (omega arith)
 
     clash : {X : Type 0} → true ≡ false → X
     clash e = cc
-keeps_next b series a t x caller (Some due) k good next =
-    keeps_called b series a t x caller (due.position + 1) (record {
+keeps_next {b} {series} {a} {t} x caller (Some due) k good next =
+    keeps_called x caller (record {
       within = omega (arith, next.within, length-by_seniority b.rights);
       called = omega (
         arith,
@@ -243,13 +230,10 @@ keeps_next b series a t x caller (Some due) k good next =
   where
     more : callers_of b t.now (take (due.position + 1) (seniors_first b)) ≡ callers_of b t.now
         (take a.answered (seniors_first b)) ++ (due.right, due.caller) ∷ []
-    more =
-        sym (callers_read b series a t k (take (due.position + 1) (seniors_first b)))
-        ∙ (next.up_to
-        ∙ ap (λ xs. xs ++ (due.right, due.caller) ∷ [])
-        (callers_read b series a t k (take a.answered (seniors_first b))))
+    more = sym (callers_read k (take (due.position + 1) (seniors_first b))) ∙ (next.up_to
+        ∙ ap (λ xs. xs ++ (due.right, due.caller) ∷ []) (callers_read k (take a.answered (seniors_first b))))
 
 -- the same, where the line and the check state are known by an equation
-pub along : (b : Basin) (series : Inflows) (t : ReadSoFar) (a c : CheckState) (x y : Item) → x ≡ y → c ≡ a →
+pub along : {b : Basin} {series : Inflows} (t : ReadSoFar) {a c : CheckState} {x y : Item} → x ≡ y → c ≡ a →
     Keeps b series a (read_item b series t y) → Keeps b series c (read_item b series t x)
-along b series t a c x y e f k = rw (e, f) k
+along t e f k = rw (e, f) k

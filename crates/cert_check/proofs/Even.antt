@@ -15,53 +15,49 @@ use Rattle.cert_check.specs.declared.state.CheckState.{CheckState}
 
 -- Balances.
 
-read_balances : (b : Basin) (series : Inflows) (a : CheckState) (t : ReadSoFar) (n amount v : ℕ) → Keeps b series a t →
+read_balances : {b : Basin} {series : Inflows} {a : CheckState} {t : ReadSoFar} (n amount v : ℕ) → Keeps b series a t →
     a.has_supply ≡ true →
     balances b (with_outflow a.month n amount) v ≡ balances b (with_supply b series (with_outflow t.now n amount)) v
-read_balances b series a t n amount v k has =
-    rw (k.supply has, k.month.shows.flow, k.month.shows.take, k.month.shows.out) refl
+read_balances n amount v k has = rw (k.supply has, k.month.shows.flow, k.month.shows.take, k.month.shows.out) refl
 
-pub all_even : (b : Basin) (series : Inflows) (a : CheckState) (t : ReadSoFar) (n amount : ℕ) → Keeps b series a t →
-    a.has_supply ≡ true →
-    ((v : ℕ) → v < length b.nodes → balances b (with_outflow a.month n amount) v ≡ true) →
+pub all_even : {b : Basin} {series : Inflows} {a : CheckState} {t : ReadSoFar} (n amount : ℕ) → Keeps b series a t →
+    a.has_supply ≡ true → ((v : ℕ) → v < length b.nodes → balances b (with_outflow a.month n amount) v ≡ true) →
     list_any (λ v. not (balances b (with_supply b series (with_outflow t.now n amount)) v)) (indices_of b.nodes) ≡ false
-all_even b series a t n amount k has even =
+all_even {b} {series} {a} {t} n amount k has even =
     over (indices_of b.nodes) (λ v h. (numbers_from-below 0 (length b.nodes) v h).1)
   where
     over : (xs : List ℕ) → ((v : ℕ) → Has xs v → v < 0 + length b.nodes) →
         list_any (λ v. not (balances b (with_supply b series (with_outflow t.now n amount)) v)) xs ≡ false
     over [] h = refl
-    over (x ∷ xs) h =
-        rw (sym (read_balances b series a t n amount x k has) ∙ even x (let l = h x (inl refl) in omega arith))
+    over (x ∷ xs) h = rw (sym (read_balances n amount x k has) ∙ even x (let l = h x (inl refl) in omega arith))
         (over xs (λ v m. h v (inr m)))
 
-pub some_uneven : (b : Basin) (series : Inflows) (a : CheckState) (t : ReadSoFar) (n amount : ℕ) → Keeps b series a t →
-    a.has_supply ≡ true →
-    (v : ℕ) × (v < length b.nodes) × (balances b (with_outflow a.month n amount) v ≡ false) →
+pub some_uneven : {b : Basin} {series : Inflows} {a : CheckState} {t : ReadSoFar} (n amount : ℕ) → Keeps b series a t →
+    a.has_supply ≡ true → (v : ℕ) × (v < length b.nodes) × (balances b (with_outflow a.month n amount) v ≡ false) →
     list_any (λ v. not (balances b (with_supply b series (with_outflow t.now n amount)) v)) (indices_of b.nodes) ≡ true
-some_uneven b series a t n amount k has (v, l, fails) =
+some_uneven {b} {series} {a} {t} n amount k has (v, l, fails) =
     over (indices_of b.nodes) (numbers_from-has 0 (length b.nodes) v v l (omega arith))
   where
     over : (xs : List ℕ) → Has xs v →
         list_any (λ v. not (balances b (with_supply b series (with_outflow t.now n amount)) v)) xs ≡ true
     over [] h = absurd h
-    over (x ∷ xs) (inl is) = rw (← is, sym (read_balances b series a t n amount v k has) ∙ fails) refl
+    over (x ∷ xs) (inl is) = rw (← is, sym (read_balances n amount v k has) ∙ fails) refl
     over (x ∷ xs) (inr m) =
         or_right (not (balances b (with_supply b series (with_outflow t.now n amount)) x)) _ (over xs m)
 
-pub uneven_is : (b : Basin) (series : Inflows) (a : CheckState) (t : ReadSoFar) (n amount : ℕ) (even : Bool) →
+pub uneven_is : {b : Basin} {series : Inflows} {a : CheckState} {t : ReadSoFar} (n amount : ℕ) (even : Bool) →
     Keeps b series a t → a.has_supply ≡ true →
     (even ≡ true → (v : ℕ) → v < length b.nodes → balances b (with_outflow a.month n amount) v ≡ true) →
     (even ≡ false → (v : ℕ) × (v < length b.nodes) × (balances b (with_outflow a.month n amount) v ≡ false)) →
     not even ≡ list_any (λ v. not (balances b (with_supply b series (with_outflow t.now n amount)) v))
     (indices_of b.nodes)
-uneven_is b series a t n amount true k has all some = sym (all_even b series a t n amount k has (all refl))
-uneven_is b series a t n amount false k has all some = sym (some_uneven b series a t n amount k has (some refl))
+uneven_is n amount true k has all some = sym (all_even n amount k has (all refl))
+uneven_is n amount false k has all some = sym (some_uneven n amount k has (some refl))
 
 -- at the last outlet, and at no other
-pub last_is : (b : Basin) (last n : ℕ) (p : Bool) →
+pub last_is : (b : Basin) {last n : ℕ} (p : Bool) →
     ((k : ℕ) → list_all (λ other. nat_le other k) (outlets b) ≡ nat_le last k) → last ≤ n →
     p ≡ (list_all (λ other. nat_le other n) (outlets b) && p)
-last_is b last n p h l = sym (ap (λ q. q && p) (h n ∙ le-leb last n l))
+last_is b {last} {n} p h l = sym (ap (λ q. q && p) (h n ∙ le-leb last n l))
 
 -- Tight cuts.

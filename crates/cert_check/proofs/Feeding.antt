@@ -59,14 +59,10 @@ pieces_both (x ∷ xs) ys = by_feed (is_feed x) refl (pieces_both xs ys)
   where
     by_feed : (t : Bool) → is_feed x ≡ t → pieces_of (xs ++ ys) ≡ joined (pieces_of xs) (pieces_of ys) →
         pieces_of (x ∷ (xs ++ ys)) ≡ joined (pieces_of (x ∷ xs)) (pieces_of ys)
-    by_feed true e later =
-        slice_split-cons_yes is_feed x (xs ++ ys) e
-        ∙ (ap (λ ps. [] ∷ ps) later
+    by_feed true e later = slice_split-cons_yes is_feed x (xs ++ ys) e ∙ (ap (λ ps. [] ∷ ps) later
         ∙ (joined-cons [] (pieces_of xs) (pieces_of ys) (some_pieces xs)
         ∙ ap (λ ps. joined ps (pieces_of ys)) (sym (slice_split-cons_yes is_feed x xs e))))
-    by_feed false e later =
-        slice_split-cons_no is_feed x (xs ++ ys) e
-        ∙ (ap (onto_first x) later
+    by_feed false e later = slice_split-cons_no is_feed x (xs ++ ys) e ∙ (ap (onto_first x) later
         ∙ (joined-onto x (pieces_of xs) (pieces_of ys) (some_pieces xs)
         ∙ ap (λ ps. joined ps (pieces_of ys)) (sym (slice_split-cons_no is_feed x xs e))))
 
@@ -106,30 +102,30 @@ long_judged b series items bytes long = by_end (is_whole items) refl
   where
     by_end : (t : Bool) → is_whole items ≡ t → judge b series items bytes ≡ Err (long_refusal items)
     by_end true e = rw e (judged_ended b series items bytes e)
-    by_end false e = rw e (judged_bad b series items bytes bad.OverLong e (long_read b items bytes long))
+    by_end false e = rw e (judged_bad b series items bytes e (long_read b items bytes long))
 
-long_verdict : (b : Basin) (series : Inflows) (lines : List (List ℕ)) (bytes : List ℕ) (items : List Item) →
+long_verdict : (b : Basin) (series : Inflows) (lines : List (List ℕ)) (bytes : List ℕ) {items : List Item} →
     verdict_from b series [] lines ≡ Ok items → 128 < length bytes →
     verdict_from b series [] (lines ++ bytes ∷ []) ≡ Err (long_refusal items)
-long_verdict b series lines bytes items good long =
-    line_judged b series lines bytes items (Err (long_refusal items)) good (long_judged b series items bytes long)
+long_verdict b series lines bytes {items} good long =
+    line_judged b series lines bytes good (long_judged b series items bytes long)
 
 -- A text with such a line in it is refused where its prefix is, though the line may go on.
 long_prefix : (b : Basin) (series : Inflows) (bytes : List ℕ) (lines : List (List ℕ)) (long : List ℕ)
-    (others : List (List ℕ)) (e : Refuted) → pieces_of bytes ≡ lines ++ long ∷ others → 128 < length long →
+    (others : List (List ℕ)) {e : Refuted} → pieces_of bytes ≡ lines ++ long ∷ others → 128 < length long →
     verdict_from b series [] (lines ++ long ∷ []) ≡ Err e → text_verdict b series bytes ≡ Err e
-long_prefix b series bytes lines long [] e is more h =
+long_prefix b series bytes lines long [] is more h =
     ap (λ ps. verdict b series (lines_of_pieces ps) (rest_of_pieces ps)) is
     ∙ (long_rest b series lines long more ∙ ap (ok_then (verdict_at_end [])) h)
-long_prefix b series bytes lines long (other ∷ others) e is more h =
-    prefix_refused b series bytes (lines ++ long ∷ []) (other ∷ others) e
+long_prefix b series bytes lines long (other ∷ others) {e} is more h =
+    prefix_refused b series bytes (lines ++ long ∷ []) (other ∷ others)
     (is ∙ sym (append_assoc lines (long ∷ []) (other ∷ others))) (omega arith) h
 
 -- What a checker was given, with the prefix of a piece more.
 
 -- nothing so far
-pub nothing_given : (c : CheckerView) → CheckerStandsFor c [] → AreGiven c nothing_held []
-nothing_given c stands = record {
+pub nothing_given : {c : CheckerView} → CheckerStandsFor c [] → AreGiven c nothing_held []
+nothing_given {c} stands = record {
   lines = [];
   stands = stands;
   good = by_refused c.refused refl;
@@ -139,12 +135,12 @@ nothing_given c stands = record {
   where
     by_refused : (o : Option Refuted) → c.refused ≡ o → c.refused ≡ None
     by_refused None is = is
-    by_refused (Some e) is = let never : Ok [] ≡ Err e = refusal_is c [] e is stands in cc
+    by_refused (Some e) is = let never : Ok [] ≡ Err e = refusal_is c [] is stands in cc
 
 -- bytes that end no line
-pub all_given : (c : CheckerView) (line after : LineHeld) (text piece : List ℕ) (taken : ℕ) → AreGiven c line text →
+pub all_given : {c : CheckerView} {line after : LineHeld} {text piece : List ℕ} {taken : ℕ} → AreGiven c line text →
     TakesAll line.bytes after.bytes piece taken → AreGiven c after (text ++ take taken piece)
-all_given c line after text piece taken given takes = record {
+all_given {c} {line} {after} {text} {piece} {taken} given takes = record {
   lines = given.lines;
   stands = given.stands;
   good = given.good;
@@ -158,18 +154,15 @@ all_given c line after text piece taken given takes = record {
 -- what is taken up to a line feed
 to_feed : (old new piece : List ℕ) (taken : ℕ) (t : TakesToFeed old new piece taken) →
     take taken piece ≡ t.before ++ 10 ∷ []
-to_feed old new piece taken t =
-    ap (take taken) t.ended
-    ∙ (ap (λ n. take n (t.before ++ 10 ∷ drop taken piece)) t.count
+to_feed old new piece taken t = ap (take taken) t.ended ∙ (ap (λ n. take n (t.before ++ 10 ∷ drop taken piece)) t.count
     ∙ take-append-add t.before (10 ∷ drop taken piece) 1)
 
 -- bytes that end a line
-line_given : (c after : CheckerView) (line : LineHeld) (text bytes piece : List ℕ) (taken : ℕ) → AreGiven c line text →
+line_given : {c after : CheckerView} {line : LineHeld} {text bytes piece : List ℕ} {taken : ℕ} → AreGiven c line text →
     TakesToFeed line.bytes bytes piece taken →
     ((lines : List (List ℕ)) → CheckerStandsFor c lines → CheckerStandsFor after (lines ++ bytes ∷ [])) →
-    after.refused ≡ None →
-    AreGiven after nothing_held (text ++ take taken piece)
-line_given c after line text bytes piece taken given takes stands good = record {
+    after.refused ≡ None → AreGiven after nothing_held (text ++ take taken piece)
+line_given {c} {after} {line} {text} {bytes} {piece} {taken} given takes stands good = record {
   lines = given.lines ++ bytes ∷ [];
   stands = stands given.lines given.stands;
   good = good;
@@ -182,15 +175,13 @@ line_given c after line text bytes piece taken given takes stands good = record 
 }
 
 -- The line that is ended is at fault.
-line_refused : (c : CheckerView) (line : LineHeld) (text bytes piece : List ℕ) (taken : ℕ) (e : Refuted) →
+line_refused : {c : CheckerView} {line : LineHeld} {text bytes piece : List ℕ} {taken : ℕ} {e : Refuted} →
     AreGiven c line text → TakesToFeed line.bytes bytes piece taken →
     ((lines : List (List ℕ)) → CheckerStandsFor c lines → verdict_from c.basin c.series [] (lines ++ bytes ∷ []) ≡ Err
-    e) →
-    (more : List ℕ) → text_verdict c.basin c.series (text ++ piece ++ more) ≡ Err e
-line_refused c line text bytes piece taken e given takes answer more =
-    prefix_refused c.basin c.series (text ++ piece ++ more) (given.lines ++ bytes ∷ []) (pieces_of later) e
-    (ap pieces_of (append_assoc text piece more)
-    ∙ (pieces_more text (piece ++ more) given.lines line.bytes given.pieces
+    e) → (more : List ℕ) → text_verdict c.basin c.series (text ++ piece ++ more) ≡ Err e
+line_refused {c} {line} {text} {bytes} {piece} {taken} {e} given takes answer more =
+    prefix_refused c.basin c.series (text ++ piece ++ more) (given.lines ++ bytes ∷ []) (pieces_of later)
+    (ap pieces_of (append_assoc text piece more) ∙ (pieces_more text (piece ++ more) given.lines line.bytes given.pieces
     ∙ (ap (λ ps. given.lines ++ glued line.bytes ps) cut
     ∙ (ap (λ held. given.lines ++ held ∷ pieces_of later) (sym takes.held)
     ∙ sym (append_assoc given.lines (bytes ∷ []) (pieces_of later))))))
@@ -200,38 +191,35 @@ line_refused c line text bytes piece taken e given takes answer more =
     later = drop taken piece ++ more
 
     cut : pieces_of (piece ++ more) ≡ takes.before ∷ pieces_of later
-    cut =
-        ap (λ xs. pieces_of (xs ++ more)) takes.ended
+    cut = ap (λ xs. pieces_of (xs ++ more)) takes.ended
         ∙ (ap pieces_of (append_assoc takes.before (10 ∷ drop taken piece) more)
         ∙ slice_split_at is_feed takes.before 10 later takes.no_feed refl)
 
 -- the items of the lines so far, none of which is at fault
 good_items : (c : CheckerView) (lines : List (List ℕ)) → CheckerStandsFor c lines → c.refused ≡ None →
     (items : List Item) × (verdict_from c.basin c.series [] lines ≡ Ok items)
-good_items c lines stands good = let progress = good_is c lines good stands in (progress.items, progress.verdict)
+good_items c lines stands good = let progress = good_is good stands in (progress.items, progress.verdict)
 
 -- A line that is too long is never taken.
-long_taken : (c : CheckerView) (line : LineHeld) (text bytes piece : List ℕ) (taken : ℕ) → AreGiven c line text →
-    TakesToFull line.bytes bytes piece taken →
-    ((lines : List (List ℕ)) → CheckerStandsFor c lines → IsOk
+long_taken : {c : CheckerView} {line : LineHeld} {text bytes piece : List ℕ} {taken : ℕ} → AreGiven c line text →
+    TakesToFull line.bytes bytes piece taken → ((lines : List (List ℕ)) → CheckerStandsFor c lines → IsOk
     (verdict_from c.basin c.series [] (lines ++ bytes ∷ []))) → ⊥
-long_taken c line text bytes piece taken given takes answer =
+long_taken {c} {line} {text} {bytes} given takes answer =
     let good = good_items c given.lines given.stands given.good in
     never (verdict_from c.basin c.series [] (given.lines ++ bytes ∷ [])) (long_refusal good.0)
     (answer given.lines given.stands)
-    (long_verdict c.basin c.series given.lines bytes good.0 good.1 (omega (arith, takes.full)))
+    (long_verdict c.basin c.series given.lines bytes good.1 (omega (arith, takes.full)))
   where
     never : (r : Result (List Item) Refuted) (e : Refuted) → IsOk r → r ≡ Err e → ⊥
     never (Ok items) e ok is = cc
     never (Err other) e ok is = cc
 
 -- It is refused, and so is each text in which it goes on.
-long_refused : (c : CheckerView) (line : LineHeld) (text bytes piece : List ℕ) (taken : ℕ) (e : Refuted) →
+long_refused : {c : CheckerView} {line : LineHeld} {text bytes piece : List ℕ} {taken : ℕ} {e : Refuted} →
     AreGiven c line text → TakesToFull line.bytes bytes piece taken →
     ((lines : List (List ℕ)) → CheckerStandsFor c lines → verdict_from c.basin c.series [] (lines ++ bytes ∷ []) ≡ Err
-    e) →
-    (more : List ℕ) → text_verdict c.basin c.series (text ++ piece ++ more) ≡ Err e
-long_refused c line text bytes piece taken e given takes answer more =
+    e) → (more : List ℕ) → text_verdict c.basin c.series (text ++ piece ++ more) ≡ Err e
+long_refused {c} {line} {text} {bytes} {piece} {taken} {e} given takes answer more =
     by_pieces (pieces_of later) refl (some_pieces later)
   where
     prefix : List ℕ
@@ -241,8 +229,7 @@ long_refused c line text bytes piece taken e given takes answer more =
     later = drop taken piece ++ more
 
     cut : pieces_of (piece ++ more) ≡ glued prefix (pieces_of later)
-    cut =
-        ap (λ xs. pieces_of (xs ++ more)) (sym (take-append-drop taken piece))
+    cut = ap (λ xs. pieces_of (xs ++ more)) (sym (take-append-drop taken piece))
         ∙ (ap pieces_of (append_assoc prefix (drop taken piece) more)
         ∙ pieces_more prefix later [] prefix (slice_split_none is_feed prefix takes.no_feed))
 
@@ -254,59 +241,56 @@ long_refused c line text bytes piece taken e given takes answer more =
         let held : line.bytes ++ (prefix ++ next) ≡ bytes ++ next =
         sym (append_assoc line.bytes prefix next) ∙ ap (λ xs. xs ++ next) (sym takes.held) in
         let longer : 128 < length (bytes ++ next) = omega (arith, takes.full, length-append bytes next) in
-        long_prefix c.basin c.series (text ++ piece ++ more) given.lines (bytes ++ next) others e
+        long_prefix c.basin c.series (text ++ piece ++ more) given.lines (bytes ++ next) others
         (ap pieces_of (append_assoc text piece more)
         ∙ (pieces_more text (piece ++ more) given.lines line.bytes given.pieces
         ∙ (ap (λ ps. given.lines ++ glued line.bytes ps) (cut ∙ ap (glued prefix) is)
-        ∙ ap (λ line. given.lines ++ line ∷ others) held)))
-        longer
-        (long_verdict c.basin c.series given.lines (bytes ++ next) good.0 good.1 longer
-        ∙ (sym (long_verdict c.basin c.series given.lines bytes good.0 good.1 (omega (arith, takes.full)))
+        ∙ ap (λ line. given.lines ++ line ∷ others) held))) longer
+        (long_verdict c.basin c.series given.lines (bytes ++ next) good.1 longer
+        ∙ (sym (long_verdict c.basin c.series given.lines bytes good.1 (omega (arith, takes.full)))
         ∙ answer given.lines given.stands))
 
 -- Whether a line is whole.
 
-pub not_whole : (whole : Bool) (old new piece : List ℕ) (taken : ℕ) → not whole ≡ true →
+pub not_whole : (whole : Bool) {old new piece : List ℕ} {taken : ℕ} → not whole ≡ true →
     Takes whole old new piece taken → TakesAll old new piece taken
-not_whole true old new piece taken e takes = cc
-not_whole false old new piece taken e takes = takes
+not_whole true e takes = cc
+not_whole false e takes = takes
 
-pub ended : (whole : Bool) (old new piece : List ℕ) (taken : ℕ) → not whole ≡ false → Takes whole old new piece taken →
+pub ended : (whole : Bool) {old new piece : List ℕ} {taken : ℕ} → not whole ≡ false → Takes whole old new piece taken →
     Takes true old new piece taken
-ended true old new piece taken e takes = takes
-ended false old new piece taken e takes = cc
+ended true e takes = takes
+ended false e takes = cc
 
 -- A line that is whole: a line feed ended it, or it is too long.
 
-pub ended_given : (c after : CheckerView) (line : LineHeld) (text bytes piece : List ℕ) (taken : ℕ) →
+pub ended_given : {c after : CheckerView} {line : LineHeld} {text bytes piece : List ℕ} {taken : ℕ} →
     AreGiven c line text → Takes true line.bytes bytes piece taken →
     ((lines : List (List ℕ)) → CheckerStandsFor c lines → CheckerStandsFor after (lines ++ bytes ∷ [])) →
     after.refused ≡ None →
-    ((lines : List (List ℕ)) → CheckerStandsFor c lines → IsOk
-    (verdict_from c.basin c.series [] (lines ++ bytes ∷ []))) →
-    AreGiven after nothing_held (text ++ take taken piece)
-ended_given c after line text bytes piece taken given takes stands good answer = elim takes [
-  | inl to_feed ↦ line_given c after line text bytes piece taken given to_feed stands good
-  | inr to_full ↦ absurd (long_taken c line text bytes piece taken given to_full answer)
+    ((lines : List (List ℕ)) → CheckerStandsFor c lines → IsOk (verdict_from c.basin c.series [] (lines ++ bytes ∷ [])))
+    → AreGiven after nothing_held (text ++ take taken piece)
+ended_given given takes stands good answer = elim takes [
+  | inl to_feed ↦ line_given given to_feed stands good
+  | inr to_full ↦ absurd (long_taken given to_full answer)
 ]
 
-pub ended_refused : (c : CheckerView) (line : LineHeld) (text bytes piece : List ℕ) (taken : ℕ) (e : Refuted) →
+pub ended_refused : {c : CheckerView} {line : LineHeld} {text bytes piece : List ℕ} {taken : ℕ} {e : Refuted} →
     AreGiven c line text → Takes true line.bytes bytes piece taken →
     ((lines : List (List ℕ)) → CheckerStandsFor c lines → verdict_from c.basin c.series [] (lines ++ bytes ∷ []) ≡ Err
-    e) →
-    (more : List ℕ) → text_verdict c.basin c.series (text ++ piece ++ more) ≡ Err e
-ended_refused c line text bytes piece taken e given takes answer more = elim takes [
-  | inl to_feed ↦ line_refused c line text bytes piece taken e given to_feed answer more
-  | inr to_full ↦ long_refused c line text bytes piece taken e given to_full answer more
+    e) → (more : List ℕ) → text_verdict c.basin c.series (text ++ piece ++ more) ≡ Err e
+ended_refused given takes answer more = elim takes [
+  | inl to_feed ↦ line_refused given to_feed answer more
+  | inr to_full ↦ long_refused given to_full answer more
 ]
 
 -- Nothing was held, and nothing is.
-pub held_given : (c after : CheckerView) (line : LineHeld) (text bytes piece : List ℕ) (taken : ℕ) →
+pub held_given : {c after : CheckerView} {line : LineHeld} {text bytes piece : List ℕ} {taken : ℕ} →
     AreGiven c line text → line.bytes ≡ [] → TakesToFeed [] bytes piece taken →
     ((lines : List (List ℕ)) → CheckerStandsFor c lines → CheckerStandsFor after (lines ++ bytes ∷ [])) →
     after.refused ≡ None → AreGiven after line (text ++ take taken piece)
-held_given c after line text bytes piece taken given none takes stands good =
-    let now = line_given c after line text bytes piece taken given
+held_given {c} {after} {line} {text} {bytes} {piece} {taken} given none takes stands good =
+    let now = line_given given
     (subst (λ (held : List ℕ). TakesToFeed held bytes piece taken) (sym none) takes) stands good in
     record {
       lines = now.lines;
@@ -318,10 +302,10 @@ held_given c after line text bytes piece taken given none takes stands good =
 
 -- A piece from an index on.
 
-pub given_on : (c : CheckerView) (line : LineHeld) (text piece : List ℕ) (at taken : ℕ) →
+pub given_on : {c : CheckerView} {line : LineHeld} (text piece : List ℕ) (at taken : ℕ) →
     AreGiven c line ((text ++ take at piece) ++ take taken (slice_range piece at (length piece))) →
     AreGiven c line (text ++ take (at + taken) piece)
-given_on c line text piece at taken given =
+given_on text piece at taken given =
     rw (take-add at taken piece, ← append_assoc text (take at piece) (take taken (drop at piece)))
     (rw (take_rest piece at) at given)
 
@@ -334,12 +318,10 @@ refused_on b series text piece more at e h =
     ∙ ap (λ xs. (text ++ take at piece) ++ xs) (sym (take_rest piece at)))) ∙ h
 
 -- No byte is left.
-pub text_answered : (c : CheckerView) (line : LineHeld) (text : List ℕ) (result : Result ℕ Refuted) →
-    AreGiven c line text →
-    ((lines : List (List ℕ)) → CheckerStandsFor c lines →
-    IsAnswer c.basin result (verdict c.basin c.series lines line.bytes)) →
-    IsAnswer c.basin result (text_verdict c.basin c.series text)
-text_answered c line text result given answer =
+pub text_answered : {c : CheckerView} {line : LineHeld} {text : List ℕ} (result : Result ℕ Refuted) →
+    AreGiven c line text → ((lines : List (List ℕ)) → CheckerStandsFor c lines → IsAnswer c.basin result
+    (verdict c.basin c.series lines line.bytes)) → IsAnswer c.basin result (text_verdict c.basin c.series text)
+text_answered {c} {line} {text} result given answer =
     let is : text_verdict c.basin c.series text ≡ verdict c.basin c.series given.lines line.bytes =
     ap (λ ps. verdict c.basin c.series (lines_of_pieces ps) (rest_of_pieces ps)) given.pieces
     ∙ short_rest c.basin c.series given.lines line.bytes given.short in

@@ -25,10 +25,10 @@ unfolding first_row
 first_is b series t i = found (rows b series t i)
 
 -- the first of some rows and others
-pub some_first : (xs ys : List Row) (kind : RefutedKind) → first_of xs ≡ Some kind → first_of (xs ++ ys) ≡ Some kind
-some_first [] ys kind h = cc
-some_first ((k, true) ∷ xs) ys kind h = h
-some_first ((k, false) ∷ xs) ys kind h = some_first xs ys kind h
+pub some_first : (xs ys : List Row) {kind : RefutedKind} → first_of xs ≡ Some kind → first_of (xs ++ ys) ≡ Some kind
+some_first [] ys h = cc
+some_first ((k, true) ∷ xs) ys h = h
+some_first ((k, false) ∷ xs) ys {kind} h = some_first xs ys h
 
 pub none_first : (xs ys : List Row) → first_of xs ≡ None → first_of (xs ++ ys) ≡ first_of ys
 none_first [] ys h = refl

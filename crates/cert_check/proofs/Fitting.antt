@@ -37,15 +37,15 @@ pub none_answered : (b : Basin) (m : MonthRecord) {lines : ℕ} → lines ≡ 0 
 none_answered b m e = record { within = omega arith; called = e }
 
 -- each list of amounts has one for each entry
-pub amounts_sized : (b : Basin) (m : MonthRecord) → FitsRecord b m → (q : Quantity) →
+pub amounts_sized : {b : Basin} {m : MonthRecord} → FitsRecord b m → (q : Quantity) →
     length (amounts_of q m) ≡ count_in (space_of q) b
-amounts_sized b m k quantity.Opening = k.fits.opening
-amounts_sized b m k quantity.Evaporated = k.fits.evaporated
-amounts_sized b m k quantity.Returned = k.fits.returned
-amounts_sized b m k quantity.Used = k.fits.used
-amounts_sized b m k quantity.Flow = k.flow
-amounts_sized b m k quantity.Outflow = k.out
-amounts_sized b m k quantity.Closing = k.fits.closing
+amounts_sized k quantity.Opening = k.fits.opening
+amounts_sized k quantity.Evaporated = k.fits.evaporated
+amounts_sized k quantity.Returned = k.fits.returned
+amounts_sized k quantity.Used = k.fits.used
+amounts_sized k quantity.Flow = k.flow
+amounts_sized k quantity.Outflow = k.out
+amounts_sized k quantity.Closing = k.fits.closing
 
 -- One amount changes.
 
@@ -57,22 +57,16 @@ pub put_both : {A : Type 0} {xs now : List A} {n : ℕ} (position : ℕ) (x : A)
     (length (slice_set xs position x) ≡ n) × (slice_set xs position x ≡ slice_set now position x)
 put_both {xs = xs} position x l e = (length-set xs position x ∙ l, ap (λ ys. slice_set ys position x) e)
 
-pub record_with : (b : Basin) (q : Quantity) (entry amount : ℕ) (m now : MonthRecord) → IsRecordOf b m now →
+pub record_with : {b : Basin} (q : Quantity) (entry amount : ℕ) {m now : MonthRecord} → IsRecordOf b m now →
     IsRecordOf b (with_amount q entry amount m) (with_amount q entry amount now)
-record_with b quantity.Opening entry amount m now k =
-    assumption (put_both entry amount k.fits.fits.opening k.shows.opening)
-record_with b quantity.Evaporated entry amount m now k =
+record_with quantity.Opening entry amount k = assumption (put_both entry amount k.fits.fits.opening k.shows.opening)
+record_with quantity.Evaporated entry amount k =
     assumption (put_both entry amount k.fits.fits.evaporated k.shows.evaporated)
-record_with b quantity.Returned entry amount m now k =
-    assumption (put_both entry amount k.fits.fits.returned k.shows.returned)
-record_with b quantity.Used entry amount m now k =
-    assumption (put_both entry amount k.fits.fits.used k.shows.used)
-record_with b quantity.Flow entry amount m now k =
-    assumption (put_both entry amount k.fits.flow k.shows.flow)
-record_with b quantity.Outflow entry amount m now k =
-    assumption (put_both entry amount k.fits.out k.shows.out)
-record_with b quantity.Closing entry amount m now k =
-    assumption (put_both entry amount k.fits.fits.closing k.shows.closing)
+record_with quantity.Returned entry amount k = assumption (put_both entry amount k.fits.fits.returned k.shows.returned)
+record_with quantity.Used entry amount k = assumption (put_both entry amount k.fits.fits.used k.shows.used)
+record_with quantity.Flow entry amount k = assumption (put_both entry amount k.fits.flow k.shows.flow)
+record_with quantity.Outflow entry amount k = assumption (put_both entry amount k.fits.out k.shows.out)
+record_with quantity.Closing entry amount k = assumption (put_both entry amount k.fits.fits.closing k.shows.closing)
 
 -- what no amount of an entry touches
 pub record Stays (m n : MonthRecord) : Type 0 where
@@ -93,27 +87,26 @@ stays quantity.Closing entry amount m = assumption
 
 -- callers follow from deliveries, wants and sets
 pub callers_same : (b : Basin) (m n : MonthRecord) → m.delivered ≡ n.delivered → m.want ≡ n.want →
-    m.cuts.sets ≡ n.cuts.sets → (xs : List ℕ) →
-    callers_of b m xs ≡ callers_of b n xs
+    m.cuts.sets ≡ n.cuts.sets → (xs : List ℕ) → callers_of b m xs ≡ callers_of b n xs
 unfolding calling_right calls
 callers_same b m n d w s xs = rw (d, w, s) refl
 
 -- what follows from these stays with them
 
-pub callers_stay : (b : Basin) (m n : MonthRecord) (callers : List (Option ℕ)) → Stays m n → AreCallers b m callers →
+pub callers_stay : {b : Basin} {m n : MonthRecord} {callers : List (Option ℕ)} → Stays m n → AreCallers b m callers →
     AreCallers b n callers
-callers_stay b m n callers s known = record {
+callers_stay s known = record {
   enough = known.enough;
   each = λ node below. known.each node below ∙ (rw (s.delivered, s.want, s.cuts) refl);
 }
 
-pub settled_stay : (b : Basin) (m n : MonthRecord) (count : ℕ) → Stays m n → AreSettled b m count → AreSettled b n count
-settled_stay b m n count s k =
+pub settled_stay : {b : Basin} {m n : MonthRecord} {count : ℕ} → Stays m n → AreSettled b m count → AreSettled b n count
+settled_stay s k =
     record { within = k.within; each = rw (s.delivered, s.want, s.cuts) k.each }
 
-pub answered_stay : (b : Basin) (m n : MonthRecord) (count lines : ℕ) → Stays m n → AreAnswered b m count lines →
+pub answered_stay : {b : Basin} {m n : MonthRecord} {count lines : ℕ} → Stays m n → AreAnswered b m count lines →
     AreAnswered b n count lines
-answered_stay b m n count lines s k = record {
+answered_stay {b} {m} {n} {count} s k = record {
   within = k.within;
   called = k.called ∙ ap length (callers_same b m n (sym s.delivered) (sym s.want)
       (ap (λ (cuts : CutSets). cuts.sets) (sym s.cuts)) (take count (seniors_first b)));
@@ -121,8 +114,7 @@ answered_stay b m n count lines s k = record {
 
 -- the supply that is made stays so, unless it is made of the quantity
 pub supply_stays : (b : Basin) (series : Inflows) (q : Quantity) (entry amount : ℕ) (m now : MonthRecord)
-    (made : Bool) →
-    (made ≡ true → m.supply ≡ (with_supply b series now).supply) → made && not (is_supplied q) ≡ true →
+    (made : Bool) → (made ≡ true → m.supply ≡ (with_supply b series now).supply) → made && not (is_supplied q) ≡ true →
     (with_amount q entry amount m).supply ≡ (with_supply b series (with_amount q entry amount now)).supply
 supply_stays b series q entry amount m now false h e = clash e
 supply_stays b series quantity.Opening entry amount m now true h e = clash e

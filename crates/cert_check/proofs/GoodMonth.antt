@@ -1,4 +1,4 @@
--- A month whose lines are not refuted is good.
+-- The lines of a good month are not refuted.
 use Rattle.std.proofs.Common.{◌≡◌, ℕ, ◌<◌, ◌≤◌, Bool, true, false, refl, sym, ap, subst, ◌∙◌, arith, List, [], ◌∷◌}
 use Rattle.std.proofs.Common.{◌++◌, length, map, fold, append-nil, length-append}
 use Rattle.std.specs.Prelude.{Option, Some, None, slice_index}
@@ -10,28 +10,126 @@ use Rattle.result_lines.specs.declared.quantity.Quantity.TheVariants as quantity
 use Rattle.water_model.specs.declared.types.Basin.{Basin}
 use Rattle.water_model.specs.declared.types.Inflows.{Inflows}
 use Rattle.water_model.specs.declared.types.MonthRecord.{MonthRecord}
-use Rattle.water_model.proofs.Order.{seniors_have, seniors_below}
+use Rattle.water_model.proofs.Order.{seniors_have, seniors_below, seniors_ordered}
 use Rattle.result_reader.specs.ReadSoFar.{ReadSoFar, read_item}
 use Rattle.result_reader.proofs.WholeMonth.{IsAllRead}
 use Rattle.cut_cert.specs.Callers.{is_short}
 use Rattle.cert_check.specs.Checking.{is_tight, balances, callers_due}
-use Rattle.cert_check.proofs.Rows.{AreGood, good_section, good_parts}
+use Rattle.cert_check.proofs.Rows.{AreGood, good_section, good_parts, section_good, section_keeps, good_both}
 use Rattle.cert_check.proofs.Sections as section
-use Rattle.cert_check.proofs.Outflows.{IsInBalance, outflows_read}
-use Rattle.cert_check.proofs.Calls.{HasRightSets, IsSettled, calls_read}
+use Rattle.cert_check.proofs.Outflows.{IsInBalance, outflows_read, outlets_rise, outflows_good}
+use Rattle.cert_check.proofs.Calls.{HasRightSets, IsSettled, calls_read, Calling, read_short, calls_good}
 use Rattle.cert_check.proofs.Callers.{AllCalled, After, IsPast, called_read, settled_called, closings, closing_past}
-use Rattle.cert_check.proofs.Callers.{end_past}
+use Rattle.cert_check.proofs.Callers.{end_past, Callers, called_line, called_good, end_good}
 use Rattle.cert_check.proofs.Month.{At, AfterCalls, IsGoodMonth, stages, begun, with_out, with_calls, read_balance}
 use Rattle.cert_check.proofs.Month.{read_sees, read_callers, calls_stage, inner_lines, opening_lines, evaporated_lines}
 use Rattle.cert_check.proofs.Month.{returned_lines, used_lines, flow_lines, deliver_lines, out_lines, call_lines}
 use Rattle.cert_check.proofs.Month.{due_lines, closing_lines, after_opening, after_evaporated, after_returned}
 use Rattle.cert_check.proofs.Month.{after_used, after_flow, after_deliver, after_out, after_calls, after_called}
+use Rattle.water_model.specs.Rights.{AreStrict}
+use Rattle.water_model.proofs.SetEntries.{no_sets}
 
-balance_out : (b : Basin) (series : Inflows) (m : MonthRecord) (t : ReadSoFar) → IsAllRead b series m →
-    t.now ≡ with_out b m → IsInBalance b series t.now →
-    (n : ℕ) → n < length b.nodes → balances b m n ≡ true
+out_balance : {b : Basin} {series : Inflows} {m : MonthRecord} (t : ReadSoFar) → IsAllRead b series m →
+    t.now ≡ with_out b m → ((n : ℕ) → n < length b.nodes → balances b m n ≡ true) → IsInBalance b series t.now
 unfolding IsInBalance
-balance_out b series m t a is h n l = sym (read_balance b series m t.now n a is) ∙ h n l
+out_balance t a is h n l = read_balance n a is ∙ h n l
+
+calls_begin : {b : Basin} {series : Inflows} {before : List MonthRecord} {m : MonthRecord} {t : ReadSoFar} →
+    IsAllRead b series m → At b before (with_out b m) t → Calling b series m (seniors_first b) t
+calls_begin {b} a at = record {
+  sees = read_sees a at.now_is;
+  settled = λ r e. (let never : None ≡ Some r = sym at.calling ∙ e in cc);
+  sets = λ r l none. absurd (none (seniors_have b.rights r l));
+  free = λ r h. ap (λ k. cut_of k r) at.now_is ∙ no_sets (length b.rights) r;
+}
+
+callers_begin : {b : Basin} {series : Inflows} {before : List MonthRecord} {m : MonthRecord} {t : ReadSoFar} →
+    HasRightSets b m → AfterCalls b before m t → Calling b series m [] t → Callers b series (callers_due b m) [] t
+callers_begin {b} {series} {before} {m} {t} right at c = record {
+  all = record { settled = c.settled; none_left = λ r l short free. unset r l short free };
+  due = read_callers b m at.now_is;
+  count = at.called;
+}
+  where
+    unset : (r : ℕ) → r < length b.rights → is_short t.now r ≡ true → cut_of t.now r ≡ None → ⊥
+    unset r l short free =
+        let own = right.short r l (sym (read_short r c.sees) ∙ short) in
+        let never : None ≡ Some own.0 = sym free ∙ (c.sets r l (λ h. h) ∙ own.1) in cc
+
+called_stays : (b : Basin) (series : Inflows) (dues : List (ℕ × ℕ)) (t : ReadSoFar) →
+    (fold (read_item b series) t (due_lines dues)).now ≡ t.now
+called_stays b series [] t = refl
+called_stays b series (x ∷ xs) t = called_stays b series xs (read_item b series t (called_line x))
+
+pub inner_good : {b : Basin} {series : Inflows} {before : List MonthRecord} {m : MonthRecord} → AreStrict b.rights →
+    IsAllRead b series m → IsGoodMonth b series before m →
+    {t : ReadSoFar} → At b before (begun b m) t → AreGood b series t (inner_lines b m (callers_due b m))
+inner_good {b} {series} {before} {m} strict a good {t} at =
+    let s = stages a at in
+    let opening_good = section_good (section.After before)
+    (section.openings b series before (λ x. slice_index m.opening x)) (entries_with_line b quantity.Opening)
+    (at.calling, at.months) good.opening in
+    let evaporated_good = section_good (section.Opened m.index m.opening)
+    (section.evaporations b series m.index m.opening (λ x. slice_index m.evaporated x))
+    (entries_with_line b quantity.Evaporated)
+    (s.opening.calling, ap (λ k. k.index) s.opening.now_is, ap (λ k. k.opening) s.opening.now_is) good.evaporated in
+    let returned_good = section_good (section.AfterAt before m.index)
+    (section.returns b series before m.index (λ x. slice_index m.returned x)) (entries_with_line b quantity.Returned)
+    (s.evaporated.calling, s.evaporated.months, ap (λ k. k.index) s.evaporated.now_is) good.returned in
+    let used_good = section_good (section.AfterAt before m.index)
+    (section.uses b series before m.index (λ x. slice_index m.used x)) (entries_with_line b quantity.Used)
+    (s.returned.calling, s.returned.months, ap (λ k. k.index) s.returned.now_is) good.used in
+    let flow_good = section_good (section.InMonth m.month)
+    (section.flows b series m.month (λ x. slice_index m.plan.flow x)) (entries_with_line b quantity.Flow)
+    (s.used.calling, ap (λ k. k.month) s.used.now_is) good.flow in
+    let deliver_good =
+    section_good (section.Flows m.index m.used m.plan.flow)
+    (section.deliveries b series m.index m.used m.plan.flow (λ x. slice_index m.delivered x)
+    (λ x. slice_index m.want x)) (seniors_first b) (
+      s.flow.calling,
+      ap (λ k. k.index) s.flow.now_is,
+      ap (λ k. k.used) s.flow.now_is,
+      ap (λ k. k.plan.flow) s.flow.now_is,
+    ) good.deliver in
+    let out_good =
+    outflows_good b series (λ x. slice_index m.plan.out x) (outlets b) [] (after_deliver b series m t) refl
+    (outlets_rise b) s.deliver.calling
+    (out_balance (after_out b series m t) a s.out.now_is good.balance) in
+    let calls =
+    calls_good b series m good.sets (seniors_first b) (seniors_ordered b.rights strict)
+    (λ r h. seniors_below b.rights r h) (after_out b series m t)
+    (calls_begin a s.out) in
+    let after = calls_stage a s.out in
+    let called = called_good (callers_due b m)
+    (callers_begin good.sets after calls.1) refl in
+    let past : After b series (callers_due b m) m.plan.take (after_called b series m (callers_due b m) t) = record {
+      callers = called.1;
+      take_is =
+          ap (λ k. k.plan.take) (called_stays b series (callers_due b m) (after_calls b series m t) ∙ after.now_is);
+    } in
+    let last = closings b series (callers_due b m) m.plan.take (λ x. slice_index m.closing x) in
+    let closing_good = section_good (After b series (callers_due b m) m.plan.take) last
+    (entries_with_line b quantity.Closing) past good.closing in
+    let ended = section_keeps (After b series (callers_due b m) m.plan.take) last
+    (entries_with_line b quantity.Closing) past in
+    good_both b series t (opening_lines b m) _ opening_good
+    (good_both b series (after_opening b series m t) (evaporated_lines b m) _ evaporated_good
+    (good_both b series (after_evaporated b series m t) (returned_lines b m) _ returned_good
+    (good_both b series (after_returned b series m t) (used_lines b m) _ used_good
+    (good_both b series (after_used b series m t) (flow_lines b m) _ flow_good
+    (good_both b series (after_flow b series m t) (deliver_lines b m) _ deliver_good
+    (good_both b series (after_deliver b series m t) (out_lines b m) _ out_good
+    (good_both b series (after_out b series m t) (call_lines b m) _ calls.0
+    (good_both b series (after_calls b series m t) (due_lines (callers_due b m)) _ called.0
+    (good_both b series (after_called b series m (callers_due b m) t) (closing_lines b m) (line.End ∷ []) closing_good
+    (end_good ended.callers, tt))))))))))
+
+-- A month whose lines are not refuted is good.
+
+balance_out : {b : Basin} {series : Inflows} {m : MonthRecord} (t : ReadSoFar) → IsAllRead b series m →
+    t.now ≡ with_out b m → IsInBalance b series t.now → (n : ℕ) → n < length b.nodes → balances b m n ≡ true
+unfolding IsInBalance
+balance_out {b} {series} {m} t a is h n l = sym (read_balance n a is) ∙ h n l
 
 -- the basin has an outlet
 pub record HasOutlet (b : Basin) : Type 0 where
@@ -39,29 +137,28 @@ pub record HasOutlet (b : Basin) : Type 0 where
   pub others : List ℕ
   pub are : outlets b ≡ first ∷ others
 
-outflows_balance : (b : Basin) (series : Inflows) (a : ℕ → ℕ) (t : ReadSoFar) → HasOutlet b →
+outflows_balance : {b : Basin} (series : Inflows) (a : ℕ → ℕ) (t : ReadSoFar) → HasOutlet b →
     AreGood b series t (map (λ n. line.Amount quantity.Outflow n (a n)) (outlets b)) →
     IsInBalance b series (fold (read_item b series) t (map (λ n. line.Amount quantity.Outflow n (a n)) (outlets b))).now
-outflows_balance b series a t h g =
-    subst (λ (xs : List ℕ). IsInBalance b series
+outflows_balance {b} series a t h g = subst (λ (xs : List ℕ). IsInBalance b series
     (fold (read_item b series) t (map (λ n. line.Amount quantity.Outflow n (a n)) xs)).now) (sym h.are)
     (outflows_read b series a h.first h.others [] t h.are
     (subst (λ (xs : List ℕ). AreGood b series t (map (λ n. line.Amount quantity.Outflow n (a n)) xs)) h.are g))
 
-past_of : (b : Basin) (series : Inflows) (a : ℕ → ℕ) (xs : List ℕ) (t : ReadSoFar) →
+past_of : {b : Basin} {series : Inflows} (a : ℕ → ℕ) (xs : List ℕ) {t : ReadSoFar} →
     AreGood b series t (map (λ x. line.Amount quantity.Closing x (a x)) xs ++ line.End ∷ []) → IsPast b series t
-past_of b series a [] t g = end_past b series t g.0
-past_of b series a (x ∷ xs) t g = closing_past b series t x (a x) g.0
+past_of a [] g = end_past g.0
+past_of a (x ∷ xs) g = closing_past x (a x) g.0
 
-nothing_more : (xs more dues : List (ℕ × ℕ)) → dues ≡ xs ++ more → length dues ≤ length xs → dues ≡ xs
-nothing_more xs [] dues is l = is ∙ append-nil xs
-nothing_more xs (x ∷ more) dues is l = absurd (omega (arith, ap length is, length-append xs (x ∷ more)))
+nothing_more : {xs : List (ℕ × ℕ)} (more : List (ℕ × ℕ)) {dues : List (ℕ × ℕ)} → dues ≡ xs ++ more →
+    length dues ≤ length xs → dues ≡ xs
+nothing_more {xs} [] is l = is ∙ append-nil xs
+nothing_more {xs} (x ∷ more) is l = absurd (omega (arith, ap length is, length-append xs (x ∷ more)))
 
-right_sets : (b : Basin) (series : Inflows) (m : MonthRecord) (t u : ReadSoFar) → IsAllRead b series m →
-    t.now ≡ with_out b m → AreGood b series t (call_lines b m) →
-    u.now ≡ with_calls b m → IsSettled b series (fold (read_item b series) t (call_lines b m)) → AllCalled b series u →
-    HasRightSets b m
-right_sets b series m t u a is g now settled all = record {
+right_sets : {b : Basin} {series : Inflows} {m : MonthRecord} (t : ReadSoFar) {u : ReadSoFar} → IsAllRead b series m →
+    t.now ≡ with_out b m → AreGood b series t (call_lines b m) → u.now ≡ with_calls b m →
+    IsSettled b series (fold (read_item b series) t (call_lines b m)) → AllCalled b series u → HasRightSets b m
+right_sets {b} {series} {m} t {u} a is g now settled all = record {
   sized = a.sized;
   short = λ r l short. by_set r l short (cut_of m r) refl;
   met = λ r l met. unset r l met (cut_of m r) refl;
@@ -69,9 +166,8 @@ right_sets b series m t u a is g now settled all = record {
   where
     so_far : (r : ℕ) (set : List Bool) → r < length b.rights → cut_of m r ≡ Some set → (is_short m r ≡ true) ×
         (is_tight b m r set ≡ true)
-    so_far r set l e =
-        calls_read b series m a.sized (seniors_first b) (λ s h. seniors_below b.rights s h) t
-        (read_sees b series m t.now a is) g settled r set (seniors_have b.rights r l) e
+    so_far r set l e = calls_read a.sized (seniors_first b) (λ s h. seniors_below b.rights s h) t
+        (read_sees a is) g settled r (seniors_have b.rights r l) e
 
     same_short : (r : ℕ) → is_short u.now r ≡ is_short m r
     same_short r = ap (λ k. is_short k r) now
@@ -89,29 +185,27 @@ right_sets b series m t u a is g now settled all = record {
     unset r l met None e = e
     unset r l met (Some set) e = let no_call : false ≡ true = sym met ∙ (so_far r set l e).0 in cc
 
-called_now : (b : Basin) (series : Inflows) (before : List MonthRecord) (m : MonthRecord) (dues : List (ℕ × ℕ))
-    (t : ReadSoFar) → AfterCalls b before m t → AreGood b series t (due_lines dues) →
+called_now : {b : Basin} {series : Inflows} {before : List MonthRecord} {m : MonthRecord} {dues : List (ℕ × ℕ)}
+    {t : ReadSoFar} → AfterCalls b before m t → AreGood b series t (due_lines dues) →
     IsPast b series (fold (read_item b series) t (due_lines dues)) →
     ((fold (read_item b series) t (due_lines dues)).now ≡ with_calls b m) × (callers_due b m ≡ dues) ×
     ((fold (read_item b series) t (due_lines dues)).called ≡ length (callers_due b m))
-called_now b series before m dues t at g past =
-    let c = called_read b series dues (callers_due b m) [] t g (read_callers b m t.now at.now_is) at.called in
+called_now {b} {series} {before} {m} {dues} {t} at g past =
+    let c = called_read dues [] g (read_callers b m at.now_is) at.called in
     let now : (fold (read_item b series) t (due_lines dues)).now ≡ with_calls b m = c.now ∙ at.now_is in
     let same : callers_due b (fold (read_item b series) t (due_lines dues)).now ≡ callers_due b m =
-    read_callers b m (fold (read_item b series) t (due_lines dues)).now now in
+    read_callers b m now in
     let dues_are =
-    nothing_more dues c.more (callers_due b m) c.are
+    nothing_more c.more c.are
     (omega (arith, past.count, ap length same, c.called, at.called)) in
     (now, dues_are, omega (arith, c.called, at.called, ap length dues_are))
 
-pub inner_is_good : (b : Basin) (series : Inflows) (before : List MonthRecord) (m : MonthRecord) (dues : List (ℕ × ℕ)) →
-    HasOutlet b → IsAllRead b series m →
-    (t : ReadSoFar) → At b before (begun b m) t → AreGood b series t (inner_lines b m dues) →
-    IsGoodMonth b series before m ×
-    (callers_due b m ≡ dues)
-inner_is_good b series before m dues outlet a t at g =
-    let s = stages b series before m a t at in
-    let after = calls_stage b series before m a (after_out b series m t) s.out in
+pub inner_is_good : {b : Basin} {series : Inflows} {before : List MonthRecord} {m : MonthRecord} {dues : List (ℕ × ℕ)} →
+    HasOutlet b → IsAllRead b series m → {t : ReadSoFar} → At b before (begun b m) t →
+    AreGood b series t (inner_lines b m dues) → IsGoodMonth b series before m × (callers_due b m ≡ dues)
+inner_is_good {b} {series} {before} {m} {dues} outlet a {t} at g =
+    let s = stages a at in
+    let after = calls_stage a s.out in
     let opening = good_parts b series t (opening_lines b m) _ g in
     let evaporated = good_parts b series (after_opening b series m t) (evaporated_lines b m) _ opening.1 in
     let returned = good_parts b series (after_evaporated b series m t) (returned_lines b m) _ evaporated.1 in
@@ -123,54 +217,46 @@ inner_is_good b series before m dues outlet a t at g =
     let dues_read = good_parts b series (after_calls b series m t) (due_lines dues) _ calls.1 in
     let closing = good_parts b series (after_called b series m dues t) (closing_lines b m) (line.End ∷ [])
     dues_read.1 in
-    let past = past_of b series (λ x. slice_index m.closing x) (entries_with_line b quantity.Closing)
-    (after_called b series m dues t) dues_read.1 in
-    let called = called_now b series before m dues (after_calls b series m t) after dues_read.0 past in
+    let past = past_of (λ x. slice_index m.closing x) (entries_with_line b quantity.Closing) dues_read.1 in
+    let called = called_now after dues_read.0 past in
     let settled = settled_called b series dues (after_calls b series m t) dues_read.0 past.all.settled in
     let stands : After b series (callers_due b m) m.plan.take (after_called b series m dues t) = record {
       callers =
           record {
             all = past.all;
-            due = read_callers b m (after_called b series m dues t).now called.0;
+            due = read_callers b m called.0;
             count =
                 called.2;
           };
       take_is = ap (λ k. k.plan.take) called.0;
     } in (
       record {
-        opening = good_section b series (section.After before) _
-            (λ x. line.Amount quantity.Opening x (slice_index m.opening x))
+        opening = good_section (section.After before)
             (section.openings b series before (λ x. slice_index m.opening x)) (entries_with_line b quantity.Opening)
             (t) (at.calling, at.months)
             opening.0;
-        evaporated = good_section b series (section.Opened m.index m.opening) _
-            (λ x. line.Amount quantity.Evaporated x (slice_index m.evaporated x))
+        evaporated = good_section (section.Opened m.index m.opening)
             (section.evaporations b series m.index m.opening (λ x. slice_index m.evaporated x))
             (entries_with_line b quantity.Evaporated) (after_opening b series m t)
             (s.opening.calling, ap (λ k. k.index) s.opening.now_is, ap (λ k. k.opening) s.opening.now_is)
             evaporated.0;
-        returned = good_section b series (section.AfterAt before m.index) _
-            (λ x. line.Amount quantity.Returned x (slice_index m.returned x))
+        returned = good_section (section.AfterAt before m.index)
             (section.returns b series before m.index (λ x. slice_index m.returned x))
             (entries_with_line b quantity.Returned) (after_evaporated b series m t)
             (s.evaporated.calling, s.evaporated.months, ap (λ k. k.index) s.evaporated.now_is)
             returned.0;
-        used = good_section b series (section.AfterAt before m.index) _
-            (λ x. line.Amount quantity.Used x (slice_index m.used x))
+        used = good_section (section.AfterAt before m.index)
             (section.uses b series before m.index (λ x. slice_index m.used x)) (entries_with_line b quantity.Used)
             (after_returned b series m t) (
               s.returned.calling,
               s.returned.months,
               ap (λ k. k.index) s.returned.now_is,
             ) used.0;
-        flow = good_section b series (section.InMonth m.month) _
-            (λ x. line.Amount quantity.Flow x (slice_index m.plan.flow x))
+        flow = good_section (section.InMonth m.month)
             (section.flows b series m.month (λ x. slice_index m.plan.flow x)) (entries_with_line b quantity.Flow)
             (after_used b series m t) (s.used.calling, ap (λ k. k.month) s.used.now_is)
             flow.0;
-        deliver =
-            good_section b series (section.Flows m.index m.used m.plan.flow) _
-            (λ x. line.Deliver x (slice_index m.delivered x) (slice_index m.want x))
+        deliver = good_section (section.Flows m.index m.used m.plan.flow)
             (section.deliveries b series m.index m.used m.plan.flow (λ x. slice_index m.delivered x)
             (λ x. slice_index m.want x)) (seniors_first b) (after_flow b series m t) (
               s.flow.calling,
@@ -179,14 +265,12 @@ inner_is_good b series before m dues outlet a t at g =
               ap (λ k. k.plan.flow) s.flow.now_is,
             )
             deliver.0;
-        balance =
-            balance_out b series m (after_out b series m t) a s.out.now_is
-            (outflows_balance b series (λ x. slice_index m.plan.out x) (after_deliver b series m t) outlet
+        balance = balance_out (after_out b series m t) a s.out.now_is
+            (outflows_balance series (λ x. slice_index m.plan.out x) (after_deliver b series m t) outlet
             out.0);
-        sets = right_sets b series m (after_out b series m t) (after_called b series m dues t) a s.out.now_is
+        sets = right_sets (after_out b series m t) a s.out.now_is
             calls.0 called.0 settled past.all;
-        closing = good_section b series (After b series (callers_due b m) m.plan.take) _
-            (λ x. line.Amount quantity.Closing x (slice_index m.closing x))
+        closing = good_section (After b series (callers_due b m) m.plan.take)
             (closings b series (callers_due b m) m.plan.take (λ x. slice_index m.closing x))
             (entries_with_line b quantity.Closing) (after_called b series m dues t) stands closing.0;
       },

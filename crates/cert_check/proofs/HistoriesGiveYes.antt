@@ -5,4 +5,4 @@ use Rattle.cert_check.proofs.RunGood.{text_good}
 
 pub histories_give_yes : HistoriesGiveYes
 histories_give_yes b series records valid fits history =
-    text_good b series records valid history (history_texts b series records valid fits history.partial)
+    text_good valid history (history_texts valid fits history.partial)

@@ -61,8 +61,8 @@ rebuilt (line.Called v n) = refl
 rebuilt line.End = refl
 rebuilt (line.Done n) = refl
 
-fitting : (b : Basin) (d : Shape) (i : Item) → fits b d i ≡ true → i ≡ with_fields d (fields_in i)
-fitting b d i h = rebuilt i ∙ ap (λ s. with_fields s (fields_in i)) (sym (fits_shape b d i h))
+fitting : (b : Basin) (d : Shape) {i : Item} → fits b d i ≡ true → i ≡ with_fields d (fields_in i)
+fitting b d {i} h = rebuilt i ∙ ap (λ s. with_fields s (fields_in i)) (sym (fits_shape b d i h))
 
 -- a line that is due and may not be left out
 pub record OneLine (b : Basin) (d : Shape) (ds : List Shape) (items : List Item) : Type 0 where
@@ -80,8 +80,8 @@ one_line b d ds items o (inr (i, members, others, f, followed, are, h)) = record
   fields = fields_in i;
   members = members;
   others = others;
-  are = are ∙ ap (λ x. x ∷ (members ++ others)) (fitting b d i f);
-  followed = subst (λ (x : Item). IsFollowedBy b x members) (fitting b d i f) followed;
+  are = are ∙ ap (λ x. x ∷ (members ++ others)) (fitting b d f);
+  followed = subst (λ (x : Item). IsFollowedBy b x members) (fitting b d f) followed;
   rest = h;
 }
 
@@ -113,26 +113,24 @@ pub record Lines (b : Basin) (line_at : ℕ → Shape) (xs : List ℕ) (ds : Lis
   pub are : items ≡ map (λ x. with_fields (line_at x) (fields x)) xs ++ others
   pub rest : Fills b ds others
 
-pub each_line : (b : Basin) (line_at : ℕ → Shape) → ((x : ℕ) → is_optional (line_at x) ≡ false) →
+pub each_line : {b : Basin} {line_at : ℕ → Shape} → ((x : ℕ) → is_optional (line_at x) ≡ false) →
     ((x : ℕ) (f : Fields) (members : List Item) → IsFollowedBy b (with_fields (line_at x) f) members → members ≡ []) →
-    (xs : List ℕ) → AreApart xs → (ds : List Shape) (items : List Item) → Fills b (map line_at xs ++ ds) items →
+    (xs : List ℕ) → AreApart xs → {ds : List Shape} {items : List Item} → Fills b (map line_at xs ++ ds) items →
     Lines b line_at xs ds items
-each_line b line_at o alone [] apart ds items h =
+each_line {b} {line_at} o alone [] apart {ds} {items} h =
     record { fields = λ x. no_fields; others = items; are = refl; rest = h }
-each_line b line_at o alone (x ∷ xs) apart ds items h =
+each_line {b} {line_at} o alone (x ∷ xs) apart {ds} {items} h =
     let first = one_line b (line_at x) (map line_at xs ++ ds) items (o x) h in
-    let later = each_line b line_at o alone xs apart.1 ds first.others first.rest in
+    let later = each_line o alone xs apart.1 first.rest in
     let fields : ℕ → Fields = with_index later.fields x first.fields in
     record {
       fields = fields;
       others = later.others;
-      are = first.are
-          ∙ (ap (λ ms. with_fields (line_at x) first.fields ∷ (ms ++ first.others))
+      are = first.are ∙ (ap (λ ms. with_fields (line_at x) first.fields ∷ (ms ++ first.others))
           (alone x first.fields first.members first.followed)
           ∙ pair (with_fields (line_at x) first.fields) (with_fields (line_at x) (fields x)) first.others
           (map (λ k. with_fields (line_at k) (fields k)) xs ++ later.others)
-          (ap (λ f. with_fields (line_at x) f) (sym (here later.fields x first.fields)))
-          (later.are
+          (ap (λ f. with_fields (line_at x) f) (sym (here later.fields x first.fields))) (later.are
           ∙ ap (λ ls. ls ++ later.others)
           (map_same (λ k. with_fields (line_at k) (later.fields k)) (λ k. with_fields (line_at k) (fields k)) xs
           (λ k m. ap (λ f. with_fields (line_at k) f)
@@ -151,9 +149,9 @@ pub record CallLines (b : Basin) (xs : List ℕ) (ds : List Shape) (items : List
   pub are : items ≡ flat_map (λ r. call_items r (cut r)) xs ++ others
   pub rest : Fills b ds others
 
-pub each_call : (b : Basin) (xs : List ℕ) → AreApart xs → (ds : List Shape) (items : List Item) →
+pub each_call : {b : Basin} (xs : List ℕ) → AreApart xs → {ds : List Shape} {items : List Item} →
     Fills b (map (λ r. shape.Call r) xs ++ ds) items → CallLines b xs ds items
-each_call b [] apart ds items h =
+each_call {b} [] apart {ds} {items} h =
     record {
       cut = λ r. None;
       sized = λ r set e. (let never : None ≡ Some set = e in cc);
@@ -162,8 +160,8 @@ each_call b [] apart ds items h =
           refl;
       rest = h;
     }
-each_call b (x ∷ xs) apart ds items (inl (optional, h)) =
-    let later = each_call b xs apart.1 ds items h in
+each_call {b} (x ∷ xs) apart {ds} {items} (inl (optional, h)) =
+    let later = each_call xs apart.1 h in
     let none : later.cut x ≡ None = unset later (later.cut x) refl in
     record {
       cut = later.cut;
@@ -177,27 +175,24 @@ each_call b (x ∷ xs) apart ds items (inl (optional, h)) =
     unset : (l : CallLines b xs ds items) (o : Option (List Bool)) → l.cut x ≡ o → l.cut x ≡ None
     unset l None e = e
     unset l (Some set) e = absurd (apart.0 (l.sized x set e).1)
-each_call b (x ∷ xs) apart ds items (inr (i, members, others, f, followed, are, h)) =
-    let later = each_call b xs apart.1 ds others h in
-    let is : i ≡ line.Call x = fitting b (shape.Call x) i f in
+each_call {b} (x ∷ xs) apart {ds} (inr (i, members, others, f, followed, are, h)) =
+    let later = each_call xs apart.1 h in
+    let is : i ≡ line.Call x = fitting b (shape.Call x) f in
     let group : IsFollowedBy b (line.Call x) members = subst (λ (y : Item). IsFollowedBy b y members) is followed in
     let cut : ℕ → Option (List Bool) = with_index later.cut x (Some group.0) in
     record {
       cut = cut;
       sized = λ r set e. sized later group.0 group.1 r set e;
       others = later.others;
-      are = are
-          ∙ (ap (λ j. j ∷ (members ++ others)) is
+      are = are ∙ (ap (λ j. j ∷ (members ++ others)) is
           ∙ (ap (λ ms. line.Call x ∷ (ms ++ others)) group.3 ∙ whole later group.0));
       rest = later.rest;
     }
   where
     sized : (l : CallLines b xs ds others) (own : List Bool) → length own ≡ length b.nodes → (r : ℕ) (set : List Bool) →
-        with_index l.cut x (Some own) r ≡ Some set →
-        (length set ≡ length b.nodes) × Has (x ∷ xs) r
+        with_index l.cut x (Some own) r ≡ Some set → (length set ≡ length b.nodes) × Has (x ∷ xs) r
     sized l own size r set e = elim (cases_eq r x) [
-      | inl same ↦
-          (let both : Some own ≡ Some set =
+      | inl same ↦ (let both : Some own ≡ Some set =
           sym (here l.cut x (Some own)) ∙ (ap (λ k. with_index l.cut x (Some own) k) (sym same) ∙ e) in
           let eq : own ≡ set = cc in (sym (ap length eq) ∙ size, inl same))
       | inr other ↦ (let s = l.sized r set (sym (elsewhere l.cut x (Some own) r other) ∙ e) in (s.0, inr s.1))
@@ -207,14 +202,12 @@ each_call b (x ∷ xs) apart ds items (inr (i, members, others, f, followed, are
         line.Call x ∷ (map (λ n. line.Member n) (members_from 0 own) ++ others)
         ≡ (call_items x (with_index l.cut x (Some own) x) ++ flat_map
         (λ r. call_items r (with_index l.cut x (Some own) r)) xs) ++ l.others
-    whole l own =
-        ap (λ os. line.Call x ∷ (map (λ n. line.Member n) (members_from 0 own) ++ os)) l.are
+    whole l own = ap (λ os. line.Call x ∷ (map (λ n. line.Member n) (members_from 0 own) ++ os)) l.are
         ∙ (ap (λ os. line.Call x ∷ (map (λ n. line.Member n) (members_from 0 own) ++ (os ++ l.others)))
         (flat_same (λ r. call_items r (l.cut r)) (λ r. call_items r (with_index l.cut x (Some own) r)) xs
         (λ k m. ap (call_items k)
         (sym (elsewhere l.cut x (Some own) k (λ e. apart.0 (subst (λ (y : ℕ). Has xs y) e m))))))
-        ∙ (ap (λ ys. line.Call x ∷ ys)
-        (sym (append_assoc (map (λ n. line.Member n) (members_from 0 own))
+        ∙ (ap (λ ys. line.Call x ∷ ys) (sym (append_assoc (map (λ n. line.Member n) (members_from 0 own))
         (flat_map (λ r. call_items r (with_index l.cut x (Some own) r)) xs) l.others))
         ∙ ap (λ o. (call_items x o ++ flat_map (λ r. call_items r (with_index l.cut x (Some own) r)) xs) ++ l.others)
         (sym (here l.cut x (Some own)))))
@@ -226,19 +219,18 @@ pub record CalledLines (b : Basin) (ds : List Shape) (items : List Item) : Type 
   pub are : items ≡ map called_line dues ++ others
   pub rest : Fills b ds others
 
-pub each_called : (b : Basin) (xs : List ℕ) (ds : List Shape) (items : List Item) →
+pub each_called : {b : Basin} (xs : List ℕ) {ds : List Shape} {items : List Item} →
     Fills b (map (λ r. shape.Called r) xs ++ ds) items → CalledLines b ds items
-each_called b [] ds items h = record { dues = []; others = items; are = refl; rest = h }
-each_called b (x ∷ xs) ds items (inl (optional, h)) = each_called b xs ds items h
-each_called b (x ∷ xs) ds items (inr (i, members, others, f, followed, are, h)) =
-    let later = each_called b xs ds others h in
-    let is : i ≡ line.Called x (fields_in i).one = fitting b (shape.Called x) i f in
+each_called {b} [] {ds} {items} h = record { dues = []; others = items; are = refl; rest = h }
+each_called {b} (x ∷ xs) {ds} {items} (inl (optional, h)) = each_called xs h
+each_called {b} (x ∷ xs) {ds} (inr (i, members, others, f, followed, are, h)) =
+    let later = each_called xs h in
+    let is : i ≡ line.Called x (fields_in i).one = fitting b (shape.Called x) f in
     let none : members ≡ [] = subst (λ (y : Item). IsFollowedBy b y members) is followed in
     record {
       dues = (x, (fields_in i).one) ∷ later.dues;
       others = later.others;
-      are = are
-          ∙ (ap (λ ms. i ∷ (ms ++ others)) none
+      are = are ∙ (ap (λ ms. i ∷ (ms ++ others)) none
           ∙ (ap (λ j. j ∷ others) is ∙ ap (λ os. line.Called x (fields_in i).one ∷ os) later.are));
       rest = later.rest;
     }

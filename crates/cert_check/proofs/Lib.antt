@@ -7,7 +7,6 @@ pub mod Callers
 pub mod Outflows
 pub mod Spread
 pub mod Month
-pub mod MonthGood
 pub mod GoodMonth
 pub mod Follows
 pub mod Verdicts
@@ -16,21 +15,18 @@ pub mod Feeding
 pub mod RunGood
 pub mod Amounts
 pub mod HistoriesGiveYes
-pub mod GoodFollows
 pub mod Inverts
 pub mod SomeOutlet
 pub mod Sheets
 pub mod MonthLines
 pub mod RunSound
 pub mod Walking
-pub mod Supplies
 pub mod Passages
 pub mod UnderWay
 pub mod Prefixes
 pub mod Fitting
 pub mod Entries
 pub mod SetEntries
-pub mod Kept
 pub mod Bounded
 pub mod Missing
 pub mod Dues
@@ -41,7 +37,6 @@ pub mod Standings
 pub mod ByteLaws
 pub mod Beginnings
 pub mod Audits
-pub mod AuditAnswers
 pub mod CallLines
 pub mod AuditLaws
 pub mod AuditKinds

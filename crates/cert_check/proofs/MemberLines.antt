@@ -1,7 +1,6 @@
 -- No row holds of an `in` line, and its tests look at nothing.
-use Rattle.std.proofs.Common.{◌≡◌, ℕ, Bool, true, false, refl, ◌∙◌, List, [], ◌∷◌}
+use Rattle.std.proofs.Common.{◌≡◌, ℕ, true, false, refl, ◌∙◌}
 use Rattle.std.specs.Prelude.{None, ◌&&◌, is_none}
-use Rattle.std.specs.List.{list_any}
 use Rattle.water_model.specs.History.{cut_of}
 use Rattle.water_model.specs.Indices.{indices_of}
 use Rattle.water_model.specs.declared.types.Basin.{Basin}
@@ -11,25 +10,17 @@ use Rattle.result_lines.specs.declared.item.Item.{Item}
 use Rattle.result_lines.specs.declared.item.Item.TheVariants as line
 use Rattle.result_reader.specs.Due.{is_member}
 use Rattle.result_reader.specs.ReadSoFar.{ReadSoFar}
-use Rattle.cert_check.specs.Checking.{cut_missing, first_row, passes}
+use Rattle.cert_check.specs.Checking.{cut_missing, first_row}
 use Rattle.cert_check.specs.Ready.{IsReadyForLine}
 use Rattle.cert_check.specs.declared.state.CheckState.{CheckState}
 use Rattle.cert_check.specs.declared.state.Context.{Context}
 use Rattle.cert_check.proofs.FirstRows.{first_is}
-
-nowhere : (p : ℕ → Bool) → ((r : ℕ) → p r ≡ false) → (xs : List ℕ) → list_any p xs ≡ false
-nowhere p h [] = refl
-nowhere p h (x ∷ xs) = rw (h x) (nowhere p h xs)
-
-not_both : (x y : Bool) → (x && y && false) ≡ false
-not_both true true = refl
-not_both true false = refl
-not_both false y = refl
+use Rattle.cert_check.proofs.Rows.{none_holds}
+use Rattle.std.proofs.Math.Bool.{and-false}
 
 none_missing : (b : Basin) (t : ReadSoFar) (n : ℕ) → cut_missing b t (line.Member n) ≡ false
 none_missing b t n =
-    nowhere (λ r. is_short t.now r && is_none (cut_of t.now r) && passes b (line.Member n) r)
-    (λ r. not_both (is_short t.now r) (is_none (cut_of t.now r))) (indices_of b.rights)
+    none_holds (indices_of b.rights) (λ r m. and-false (is_short t.now r && is_none (cut_of t.now r)))
 
 pub no_row : (b : Basin) (series : Inflows) (t : ReadSoFar) (i : Item) → is_member i ≡ true →
     first_row b series t i ≡ None
@@ -39,8 +30,7 @@ no_row b series t (line.Month month) h = cc
 no_row b series t (line.Amount q entry amount) h = cc
 no_row b series t (line.Deliver right amount want) h = cc
 no_row b series t (line.Call right) h = cc
-no_row b series t (line.Member node) h =
-    first_is b series t (line.Member node) ∙ rw (none_missing b t node) refl
+no_row b series t (line.Member node) h = first_is b series t (line.Member node) ∙ rw (none_missing b t node) refl
 no_row b series t (line.Called right by') h = cc
 no_row b series t line.End h = cc
 no_row b series t (line.Done months) h = cc

@@ -1,4 +1,5 @@
 -- Which rights a line passes over, by the order of seniority.
+use Rattle.std.proofs.Math.Bool.{or-false}
 use Rattle.std.proofs.Common.{◌≡◌, ℕ, zero, suc, ◌<◌, Bool, true, false, refl, sym, ap, ◌∙◌, arith, inl, inr, List, []}
 use Rattle.std.proofs.Common.{◌∷◌, length, take, drop}
 use Rattle.std.specs.Prelude.{None, ◌⊎◌, ◌||◌, is_none, slice_index}
@@ -34,49 +35,46 @@ by_index (x ∷ xs) (suc k) y (inl e) = inl (inl e)
 by_index (x ∷ xs) (suc k) y (inr h) = elim (by_index xs k y h) [ inl prefix ↦ inl (inr prefix) | inr after ↦ inr after ]
 
 -- nothing in a list passes a test that nothing in it passes
-none_in : (p : ℕ → Bool) (xs : List ℕ) (y : ℕ) → list_any p xs ≡ false → Has xs y → p y ≡ false
-none_in p [] y h m = absurd m
-none_in p (x ∷ xs) y h (inl e) = ap p e ∙ (or_parts (p x) (list_any p xs) h).0
-none_in p (x ∷ xs) y h (inr m) = none_in p xs y (or_parts (p x) (list_any p xs) h).1 m
+none_in : (p : ℕ → Bool) (xs : List ℕ) {y : ℕ} → list_any p xs ≡ false → Has xs y → p y ≡ false
+none_in p [] h m = absurd m
+none_in p (x ∷ xs) h (inl e) = ap p e ∙ (or_parts (p x) (list_any p xs) h).0
+none_in p (x ∷ xs) {y} h (inr m) = none_in p xs (or_parts (p x) (list_any p xs) h).1 m
 
 -- from an index on each right is the one there, or junior to it
-after_index : (b : Basin) (xs : List ℕ) (k y : ℕ) → IsOrdered b.rights xs → Has (drop k xs) y →
+after_index : (b : Basin) (xs : List ℕ) (k : ℕ) {y : ℕ} → IsOrdered b.rights xs → Has (drop k xs) y →
     (k < length xs) × ((y ≡ slice_index xs k) ⊎ (is_senior b (slice_index xs k) y ≡ true))
-after_index b [] zero y o m = absurd m
-after_index b [] (suc k) y o m = absurd m
-after_index b (x ∷ xs) zero y o (inl e) = (omega arith, inl e)
-after_index b (x ∷ xs) zero y o (inr m) = (omega arith, inr (o.0 y m))
-after_index b (x ∷ xs) (suc k) y o m = (let f = after_index b xs k y o.1 m in (omega (arith, f.0), f.1))
+after_index b [] zero o m = absurd m
+after_index b [] (suc k) o m = absurd m
+after_index b (x ∷ xs) zero o (inl e) = (omega arith, inl e)
+after_index b (x ∷ xs) zero {y} o (inr m) = (omega arith, inr (o.0 y m))
+after_index b (x ∷ xs) (suc k) {y} o m = (let f = after_index b xs k o.1 m in (omega (arith, f.0), f.1))
 
 -- a line passes over no right after one that it doesn't pass over
-not_passed : (b : Basin) (item : Item) (x y : ℕ) → passes b item x ≡ false → (y ≡ x) ⊎ (is_senior b x y ≡ true) →
+not_passed : (b : Basin) (item : Item) {x y : ℕ} → passes b item x ≡ false → (y ≡ x) ⊎ (is_senior b x y ≡ true) →
     passes b item y ≡ false
-not_passed b item x y h (inl e) = ap (passes b item) e ∙ h
-not_passed b (line.Call r) x y h (inr senior) = elim (cases_Bool (is_senior b y r)) [
+not_passed b item h (inl e) = ap (passes b item) e ∙ h
+not_passed b (line.Call r) {x} {y} h (inr senior) = elim (cases_Bool (is_senior b y r)) [
   | inl yes' ↦ clash (sym (senior_trans b.rights x y r senior yes') ∙ h)
   | inr no' ↦ no'
 ]
-not_passed b line.Title x y h (inr senior) = h
-not_passed b (line.Run first months) x y h (inr senior) = h
-not_passed b (line.Month month) x y h (inr senior) = h
-not_passed b (line.Amount q entry amount) x y h (inr senior) = h
-not_passed b (line.Deliver r amount want) x y h (inr senior) = h
-not_passed b (line.Member n) x y h (inr senior) = h
-not_passed b (line.Called r caller) x y h (inr senior) = h
-not_passed b line.End x y h (inr senior) = h
-not_passed b (line.Done months) x y h (inr senior) = h
+not_passed b line.Title h (inr senior) = h
+not_passed b (line.Run first months) h (inr senior) = h
+not_passed b (line.Month month) h (inr senior) = h
+not_passed b (line.Amount q entry amount) h (inr senior) = h
+not_passed b (line.Deliver r amount want) h (inr senior) = h
+not_passed b (line.Member n) h (inr senior) = h
+not_passed b (line.Called r caller) h (inr senior) = h
+not_passed b line.End h (inr senior) = h
+not_passed b (line.Done months) h (inr senior) = h
 
 -- rights that lack their calls by what was read do so by the check state's record
-pub lacks_read : (b : Basin) (series : Inflows) (a : CheckState) (t : ReadSoFar) → Keeps b series a t → (xs : List ℕ) →
+pub lacks_read : {b : Basin} {series : Inflows} {a : CheckState} {t : ReadSoFar} → Keeps b series a t → (xs : List ℕ) →
     list_any (lacks_call a.month) xs ≡ list_any (lacks_call t.now) xs
-lacks_read b series a t k xs = rw (k.month.shows.delivered, k.month.shows.want, k.month.shows.sets) refl
+lacks_read k xs = rw (k.month.shows.delivered, k.month.shows.want, k.month.shows.sets) refl
 
-pub none_missed : (b : Basin) (series : Inflows) (a : CheckState) (t : ReadSoFar) (item : Item) (count : ℕ) →
-    IsValidBasin b →
-    Keeps b series a t → ArePassed b a.month item count →
-    cut_missing b t item ≡ false
-none_missed b series a t item count valid k p =
-    missing_fails b t item
+pub none_missed : {b : Basin} {series : Inflows} {a : CheckState} {t : ReadSoFar} {item : Item} {count : ℕ} →
+    IsValidBasin b → Keeps b series a t → ArePassed b a.month item count → cut_missing b t item ≡ false
+none_missed {b} {series} {a} {t} {item} {count} valid k p = missing_fails b t item
     (λ r l short free passed. missed r short free passed
     (by_index (seniors_first b) count r (seniors_have b.rights r l)))
   where
@@ -85,17 +83,16 @@ none_missed b series a t item count valid k p =
 
     missed : (r : ℕ) → is_short t.now r ≡ true → cut_of t.now r ≡ None → passes b item r ≡ true →
         Has (take count (seniors_first b)) r ⊎ Has (drop count (seniors_first b)) r → ⊥
-    missed r short free passed (inl prefix) =
-        clash (sym (lacks r short free)
-        ∙ none_in (lacks_call t.now) (take count (seniors_first b)) r
-        (sym (lacks_read b series a t k (take count (seniors_first b))) ∙ p.settled) prefix)
+    missed r short free passed (inl prefix) = clash (sym (lacks r short free)
+        ∙ none_in (lacks_call t.now) (take count (seniors_first b))
+        (sym (lacks_read k (take count (seniors_first b))) ∙ p.settled) prefix)
     missed r short free passed (inr after) =
-        let position = after_index b (seniors_first b) count r (seniors_ordered b.rights valid.roll.strict) after in
-        clash (sym passed ∙ not_passed b item (slice_index (seniors_first b) count) r (p.next position.0) position.1)
+        let position = after_index b (seniors_first b) count (seniors_ordered b.rights valid.roll.strict) after in
+        clash (sym passed ∙ not_passed b item (p.next position.0) position.1)
 
-pub some_missed : (b : Basin) (series : Inflows) (a : CheckState) (t : ReadSoFar) (item : Item) → Keeps b series a t →
+pub some_missed : {b : Basin} {series : Inflows} {a : CheckState} {t : ReadSoFar} {item : Item} → Keeps b series a t →
     IsMissed b a.month item → cut_missing b t item ≡ true
-some_missed b series a t item k m = elim (cases_Bool (cut_missing b t item)) [
+some_missed {b} {series} {a} {t} {item} k m = elim (cases_Bool (cut_missing b t item)) [
   | inl yes' ↦ yes'
   | inr no' ↦ absurd (never no')
 ]
@@ -104,13 +101,10 @@ some_missed b series a t item k m = elim (cases_Bool (cut_missing b t item)) [
     r = slice_index (seniors_first b) m.position
 
     so_far : lacks_call t.now r ≡ true
-    so_far = sym (one (lacks_call a.month) (lacks_call t.now) (lacks_read b series a t k (r ∷ []))) ∙ m.lacks
+    so_far = sym (one (lacks_call a.month) (lacks_call t.now) (lacks_read k (r ∷ []))) ∙ m.lacks
       where
         either : (x y : Bool) → x || false ≡ y || false → x ≡ y
-        either true true e = refl
-        either true false e = e
-        either false true e = e
-        either false false e = refl
+        either x y e = sym (or-false x) ∙ (e ∙ or-false y)
 
         one : (p q : ℕ → Bool) → list_any p (r ∷ []) ≡ list_any q (r ∷ []) → p r ≡ q r
         one p q e = either (p r) (q r) e
@@ -119,6 +113,6 @@ some_missed b series a t item k m = elim (cases_Bool (cut_missing b t item)) [
     never none =
         let two = and_parts (is_short t.now r) (is_none (cut_of t.now r)) so_far in
         let set =
-        none_missing b t item none r (seniors_below b.rights r (has-get_or (seniors_first b) m.position m.within)) two.0
+        none_missing b t item none (seniors_below b.rights r (has-get_or (seniors_first b) m.position m.within)) two.0
         m.passed in
         clash (sym two.1 ∙ ap is_none set.1)

@@ -57,13 +57,12 @@ no_calling b series item h [] t c = c
 no_calling b series item h (x ∷ xs) t c = no_calling b series item h xs (read_item b series t (item x)) (h x t)
 
 -- a section makes of the month what it makes of any
-stage : (b : Basin) (series : Inflows) (before : List MonthRecord) (now next : MonthRecord) (item : ℕ →
-    Item) (xs : List ℕ) (f : MonthRecord → MonthRecord) →
+stage : {b : Basin} {series : Inflows} {before : List MonthRecord} {now next : MonthRecord} (item : ℕ → Item)
+    (xs : List ℕ) (f : MonthRecord → MonthRecord) →
     ((x : ℕ) (t : ReadSoFar) → (read_item b series t (item x)).called ≡ t.called) →
-    ((x : ℕ) (t : ReadSoFar) → (read_item b series t (item x)).calling ≡ None) →
-    Makes b series (map item xs) f → f now ≡ next → (t : ReadSoFar) → At b before now t →
-    At b before next (fold (read_item b series) t (map item xs))
-stage b series before now next item xs f h k makes is t a = record {
+    ((x : ℕ) (t : ReadSoFar) → (read_item b series t (item x)).calling ≡ None) → Makes b series (map item xs) f →
+    f now ≡ next → {t : ReadSoFar} → At b before now t → At b before next (fold (read_item b series) t (map item xs))
+stage {b} {series} {before} {now} {next} item xs f h k makes is {t} a = record {
   calling = no_calling b series item k xs t a.calling;
   months = (makes t).months_are ∙ a.months;
   now_is = (makes t).now_is ∙ (ap f a.now_is ∙ is);
@@ -104,30 +103,26 @@ with_out b m = with_amounts quantity.Outflow (with_deliver b m) m.plan.out
 abbrev pub lines_of : Basin → MonthRecord → Quantity → List Item
 lines_of b m q = map (λ x. line.Amount q x (slice_index (amounts_of q m) x)) (entries_with_line b q)
 
-amount_stage : (b : Basin) (series : Inflows) (before : List MonthRecord) (m : MonthRecord) → IsAllRead b series m →
-    (q : Quantity) (now : MonthRecord) → amounts_of q now ≡ replicate (count_in (space_of q) b) 0 →
-    (t : ReadSoFar) → At b before now t → At b before (with_amounts q now (amounts_of q m))
-    (fold (read_item b series) t (lines_of b m q))
-amount_stage b series before m a q now none t at =
-    stage b series before now (with_amounts q now (amounts_of q m))
-    (λ x. line.Amount q x (slice_index (amounts_of q m) x))
-    (entries_with_line b q) _ (λ x t. refl) (λ x t. refl)
+amount_stage : {b : Basin} {series : Inflows} {before : List MonthRecord} {m : MonthRecord} → IsAllRead b series m →
+    (q : Quantity) {now : MonthRecord} → amounts_of q now ≡ replicate (count_in (space_of q) b) 0 → {t : ReadSoFar} →
+    At b before now t → At b before (with_amounts q now (amounts_of q m)) (fold (read_item b series) t (lines_of b m q))
+amount_stage {b} {series} {before} {m} a q {now} none {t} at = stage
+    (λ x. line.Amount q x (slice_index (amounts_of q m) x)) (entries_with_line b q) _ (λ x t. refl) (λ x t. refl)
     (makes_amounts b series q (λ x. slice_index (amounts_of q m) x) (entries_with_line b q))
     (ap (λ xs. with_amounts q now (set_all (entries_with_line b q) (λ x. slice_index (amounts_of q m) x) xs)) none
-    ∙ ap (with_amounts q now) (a.listed q)) t at
+    ∙ ap (with_amounts q now) (a.listed q)) at
 
 abbrev pub deliver_lines : Basin → MonthRecord → List Item
 deliver_lines b m = map (λ x. line.Deliver x (slice_index m.delivered x) (slice_index m.want x)) (seniors_first b)
 
-deliver_stage : (b : Basin) (series : Inflows) (before : List MonthRecord) (m : MonthRecord) → IsAllRead b series m →
-    (t : ReadSoFar) → At b before (with_flow b m) t → At b before (with_deliver b m)
+deliver_stage : {b : Basin} {series : Inflows} {before : List MonthRecord} {m : MonthRecord} → IsAllRead b series m →
+    {t : ReadSoFar} → At b before (with_flow b m) t → At b before (with_deliver b m)
     (fold (read_item b series) t (deliver_lines b m))
-deliver_stage b series before m a t at =
-    stage b series before (with_flow b m) (with_deliver b m)
+deliver_stage {b} {series} {before} {m} a {t} at = stage
     (λ x. line.Deliver x (slice_index m.delivered x) (slice_index m.want x)) (seniors_first b) _ (λ x t. refl)
     (λ x t. refl)
     (makes_deliveries b series (λ x. slice_index m.delivered x) (λ x. slice_index m.want x) (seniors_first b))
-    (rw (a.delivered, a.want, a.take) refl) t at
+    (rw (a.delivered, a.want, a.take) refl) at
 
 abbrev pub opening_lines : Basin → MonthRecord → List Item
 opening_lines b m = lines_of b m quantity.Opening
@@ -180,13 +175,10 @@ pub month_is : (b : Basin) (m : MonthRecord) (caller_of : ℕ → Option ℕ) �
     month_lines b m caller_of ≡ line.Month m.month ∷ inner_lines b m
     (flat_map (λ r. caller_due r (caller_of r)) (seniors_first b))
 unfolding month_lines
-month_is b m caller_of =
-    ap (λ xs. line.Month m.month ∷ xs)
-    (spread (λ k. lines_in k b m caller_of) SECTIONS (line.End ∷ [])
-    ∙ onto_same (λ k. lines_in k b m caller_of)
+month_is b m caller_of = ap (λ xs. line.Month m.month ∷ xs)
+    (spread (λ k. lines_in k b m caller_of) SECTIONS (line.End ∷ []) ∙ onto_same (λ k. lines_in k b m caller_of)
     (section_lines b m (flat_map (λ r. caller_due r (caller_of r)) (seniors_first b)))
-    (section_is b m caller_of) SECTIONS
-    (line.End ∷ []))
+    (section_is b m caller_of) SECTIONS (line.End ∷ []))
 
 abbrev pub after_opening : Basin → Inflows → MonthRecord → ReadSoFar → ReadSoFar
 after_opening b series m t = fold (read_item b series) t (opening_lines b m)
@@ -229,21 +221,16 @@ pub record Stages (b : Basin) (series : Inflows) (before : List MonthRecord) (m 
     pub deliver : At b before (with_deliver b m) (after_deliver b series m t)
     pub out : At b before (with_out b m) (after_out b series m t)
 
-pub stages : (b : Basin) (series : Inflows) (before : List MonthRecord) (m : MonthRecord) → IsAllRead b series m →
-    (t : ReadSoFar) → At b before (begun b m) t →
-    Stages b series before m t
-stages b series before m a t at =
-    let s0 = amount_stage b series before m a quantity.Opening (begun b m) refl t at in
-    let s1 = amount_stage b series before m a quantity.Evaporated (with_opening b m) refl
-    (after_opening b series m t) s0 in
-    let s2 = amount_stage b series before m a quantity.Returned (with_evaporated b m) refl
-    (after_evaporated b series m t) s1 in
-    let s3 = amount_stage b series before m a quantity.Used (with_returned b m) refl
-    (after_returned b series m t) s2 in
-    let s4 = amount_stage b series before m a quantity.Flow (with_used b m) refl (after_used b series m t) s3 in
-    let s5 = deliver_stage b series before m a (after_flow b series m t) s4 in
-    let s6 = amount_stage b series before m a quantity.Outflow (with_deliver b m) refl
-    (after_deliver b series m t) s5 in
+pub stages : {b : Basin} {series : Inflows} {before : List MonthRecord} {m : MonthRecord} → IsAllRead b series m →
+    {t : ReadSoFar} → At b before (begun b m) t → Stages b series before m t
+stages a at =
+    let s0 = amount_stage a quantity.Opening refl at in
+    let s1 = amount_stage a quantity.Evaporated refl s0 in
+    let s2 = amount_stage a quantity.Returned refl s1 in
+    let s3 = amount_stage a quantity.Used refl s2 in
+    let s4 = amount_stage a quantity.Flow refl s3 in
+    let s5 = deliver_stage a s4 in
+    let s6 = amount_stage a quantity.Outflow refl s5 in
     record {
       opening = s0;
       evaporated = s1;
@@ -276,13 +263,13 @@ pub record IsGoodMonth (b : Basin) (series : Inflows) (before : List MonthRecord
       ≡ total_where (length b.rights) (λ r. is_zone_of b r x) (λ r. slice_index m.plan.take r)
 
 -- the balance of a month, by what was read
-pub read_balance : (b : Basin) (series : Inflows) (m now : MonthRecord) (n : ℕ) → IsAllRead b series m →
+pub read_balance : {b : Basin} {series : Inflows} {m now : MonthRecord} (n : ℕ) → IsAllRead b series m →
     now ≡ with_out b m → balances b (with_supply b series now) n ≡ balances b m n
-read_balance b series m now n a is = ap (λ k. balances b (with_supply b series k) n) is ∙ rw (a.supply) refl
+read_balance {b} {series} n a is = ap (λ k. balances b (with_supply b series k) n) is ∙ rw (a.supply) refl
 
-pub read_sees : (b : Basin) (series : Inflows) (m now : MonthRecord) → IsAllRead b series m → now ≡ with_out b m →
+pub read_sees : {b : Basin} {series : Inflows} {m now : MonthRecord} → IsAllRead b series m → now ≡ with_out b m →
     Sees b series m now
-read_sees b series m now a is = record {
+read_sees {b} {series} a is = record {
   month = ap (λ k. k.month) is;
   delivered = ap (λ k. k.delivered) is;
   want = ap (λ k. k.want) is;
@@ -299,30 +286,28 @@ pub record AfterCalls (b : Basin) (before : List MonthRecord) (m : MonthRecord) 
   pub months : t.months ≡ before
   pub called : t.called ≡ 0
 
-calls_called : (b : Basin) (series : Inflows) (m : MonthRecord) →
+calls_called : {b : Basin} {series : Inflows} {m : MonthRecord} →
     ((r : ℕ) (set : List Bool) → cut_of m r ≡ Some set → length set ≡ length b.nodes) → (xs : List ℕ) →
     ((r : ℕ) → Has xs r → r < length b.rights) → (t : ReadSoFar) → Sees b series m t.now →
     (fold (read_item b series) t (flat_map (λ r. call_items r (cut_of m r)) xs)).called ≡ t.called
-calls_called b series m sized [] below t s = refl
-calls_called b series m sized (x ∷ xs) below t s =
-    by_set (cut_of m x) refl (λ u v. calls_called b series m sized xs (λ y h. below y (inr h)) u v)
+calls_called sized [] below t s = refl
+calls_called {b} {series} {m} sized (x ∷ xs) below t s =
+    by_set (cut_of m x) refl (λ u v. calls_called sized xs (λ y h. below y (inr h)) u v)
   where
-    by_set : (o : Option (List Bool)) → cut_of m x ≡ o →
-        ((u : ReadSoFar) → Sees b series m u.now →
+    by_set : (o : Option (List Bool)) → cut_of m x ≡ o → ((u : ReadSoFar) → Sees b series m u.now →
         (fold (read_item b series) u (flat_map (λ r. call_items r (cut_of m r)) xs)).called ≡ u.called) →
         (fold (read_item b series) t (call_items x o ++ flat_map (λ r. call_items r (cut_of m r)) xs)).called ≡ t.called
     by_set None e further = further t s
-    by_set (Some set) e further =
-        ap (λ u. u.called)
+    by_set (Some set) e further = ap (λ u. u.called)
         (fold-both (read_item b series) t (call_items x (Some set)) (flat_map (λ r. call_items r (cut_of m r)) xs))
         ∙ (ap (λ u. (fold (read_item b series) u (flat_map (λ r. call_items r (cut_of m r)) xs)).called)
         (tell_call b series x set t (omega (arith, below x (inl refl), s.sets)) (sized x set e))
-        ∙ further (after_call t x set) (sees_more b series m t x set s))
+        ∙ further (after_call t x set) (sees_more t x set s))
 
-pub calls_stage : (b : Basin) (series : Inflows) (before : List MonthRecord) (m : MonthRecord) → IsAllRead b series m →
-    (t : ReadSoFar) → At b before (with_out b m) t →
+pub calls_stage : {b : Basin} {series : Inflows} {before : List MonthRecord} {m : MonthRecord} → IsAllRead b series m →
+    {t : ReadSoFar} → At b before (with_out b m) t →
     AfterCalls b before m (fold (read_item b series) t (call_lines b m))
-calls_stage b series before m a t at =
+calls_stage {b} {series} {before} {m} a {t} at =
     let so_far =
     reads_calls b series (λ r. cut_of m r) a.sized (seniors_first b) t
     (λ r set e. (let l = a.within r set e in
@@ -332,9 +317,10 @@ calls_stage b series before m a t at =
           ∙ (ap (λ (k : MonthRecord). with_sets k (put_sets (seniors_first b) (λ r. cut_of m r) k.cuts.sets)) at.now_is
           ∙ ap (λ sets. with_sets (with_out b m) sets) a.sets);
       months = so_far.months_are ∙ at.months;
-      called = calls_called b series m a.sized (seniors_first b) (λ r h. seniors_below b.rights r h) t
-          (read_sees b series m t.now a at.now_is) ∙ at.called;
+      called = calls_called a.sized (seniors_first b) (λ r h. seniors_below b.rights r h) t
+          (read_sees a at.now_is) ∙ at.called;
     }
 
-pub read_callers : (b : Basin) (m now : MonthRecord) → now ≡ with_calls b m → callers_due b now ≡ callers_due b m
-read_callers b m now is = ap (λ k. callers_due b k) is ∙ same_callers b (with_calls b m) m refl refl refl
+pub read_callers : (b : Basin) (m : MonthRecord) {now : MonthRecord} → now ≡ with_calls b m →
+    callers_due b now ≡ callers_due b m
+read_callers b m is = ap (λ k. callers_due b k) is ∙ same_callers b (with_calls b m) m refl refl refl

@@ -52,11 +52,11 @@ record SectionLines (b : Basin) (k : Section) (ds : List Shape) (items : List It
 no_set : {X : Type 0} (set : List Bool) → None ≡ Some set → X
 no_set set e = cc
 
-section_filled : (b : Basin) → IsValidBasin b → (k : Section) (ds : List Shape) (items : List Item) →
+section_filled : {b : Basin} → IsValidBasin b → (k : Section) {ds : List Shape} {items : List Item} →
     Fills b (shapes_in k b ++ ds) items → SectionLines b k ds items
-section_filled b valid (section.Amounts q) ds items h =
-    let l = each_line b (λ x. shape.Amount q x) (λ x. refl) (λ x f ms e. e) (entries_with_line b q)
-    (filter_apart (λ x. has_line b q x) (in_order (space_of q) b) (in_order_apart b valid (space_of q))) ds items
+section_filled {b} valid (section.Amounts q) {ds} {items} h =
+    let l = each_line (λ x. refl) (λ x f ms e. e) (entries_with_line b q)
+    (filter_apart (λ x. has_line b q x) (in_order (space_of q) b) (in_order_apart valid (space_of q)))
     (subst (λ (xs : List Shape). Fills b (xs ++ ds) items)
     (flat_map_if (λ x. has_line b q x) (λ x. shape.Amount q x) (in_order (space_of q) b)) h) in
     record {
@@ -66,9 +66,9 @@ section_filled b valid (section.Amounts q) ds items h =
       are = l.are;
       rest = l.rest;
     }
-section_filled b valid section.Deliveries ds items h =
-    let l = each_line b (λ x. shape.Deliver x) (λ x. refl) (λ x f ms e. e) (seniors_first b)
-    (seniors_apart b valid) ds items
+section_filled {b} valid section.Deliveries {ds} {items} h =
+    let l = each_line (λ x. refl) (λ x f ms e. e) (seniors_first b)
+    (seniors_apart valid)
     (subst (λ (xs : List Shape). Fills b (xs ++ ds) items) (flat_map_one (λ r. shape.Deliver r) (seniors_first b)) h) in
     record {
       content = record { fields = l.fields; cut = λ r. None; dues = [] };
@@ -77,8 +77,8 @@ section_filled b valid section.Deliveries ds items h =
       are = l.are;
       rest = l.rest;
     }
-section_filled b valid section.Calls ds items h =
-    let l = each_call b (seniors_first b) (seniors_apart b valid) ds items
+section_filled {b} valid section.Calls {ds} {items} h =
+    let l = each_call (seniors_first b) (seniors_apart valid)
     (subst (λ (xs : List Shape). Fills b (xs ++ ds) items) (flat_map_one (λ r. shape.Call r) (seniors_first b)) h) in
     record {
       content = record { fields = λ x. no_fields; cut = l.cut; dues = [] };
@@ -87,8 +87,8 @@ section_filled b valid section.Calls ds items h =
       are = l.are;
       rest = l.rest;
     }
-section_filled b valid section.Called ds items h =
-    let l = each_called b (filter (λ r. is_some (taking_node b r)) (seniors_first b)) ds items
+section_filled {b} valid section.Called {ds} {items} h =
+    let l = each_called (filter (λ r. is_some (taking_node b r)) (seniors_first b))
     (subst (λ (xs : List Shape). Fills b (xs ++ ds) items)
     (flat_map_if (λ r. is_some (taking_node b r)) (λ r. shape.Called r) (seniors_first b)) h) in
     record {
@@ -115,8 +115,7 @@ all_lines (k ∷ ks) b cs ys = content_lines b k cs.0 ++ all_lines ks b cs.1 ys
 all_lines-then : (ks : List Section) (b : Basin) (cs : Contents ks) (ys zs : List Item) →
     all_lines ks b cs ys ++ zs ≡ all_lines ks b cs (ys ++ zs)
 all_lines-then [] b cs ys zs = refl
-all_lines-then (k ∷ ks) b cs ys zs =
-    append_assoc (content_lines b k cs.0) (all_lines ks b cs.1 ys) zs
+all_lines-then (k ∷ ks) b cs ys zs = append_assoc (content_lines b k cs.0) (all_lines ks b cs.1 ys) zs
     ∙ ap (λ xs. content_lines b k cs.0 ++ xs) (all_lines-then ks b cs.1 ys zs)
 
 record AllLines (b : Basin) (ks : List Section) (ds : List Shape) (items : List Item) : Type 0 where
@@ -126,12 +125,12 @@ record AllLines (b : Basin) (ks : List Section) (ds : List Shape) (items : List 
   are : items ≡ all_lines ks b contents others
   rest : Fills b ds others
 
-sections_filled : (b : Basin) → IsValidBasin b → (ks : List Section) (ds : List Shape) (items : List Item) →
+sections_filled : {b : Basin} → IsValidBasin b → (ks : List Section) {ds : List Shape} {items : List Item} →
     Fills b (onto (λ k. shapes_in k b) ks ds) items → AllLines b ks ds items
-sections_filled b valid [] ds items h = record { contents = tt; sized = tt; others = items; are = refl; rest = h }
-sections_filled b valid (k ∷ ks) ds items h =
-    let first = section_filled b valid k (onto (λ k. shapes_in k b) ks ds) items h in
-    let later = sections_filled b valid ks ds first.others first.rest in
+sections_filled {b} valid [] {ds} {items} h = record { contents = tt; sized = tt; others = items; are = refl; rest = h }
+sections_filled {b} valid (k ∷ ks) {ds} h =
+    let first = section_filled valid k h in
+    let later = sections_filled valid ks first.rest in
     record {
       contents = (first.content, later.contents);
       sized = (first.sized, later.sized);
@@ -168,11 +167,11 @@ pub record MonthLines (b : Basin) (ds : List Shape) (items : List Item) : Type 0
   pub are : items ≡ sheet_lines b sheet dues ++ others
   pub rest : Fills b ds others
 
-pub inner_filled : (b : Basin) → IsValidBasin b → (ds : List Shape) (items : List Item) →
+pub inner_filled : {b : Basin} → IsValidBasin b → {ds : List Shape} {items : List Item} →
     Fills b (due_in_month b ++ ds) items → MonthLines b ds items
 unfolding due_in_month
-inner_filled b valid ds items h =
-    let l = sections_filled b valid SECTIONS (shape.End ∷ ds) items
+inner_filled {b} valid {ds} {items} h =
+    let l = sections_filled valid SECTIONS
     (subst (λ (xs : List Shape). Fills b xs items) due_is h) in
     let last = one_line b shape.End ds l.others refl l.rest in
     let end : l.others ≡ line.End ∷ last.others = last.are ∙ ap (λ ms. line.End ∷ (ms ++ last.others)) last.followed in
@@ -181,14 +180,12 @@ inner_filled b valid ds items h =
       dues = l.contents.1.1.1.1.1.1.1.1.0.dues;
       sized = l.sized.1.1.1.1.1.1.1.0;
       others = last.others;
-      are = l.are
-          ∙ (ap (λ ys. all_lines SECTIONS b l.contents ys) end
+      are = l.are ∙ (ap (λ ys. all_lines SECTIONS b l.contents ys) end
           ∙ sym (all_lines-then SECTIONS b l.contents (line.End ∷ []) last.others));
       rest = last.rest;
     }
   where
     due_is : (flat_map (λ k. shapes_in k b) SECTIONS ++ shape.End ∷ []) ++ ds ≡ onto (λ k. shapes_in k b) SECTIONS
         (shape.End ∷ ds)
-    due_is =
-        append_assoc (flat_map (λ k. shapes_in k b) SECTIONS) (shape.End ∷ []) ds
+    due_is = append_assoc (flat_map (λ k. shapes_in k b) SECTIONS) (shape.End ∷ []) ds
         ∙ spread (λ k. shapes_in k b) SECTIONS (shape.End ∷ ds)

@@ -15,19 +15,19 @@ InFirst first xs i = (zs : List Item) × (first ≡ xs ++ i ∷ zs)
 abbrev pub InSecond : List Item → List Item → List Item → Item → List Item → Type 0
 InSecond first second xs i ys = (zs : List Item) × (xs ≡ first ++ zs) × (second ≡ zs ++ i ∷ ys)
 
-cons : (x y : Item) (xs ys : List Item) → x ≡ y → xs ≡ ys → x ∷ xs ≡ y ∷ ys
-cons x y xs ys e f = rw (e, f) refl
+cons : {x y : Item} {xs ys : List Item} → x ≡ y → xs ≡ ys → x ∷ xs ≡ y ∷ ys
+cons e f = rw (e, f) refl
 
-pub stands_in : (first second xs : List Item) (i : Item) (ys : List Item) → first ++ second ≡ xs ++ i ∷ ys →
-    InFirst first xs i ⊎ InSecond first second xs i ys
-stands_in [] second xs i ys e = inr (xs, refl, e)
-stands_in (x ∷ first) second [] i ys e = let same : x ≡ i = cc in inl (first, ap (λ y. y ∷ first) same)
-stands_in (x ∷ first) second (y ∷ xs) i ys e =
+pub stands_in : (first : List Item) {second : List Item} (xs : List Item) {i : Item} {ys : List Item} →
+    first ++ second ≡ xs ++ i ∷ ys → InFirst first xs i ⊎ InSecond first second xs i ys
+stands_in [] xs e = inr (xs, refl, e)
+stands_in (x ∷ first) {second} [] {i} e = let same : x ≡ i = cc in inl (first, ap (λ y. y ∷ first) same)
+stands_in (x ∷ first) {second} (y ∷ xs) {i} {ys} e =
     let head : x ≡ y = cc in
     let tail : first ++ second ≡ xs ++ i ∷ ys = cc in
-    elim (stands_in first second xs i ys tail) [
-      | inl prefix ↦ inl (prefix.0, cons x y first (xs ++ i ∷ prefix.0) head prefix.1)
-      | inr after ↦ inr (after.0, cons y x xs (first ++ after.0) (sym head) after.1, after.2)
+    elim (stands_in first xs tail) [
+      | inl prefix ↦ inl (prefix.0, cons head prefix.1)
+      | inr after ↦ inr (after.0, cons (sym head) after.1, after.2)
     ]
 
 -- Lines that all pass a test.
@@ -42,10 +42,10 @@ all_first p [] ys h = refl
 all_first p (x ∷ xs) ys h =
     (let two = and_parts (p x) (list_all p (xs ++ ys)) h in rw (two.0, all_first p xs ys two.1) refl)
 
-pub all_at : (p : Item → Bool) (xs : List Item) (i : Item) (ys : List Item) → list_all p (xs ++ i ∷ ys) ≡ true →
+pub all_at : (p : Item → Bool) (xs : List Item) {i : Item} (ys : List Item) → list_all p (xs ++ i ∷ ys) ≡ true →
     p i ≡ true
-all_at p [] i ys h = (and_parts (p i) (list_all p ys) h).0
-all_at p (x ∷ xs) i ys h = all_at p xs i ys (and_parts (p x) (list_all p (xs ++ i ∷ ys)) h).1
+all_at p [] {i} ys h = (and_parts (p i) (list_all p ys) h).0
+all_at p (x ∷ xs) {i} ys h = all_at p xs ys (and_parts (p x) (list_all p (xs ++ i ∷ ys)) h).1
 
 pub all_each : {X : Type 0} (p : Item → Bool) (item : X → Item) → ((x : X) → p (item x) ≡ true) → (xs : List X) →
     list_all p (map item xs) ≡ true
@@ -53,8 +53,7 @@ all_each p item h [] = refl
 all_each p item h (x ∷ xs) = rw (h x, all_each p item h xs) refl
 
 pub all_calls : (p : Item → Bool) → ((r : ℕ) → p (line.Call r) ≡ true) → ((n : ℕ) → p (line.Member n) ≡ true) →
-    (cut : ℕ → Option (List Bool)) (xs : List ℕ) →
-    list_all p (flat_map (λ r. call_items r (cut r)) xs) ≡ true
+    (cut : ℕ → Option (List Bool)) (xs : List ℕ) → list_all p (flat_map (λ r. call_items r (cut r)) xs) ≡ true
 all_calls p call member cut [] = refl
 all_calls p call member cut (x ∷ xs) =
     all_both p (call_items x (cut x)) (flat_map (λ r. call_items r (cut r)) xs) (by_set (cut x))
@@ -64,8 +63,8 @@ all_calls p call member cut (x ∷ xs) =
     by_set None = refl
     by_set (Some set) = rw (call x) (all_each p (λ n. line.Member n) member (members_from 0 set))
 
-pub all_weaker : (p q : Item → Bool) → ((i : Item) → p i ≡ true → q i ≡ true) → (xs : List Item) →
+pub all_weaker : {p q : Item → Bool} → ((i : Item) → p i ≡ true → q i ≡ true) → (xs : List Item) →
     list_all p xs ≡ true → list_all q xs ≡ true
-all_weaker p q h [] k = refl
-all_weaker p q h (x ∷ xs) k =
-    (let two = and_parts (p x) (list_all p xs) k in rw (h x two.0, all_weaker p q h xs two.1) refl)
+all_weaker h [] k = refl
+all_weaker {p} {q} h (x ∷ xs) k =
+    (let two = and_parts (p x) (list_all p xs) k in rw (h x two.0, all_weaker h xs two.1) refl)

@@ -3,6 +3,8 @@ use Rattle.std.proofs.Common.{◌≡◌, ℕ, Bool, true, false, refl, sym, arit
 use Rattle.std.specs.Prelude.{Some, None, ◌&&◌, ◌==◌, not, find, option_map, is_none}
 use Rattle.std.specs.List.{list_any}
 use Rattle.std.proofs.lemmas.Bool.Decides.{nat_tests}
+use Rattle.std.proofs.lemmas.Bool.{or_parts}
+use Rattle.std.proofs.Math.Bool.{and-false}
 use Rattle.water_model.specs.History.{cut_of}
 use Rattle.water_model.specs.Indices.{indices_of}
 use Rattle.result_lines.specs.declared.item.Item.{Item}
@@ -53,8 +55,7 @@ unfolding first_row
 row_good b series t i h = found_none (rows b series t i) h
 
 pub good_both : (b : Basin) (series : Inflows) (t : ReadSoFar) (xs ys : List Item) → AreGood b series t xs →
-    AreGood b series (fold (read_item b series) t xs) ys →
-    AreGood b series t (xs ++ ys)
+    AreGood b series (fold (read_item b series) t xs) ys → AreGood b series t (xs ++ ys)
 good_both b series t [] ys g k = k
 good_both b series t (x ∷ xs) ys g k = (g.0, good_both b series (read_item b series t x) xs ys g.1 k)
 
@@ -79,64 +80,62 @@ pub record Section (b : Basin) (series : Inflows) (P : ReadSoFar → Type 0) (go
   pub reads : (x : ℕ) (t : ReadSoFar) → P t → NoneHolds (rows b series t (item x)) → good x
   pub keeps : (x : ℕ) (t : ReadSoFar) → P t → P (read_item b series t (item x))
 
-pub section_good : (b : Basin) (series : Inflows) (P : ReadSoFar → Type 0) (good : ℕ → Type 0) (item : ℕ → Item) →
+pub section_good : {b : Basin} {series : Inflows} (P : ReadSoFar → Type 0) {good : ℕ → Type 0} {item : ℕ → Item} →
     Section b series P good item →
-    (xs : List ℕ) (t : ReadSoFar) → P t → ((x : ℕ) → Has xs x → good x) → AreGood b series t (map item xs)
-section_good b series P good item s [] t p h = tt
-section_good b series P good item s (x ∷ xs) t p h = (
+    (xs : List ℕ) {t : ReadSoFar} → P t → ((x : ℕ) → Has xs x → good x) → AreGood b series t (map item xs)
+section_good P s [] p h = tt
+section_good {b} {series} P {good} {item} s (x ∷ xs) {t} p h = (
   s.makes x t p (h x (inl refl)),
-  section_good b series P good item s xs (read_item b series t (item x)) (s.keeps x t p)
+  section_good P s xs (s.keeps x t p)
       (λ y m. h y (inr m)),
 )
 
-pub good_section : (b : Basin) (series : Inflows) (P : ReadSoFar → Type 0) (good : ℕ → Type 0) (item : ℕ → Item) →
+pub good_section : {b : Basin} {series : Inflows} (P : ReadSoFar → Type 0) {good : ℕ → Type 0} {item : ℕ → Item} →
     Section b series P good item →
     (xs : List ℕ) (t : ReadSoFar) → P t → AreGood b series t (map item xs) → (x : ℕ) → Has xs x → good x
-good_section b series P good item s [] t p g y m = absurd m
-good_section b series P good item s (x ∷ xs) t p g y (inl is) = subst_good (sym is)
+good_section P s [] t p g y m = absurd m
+good_section {b} {series} P {good} s (x ∷ xs) t p g y (inl is) = subst_good (sym is)
   where
     subst_good : x ≡ y → good y
     subst_good e = rw (← e) (s.reads x t p g.0)
-good_section b series P good item s (x ∷ xs) t p g y (inr m) =
-    good_section b series P good item s xs (read_item b series t (item x)) (s.keeps x t p) g.1 y m
+good_section {b} {series} P {good} {item} s (x ∷ xs) t p g y (inr m) =
+    good_section P s xs (read_item b series t (item x)) (s.keeps x t p) g.1 y m
 
-pub section_keeps : (b : Basin) (series : Inflows) (P : ReadSoFar → Type 0) (good : ℕ → Type 0) (item : ℕ → Item) →
-    Section b series P good item →
-    (xs : List ℕ) (t : ReadSoFar) → P t → P (fold (read_item b series) t (map item xs))
-section_keeps b series P good item s [] t p = p
-section_keeps b series P good item s (x ∷ xs) t p =
-    section_keeps b series P good item s xs (read_item b series t (item x)) (s.keeps x t p)
+pub section_keeps : {b : Basin} {series : Inflows} (P : ReadSoFar → Type 0) {good : ℕ → Type 0} {item : ℕ → Item} →
+    Section b series P good item → (xs : List ℕ) {t : ReadSoFar} → P t → P (fold (read_item b series) t (map item xs))
+section_keeps P s [] p = p
+section_keeps {b} {series} P {good} {item} s (x ∷ xs) {t} p = section_keeps P s xs (s.keeps x t p)
+
+-- A test of the numbers of a list.
+pub none_holds : {p : ℕ → Bool} (xs : List ℕ) → ((x : ℕ) → Has xs x → p x ≡ false) → list_any p xs ≡ false
+none_holds [] h = refl
+none_holds {p} (x ∷ xs) h = rw (h x (inl refl)) (none_holds {p = p} xs (λ y m. h y (inr m)))
+
+pub each_fails : (p : ℕ → Bool) (xs : List ℕ) → list_any p xs ≡ false → {x : ℕ} → Has xs x → p x ≡ false
+each_fails p [] h m = absurd m
+each_fails p (y ∷ ys) h (inl is) = rw is (or_parts (p y) (list_any p ys) h).0
+each_fails p (y ∷ ys) h (inr m) = each_fails p ys (or_parts (p y) (list_any p ys) h).1 m
 
 -- nothing is passed over before the `call` lines
 nothing_passed : (b : Basin) (t : ReadSoFar) (i : Item) → ((r : ℕ) → passes b i r ≡ false) → (xs : List ℕ) →
     list_any (λ r. is_short t.now r && is_none (cut_of t.now r) && passes b i r) xs ≡ false
-nothing_passed b t i h [] = refl
-nothing_passed b t i h (r ∷ rs) =
-    rw (h r, none (is_short t.now r && is_none (cut_of t.now r))) (nothing_passed b t i h rs)
-  where
-    none : (p : Bool) → p && false ≡ false
-    none true = refl
-    none false = refl
+nothing_passed b t i h xs = none_holds xs (λ r m. rw (h r) (and-false (is_short t.now r && is_none (cut_of t.now r))))
 
 -- of a line before the `call` lines only the row of its own kind can hold
 pub early_good : (b : Basin) (series : Inflows) (t : ReadSoFar) (i : Item) → t.calling ≡ None →
     ((r : ℕ) → passes b i r ≡ false) → cut_needless t i ≡ false → called_wrong b t i ≡ false →
     NoneHolds (own_rows b series t i) → NoneHolds (rows b series t i)
 early_good b series t i none passed needless called own = (
-  rw none (no_call (not (is_member i))),
+  rw none (and-false (not (is_member i))),
   (nothing_passed b t i passed (indices_of b.rights), (needless, (called, own))),
 )
-  where
-    no_call : (p : Bool) → p && false ≡ false
-    no_call true = refl
-    no_call false = refl
 
 -- Tests of numbers.
-pub is_same : (x y : ℕ) → not (x == y) ≡ false → x ≡ y
-is_same x y h = grind (arith, nat_tests)
+pub is_same : {x y : ℕ} → not (x == y) ≡ false → x ≡ y
+is_same h = grind (arith, nat_tests)
 
-pub same_is : (x y : ℕ) → x ≡ y → not (x == y) ≡ false
-same_is x y h = grind (arith, nat_tests)
+pub same_is : {x y : ℕ} → x ≡ y → not (x == y) ≡ false
+same_is h = grind (arith, nat_tests)
 
 -- an `in` line is never refuted
 pub member_good : (b : Basin) (series : Inflows) (t : ReadSoFar) (n : ℕ) → NoneHolds (rows b series t (line.Member n))

@@ -1,7 +1,8 @@
 -- The lines of a history are not refuted.
+use Rattle.std.proofs.Math.Bool.{or-true}
 use Rattle.std.proofs.Common.{◌≡◌, ℕ, Bool, true, false, refl, sym, ap, subst, ◌∙◌, List, [], ◌∷◌, ◌++◌, length, map}
 use Rattle.std.proofs.Common.{fold, take, append_assoc, length-append}
-use Rattle.std.specs.Prelude.{Option, Some, None, Ok, ◌||◌, slice_get, slice_index}
+use Rattle.std.specs.Prelude.{Option, Some, None, Ok, slice_get, slice_index}
 use Rattle.std.specs.List.{flat_map}
 use Rattle.std.proofs.lemmas.List.Folds.{list_any-append}
 use Rattle.std.proofs.Math.Seq.{take-append_seam}
@@ -32,7 +33,7 @@ use Rattle.cert_check.specs.Checking.{callers_due, is_done, is_whole, verdict}
 use Rattle.cert_check.proofs.Callers.{called_line}
 use Rattle.cert_check.proofs.Follows.{follows_good}
 use Rattle.cert_check.proofs.Month.{At, begun, month_is, inner_lines, section_lines}
-use Rattle.cert_check.proofs.MonthGood.{inner_good}
+use Rattle.cert_check.proofs.GoodMonth.{inner_good}
 use Rattle.cert_check.proofs.Rows.{AreGood, good_both}
 use Rattle.cert_check.proofs.Spread.{onto}
 use Rattle.cert_check.proofs.Sections.{title_good, run_good, month_good, last_good}
@@ -67,11 +68,9 @@ calm b series items t h = h t
 
 -- The months of a history.
 
-pub follows_of : (b : Basin) (series : Inflows) (records before ms : List MonthRecord) (m : MonthRecord) →
-    IsPartialHistory b series records → records ≡ before ++ m ∷ ms →
-    Follows b series before m
-follows_of b series records before ms m h is =
-    subst (λ (xs : List MonthRecord). Follows b series xs m)
+pub follows_of : {b : Basin} {series : Inflows} {records before : List MonthRecord} (ms : List MonthRecord)
+    {m : MonthRecord} → IsPartialHistory b series records → records ≡ before ++ m ∷ ms → Follows b series before m
+follows_of {b} {series} {records} {before} ms {m} h is = subst (λ (xs : List MonthRecord). Follows b series xs m)
     (ap (take (length before)) is ∙ take-append_seam before (m ∷ ms))
     (h.each (length before) m (ap (λ xs. slice_get xs (length before)) is ∙ get_after before ms m))
 
@@ -79,15 +78,14 @@ pub items_are : (b : Basin) (m : MonthRecord) →
     items_of_month b m ≡ line.Month m.month ∷ inner_lines b m (callers_due b m)
 items_are b m = month_is b m (calling_right b m)
 
-months_good : (b : Basin) (series : Inflows) (records before ms : List MonthRecord) → IsValidBasin b →
-    IsPartialHistory b series records → AreTextMonths b series records →
-    records ≡ before ++ ms → AreAllRead b series (length before) ms → (t : ReadSoFar) → t.calling ≡ None →
-    t.months ≡ before →
+months_good : {b : Basin} {series : Inflows} {records before : List MonthRecord} (ms : List MonthRecord) →
+    IsValidBasin b → IsPartialHistory b series records → AreTextMonths b series records → records ≡ before ++ ms →
+    AreAllRead b series (length before) ms → (t : ReadSoFar) → t.calling ≡ None → t.months ≡ before →
     AreGood b series t (flat_map (items_of_month b) ms) ×
     ((fold (read_item b series) t (flat_map (items_of_month b) ms)).calling ≡ None)
-months_good b series records before [] valid history texts is so_far t c months = (tt, c)
-months_good b series records before (m ∷ ms) valid history texts is so_far t c months =
-    let f = follows_of b series records before ms m history is in
+months_good [] valid history texts is so_far t c months = (tt, c)
+months_good {b} {series} {records} {before} (m ∷ ms) valid history texts is so_far t c months =
+    let f = follows_of ms history is in
     let text = month_of b series records before ms m texts is in
     let count : length t.months ≡ length before = ap length months in
     let at : At b before (begun b m) (read_item b series t (line.Month m.month)) = record {
@@ -96,8 +94,8 @@ months_good b series records before (m ∷ ms) valid history texts is so_far t c
       now_is = ap (λ n. blank_month b n m.month) (count ∙ sym f.after.index);
       called = refl;
     } in
-    let good = follows_good b series before m f text in
-    let inner = inner_good b series before m valid.roll.strict so_far.1 good (read_item b series t (line.Month m.month))
+    let good = follows_good f text in
+    let inner = inner_good valid.roll.strict so_far.1 good
     at in
     let here : AreGood b series t (items_of_month b m) =
     subst (λ (xs : List Item). AreGood b series t xs) (sym (items_are b m))
@@ -109,20 +107,19 @@ months_good b series records before (m ∷ ms) valid history texts is so_far t c
     let later : after.months ≡ before ++ m ∷ [] =
     month_read b series m (calling_right b m) t (f.after.index ∙ sym count) so_far.1 ∙ ap (λ xs. xs ++ m ∷ []) months in
     let rest =
-    months_good b series records (before ++ m ∷ []) ms valid history texts
-    (is ∙ sym (append_assoc before (m ∷ []) ms))
+    months_good ms valid history texts (is ∙ sym (append_assoc before (m ∷ []) ms))
     (subst (λ (i : ℕ). AreAllRead b series i ms) (sym (length-append before (m ∷ []))) so_far.2) after still later in (
       good_both b series t (items_of_month b m) (flat_map (items_of_month b) ms) here rest.0,
       ap (λ u. u.calling) (fold-both (read_item b series) t (items_of_month b m) (flat_map (items_of_month b) ms)) ∙
           rest.1,
     )
 
-run_items_good : (b : Basin) (series : Inflows) (records : List MonthRecord) → IsValidBasin b →
+run_items_good : {b : Basin} {series : Inflows} {records : List MonthRecord} → IsValidBasin b →
     IsPartialHistory b series records → AreTextMonths b series records →
     AreGood b series (nothing_read b) (items_of b records)
-run_items_good b series records valid history texts =
+run_items_good {b} {series} {records} valid history texts =
     let months =
-    months_good b series records [] records valid history texts refl (are_all_read b series records texts)
+    months_good records valid history texts refl (are_all_read b series records texts)
     (nothing_read b) refl refl in (
       title_good b series (nothing_read b) refl,
       (
@@ -167,8 +164,7 @@ open_section b m dues section.Calls = open_calls m (seniors_first b)
 open_section b m dues section.Called = open_each called_line (λ x. refl) dues
 
 open_onto : (f : Section → List Item) → ((k : Section) → is_whole (f k) ≡ false) →
-    (ks : List Section) (ys : List Item) →
-    is_whole ys ≡ false → is_whole (onto f ks ys) ≡ false
+    (ks : List Section) (ys : List Item) → is_whole ys ≡ false → is_whole (onto f ks ys) ≡ false
 open_onto f h [] ys k = k
 open_onto f h (x ∷ xs) ys k = open_both (f x) (onto f xs ys) (h x) (open_onto f h xs ys k)
 
@@ -177,8 +173,7 @@ inner_open b m dues = open_onto (section_lines b m dues) (open_section b m dues)
 
 months_open : (b : Basin) (ms : List MonthRecord) → is_whole (flat_map (items_of_month b) ms) ≡ false
 months_open b [] = refl
-months_open b (m ∷ ms) =
-    open_both (items_of_month b m) (flat_map (items_of_month b) ms)
+months_open b (m ∷ ms) = open_both (items_of_month b m) (flat_map (items_of_month b) ms)
     (ap is_whole (items_are b m) ∙ inner_open b m (callers_due b m)) (months_open b ms)
 
 prefix_open : (xs x y : List Item) (d i : Item) → xs ++ d ∷ [] ≡ x ++ i ∷ y → is_whole xs ≡ false → is_whole x ≡ false
@@ -192,21 +187,15 @@ prefix_open (v ∷ xs) (z ∷ x) y d i e h =
     rw (← head, two.0) (prefix_open xs x y d i tail two.1)
 
 ends_whole : (xs : List Item) (n : ℕ) → is_whole (xs ++ line.Done n ∷ []) ≡ true
-ends_whole xs n = list_any-append is_done xs (line.Done n ∷ []) ∙ or_true (is_whole xs)
-  where
-    or_true : (p : Bool) → p || true ≡ true
-    or_true true = refl
-    or_true false = refl
+ends_whole xs n = list_any-append is_done xs (line.Done n ∷ []) ∙ or-true (is_whole xs)
 
 -- the verdict on the text of records of a history
-pub text_good : (b : Basin) (series : Inflows) (records : List MonthRecord) → IsValidBasin b →
+pub text_good : {b : Basin} {series : Inflows} {records : List MonthRecord} → IsValidBasin b →
     IsHistory b series records → AreTextMonths b series records →
     verdict b series (map (line_of b) (items_of b records)) [] ≡ Ok (items_of b records)
-text_good b series records valid history texts =
-    says_yes b series (map (line_of b) (items_of b records)) (items_of b records)
-    (verdict_good b series (items_of b records) (items_of b records) [] refl
+text_good {b} {series} {records} valid history texts = says_yes b series (map (line_of b) (items_of b records))
+    (verdict_good b series (items_of b records) [] refl
     (λ x y i e. texts_are_accepted b series records x y i valid texts history.whole e)
     (λ x y i e. prefix_open (items_of_head b ++ flat_map (items_of_month b) records) x y (line.Done b.months) i e
-    (months_open b records))
-    (run_items_good b series records valid history.partial texts))
+    (months_open b records)) (run_items_good valid history.partial texts))
     (ends_whole (items_of_head b ++ flat_map (items_of_month b) records) b.months)

@@ -2,7 +2,7 @@
 use Rattle.std.proofs.Common.{◌≡◌, ℕ, Bool, true, false, refl, sym, ap, ◌∙◌, arith, List, map}
 use Rattle.std.specs.Prelude.{None, ◌&&◌, not, ◌==◌, nat_lt, slice_index}
 use Rattle.std.proofs.lemmas.Bool.Decides.{nat_tests}
-use Rattle.std.proofs.lemmas.Bool.{eqb-true, or_from, or_parts}
+use Rattle.std.proofs.lemmas.Bool.{eqb-true, and_parts, not-false, or_from, or_parts}
 use Rattle.water_text.specs.Months.{is_same_month}
 use Rattle.water_text.specs.declared.month.Month.{Month}
 use Rattle.water_model.specs.Basin.{instream_link}
@@ -37,73 +37,62 @@ abbrev pub Flows : ℕ → List ℕ → List ℕ → ReadSoFar → Type 0
 Flows index used flow t = (t.calling ≡ None) × (t.now.index ≡ index) × (t.now.used ≡ used) × (t.now.plan.flow ≡ flow)
 
 -- An `open` line is refuted for its amount alone, and so are the lines after it.
-pub openings : (b : Basin) (series : Inflows) (before : List MonthRecord) (a : ℕ → ℕ) →
-    Section b series (After before)
-    (λ x. a x ≡ slice_index (opening_after b before) x)
-    (λ x. line.Amount quantity.Opening x (a x))
+pub openings : (b : Basin) (series : Inflows) (before : List MonthRecord) (a : ℕ → ℕ) → Section b series (After before)
+    (λ x. a x ≡ slice_index (opening_after b before) x) (λ x. line.Amount quantity.Opening x (a x))
 openings b series before a = record {
   makes = λ x t p g. early_good b series t (line.Amount quantity.Opening x (a x)) p.0 (λ r. refl) refl refl (
-    same_is (a x) (slice_index (opening_after b t.months) x) (g
+    same_is (g
         ∙ ap (λ ms. slice_index (opening_after b ms) x) (sym p.1)),
     tt,
   );
-  reads = λ x t p n. is_same (a x) (slice_index (opening_after b t.months) x) n.1.1.1.1.0
+  reads = λ x t p n. is_same n.1.1.1.1.0
       ∙ ap (λ ms. slice_index (opening_after b ms) x) p.1;
   keeps = λ x t p. (refl, p.1);
 }
 
 -- `evap` lines
 pub evaporations : (b : Basin) (series : Inflows) (index : ℕ) (opening : List ℕ) (a : ℕ → ℕ) →
-    Section b series (Opened index opening)
-    (λ x. a x ≡ of_entry b.reservoirs x
+    Section b series (Opened index opening) (λ x. a x ≡ of_entry b.reservoirs x
     (λ r. evaporation r.area (slice_index opening x) (slice_index r.rate (in_year b index))) 0)
     (λ x. line.Amount quantity.Evaporated x (a x))
 evaporations b series index opening a = record {
   makes = λ x t p g. early_good b series t (line.Amount quantity.Evaporated x (a x)) p.0 (λ r. refl) refl refl (
-    same_is (a x)
-        (of_entry b.reservoirs x
-        (λ r. evaporation r.area (slice_index t.now.opening x) (slice_index r.rate (in_year b t.now.index))) 0)
+    same_is
         (rw (p.1, p.2) g),
     tt,
   );
-  reads = λ x t p n. (let e =
-      is_same (a x) (of_entry b.reservoirs x
-      (λ r. evaporation r.area (slice_index t.now.opening x) (slice_index r.rate (in_year b t.now.index))) 0)
+  reads = λ x t p n. (let e = is_same
       n.1.1.1.1.0 in rw (p.1, p.2) at e);
   keeps = λ x t p. (refl, p.1, p.2);
 }
 
 -- `return` lines
 pub returns : (b : Basin) (series : Inflows) (before : List MonthRecord) (index : ℕ) (a : ℕ → ℕ) →
-    Section b series (AfterAt before index)
-    (λ x. a x ≡ returned_at b (map (λ m. m.delivered) before) x index)
+    Section b series (AfterAt before index) (λ x. a x ≡ returned_at b (map (λ m. m.delivered) before) x index)
     (λ x. line.Amount quantity.Returned x (a x))
 returns b series before index a = record {
   makes = λ x t p g. early_good b series t (line.Amount quantity.Returned x (a x)) p.0 (λ r. refl) refl refl
-      (same_is (a x) (returned_at b (map (λ m. m.delivered) t.months) x t.now.index) (rw (p.1, p.2) g), tt);
+      (same_is (rw (p.1, p.2) g), tt);
   reads = λ x t p n. (let e =
-      is_same (a x) (returned_at b (map (λ m. m.delivered) t.months) x t.now.index) n.1.1.1.1.0 in rw (p.1, p.2) at e);
+      is_same n.1.1.1.1.0 in rw (p.1, p.2) at e);
   keeps = λ x t p. (refl, p.1, p.2);
 }
 
 -- `used` lines
 pub uses : (b : Basin) (series : Inflows) (before : List MonthRecord) (index : ℕ) (a : ℕ → ℕ) →
-    Section b series (AfterAt before index)
-    (λ x. a x ≡ used_of b (map (λ m. m.delivered) before) x index)
+    Section b series (AfterAt before index) (λ x. a x ≡ used_of b (map (λ m. m.delivered) before) x index)
     (λ x. line.Amount quantity.Used x (a x))
 uses b series before index a = record {
   makes = λ x t p g. early_good b series t (line.Amount quantity.Used x (a x)) p.0 (λ r. refl) refl refl
-      (same_is (a x) (used_of b (map (λ m. m.delivered) t.months) x t.now.index) (rw (p.1, p.2) g), tt);
+      (same_is (rw (p.1, p.2) g), tt);
   reads = λ x t p n. (let e =
-      is_same (a x) (used_of b (map (λ m. m.delivered) t.months) x t.now.index) n.1.1.1.1.0 in rw (p.1, p.2) at e);
+      is_same n.1.1.1.1.0 in rw (p.1, p.2) at e);
   keeps = λ x t p. (refl, p.1, p.2);
 }
 
 -- `flow` lines
-pub flows : (b : Basin) (series : Inflows) (month : Month) (a : ℕ → ℕ) →
-    Section b series (InMonth month)
-    (λ x. nat_lt (carry_of b month x) (a x) ≡ false)
-    (λ x. line.Amount quantity.Flow x (a x))
+pub flows : (b : Basin) (series : Inflows) (month : Month) (a : ℕ → ℕ) → Section b series (InMonth month)
+    (λ x. nat_lt (carry_of b month x) (a x) ≡ false) (λ x. line.Amount quantity.Flow x (a x))
 flows b series month a = record {
   makes = λ x t p g. early_good b series t (line.Amount quantity.Flow x (a x)) p.0 (λ r. refl) refl refl
       (ap (λ m. nat_lt (carry_of b m x) (a x)) p.1 ∙ g, tt);
@@ -113,21 +102,18 @@ flows b series month a = record {
 
 -- `deliver` lines
 pub deliveries : (b : Basin) (series : Inflows) (index : ℕ) (used flow : List ℕ) (a w : ℕ → ℕ) →
-    Section b series (Flows index used flow)
-    (λ x. (w x ≡ want_of b series x index (slice_index used x))
-    × (amount_wrong (instream_link b x) flow (a x) (w x) ≡ false))
-    (λ x. line.Deliver x (a x) (w x))
+    Section b series (Flows index used flow) (λ x. (w x ≡ want_of b series x index (slice_index used x))
+    × (amount_wrong (instream_link b x) flow (a x) (w x) ≡ false)) (λ x. line.Deliver x (a x) (w x))
 deliveries b series index used flow a w = record {
   makes = λ x t p g. early_good b series t (line.Deliver x (a x) (w x)) p.0 (λ r. refl) refl refl (
     or_from (not (w x == want_of b series x t.now.index (slice_index t.now.used x)))
-        (amount_wrong (instream_link b x) t.now.plan.flow (a x) (w x))
-        (same_is (w x) (want_of b series x t.now.index (slice_index t.now.used x)) (rw (p.1, p.2) g.0))
+        (amount_wrong (instream_link b x) t.now.plan.flow (a x) (w x)) (same_is (rw (p.1, p.2) g.0))
         (ap (λ f. amount_wrong (instream_link b x) f (a x) (w x)) p.3 ∙ g.1),
     tt,
   );
   reads = λ x t p n. (let h = or_parts (not (w x == want_of b series x t.now.index (slice_index t.now.used x)))
       (amount_wrong (instream_link b x) t.now.plan.flow (a x) (w x)) n.1.1.1.1.0 in (
-        is_same (w x) (want_of b series x t.now.index (slice_index t.now.used x)) h.0
+        is_same h.0
             ∙ rw (p.1, p.2) refl,
         ap (λ f. amount_wrong (instream_link b x) f (a x) (w x)) (sym p.3) ∙ h.1,
       ));
@@ -154,15 +140,14 @@ run_good b series t h = early_good b series t (line.Run b.first b.months) h (λ 
     run_same : (y m n : ℕ) → not (y == y && m == m && n == n) ≡ false
     run_same y m n = grind (arith, nat_tests)
 
-pub head_is : (b : Basin) (series : Inflows) (t : ReadSoFar) (first : Month) (months : ℕ) →
+pub head_is : (b : Basin) (series : Inflows) (t : ReadSoFar) {first : Month} {months : ℕ} →
     NoneHolds (rows b series t (line.Run first months)) → (first ≡ b.first) × (months ≡ b.months)
-head_is b series t first months n = by_parts first b.first n.1.1.1.1.0
+head_is b series t {first} {months} n = by_parts first b.first n.1.1.1.1.0
   where
     three : (p q r : Bool) → not ((p && q) && r) ≡ false → (p ≡ true) × (q ≡ true) × (r ≡ true)
-    three true true true h = (refl, refl, refl)
-    three true true false h = cc
-    three true false r h = cc
-    three false q r h = cc
+    three p q r h =
+        let parts = and_parts (p && q) r (not-false ((p && q) && r) h) in
+        let two = and_parts p q parts.0 in (two.0, two.1, parts.1)
 
     by_parts : (x y : Month) → not (is_same_month x y && months == b.months) ≡ false → (x ≡ y) × (months ≡ b.months)
     by_parts x y h =

@@ -1,4 +1,5 @@
 -- A check state keeps the sets that were read, with one more line.
+use Rattle.std.proofs.Math.Bool.{and-false}
 use Rattle.std.proofs.Common.{◌≡◌, ℕ, ◌<◌, Bool, true, false, refl, sym, ap, subst, ◌∙◌, arith, inl, inr, List, []}
 use Rattle.std.proofs.Common.{◌∷◌, length, replicate, take}
 use Rattle.std.specs.Prelude.{Option, Some, None, IsSome, ◌&&◌, is_none, slice_set, option_map}
@@ -25,29 +26,25 @@ no_right : {X : Type 0} (r : ℕ) → None ≡ Some r → X
 no_right r e = cc
 
 -- rights that have their calls have them with one more set
-settled_with : (b : Basin) (m : MonthRecord) (r : ℕ) (set : List Bool) → r < length m.cuts.sets → (xs : List ℕ) →
+settled_with : (b : Basin) (m : MonthRecord) {r : ℕ} (set : List Bool) → r < length m.cuts.sets → (xs : List ℕ) →
     list_any (lacks_call m) xs ≡ false →
     list_any (lacks_call (record m { cuts = with_set m.cuts r (Some set) })) xs ≡ false
-settled_with b m r set l [] h = refl
-settled_with b m r set l (x ∷ xs) h =
+settled_with b m set l [] h = refl
+settled_with b m {r} set l (x ∷ xs) h =
     let two = or_parts (is_short m x && is_none (cut_of m x)) (list_any (lacks_call m) xs) h in
-    rw (here (is_short m x) two.0) (settled_with b m r set l xs two.1)
+    rw (here (is_short m x) two.0) (settled_with b m set l xs two.1)
   where
-    never : (p : Bool) → p && false ≡ false
-    never true = refl
-    never false = refl
-
     here : (p : Bool) → p && is_none (cut_of m x) ≡ false →
         p && is_none (set_of (with_set m.cuts r (Some set)) x) ≡ false
     here p e = elim (cases_eq x r) [
-      | inl same ↦ rw (same, set_of_with m.cuts r (Some set) l) (never p)
+      | inl same ↦ rw (same, set_of_with m.cuts r (Some set) l) (and-false p)
       | inr other ↦ rw (set_of_other m.cuts r x (Some set) other) e
     ]
 
 -- the right has the set that it was given
-has_set : (cuts : CutSets) (r : ℕ) (set : List Bool) → r < length cuts.sets →
+has_set : (cuts : CutSets) {r : ℕ} (set : List Bool) → r < length cuts.sets →
     IsSome (set_of (with_set cuts r (Some set)) r)
-has_set cuts r set l = rw (set_of_with cuts r (Some set) l) refl
+has_set cuts {r} set l = rw (set_of_with cuts r (Some set) l) refl
 
 -- A right's set was read, before the `called` lines.
 
@@ -63,11 +60,11 @@ with_own a r set calling = record a {
 abbrev read_own : ReadSoFar → ℕ → Option (List Bool) → Option ℕ → ReadSoFar
 read_own t r set due = record t { now = record t.now { cuts = with_set t.now.cuts r set }; calling = due }
 
-keeps_set : (b : Basin) (series : Inflows) (a : CheckState) (t : ReadSoFar) (r : ℕ) (set : List Bool)
-    (calling due : Option ℕ) → r < length b.rights → t.called ≡ 0 →
+keeps_set : {b : Basin} {series : Inflows} {a : CheckState} {t : ReadSoFar} {r : ℕ} (set : List Bool)
+    {calling due : Option ℕ} → r < length b.rights → t.called ≡ 0 →
     IsCalling b (with_set a.month.cuts r (Some set)) calling due → Keeps b series a t →
     Keeps b series (with_own a r set calling) (read_own t r (Some set) due)
-keeps_set b series a t r set calling due l none held k = record {
+keeps_set {b} {series} {a} {t} {r} set {calling} l none held k = record {
   left = k.left;
   month = assumption (put_both r (Some set) k.month.fits.fits.cuts k.month.shows.sets);
   calling = held;
@@ -76,7 +73,7 @@ keeps_set b series a t r set calling due l none held k = record {
   callers = λ e. clash e;
   passed = record {
     within = k.passed.within;
-    each = settled_with b t.now r set (omega (arith, l, k.month.fits.fits.cuts, ap length k.month.shows.sets))
+    each = settled_with b t.now set (omega (arith, l, k.month.fits.fits.cuts, ap length k.month.shows.sets))
         (take a.passed (seniors_first b)) k.passed.each;
   };
   answered = none_answered b _ none;
@@ -84,26 +81,25 @@ keeps_set b series a t r set calling due l none held k = record {
 }
 
 -- a `call` line
-pub keeps_call : (b : Basin) (series : Inflows) (a : CheckState) (t : ReadSoFar) (x : ℕ) → x < length b.rights →
+pub keeps_call : {b : Basin} {series : Inflows} {a : CheckState} {t : ReadSoFar} {x : ℕ} → x < length b.rights →
     t.called ≡ 0 → Keeps b series a t →
     Keeps b series (with_own a x (replicate a.month.cuts.nodes false) (Some x)) (read_item b series t (line.Call x))
-keeps_call b series a t x l none k =
+keeps_call {b} {series} {a} {t} {x} l none k =
     subst (λ nodes. Keeps b series (with_own a x set (Some x)) (read_own t x (Some (replicate nodes false)) (Some x)))
-    k.month.fits.fits.cut_nodes
-    (keeps_set b series a t x set (Some x) (Some x) l none (record { so_far = refl; held = held }) k)
+    k.month.fits.fits.cut_nodes (keeps_set set l none (record { so_far = refl; held = held }) k)
   where
     set : List Bool
     set = replicate a.month.cuts.nodes false
 
     held : (r : ℕ) → Some x ≡ Some r → (r < length b.rights) × IsSome (set_of (with_set a.month.cuts x (Some set)) r)
     held r e = let is : x ≡ r = cc in
-        rw (← is) (l, has_set a.month.cuts x set (omega (arith, l, k.month.fits.fits.cuts)))
+        rw (← is) (l, has_set a.month.cuts set (omega (arith, l, k.month.fits.fits.cuts)))
 
 -- an `in` line, after no `call`
-pub keeps_stray : (b : Basin) (series : Inflows) (a : CheckState) (t : ReadSoFar) (node : ℕ) → t.called ≡ 0 →
+pub keeps_stray : {b : Basin} {series : Inflows} {a : CheckState} {t : ReadSoFar} (node : ℕ) → t.called ≡ 0 →
     a.calling ≡ None → Keeps b series a t →
     Keeps b series (record a { has_callers = false; answered = 0 }) (read_item b series t (line.Member node))
-keeps_stray b series a t node none stray k = by_call t.calling (sym k.calling.so_far ∙ stray)
+keeps_stray {b} {series} {a} {t} node none stray k = by_call t.calling (sym k.calling.so_far ∙ stray)
   where
     unknown : false ≡ true → AreCallers b a.month a.callers
     unknown e = clash e
@@ -114,10 +110,11 @@ keeps_stray b series a t node none stray k = by_call t.calling (sym k.calling.so
     by_call (Some r) e = no_right r (sym e)
 
 -- an `in` line of the right whose nodes come
-pub keeps_member : (b : Basin) (series : Inflows) (a : CheckState) (t : ReadSoFar) (node right : ℕ) (set : List Bool) →
-    t.called ≡ 0 → a.calling ≡ Some right → set_of a.month.cuts right ≡ Some set → Keeps b series a t →
+pub keeps_member : {b : Basin} {series : Inflows} {a : CheckState} {t : ReadSoFar} (node : ℕ) {right : ℕ}
+    {set : List Bool} → t.called ≡ 0 → a.calling ≡ Some right → set_of a.month.cuts right ≡ Some set →
+    Keeps b series a t →
     Keeps b series (with_own a right (slice_set set node true) a.calling) (read_item b series t (line.Member node))
-keeps_member b series a t node right set none own is k = by_call t.calling (sym k.calling.so_far ∙ own)
+keeps_member {b} {series} {a} {t} node {right} {set} none own is k = by_call t.calling (sym k.calling.so_far ∙ own)
   where
     more : List Bool
     more = slice_set set node true
@@ -127,7 +124,7 @@ keeps_member b series a t node right set none own is k = by_call t.calling (sym 
 
     still : (s : ℕ) → IsSome (set_of a.month.cuts s) → IsSome (set_of (with_set a.month.cuts right (Some more)) s)
     still s h = elim (cases_eq s right) [
-      | inl same ↦ rw same (has_set a.month.cuts right more (omega (arith, within, k.month.fits.fits.cuts)))
+      | inl same ↦ rw same (has_set a.month.cuts more (omega (arith, within, k.month.fits.fits.cuts)))
       | inr other ↦ rw (set_of_other a.month.cuts right s (Some more) other) h
     ]
 
@@ -138,7 +135,7 @@ keeps_member b series a t node right set none own is k = by_call t.calling (sym 
         same_set c d e = rw e refl
 
     kept : Keeps b series (with_own a right more a.calling) (read_own t right (Some more) t.calling)
-    kept = keeps_set b series a t right more a.calling t.calling within none (record {
+    kept = keeps_set more within none (record {
       so_far = k.calling.so_far;
       held = λ s h. (let own = k.calling.held s h in (own.0, still s own.1));
     }) k

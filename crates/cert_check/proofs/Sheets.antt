@@ -62,14 +62,14 @@ ordered_apart : (b : Basin) (xs : List ℕ) → IsOrdered b.rights xs → AreApa
 ordered_apart b [] h = tt
 ordered_apart b (x ∷ xs) h = (once_in_order b x xs h, ordered_apart b xs h.1)
 
-pub seniors_apart : (b : Basin) → IsValidBasin b → AreApart (seniors_first b)
-seniors_apart b valid = ordered_apart b (seniors_first b) (seniors_ordered b.rights valid.roll.strict)
+pub seniors_apart : {b : Basin} → IsValidBasin b → AreApart (seniors_first b)
+seniors_apart {b} valid = ordered_apart b (seniors_first b) (seniors_ordered b.rights valid.roll.strict)
 
-pub in_order_apart : (b : Basin) → IsValidBasin b → (s : Space) → AreApart (in_order s b)
-in_order_apart b valid space.Nodes = indices_apart 0 (length b.nodes)
-in_order_apart b valid space.Links = indices_apart 0 (length b.links)
-in_order_apart b valid space.Reservoirs = indices_apart 0 (length b.reservoirs)
-in_order_apart b valid space.Rights = seniors_apart b valid
+pub in_order_apart : {b : Basin} → IsValidBasin b → (s : Space) → AreApart (in_order s b)
+in_order_apart {b} valid space.Nodes = indices_apart 0 (length b.nodes)
+in_order_apart {b} valid space.Links = indices_apart 0 (length b.links)
+in_order_apart {b} valid space.Reservoirs = indices_apart 0 (length b.reservoirs)
+in_order_apart valid space.Rights = seniors_apart valid
 
 -- what a month's lines give
 pub record Sheet : Type 0 where
@@ -95,8 +95,7 @@ zeros n = replicate n 0
 abbrev pub supplied : Basin → Inflows → MonthRecord → MonthRecord
 supplied b series m =
     record m {
-      supply =
-          map (λ n. inflow_at b series n m.index + slice_index m.returned n + stored_at b m.opening m.evaporated n)
+      supply = map (λ n. inflow_at b series n m.index + slice_index m.returned n + stored_at b m.opening m.evaporated n)
           (indices_of b.nodes);
     }
 
@@ -133,48 +132,45 @@ amounts_are b series i s quantity.Flow = refl
 amounts_are b series i s quantity.Outflow = refl
 amounts_are b series i s quantity.Closing = refl
 
-read_is : (xs : List ℕ) (a : ℕ → ℕ) (n k : ℕ) → ((x : ℕ) → Has xs x → x < n) → Has xs k →
+read_is : (xs : List ℕ) (a : ℕ → ℕ) {n k : ℕ} → ((x : ℕ) → Has xs x → x < n) → Has xs k →
     slice_index (set_all xs a (zeros n)) k ≡ a k
-read_is xs a n k below h =
+read_is xs a {n} {k} below h =
     (let l = below k h in set_all-has xs a (zeros n) k (omega (arith, length-replicate {A = ℕ} n 0)) h)
 
-read_again : (xs : List ℕ) (a : ℕ → ℕ) (n : ℕ) → ((x : ℕ) → Has xs x → x < n) →
+read_again : (xs : List ℕ) (a : ℕ → ℕ) {n : ℕ} → ((x : ℕ) → Has xs x → x < n) →
     set_all xs (λ k. slice_index (set_all xs a (zeros n)) k) (zeros n) ≡ set_all xs a (zeros n)
-read_again xs a n below =
-    set_all-same xs (λ k. slice_index (set_all xs a (zeros n)) k) a (zeros n) (λ k h. read_is xs a n k below h)
+read_again xs a {n} below =
+    set_all-same xs (λ k. slice_index (set_all xs a (zeros n)) k) a (zeros n) (λ k h. read_is xs a below h)
 
 right_below : (b : Basin) (k : ℕ) → Has (seniors_first b) k → k < length b.rights
 right_below b k h = seniors_below b.rights k h
 
-cut_is : (b : Basin) (cut : ℕ → Option (List Bool)) (k : ℕ) → Has (seniors_first b) k →
+cut_is : (b : Basin) (cut : ℕ → Option (List Bool)) {k : ℕ} → Has (seniors_first b) k →
     set_in (put_sets (seniors_first b) cut (replicate (length b.rights) None)) k ≡ cut k
-cut_is b cut k h =
+cut_is b cut {k} h =
     (let l = right_below b k h in
     put_sets-has (seniors_first b) k cut (replicate (length b.rights) None)
-    (omega (arith, length-replicate {A = Option (List Bool)} (length b.rights) None)) (no_sets (length b.rights) k)
-    h)
+    (omega (arith, length-replicate {A = Option (List Bool)} (length b.rights) None)) (no_sets (length b.rights) k) h)
 
 -- all of a sheet's record is read
-pub record_read : (b : Basin) (series : Inflows) (i : ℕ) (s : Sheet) →
+pub record_read : {b : Basin} (series : Inflows) (i : ℕ) (s : Sheet) →
     ((r : ℕ) (set : List Bool) → s.cut r ≡ Some set → length set ≡ length b.nodes) →
     IsAllRead b series (record_of b series i s)
-record_read b series i s sized = record {
+record_read {b} series i s sized = record {
   listed = λ q. ap (λ (xs : List ℕ). set_all (entries_with_line b q) (λ x. slice_index xs x)
-      (zeros (count_in (space_of q) b)))
-      (amounts_are b series i s q)
-      ∙ (read_again (entries_with_line b q) (s.amount q) (count_in (space_of q) b) (λ x h. (has-with_line b q x h).0)
+      (zeros (count_in (space_of q) b))) (amounts_are b series i s q)
+      ∙ (read_again (entries_with_line b q) (s.amount q) (λ x h. (has-with_line b q x h).0)
       ∙ sym (amounts_are b series i s q));
-  delivered = read_again (seniors_first b) s.delivered (length b.rights) (right_below b);
-  want = read_again (seniors_first b) s.want (length b.rights) (right_below b);
+  delivered = read_again (seniors_first b) s.delivered (right_below b);
+  want = read_again (seniors_first b) s.want (right_below b);
   take = set_all-same (seniors_first b) (take_of b (λ r. slice_index (record_of b series i s).delivered r))
-      (take_of b s.delivered) (zeros (length b.rights))
-      (λ k h. ap (λ n. if is_some (taking_node b k) then n else 0)
-      (read_is (seniors_first b) s.delivered (length b.rights) k (right_below b) h));
+      (take_of b s.delivered) (zeros (length b.rights)) (λ k h. ap (λ n. if is_some (taking_node b k) then n else 0)
+      (read_is (seniors_first b) s.delivered (right_below b) h));
   sets = put_sets-same (seniors_first b) (λ r. cut_of (record_of b series i s) r) s.cut
-      (replicate (length b.rights) None) (λ r h. cut_is b s.cut r h);
+      (replicate (length b.rights) None) (λ r h. cut_is b s.cut h);
   nodes = refl;
   supply = refl;
-  sized = λ r set e. sized r set (sym (cut_is b s.cut r (seniors_have b.rights r (within r set e))) ∙ e);
+  sized = λ r set e. sized r set (sym (cut_is b s.cut (seniors_have b.rights r (within r set e))) ∙ e);
   within = λ r set e. omega (arith, within r set e, length-replicate {A = Option (List Bool)} (length b.rights) None);
 }
   where
@@ -185,8 +181,7 @@ record_read b series i s sized = record {
     within : (r : ℕ) (set : List Bool) → cut_of (record_of b series i s) r ≡ Some set → r < length b.rights
     within r set e = elim (cases_lt r (length b.rights)) [
       | inl l ↦ l
-      | inr beyond ↦
-          (let none : cut_of (record_of b series i s) r ≡ None =
+      | inr beyond ↦ (let none : cut_of (record_of b series i s) r ≡ None =
           ap (λ (o : Option (Option (List Bool))). unwrap_or (option_map (λ s. s) o) None)
           (slice_get_past (put_sets (seniors_first b) s.cut (replicate (length b.rights) None)) r
           (omega (arith, count))) in
@@ -205,26 +200,19 @@ record_lines b series i s dues =
         (slice_index (record_of b series i s).want k)
     deliver k h =
         rw (
-          read_is (seniors_first b) s.delivered (length b.rights) k (right_below b) h,
-          read_is (seniors_first b) s.want (length b.rights) k (right_below b) h,
+          read_is (seniors_first b) s.delivered (right_below b) h,
+          read_is (seniors_first b) s.want (right_below b) h,
         ) refl
 
     by_section : (k : Section) → sheet_section b s dues k ≡ section_lines b (record_of b series i s) dues k
-    by_section (section.Amounts q) =
-        map_same (λ x. line.Amount q x (s.amount q x))
-        (λ x. line.Amount q x (slice_index (amounts_of q (record_of b series i s)) x))
-        (entries_with_line b q)
-        (λ k h. ap (λ n. line.Amount q k n)
-        (sym (ap (λ (xs : List ℕ). slice_index xs k) (amounts_are b series i s q)
-        ∙ read_is (entries_with_line b q) (s.amount q) (count_in (space_of q) b) k
-        (λ x l. (has-with_line b q x l).0) h)))
-    by_section section.Deliveries =
-        map_same (λ x. line.Deliver x (s.delivered x) (s.want x))
+    by_section (section.Amounts q) = map_same (λ x. line.Amount q x (s.amount q x))
+        (λ x. line.Amount q x (slice_index (amounts_of q (record_of b series i s)) x)) (entries_with_line b q)
+        (λ k h. ap (λ n. line.Amount q k n) (sym (ap (λ (xs : List ℕ). slice_index xs k) (amounts_are b series i s q)
+        ∙ read_is (entries_with_line b q) (s.amount q) (λ x l. (has-with_line b q x l).0) h)))
+    by_section section.Deliveries = map_same (λ x. line.Deliver x (s.delivered x) (s.want x))
         (λ x. line.Deliver x (slice_index (record_of b series i s).delivered x)
-        (slice_index (record_of b series i s).want x))
-        (seniors_first b) deliver
+        (slice_index (record_of b series i s).want x)) (seniors_first b) deliver
     by_section section.Calls =
         flat_same (λ r. call_items r (s.cut r)) (λ r. call_items r (cut_of (record_of b series i s) r))
-        (seniors_first b)
-        (λ k h. ap (call_items k) (sym (cut_is b s.cut k h)))
+        (seniors_first b) (λ k h. ap (call_items k) (sym (cut_is b s.cut h)))
     by_section section.Called = refl

@@ -36,12 +36,11 @@ use Rattle.cert_check.proofs.Verdicts.{AreJudged, read_more, verdict_says}
 
 -- A text has fewer lines than fit 64 bits.
 
-lines_left : (b : Basin) (items : List Item) (s after : Due) → due_after b s items ≡ Some after →
+lines_left : (b : Basin) (items : List Item) (s : Due) {after : Due} → due_after b s items ≡ Some after →
     length items + max_lines b after.dues ≤ max_lines b s.dues
-lines_left b [] s after h = let same : Some s ≡ Some after = h in let is : s ≡ after = cc in rw is (omega arith)
-lines_left b (item ∷ items) s after h =
-    by_step (step b s.must s.dues item) refl h
-    (λ ds e. lines_left b items (record { must = is_call item; dues = ds }) after e)
+lines_left b [] s {after} h = let same : Some s ≡ Some after = h in let is : s ≡ after = cc in rw is (omega arith)
+lines_left b (item ∷ items) s {after} h = by_step (step b s.must s.dues item) refl h
+    (λ ds e. lines_left b items (record { must = is_call item; dues = ds }) e)
   where
     by_step : (o : Option (List Shape)) → step b s.must s.dues item ≡ o →
         option_and_then (λ dues. due_after b (record { must = is_call item; dues = dues }) items) o ≡ Some after →
@@ -51,12 +50,12 @@ lines_left b (item ∷ items) s after h =
     by_step None e k further = cc
     by_step (Some ds) e k further = omega (arith, further ds k, step-fewer b s.must s.dues item ds e)
 
-pub bounded_lines : (b : Basin) (series : Inflows) (k : CheckProgress) (lines : List (List ℕ)) → IsValidBasin b →
+pub bounded_lines : {b : Basin} {series : Inflows} {k : CheckProgress} {lines : List (List ℕ)} → IsValidBasin b →
     IsProgressOf b series k lines → k.read + 1 < 2 ^ 64
-bounded_lines b series k lines valid s =
+bounded_lines {b} {series} {k} valid s =
     let stands : due_after b (all_due b) s.items ≡ Some k.reader.due =
     subst (λ (c : Basin). due_after c (all_due c) s.items ≡ Some k.reader.due) s.basin s.reader in
-    let left = lines_left b s.items (all_due b) k.reader.due stands in
+    let left = lines_left b s.items (all_due b) stands in
     let run = most_of_run b (length (due_in_month b)) b.months (length b.nodes) (length b.rights) refl refl refl refl in
     let fits =
     run_fits_more (length (due_in_month b)) b.months (length b.nodes) (length b.rights) (bounded_due b valid)
@@ -83,27 +82,22 @@ one_more b series before (line ∷ lines) bytes =
   where
     by_line : ((item : Item) → verdict_from b series (before ++ item ∷ []) (lines ++ bytes ∷ [])
         ≡ ok_then (λ items. ok_then (λ item. Ok (items ++ item ∷ [])) (judge b series items bytes))
-        (verdict_from b series (before ++ item ∷ []) lines)) →
-        (r : Result Item Refuted) →
+        (verdict_from b series (before ++ item ∷ []) lines)) → (r : Result Item Refuted) →
         ok_then (λ item. verdict_from b series (before ++ item ∷ []) (lines ++ bytes ∷ [])) r
         ≡ ok_then (λ items. ok_then (λ item. Ok (items ++ item ∷ [])) (judge b series items bytes))
         (ok_then (λ item. verdict_from b series (before ++ item ∷ []) lines) r)
     by_line further (Ok item) = further item
     by_line further (Err e) = refl
 
-pub still_refused : (b : Basin) (series : Inflows) (lines : List (List ℕ)) (bytes : List ℕ) (e : Refuted) →
-    verdict_from b series [] lines ≡ Err e →
-    verdict_from b series [] (lines ++ bytes ∷ []) ≡ Err e
-still_refused b series lines bytes e h =
-    one_more b series [] lines bytes
+pub still_refused : (b : Basin) (series : Inflows) (lines : List (List ℕ)) (bytes : List ℕ) {e : Refuted} →
+    verdict_from b series [] lines ≡ Err e → verdict_from b series [] (lines ++ bytes ∷ []) ≡ Err e
+still_refused b series lines bytes h = one_more b series [] lines bytes
     ∙ ap (ok_then (λ items. ok_then (λ item. Ok (items ++ item ∷ [])) (judge b series items bytes))) h
 
-pub line_judged : (b : Basin) (series : Inflows) (lines : List (List ℕ)) (bytes : List ℕ) (items : List Item)
-    (r : Result Item Refuted) → verdict_from b series [] lines ≡ Ok items →
-    judge b series items bytes ≡ r →
+pub line_judged : (b : Basin) (series : Inflows) (lines : List (List ℕ)) (bytes : List ℕ) {items : List Item}
+    {r : Result Item Refuted} → verdict_from b series [] lines ≡ Ok items → judge b series items bytes ≡ r →
     verdict_from b series [] (lines ++ bytes ∷ []) ≡ ok_then (λ item. Ok (items ++ item ∷ [])) r
-line_judged b series lines bytes items r h j =
-    one_more b series [] lines bytes
+line_judged b series lines bytes {items} h j = one_more b series [] lines bytes
     ∙ (ap (ok_then (λ items. ok_then (λ item. Ok (items ++ item ∷ [])) (judge b series items bytes))) h
     ∙ ap (ok_then (λ item. Ok (items ++ item ∷ []))) j)
 
@@ -113,45 +107,42 @@ pub judged_ended : (b : Basin) (series : Inflows) (items : List Item) (bytes : L
 unfolding judge
 judged_ended b series items bytes whole = rw whole refl
 
-pub judged_bad : (b : Basin) (series : Inflows) (items : List Item) (bytes : List ℕ) (why : BadLine) →
+pub judged_bad : (b : Basin) (series : Inflows) (items : List Item) (bytes : List ℕ) {why : BadLine} →
     is_whole items ≡ false → read_line b items bytes ≡ Err why →
     judge b series items bytes ≡ Err (record { line = length items + 1; kind = kind.BadLine })
 unfolding judge
-judged_bad b series items bytes why open_yet read = rw (open_yet, read) refl
+judged_bad b series items bytes open_yet read = rw (open_yet, read) refl
 
-pub judged_item : (b : Basin) (series : Inflows) (items : List Item) (bytes : List ℕ) (item : Item) →
+pub judged_item : (b : Basin) (series : Inflows) (items : List Item) (bytes : List ℕ) {item : Item} →
     is_whole items ≡ false → read_line b items bytes ≡ Ok item →
     judge b series items bytes ≡ judge_row items item (first_row b series (read_so_far b series items) item)
 unfolding judge
-judged_item b series items bytes item open_yet read = rw (open_yet, read) refl
+judged_item b series items bytes open_yet read = rw (open_yet, read) refl
 
 -- what is known of a line that is read
-pub line_comes : (b : Basin) (series : Inflows) (lines : List (List ℕ)) (bytes : List ℕ) (items : List Item)
-    (item : Item) → IsValidBasin b → IsSeriesOf b series →
-    verdict_from b series [] lines ≡ Ok items → read_line b items bytes ≡ Ok item →
-    MayCome b series (read_so_far b series items) item
-line_comes b series lines bytes items item valid fits h read =
-    let said = verdict_says b valid series [] items lines h in
+pub line_comes : {b : Basin} {series : Inflows} (lines : List (List ℕ)) (bytes : List ℕ) {items : List Item}
+    {item : Item} → IsValidBasin b → IsSeriesOf b series → verdict_from b series [] lines ≡ Ok items →
+    read_line b items bytes ≡ Ok item → MayCome b series (read_so_far b series items) item
+line_comes {b} {series} lines bytes {items} {item} valid fits h read =
+    let said = verdict_says valid [] lines h in
     let prefix = ((prefixes_are_accepted b items bytes item valid).0 read).2 in
-    may_come b valid series fits items item (rw said.are said.good) prefix
+    may_come valid fits items (rw said.are said.good) prefix
 
-last_same : (xs ys : List Item) (i j : Item) → xs ++ i ∷ [] ≡ ys ++ j ∷ [] → i ≡ j
-last_same [] [] i j e = cc
-last_same [] (y ∷ []) i j e = cc
-last_same [] (y ∷ z ∷ ys) i j e = cc
-last_same (x ∷ []) [] i j e = cc
-last_same (x ∷ z ∷ xs) [] i j e = cc
-last_same (x ∷ xs) (y ∷ ys) i j e = let tail : xs ++ i ∷ [] ≡ ys ++ j ∷ [] = cc in last_same xs ys i j tail
+last_same : (xs ys : List Item) {i j : Item} → xs ++ i ∷ [] ≡ ys ++ j ∷ [] → i ≡ j
+last_same [] [] e = cc
+last_same [] (y ∷ []) e = cc
+last_same [] (y ∷ z ∷ ys) e = cc
+last_same (x ∷ []) [] e = cc
+last_same (x ∷ z ∷ xs) [] e = cc
+last_same (x ∷ xs) (y ∷ ys) {i} {j} e = let tail : xs ++ i ∷ [] ≡ ys ++ j ∷ [] = cc in last_same xs ys tail
 
 -- the month that a good `end` line ends follows those before it
-pub line_ends : (b : Basin) (series : Inflows) (lines : List (List ℕ)) (bytes : List ℕ) (items : List Item)
-    (item : Item) → IsValidBasin b → IsSeriesOf b series →
-    verdict_from b series [] lines ≡ Ok items → read_line b items bytes ≡ Ok item →
-    item ≡ line.End → first_row b series (read_so_far b series items) item ≡ None →
+pub line_ends : {b : Basin} {series : Inflows} (lines : List (List ℕ)) (bytes : List ℕ) {items : List Item}
+    {item : Item} → IsValidBasin b → IsSeriesOf b series → verdict_from b series [] lines ≡ Ok items →
+    read_line b items bytes ≡ Ok item → item ≡ line.End → first_row b series (read_so_far b series items) item ≡ None →
     MonthFollows b series (read_so_far b series items)
-line_ends b series lines bytes items item valid fits h read is none =
-    last_follows b series (read_so_far b series items).months
-    (with_supply b series (read_so_far b series items).now)
+line_ends {b} {series} lines bytes {items} {item} valid fits h read is none =
+    last_follows b series (read_so_far b series items).months (with_supply b series (read_so_far b series items).now)
     (subst (λ (t : ReadSoFar). IsPartialHistory b series t.months) more (by_rest prefix.rest prefix.whole))
   where
     prefix : IsPrefix b (items ++ line.End ∷ [])
@@ -159,7 +150,7 @@ line_ends b series lines bytes items item valid fits h read is none =
         ((prefixes_are_accepted b items bytes item valid).0 read).2
 
     said : AreJudged b series [] items lines
-    said = verdict_says b valid series [] items lines h
+    said = verdict_says valid [] lines h
 
     good : AreGood b series (nothing_read b) (items ++ line.End ∷ [])
     good = good_both b series (nothing_read b) items (line.End ∷ []) (rw said.are said.good) (
@@ -174,67 +165,64 @@ line_ends b series lines bytes items item valid fits h read is none =
     by_rest : (rest : List Item) → Fills b (due b) ((items ++ line.End ∷ []) ++ rest) →
         IsPartialHistory b series (read_so_far b series (items ++ line.End ∷ [])).months
     by_rest [] whole =
-        let ends = ends_with_done b valid series (items ++ line.End ∷ [])
+        let ends = ends_with_done valid series
         (subst (λ (xs : List Item). Fills b (due b) xs) (append-nil (items ++ line.End ∷ [])) whole) in
-        let never : line.End ≡ line.Done b.months = last_same items ends.0 line.End (line.Done b.months) ends.1 in
+        let never : line.End ≡ line.Done b.months = last_same items ends.0 ends.1 in
         cc
     by_rest (next ∷ rest) whole =
-        (may_come b valid series fits (items ++ line.End ∷ []) next good (record {
+        (may_come valid fits (items ++ line.End ∷ []) good (record {
           rest = rest;
           whole = subst (λ (xs : List Item). Fills b (due b) xs)
               (sym (append_assoc (items ++ line.End ∷ []) (next ∷ []) rest)) whole;
         })).partial
 
 -- a line that is taken, or refused by a row
-pub took : (b : Basin) (series : Inflows) (k : CheckProgress) (lines : List (List ℕ)) (bytes : List ℕ)
-    (items : List Item)
-    (item : Item) (result : Result (Unit {0}) Refuted) →
-    verdict_from b series [] lines ≡ Ok items →
+pub took : {b : Basin} (series : Inflows) (k : CheckProgress) (lines : List (List ℕ)) (bytes : List ℕ)
+    {items : List Item} (item : Item) (result : Result (Unit {0}) Refuted) → verdict_from b series [] lines ≡ Ok items →
     judge b series items bytes ≡ judge_row items item (first_row b series (read_so_far b series items) item) →
     k.reader.basin ≡ b → reader.ReaderStandsFor k.reader (items ++ item ∷ []) → TakesItem b series k items item result →
     TakesLine b series k (lines ++ bytes ∷ []) result
-took b series k lines bytes items item (Ok done) good judged basin stands (none, keeps, counts, audit) = record {
+took {b} series k lines bytes {items} item (Ok done) good judged basin stands (none, keeps, counts, audit) = record {
   items = items ++ item ∷ [];
-  verdict = line_judged b series lines bytes items (Ok item) good (judged ∙ ap (judge_row items item) none);
+  verdict = line_judged b series lines bytes good (judged ∙ ap (judge_row items item) none);
   basin = basin;
   reader = stands;
   state = keeps;
   counts = counts;
   audit = audit;
 }
-took b series k lines bytes items item (Err e) good judged basin stands refuted =
-    line_judged b series lines bytes items (Err e) good (judged ∙ refuted)
+took {b} series k lines bytes item (Err e) good judged basin stands refuted =
+    line_judged b series lines bytes good (judged ∙ refuted)
 
 -- The whole checker.
 
-pub refusal_is : (c : CheckerView) (lines : List (List ℕ)) (e : Refuted) → c.refused ≡ Some e →
-    CheckerStandsFor c lines →
-    verdict_from c.basin c.series [] lines ≡ Err e
-refusal_is c lines e is stands = by_refused c.refused is stands
+pub refusal_is : (c : CheckerView) (lines : List (List ℕ)) {e : Refuted} → c.refused ≡ Some e →
+    CheckerStandsFor c lines → verdict_from c.basin c.series [] lines ≡ Err e
+refusal_is c lines {e} is stands = by_refused c.refused is stands
   where
     by_refused : (o : Option Refuted) → o ≡ Some e → Stands o c lines → verdict_from c.basin c.series [] lines ≡ Err e
     by_refused None is h = cc
     by_refused (Some other) is h = let same : other ≡ e = cc in h ∙ ap Err same
 
-pub refusal_stands : (c : CheckerView) (lines : List (List ℕ)) (e : Refuted) → c.refused ≡ Some e →
+pub refusal_stands : (c : CheckerView) (lines : List (List ℕ)) {e : Refuted} → c.refused ≡ Some e →
     verdict_from c.basin c.series [] lines ≡ Err e → CheckerStandsFor c lines
-refusal_stands c lines e is h = by_refused c.refused is
+refusal_stands c lines {e} is h = by_refused c.refused is
   where
     by_refused : (o : Option Refuted) → o ≡ Some e → Stands o c lines
     by_refused None is = cc
     by_refused (Some other) is = let same : other ≡ e = cc in h ∙ ap Err (sym same)
 
-pub good_is : (c : CheckerView) (lines : List (List ℕ)) → c.refused ≡ None → CheckerStandsFor c lines →
+pub good_is : {c : CheckerView} {lines : List (List ℕ)} → c.refused ≡ None → CheckerStandsFor c lines →
     IsProgressOf c.basin c.series c.progress lines
-good_is c lines is stands = by_refused c.refused is stands
+good_is {c} {lines} is stands = by_refused c.refused is stands
   where
     by_refused : (o : Option Refuted) → o ≡ None → Stands o c lines → IsProgressOf c.basin c.series c.progress lines
     by_refused None is h = h
     by_refused (Some e) is h = cc
 
-pub good_stands : (c : CheckerView) (lines : List (List ℕ)) → c.refused ≡ None →
+pub good_stands : {c : CheckerView} {lines : List (List ℕ)} → c.refused ≡ None →
     IsProgressOf c.basin c.series c.progress lines → CheckerStandsFor c lines
-good_stands c lines is h = by_refused c.refused is
+good_stands {c} {lines} is h = by_refused c.refused is
   where
     by_refused : (o : Option Refuted) → o ≡ None → Stands o c lines
     by_refused None is = h

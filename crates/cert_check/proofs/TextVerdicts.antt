@@ -13,12 +13,11 @@ use Rattle.cert_check.specs.declared.refuted.Refuted.{Refuted}
 
 -- A refusal stands, whatever lines come after.
 
-refused : (b : Basin) (series : Inflows) (before : List Item) (xs ys : List (List ℕ)) (e : Refuted) →
-    verdict_from b series before xs ≡ Err e →
-    verdict_from b series before (xs ++ ys) ≡ Err e
-refused b series before [] ys e h = let never : Ok before ≡ Err e = h in cc
-refused b series before (x ∷ xs) ys e h =
-    by_line (judge b series before x) h (λ i k. refused b series (before ++ i ∷ []) xs ys e k)
+refused : (b : Basin) (series : Inflows) (before : List Item) (xs ys : List (List ℕ)) {e : Refuted} →
+    verdict_from b series before xs ≡ Err e → verdict_from b series before (xs ++ ys) ≡ Err e
+refused b series before [] ys {e} h = let never : Ok before ≡ Err e = h in cc
+refused b series before (x ∷ xs) ys {e} h =
+    by_line (judge b series before x) h (λ i k. refused b series (before ++ i ∷ []) xs ys k)
   where
     by_line : (r : Result Item Refuted) → ok_then (λ item. verdict_from b series (before ++ item ∷ []) xs) r ≡ Err e →
         ((i : Item) → verdict_from b series (before ++ i ∷ []) xs ≡ Err e →
@@ -27,10 +26,9 @@ refused b series before (x ∷ xs) ys e h =
     by_line (Ok i) k further = further i k
     by_line (Err why) k further = k
 
-pub refused_text : (b : Basin) (series : Inflows) (xs ys : List (List ℕ)) (rest : List ℕ) (e : Refuted) →
-    verdict_from b series [] xs ≡ Err e →
-    verdict b series (xs ++ ys) rest ≡ Err e
-refused_text b series xs ys rest e h = ap (ok_then (verdict_at_end rest)) (refused b series [] xs ys e h)
+pub refused_text : (b : Basin) (series : Inflows) (xs ys : List (List ℕ)) (rest : List ℕ) {e : Refuted} →
+    verdict_from b series [] xs ≡ Err e → verdict b series (xs ++ ys) rest ≡ Err e
+refused_text b series xs ys rest h = ap (ok_then (verdict_at_end rest)) (refused b series [] xs ys h)
 
 -- The last piece is the rest.
 
@@ -88,10 +86,10 @@ prefix_lines prefix more some = by_test (is_line (after_last (prefix ++ more)))
     by_test false = (take (length more - 1) more, cut)
 
 -- a text is refused where lines in its prefix are
-pub prefix_refused : (b : Basin) (series : Inflows) (bytes : List ℕ) (prefix more : List (List ℕ)) (e : Refuted) →
+pub prefix_refused : (b : Basin) (series : Inflows) (bytes : List ℕ) (prefix more : List (List ℕ)) {e : Refuted} →
     pieces_of bytes ≡ prefix ++ more → 0 < length more → verdict_from b series [] prefix ≡ Err e →
     text_verdict b series bytes ≡ Err e
-prefix_refused b series bytes prefix more e is some h =
+prefix_refused b series bytes prefix more is some h =
     let lines = prefix_lines prefix more some in
     ap (λ ls. verdict b series ls (rest_of_pieces (pieces_of bytes))) (ap lines_of_pieces is ∙ lines.1)
-    ∙ refused_text b series prefix lines.0 (rest_of_pieces (pieces_of bytes)) e h
+    ∙ refused_text b series prefix lines.0 (rest_of_pieces (pieces_of bytes)) h

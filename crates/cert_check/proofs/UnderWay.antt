@@ -1,10 +1,10 @@
 -- What the lines of a month say stays within bounds.
 use Rattle.std.proofs.Common.{◌≡◌, ℕ, zero, suc, ◌^◌, ◌<◌, ◌≤◌, Bool, true, false, refl, sym, ap, ◌∙◌, arith, inl, inr}
 use Rattle.std.proofs.Common.{List, [], ◌∷◌, length, map, fold, replicate}
-use Rattle.std.specs.Prelude.{Option, Some, None, ◌||◌, ◌==◌, not, min, is_some, slice_index, slice_get}
+use Rattle.std.specs.Prelude.{Option, Some, None, ◌||◌, ◌==◌, not, is_some, slice_index, slice_get}
 use Rattle.std.specs.Prelude.{slice_set, unwrap_or, option_map, if◌then◌else◌}
 use Rattle.std.specs.List.{list_all}
-use Rattle.std.proofs.lemmas.Bool.{cases_lt, and_parts, eqb-true, ltb-false}
+use Rattle.std.proofs.lemmas.Bool.{cases_lt, and_parts, eqb-true, ltb-false, or_parts, not-false}
 use Rattle.std.proofs.lemmas.Bool.Decides.{nat_tests}
 use Rattle.std.proofs.lemmas.Option.{slice_get_past}
 use Rattle.water_model.specs.Basin.{instream_link, taking_node}
@@ -87,44 +87,42 @@ evaporated_most b v storage position = by_entry (slice_get b.reservoirs v)
     by_entry None = omega arith
     by_entry (Some r) = omega arith
 
-carried_most : (b : Basin) → IsValidBasin b → (i e : ℕ) → i < b.months → carry_of b (run_month b i) e ≤ 10 ^ 15
-carried_most b valid i e l = elim (cases_lt e (length b.links)) [
+carried_most : {b : Basin} → IsValidBasin b → {i : ℕ} (e : ℕ) → i < b.months → carry_of b (run_month b i) e ≤ 10 ^ 15
+carried_most {b} valid {i} e l = elim (cases_lt e (length b.links)) [
   | inl within ↦ carry_most b (run_month b i) e valid (IsMonth-run_month b i valid.run l) within
   | inr past ↦ rw (slice_get_past b.links e past) (omega arith)
 ]
 
-wanted_most : (b : Basin) → IsValidBasin b → (series : Inflows) → IsSeriesOf b series → (i r used : ℕ) →
+wanted_most : {b : Basin} → IsValidBasin b → {series : Inflows} → IsSeriesOf b series → (i r used : ℕ) →
     want_of b series r i used ≤ 10 ^ 9
-wanted_most b valid series fits i r used = elim (cases_lt r (length b.rights)) [
+wanted_most {b} valid {series} fits i r used = elim (cases_lt r (length b.rights)) [
   | inl within ↦ want_most b series r i used valid fits within
   | inr past ↦ rw (slice_get_past b.rights r past) (omega arith)
 ]
 
-amount_most : (link : Option ℕ) (flow : List ℕ) (amount want : ℕ) → amount_wrong link flow amount want ≡ false →
+amount_most : (link : Option ℕ) (flow : List ℕ) {amount want : ℕ} → amount_wrong link flow amount want ≡ false →
     amount ≤ want
-amount_most None flow amount want h = ltb-false want amount h
-amount_most (Some link) flow amount want h =
-    (let e = is_same amount (min want (slice_index flow link)) h in omega arith)
+amount_most None flow {amount} {want} h = ltb-false want amount h
+amount_most (Some link) flow h = (let e = is_same h in omega arith)
 
-taken_most : (p : Bool) (amount most : ℕ) → amount ≤ most → (if p then amount else 0) ≤ most
-taken_most true amount most h = h
-taken_most false amount most h = omega arith
+taken_most : (p : Bool) {amount most : ℕ} → amount ≤ most → (if p then amount else 0) ≤ most
+taken_most true h = h
+taken_most false h = omega arith
 
 both_fail : (p q : Bool) → not p || q ≡ false → (p ≡ true) × (q ≡ false)
-both_fail true q h = (refl, h)
-both_fail false q h = cc
+both_fail p q h = let two = or_parts (not p) q h in (not-false p two.0, two.1)
 
 -- one more line
-pub in_month_more : (b : Basin) → IsValidBasin b → (series : Inflows) → IsSeriesOf b series →
-    (before : List MonthRecord) (i : ℕ) → i ≡ length before → i < b.months → (t : ReadSoFar) (item : Item) →
+pub in_month_more : {b : Basin} → IsValidBasin b → {series : Inflows} → IsSeriesOf b series →
+    {before : List MonthRecord} {i : ℕ} → i ≡ length before → i < b.months → (t : ReadSoFar) (item : Item) →
     is_amid item ≡ true → NoneHolds (rows b series t item) → InMonth b before i t →
     InMonth b before i (read_item b series t item)
-in_month_more b valid series fits before i at l t line.Title h n m = m
-in_month_more b valid series fits before i at l t (line.Run first months) h n m = m
-in_month_more b valid series fits before i at l t (line.Month month) h n m = (let never : false ≡ true = h in cc)
-in_month_more b valid series fits before i at l t (line.Amount quantity.Opening v amount) h n m =
+in_month_more valid fits at l t line.Title h n m = m
+in_month_more valid fits at l t (line.Run first months) h n m = m
+in_month_more valid fits at l t (line.Month month) h n m = (let never : false ≡ true = h in cc)
+in_month_more {b} valid {series} fits {before} at l t (line.Amount quantity.Opening v amount) h n m =
     let is : amount ≡ slice_index (opening_after b before) v =
-    is_same amount (slice_index (opening_after b t.months) v) n.1.1.1.1.0
+    is_same n.1.1.1.1.0
     ∙ ap (λ ms. slice_index (opening_after b ms) v) m.months in
     assumption (
       set_below t.now.opening v amount (λ k. slice_index (opening_after b before) k) m.bounded.opening
@@ -132,27 +130,24 @@ in_month_more b valid series fits before i at l t (line.Amount quantity.Opening 
       set_above t.now.opening v amount (λ k. slice_index t.now.evaporated k) m.bounded.evaporated
           (omega (arith, is, m.bounded.evaporated v, m.bounded.opening v)),
     )
-in_month_more b valid series fits before i at l t (line.Amount quantity.Evaporated v amount) h n m =
-    let is = is_same amount
-    (of_entry b.reservoirs v
-    (λ r. evaporation r.area (slice_index t.now.opening v) (slice_index r.rate (in_year b t.now.index))) 0)
+in_month_more {b} valid fits at l t (line.Amount quantity.Evaporated v amount) h n m =
+    let is = is_same
     n.1.1.1.1.0 in
     assumption (set_below t.now.evaporated v amount (λ k. slice_index t.now.opening k) m.bounded.evaporated
     (omega (arith, is, evaporated_most b v (slice_index t.now.opening v) (in_year b t.now.index))))
-in_month_more b valid series fits before i at l t (line.Amount quantity.Returned k amount) h n m =
-    let is = is_same amount (returned_at b (map (λ m. m.delivered) t.months) k t.now.index) n.1.1.1.1.0 in
+in_month_more {b} valid {series} fits {before} at l t (line.Amount quantity.Returned k amount) h n m =
+    let is = is_same n.1.1.1.1.0 in
     let same : returned_at b (map (λ m. m.delivered) t.months) k t.now.index ≡ returned_at b
     (map (λ m. m.delivered) before) k (length before) = rw (m.months, m.index, at) refl in
     assumption (set_below t.now.returned k amount
-    (λ j. returned_at b (map (λ m. m.delivered) before) j (length before)) m.bounded.returned
-    (omega (arith, is, same)))
-in_month_more b valid series fits before i at l t (line.Amount quantity.Used r amount) h n m = assumption
-in_month_more b valid series fits before i at l t (line.Amount quantity.Flow e amount) h n m =
+    (λ j. returned_at b (map (λ m. m.delivered) before) j (length before)) m.bounded.returned (omega (arith, is, same)))
+in_month_more valid fits at l t (line.Amount quantity.Used r amount) h n m = assumption
+in_month_more {b} valid {series} fits {before} {i} at l t (line.Amount quantity.Flow e amount) h n m =
     let most = ltb-false (carry_of b t.now.month e) amount n.1.1.1.1.0 in
     let same : carry_of b t.now.month e ≡ carry_of b (run_month b i) e = ap (λ k. carry_of b k e) m.month in
     assumption (set_below t.now.plan.flow e amount (λ k. 10 ^ 15) m.bounded.flow
-    (omega (arith, most, same, carried_most b valid i e l)))
-in_month_more b valid series fits before i at l t (line.Deliver r amount want) h n m =
+    (omega (arith, most, same, carried_most valid e l)))
+in_month_more {b} valid {series} fits at l t (line.Deliver r amount want) h n m =
     let two = both_fail (want == want_of b series r t.now.index (slice_index t.now.used r))
     (amount_wrong (instream_link b r) t.now.plan.flow amount want) n.1.1.1.1.0 in
     let is = eqb-true want (want_of b series r t.now.index (slice_index t.now.used r)) two.0 in
@@ -160,43 +155,41 @@ in_month_more b valid series fits before i at l t (line.Deliver r amount want) h
     omega (
       arith,
       is,
-      wanted_most b valid series fits t.now.index r (slice_index t.now.used r),
-      amount_most (instream_link b r) t.now.plan.flow amount want two.1,
+      wanted_most valid fits t.now.index r (slice_index t.now.used r),
+      amount_most (instream_link b r) t.now.plan.flow two.1,
     ) in
     assumption (
       set_below t.now.plan.take r (if is_some (taking_node b r) then amount else 0) (λ k. 10 ^ 9) m.bounded.take
-          (taken_most (is_some (taking_node b r)) amount (10 ^ 9) small),
+          (taken_most (is_some (taking_node b r)) small),
       set_below t.now.delivered r amount (λ k. 10 ^ 9) m.bounded.delivered small,
     )
-in_month_more b valid series fits before i at l t (line.Amount quantity.Outflow k amount) h n m = assumption
-in_month_more b valid series fits before i at l t (line.Call r) h n m = assumption
-in_month_more b valid series fits before i at l t (line.Member k) h n m = by_call t.calling
+in_month_more valid fits at l t (line.Amount quantity.Outflow k amount) h n m = assumption
+in_month_more valid fits at l t (line.Call r) h n m = assumption
+in_month_more {b} valid {series} fits {before} {i} at l t (line.Member k) h n m = by_call t.calling
   where
     by_call : (o : Option ℕ) → InMonth b before i (with_member t o k)
     by_call None = m
     by_call (Some right) = assumption
-in_month_more b valid series fits before i at l t (line.Called r caller) h n m = assumption
-in_month_more b valid series fits before i at l t (line.Amount quantity.Closing v amount) h n m = assumption
-in_month_more b valid series fits before i at l t line.End h n m = (let never : false ≡ true = h in cc)
-in_month_more b valid series fits before i at l t (line.Done months) h n m = m
+in_month_more valid fits at l t (line.Called r caller) h n m = assumption
+in_month_more valid fits at l t (line.Amount quantity.Closing v amount) h n m = assumption
+in_month_more valid fits at l t line.End h n m = (let never : false ≡ true = h in cc)
+in_month_more valid fits at l t (line.Done months) h n m = m
 
 -- all lines of a month so far
-pub in_month : (b : Basin) → IsValidBasin b → (series : Inflows) → IsSeriesOf b series →
+pub in_month : {b : Basin} → IsValidBasin b → {series : Inflows} → IsSeriesOf b series →
     (before : List MonthRecord) (i : ℕ) → i ≡ length before → i < b.months → (xs : List Item) (t : ReadSoFar) →
     list_all is_amid xs ≡ true → AreGood b series t xs → InMonth b before i t →
     InMonth b before i (fold (read_item b series) t xs)
-in_month b valid series fits before i at l [] t h g m = m
-in_month b valid series fits before i at l (x ∷ xs) t h g m =
+in_month valid fits before i at l [] t h g m = m
+in_month {b} valid {series} fits before i at l (x ∷ xs) t h g m =
     let two = and_parts (is_amid x) (list_all is_amid xs) h in
-    in_month b valid series fits before i at l xs (read_item b series t x) two.1 g.1
-    (in_month_more b valid series fits before i at l t x two.0 g.0 m)
+    in_month valid fits before i at l xs (read_item b series t x) two.1 g.1
+    (in_month_more valid fits at l t x two.0 g.0 m)
 
 -- a month begins
-pub month_begins : (b : Basin) (series : Inflows) (before : List MonthRecord) (i : ℕ) (t : ReadSoFar) →
-    i ≡ length before →
-    t.months ≡ before →
-    InMonth b before i (read_item b series t (line.Month (run_month b i)))
-month_begins b series before i t at months = record {
+pub month_begins : (b : Basin) (series : Inflows) {before : List MonthRecord} {i : ℕ} (t : ReadSoFar) →
+    i ≡ length before → t.months ≡ before → InMonth b before i (read_item b series t (line.Month (run_month b i)))
+month_begins b series t at months = record {
   months = months;
   index = ap length months ∙ sym at;
   month = refl;
@@ -246,26 +239,26 @@ pub record IsFree (r : ℕ) (t : ReadSoFar) : Type 0 where
   pub none : cut_of t.now r ≡ None
   pub other : t.calling ≡ Some r → ⊥
 
-free_more : (b : Basin) (series : Inflows) (r : ℕ) (t : ReadSoFar) (item : Item) → no_call r item ≡ true → IsFree r t →
+free_more : (b : Basin) (series : Inflows) {r : ℕ} {t : ReadSoFar} (item : Item) → no_call r item ≡ true → IsFree r t →
     IsFree r (read_item b series t item)
-free_more b series r t line.Title h f = f
-free_more b series r t (line.Run first months) h f = f
-free_more b series r t (line.Month month) h f =
+free_more b series line.Title h f = f
+free_more b series (line.Run first months) h f = f
+free_more b series {r} (line.Month month) h f =
     record { none = no_sets (length b.rights) r; other = λ e. (let never : None ≡ Some r = e in cc) }
-free_more b series r t (line.Amount q entry amount) h f = record {
+free_more b series {r} {t} (line.Amount q entry amount) h f = record {
   none = ap (λ cuts. set_of cuts r) (cuts_with q t.now (slice_set (amounts_of q t.now) entry amount)) ∙ f.none;
   other = λ e. (let never : None ≡ Some r = e in cc);
 }
-free_more b series r t (line.Deliver s amount want) h f =
+free_more b series {r} (line.Deliver s amount want) h f =
     record { none = f.none; other = λ e. (let never : None ≡ Some r = e in cc) }
-free_more b series r t (line.Call s) h f = record {
+free_more b series {r} {t} (line.Call s) h f = record {
   none = set_of_other t.now.cuts s r (Some (replicate (length b.nodes) false)) (λ e. apart s r h (sym e)) ∙ f.none;
   other = λ e. (let same : Some s ≡ Some r = e in let is : s ≡ r = cc in apart s r h is);
 }
   where
     apart : (s r : ℕ) → not (s == r) ≡ true → s ≡ r → ⊥
     apart s r h e = grind (arith, nat_tests)
-free_more b series r t (line.Member n) h f = by_call t.calling refl
+free_more b series {r} {t} (line.Member n) h f = by_call t.calling refl
   where
     by_call : (o : Option ℕ) → t.calling ≡ o → IsFree r (with_member t o n)
     by_call None e = f
@@ -274,14 +267,14 @@ free_more b series r t (line.Member n) h f = by_call t.calling refl
           (λ is. f.other (e ∙ ap (λ (x : ℕ). Some x) (sym is))) ∙ f.none;
       other = f.other;
     }
-free_more b series r t (line.Called s caller) h f =
+free_more b series {r} (line.Called s caller) h f =
     record { none = f.none; other = λ e. (let never : None ≡ Some r = e in cc) }
-free_more b series r t line.End h f = record { none = f.none; other = λ e. (let never : None ≡ Some r = e in cc) }
-free_more b series r t (line.Done months) h f = f
+free_more b series {r} line.End h f = record { none = f.none; other = λ e. (let never : None ≡ Some r = e in cc) }
+free_more b series (line.Done months) h f = f
 
-pub free : (b : Basin) (series : Inflows) (r : ℕ) (xs : List Item) (t : ReadSoFar) → list_all (no_call r) xs ≡ true →
+pub free : (b : Basin) (series : Inflows) {r : ℕ} (xs : List Item) {t : ReadSoFar} → list_all (no_call r) xs ≡ true →
     IsFree r t → IsFree r (fold (read_item b series) t xs)
-free b series r [] t h f = f
-free b series r (x ∷ xs) t h f =
+free b series [] h f = f
+free b series {r} (x ∷ xs) {t} h f =
     let two = and_parts (no_call r x) (list_all (no_call r) xs) h in
-    free b series r xs (read_item b series t x) two.1 (free_more b series r t x two.0 f)
+    free b series xs two.1 (free_more b series x two.0 f)

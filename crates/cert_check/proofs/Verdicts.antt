@@ -26,22 +26,22 @@ read_more b series before i = fold-both (read_item b series) (nothing_read b) be
 
 -- Lines that are read, and that no row holds of, are good.
 
-judged_good : (b : Basin) (series : Inflows) (before : List Item) (bytes : List ℕ) (i : Item) →
+judged_good : (b : Basin) (series : Inflows) (before : List Item) (bytes : List ℕ) {i : Item} →
     is_whole before ≡ false → read_line b before bytes ≡ Ok i →
     first_row b series (read_so_far b series before) i ≡ None → judge b series before bytes ≡ Ok i
 unfolding judge
-judged_good b series before bytes i open_yet read none = rw (open_yet, read, none) refl
+judged_good b series before bytes open_yet read none = rw (open_yet, read, none) refl
 
-pub verdict_good : (b : Basin) (series : Inflows) (all items before : List Item) → all ≡ before ++ items →
+pub verdict_good : (b : Basin) (series : Inflows) {all : List Item} (items before : List Item) → all ≡ before ++ items →
     ((x y : List Item) (i : Item) → all ≡ x ++ i ∷ y → read_line b x (line_of b i) ≡ Ok i) →
     ((x y : List Item) (i : Item) → all ≡ x ++ i ∷ y → is_whole x ≡ false) →
     AreGood b series (read_so_far b series before) items → verdict_from b series before (map (line_of b) items) ≡ Ok all
-verdict_good b series all [] before is read none g = ap Ok (sym (append-nil before) ∙ sym is)
-verdict_good b series all (i ∷ items) before is read none g =
+verdict_good b series [] before is read none g = ap Ok (sym (append-nil before) ∙ sym is)
+verdict_good b series {all} (i ∷ items) before is read none g =
     ap (λ r. ok_then (λ item. verdict_from b series (before ++ item ∷ []) (map (line_of b) items)) r)
-    (judged_good b series before (line_of b i) i (none before items i is) (read before items i is)
+    (judged_good b series before (line_of b i) (none before items i is) (read before items i is)
     (row_good b series (read_so_far b series before) i g.0))
-    ∙ verdict_good b series all items (before ++ i ∷ []) (is ∙ sym (append_assoc before (i ∷ []) items)) read none
+    ∙ verdict_good b series items (before ++ i ∷ []) (is ∙ sym (append_assoc before (i ∷ []) items)) read none
     (subst (λ (t : ReadSoFar). AreGood b series t items) (sym (read_more b series before i)) g.1)
 
 -- The converse.
@@ -51,10 +51,10 @@ pub record IsJudged (b : Basin) (series : Inflows) (before : List Item) (bytes :
   pub read : read_line b before bytes ≡ Ok i
   pub none : first_row b series (read_so_far b series before) i ≡ None
 
-judged : (b : Basin) (series : Inflows) (before : List Item) (bytes : List ℕ) (i : Item) →
+judged : {b : Basin} {series : Inflows} {before : List Item} {bytes : List ℕ} {i : Item} →
     judge b series before bytes ≡ Ok i → IsJudged b series before bytes i
 unfolding judge
-judged b series before bytes i h = by_end (is_whole before) refl h
+judged {b} {series} {before} {bytes} {i} h = by_end (is_whole before) refl h
   where
     by_row : (item : Item) (o : Option RefutedKind) → judge_row before item o ≡ Ok i → (item ≡ i) × (o ≡ None)
     by_row item None e = let same : Ok item ≡ Ok i = e in (cc, refl)
@@ -74,8 +74,7 @@ judged b series before bytes i h = by_end (is_whole before) refl h
 
     by_end : (t : Bool) → is_whole before ≡ t →
         if◌then◌else◌ {A = Result Item Refuted} t (Err (record { line = length before + 1; kind = kind.AfterEnd }))
-        (judge_read b series before (read_line b before bytes)) ≡ Ok i →
-        IsJudged b series before bytes i
+        (judge_read b series before (read_line b before bytes)) ≡ Ok i → IsJudged b series before bytes i
     by_end true e k = cc
     by_end false e k = by_read e (read_line b before bytes) refl k
 
@@ -92,19 +91,18 @@ through : {X Y : Type 0} (f : X → Result Y Refuted) (r : Result X Refuted) (y 
 through f (Ok x) y h = (x, refl, h)
 through f (Err e) y h = let never : Err e ≡ Ok y = h in cc
 
-pub verdict_says : (b : Basin) → IsValidBasin b →
-    (series : Inflows) (before items : List Item) (lines : List (List ℕ)) →
-    verdict_from b series before lines ≡ Ok items →
-    AreJudged b series before items lines
-verdict_says b valid series before items [] h =
+pub verdict_says : {b : Basin} → IsValidBasin b →
+    {series : Inflows} (before : List Item) {items : List Item} (lines : List (List ℕ)) →
+    verdict_from b series before lines ≡ Ok items → AreJudged b series before items lines
+verdict_says {b} valid {series} before {items} [] h =
     let same : Ok before ≡ Ok items = h in
     let is : before ≡ items = cc in
     record { more = []; are = sym is ∙ sym (append-nil before); spelled = refl; good = tt; prefix = inl refl }
-verdict_says b valid series before items (bytes ∷ lines) h =
+verdict_says {b} valid {series} before {items} (bytes ∷ lines) h =
     let t = through (λ item. verdict_from b series (before ++ item ∷ []) lines) (judge b series before bytes) items h in
-    let j = judged b series before bytes t.0 t.1 in
+    let j = judged t.1 in
     let said = (prefixes_are_accepted b before bytes t.0 valid).0 j.read in
-    let rest = verdict_says b valid series (before ++ t.0 ∷ []) items lines t.2 in
+    let rest = verdict_says valid (before ++ t.0 ∷ []) lines t.2 in
     record {
       more = t.0 ∷ rest.more;
       are = rest.are ∙ append_assoc before (t.0 ∷ []) rest.more;
@@ -123,8 +121,7 @@ verdict_says b valid series before items (bytes ∷ lines) h =
     by_prefix : (i : Item) → (more : List Item) → items ≡ (before ++ i ∷ []) ++ more → (more ≡ []) ⊎ IsPrefix b items →
         IsPrefix b (before ++ i ∷ []) → IsPrefix b items
     by_prefix i more are (inr prefix) own = prefix
-    by_prefix i more are (inl none) own =
-        subst (λ (xs : List Item). IsPrefix b xs)
+    by_prefix i more are (inl none) own = subst (λ (xs : List Item). IsPrefix b xs)
         (sym (are ∙ (ap (λ ys. (before ++ i ∷ []) ++ ys) none ∙ append-nil (before ++ i ∷ [])))) own
 
 -- a yes to a whole text
@@ -134,14 +131,13 @@ pub record IsYes (b : Basin) (series : Inflows) (lines : List (List ℕ)) (rest 
     pub whole : is_whole items ≡ true
     pub no_rest : rest ≡ []
 
-pub yes_says : (b : Basin) (series : Inflows) (lines : List (List ℕ)) (rest : List ℕ) (items : List Item) →
+pub yes_says : {b : Basin} {series : Inflows} {lines : List (List ℕ)} {rest : List ℕ} {items : List Item} →
     verdict b series lines rest ≡ Ok items → IsYes b series lines rest items
-yes_says b series lines rest items h =
+yes_says {b} {series} {lines} {rest} {items} h =
     let t = through (verdict_at_end rest) (verdict_from b series [] lines) items h in
     by_rest rest t.0 t.1 t.2
   where
-    by_whole : (xs : List Item) (p : Bool) → is_whole xs ≡ p →
-        if◌then◌else◌ {A = Result (List Item) Refuted} p (Ok xs)
+    by_whole : (xs : List Item) (p : Bool) → is_whole xs ≡ p → if◌then◌else◌ {A = Result (List Item) Refuted} p (Ok xs)
         (Err (record { line = length xs + 1; kind = kind.EarlyEnd })) ≡ Ok items → (xs ≡ items) × (is_whole xs ≡ true)
     by_whole xs true e k = let same : Ok xs ≡ Ok items = k in (cc, e)
     by_whole xs false e k = cc
@@ -153,7 +149,6 @@ yes_says b series lines rest items h =
         record { lines_good = good ∙ ap Ok w.0; whole = ap is_whole (sym w.0) ∙ w.1; no_rest = refl }
     by_rest (x ∷ rest) xs good k = cc
 
-pub says_yes : (b : Basin) (series : Inflows) (lines : List (List ℕ)) (items : List Item) →
-    verdict_from b series [] lines ≡ Ok items → is_whole items ≡ true →
-    verdict b series lines [] ≡ Ok items
-says_yes b series lines items good whole = rw (good, whole) refl
+pub says_yes : (b : Basin) (series : Inflows) (lines : List (List ℕ)) {items : List Item} →
+    verdict_from b series [] lines ≡ Ok items → is_whole items ≡ true → verdict b series lines [] ≡ Ok items
+says_yes b series lines good whole = rw (good, whole) refl

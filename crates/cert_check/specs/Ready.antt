@@ -1,5 +1,7 @@
 -- What the tests of a line look at.
-use Rattle.std.specs.Prelude.{◌≡◌, ℕ, ◌+◌, ◌≤◌, true, false, List, slice_index, Some}
+use Rattle.std.specs.Prelude.{if◌then◌else◌, ◌≡◌, ℕ, ◌+◌, ◌≤◌, ◌==◌, Bool, true, false, List, length, slice_index, Some}
+use Rattle.finite_sums.specs.Sums.{total_where}
+use Rattle.water_model.specs.Basin.{head_of, tail_of}
 use Rattle.water_model.specs.Plans.{inflow_to, outflow_from, taken_at}
 use Rattle.result_lines.specs.declared.item.Item.{Item}
 use Rattle.result_lines.specs.declared.item.Item.TheVariants as line
@@ -11,6 +13,14 @@ use Rattle.result_reader.specs.Due.{is_member}
 use Rattle.cert_check.specs.Checking.{is_after_calls}
 use Rattle.cert_check.specs.declared.state.CheckState.{CheckState}
 use Rattle.cert_check.specs.declared.state.Context.{Context}
+
+-- the node that a link flows to, or else the one that it flows from
+abbrev pub end_at : Basin → Bool → ℕ → ℕ
+end_at b to e = if to then head_of b e else tail_of b e
+
+-- what flows to a node on links, or else what flows from it
+abbrev pub flow_at : Basin → Bool → List ℕ → ℕ → ℕ
+flow_at b to flow n = total_where (length b.links) (λ e. end_at b to e == n) (λ e. slice_index flow e)
 
 -- what comes into each node of a month, and what leaves it for another node or a right
 pub record AreSums (b : Basin) (m : MonthRecord) (into out_of : List ℕ) : Type 0 where

@@ -1,45 +1,38 @@
 //! Whether what comes into each node leaves it.
-ghost use Rattle.std.specs.Prelude.{ℕ, ◌≡◌, ◌+◌, ◌==◌, ◌^◌, ◌<◌, ◌≤◌, true, false, length, slice_index, slice_set};
+ghost use Rattle.std.specs.Prelude.{if◌then◌else◌, true, false, length, slice_index, slice_set};
+ghost use Rattle.std.specs.Prelude.{ℕ, ◌≡◌, ◌+◌, ◌==◌, ◌^◌, ◌<◌, ◌≤◌};
 ghost use Rattle.month_terms.specs.Terms.{FitsRecord};
 ghost use Rattle.water_model.specs.Basin.{taking_node};
 ghost use Rattle.water_model.specs.Plans.{inflow_to, outflow_from, taken_at};
 ghost use Rattle.water_model.specs.Valid.{IsValidBasin};
 ghost use Rattle.cert_check.specs.Checking.{balances};
 ghost use Rattle.cert_check.specs.Keeping.{with_outflow};
-ghost use Rattle.cert_check.specs.Ready.{AreSums};
+ghost use Rattle.cert_check.specs.Ready.{AreSums, flow_at};
 
 use month_terms::add::add_at;
 use water_model::calls::taking_node;
 use water_model::rows::Rows;
-use water_model::types::{Basin, MonthRecord};
+use water_model::types::{Basin, Link, MonthRecord};
 
-/// Adds at each node what flows to it on links.
-fn add_inflows(basin: &Basin, flow: &[u64], into: &mut [u64])
-    requires basin { IsValidBasin basin.now }
-    requires flow { length flow.now ≡ length basin.now.links }
-    requires into { length into.old ≡ length basin.now.nodes }
-    requires small { (n : ℕ) → n < length basin.now.nodes →
-        slice_index into.old n + inflow_to basin.now flow.now n < 2 ^ 64 }
-    ensures length { length into.new ≡ length into.old }
-    ensures each { (n : ℕ) → slice_index into.new n ≡ slice_index into.old n + inflow_to basin.now flow.now n }
+/// The node that a link flows to, or else the one that it flows from.
+fn end_of(link: &Link, to: bool) -> u32
+    ensures { result ≡ (if to then link.now.to else link.now.from) }
 {
-    for link in 0..basin.links.len() {
-        add_at(into, basin.links[link].to as usize, flow[link]);
-    }
+    if to { link.to } else { link.from }
 }
 
-/// Adds at each node what flows from it on links.
-fn add_outflows(basin: &Basin, flow: &[u64], out_of: &mut [u64])
+/// Adds at each node what flows to it on links, or else what flows from it.
+fn add_flows(basin: &Basin, flow: &[u64], to: bool, sums: &mut [u64])
     requires basin { IsValidBasin basin.now }
     requires flow { length flow.now ≡ length basin.now.links }
-    requires out_of { length out_of.old ≡ length basin.now.nodes }
+    requires sums { length sums.old ≡ length basin.now.nodes }
     requires small { (n : ℕ) → n < length basin.now.nodes →
-        slice_index out_of.old n + outflow_from basin.now flow.now n < 2 ^ 64 }
-    ensures length { length out_of.new ≡ length out_of.old }
-    ensures each { (n : ℕ) → slice_index out_of.new n ≡ slice_index out_of.old n + outflow_from basin.now flow.now n }
+        slice_index sums.old n + flow_at basin.now to flow.now n < 2 ^ 64 }
+    ensures length { length sums.new ≡ length sums.old }
+    ensures each { (n : ℕ) → slice_index sums.new n ≡ slice_index sums.old n + flow_at basin.now to flow.now n }
 {
     for link in 0..basin.links.len() {
-        add_at(out_of, basin.links[link].from as usize, flow[link]);
+        add_at(sums, end_of(&basin.links[link], to) as usize, flow[link]);
     }
 }
 
@@ -112,7 +105,7 @@ fn sum_into(basin: &Basin, month: &MonthRecord, into: &mut [u64])
         slice_index into.new n ≡ slice_index month.now.supply n + inflow_to basin.now month.now.plan.flow n }
 {
     into.copy_from_slice(month.supply.as_slice());
-    add_inflows(basin, month.plan.flow.as_slice(), into);
+    add_flows(basin, month.plan.flow.as_slice(), true, into);
 }
 
 /// Writes what leaves each node: what flows from it, and what is taken there.
@@ -127,7 +120,7 @@ fn sum_out_of(basin: &Basin, month: &MonthRecord, out_of: &mut [u64])
         ≡ outflow_from basin.now month.now.plan.flow n + taken_at basin.now month.now.plan.take n }
 {
     out_of.fill(0);
-    add_outflows(basin, month.plan.flow.as_slice(), out_of);
+    add_flows(basin, month.plan.flow.as_slice(), false, out_of);
     add_takes(basin, month.plan.take.as_slice(), out_of);
 }
 

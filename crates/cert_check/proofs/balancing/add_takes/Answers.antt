@@ -27,6 +27,6 @@ loop-right-preserved c = λ n. elim c.match-taking_node.branch [
       ∙ one_more c.loop-right.right n (λ r. taking_node c.args.basin.now r) (λ r. slice_index c.args.take.now r)
       w.in-Some.node _ _ (sym w.in-Some.ensures.value) (c.loop-right.invariant n))
   | in-None w ↦ ap (λ xs. slice_index xs n) w.out_of-is
-      ∙ none_more c.loop-right.right n (λ r. taking_node c.args.basin.now r) (λ r. slice_index c.args.take.now r) _ _
+      ∙ none_more n (λ r. taking_node c.args.basin.now r) (λ r. slice_index c.args.take.now r) _
       (sym w.in-None.ensures.value) (c.loop-right.invariant n)
 ]

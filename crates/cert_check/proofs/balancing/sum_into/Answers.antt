@@ -5,8 +5,8 @@ use Rattle.water_model.specs.Plans.{inflow_to}
 use Rattle.finite_sums.proofs.Totals.{total_where_most}
 use Rattle.cert_check.proofs.balancing.sum_into.Goals as goal
 
-pub add_inflows-requires-clause-small : goal.add_inflows-requires-clause-small
-add_inflows-requires-clause-small c = λ n l.
+pub add_flows-requires-clause-small : goal.add_flows-requires-clause-small
+add_flows-requires-clause-small c = λ n l.
     let sum =
     total_where_most (length c.args.basin.now.links) (10 ^ 15) (λ e. head_of c.args.basin.now e == n)
     (λ e. slice_index c.args.month.now.plan.flow e) c.requires.flow in

@@ -6,8 +6,8 @@ use Rattle.finite_sums.proofs.Totals.{total_where_most}
 use Rattle.water_model.proofs.Lists.{no_numbers}
 use Rattle.cert_check.proofs.balancing.sum_out_of.Goals as goal
 
-pub add_outflows-requires-clause-small : goal.add_outflows-requires-clause-small
-add_outflows-requires-clause-small c = λ n l.
+pub add_flows-requires-clause-small : goal.add_flows-requires-clause-small
+add_flows-requires-clause-small c = λ n l.
     let sum =
     total_where_most (length c.args.basin.now.links) (10 ^ 15) (λ e. tail_of c.args.basin.now e == n)
     (λ e. slice_index c.args.month.now.plan.flow e) c.requires.flow in
@@ -35,7 +35,7 @@ add_takes-requires-clause-small c = λ n l.
       none,
       flow,
       take,
-      c.add_outflows.ensures.each n,
+      c.add_flows.ensures.each n,
       c.requires.basin.bounded.links,
       c.requires.basin.bounded.rights,
     )

@@ -25,20 +25,16 @@ enter_amount-requires c =
     omega (
       arith,
       entry,
-      amounts_sized c.args.context.now.basin.now c.args.state.now.month c.requires.awaits.keeps.month.fits
+      amounts_sized c.requires.awaits.keeps.month.fits
           c.in-Amount.quantity,
     )
 
 pub returns-in-Amount : goal.returns-in-Amount
-returns-in-Amount c = λ t k m good.
-    along c.args.context.now.basin.now c.args.context.now.series.now t _ _ _ _ c.in-Amount.is c.enter_amount.ensures
-    (keeps_amount c.args.context.now.basin.now c.args.context.now.series.now c.args.state.now t c.in-Amount.quantity
+returns-in-Amount c = λ t k m good. along t c.in-Amount.is c.enter_amount.ensures (keeps_amount c.in-Amount.quantity
     c.in-Amount.entry c.in-Amount.amount k)
 
 pub returns-in-Month : goal.returns-in-Month
-returns-in-Month c = λ t k m good.
-    along c.args.context.now.basin.now c.args.context.now.series.now t _ _ _ _ c.in-Month.is
-    (c.enter_month.ensures.rest
+returns-in-Month c = λ t k m good. along t c.in-Month.is (c.enter_month.ensures.rest
     ∙ ap (λ n. record c.args.state.now {
       month = n;
       calling = None;
@@ -48,20 +44,15 @@ returns-in-Month c = λ t k m good.
       has_callers = false;
       passed = 0;
       answered = 0;
-    }) c.enter_month.ensures.month)
-    (keeps_month c.args.context.now.basin.now c.args.context.now.series.now c.args.state.now t c.in-Month.month
+    }) c.enter_month.ensures.month) (keeps_month
     (subst (λ i. IsOfBasin c.args.context.now.basin.now i) c.in-Month.is c.requires.item) k)
 
 pub returns-in-Deliver : goal.returns-in-Deliver
-returns-in-Deliver c = λ t k m good.
-    along c.args.context.now.basin.now c.args.context.now.series.now t _ _ _ _ c.in-Deliver.is c.enter_delivery.ensures
-    (keeps_delivery c.args.context.now.basin.now c.args.context.now.series.now c.args.state.now t c.in-Deliver.right
+returns-in-Deliver c = λ t k m good. along t c.in-Deliver.is c.enter_delivery.ensures (keeps_delivery c.in-Deliver.right
     c.in-Deliver.amount c.in-Deliver.want (m.uncalled (ap is_before_called c.in-Deliver.is)) k)
 
 pub returns-in-Call : goal.returns-in-Call
-returns-in-Call c = λ t k m good.
-    along c.args.context.now.basin.now c.args.context.now.series.now t _ _ _ _ c.in-Call.is c.enter_call.ensures
-    (keeps_call c.args.context.now.basin.now c.args.context.now.series.now c.args.state.now t c.in-Call.right
+returns-in-Call c = λ t k m good. along t c.in-Call.is c.enter_call.ensures (keeps_call
     (subst (λ i. IsOfBasin c.args.context.now.basin.now i) c.in-Call.is c.requires.item)
     (m.uncalled (ap is_before_called c.in-Call.is)) k)
 
@@ -72,20 +63,14 @@ by_set : (c : goal.After-enter_member) (t : ReadSoFar) → t.called ≡ 0 → (r
     Keeps c.args.context.now.basin.now c.args.context.now.series.now c.enter_member.new.state
     (read_item c.args.context.now.basin.now c.args.context.now.series.now t c.args.item.now)
 by_set c t none right e None is held k = cc
-by_set c t none right e (Some set) is held k =
-    along c.args.context.now.basin.now c.args.context.now.series.now t _ _ _ _ c.in-Member.is
-    (c.enter_member.ensures.some right set e is)
-    (keeps_member c.args.context.now.basin.now c.args.context.now.series.now c.args.state.now t c.in-Member.node right
-    set none e is k)
+by_set c t none right e (Some set) is held k = along t c.in-Member.is (c.enter_member.ensures.some right set e is)
+    (keeps_member c.in-Member.node none e is k)
 
 by_call : (c : goal.After-enter_member) (t : ReadSoFar) → t.called ≡ 0 → (o : Option ℕ) → c.args.state.now.calling ≡ o →
     Keeps c.args.context.now.basin.now c.args.context.now.series.now c.args.state.now t →
     Keeps c.args.context.now.basin.now c.args.context.now.series.now c.enter_member.new.state
     (read_item c.args.context.now.basin.now c.args.context.now.series.now t c.args.item.now)
-by_call c t none None e k =
-    along c.args.context.now.basin.now c.args.context.now.series.now t _ _ _ _ c.in-Member.is
-    (c.enter_member.ensures.none e)
-    (keeps_stray c.args.context.now.basin.now c.args.context.now.series.now c.args.state.now t c.in-Member.node none e
+by_call c t none None e k = along t c.in-Member.is (c.enter_member.ensures.none e) (keeps_stray c.in-Member.node none e
     k)
 by_call c t none (Some right) e k =
     by_set c t none right e (set_of c.args.state.now.month.cuts right) refl (k.calling.held right e).1 k
@@ -95,9 +80,7 @@ returns-in-Member c =
     λ t k m good. by_call c t (m.uncalled (ap is_before_called c.in-Member.is)) c.args.state.now.calling refl k
 
 pub returns-in-Called : goal.returns-in-Called
-returns-in-Called c = λ t k m good.
-    along c.args.context.now.basin.now c.args.context.now.series.now t _ _ _ _ c.in-Called.is c.enter_called.ensures.2
-    (keeps_next c.args.context.now.basin.now c.args.context.now.series.now c.args.state.now t c.in-Called.right
+returns-in-Called c = λ t k m good. along t c.in-Called.is c.enter_called.ensures.2 (keeps_next c.in-Called.right
     c.in-Called.by c.enter_called.ensures.0 k
     (subst (λ i. first_row c.args.context.now.basin.now c.args.context.now.series.now t i ≡ None) c.in-Called.is good)
     c.enter_called.ensures.1)
@@ -121,10 +104,7 @@ enter_end-requires-clause-little c = λ r l.
     )
 
 pub returns-in-End : goal.returns-in-End
-returns-in-End c = λ t k m good.
-    along c.args.context.now.basin.now c.args.context.now.series.now t _ _ _ _ c.in-End.is c.enter_end.ensures.rest
-    (keeps_end c.args.context.now.basin.now c.args.context.now.series.now c.args.state.now t c.enter_end.new.state.lags
-    c.enter_end.new.state.comes c.enter_end.new.state.used
+returns-in-End c = λ t k m good. along t c.in-End.is c.enter_end.ensures.rest (keeps_end
     (c.enter_end.ensures.lags (map (λ n. n.delivered) t.months) k.left.lags)
     (c.enter_end.ensures.comes (map (λ n. n.delivered) t.months) k.left.lags)
     (c.enter_end.ensures.used (map (λ n. n.delivered) t.months) (length-map t.months (λ n. n.delivered)

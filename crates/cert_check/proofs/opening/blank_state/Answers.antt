@@ -16,8 +16,7 @@ clash : {X : Type 0} → false ≡ true → X
 clash e = cc
 
 pub returns : goal.returns
-returns c =
-    λ series. subst (λ (a : CheckState). Keeps c.args.basin.now series a (nothing_read c.args.basin.now))
+returns c = λ series. subst (λ (a : CheckState). Keeps c.args.basin.now series a (nothing_read c.args.basin.now))
     (sym c.in_ok-new.ensures.ok) (record {
       left = record {
         done = refl;
@@ -30,7 +29,7 @@ returns c =
             (λ r. ap (λ (xs : List ℕ). slice_index xs r) c.in_ok-used.ensures ∙ no_numbers c.len.result r);
       };
       month = subst (IsBlank c.args.basin.now) (sym (c.into_inner.ensures ∙ c.in_ok-month.ensures.blank))
-          (blank_is c.args.basin.now c.requires);
+          (blank_is c.requires);
       calling = nobody c.args.basin.now _;
       supply = λ e. clash e;
       closes = λ e. clash e;

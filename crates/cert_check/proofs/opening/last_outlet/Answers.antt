@@ -11,11 +11,10 @@ loop-node-init c = record { last = λ n. no_outlet (λ v. is_outlet c.args.basin
 
 pub loop-node-preserved : goal.loop-node-preserved
 loop-node-preserved c = record {
-  last = λ n.
-      rw c.last_with-last.ensures (last_more (λ v. is_outlet c.args.basin.now v) c.loop-node.node c.loop-node.last n
+  last = λ n. rw c.last_with-last.ensures (last_more (λ v. is_outlet c.args.basin.now v) n
       c.loop-node.invariant.most (c.loop-node.invariant.last n));
-  most = rw c.last_with-last.ensures (most_more (is_outlet c.args.basin.now c.loop-node.node) c.loop-node.node
-      c.loop-node.last c.loop-node.invariant.most);
+  most = rw c.last_with-last.ensures
+      (most_more (is_outlet c.args.basin.now c.loop-node.node) c.loop-node.invariant.most);
 }
 
 pub returns : goal.returns

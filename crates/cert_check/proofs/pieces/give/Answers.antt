@@ -19,7 +19,7 @@ loop-at-preserved c =
     let e = c.in_ok-taken.ensures in
     record {
       within = omega (arith, e.within, i.within);
-      given = λ text given. given_on c.give_prefix.new.checker c.give_prefix.new.line text c.args.piece.now c.loop-at.at
+      given = λ text given. given_on text c.args.piece.now c.loop-at.at
           c.in_ok-taken.taken (e.given (text ++ take c.loop-at.at c.args.piece.now) (i.given text given));
       good = e.good;
       left = omega (arith, e.left, i.left);

@@ -10,39 +10,28 @@ returns-in_err-line-in-Some-clause-refused c =
     let taken = length c.in-Some.text.now + 1 in
     let takes = subst (λ (held : List ℕ). TakesToFeed held c.in-Some.text.now c.args.rest.now taken)
     (sym c.in-Some.ensures.none) c.in-Some.ensures.takes in
-    rw (p.1, p.2) (λ text given.
-    ended_refused c.args.checker.now c.args.line.now text c.in-Some.text.now c.args.rest.now taken
-    c.in_err-line-in-Some.field-0.0 given (inl takes) c.in_err-line-in-Some.ensures.answer)
+    rw (p.1, p.2) (λ text given. ended_refused given (inl takes) c.in_err-line-in-Some.ensures.answer)
 
 pub returns-in_ok-line-in-Some-clause-given : goal.returns-in_ok-line-in-Some-clause-given
 returns-in_ok-line-in-Some-clause-given c = λ text given.
-    held_given c.args.checker.now c.line.new.self c.args.line.now text c.in-Some.text.now c.args.rest.now
-    (length c.in-Some.text.now + 1) given c.in-Some.ensures.none c.in-Some.ensures.takes
+    held_given given c.in-Some.ensures.none c.in-Some.ensures.takes
     c.in_ok-line-in-Some.ensures.stands c.in_ok-line-in-Some.ensures.good
 
 pub returns-then-not-fed-clause-given : goal.returns-then-not-fed-clause-given
 returns-then-not-fed-clause-given c = λ text given.
-    let takes = not_whole c.feed-fed.result.whole c.args.line.now.bytes c.feed-fed.new.self.bytes c.args.rest.now
-    c.feed-fed.result.taken c.if-not-fed.true c.feed-fed.ensures.takes in
-    all_given c.args.checker.now c.args.line.now c.feed-fed.new.self text c.args.rest.now c.feed-fed.result.taken given
-    takes
+    let takes = not_whole c.feed-fed.result.whole c.if-not-fed.true c.feed-fed.ensures.takes in
+    all_given given takes
 
 pub returns-in_err-end_line-in-None-clause-refused : goal.returns-in_err-end_line-in-None-clause-refused
 returns-in_err-end_line-in-None-clause-refused c =
     let p =
     err_from_is_err_and c.from_residual-in_err-end_line-in-None.result
     c.from_residual-in_err-end_line-in-None.ensures.1 in
-    let takes = ended c.feed-fed.result.whole c.args.line.now.bytes c.feed-fed.new.self.bytes c.args.rest.now
-    c.feed-fed.result.taken c.if-not-fed.false c.feed-fed.ensures.takes in
-    rw (p.1, p.2) (λ text given.
-    ended_refused c.args.checker.now c.args.line.now text c.feed-fed.new.self.bytes c.args.rest.now
-    c.feed-fed.result.taken c.in_err-end_line-in-None.field-0.0 given takes c.in_err-end_line-in-None.ensures.answer)
+    let takes = ended c.feed-fed.result.whole c.if-not-fed.false c.feed-fed.ensures.takes in
+    rw (p.1, p.2) (λ text given. ended_refused given takes c.in_err-end_line-in-None.ensures.answer)
 
 pub returns-in_ok-end_line-in-None-clause-given : goal.returns-in_ok-end_line-in-None-clause-given
 returns-in_ok-end_line-in-None-clause-given c = λ text given.
-    let takes = ended c.feed-fed.result.whole c.args.line.now.bytes c.feed-fed.new.self.bytes c.args.rest.now
-    c.feed-fed.result.taken c.if-not-fed.false c.feed-fed.ensures.takes in
-    rw c.end_line.ensures.cleared
-    (ended_given c.args.checker.now c.end_line.new.checker c.args.line.now text c.feed-fed.new.self.bytes
-    c.args.rest.now c.feed-fed.result.taken given takes c.in_ok-end_line-in-None.ensures.stands
+    let takes = ended c.feed-fed.result.whole c.if-not-fed.false c.feed-fed.ensures.takes in
+    rw c.end_line.ensures.cleared (ended_given given takes c.in_ok-end_line-in-None.ensures.stands
     c.in_ok-end_line-in-None.ensures.good c.in_ok-end_line-in-None.ensures.answer)

@@ -10,7 +10,5 @@ returns-in-Some-clause-audit c = λ items so_far.
     let t = read_so_far c.args.context.now.basin.now c.args.context.now.series.now items in
     let kept = subst (λ (a : CheckState). Keeps c.args.context.now.basin.now c.args.context.now.series.now a t)
     (sym c.deref_mut.ensures.value) so_far.state in
-    audit_taken c.args.context.now.basin.now c.args.context.now.series.now c.args.progress.now items c.args.item.now
-    c.in-Some.audit c.audit_item.new.audit c.requires.item so_far (c.requires.good t so_far.state so_far.comes)
-    c.in-Some.is
+    audit_taken c.requires.item so_far (c.requires.good t so_far.state so_far.comes) c.in-Some.is
     (c.audit_item.ensures.takes t kept)

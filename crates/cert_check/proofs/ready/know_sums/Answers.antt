@@ -2,15 +2,14 @@ use Rattle.std.proofs.Common.{ap, ◌∙◌, arith, length}
 use Rattle.std.specs.Prelude.{slice_index}
 use Rattle.finite_sums.proofs.Totals.{term_le_total}
 use Rattle.cert_check.proofs.Bounded.{supplies_small}
-use Rattle.cert_check.proofs.Kept.{keeps_room}
+use Rattle.cert_check.proofs.Dues.{keeps_room}
 use Rattle.cert_check.proofs.ready.know_sums.Goals as goal
 
 pub make_sums-requires-clause-supply : goal.make_sums-requires-clause-supply
 make_sums-requires-clause-supply c = λ n l.
     let month = c.requires.month in
     let k = c.know_supply.ensures.keeps month.so_far month.keeps in
-    let all = supplies_small c.args.context.now.basin.now c.args.context.now.series.now month.so_far
-    c.know_supply.new.state.month.supply c.requires.context.valid c.requires.context.series month.partial
+    let all = supplies_small c.requires.context.valid c.requires.context.series month.partial
     month.under_way
     (k.supply (ap (λ a. a.has_supply) c.know_supply.ensures.rest)) in
     omega (
@@ -23,6 +22,4 @@ make_sums-requires-clause-supply c = λ n l.
 pub returns-clause-keeps : goal.returns-clause-keeps
 returns-clause-keeps c = λ t k.
     let known = c.know_supply.ensures.keeps t k in
-    keeps_room c.args.context.now.basin.now c.args.context.now.series.now c.know_supply.new.state t
-    c.make_sums.new.into c.make_sums.new.out_of known (c.make_sums.ensures.into ∙ known.room.into)
-    (c.make_sums.ensures.out_of ∙ known.room.out_of)
+    keeps_room known (c.make_sums.ensures.into ∙ known.room.into) (c.make_sums.ensures.out_of ∙ known.room.out_of)

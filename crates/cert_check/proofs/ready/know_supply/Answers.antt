@@ -1,17 +1,14 @@
 use Rattle.std.proofs.Common.{arith}
 use Rattle.cert_check.proofs.Bounded.{node_small}
-use Rattle.cert_check.proofs.Kept.{keeps_supply}
+use Rattle.cert_check.proofs.Dues.{keeps_supply}
 use Rattle.cert_check.proofs.ready.know_supply.Goals as goal
 
 pub make_supply-requires-clause-small : goal.make_supply-requires-clause-small
 make_supply-requires-clause-small c = λ n l.
     let month = c.requires.month in
-    let small = node_small c.args.context.now.basin.now c.args.context.now.series.now c.args.state.now.month
-    month.so_far n
+    let small = node_small
     c.requires.context.valid c.requires.context.series month.partial month.under_way month.keeps.month.shows l in
     omega (arith, small)
 
 pub returns-then-not-state-clause-keeps : goal.returns-then-not-state-clause-keeps
-returns-then-not-state-clause-keeps c = λ t k.
-    rw c.make_supply.ensures
-    (keeps_supply c.args.context.now.basin.now c.args.context.now.series.now c.args.state.now t k)
+returns-then-not-state-clause-keeps c = λ t k. rw c.make_supply.ensures (keeps_supply k)

@@ -1,6 +1,6 @@
 use Rattle.std.proofs.Common.{length, sym, ap, ◌∙◌, arith}
 use Rattle.water_model.proofs.Order.{length-by_seniority}
-use Rattle.cert_check.proofs.Kept.{keeps_passed}
+use Rattle.cert_check.proofs.Dues.{keeps_passed}
 use Rattle.cert_check.proofs.Missing.{lacks_read}
 use Rattle.cert_check.proofs.ready.pass.Goals as goal
 
@@ -14,10 +14,9 @@ pass_over-requires-clause-from c =
     )
 
 pub returns-in-Some-clause-keeps : goal.returns-in-Some-clause-keeps
-returns-in-Some-clause-keeps c = λ t k.
-    keeps_passed c.args.context.now.basin.now c.args.context.now.series.now c.args.state.now t c.in-Some.count k
+returns-in-Some-clause-keeps c = λ t k. keeps_passed k
     (record {
       within = omega (arith, c.in-Some.ensures.within, length-by_seniority c.args.context.now.basin.now.rights);
-      each = sym (lacks_read c.args.context.now.basin.now c.args.context.now.series.now c.args.state.now t k _)
+      each = sym (lacks_read k _)
           ∙ c.in-Some.ensures.settled;
     })

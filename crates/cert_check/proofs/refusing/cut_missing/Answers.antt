@@ -13,11 +13,7 @@ pass_over-requires-clause-from c =
     )
 
 pub returns-in-Some : goal.returns-in-Some
-returns-in-Some c = λ t k.
-    sym (none_missed c.args.context.now.basin.now c.args.context.now.series.now c.args.state.now t c.args.item.now
-    c.in-Some.field-0 c.requires.context.valid k c.in-Some.ensures)
+returns-in-Some c = λ t k. sym (none_missed c.requires.context.valid k c.in-Some.ensures)
 
 pub returns-in-None : goal.returns-in-None
-returns-in-None c = λ t k.
-    sym (some_missed c.args.context.now.basin.now c.args.context.now.series.now c.args.state.now t c.args.item.now k
-    c.in-None.ensures)
+returns-in-None c = λ t k. sym (some_missed k c.in-None.ensures)

@@ -5,15 +5,13 @@ use Rattle.cert_check.proofs.MemberLines.{no_row}
 use Rattle.cert_check.proofs.refusing.first_row.Goals as goal
 
 pub returns-in-Some : goal.returns-in-Some
-returns-in-Some c = λ t k m.
-    sym (first_is c.args.context.now.basin.now c.args.context.now.series.now t c.args.item.now
+returns-in-Some c = λ t k m. sym (first_is c.args.context.now.basin.now c.args.context.now.series.now t c.args.item.now
     ∙ some_first (call_rows c.args.context.now.basin.now c.args.context.now.series.now t c.args.item.now)
-    (own_rows c.args.context.now.basin.now c.args.context.now.series.now t c.args.item.now) c.in-Some.kind
+    (own_rows c.args.context.now.basin.now c.args.context.now.series.now t c.args.item.now)
     (sym (c.in-Some.ensures t k)))
 
 pub returns-in-None : goal.returns-in-None
-returns-in-None c = λ t k m.
-    c.own_row.ensures t k m
+returns-in-None c = λ t k m. c.own_row.ensures t k m
     ∙ sym (first_is c.args.context.now.basin.now c.args.context.now.series.now t c.args.item.now
     ∙ none_first (call_rows c.args.context.now.basin.now c.args.context.now.series.now t c.args.item.now)
     (own_rows c.args.context.now.basin.now c.args.context.now.series.now t c.args.item.now)

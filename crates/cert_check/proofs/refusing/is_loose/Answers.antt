@@ -1,4 +1,4 @@
-use Rattle.std.proofs.Common.{◌^◌, arith}
+use Rattle.std.proofs.Common.{arith}
 use Rattle.cert_check.proofs.Bounded.{supplies_small, all_most}
 use Rattle.cert_check.proofs.refusing.is_loose.Goals as goal
 
@@ -6,15 +6,14 @@ pub tight-requires-clause-amounts : goal.tight-requires-clause-amounts
 tight-requires-clause-amounts c =
     let month = c.requires.month in
     let k = month.keeps in
-    let all = supplies_small c.args.context.now.basin.now c.args.context.now.series.now month.so_far
-    c.args.state.now.month.supply c.requires.context.valid c.requires.context.series month.partial month.under_way
+    let all = supplies_small c.requires.context.valid c.requires.context.series month.partial month.under_way
     (k.supply c.requires.supply) in
     rw (c.as_slice.ensures, c.as_slice-2.ensures) (record {
       supplies = k.month.fits.fits.supply;
       small = omega (arith, all);
       deliveries = k.month.fits.fits.delivered;
       most = rw k.month.shows.delivered
-          (all_most month.so_far.now.delivered (10 ^ 9) month.under_way.bounded.delivered);
+          (all_most month.so_far.now.delivered month.under_way.bounded.delivered);
     })
 
 pub tight-requires-clause-cut : goal.tight-requires-clause-cut

@@ -5,12 +5,8 @@ use Rattle.cert_check.proofs.Dues.{due_here, none_due}
 use Rattle.cert_check.proofs.refusing.is_not_due.Goals as goal
 
 pub returns-in-Some : goal.returns-in-Some
-returns-in-Some c = λ t k.
-    ap not (c.is_pair.ensures ∙ ap (is_due c.args.right c.args.by)
-    (sym (due_here c.args.context.now.basin.now c.args.context.now.series.now c.args.state.now t c.in-Some.due k
+returns-in-Some c = λ t k. ap not (c.is_pair.ensures ∙ ap (is_due c.args.right c.args.by) (sym (due_here k
     c.in-Some.ensures)))
 
 pub returns-in-None : goal.returns-in-None
-returns-in-None c =
-    λ t k. ap (λ o. not (is_due c.args.right c.args.by o))
-    (sym (none_due c.args.context.now.basin.now c.args.context.now.series.now c.args.state.now t k c.in-None.ensures))
+returns-in-None c = λ t k. ap (λ o. not (is_due c.args.right c.args.by o)) (sym (none_due k c.in-None.ensures))

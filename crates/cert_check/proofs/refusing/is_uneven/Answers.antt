@@ -2,8 +2,7 @@ use Rattle.cert_check.proofs.Even.{uneven_is}
 use Rattle.cert_check.proofs.refusing.is_uneven.Goals as goal
 
 pub returns : goal.returns
-returns c = λ t k.
-    uneven_is c.args.context.now.basin.now c.args.context.now.series.now c.args.state.now t c.args.node c.args.amount
+returns c = λ t k. uneven_is c.args.node c.args.amount
     c.in_balance.result k c.requires.sums.supply c.in_balance.ensures.all c.in_balance.ensures.some
 
 pub in_balance-requires-clause-sums : goal.in_balance-requires-clause-sums

@@ -7,11 +7,10 @@ pub returns-in_err-give : goal.returns-in_err-give
 returns-in_err-give c =
     let p = err_from_is_err_and c.from_residual.result c.from_residual.ensures.1 in
     rw (p.1, p.2) (rw append-nil at (c.in_err-give.ensures.refused []
-    (rw c.new-line.ensures (nothing_given c.args.checker.now c.requires)) []))
+    (rw c.new-line.ensures (nothing_given c.requires)) []))
 
 pub returns : goal.returns
 returns c =
-    let given = c.in_ok-give.ensures.given [] (rw c.new-line.ensures (nothing_given c.args.checker.now c.requires)) in
-    rw (← c.in_ok-give.ensures.basin, ← c.in_ok-give.ensures.series)
-    (text_answered c.give.new.checker c.give.new.line c.args.text.now c.finish.result given
+    let given = c.in_ok-give.ensures.given [] (rw c.new-line.ensures (nothing_given c.requires)) in
+    rw (← c.in_ok-give.ensures.basin, ← c.in_ok-give.ensures.series) (text_answered c.finish.result given
     (rw c.bytes.ensures at c.finish.ensures.answer))

@@ -1,5 +1,4 @@
 use Rattle.std.proofs.Common.{arith}
-use Rattle.cert_check.specs.CheckerInside.{view_of}
 use Rattle.cert_check.proofs.Standings.{bounded_lines, good_is}
 use Rattle.cert_check.proofs.checker.Checker.finish.Goals as goal
 
@@ -7,7 +6,6 @@ pub overflow_add-next : goal.overflow_add-next
 overflow_add-next c =
     omega (
       arith,
-      bounded_lines c.self.inside.context.basin.now c.self.inside.context.series.now c.self.inside.progress
-          c.self.invariant.lines.lines c.self.invariant.context.valid
-          (good_is (view_of c.self.inside) c.self.invariant.lines.lines c.in-None.is c.self.invariant.lines.stands),
+      bounded_lines c.self.invariant.context.valid
+          (good_is c.in-None.is c.self.invariant.lines.stands),
     )

@@ -2,7 +2,7 @@ use Rattle.std.proofs.Common.{refl, sym, ap, subst, ◌∙◌}
 use Rattle.std.specs.Prelude.{Ok}
 use Rattle.water_model.specs.Valid.{IsSeriesOf, IsValidBasin}
 use Rattle.cert_check.specs.Standing.{CheckerView}
-use Rattle.cert_check.proofs.AuditAnswers.{audited_answer}
+use Rattle.cert_check.proofs.AuditLaws.{audited_answer}
 use Rattle.cert_check.proofs.checker.Checker.finish_audit.Goals as goal
 
 pub returns-in-Some-clause-answer : goal.returns-in-Some-clause-answer

@@ -1,19 +1,15 @@
 use Rattle.std.proofs.Common.{sym, ap, ◌∙◌, [], ◌∷◌, ◌++◌}
-use Rattle.cert_check.specs.CheckerInside.{view_of}
 use Rattle.cert_check.proofs.Standings.{still_refused, refusal_is, refusal_stands, good_is, good_stands}
 use Rattle.cert_check.proofs.checker.Checker.line.Goals as goal
 
 pub returns-in-Some-clause-answer : goal.returns-in-Some-clause-answer
 returns-in-Some-clause-answer c = λ lines stands.
-    still_refused c.args.self.now.basin c.args.self.now.series lines c.args.text.now c.in-Some.refused
-    (refusal_is c.args.self.now lines c.in-Some.refused (sym (ap (λ v. v.refused) c.self.view_is) ∙ c.in-Some.is)
-    stands)
+    still_refused c.args.self.now.basin c.args.self.now.series lines c.args.text.now
+    (refusal_is c.args.self.now lines (sym (ap (λ v. v.refused) c.self.view_is) ∙ c.in-Some.is) stands)
 
 pub returns-in-Some-clause-stands : goal.returns-in-Some-clause-stands
-returns-in-Some-clause-stands c = λ lines stands.
-    refusal_stands c.args.self.now (lines ++ c.args.text.now ∷ []) c.in-Some.refused
-    (sym (ap (λ v. v.refused) c.self.view_is) ∙ c.in-Some.is)
-    (returns-in-Some-clause-answer c lines stands)
+returns-in-Some-clause-stands c = λ lines stands. refusal_stands c.args.self.now (lines ++ c.args.text.now ∷ [])
+    (sym (ap (λ v. v.refused) c.self.view_is) ∙ c.in-Some.is) (returns-in-Some-clause-answer c lines stands)
 
 pub invariant_of-self : goal.invariant_of-self
 invariant_of-self c =
@@ -22,8 +18,7 @@ invariant_of-self c =
       context = c.self.invariant.context;
       lines = record {
         lines = lines.lines ++ c.args.text.now ∷ [];
-        stands = good_stands (record (view_of c.self.inside) { progress = c.take_line.new.progress })
-            (lines.lines ++ c.args.text.now ∷ []) c.in-None.is
-            (c.in-Ok.ensures.takes lines.lines (good_is (view_of c.self.inside) lines.lines c.in-None.is lines.stands));
+        stands = good_stands c.in-None.is
+            (c.in-Ok.ensures.takes lines.lines (good_is c.in-None.is lines.stands));
       };
     }

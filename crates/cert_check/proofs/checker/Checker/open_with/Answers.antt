@@ -3,8 +3,7 @@ use Rattle.cert_check.proofs.Beginnings.{first_book}
 use Rattle.cert_check.proofs.checker.Checker.open_with.Goals as goal
 
 pub returns-clause-none : goal.returns-clause-none
-returns-clause-none c =
-    first_book c.args.basin.now c.args.series.now _ c.in_ok-reader.ensures.basin c.in_ok-reader.ensures.none
+returns-clause-none c = first_book c.in_ok-reader.ensures.basin c.in_ok-reader.ensures.none
     (c.in_ok-state.ensures c.args.series.now) refl refl refl c.requires.audit
 
 pub invariant_of-result : goal.invariant_of-result
@@ -19,8 +18,7 @@ invariant_of-result c = record {
   };
   lines = record {
     lines = [];
-    stands =
-        first_book c.args.basin.now c.args.series.now _ c.in_ok-reader.ensures.basin c.in_ok-reader.ensures.none
+    stands = first_book c.in_ok-reader.ensures.basin c.in_ok-reader.ensures.none
         (c.in_ok-state.ensures c.args.series.now) refl refl refl c.requires.audit;
   };
 }
