@@ -3,9 +3,9 @@ use Rattle.std.proofs.Common.{◌≡◌, ℕ, zero, suc, ◌+◌, ◌<◌, ◌�
 use Rattle.std.proofs.Common.{arith, inl, inr, List, [], ◌∷◌, ◌++◌, length, map, replicate, take, append_assoc}
 use Rattle.std.proofs.Common.{zero-add, length-append}
 use Rattle.std.specs.Prelude.{Option, Some, None, option_map, ◌⊎◌, is_some, slice_index, slice_get, slice_set, filter}
-use Rattle.std.specs.Prelude.{unwrap_or, ◌==◌, ◌||◌, if◌then◌else◌}
+use Rattle.std.specs.Prelude.{unwrap_or, ◌==◌, if◌then◌else◌}
 use Rattle.std.specs.List.{list_any}
-use Rattle.std.proofs.lemmas.Bool.{cases_lt, cases_Bool}
+use Rattle.std.proofs.lemmas.Bool.{cases_lt, cases_Bool, or_parts}
 use Rattle.std.proofs.lemmas.Option.{slice_get_past}
 use Rattle.std.proofs.lemmas.List.{length-replicate}
 use Rattle.std.proofs.Math.Seq.{take-append_seam}
@@ -92,17 +92,8 @@ map-numbers f from (suc n) (y ∷ ys) e h =
 none_passes : {X : Type 0} (p : X → Bool) (xs : List X) (k : ℕ) (x : X) → list_any p xs ≡ false →
     slice_get xs k ≡ Some x → p x ≡ false
 none_passes p [] k x h e = cc
-none_passes p (y ∷ ys) zero x h e = let same : Some y ≡ Some x = e in let is : y ≡ x = cc in
-    rw (← is) (first (p y) (list_any p ys) h)
-  where
-    first : (q r : Bool) → q || r ≡ false → q ≡ false
-    first true r g = cc
-    first false r g = refl
-none_passes p (y ∷ ys) (suc k) x h e = none_passes p ys k x (second (p y) (list_any p ys) h) e
-  where
-    second : (q r : Bool) → q || r ≡ false → r ≡ false
-    second true r g = cc
-    second false r g = g
+none_passes p (y ∷ ys) zero x h e = let is : y ≡ x = cc in rw (← is) (or_parts (p y) (list_any p ys) h).0
+none_passes p (y ∷ ys) (suc k) x h e = none_passes p ys k x (or_parts (p y) (list_any p ys) h).1 e
 
 pub nothing_returns : (b : Basin) (deliveries : List (List ℕ)) (n i : ℕ) →
     list_any (λ row. row.node == n) b.returns ≡ false → returned_at b deliveries n i ≡ 0

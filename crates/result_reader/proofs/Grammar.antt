@@ -1,8 +1,10 @@
 -- What fills the lines that are due is what a machine accepts.
-use Rattle.std.proofs.Common.{◌≡◌, ℕ, zero, suc, Bool, true, false, refl, sym, ◌∙◌, ap, subst, List, [], ◌∷◌, ◌++◌, map}
+use Rattle.std.proofs.Common.{arith, ◌≡◌, ℕ, zero, suc, Bool, true, false, refl, sym, ◌∙◌, ap, subst, List, [], ◌∷◌, ◌++◌, map}
 use Rattle.std.proofs.Common.{length, inl, inr}
 use Rattle.std.specs.Prelude.{◌&&◌, not, Some, None}
 use Rattle.std.specs.List.{list_all, list_any}
+use Rattle.std.proofs.lemmas.Bool.{and_parts}
+use Rattle.std.proofs.Math.Bool.{and-false}
 use Rattle.water_model.specs.declared.types.Basin.{Basin}
 use Rattle.water_model.specs.Indices.{numbers_from, members_from}
 use Rattle.result_reader.specs.Form.{shape_of, is_optional, fits, IsFollowedBy, Fills}
@@ -29,14 +31,10 @@ members_forward b ds others (true ∷ set) must k h some =
     (map (λ n. shape.Member n) (numbers_from (suc k) (length set)) ++ ds) (line.Member k)
     (map (λ n. line.Member n) (members_from (suc k) set) ++ others)
     (step_open b must (shape.Member k ∷ (map (λ n. shape.Member n) (numbers_from (suc k) (length set)) ++ ds))
-    (line.Member k) (opens must)
+    (line.Member k) (and-false must)
     ∙ take_fits b (shape.Member k) (map (λ n. shape.Member n) (numbers_from (suc k) (length set)) ++ ds) (line.Member k)
     (fits_itself b (line.Member k) refl))
     ∙ members_forward b ds others set false (suc k) h (λ no. cc)
-  where
-    opens : (m : Bool) → m && false ≡ false
-    opens true = refl
-    opens false = refl
 members_forward b ds others (false ∷ set) must k h some =
     accepts_within b must (map (λ n. shape.Member n) (numbers_from (suc k) (length set)) ++ ds)
     (shape.Member k ∷ (map (λ n. shape.Member n) (numbers_from (suc k) (length set)) ++ ds))
@@ -106,33 +104,16 @@ pub no_member_due : (b : Basin) (ds : List Shape) (i : Item) → has_no_members 
 no_member_due b [] i h m = refl
 no_member_due b (d ∷ ds) i h m =
     by_fit (fits b d i) refl (is_optional d) refl
-    (no_member_due b ds i (second (not (is_member_shape d)) (has_no_members ds) h) m)
+    (no_member_due b ds i (and_parts (not (is_member_shape d)) (has_no_members ds) h).1 m)
   where
-    second : (p q : Bool) → p && q ≡ true → q ≡ true
-    second true q h = h
-    second false q h = cc
-
-    first : (p q : Bool) → p && q ≡ true → p ≡ true
-    first true q h = refl
-    first false q h = cc
-
     alike : (i : Item) → is_member_shape (shape_of i) ≡ is_member i
-    alike line.Title = refl
-    alike (line.Run first months) = refl
-    alike (line.Month month) = refl
-    alike (line.Amount q entry amount) = refl
-    alike (line.Deliver right amount want) = refl
-    alike (line.Call right) = refl
-    alike (line.Member node) = refl
-    alike (line.Called right by') = refl
-    alike line.End = refl
-    alike (line.Done months) = refl
+    alike i = grind arith
 
     by_fit : (f : Bool) → fits b d i ≡ f → (p : Bool) → is_optional d ≡ p → take_line b ds i ≡ None →
         take_line b (d ∷ ds) i ≡ None
     by_fit true f p q rest =
         let member : is_member_shape d ≡ true = ap is_member_shape (fits_shape b d i f) ∙ (alike i ∙ m) in
-        let not_member : not (is_member_shape d) ≡ true = first (not (is_member_shape d)) (has_no_members ds) h in
+        let not_member : not (is_member_shape d) ≡ true = (and_parts (not (is_member_shape d)) (has_no_members ds) h).0 in
         let no : false ≡ true = sym (ap not member) ∙ not_member in
         cc
     by_fit false f true q rest = take_skips b d ds i f q ∙ rest
@@ -143,16 +124,19 @@ pub member_only : (b : Basin) (k : ℕ) (i : Item) → fits b (shape.Member k) i
 member_only b k i h = by_item i (fits_shape b (shape.Member k) i h)
   where
     by_item : (i : Item) → shape.Member k ≡ shape_of i → i ≡ line.Member k
-    by_item line.Title h = cc
-    by_item (line.Run first months) h = cc
-    by_item (line.Month month) h = cc
-    by_item (line.Amount q entry amount) h = cc
-    by_item (line.Deliver right amount want) h = cc
-    by_item (line.Call right) h = cc
-    by_item (line.Member node) h = cc
-    by_item (line.Called right by') h = cc
-    by_item line.End h = cc
-    by_item (line.Done months) h = cc
+    by_item i h = grind arith
+
+skipped : {b : Basin} {ds : List Shape} {must : Bool} {k n : ℕ} {items : List Item} →
+    SplitsAt b ds must (suc k) n items → SplitsAt b ds must k (suc n) items
+unfolding members_from
+skipped s = record {
+  set = false ∷ s.set;
+  sized = ap suc s.sized;
+  some = s.some;
+  others = s.others;
+  are = s.are;
+  rest = s.rest;
+}
 
 members_back : (b : Basin) (ds : List Shape) → has_no_members ds ≡ true → (n k : ℕ) (must : Bool) (items : List Item) →
     accepts b must (map (λ j. shape.Member j) (numbers_from k n) ++ ds) items ≡ true → SplitsAt b ds must k n items
@@ -170,40 +154,12 @@ members_back b ds clean zero k true (i ∷ is) h = by_step (steps_to b true ds i
     by_step s false m =
         let none : None ≡ Some s.0 = sym (step_shut b true ds i (ap not m)) ∙ s.1 in
         cc
-members_back b ds clean (suc n) k must [] h =
-    skipped (members_back b ds clean n (suc k) must [] h)
-  where
-    skipped : SplitsAt b ds must (suc k) n [] → SplitsAt b ds must k (suc n) []
-    skipped s =
-        record {
-          set = false ∷ s.set;
-          sized = ap suc s.sized;
-          some = s.some;
-          others = s.others;
-          are = s.are;
-          rest =
-              s.rest;
-        }
+members_back b ds clean (suc n) k must [] h = skipped (members_back b ds clean n (suc k) must [] h)
 members_back b ds clean (suc n) k must (i ∷ is) h =
     by_fit (fits b (shape.Member k) i) refl
     (steps_to b must (shape.Member k ∷ (map (λ j. shape.Member j) (numbers_from (suc k) n) ++ ds)) i is h)
     (λ m xs j. members_back b ds clean n (suc k) m xs j) (must && not (is_member i)) refl
   where
-    due_here : List Shape
-    due_here = map (λ j. shape.Member j) (numbers_from (suc k) n) ++ ds
-
-    skipped : SplitsAt b ds must (suc k) n (i ∷ is) → SplitsAt b ds must k (suc n) (i ∷ is)
-    skipped s =
-        record {
-          set = false ∷ s.set;
-          sized = ap suc s.sized;
-          some = s.some;
-          others = s.others;
-          are = s.are;
-          rest =
-              s.rest;
-        }
-
     taken : i ≡ line.Member k → SplitsAt b ds false (suc k) n is → SplitsAt b ds must k (suc n) (i ∷ is)
     taken here s = record {
       set = true ∷ s.set;
@@ -252,26 +208,14 @@ accepted_fills b [] [] clean h = refl
 accepted_fills b [] (i ∷ is) clean h = let no : false ≡ true = h in cc
 accepted_fills b (d ∷ ds) [] clean h =
     inl (
-      first (is_optional d) (list_all is_optional ds) h,
-      accepted_fills b ds [] (second (not (is_member_shape d)) (has_no_members ds) clean)
-          (second (is_optional d) (list_all is_optional ds) h),
+      (and_parts (is_optional d) (list_all is_optional ds) h).0,
+      accepted_fills b ds [] (and_parts (not (is_member_shape d)) (has_no_members ds) clean).1
+          (and_parts (is_optional d) (list_all is_optional ds) h).1,
     )
-  where
-    second : (p q : Bool) → p && q ≡ true → q ≡ true
-    second true q h = h
-    second false q h = cc
-
-    first : (p q : Bool) → p && q ≡ true → p ≡ true
-    first true q h = refl
-    first false q h = cc
 accepted_fills b (d ∷ ds) (i ∷ is) clean h =
     by_fit (fits b d i) refl (is_optional d) refl (steps_to b false (d ∷ ds) i is h)
-    (λ xs j. accepted_fills b ds xs (second (not (is_member_shape d)) (has_no_members ds) clean) j)
+    (λ xs j. accepted_fills b ds xs (and_parts (not (is_member_shape d)) (has_no_members ds) clean).1 j)
   where
-    second : (p q : Bool) → p && q ≡ true → q ≡ true
-    second true q h = h
-    second false q h = cc
-
     by_fit : (f : Bool) → fits b d i ≡ f → (p : Bool) → is_optional d ≡ p → StepsTo b false (d ∷ ds) i is →
         ((xs : List Item) → accepts b false ds xs ≡ true → Fills b ds xs) → Fills b (d ∷ ds) (i ∷ is)
     by_fit true e p q s further = by_item (plain b i)
@@ -283,7 +227,7 @@ accepted_fills b (d ∷ ds) (i ∷ is) clean h =
         by_item : IsPlain b i → Fills b (d ∷ ds) (i ∷ is)
         by_item (call right here) =
             let split : SplitsAt b ds true 0 (length b.nodes) is =
-            members_back b ds (second (not (is_member_shape d)) (has_no_members ds) clean) (length b.nodes) 0 true is
+            members_back b ds (and_parts (not (is_member_shape d)) (has_no_members ds) clean).1 (length b.nodes) 0 true is
             (rw here at left) in
             inr (
               i,

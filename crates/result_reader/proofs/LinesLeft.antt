@@ -1,16 +1,14 @@
 -- How many lines may still come.
 use Rattle.std.proofs.Common.{◌≡◌, ℕ, zero, suc, ◌+◌, ◌*◌, ◌^◌, ◌≤◌, Bool, true, false, refl, sym, ap, ◌∙◌, arith}
 use Rattle.std.proofs.Common.{List, [], ◌∷◌, ◌++◌, length, map, length-append, mul_comm}
-use Rattle.std.specs.Prelude.{Some, None, is_some, not, ◌&&◌, if◌then◌else◌}
+use Rattle.std.specs.Prelude.{Some, None, not, ◌&&◌}
 use Rattle.std.specs.List.{flat_map}
 use Rattle.std.proofs.Math.Nat.{mul-le-mul}
 use Rattle.std.proofs.lemmas.List.Sums.{sum_by-append, sum_by-cons}
 use Rattle.water_model.proofs.Entries.{bounded_in, length-in_order}
 use Rattle.water_model.proofs.Order.{length-numbers_from}
-use Rattle.water_model.specs.Basin.{taking_node}
 use Rattle.water_model.specs.Entries.{count_in, in_order}
 use Rattle.water_model.specs.Indices.{numbers_from}
-use Rattle.result_lines.specs.Quantities.{has_line}
 use Rattle.result_lines.specs.Text.{section_space}
 use Rattle.water_model.specs.Hydrology.{run_month}
 use Rattle.water_model.specs.Valid.{IsValidBasin}
@@ -30,16 +28,7 @@ use Rattle.result_reader.proofs.Steps.{fits_shape, take_fits, take_skips, take_s
 
 -- each line that is due is at least one line
 most_for-some : (b : Basin) (d : Shape) → 1 ≤ most_for b d
-most_for-some b shape.Title = omega arith
-most_for-some b shape.Run = omega arith
-most_for-some b (shape.Month month) = omega arith
-most_for-some b (shape.Amount q entry) = omega arith
-most_for-some b (shape.Deliver right) = omega arith
-most_for-some b (shape.Call right) = omega arith
-most_for-some b (shape.Member node) = omega arith
-most_for-some b (shape.Called right) = omega arith
-most_for-some b shape.End = omega arith
-most_for-some b (shape.Done months) = omega arith
+most_for-some b d = grind arith
 
 -- n lines for each entry of a list
 max_lines-map : (b : Basin) (f : ℕ → Shape) (n : ℕ) → ((x : ℕ) → most_for b (f x) ≡ n) → (xs : List ℕ) →
@@ -110,18 +99,7 @@ more_for section.Calls b = length b.nodes
 more_for section.Called b = 0
 
 exceed_entry : (b : Basin) (k : Section) (x : ℕ) → Exceeds b (shapes_at k b x) (more_for k b)
-exceed_entry b (section.Amounts q) x = by_test (has_line b q x)
-  where
-    by_test : (t : Bool) → Exceeds b (if t then shape.Amount q x ∷ [] else []) 0
-    by_test true = refl
-    by_test false = refl
-exceed_entry b section.Deliveries x = refl
-exceed_entry b section.Calls x = omega arith
-exceed_entry b section.Called x = by_test (is_some (taking_node b x))
-  where
-    by_test : (t : Bool) → Exceeds b (if t then shape.Called x ∷ [] else []) 0
-    by_test true = refl
-    by_test false = refl
+exceed_entry b k x = grind arith
 
 exceed_entries : (b : Basin) (k : Section) (xs : List ℕ) →
     Exceeds b (flat_map (shapes_at k b) xs) (more_for k b * length xs)
@@ -164,18 +142,7 @@ most_in_month b =
 
 -- what is due in a month is not much
 bounded_entry : (b : Basin) (k : Section) (x : ℕ) → length (shapes_at k b x) ≤ 1
-bounded_entry b (section.Amounts q) x = by_test (has_line b q x)
-  where
-    by_test : (t : Bool) → length (if t then shape.Amount q x ∷ [] else []) ≤ 1
-    by_test true = omega arith
-    by_test false = omega arith
-bounded_entry b section.Deliveries x = omega arith
-bounded_entry b section.Calls x = omega arith
-bounded_entry b section.Called x = by_test (is_some (taking_node b x))
-  where
-    by_test : (t : Bool) → length (if t then shape.Called x ∷ [] else []) ≤ 1
-    by_test true = omega arith
-    by_test false = omega arith
+bounded_entry b k x = grind arith
 
 bounded_entries : (b : Basin) (k : Section) (xs : List ℕ) → length (flat_map (shapes_at k b) xs) ≤ length xs
 bounded_entries b k [] = omega arith

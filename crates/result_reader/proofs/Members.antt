@@ -1,8 +1,9 @@
 -- The `in` lines that may come.
 use Rattle.std.proofs.Common.{◌≡◌, ℕ, zero, suc, ◌+◌, ◌-◌, ◌<◌, ◌≤◌, Bool, true, false, refl, sym, ap, ◌∙◌, arith, inl}
 use Rattle.std.proofs.Common.{inr, List, [], ◌∷◌, ◌++◌, length, drop, add-one, map}
-use Rattle.std.specs.Prelude.{Option, Some, None, ◌&&◌, not}
-use Rattle.std.proofs.lemmas.Bool.{cases_order}
+use Rattle.std.specs.Prelude.{Option, Some, None, not}
+use Rattle.std.proofs.lemmas.Bool.{and_parts, cases_order}
+use Rattle.std.proofs.Math.Bool.{and-false}
 use Rattle.water_model.specs.declared.types.Basin.{Basin}
 use Rattle.water_model.specs.Indices.{numbers_from}
 use Rattle.result_reader.specs.Form.{fits, due_in_month}
@@ -87,11 +88,7 @@ member_found b ds j (suc n) k m l e = elim (cases_order k j) [
 drop_no_members : (ds : List Shape) (k : ℕ) → has_no_members ds ≡ true → has_no_members (drop k ds) ≡ true
 drop_no_members ds zero h = h
 drop_no_members [] (suc k) h = refl
-drop_no_members (d ∷ ds) (suc k) h = drop_no_members ds k (second (not (is_member_shape d)) (has_no_members ds) h)
-  where
-    second : (p q : Bool) → p && q ≡ true → q ≡ true
-    second true q h = h
-    second false q h = cc
+drop_no_members (d ∷ ds) (suc k) h = drop_no_members ds k (and_parts (not (is_member_shape d)) (has_no_members ds) h).1
 
 pub place_no_members : (b : Basin) (dues : List Shape) (p : Position) → dues ≡ due_in_month b →
     has_no_members (due_at b dues p) ≡ true
@@ -105,27 +102,23 @@ place_no_members b dues position.After is = refl
 
 -- The steps of a progress.
 
-may_come : (must : Bool) → must && false ≡ false
-may_come true = refl
-may_come false = refl
-
 pub member_step : (b : Basin) (ds : List Shape) (must : Bool) (next node : ℕ) → next ≤ node → node < length b.nodes →
     step b must (members_due b (Some next) ++ ds) (line.Member node) ≡ Some (members_due b (Some (node + 1)) ++ ds)
 member_step b ds must next node l k =
-    step_open b must (members_due b (Some next) ++ ds) (line.Member node) (may_come must)
+    step_open b must (members_due b (Some next) ++ ds) (line.Member node) (and-false must)
     ∙ member_found b ds node (length b.nodes - next) next (length b.nodes - (node + 1)) l (omega arith)
 
 pub member_too_early : (b : Basin) (ds : List Shape) (must : Bool) (next node : ℕ) → node < next →
     has_no_members ds ≡ true →
     step b must (members_due b (Some next) ++ ds) (line.Member node) ≡ None
 member_too_early b ds must next node l clean =
-    step_open b must (members_due b (Some next) ++ ds) (line.Member node) (may_come must)
+    step_open b must (members_due b (Some next) ++ ds) (line.Member node) (and-false must)
     ∙ (member_before b ds node (length b.nodes - next) next l ∙ no_member_due b ds (line.Member node) clean refl)
 
 pub no_member_step : (b : Basin) (ds : List Shape) (must : Bool) (node : ℕ) → has_no_members ds ≡ true →
     step b must (members_due b None ++ ds) (line.Member node) ≡ None
 no_member_step b ds must node clean =
-    step_open b must ds (line.Member node) (may_come must) ∙ no_member_due b ds (line.Member node) clean refl
+    step_open b must ds (line.Member node) (and-false must) ∙ no_member_due b ds (line.Member node) clean refl
 
 pub other_step : (b : Basin) (ds : List Shape) (o : Option ℕ) (i : Item) → is_member i ≡ false →
     step b false (members_due b o ++ ds) i ≡ take_line b ds i

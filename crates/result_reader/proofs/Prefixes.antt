@@ -1,15 +1,13 @@
 -- The machine accepts the prefixes of what has the form.
 use Rattle.std.proofs.Common.{◌≡◌, ℕ, zero, suc, ◌<◌, Bool, true, false, refl, sym, ◌∙◌, ap, subst, arith, List, []}
 use Rattle.std.proofs.Common.{◌∷◌, ◌++◌, map, length, inl}
-use Rattle.std.specs.Prelude.{◌&&◌, not, Option, Some, None, is_some, if◌then◌else◌}
+use Rattle.std.specs.Prelude.{◌&&◌, not, Option, Some, None}
 use Rattle.std.specs.List.{flat_map}
 use Rattle.std.specs.Option.{option_and_then}
 use Rattle.std.proofs.lemmas.List.Folds.{list_all-append}
 use Rattle.water_model.specs.declared.types.Basin.{Basin}
-use Rattle.water_model.specs.Basin.{taking_node}
 use Rattle.water_model.specs.Entries.{in_order}
 use Rattle.water_model.specs.Indices.{numbers_from}
-use Rattle.result_lines.specs.Quantities.{has_line}
 use Rattle.result_lines.specs.Text.{section_space}
 use Rattle.result_reader.specs.Form.{shape_of, is_optional, is_allowed, fits, shapes_at, shapes_in, due, due_in_month}
 use Rattle.result_reader.specs.Form.{due_for_month, due_from, IsPrefix}
@@ -18,7 +16,6 @@ use Rattle.result_reader.specs.Due.{due_after}
 use Rattle.result_lines.specs.declared.item.Item.{Item}
 use Rattle.result_lines.specs.declared.item.Item.TheVariants as line
 use Rattle.result_lines.specs.declared.item.Section.{Section}
-use Rattle.result_lines.specs.declared.item.Section.TheVariants as section
 use Rattle.result_lines.specs.declared.item.TheConstants.{SECTIONS}
 use Rattle.result_reader.specs.declared.shape.Shape.{Shape}
 use Rattle.result_reader.specs.declared.shape.Shape.TheVariants as shape
@@ -37,15 +34,8 @@ flat_no_members : {X : Type 0} (f : X → List Shape) → ((x : X) → has_no_me
 flat_no_members f h [] = refl
 flat_no_members f h (x ∷ xs) = append_no_members (f x) (flat_map f xs) (h x) (flat_no_members f h xs)
 
-one_if : (p : Bool) (d : Shape) → is_member_shape d ≡ false → has_no_members (if p then d ∷ [] else []) ≡ true
-one_if true d h = rw h refl
-one_if false d h = refl
-
 at_no_members : (section : Section) (b : Basin) (entry : ℕ) → has_no_members (shapes_at section b entry) ≡ true
-at_no_members (section.Amounts q) b entry = one_if (has_line b q entry) (shape.Amount q entry) refl
-at_no_members section.Deliveries b entry = refl
-at_no_members section.Calls b entry = refl
-at_no_members section.Called b entry = one_if (is_some (taking_node b entry)) (shape.Called entry) refl
+at_no_members s b entry = grind arith
 
 pub in_month_no_members : (b : Basin) → has_no_members (due_in_month b) ≡ true
 unfolding due_in_month

@@ -1,8 +1,9 @@
 -- A small machine that accepts the prefixes of what fills the lines that are due, and its steps.
-use Rattle.std.proofs.Common.{◌≡◌, ℕ, Bool, true, false, refl, sym, ◌∙◌, ap, subst, List, [], ◌∷◌, ◌++◌, inl, inr}
+use Rattle.std.proofs.Common.{arith, ◌≡◌, ℕ, Bool, true, false, refl, sym, ◌∙◌, ap, subst, List, [], ◌∷◌, ◌++◌, inl, inr}
 use Rattle.std.specs.Prelude.{◌&&◌, not, ◌⊎◌, Option, Some, None, if◌then◌else◌, ◌==◌, slice_index}
 use Rattle.std.specs.List.{list_all}
 use Rattle.std.specs.Option.{option_map_or}
+use Rattle.std.proofs.lemmas.Bool.{and_parts}
 use Rattle.std.proofs.lemmas.Slice.Eq.{bytes_eq-Decides}
 use Rattle.result_lines.specs.declared.quantity.Quantity.{Quantity}
 use Rattle.result_lines.specs.declared.quantity.Quantity.TheVariants as quantity
@@ -30,13 +31,7 @@ quantity_at n =
     else (if n == 5 then quantity.Outflow else quantity.Closing)))))
 
 quantity_at-number_of : (q : Quantity) → quantity_at (number_of q) ≡ q
-quantity_at-number_of quantity.Opening = refl
-quantity_at-number_of quantity.Evaporated = refl
-quantity_at-number_of quantity.Returned = refl
-quantity_at-number_of quantity.Used = refl
-quantity_at-number_of quantity.Flow = refl
-quantity_at-number_of quantity.Outflow = refl
-quantity_at-number_of quantity.Closing = refl
+quantity_at-number_of q = grind arith
 
 abbrev of_key : List ℕ → Shape
 of_key [] = shape.Title
@@ -52,16 +47,7 @@ of_key (w ∷ xs) =
     else (if w == 8 then shape.End else shape.Done (slice_index xs 0)))))))))
 
 of_key-key_of : (s : Shape) → of_key (key_of s) ≡ s
-of_key-key_of shape.Title = refl
-of_key-key_of shape.Run = refl
-of_key-key_of (shape.Month month) = refl
-of_key-key_of (shape.Amount q x) = ap (λ k. shape.Amount k x) (quantity_at-number_of q)
-of_key-key_of (shape.Deliver x) = refl
-of_key-key_of (shape.Call x) = refl
-of_key-key_of (shape.Member x) = refl
-of_key-key_of (shape.Called x) = refl
-of_key-key_of shape.End = refl
-of_key-key_of (shape.Done x) = refl
+of_key-key_of s = grind (arith, quantity_at-number_of)
 
 pub same_shape_is : (a b : Shape) → is_same_shape a b ≡ true → a ≡ b
 unfolding is_same_shape
@@ -77,11 +63,7 @@ same_shape_itself a = (bytes_eq-Decides (key_of a) (key_of a)).1 refl
 
 pub fits_shape : (b : Basin) (d : Shape) (i : Item) → fits b d i ≡ true → d ≡ shape_of i
 unfolding fits
-fits_shape b d i h = same_shape_is d (shape_of i) (first (is_same_shape d (shape_of i)) (is_allowed b i) h)
-  where
-    first : (p q : Bool) → p && q ≡ true → p ≡ true
-    first true q h = refl
-    first false q h = cc
+fits_shape b d i h = same_shape_is d (shape_of i) (and_parts (is_same_shape d (shape_of i)) (is_allowed b i) h).0
 
 pub fits_itself : (b : Basin) (i : Item) → is_allowed b i ≡ true → fits b (shape_of i) i ≡ true
 unfolding fits
@@ -182,16 +164,16 @@ take_within b ds (e ∷ es) i less w h =
     by_fit (inr (rest, is, j)) false f false q further =
         let none : None ≡ Some less = sym (take_stops b e rest i f q) ∙ (sym (ap (λ xs. take_line b xs i) is) ∙ h) in cc
 
+both : (p q t : Bool) → p && q ≡ true → (q ≡ true → t ≡ true) → p && t ≡ true
+both true q t h k = k h
+both false q t h k = h
+
 within_optional : (ds es : List Shape) → Within ds es → list_all is_optional ds ≡ true → list_all is_optional es ≡ true
 within_optional ds [] w h = refl
 within_optional ds (e ∷ es) (inl (o, k)) h = rw o (within_optional ds es k h)
 within_optional ds (e ∷ es) (inr (rest, is, k)) h =
     both (is_optional e) (list_all is_optional rest) (list_all is_optional es) (sym (ap (list_all is_optional) is) ∙ h)
     (within_optional rest es k)
-  where
-    both : (p q t : Bool) → p && q ≡ true → (q ≡ true → t ≡ true) → p && t ≡ true
-    both true q t h k = k h
-    both false q t h k = h
 
 -- Optional lines more take nothing away.
 
@@ -226,10 +208,6 @@ pub accepts_within : (b : Basin) (must : Bool) (ds es : List Shape) (items : Lis
     accepts b must ds items ≡ true → accepts b must es items ≡ true
 accepts_within b must ds es [] w h =
     both (not must) (list_all is_optional ds) (list_all is_optional es) h (within_optional ds es w)
-  where
-    both : (p q t : Bool) → p && q ≡ true → (q ≡ true → t ≡ true) → p && t ≡ true
-    both true q t h k = k h
-    both false q t h k = h
 accepts_within b must ds es (i ∷ is) w h =
     by_guard (must && not (is_member i)) refl (steps_to b must ds i is h)
     (λ xs cs j. accepts_within b (is_call i) xs cs is j)

@@ -4,9 +4,10 @@ use Rattle.std.proofs.Common.{◌++◌, length, map, append-nil, append_assoc, l
 use Rattle.std.specs.Prelude.{Option, Some, None, is_some, find, ◌&&◌, nat_lt, slice_index, if◌then◌else◌}
 use Rattle.std.specs.List.{flat_map, list_any}
 use Rattle.std.specs.Option.{option_map_or}
+use Rattle.std.proofs.Math.Bool.{and-false}
 use Rattle.water_model.proofs.Order.{find-passes}
 use Rattle.water_model.specs.Basin.{is_senior, taking_node}
-use Rattle.water_model.specs.Cuts.{takes_within, node_within}
+use Rattle.water_model.specs.Cuts.{node_within}
 use Rattle.water_model.specs.Entries.{in_order}
 use Rattle.water_model.specs.Hydrology.{run_month}
 use Rattle.water_model.specs.History.{cut_of, calls, calling_right}
@@ -141,29 +142,17 @@ not_called b m r (x ∷ xs) h = rw (fails x) (not_called b m r xs h)
     nowhere None (Some c) g = refl
     nowhere (Some node) cut g = cc
 
-    never : (p : Bool) → p && false ≡ false
-    never true = refl
-    never false = refl
-
     fails : (x : ℕ) → calls b m r x ≡ false
     fails x =
         rw (nowhere (taking_node b r) (cut_of m x) h)
-        (never (nat_lt (slice_index m.delivered x) (slice_index m.want x) && is_senior b x r && nat_lt 0
+        (and-false (nat_lt (slice_index m.delivered x) (slice_index m.want x) && is_senior b x r && nat_lt 0
         (slice_index m.want r)))
 
 called_senior : (b : Basin) (m : MonthRecord) (r caller : ℕ) → calling_right b m r ≡ Some caller →
     is_senior b caller r ≡ true
 unfolding calling_right calls
 called_senior b m r caller e =
-    third (nat_lt (slice_index m.delivered caller) (slice_index m.want caller)) (is_senior b caller r)
-    (nat_lt 0 (slice_index m.want r))
-    (option_map_or (λ cut. takes_within b cut r) (cut_of m caller) false)
-    (find-passes (λ c. calls b m r c) (seniors_first b) caller e).0
-  where
-    third : (p q t u : Bool) → p && q && t && u ≡ true → q ≡ true
-    third p true t u h = refl
-    third true false t u h = cc
-    third false false t u h = cc
+    let passes = (find-passes (λ c. calls b m r c) (seniors_first b) caller e).0 in grind arith
 
 has_calls : (b : Basin) (series : Inflows) (before : List MonthRecord) (m : MonthRecord) →
     IsTextMonth b series before m → HasCalls b m (calling_right b m)
