@@ -1,5 +1,6 @@
 -- What fills the lines that are due is what a machine accepts.
-use Rattle.std.proofs.Common.{arith, ◌≡◌, ℕ, zero, suc, Bool, true, false, refl, sym, ◌∙◌, ap, subst, List, [], ◌∷◌, ◌++◌, map}
+use Rattle.std.proofs.Common.{arith, ◌≡◌, ℕ, zero, suc, Bool, true, false, refl, sym, ◌∙◌, ap, subst, List, [], ◌∷◌}
+use Rattle.std.proofs.Common.{◌++◌, map}
 use Rattle.std.proofs.Common.{length, inl, inr}
 use Rattle.std.specs.Prelude.{◌&&◌, not, Some, None}
 use Rattle.std.specs.List.{list_all, list_any}
@@ -7,7 +8,7 @@ use Rattle.std.proofs.lemmas.Bool.{and_parts}
 use Rattle.std.proofs.Math.Bool.{and-false}
 use Rattle.water_model.specs.declared.types.Basin.{Basin}
 use Rattle.water_model.specs.Indices.{numbers_from, members_from}
-use Rattle.result_reader.specs.Form.{shape_of, is_optional, fits, IsFollowedBy, Fills}
+use Rattle.result_reader.specs.Form.{is_optional, fits, IsFollowedBy, Fills}
 use Rattle.result_reader.specs.Due.{is_call, is_member, is_member_shape, opened, take_line, step}
 use Rattle.result_lines.specs.declared.item.Item.{Item}
 use Rattle.result_lines.specs.declared.item.Item.TheVariants as line
@@ -68,22 +69,7 @@ fills_accepted b [] items h = rw h refl
 fills_accepted b (d ∷ ds) items (inl (o, h)) =
     accepts_within b false ds (d ∷ ds) items (inl (o, within_itself ds)) (fills_accepted b ds items h)
 fills_accepted b (d ∷ ds) items (inr (i, members, others, f, group, are, h)) =
-    rw are (by_item (plain b i) (fills_accepted b ds others h))
-  where
-    first : accepts b false (d ∷ ds) (i ∷ (members ++ others)) ≡ accepts b (is_call i) (opened b i ++ ds)
-        (members ++ others)
-    first = accepts_step b false (d ∷ ds) (opened b i ++ ds) i (members ++ others) (take_fits b d ds i f)
-
-    by_item : IsPlain b i → accepts b false ds others ≡ true → accepts b false (d ∷ ds) (i ∷ (members ++ others)) ≡ true
-    by_item (call right is) rest =
-        first ∙ after_call right is (subst (λ (x : Item). IsFollowedBy b x members) is group) rest
-      where
-        after_call : (right : ℕ) → i ≡ line.Call right → IsFollowedBy b (line.Call right) members →
-            accepts b false ds others ≡ true →
-            accepts b (is_call i) (opened b i ++ ds) (members ++ others) ≡ true
-        after_call right is (set, sized, some, named) rest =
-            rw (is, named, ← sized) (members_forward b ds others set true 0 rest (λ t. some))
-    by_item (other none still nothing _) rest = first ∙ rw (none, still, nothing members group) rest
+    grind (arith, plain, accepts, accepts_step, take_fits, members_forward, fills_accepted b ds others h)
 
 -- The members of a call, backward.
 
@@ -103,28 +89,18 @@ pub no_member_due : (b : Basin) (ds : List Shape) (i : Item) → has_no_members 
     take_line b ds i ≡ None
 no_member_due b [] i h m = refl
 no_member_due b (d ∷ ds) i h m =
-    by_fit (fits b d i) refl (is_optional d) refl
-    (no_member_due b ds i (and_parts (not (is_member_shape d)) (has_no_members ds) h).1 m)
-  where
-    alike : (i : Item) → is_member_shape (shape_of i) ≡ is_member i
-    alike i = grind arith
-
-    by_fit : (f : Bool) → fits b d i ≡ f → (p : Bool) → is_optional d ≡ p → take_line b ds i ≡ None →
-        take_line b (d ∷ ds) i ≡ None
-    by_fit true f p q rest =
-        let member : is_member_shape d ≡ true = ap is_member_shape (fits_shape b d i f) ∙ (alike i ∙ m) in
-        let not_member : not (is_member_shape d) ≡ true = (and_parts (not (is_member_shape d)) (has_no_members ds) h).0 in
-        let no : false ≡ true = sym (ap not member) ∙ not_member in
-        cc
-    by_fit false f true q rest = take_skips b d ds i f q ∙ rest
-    by_fit false f false q rest = take_stops b d ds i f q
+    grind (
+      arith,
+      and_parts,
+      fits_shape,
+      take_skips,
+      take_stops,
+      no_member_due b ds i (and_parts (not (is_member_shape d)) (has_no_members ds) h).1 m,
+    )
 
 -- a line that an `in` line fits is that `in` line
 pub member_only : (b : Basin) (k : ℕ) (i : Item) → fits b (shape.Member k) i ≡ true → i ≡ line.Member k
-member_only b k i h = by_item i (fits_shape b (shape.Member k) i h)
-  where
-    by_item : (i : Item) → shape.Member k ≡ shape_of i → i ≡ line.Member k
-    by_item i h = grind arith
+member_only b k i h = grind (arith, fits_shape)
 
 skipped : {b : Basin} {ds : List Shape} {must : Bool} {k n : ℕ} {items : List Item} →
     SplitsAt b ds must (suc k) n items → SplitsAt b ds must k (suc n) items
@@ -227,8 +203,8 @@ accepted_fills b (d ∷ ds) (i ∷ is) clean h =
         by_item : IsPlain b i → Fills b (d ∷ ds) (i ∷ is)
         by_item (call right here) =
             let split : SplitsAt b ds true 0 (length b.nodes) is =
-            members_back b ds (and_parts (not (is_member_shape d)) (has_no_members ds) clean).1 (length b.nodes) 0 true is
-            (rw here at left) in
+            members_back b ds (and_parts (not (is_member_shape d)) (has_no_members ds) clean).1 (length b.nodes) 0 true
+            is (rw here at left) in
             inr (
               i,
               map (λ n. line.Member n) (members_from 0 split.set),

@@ -1,10 +1,10 @@
 -- Months that follow others are months that a text gives.
-use Rattle.std.proofs.Common.{◌≡◌, ℕ, zero, suc, Bool, true, false, refl, List, [], ◌∷◌}
-use Rattle.std.specs.Prelude.{Option, Some, None, not, nat_lt, length}
+use Rattle.std.proofs.Common.{arith, ◌≡◌, ℕ, zero, suc, Bool, true, false, refl, List, [], ◌∷◌}
+use Rattle.std.specs.Prelude.{Option, Some, None}
 use Rattle.std.specs.List.{list_any}
 use Rattle.std.proofs.lemmas.Bool.{and_parts}
-use Rattle.water_model.specs.Basin.{taking_node, instream_link, tail_of, head_of}
-use Rattle.water_model.specs.Cuts.{leaves, separates}
+use Rattle.water_model.specs.Basin.{taking_node, instream_link}
+use Rattle.water_model.specs.Cuts.{separates}
 use Rattle.water_model.specs.History.{Follows}
 use Rattle.water_model.specs.Lookups.{has}
 use Rattle.water_model.specs.declared.types.Basin.{Basin}
@@ -24,9 +24,7 @@ cut_has_some : (b : Basin) (taking link : Option ℕ) (cut : List Bool) →
     list_any (λ in_set. in_set) cut ≡ true
 cut_has_some b None None cut h = cc
 cut_has_some b (Some node) None cut h = has_some cut node h
-cut_has_some b taking (Some link) cut h =
-    has_some cut (tail_of b link) (and_parts (has cut (tail_of b link)) (not (has cut (head_of b link)))
-    (and_parts (nat_lt link (length b.links)) (leaves b cut link) h).1).0
+cut_has_some b taking (Some link) cut h = grind (arith, has_some, and_parts)
 
 -- a record that follows others is one that a text gives, if its amounts are those of a text
 pub IsTextMonth-Follows : (b : Basin) (series : Inflows) (before : List MonthRecord) (m : MonthRecord) →

@@ -1,7 +1,7 @@
 -- How many lines may still come.
 use Rattle.std.proofs.Common.{◌≡◌, ℕ, zero, suc, ◌+◌, ◌*◌, ◌^◌, ◌≤◌, Bool, true, false, refl, sym, ap, ◌∙◌, arith}
 use Rattle.std.proofs.Common.{List, [], ◌∷◌, ◌++◌, length, map, length-append, mul_comm}
-use Rattle.std.specs.Prelude.{Some, None, not, ◌&&◌}
+use Rattle.std.specs.Prelude.{Some, None}
 use Rattle.std.specs.List.{flat_map}
 use Rattle.std.proofs.Math.Nat.{mul-le-mul}
 use Rattle.std.proofs.lemmas.List.Sums.{sum_by-append, sum_by-cons}
@@ -17,7 +17,7 @@ use Rattle.result_lines.specs.declared.item.Section.{Section}
 use Rattle.result_lines.specs.declared.item.Section.TheVariants as section
 use Rattle.result_lines.specs.declared.item.TheConstants.{SECTIONS}
 use Rattle.water_model.specs.declared.types.Basin.{Basin}
-use Rattle.result_reader.specs.Due.{is_member, opened, take_line, step}
+use Rattle.result_reader.specs.Due.{opened, take_line, step}
 use Rattle.result_reader.specs.Form.{shape_of, is_optional, fits, shapes_at, shapes_in, due, due_in_month}
 use Rattle.result_reader.specs.Form.{due_for_month, due_from}
 use Rattle.result_reader.specs.Standing.{most_for, max_lines}
@@ -75,11 +75,7 @@ take_line-fewer b (d ∷ ds) i es h = by_fit (fits b d i) refl (is_optional d) r
 -- with each line that comes fewer are left
 pub step-fewer : (b : Basin) (must : Bool) (ds : List Shape) (i : Item) (es : List Shape) → step b must ds i ≡ Some es →
     max_lines b es + 1 ≤ max_lines b ds
-step-fewer b must ds i es h = by_guard (must && not (is_member i)) refl
-  where
-    by_guard : (g : Bool) → must && not (is_member i) ≡ g → max_lines b es + 1 ≤ max_lines b ds
-    by_guard true g = let none : None ≡ Some es = sym (step_shut b must ds i g) ∙ h in cc
-    by_guard false g = take_line-fewer b ds i es (sym (step_open b must ds i g) ∙ h)
+step-fewer b must ds i es h = grind (arith, step_shut, take_line-fewer, step_open)
 
 -- At first.
 
@@ -218,8 +214,4 @@ most_of_run b dues count nodes rights d m n r =
 -- which is small
 pub bounded_lines : (dues count nodes rights : ℕ) → dues ≤ 50000 → count ≤ 1200 → nodes ≤ 2000 → rights ≤ 2000 →
     count * (1 + dues + rights * nodes) + 3 ≤ 5 * 10 ^ 9
-bounded_lines dues count nodes rights d m n r =
-    let members : rights * nodes ≤ 2000 * 2000 = mul-le-mul r n in
-    let month : 1 + dues + rights * nodes ≤ 1 + 50000 + 2000 * 2000 = omega arith in
-    let all : count * (1 + dues + rights * nodes) ≤ 1200 * (1 + 50000 + 2000 * 2000) = mul-le-mul m month in
-    omega arith
+bounded_lines dues count nodes rights d m n r = grind (arith, mul-le-mul)

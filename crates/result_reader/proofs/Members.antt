@@ -8,23 +8,19 @@ use Rattle.water_model.specs.declared.types.Basin.{Basin}
 use Rattle.water_model.specs.Indices.{numbers_from}
 use Rattle.result_reader.specs.Form.{fits, due_in_month}
 use Rattle.result_reader.specs.Due.{opened, take_line, step, is_member, is_member_shape, is_call}
-use Rattle.result_reader.specs.Progress.{due_at, months_due, members_due}
+use Rattle.result_reader.specs.Progress.{due_at, members_due}
 use Rattle.result_lines.specs.declared.item.Item.{Item}
 use Rattle.result_lines.specs.declared.item.Item.TheVariants as line
 use Rattle.result_reader.specs.declared.shape.Shape.{Shape}
 use Rattle.result_reader.specs.declared.shape.Shape.TheVariants as shape
 use Rattle.result_reader.specs.declared.position.Position.{Position}
 use Rattle.result_reader.specs.declared.position.Position.TheVariants as position
-use Rattle.result_reader.proofs.Grammar.{member_only, has_no_members, no_member_due, plain, IsPlain, call, other}
+use Rattle.result_reader.proofs.Grammar.{member_only, has_no_members, no_member_due, plain, call, other}
 use Rattle.result_reader.proofs.Steps.{fits_itself, take_fits, take_skips, step_open}
 use Rattle.result_reader.proofs.Prefixes.{from_no_members, in_month_no_members, append_no_members}
 
 fits_not : (b : Basin) (k : ℕ) (i : Item) → (i ≡ line.Member k → ⊥) → fits b (shape.Member k) i ≡ false
-fits_not b k i h = by_fit (fits b (shape.Member k) i) refl
-  where
-    by_fit : (f : Bool) → fits b (shape.Member k) i ≡ f → fits b (shape.Member k) i ≡ false
-    by_fit true e = absurd (h (member_only b k i e))
-    by_fit false e = e
+fits_not b k i h = grind (arith, member_only)
 
 pub skip_members : (b : Basin) (ds : List Shape) (i : Item) → is_member i ≡ false → (n k : ℕ) →
     take_line b (map (λ j. shape.Member j) (numbers_from k n) ++ ds) i ≡ take_line b ds i
@@ -95,25 +91,19 @@ pub place_no_members : (b : Basin) (dues : List Shape) (p : Position) → dues �
 place_no_members b dues position.Title is = from_no_members b 0 (b.months - 0)
 place_no_members b dues position.Run is = from_no_members b 0 (b.months - 0)
 place_no_members b dues (position.Month begun at) is =
-    append_no_members (drop at dues) (months_due b begun)
-    (drop_no_members dues at (ap has_no_members is ∙ in_month_no_members b))
-    (from_no_members b begun (b.months - begun))
+    grind (arith, append_no_members, drop_no_members, has_no_members, in_month_no_members, from_no_members)
 place_no_members b dues position.After is = refl
 
 -- The steps of a progress.
 
 pub member_step : (b : Basin) (ds : List Shape) (must : Bool) (next node : ℕ) → next ≤ node → node < length b.nodes →
     step b must (members_due b (Some next) ++ ds) (line.Member node) ≡ Some (members_due b (Some (node + 1)) ++ ds)
-member_step b ds must next node l k =
-    step_open b must (members_due b (Some next) ++ ds) (line.Member node) (and-false must)
-    ∙ member_found b ds node (length b.nodes - next) next (length b.nodes - (node + 1)) l (omega arith)
+member_step b ds must next node l k = grind (arith, step_open, and-false, member_found)
 
 pub member_too_early : (b : Basin) (ds : List Shape) (must : Bool) (next node : ℕ) → node < next →
     has_no_members ds ≡ true →
     step b must (members_due b (Some next) ++ ds) (line.Member node) ≡ None
-member_too_early b ds must next node l clean =
-    step_open b must (members_due b (Some next) ++ ds) (line.Member node) (and-false must)
-    ∙ (member_before b ds node (length b.nodes - next) next l ∙ no_member_due b ds (line.Member node) clean refl)
+member_too_early b ds must next node l clean = grind (arith, step_open, and-false, member_before, no_member_due)
 
 pub no_member_step : (b : Basin) (ds : List Shape) (must : Bool) (node : ℕ) → has_no_members ds ≡ true →
     step b must (members_due b None ++ ds) (line.Member node) ≡ None
@@ -126,19 +116,7 @@ other_step b ds None i h = refl
 other_step b ds (Some next) i h = skip_members b ds i h (length b.nodes - next) next
 
 pub call_opens : (b : Basin) (i : Item) → is_call i ≡ true → opened b i ≡ members_due b (Some 0)
-call_opens b i h = by_item (plain b i)
-  where
-    by_item : IsPlain b i → opened b i ≡ members_due b (Some 0)
-    by_item (call right is) =
-        ap (opened b) is ∙ ap (λ n. map (λ j. shape.Member j) (numbers_from 0 n)) (whole (length b.nodes))
-      where
-        whole : (n : ℕ) → n ≡ n - 0
-        whole n = omega arith
-    by_item (other none still nothing empty) = let no : false ≡ true = sym still ∙ h in cc
+call_opens b i h = grind (arith, plain, call, other)
 
 pub other_opens : (b : Basin) (i : Item) → is_call i ≡ false → opened b i ≡ []
-other_opens b i h = by_item (plain b i)
-  where
-    by_item : IsPlain b i → opened b i ≡ []
-    by_item (call right is) = let no : true ≡ false = sym (ap is_call is) ∙ h in cc
-    by_item (other none still nothing empty) = none
+other_opens b i h = grind (arith, plain, call, other)

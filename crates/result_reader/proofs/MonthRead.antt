@@ -143,9 +143,7 @@ HasRoom m now = (r : ℕ) (set : List Bool) → cut_of m r ≡ Some set → r < 
 
 sets_stay : (b : Basin) (m : MonthRecord) (k : Section) (now : MonthRecord) →
     length (with_section b m k now).cuts.sets ≡ length now.cuts.sets
-sets_stay b m (section.Amounts q) now =
-    ap (λ cuts. length cuts.sets)
-    (cuts_with q now (set_all (entries_with_line b q) (λ x. slice_index (amounts_of q m) x) (amounts_of q now)))
+sets_stay b m (section.Amounts q) now = grind (arith, cuts_with, set_all)
 sets_stay b m section.Deliveries now = refl
 sets_stay b m section.Calls now = length-put_sets (seniors_first b) (λ r. cut_of m r) now.cuts.sets
 sets_stay b m section.Called now = refl

@@ -6,17 +6,14 @@ use Rattle.std.specs.List.{flat_map}
 use Rattle.std.specs.Option.{option_and_then}
 use Rattle.std.proofs.lemmas.List.Folds.{list_all-append}
 use Rattle.water_model.specs.declared.types.Basin.{Basin}
-use Rattle.water_model.specs.Entries.{in_order}
 use Rattle.water_model.specs.Indices.{numbers_from}
-use Rattle.result_lines.specs.Text.{section_space}
-use Rattle.result_reader.specs.Form.{shape_of, is_optional, is_allowed, fits, shapes_at, shapes_in, due, due_in_month}
-use Rattle.result_reader.specs.Form.{due_for_month, due_from, IsPrefix}
+use Rattle.result_reader.specs.Form.{shape_of, is_optional, is_allowed, fits, shapes_at, due, due_in_month}
+use Rattle.result_reader.specs.Form.{due_from, IsPrefix}
 use Rattle.result_reader.specs.Due.{is_call, is_member, is_member_shape, opened, take_line, step, Due, all_due}
 use Rattle.result_reader.specs.Due.{due_after}
 use Rattle.result_lines.specs.declared.item.Item.{Item}
 use Rattle.result_lines.specs.declared.item.Item.TheVariants as line
 use Rattle.result_lines.specs.declared.item.Section.{Section}
-use Rattle.result_lines.specs.declared.item.TheConstants.{SECTIONS}
 use Rattle.result_reader.specs.declared.shape.Shape.{Shape}
 use Rattle.result_reader.specs.declared.shape.Shape.TheVariants as shape
 use Rattle.result_reader.proofs.Steps.{accepts, accepts_step, steps_to, StepsTo, accepts_within, within_itself}
@@ -39,15 +36,10 @@ at_no_members s b entry = grind arith
 
 pub in_month_no_members : (b : Basin) → has_no_members (due_in_month b) ≡ true
 unfolding due_in_month
-in_month_no_members b =
-    append_no_members (flat_map (λ s. shapes_in s b) SECTIONS) (shape.End ∷ [])
-    (flat_no_members (λ s. shapes_in s b)
-    (λ s. flat_no_members (shapes_at s b) (at_no_members s b) (in_order (section_space s) b)) SECTIONS) refl
+in_month_no_members b = grind (arith, append_no_members, flat_no_members, at_no_members)
 
 pub from_no_members : (b : Basin) (i count : ℕ) → has_no_members (due_from b i count) ≡ true
-from_no_members b i count =
-    append_no_members (flat_map (due_for_month b) (numbers_from i count)) (shape.Done b.months ∷ [])
-    (flat_no_members (due_for_month b) (λ i. in_month_no_members b) (numbers_from i count)) refl
+from_no_members b i count = grind (arith, append_no_members, flat_no_members, in_month_no_members)
 
 pub due_no_members : (b : Basin) → has_no_members (due b) ≡ true
 unfolding due

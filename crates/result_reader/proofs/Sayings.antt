@@ -14,7 +14,6 @@ use Rattle.water_text.proofs.MonthLaws.{month_is_read}
 use Rattle.water_text.specs.Amounts.{read_plain}
 use Rattle.water_text.specs.Fields.{pieces_of}
 use Rattle.water_text.specs.Months.{IsMonth, month_digits}
-use Rattle.water_text.specs.Names.{is_name}
 use Rattle.water_text.specs.declared.month.Month.{Month}
 use Rattle.water_model.specs.Entries.{count_in, name_in}
 use Rattle.result_lines.specs.Quantities.{space_of}
@@ -55,35 +54,19 @@ no_field-Ok (x ∷ fields) u h = cc
 
 one_field-Ok : (fields : List (List ℕ)) (x : List ℕ) → one_field fields ≡ Ok x → fields ≡ x ∷ []
 one_field-Ok [] x h = cc
-one_field-Ok (y ∷ fields) x h =
-    let t = through (no_field fields) (λ _. Ok y) x h in
-    let same : Ok y ≡ Ok x = t.2 in
-    let is : y ≡ x = cc in
-    rw (is, no_field-Ok fields t.0 t.1) refl
+one_field-Ok (y ∷ fields) x h = grind (arith, nat_tests, through, no_field-Ok)
 
 two_fields-Ok : (fields : List (List ℕ)) (f : List ℕ × List ℕ) → two_fields fields ≡ Ok f → fields ≡ f.0 ∷ f.1 ∷ []
 two_fields-Ok [] f h = cc
-two_fields-Ok (x ∷ fields) f h =
-    let t = through (one_field fields) (λ y. Ok (x, y)) f h in
-    let both : Ok (x, t.0) ≡ Ok f = t.2 in
-    let is : (x, t.0) ≡ f = cc in
-    ap (λ xs. x ∷ xs) (one_field-Ok fields t.0 t.1) ∙ ap (λ (g : List ℕ × List ℕ). g.0 ∷ g.1 ∷ []) is
+two_fields-Ok (x ∷ fields) f h = grind (arith, nat_tests, through, one_field-Ok)
 
 three_fields-Ok : (fields : List (List ℕ)) (f : List ℕ × List ℕ × List ℕ) → three_fields fields ≡ Ok f →
     fields ≡ f.0 ∷ f.1 ∷ f.2 ∷ []
 three_fields-Ok [] f h = cc
-three_fields-Ok (x ∷ fields) f h =
-    let t = through (two_fields fields) (λ g. Ok (x, g.0, g.1)) f h in
-    let all : Ok (x, t.0.0, t.0.1) ≡ Ok f = t.2 in
-    let is : (x, t.0.0, t.0.1) ≡ f = cc in
-    ap (λ xs. x ∷ xs) (two_fields-Ok fields t.0 t.1) ∙ ap (λ (g : List ℕ × List ℕ × List ℕ). g.0 ∷ g.1 ∷ g.2 ∷ []) is
+three_fields-Ok (x ∷ fields) f h = grind (arith, nat_tests, through, two_fields-Ok)
 
 name_field-Ok : (field name : List ℕ) → name_field field ≡ Ok name → field ≡ name
-name_field-Ok field name h = by_test (is_name field) h
-  where
-    by_test : (t : Bool) → (if t then Ok field else Err bad.BadField) ≡ Ok name → field ≡ name
-    by_test true e = cc
-    by_test false e = cc
+name_field-Ok field name h = grind (arith, nat_tests)
 
 -- a field that is read as a number is its spelling
 amount_field-Ok : (field : List ℕ) (n : ℕ) → amount_field field ≡ Ok n → (field ≡ decimal n) × (n ≤ 10 ^ 15)

@@ -1,7 +1,7 @@
 -- What is spelled is read.
-use Rattle.std.proofs.Common.{◌≡◌, ℕ, ◌+◌, ◌/◌, ◌%◌, ◌^◌, ◌<◌, ◌≤◌, Bool, true, false, refl, ap, ◌∙◌, arith, List}
+use Rattle.std.proofs.Common.{◌≡◌, ℕ, ◌+◌, ◌%◌, ◌^◌, ◌<◌, ◌≤◌, Bool, true, false, refl, ap, ◌∙◌, arith, List}
 use Rattle.std.proofs.Common.{[], ◌∷◌, ◌++◌, length, length-append}
-use Rattle.std.specs.Prelude.{Some, Ok, ◌==◌, nat_le, nat_lt}
+use Rattle.std.specs.Prelude.{Some, Ok, ◌==◌, nat_le}
 use Rattle.std.specs.Fmt.{decimal}
 use Rattle.std.specs.List.{All, list_all, join_with_byte, slice_split}
 use Rattle.std.proofs.lemmas.Bool.Decides.{nat_tests}
@@ -19,7 +19,7 @@ use Rattle.water_text.specs.Months.{IsMonth, month_digits}
 use Rattle.water_text.specs.Names.{is_name, is_name_byte}
 use Rattle.water_text.specs.declared.month.Month.{Month}
 use Rattle.water_model.specs.Entries.{count_in, name_in}
-use Rattle.result_lines.specs.Quantities.{amount_word, space_of}
+use Rattle.result_lines.specs.Quantities.{amount_word}
 use Rattle.result_lines.specs.Spelling.{fields_of, line_of}
 use Rattle.water_model.specs.Valid.{IsValidBasin}
 use Rattle.result_lines.specs.declared.item.Item.{Item}
@@ -45,10 +45,7 @@ cut_at byte bytes = slice_split (λ c. c == byte) bytes
 
 pub cut-first : (byte : ℕ) (x rest : List ℕ) → Lacks byte x →
     cut_at byte (x ++ (byte ∷ rest)) ≡ x ∷ cut_at byte rest
-cut-first byte x rest h = slice_split_at (λ c. c == byte) x byte rest h (same byte)
-  where
-    same : (n : ℕ) → (n == n) ≡ true
-    same n = grind (arith, nat_tests)
+cut-first byte x rest h = grind (arith, nat_tests, slice_split_at)
 
 -- the pieces of joined fields are the fields
 pieces-join : (x : List ℕ) (xs : List (List ℕ)) → All (Lacks 32) (x ∷ xs) →
@@ -88,9 +85,7 @@ decimal_plain n h = decimal_by_steps (λ m ds. is_plain ds ≡ true) one more n 
     more m ds l k = list_all-append (λ c. nat_le 45 c) ds ((48 + m % 10) ∷ []) ∙ rw (k, digit (m % 10)) refl
 
 month_plain : (m : Month) → IsMonth m → is_plain (month_digits m) ≡ true
-month_plain m h =
-    list_all-append (λ c. nat_le 45 c) (decimal m.year) (45 ∷ (48 + m.month / 10) ∷ (48 + m.month % 10) ∷ [])
-    ∙ rw (decimal_plain m.year (omega (arith, h.year)), digit (m.month / 10), digit (m.month % 10)) refl
+month_plain m h = grind (arith, nat_tests, list_all-append, decimal_plain, digit)
 
 name_plain : (bytes : List ℕ) → is_name bytes ≡ true → is_plain bytes ≡ true
 unfolding is_name
@@ -123,13 +118,7 @@ fields_plain b valid line.Title o = refl
 fields_plain b valid (line.Run first months) o =
     rw (month_plain first o.of_basin, decimal_plain months (omega (arith, o.numbers))) refl
 fields_plain b valid (line.Month month) o = rw (month_plain month o.of_basin) refl
-fields_plain b valid (line.Amount q entry amount) o =
-    rw (
-      word_plain q,
-      entry_plain b valid (space_of q) entry o.of_basin,
-      decimal_plain amount (omega (arith, o.numbers)),
-    )
-    refl
+fields_plain b valid (line.Amount q entry amount) o = grind (arith, nat_tests, word_plain, entry_plain, decimal_plain)
 fields_plain b valid (line.Deliver right amount want) o =
     rw (
       entry_plain b valid space.Rights right o.of_basin,
@@ -173,21 +162,10 @@ pub line_short : (b : Basin) → IsValidBasin b → (i : Item) → IsOfText b i 
 unfolding line_of fields_of
 line_short b valid line.Title o = omega arith
 line_short b valid (line.Run first months) o =
-    grind (
-      arith,
-      length-append,
-      length-month_digits first o.of_basin,
-      number_short months (omega (arith, o.numbers)),
-    )
+    grind (arith, nat_tests, length-append, length-month_digits, number_short)
 line_short b valid (line.Month month) o = grind (arith, length-append, length-month_digits month o.of_basin)
 line_short b valid (line.Amount q entry amount) o =
-    grind (
-      arith,
-      length-append,
-      word_short q,
-      entry_short b valid (space_of q) entry o.of_basin,
-      number_short amount o.numbers,
-    )
+    grind (arith, nat_tests, length-append, word_short, entry_short, number_short)
 line_short b valid (line.Deliver right amount want) o =
     grind (
       arith,
@@ -227,12 +205,7 @@ item_in-fields b valid (line.Run first months) o =
     rw (read_month-month_digits first o.of_basin, count_read months o.numbers.0 o.numbers.1) refl
 item_in-fields b valid (line.Month month) o = rw (read_month-month_digits month o.of_basin) refl
 item_in-fields b valid (line.Amount q entry amount) o =
-    rw (
-      word_read q,
-      name_is b valid (space_of q) entry o.of_basin,
-      amount_read amount o.numbers,
-      named-at b valid (space_of q) entry o.of_basin,
-    ) refl
+    grind (arith, nat_tests, word_read, name_is, amount_read, named-at)
 item_in-fields b valid (line.Deliver right amount want) o =
     rw (
       name_is b valid space.Rights right o.of_basin,
@@ -257,15 +230,7 @@ item_in-fields b valid (line.Done months) o = rw (count_read months o.numbers.0 
 -- A line that is spelled says its item.
 pub item-line : (b : Basin) → IsValidBasin b → (i : Item) → IsOfText b i → item_of b (line_of b i) ≡ Ok i
 unfolding item_of
-item-line b valid i o =
-    rw (
-      not_long (length (line_of b i)) (line_short b valid i o),
-      line_pieces b i (plain-all 32 (omega arith) (fields_of b i) (fields_plain b valid i o)),
-    )
-    (item_in-fields b valid i o)
-  where
-    not_long : (n : ℕ) → n ≤ 128 → nat_lt 128 n ≡ false
-    not_long n h = grind (arith, nat_tests)
+item-line b valid i o = grind (arith, nat_tests, line_short, line_pieces, plain-all, fields_plain, item_in-fields)
 
 -- A line has no line feed.
 pub line_lacks_feed : (b : Basin) → IsValidBasin b → (i : Item) → IsOfText b i → Lacks 10 (line_of b i)

@@ -1,5 +1,6 @@
 -- A small machine that accepts the prefixes of what fills the lines that are due, and its steps.
-use Rattle.std.proofs.Common.{arith, ◌≡◌, ℕ, Bool, true, false, refl, sym, ◌∙◌, ap, subst, List, [], ◌∷◌, ◌++◌, inl, inr}
+use Rattle.std.proofs.Common.{arith, ◌≡◌, ℕ, Bool, true, false, refl, sym, ◌∙◌, ap, subst, List, [], ◌∷◌, ◌++◌, inl}
+use Rattle.std.proofs.Common.{inr}
 use Rattle.std.specs.Prelude.{◌&&◌, not, ◌⊎◌, Option, Some, None, if◌then◌else◌, ◌==◌, slice_index}
 use Rattle.std.specs.List.{list_all}
 use Rattle.std.specs.Option.{option_map_or}
@@ -51,9 +52,7 @@ of_key-key_of s = grind (arith, quantity_at-number_of)
 
 pub same_shape_is : (a b : Shape) → is_same_shape a b ≡ true → a ≡ b
 unfolding is_same_shape
-same_shape_is a b h =
-    let keys : key_of a ≡ key_of b = (bytes_eq-Decides (key_of a) (key_of b)).0 h in
-    sym (of_key-key_of a) ∙ (ap of_key keys ∙ of_key-key_of b)
+same_shape_is a b h = grind (arith, bytes_eq-Decides, of_key-key_of)
 
 pub same_shape_itself : (a : Shape) → is_same_shape a a ≡ true
 unfolding is_same_shape
@@ -171,9 +170,7 @@ both false q t h k = h
 within_optional : (ds es : List Shape) → Within ds es → list_all is_optional ds ≡ true → list_all is_optional es ≡ true
 within_optional ds [] w h = refl
 within_optional ds (e ∷ es) (inl (o, k)) h = rw o (within_optional ds es k h)
-within_optional ds (e ∷ es) (inr (rest, is, k)) h =
-    both (is_optional e) (list_all is_optional rest) (list_all is_optional es) (sym (ap (list_all is_optional) is) ∙ h)
-    (within_optional rest es k)
+within_optional ds (e ∷ es) (inr (rest, is, k)) h = grind (arith, both, within_optional rest es k)
 
 -- Optional lines more take nothing away.
 

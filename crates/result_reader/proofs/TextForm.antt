@@ -1,13 +1,11 @@
 -- The text of records has the form.
 use Rattle.std.proofs.Common.{◌≡◌, ℕ, suc, Bool, true, false, refl, sym, ap, subst, ◌∙◌, arith, inl, inr, List, [], ◌∷◌}
 use Rattle.std.proofs.Common.{◌++◌, length, map, append-nil, append_assoc, length-append}
-use Rattle.std.specs.Prelude.{Option, Some, None, is_some, find, ◌&&◌, nat_lt, slice_index, if◌then◌else◌}
+use Rattle.std.specs.Prelude.{Option, Some, None, is_some, find, slice_index, if◌then◌else◌}
 use Rattle.std.specs.List.{flat_map, list_any}
-use Rattle.std.specs.Option.{option_map_or}
 use Rattle.std.proofs.Math.Bool.{and-false}
 use Rattle.water_model.proofs.Order.{find-passes}
 use Rattle.water_model.specs.Basin.{is_senior, taking_node}
-use Rattle.water_model.specs.Cuts.{node_within}
 use Rattle.water_model.specs.Entries.{in_order}
 use Rattle.water_model.specs.Hydrology.{run_month}
 use Rattle.water_model.specs.History.{cut_of, calls, calling_right}
@@ -134,19 +132,7 @@ not_called : (b : Basin) (m : MonthRecord) (r : ℕ) (xs : List ℕ) → is_some
     find (λ caller. calls b m r caller) xs ≡ None
 unfolding calls
 not_called b m r [] h = refl
-not_called b m r (x ∷ xs) h = rw (fails x) (not_called b m r xs h)
-  where
-    nowhere : (o : Option ℕ) (cut : Option (List Bool)) → is_some o ≡ false →
-        option_map_or (λ c. node_within o c) cut false ≡ false
-    nowhere None None g = refl
-    nowhere None (Some c) g = refl
-    nowhere (Some node) cut g = cc
-
-    fails : (x : ℕ) → calls b m r x ≡ false
-    fails x =
-        rw (nowhere (taking_node b r) (cut_of m x) h)
-        (and-false (nat_lt (slice_index m.delivered x) (slice_index m.want x) && is_senior b x r && nat_lt 0
-        (slice_index m.want r)))
+not_called b m r (x ∷ xs) h = grind (arith, and-false, not_called b m r xs h)
 
 called_senior : (b : Basin) (m : MonthRecord) (r caller : ℕ) → calling_right b m r ≡ Some caller →
     is_senior b caller r ≡ true
