@@ -1,7 +1,7 @@
 -- How many lines may still come.
-use Rattle.std.proofs.Common.{◌≡◌, ℕ, zero, suc, ◌+◌, ◌*◌, ◌^◌, ◌≤◌, Bool, true, false, refl, sym, ap, ◌∙◌, arith}
+use Rattle.std.proofs.Common.{inl, inr, ◌≡◌, ℕ, zero, suc, ◌+◌, ◌*◌, ◌^◌, ◌≤◌, Bool, refl, ap, ◌∙◌, arith}
 use Rattle.std.proofs.Common.{List, [], ◌∷◌, ◌++◌, length, map, length-append, mul_comm}
-use Rattle.std.specs.Prelude.{Some, None}
+use Rattle.std.specs.Prelude.{Some}
 use Rattle.std.specs.List.{flat_map}
 use Rattle.std.proofs.Math.Nat.{mul-le-mul}
 use Rattle.std.proofs.lemmas.List.Sums.{sum_by-append, sum_by-cons}
@@ -18,13 +18,13 @@ use Rattle.result_lines.specs.declared.item.Section.TheVariants as section
 use Rattle.result_lines.specs.declared.item.TheConstants.{SECTIONS}
 use Rattle.water_model.specs.declared.types.Basin.{Basin}
 use Rattle.result_reader.specs.Due.{opened, take_line, step}
-use Rattle.result_reader.specs.Form.{shape_of, is_optional, fits, shapes_at, shapes_in, due, due_in_month}
+use Rattle.result_reader.specs.Form.{shape_of, shapes_at, shapes_in, due, due_in_month}
 use Rattle.result_reader.specs.Form.{due_for_month, due_from}
 use Rattle.result_reader.specs.Standing.{most_for, max_lines}
 use Rattle.result_reader.specs.declared.shape.Shape.{Shape}
 use Rattle.result_reader.specs.declared.shape.Shape.TheVariants as shape
 use Rattle.result_reader.proofs.Grammar.{plain, IsPlain, call, other}
-use Rattle.result_reader.proofs.Steps.{fits_shape, take_fits, take_skips, take_stops, step_open, step_shut}
+use Rattle.result_reader.proofs.Steps.{step_open, step_shut, Within, takes}
 
 -- each line that is due is at least one line
 most_for-some : (b : Basin) (d : Shape) → 1 ≤ most_for b d
@@ -54,23 +54,19 @@ opened-fewer b i = by_item (plain b i)
         ))
     by_item (other none still nothing empty) = rw none (most_for-some b (shape_of i))
 
+within-fewer : (b : Basin) (ds es : List Shape) → Within ds es → max_lines b ds ≤ max_lines b es
+within-fewer b ds [] h = rw h (omega arith)
+within-fewer b ds (e ∷ es) (inl (o, k)) = omega (arith, within-fewer b ds es k, sum_by-cons (most_for b) e es)
+within-fewer b ds (e ∷ es) (inr (rest, is, k)) =
+    rw is (omega (arith, within-fewer b rest es k, sum_by-cons (most_for b) e es, sum_by-cons (most_for b) e rest))
+
 take_line-fewer : (b : Basin) (ds : List Shape) (i : Item) (es : List Shape) → take_line b ds i ≡ Some es →
     max_lines b es + 1 ≤ max_lines b ds
-take_line-fewer b [] i es h = let none : None ≡ Some es = h in cc
-take_line-fewer b (d ∷ ds) i es h = by_fit (fits b d i) refl (is_optional d) refl (take_line-fewer b ds i es)
-  where
-    by_fit : (f : Bool) → fits b d i ≡ f → (p : Bool) → is_optional d ≡ p →
-        (take_line b ds i ≡ Some es → max_lines b es + 1 ≤ max_lines b ds) →
-        max_lines b es + 1 ≤ max_lines b (d ∷ ds)
-    by_fit true f p q further =
-        let same : Some (opened b i ++ ds) ≡ Some es = sym (take_fits b d ds i f) ∙ h in
-        let is : opened b i ++ ds ≡ es = cc in
-        rw (← is, sum_by-append (most_for b) (opened b i) ds, sum_by-cons (most_for b) d ds, fits_shape b d i f)
-        (omega (arith, opened-fewer b i))
-    by_fit false f true q further =
-        let fewer = further (sym (take_skips b d ds i f q) ∙ h) in
-        rw (sum_by-cons (most_for b) d ds) (omega arith)
-    by_fit false f false q further = let none : None ≡ Some es = sym (take_stops b d ds i f q) ∙ h in cc
+take_line-fewer b ds i es h =
+    let t = takes b ds i es h in
+    let fewer = within-fewer b (shape_of i ∷ t.0) ds t.2 in
+    rw (t.1, sum_by-append (most_for b) (opened b i) t.0)
+    (omega (arith, opened-fewer b i, fewer, sum_by-cons (most_for b) (shape_of i) t.0))
 
 -- with each line that comes fewer are left
 pub step-fewer : (b : Basin) (must : Bool) (ds : List Shape) (i : Item) (es : List Shape) → step b must ds i ≡ Some es →

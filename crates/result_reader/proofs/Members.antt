@@ -1,6 +1,6 @@
 -- The `in` lines that may come.
 use Rattle.std.proofs.Common.{◌≡◌, ℕ, zero, suc, ◌+◌, ◌-◌, ◌<◌, ◌≤◌, Bool, true, false, refl, sym, ap, ◌∙◌, arith, inl}
-use Rattle.std.proofs.Common.{inr, List, [], ◌∷◌, ◌++◌, length, drop, add-one, map}
+use Rattle.std.proofs.Common.{inr, List, [], ◌∷◌, ◌++◌, length, drop, add-one}
 use Rattle.std.specs.Prelude.{Option, Some, None, not}
 use Rattle.std.proofs.lemmas.Bool.{and_parts, cases_order}
 use Rattle.std.proofs.Math.Bool.{and-false}
@@ -16,18 +16,18 @@ use Rattle.result_reader.specs.declared.shape.Shape.TheVariants as shape
 use Rattle.result_reader.specs.declared.position.Position.{Position}
 use Rattle.result_reader.specs.declared.position.Position.TheVariants as position
 use Rattle.result_reader.proofs.Grammar.{member_only, has_no_members, no_member_due, plain, call, other}
-use Rattle.result_reader.proofs.Steps.{fits_itself, take_fits, take_skips, step_open}
+use Rattle.result_reader.proofs.Steps.{nodes_from, fits_itself, take_fits, take_skips, step_open}
 use Rattle.result_reader.proofs.Prefixes.{from_no_members, in_month_no_members, append_no_members}
 
 fits_not : (b : Basin) (k : ℕ) (i : Item) → (i ≡ line.Member k → ⊥) → fits b (shape.Member k) i ≡ false
 fits_not b k i h = grind (arith, member_only)
 
 pub skip_members : (b : Basin) (ds : List Shape) (i : Item) → is_member i ≡ false → (n k : ℕ) →
-    take_line b (map (λ j. shape.Member j) (numbers_from k n) ++ ds) i ≡ take_line b ds i
+    take_line b (nodes_from k n ++ ds) i ≡ take_line b ds i
 unfolding numbers_from
 skip_members b ds i h zero k = refl
 skip_members b ds i h (suc n) k =
-    take_skips b (shape.Member k) (map (λ j. shape.Member j) (numbers_from (suc k) n) ++ ds) i (fits_not b k i other)
+    take_skips b (shape.Member k) (nodes_from (suc k) n ++ ds) i (fits_not b k i other)
     refl
     ∙ skip_members b ds i h n (suc k)
   where
@@ -35,11 +35,11 @@ skip_members b ds i h (suc n) k =
     other is = let no : false ≡ true = sym h ∙ ap is_member is in cc
 
 pub member_before : (b : Basin) (ds : List Shape) (j n k : ℕ) → j < k →
-    take_line b (map (λ j. shape.Member j) (numbers_from k n) ++ ds) (line.Member j) ≡ take_line b ds (line.Member j)
+    take_line b (nodes_from k n ++ ds) (line.Member j) ≡ take_line b ds (line.Member j)
 unfolding numbers_from
 member_before b ds j zero k l = refl
 member_before b ds j (suc n) k l =
-    take_skips b (shape.Member k) (map (λ j. shape.Member j) (numbers_from (suc k) n) ++ ds) (line.Member j)
+    take_skips b (shape.Member k) (nodes_from (suc k) n ++ ds) (line.Member j)
     (fits_not b k (line.Member j) other) refl
     ∙ member_before b ds j n (suc k) (omega arith)
   where
@@ -47,8 +47,8 @@ member_before b ds j (suc n) k l =
     other is = let same : j ≡ k = cc in omega arith
 
 pub member_found : (b : Basin) (ds : List Shape) (j n k m : ℕ) → k ≤ j → j + suc m ≡ k + n →
-    take_line b (map (λ j. shape.Member j) (numbers_from k n) ++ ds) (line.Member j) ≡ Some
-    (map (λ j. shape.Member j) (numbers_from (j + 1) m) ++ ds)
+    take_line b (nodes_from k n ++ ds) (line.Member j) ≡ Some
+    (nodes_from (j + 1) m ++ ds)
 unfolding numbers_from
 member_found b ds j zero k m l e = absurd (omega arith)
 member_found b ds j (suc n) k m l e = elim (cases_order k j) [
@@ -62,19 +62,19 @@ member_found b ds j (suc n) k m l e = elim (cases_order k j) [
 ]
   where
     here : k ≡ j →
-        take_line b (shape.Member k ∷ (map (λ j. shape.Member j) (numbers_from (suc k) n) ++ ds)) (line.Member j) ≡ Some
-        (map (λ j. shape.Member j) (numbers_from (j + 1) m) ++ ds)
+        take_line b (shape.Member k ∷ (nodes_from (suc k) n ++ ds)) (line.Member j) ≡ Some
+        (nodes_from (j + 1) m ++ ds)
     here same =
         let count : m ≡ n = omega arith in
         rw (← same, count, add-one k)
-        (take_fits b (shape.Member k) (map (λ j. shape.Member j) (numbers_from (suc k) n) ++ ds) (line.Member k)
+        (take_fits b (shape.Member k) (nodes_from (suc k) n ++ ds) (line.Member k)
         (fits_itself b (line.Member k) refl))
 
     skipped : k < j →
-        take_line b (shape.Member k ∷ (map (λ j. shape.Member j) (numbers_from (suc k) n) ++ ds))
-        (line.Member j) ≡ take_line b (map (λ j. shape.Member j) (numbers_from (suc k) n) ++ ds) (line.Member j)
+        take_line b (shape.Member k ∷ (nodes_from (suc k) n ++ ds))
+        (line.Member j) ≡ take_line b (nodes_from (suc k) n ++ ds) (line.Member j)
     skipped below =
-        take_skips b (shape.Member k) (map (λ j. shape.Member j) (numbers_from (suc k) n) ++ ds) (line.Member j)
+        take_skips b (shape.Member k) (nodes_from (suc k) n ++ ds) (line.Member j)
         (fits_not b k (line.Member j) other) refl
       where
         other : line.Member j ≡ line.Member k → ⊥

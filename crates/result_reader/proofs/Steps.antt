@@ -1,5 +1,6 @@
 -- A small machine that accepts the prefixes of what fills the lines that are due, and its steps.
-use Rattle.std.proofs.Common.{arith, ◌≡◌, ℕ, Bool, true, false, refl, sym, ◌∙◌, ap, subst, List, [], ◌∷◌, ◌++◌, inl}
+use Rattle.std.proofs.Common.{map, arith, ◌≡◌, ℕ, Bool, true, false, refl, sym, ◌∙◌, ap, subst, List, [], ◌∷◌, ◌++◌}
+use Rattle.std.proofs.Common.{inl}
 use Rattle.std.proofs.Common.{inr}
 use Rattle.std.specs.Prelude.{◌&&◌, not, ◌⊎◌, Option, Some, None, if◌then◌else◌, ◌==◌, slice_index}
 use Rattle.std.specs.List.{list_all}
@@ -11,6 +12,7 @@ use Rattle.result_lines.specs.declared.quantity.Quantity.TheVariants as quantity
 use Rattle.water_model.specs.declared.types.Basin.{Basin}
 use Rattle.result_reader.specs.Form.{shape_of, number_of, key_of, is_same_shape, is_optional, is_allowed, fits}
 use Rattle.result_reader.specs.Due.{is_call, is_member, opened, take_line, step}
+use Rattle.water_model.specs.Indices.{numbers_from}
 use Rattle.result_lines.specs.declared.item.Item.{Item}
 use Rattle.result_reader.specs.declared.shape.Shape.{Shape}
 use Rattle.result_reader.specs.declared.shape.Shape.TheVariants as shape
@@ -19,6 +21,10 @@ use Rattle.result_reader.specs.declared.shape.Shape.TheVariants as shape
 abbrev pub accepts : Basin → Bool → List Shape → List Item → Bool
 accepts b must ds [] = not must && list_all is_optional ds
 accepts b must ds (item ∷ items) = option_map_or (λ es. accepts b (is_call item) es items) (step b must ds item) false
+
+-- `in` lines of this many nodes, from one on
+abbrev pub nodes_from : ℕ → ℕ → List Shape
+nodes_from k n = map (λ j. shape.Member j) (numbers_from k n)
 
 -- Shapes with one key are equal.
 
@@ -106,21 +112,20 @@ within_after : (xs ds es : List Shape) → Within ds es → Within (xs ++ ds) (x
 within_after [] ds es h = h
 within_after (x ∷ xs) ds es h = inr (xs ++ ds, refl, within_after xs ds es h)
 
--- what takes an optional line leaves optional lines out
-abbrev TakesOptional : Basin → List Shape → Item → List Shape → Type 0
-TakesOptional b ds i after = (rest : List Shape) × (after ≡ opened b i ++ rest) × Within rest ds
+-- what a line leaves: after the line that is due for it, with optional lines before that left out
+abbrev pub Takes : Basin → List Shape → Item → List Shape → Type 0
+Takes b ds i after = (rest : List Shape) × (after ≡ opened b i ++ rest) × Within (shape_of i ∷ rest) ds
 
-takes_optional : (b : Basin) (ds : List Shape) (i : Item) (after : List Shape) → is_optional (shape_of i) ≡ true →
-    take_line b ds i ≡ Some after → TakesOptional b ds i after
-takes_optional b [] i after o h = cc
-takes_optional b (d ∷ ds) i after o h =
-    by_fit (fits b d i) refl (is_optional d) refl (λ k. takes_optional b ds i after o k)
+pub takes : (b : Basin) (ds : List Shape) (i : Item) (after : List Shape) → take_line b ds i ≡ Some after →
+    Takes b ds i after
+takes b [] i after h = let none : None ≡ Some after = h in cc
+takes b (d ∷ ds) i after h = by_fit (fits b d i) refl (is_optional d) refl (λ k. takes b ds i after k)
   where
     by_fit : (f : Bool) → fits b d i ≡ f → (p : Bool) → is_optional d ≡ p →
-        (take_line b ds i ≡ Some after → TakesOptional b ds i after) → TakesOptional b (d ∷ ds) i after
+        (take_line b ds i ≡ Some after → Takes b ds i after) → Takes b (d ∷ ds) i after
     by_fit true f p q further =
         let is : Some (opened b i ++ ds) ≡ Some after = sym (take_fits b d ds i f) ∙ h in
-        (ds, cc, inl (ap is_optional (fits_shape b d i f) ∙ o, within_itself ds))
+        (ds, cc, inr (ds, ap (λ x. x ∷ ds) (sym (fits_shape b d i f)), within_itself ds))
     by_fit false f true q further =
         let t = further (sym (take_skips b d ds i f q) ∙ h) in
         (t.0, t.1, inl (q, t.2))
@@ -139,12 +144,14 @@ take_within b ds (e ∷ es) i less w h =
         ((xs : List Shape) → Within xs es → take_line b xs i ≡ Some less → TakesWithin b es i less) →
         TakesWithin b (e ∷ es) i less
     by_fit (inl (o, j)) true f p q further =
-        let t : TakesOptional b ds i less =
-        takes_optional b ds i less (ap is_optional (sym (fits_shape b e i f)) ∙ o) h in (
+        let t : Takes b ds i less = takes b ds i less h in
+        let left : Within t.0 ds =
+        within_trans t.0 (shape_of i ∷ t.0) ds (inl (ap is_optional (sym (fits_shape b e i f)) ∙ o, within_itself t.0))
+        t.2 in (
           opened b i ++ es,
           take_fits b e es i f,
           subst (λ (xs : List Shape). Within xs (opened b i ++ es)) (sym t.1)
-              (within_after (opened b i) t.0 es (within_trans t.0 ds es t.2 j)),
+              (within_after (opened b i) t.0 es (within_trans t.0 ds es left j)),
         )
     by_fit (inr (rest, is, j)) true f p q further =
         let same : Some (opened b i ++ rest) ≡ Some less =
