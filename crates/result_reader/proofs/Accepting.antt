@@ -27,8 +27,7 @@ prefixes_are_due b items valid = (
 
 -- an item that is said and may come is answered
 pub may_come : (b : Basin) (before : List Item) (bytes : List ℕ) (item : Item) → item_of b bytes ≡ Ok item →
-    IsPrefix b (before ++ item ∷ []) →
-    read_line b before bytes ≡ Ok item
+    IsPrefix b (before ++ item ∷ []) → read_line b before bytes ≡ Ok item
 unfolding read_line
 may_come b before bytes item said prefix =
     let t = prefix_due b (before ++ item ∷ []) prefix in
@@ -36,8 +35,7 @@ may_come b before bytes item said prefix =
 
 -- what is answered is said, and may come
 has_come : (b : Basin) → IsValidBasin b → (before : List Item) (bytes : List ℕ) (item : Item) →
-    read_line b before bytes ≡ Ok item →
-    (item_of b bytes ≡ Ok item) × IsPrefix b (before ++ item ∷ [])
+    read_line b before bytes ≡ Ok item → (item_of b bytes ≡ Ok item) × IsPrefix b (before ++ item ∷ [])
 unfolding read_line
 has_come b valid before bytes item h =
     let t = through (item_of b bytes)
@@ -65,8 +63,7 @@ prefixes_are_accepted b before bytes item valid = (
 
 -- what may not come is out of place
 may_not_come : (b : Basin) → IsValidBasin b → (before : List Item) (bytes : List ℕ) (item : Item) →
-    item_of b bytes ≡ Ok item → (IsPrefix b (before ++ item ∷ []) → ⊥) →
-    read_line b before bytes ≡ Err bad.OutOfPlace
+    item_of b bytes ≡ Ok item → (IsPrefix b (before ++ item ∷ []) → ⊥) → read_line b before bytes ≡ Err bad.OutOfPlace
 unfolding read_line
 may_not_come b valid before bytes item said never = grind (arith, due_prefix)
 

@@ -137,10 +137,8 @@ none_unlisted : (b : Basin) (series : Inflows) (before : List MonthRecord) (m : 
     slice_index (amounts_of q m) k ≡ 0
 none_unlisted b series before m t quantity.Opening k l h = cc
 none_unlisted b series before m t quantity.Evaporated k l h = cc
-none_unlisted b series before m t quantity.Returned k l h =
-    t.returned k l ∙ nothing_returns b (map (λ j. j.delivered) before) k m.index h
-none_unlisted b series before m t quantity.Used k l h =
-    t.used k l ∙ nothing_used b (map (λ j. j.delivered) before) k m.index h
+none_unlisted b series before m t quantity.Returned k l h = grind (arith, nothing_returns)
+none_unlisted b series before m t quantity.Used k l h = grind (arith, nothing_used)
 none_unlisted b series before m t quantity.Flow k l h = cc
 none_unlisted b series before m t quantity.Outflow k l h = t.plan.outlets k l h
 none_unlisted b series before m t quantity.Closing k l h = cc
@@ -165,8 +163,7 @@ all_read b series before m t = record {
   nodes = t.month.fits.cut_nodes;
   supply = map-numbers
       (λ n. inflow_at b series n m.index + slice_index m.returned n + stored_at b m.opening m.evaporated n) 0
-      (length b.nodes) m.supply t.month.fits.supply
-      (λ k l. t.month.supply k l
+      (length b.nodes) m.supply t.month.fits.supply (λ k l. t.month.supply k l
       ∙ ap (λ n. inflow_at b series n m.index + slice_index m.returned n + stored_at b m.opening m.evaporated n)
       (sym (zero-add k)));
   sized = λ r set e. (has_set b series before m t r set e).1;
@@ -191,8 +188,7 @@ all_read b series before m t = record {
 -- Records one after another.
 
 pub month_of : (b : Basin) (series : Inflows) (records before ms : List MonthRecord) (m : MonthRecord) →
-    AreTextMonths b series records → records ≡ before ++ m ∷ ms →
-    IsTextMonth b series before m
+    AreTextMonths b series records → records ≡ before ++ m ∷ ms → IsTextMonth b series before m
 month_of b series records before ms m are is =
     subst (λ (xs : List MonthRecord). IsTextMonth b series xs m)
     (ap (take (length before)) is ∙ take-append_seam before (m ∷ ms))

@@ -22,8 +22,7 @@ use Rattle.result_reader.proofs.Steps.{accepts_within}
 
 pub members_forward : (b : Basin) (ds : List Shape) (others : List Item) (set : List Bool) (must : Bool) (k : ℕ) →
     accepts b false ds others ≡ true → (must ≡ true → list_any (λ x. x) set ≡ true) →
-    accepts b must (nodes_from k (length set) ++ ds)
-    (map (λ n. line.Member n) (members_from k set) ++ others) ≡ true
+    accepts b must (nodes_from k (length set) ++ ds) (map (λ n. line.Member n) (members_from k set) ++ others) ≡ true
 unfolding numbers_from members_from
 members_forward b ds others [] true k h some = let no : false ≡ true = some refl in cc
 members_forward b ds others [] false k h some = h
@@ -31,11 +30,9 @@ members_forward b ds others (true ∷ set) must k h some =
     accepts_step b must (shape.Member k ∷ (nodes_from (suc k) (length set) ++ ds))
     (nodes_from (suc k) (length set) ++ ds) (line.Member k)
     (map (λ n. line.Member n) (members_from (suc k) set) ++ others)
-    (step_open b must (shape.Member k ∷ (nodes_from (suc k) (length set) ++ ds))
-    (line.Member k) (and-false must)
+    (step_open b must (shape.Member k ∷ (nodes_from (suc k) (length set) ++ ds)) (line.Member k) (and-false must)
     ∙ take_fits b (shape.Member k) (nodes_from (suc k) (length set) ++ ds) (line.Member k)
-    (fits_itself b (line.Member k) refl))
-    ∙ members_forward b ds others set false (suc k) h (λ no. cc)
+    (fits_itself b (line.Member k) refl)) ∙ members_forward b ds others set false (suc k) h (λ no. cc)
 members_forward b ds others (false ∷ set) must k h some =
     accepts_within b must (nodes_from (suc k) (length set) ++ ds)
     (shape.Member k ∷ (nodes_from (suc k) (length set) ++ ds))
@@ -132,8 +129,7 @@ members_back b ds clean zero k true (i ∷ is) h = by_step (steps_to b true ds i
         cc
 members_back b ds clean (suc n) k must [] h = skipped (members_back b ds clean n (suc k) must [] h)
 members_back b ds clean (suc n) k must (i ∷ is) h =
-    by_fit (fits b (shape.Member k) i) refl
-    (steps_to b must (shape.Member k ∷ (nodes_from (suc k) n ++ ds)) i is h)
+    by_fit (fits b (shape.Member k) i) refl (steps_to b must (shape.Member k ∷ (nodes_from (suc k) n ++ ds)) i is h)
     (λ m xs j. members_back b ds clean n (suc k) m xs j) (must && not (is_member i)) refl
   where
     taken : i ≡ line.Member k → SplitsAt b ds false (suc k) n is → SplitsAt b ds must k (suc n) (i ∷ is)
@@ -148,21 +144,18 @@ members_back b ds clean (suc n) k must (i ∷ is) h =
 
     by_fit : (f : Bool) → fits b (shape.Member k) i ≡ f →
         StepsTo b must (shape.Member k ∷ (nodes_from (suc k) n ++ ds)) i is →
-        ((m : Bool) (xs : List Item) →
-        accepts b m (nodes_from (suc k) n ++ ds) xs ≡ true →
+        ((m : Bool) (xs : List Item) → accepts b m (nodes_from (suc k) n ++ ds) xs ≡ true →
         SplitsAt b ds m (suc k) n xs) →
         (g : Bool) → must && not (is_member i) ≡ g → SplitsAt b ds must k (suc n) (i ∷ is)
     by_fit f e s further true g =
         let none : None ≡ Some s.0 =
-        sym (step_shut b must (shape.Member k ∷ (nodes_from (suc k) n ++ ds)) i g)
-        ∙ s.1 in cc
+        sym (step_shut b must (shape.Member k ∷ (nodes_from (suc k) n ++ ds)) i g) ∙ s.1 in cc
     by_fit true e s further false g =
         let here : i ≡ line.Member k = member_only b k i e in
         let opens : opened b i ++ (nodes_from (suc k) n ++ ds) ≡ nodes_from (suc k) n ++ ds = rw here refl in
         let left : Some (opened b i ++ (nodes_from (suc k) n ++ ds)) ≡ Some s.0 =
         sym (take_fits b (shape.Member k) (nodes_from (suc k) n ++ ds) i e)
-        ∙ (sym (step_open b must (shape.Member k ∷ (nodes_from (suc k) n ++ ds)) i g)
-        ∙ s.1) in
+        ∙ (sym (step_open b must (shape.Member k ∷ (nodes_from (suc k) n ++ ds)) i g) ∙ s.1) in
         let is_left : s.0 ≡ nodes_from (suc k) n ++ ds = cc in
         let plainly : is_call i ≡ false = ap is_call here in
         taken here (further false is (rw (← is_left, ← plainly) s.2))
@@ -170,10 +163,8 @@ members_back b ds clean (suc n) k must (i ∷ is) h =
         let left : step b must (nodes_from (suc k) n ++ ds) i ≡ Some s.0 =
         step_open b must (nodes_from (suc k) n ++ ds) i g
         ∙ (sym (take_skips b (shape.Member k) (nodes_from (suc k) n ++ ds) i e refl)
-        ∙ (sym (step_open b must (shape.Member k ∷ (nodes_from (suc k) n ++ ds)) i g)
-        ∙ s.1)) in
-        skipped (further must (i ∷ is)
-        (accepts_step b must (nodes_from (suc k) n ++ ds) s.0 i is left ∙ s.2))
+        ∙ (sym (step_open b must (shape.Member k ∷ (nodes_from (suc k) n ++ ds)) i g) ∙ s.1)) in
+        skipped (further must (i ∷ is) (accepts_step b must (nodes_from (suc k) n ++ ds) s.0 i is left ∙ s.2))
 
 -- What is accepted fills.
 

@@ -19,8 +19,7 @@ has_some (false ∷ set) zero h = cc
 has_some (false ∷ set) (suc k) h = has_some set k h
 
 -- a cut of a right has a node
-cut_has_some : (b : Basin) (taking link : Option ℕ) (cut : List Bool) →
-    separates b taking link cut ≡ true →
+cut_has_some : (b : Basin) (taking link : Option ℕ) (cut : List Bool) → separates b taking link cut ≡ true →
     list_any (λ in_set. in_set) cut ≡ true
 cut_has_some b None None cut h = cc
 cut_has_some b (Some node) None cut h = has_some cut node h
@@ -28,8 +27,7 @@ cut_has_some b taking (Some link) cut h = grind (arith, has_some, and_parts)
 
 -- a record that follows others is one that a text gives, if its amounts are those of a text
 pub IsTextMonth-Follows : (b : Basin) (series : Inflows) (before : List MonthRecord) (m : MonthRecord) →
-    Follows b series before m → HasTextAmounts m →
-    IsTextMonth b series before m
+    Follows b series before m → HasTextAmounts m → IsTextMonth b series before m
 IsTextMonth-Follows b series before m f amounts = record {
   month = f.after;
   sets = record {

@@ -113,10 +113,8 @@ exceed_sections : (b : Basin) (ks : List Section) → Exceeds b (flat_map (λ k.
 exceed_sections b [] = refl
 exceed_sections b (k ∷ ks) =
     exceed_both b (shapes_in k b) (flat_map (λ k. shapes_in k b) ks) (more_for k b * count_in (section_space k) b)
-    (more_in b ks)
-    (exceed_entries b k (in_order (section_space k) b)
-    ∙ ap (λ n. length (shapes_in k b) + more_for k b * n) (length-in_order (section_space k) b))
-    (exceed_sections b ks)
+    (more_in b ks) (exceed_entries b k (in_order (section_space k) b)
+    ∙ ap (λ n. length (shapes_in k b) + more_for k b * n) (length-in_order (section_space k) b)) (exceed_sections b ks)
 
 -- what is due in a month: a line for each, and for each right that may have a `call` the nodes
 pub most_in_month : (b : Basin) →
@@ -183,13 +181,11 @@ months b n from (suc count) h =
     more : (x y : ℕ) → x ≡ 1 + n → y ≡ count * (1 + n) → x + y ≡ suc count * (1 + n)
     more x y e g = omega arith
 
-pub most_in_run : (b : Basin) (n : ℕ) → max_lines b (due_in_month b) ≡ n →
-    max_lines b (due b) ≡ b.months * (1 + n) + 3
+pub most_in_run : (b : Basin) (n : ℕ) → max_lines b (due_in_month b) ≡ n → max_lines b (due b) ≡ b.months * (1 + n) + 3
 unfolding due
 most_in_run b n h =
     sum_by-cons (most_for b) shape.Title (shape.Run ∷ due_from b 0 b.months)
-    ∙ (ap (λ k. 1 + k) (sum_by-cons (most_for b) shape.Run (due_from b 0 b.months)
-    ∙ ap (λ k. 1 + k)
+    ∙ (ap (λ k. 1 + k) (sum_by-cons (most_for b) shape.Run (due_from b 0 b.months) ∙ ap (λ k. 1 + k)
     (sum_by-append (most_for b) (flat_map (due_for_month b) (numbers_from 0 b.months)) (shape.Done b.months ∷ [])))
     ∙ last (max_lines b (flat_map (due_for_month b) (numbers_from 0 b.months))) (months b n 0 b.months h))
   where
@@ -198,8 +194,7 @@ most_in_run b n h =
 
 -- a bound on a run's lines
 pub most_of_run : (b : Basin) (dues count nodes rights : ℕ) → dues ≡ length (due_in_month b) → count ≡ b.months →
-    nodes ≡ length b.nodes → rights ≡ length b.rights →
-    max_lines b (due b) ≡ count * (1 + dues + rights * nodes) + 3
+    nodes ≡ length b.nodes → rights ≡ length b.rights → max_lines b (due b) ≡ count * (1 + dues + rights * nodes) + 3
 most_of_run b dues count nodes rights d m n r =
     most_in_run b (length (due_in_month b) + length b.nodes * length b.rights) (most_in_month b)
     ∙ rw (d, m, n, r) (same b.months (length (due_in_month b)) (length b.nodes) (length b.rights))

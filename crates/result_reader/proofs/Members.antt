@@ -28,8 +28,7 @@ unfolding numbers_from
 skip_members b ds i h zero k = refl
 skip_members b ds i h (suc n) k =
     take_skips b (shape.Member k) (nodes_from (suc k) n ++ ds) i (fits_not b k i other)
-    refl
-    ∙ skip_members b ds i h n (suc k)
+    refl ∙ skip_members b ds i h n (suc k)
   where
     other : i ≡ line.Member k → ⊥
     other is = let no : false ≡ true = sym h ∙ ap is_member is in cc
@@ -39,16 +38,14 @@ pub member_before : (b : Basin) (ds : List Shape) (j n k : ℕ) → j < k →
 unfolding numbers_from
 member_before b ds j zero k l = refl
 member_before b ds j (suc n) k l =
-    take_skips b (shape.Member k) (nodes_from (suc k) n ++ ds) (line.Member j)
-    (fits_not b k (line.Member j) other) refl
+    take_skips b (shape.Member k) (nodes_from (suc k) n ++ ds) (line.Member j) (fits_not b k (line.Member j) other) refl
     ∙ member_before b ds j n (suc k) (omega arith)
   where
     other : line.Member j ≡ line.Member k → ⊥
     other is = let same : j ≡ k = cc in omega arith
 
 pub member_found : (b : Basin) (ds : List Shape) (j n k m : ℕ) → k ≤ j → j + suc m ≡ k + n →
-    take_line b (nodes_from k n ++ ds) (line.Member j) ≡ Some
-    (nodes_from (j + 1) m ++ ds)
+    take_line b (nodes_from k n ++ ds) (line.Member j) ≡ Some (nodes_from (j + 1) m ++ ds)
 unfolding numbers_from
 member_found b ds j zero k m l e = absurd (omega arith)
 member_found b ds j (suc n) k m l e = elim (cases_order k j) [
@@ -61,17 +58,14 @@ member_found b ds j (suc n) k m l e = elim (cases_order k j) [
       ]
 ]
   where
-    here : k ≡ j →
-        take_line b (shape.Member k ∷ (nodes_from (suc k) n ++ ds)) (line.Member j) ≡ Some
+    here : k ≡ j → take_line b (shape.Member k ∷ (nodes_from (suc k) n ++ ds)) (line.Member j) ≡ Some
         (nodes_from (j + 1) m ++ ds)
     here same =
         let count : m ≡ n = omega arith in
-        rw (← same, count, add-one k)
-        (take_fits b (shape.Member k) (nodes_from (suc k) n ++ ds) (line.Member k)
+        rw (← same, count, add-one k) (take_fits b (shape.Member k) (nodes_from (suc k) n ++ ds) (line.Member k)
         (fits_itself b (line.Member k) refl))
 
-    skipped : k < j →
-        take_line b (shape.Member k ∷ (nodes_from (suc k) n ++ ds))
+    skipped : k < j → take_line b (shape.Member k ∷ (nodes_from (suc k) n ++ ds))
         (line.Member j) ≡ take_line b (nodes_from (suc k) n ++ ds) (line.Member j)
     skipped below =
         take_skips b (shape.Member k) (nodes_from (suc k) n ++ ds) (line.Member j)
@@ -101,14 +95,12 @@ pub member_step : (b : Basin) (ds : List Shape) (must : Bool) (next node : ℕ) 
 member_step b ds must next node l k = grind (arith, step_open, and-false, member_found)
 
 pub member_too_early : (b : Basin) (ds : List Shape) (must : Bool) (next node : ℕ) → node < next →
-    has_no_members ds ≡ true →
-    step b must (members_due b (Some next) ++ ds) (line.Member node) ≡ None
+    has_no_members ds ≡ true → step b must (members_due b (Some next) ++ ds) (line.Member node) ≡ None
 member_too_early b ds must next node l clean = grind (arith, step_open, and-false, member_before, no_member_due)
 
 pub no_member_step : (b : Basin) (ds : List Shape) (must : Bool) (node : ℕ) → has_no_members ds ≡ true →
     step b must (members_due b None ++ ds) (line.Member node) ≡ None
-no_member_step b ds must node clean =
-    step_open b must ds (line.Member node) (and-false must) ∙ no_member_due b ds (line.Member node) clean refl
+no_member_step b ds must node clean = grind (arith, step_open, and-false, no_member_due)
 
 pub other_step : (b : Basin) (ds : List Shape) (o : Option ℕ) (i : Item) → is_member i ≡ false →
     step b false (members_due b o ++ ds) i ≡ take_line b ds i

@@ -75,8 +75,7 @@ reads_calls b series cut sized (r ∷ rs) t within =
     by_set : (o : Option (List Bool)) → cut r ≡ o →
         ((u : ReadSoFar) → ((s : ℕ) (set : List Bool) → cut s ≡ Some set → s < length u.now.cuts.sets) →
         Reads b series u (flat_map (λ r. call_items r (cut r)) rs) (with_sets u.now (put_sets rs cut u.now.cuts.sets)))
-        →
-        Reads b series t (call_items r (cut r) ++ flat_map (λ r. call_items r (cut r)) rs)
+        → Reads b series t (call_items r (cut r) ++ flat_map (λ r. call_items r (cut r)) rs)
         (with_sets t.now (put_sets (r ∷ rs) cut t.now.cuts.sets))
     by_set None e further = rw e (further t within)
     by_set (Some set) e further =

@@ -1,5 +1,5 @@
 -- The steps of a reader's position.
-use Rattle.std.proofs.Common.{◌≡◌, ℕ, zero, suc, ◌+◌, ◌-◌, ◌<◌, ◌≤◌, Bool, true, false, refl, ap, ◌∙◌}
+use Rattle.std.proofs.Common.{◌≡◌, ℕ, zero, suc, ◌+◌, ◌-◌, ◌<◌, ◌≤◌, Bool, true, false, refl, ap}
 use Rattle.std.proofs.Common.{arith, [], ◌∷◌, ◌++◌, add-one, append_assoc}
 use Rattle.std.specs.Prelude.{Some, None, IsTrue, ◌↔◌}
 use Rattle.std.specs.List.{flat_map}
@@ -25,16 +25,13 @@ month_is_due b begun l = by_count (b.months - begun) (omega arith)
   where
     by_count : (n : ℕ) → b.months - begun ≡ n →
         flat_map (due_for_month b) (numbers_from begun (b.months - begun)) ++ shape.Done b.months ∷ []
-        ≡ shape.Month
-        (run_month b begun) ∷
-        (due_in_month
+        ≡ shape.Month (run_month b begun) ∷ (due_in_month
         b ++ (flat_map (due_for_month b) (numbers_from (begun + 1) (b.months - (begun + 1))) ++ shape.Done
         b.months ∷ []))
     by_count zero e = absurd (omega arith)
     by_count (suc n) e =
         let rest : b.months - (begun + 1) ≡ n = omega arith in
-        rw (e, rest, add-one begun)
-        (ap (λ xs. shape.Month (run_month b begun) ∷ xs)
+        rw (e, rest, add-one begun) (ap (λ xs. shape.Month (run_month b begun) ∷ xs)
         (append_assoc (due_in_month b) (flat_map (due_for_month b) (numbers_from (suc begun) n))
         (shape.Done b.months ∷ [])))
 
@@ -48,16 +45,13 @@ pub month_taken : (b : Basin) (begun : ℕ) (i : Item) → begun < b.months →
 month_taken b begun i l f = grind (arith, month_is_due, take_fits)
 
 pub month_refused : (b : Basin) (begun : ℕ) (i : Item) → begun < b.months →
-    fits b (shape.Month (run_month b begun)) i ≡ false →
-    take_line b (months_due b begun) i ≡ None
+    fits b (shape.Month (run_month b begun)) i ≡ false → take_line b (months_due b begun) i ≡ None
 month_refused b begun i l f = grind (arith, month_is_due, take_stops)
 
 pub done_taken : (b : Basin) (begun : ℕ) (i : Item) → b.months ≤ begun → fits b (shape.Done b.months) i ≡ true →
     take_line b (months_due b begun) i ≡ Some (opened b i ++ [])
-done_taken b begun i l f =
-    ap (λ xs. take_line b xs i) (done_is_due b begun l) ∙ take_fits b (shape.Done b.months) [] i f
+done_taken b begun i l f = grind (arith, done_is_due, take_fits)
 
 pub done_refused : (b : Basin) (begun : ℕ) (i : Item) → b.months ≤ begun → fits b (shape.Done b.months) i ≡ false →
     take_line b (months_due b begun) i ≡ None
-done_refused b begun i l f =
-    ap (λ xs. take_line b xs i) (done_is_due b begun l) ∙ take_stops b (shape.Done b.months) [] i f refl
+done_refused b begun i l f = grind (arith, done_is_due, take_stops)

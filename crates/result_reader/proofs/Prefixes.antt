@@ -76,16 +76,14 @@ completes b (d ∷ ds) = by_shape d (completes b ds)
       rest = i ∷ c.rest;
       accepted =
           accepts_step b false (shape_of i ∷ ds) (opened b i ++ ds) i c.rest
-          (take_fits b (shape_of i) ds i (fits_itself b i allowed))
-          ∙ rw (none, still) c.accepted;
+          (take_fits b (shape_of i) ds i (fits_itself b i allowed)) ∙ rw (none, still) c.accepted;
     }
 
     left_out : (d : Shape) → is_optional d ≡ true → Completes b false ds → Completes b false (d ∷ ds)
     left_out d o c =
         record {
           rest = c.rest;
-          accepted =
-              accepts_within b false ds (d ∷ ds) c.rest (inl (o, within_itself ds)) c.accepted;
+          accepted = accepts_within b false ds (d ∷ ds) c.rest (inl (o, within_itself ds)) c.accepted;
         }
 
     by_shape : (d : Shape) → Completes b false ds → Completes b false (d ∷ ds)
@@ -169,8 +167,7 @@ step_can_go_on b some must ds i es h = by_guard (must && not (is_member i)) refl
         (node : ℕ) × (ds : List Shape) × (opened b (line.Call right) ++ rest ≡ shape.Member node ∷ ds)
     first b some right rest = by_count (length b.nodes) some
       where
-        by_count : (n : ℕ) → 0 < n →
-            (node : ℕ) × (ds : List Shape) ×
+        by_count : (n : ℕ) → 0 < n → (node : ℕ) × (ds : List Shape) ×
             (nodes_from 0 n ++ rest ≡ shape.Member node ∷ ds)
         by_count zero l = absurd (omega arith)
         by_count (suc n) l = (0, nodes_from 1 n ++ rest, refl)

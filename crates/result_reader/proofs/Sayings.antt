@@ -198,8 +198,7 @@ item_with-Ok b word.Called fields i h =
     (record { of_basin = (entry.1, caller.1); numbers = tt }) (Ok-same by'.2)
 item_with-Ok b word.End fields i h =
     let x = through (no_field fields) _ i h in
-    says (no_field-Ok fields x.0 x.1) refl (record { of_basin = tt; numbers = tt })
-    (Ok-same x.2)
+    says (no_field-Ok fields x.0 x.1) refl (record { of_basin = tt; numbers = tt }) (Ok-same x.2)
 item_with-Ok b word.Done fields i h =
     let x = through (one_field fields) _ i h in
     let n = through (count_field x.0) _ i x.2 in

@@ -82,8 +82,7 @@ pub put_sets-has : (rs : List ℕ) (k : ℕ) (cut : ℕ → Option (List Bool)) 
     set_in ys k ≡ None → Has rs k → set_in (put_sets rs cut ys) k ≡ cut k
 put_sets-has [] k cut ys l h m = absurd m
 put_sets-has (r ∷ rs) k cut ys l h m =
-    ap (λ xs. set_in xs k) (put_sets-step r rs cut ys)
-    ∙ elim (cases_eq k r) [
+    ap (λ xs. set_in xs k) (put_sets-step r rs cut ys) ∙ elim (cases_eq k r) [
       | inl same ↦
           put_sets-keeps rs k cut (put_one r (cut r) ys) (omega (arith, length-put_one r (cut r) ys))
           (put_one-here r k cut ys same l h)

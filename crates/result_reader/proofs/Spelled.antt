@@ -43,8 +43,7 @@ Lacks byte bytes = All (λ c. (c == byte) ≡ false) bytes
 abbrev pub cut_at : ℕ → List ℕ → List (List ℕ)
 cut_at byte bytes = slice_split (λ c. c == byte) bytes
 
-pub cut-first : (byte : ℕ) (x rest : List ℕ) → Lacks byte x →
-    cut_at byte (x ++ (byte ∷ rest)) ≡ x ∷ cut_at byte rest
+pub cut-first : (byte : ℕ) (x rest : List ℕ) → Lacks byte x → cut_at byte (x ++ (byte ∷ rest)) ≡ x ∷ cut_at byte rest
 cut-first byte x rest h = grind (arith, nat_tests, slice_split_at)
 
 -- the pieces of joined fields are the fields
@@ -115,8 +114,7 @@ word_read q = grind arith
 fields_plain : (b : Basin) → IsValidBasin b → (i : Item) → IsOfText b i → list_all is_plain (fields_of b i) ≡ true
 unfolding fields_of
 fields_plain b valid line.Title o = refl
-fields_plain b valid (line.Run first months) o =
-    rw (month_plain first o.of_basin, decimal_plain months (omega (arith, o.numbers))) refl
+fields_plain b valid (line.Run first months) o = grind (arith, nat_tests, month_plain, decimal_plain)
 fields_plain b valid (line.Month month) o = rw (month_plain month o.of_basin) refl
 fields_plain b valid (line.Amount q entry amount) o = grind (arith, nat_tests, word_plain, entry_plain, decimal_plain)
 fields_plain b valid (line.Deliver right amount want) o =
@@ -136,13 +134,11 @@ some_fields : (b : Basin) (i : Item) → 0 < length (fields_of b i)
 unfolding fields_of
 some_fields b i = grind arith
 
-line_pieces : (b : Basin) (i : Item) → All (Lacks 32) (fields_of b i) →
-    pieces_of (line_of b i) ≡ fields_of b i
+line_pieces : (b : Basin) (i : Item) → All (Lacks 32) (fields_of b i) → pieces_of (line_of b i) ≡ fields_of b i
 unfolding line_of
 line_pieces b i h = by_fields (fields_of b i) h (some_fields b i)
   where
-    by_fields : (xs : List (List ℕ)) → All (Lacks 32) xs → 0 < length xs →
-        pieces_of (join_with_byte 32 xs) ≡ xs
+    by_fields : (xs : List (List ℕ)) → All (Lacks 32) xs → 0 < length xs → pieces_of (join_with_byte 32 xs) ≡ xs
     by_fields [] h l = absurd (omega arith)
     by_fields (x ∷ xs) h l = pieces-join x xs h
 
@@ -174,10 +170,8 @@ line_short b valid (line.Deliver right amount want) o =
       number_short amount o.numbers.0,
       number_short want o.numbers.1,
     )
-line_short b valid (line.Call right) o =
-    grind (arith, length-append, entry_short b valid space.Rights right o.of_basin)
-line_short b valid (line.Member node) o =
-    grind (arith, length-append, entry_short b valid space.Nodes node o.of_basin)
+line_short b valid (line.Call right) o = grind (arith, length-append, entry_short b valid space.Rights right o.of_basin)
+line_short b valid (line.Member node) o = grind (arith, length-append, entry_short b valid space.Nodes node o.of_basin)
 line_short b valid (line.Called right by') o =
     grind (
       arith,
@@ -186,8 +180,7 @@ line_short b valid (line.Called right by') o =
       entry_short b valid space.Rights by' o.of_basin.1,
     )
 line_short b valid line.End o = omega arith
-line_short b valid (line.Done months) o =
-    grind (arith, length-append, number_short months (omega (arith, o.numbers)))
+line_short b valid (line.Done months) o = grind (arith, length-append, number_short months (omega (arith, o.numbers)))
 
 -- The fields are read.
 
@@ -195,14 +188,12 @@ amount_read : (n : ℕ) → n ≤ 10 ^ 15 → read_plain (decimal n) (10 ^ 15) �
 amount_read n h = read_plain-decimal n (10 ^ 15) h (omega arith)
 
 count_read : (n : ℕ) → 1 ≤ n → n ≤ 1200 → count_field (decimal n) ≡ Ok n
-count_read n low high = let some : nat_le 1 n ≡ true = grind (arith, nat_tests) in
-    rw (read_plain-decimal n 1200 high (omega arith), some) refl
+count_read n low high = grind (arith, nat_tests, read_plain-decimal)
 
 item_in-fields : (b : Basin) → IsValidBasin b → (i : Item) → IsOfText b i → item_in b (fields_of b i) ≡ Ok i
 unfolding fields_of word_of item_with
 item_in-fields b valid line.Title o = refl
-item_in-fields b valid (line.Run first months) o =
-    rw (read_month-month_digits first o.of_basin, count_read months o.numbers.0 o.numbers.1) refl
+item_in-fields b valid (line.Run first months) o = grind (arith, nat_tests, read_month-month_digits, count_read)
 item_in-fields b valid (line.Month month) o = rw (read_month-month_digits month o.of_basin) refl
 item_in-fields b valid (line.Amount q entry amount) o =
     grind (arith, nat_tests, word_read, name_is, amount_read, named-at)

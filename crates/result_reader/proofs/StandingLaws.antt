@@ -45,13 +45,11 @@ pub line_refused : (b : Basin) (dues : List Shape) (p : Progress) (left : ℕ) (
     reader_view b dues p left ≡ r → item_of b bytes ≡ Err why → (items : List Item) → ReaderStandsFor r items →
     Err why ≡ read_line r.basin items bytes
 unfolding read_line
-line_refused b dues p left r bytes why is h items stands =
-    subst (λ (s : ReaderView). Err why ≡ read_line s.basin items bytes) is (rw h refl)
+line_refused b dues p left r bytes why is h items stands = grind arith
 
 -- A line whose item may not come is out of place.
 pub line_blocked : (b : Basin) (dues : List Shape) (p : Progress) (left : ℕ) (r : ReaderView) (bytes : List ℕ)
-    (i : Item) →
-    reader_view b dues p left ≡ r → item_of b bytes ≡ Ok i → IsNextProgress b dues p i None →
+    (i : Item) → reader_view b dues p left ≡ r → item_of b bytes ≡ Ok i → IsNextProgress b dues p i None →
     (items : List Item) → ReaderStandsFor r items → Err bad.OutOfPlace ≡ read_line r.basin items bytes
 unfolding read_line
 line_blocked b dues p left r bytes i is h next items =
@@ -69,8 +67,7 @@ pub record IsTaken (b : Basin) (r : ReaderView) (bytes : List ℕ) (i : Item) (l
 
 -- A line whose item may come is accepted.
 pub line_taken : (b : Basin) (dues : List Shape) (p next : Progress) (left : ℕ) (r : ReaderView) (bytes : List ℕ)
-    (i : Item) →
-    reader_view b dues p left ≡ r → item_of b bytes ≡ Ok i → IsNextProgress b dues p i (Some next) →
+    (i : Item) → reader_view b dues p left ≡ r → item_of b bytes ≡ Ok i → IsNextProgress b dues p i (Some next) →
     (items : List Item) → ReaderStandsFor r items → IsTaken b r bytes i (due_of b dues next) items
 unfolding read_line
 line_taken b dues p next left r bytes i is h step items =

@@ -182,8 +182,7 @@ within_optional ds (e ∷ es) (inr (rest, is, k)) h = grind (arith, both, within
 -- Optional lines more take nothing away.
 
 pub accepts_step : (b : Basin) (must : Bool) (ds es : List Shape) (i : Item) (is : List Item) →
-    step b must ds i ≡ Some es →
-    accepts b must ds (i ∷ is) ≡ accepts b (is_call i) es is
+    step b must ds i ≡ Some es → accepts b must ds (i ∷ is) ≡ accepts b (is_call i) es is
 accepts_step b must ds es i is h = rw h refl
 
 pub step_open : (b : Basin) (must : Bool) (ds : List Shape) (i : Item) → must && not (is_member i) ≡ false →
@@ -199,8 +198,7 @@ abbrev pub StepsTo : Basin → Bool → List Shape → Item → List Item → Ty
 StepsTo b must ds i is = (es : List Shape) × (step b must ds i ≡ Some es) × (accepts b (is_call i) es is ≡ true)
 
 pub steps_to : (b : Basin) (must : Bool) (ds : List Shape) (i : Item) (is : List Item) →
-    accepts b must ds (i ∷ is) ≡ true →
-    StepsTo b must ds i is
+    accepts b must ds (i ∷ is) ≡ true → StepsTo b must ds i is
 steps_to b must ds i is h = by_step (step b must ds i) refl
   where
     by_step : (s : Option (List Shape)) → step b must ds i ≡ s → StepsTo b must ds i is
@@ -210,16 +208,14 @@ steps_to b must ds i is h = by_step (step b must ds i) refl
 
 pub accepts_within : (b : Basin) (must : Bool) (ds es : List Shape) (items : List Item) → Within ds es →
     accepts b must ds items ≡ true → accepts b must es items ≡ true
-accepts_within b must ds es [] w h =
-    both (not must) (list_all is_optional ds) (list_all is_optional es) h (within_optional ds es w)
+accepts_within b must ds es [] w h = grind (arith, both, within_optional)
 accepts_within b must ds es (i ∷ is) w h =
     by_guard (must && not (is_member i)) refl (steps_to b must ds i is h)
     (λ xs cs j. accepts_within b (is_call i) xs cs is j)
   where
     by_guard : (g : Bool) → must && not (is_member i) ≡ g → StepsTo b must ds i is →
         ((xs cs : List Shape) → Within xs cs → accepts b (is_call i) xs is ≡ true →
-        accepts b (is_call i) cs is ≡ true) →
-        accepts b must es (i ∷ is) ≡ true
+        accepts b (is_call i) cs is ≡ true) → accepts b must es (i ∷ is) ≡ true
     by_guard true e s further = let none : None ≡ Some s.0 = sym (step_shut b must ds i e) ∙ s.1 in cc
     by_guard false e s further =
         let taken : take_line b ds i ≡ Some s.0 = sym (step_open b must ds i e) ∙ s.1 in

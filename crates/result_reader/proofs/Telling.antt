@@ -89,15 +89,13 @@ tell_members b series right (true ∷ set) prefix k t c n l h =
       length-set,
       tell_members b series right set (prefix ++ true ∷ []) (suc k) (put_cut t right some) c
           (omega (arith, length-append prefix (true ∷ [])))
-          (omega (arith, length-set t.now.cuts.sets right (Some some)))
-          (entry_set t.now.cuts.sets right (Some some) l
+          (omega (arith, length-set t.now.cuts.sets right (Some some))) (entry_set t.now.cuts.sets right (Some some) l
           ∙ ap (λ xs. Some xs) (sym (append_assoc prefix (true ∷ []) (replicate (length set) false)))),
     )
 tell_members b series right (false ∷ set) prefix k t c n l h =
     tell_members b series right set (prefix ++ false ∷ []) (suc k) t c
     (omega (arith, length-append prefix (false ∷ [])))
-    l
-    (h ∙ ap (λ xs. Some xs) (sym (append_assoc prefix (false ∷ []) (replicate (length set) false))))
+    l (h ∙ ap (λ xs. Some xs) (sym (append_assoc prefix (false ∷ []) (replicate (length set) false))))
     ∙ ap (λ xs. put_cut t right xs) (append_assoc prefix (false ∷ []) set)
 
 -- the lines of one right's set

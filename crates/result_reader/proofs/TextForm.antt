@@ -200,9 +200,7 @@ text_fills b series records are all =
 -- each line of a text is accepted after those before it
 pub texts_are_accepted : TextsAreAccepted
 texts_are_accepted b series records before after item valid are all is =
-    may_come b before (line_of b item) item
-    (item-line b valid item
-    (of_text before item after
+    may_come b before (line_of b item) item (item-line b valid item (of_text before item after
     (subst (λ (xs : List Item). AreOfText b xs) is (records_of_text b series records valid are))))
     (record {
       rest = after;

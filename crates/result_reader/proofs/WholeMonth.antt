@@ -71,8 +71,7 @@ pub month_read : (b : Basin) (series : Inflows) (m : MonthRecord) (caller_of : �
 unfolding month_lines
 month_read b series m caller_of t i a =
     ap (λ u. u.months) (fold-both (read_item b series) begun (flat_map (λ k. lines_in k b m caller_of) SECTIONS)
-    (line.End ∷ []))
-    ∙ (ap (λ ms. ms ++ with_supply b series after.now ∷ []) so_far.months_are
+    (line.End ∷ [])) ∙ (ap (λ ms. ms ++ with_supply b series after.now ∷ []) so_far.months_are
     ∙ ap (λ k. t.months ++ k ∷ []) (ap (with_supply b series) now_is ∙ end_is b series m a))
   where
     begun : ReadSoFar
@@ -87,8 +86,7 @@ month_read b series m caller_of t i a =
 
     now_is : after.now ≡ before_end b m
     now_is =
-        so_far.now_is
-        ∙ ap (λ n. fold (λ now k. with_section b m k now) (blank_month b n m.month) SECTIONS) (sym i)
+        so_far.now_is ∙ ap (λ n. fold (λ now k. with_section b m k now) (blank_month b n m.month) SECTIONS) (sym i)
 
 -- each record is the next month's, and all of it was read
 abbrev pub AreAllRead : Basin → Inflows → ℕ → List MonthRecord → Type 0

@@ -9,8 +9,7 @@ use Rattle.result_reader.specs.declared.words.Word.{Word}
 
 -- the search goes on after an element that fails
 pub find-next : {X : Type 0} (p : X → Bool) (xs : List X) (i : ℕ) (x : X) (answer : Option X) →
-    slice_get xs i ≡ Some x → p x ≡ false →
-    find p (drop i xs) ≡ answer → find p (drop (i + 1) xs) ≡ answer
+    slice_get xs i ≡ Some x → p x ≡ false → find p (drop i xs) ≡ answer → find p (drop (i + 1) xs) ≡ answer
 find-next {X} p xs i x answer at fails h = ap (λ n. find p (drop n xs)) (add-one i) ∙ (after xs i at ∙ h)
   where
     after : (xs : List X) (i : ℕ) → slice_get xs i ≡ Some x → find p (drop (suc i) xs) ≡ find p (drop i xs)

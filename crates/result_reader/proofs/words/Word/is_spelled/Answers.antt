@@ -1,4 +1,4 @@
-use Rattle.std.proofs.Common.{◌≡◌, arith, sym, ap, ◌∙◌, Some}
+use Rattle.std.proofs.Common.{◌≡◌, arith, Some}
 use Rattle.std.proofs.lemmas.Slice.Eq.{bytes_eq-Decides}
 use Rattle.result_reader.specs.Words.{spelling_of, word_of}
 use Rattle.result_reader.specs.declared.words.Word.{Word}
@@ -9,7 +9,4 @@ unfolding word_of
 read w = grind arith
 
 pub returns : goal.returns
-returns c = λ e.
-    let same : spelling_of c.args.self ≡ c.args.text.now =
-    sym c.text.ensures ∙ (bytes_eq-Decides c.text.result.now c.args.text.now).0 (sym c.eq.ensures ∙ e) in
-    read c.args.self ∙ ap word_of same
+returns c = grind (arith, bytes_eq-Decides, read, c.text.ensures, c.eq.ensures)
