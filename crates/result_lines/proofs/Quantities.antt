@@ -1,5 +1,5 @@
 -- The quantities of a month's record.
-use Rattle.std.proofs.Common.{◌≡◌, ℕ, ◌<◌, Bool, true, false, List, [], ◌∷◌, refl, ap, map, Option}
+use Rattle.std.proofs.Common.{arith, ◌≡◌, ℕ, ◌<◌, Bool, true, List, [], ◌∷◌, refl, ap, map, Option}
 use Rattle.std.specs.Prelude.{filter, slice_index, if◌then◌else◌}
 use Rattle.std.specs.List.{flat_map}
 use Rattle.water_model.specs.Entries.{count_in, in_order}
@@ -8,7 +8,6 @@ use Rattle.result_lines.specs.Text.{lines_in}
 use Rattle.result_lines.specs.declared.item.Item.TheVariants as line
 use Rattle.result_lines.specs.declared.item.Section.TheVariants as section
 use Rattle.result_lines.specs.declared.quantity.Quantity.{Quantity}
-use Rattle.result_lines.specs.declared.quantity.Quantity.TheVariants as quantity
 use Rattle.water_model.specs.declared.types.Basin.{Basin}
 use Rattle.water_model.specs.declared.types.MonthRecord.{MonthRecord}
 use Rattle.water_model.proofs.Order.{Has, filter-has, has-filter}
@@ -17,42 +16,18 @@ use Rattle.water_model.proofs.Entries.{in_order-below, in_order-has}
 -- A list of a record is written and read.
 
 pub amounts_with : (q : Quantity) (m : MonthRecord) (xs : List ℕ) → amounts_of q (with_amounts q m xs) ≡ xs
-amounts_with quantity.Opening m xs = refl
-amounts_with quantity.Evaporated m xs = refl
-amounts_with quantity.Returned m xs = refl
-amounts_with quantity.Used m xs = refl
-amounts_with quantity.Flow m xs = refl
-amounts_with quantity.Outflow m xs = refl
-amounts_with quantity.Closing m xs = refl
+amounts_with q m xs = grind arith
 
 pub with_own : (q : Quantity) (m : MonthRecord) → with_amounts q m (amounts_of q m) ≡ m
-with_own quantity.Opening m = refl
-with_own quantity.Evaporated m = refl
-with_own quantity.Returned m = refl
-with_own quantity.Used m = refl
-with_own quantity.Flow m = refl
-with_own quantity.Outflow m = refl
-with_own quantity.Closing m = refl
+with_own q m = grind arith
 
 pub with_twice : (q : Quantity) (m : MonthRecord) (xs ys : List ℕ) →
     with_amounts q (with_amounts q m xs) ys ≡ with_amounts q m ys
-with_twice quantity.Opening m xs ys = refl
-with_twice quantity.Evaporated m xs ys = refl
-with_twice quantity.Returned m xs ys = refl
-with_twice quantity.Used m xs ys = refl
-with_twice quantity.Flow m xs ys = refl
-with_twice quantity.Outflow m xs ys = refl
-with_twice quantity.Closing m xs ys = refl
+with_twice q m xs ys = grind arith
 
 -- and leaves the sets
 pub cuts_with : (q : Quantity) (m : MonthRecord) (xs : List ℕ) → (with_amounts q m xs).cuts ≡ m.cuts
-cuts_with quantity.Opening m xs = refl
-cuts_with quantity.Evaporated m xs = refl
-cuts_with quantity.Returned m xs = refl
-cuts_with quantity.Used m xs = refl
-cuts_with quantity.Flow m xs = refl
-cuts_with quantity.Outflow m xs = refl
-cuts_with quantity.Closing m xs = refl
+cuts_with q m xs = grind arith
 
 -- The entries with a line.
 
@@ -71,12 +46,7 @@ has-with_line b q k h =
 pub flat_map_if : {X Y : Type 0} (p : X → Bool) (f : X → Y) (xs : List X) →
     flat_map (λ x. if p x then f x ∷ [] else []) xs ≡ map f (filter p xs)
 flat_map_if p f [] = refl
-flat_map_if p f (x ∷ xs) = by_test (p x) refl (flat_map_if p f xs)
-  where
-    by_test : (t : Bool) → p x ≡ t → flat_map (λ x. if p x then f x ∷ [] else []) xs ≡ map f (filter p xs) →
-        flat_map (λ x. if p x then f x ∷ [] else []) (x ∷ xs) ≡ map f (filter p (x ∷ xs))
-    by_test true e rest = rw (e, rest) refl
-    by_test false e rest = rw (e, rest) refl
+flat_map_if p f (x ∷ xs) = grind (arith, flat_map_if p f xs)
 
 pub flat_map_one : {X Y : Type 0} (f : X → Y) (xs : List X) → flat_map (λ x. f x ∷ []) xs ≡ map f xs
 flat_map_one f [] = refl

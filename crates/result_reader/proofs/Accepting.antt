@@ -1,5 +1,5 @@
 -- Which lines are accepted.
-use Rattle.std.proofs.Common.{◌≡◌, ℕ, refl, sym, ap, subst, ◌∙◌, List, [], ◌∷◌, ◌++◌}
+use Rattle.std.proofs.Common.{arith, ◌≡◌, ℕ, refl, sym, ap, subst, ◌∙◌, List, [], ◌∷◌, ◌++◌}
 use Rattle.std.specs.Prelude.{Option, Some, None, Ok, Err, is_some, if◌then◌else◌}
 use Rattle.water_model.specs.Valid.{IsValidBasin}
 use Rattle.result_lines.specs.declared.item.Item.{Item}
@@ -27,8 +27,7 @@ prefixes_are_due b items valid = (
 
 -- an item that is said and may come is answered
 pub may_come : (b : Basin) (before : List Item) (bytes : List ℕ) (item : Item) → item_of b bytes ≡ Ok item →
-    IsPrefix b (before ++ item ∷ []) →
-    read_line b before bytes ≡ Ok item
+    IsPrefix b (before ++ item ∷ []) → read_line b before bytes ≡ Ok item
 unfolding read_line
 may_come b before bytes item said prefix =
     let t = prefix_due b (before ++ item ∷ []) prefix in
@@ -36,8 +35,7 @@ may_come b before bytes item said prefix =
 
 -- what is answered is said, and may come
 has_come : (b : Basin) → IsValidBasin b → (before : List Item) (bytes : List ℕ) (item : Item) →
-    read_line b before bytes ≡ Ok item →
-    (item_of b bytes ≡ Ok item) × IsPrefix b (before ++ item ∷ [])
+    read_line b before bytes ≡ Ok item → (item_of b bytes ≡ Ok item) × IsPrefix b (before ++ item ∷ [])
 unfolding read_line
 has_come b valid before bytes item h =
     let t = through (item_of b bytes)
@@ -65,15 +63,9 @@ prefixes_are_accepted b before bytes item valid = (
 
 -- what may not come is out of place
 may_not_come : (b : Basin) → IsValidBasin b → (before : List Item) (bytes : List ℕ) (item : Item) →
-    item_of b bytes ≡ Ok item → (IsPrefix b (before ++ item ∷ []) → ⊥) →
-    read_line b before bytes ≡ Err bad.OutOfPlace
+    item_of b bytes ≡ Ok item → (IsPrefix b (before ++ item ∷ []) → ⊥) → read_line b before bytes ≡ Err bad.OutOfPlace
 unfolding read_line
-may_not_come b valid before bytes item said never = by_due (due_after b (all_due b) (before ++ item ∷ [])) refl
-  where
-    by_due : (o : Option Due) → due_after b (all_due b) (before ++ item ∷ []) ≡ o →
-        read_line b before bytes ≡ Err bad.OutOfPlace
-    by_due None d = rw (said, d) refl
-    by_due (Some t) d = absurd (never (due_prefix b valid.bounded.some_node (before ++ item ∷ []) t d))
+may_not_come b valid before bytes item said never = grind (arith, due_prefix)
 
 pub others_are_out_of_place : OthersAreOutOfPlace
 others_are_out_of_place b before bytes item valid said = (

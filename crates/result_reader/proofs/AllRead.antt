@@ -3,18 +3,18 @@ use Rattle.std.proofs.Common.{◌≡◌, ℕ, zero, suc, ◌+◌, ◌<◌, ◌�
 use Rattle.std.proofs.Common.{arith, inl, inr, List, [], ◌∷◌, ◌++◌, length, map, replicate, take, append_assoc}
 use Rattle.std.proofs.Common.{zero-add, length-append}
 use Rattle.std.specs.Prelude.{Option, Some, None, option_map, ◌⊎◌, is_some, slice_index, slice_get, slice_set, filter}
-use Rattle.std.specs.Prelude.{unwrap_or, ◌==◌, ◌||◌, if◌then◌else◌}
+use Rattle.std.specs.Prelude.{unwrap_or, ◌==◌}
 use Rattle.std.specs.List.{list_any}
-use Rattle.std.proofs.lemmas.Bool.{cases_lt, cases_Bool}
+use Rattle.std.proofs.lemmas.Bool.{cases_lt, cases_Bool, or_parts}
 use Rattle.std.proofs.lemmas.Option.{slice_get_past}
 use Rattle.std.proofs.lemmas.List.{length-replicate}
 use Rattle.std.proofs.Math.Seq.{take-append_seam}
 use Rattle.finite_sums.proofs.Totals.{total_zero}
 use Rattle.water_model.proofs.Entries.{in_order-has}
 use Rattle.water_model.proofs.Order.{Has, filter-has, has-filter, seniors_have, seniors_below}
-use Rattle.water_model.specs.Basin.{taking_node, taking_node_of_kind, instream_link, link_of_kind}
+use Rattle.water_model.specs.Basin.{taking_node, instream_link}
 use Rattle.water_model.specs.History.{IsNextMonth, cut_of}
-use Rattle.water_model.specs.Hydrology.{returned_at, returned_by, used_of, used_by_volume, used_in_year, inflow_at}
+use Rattle.water_model.specs.Hydrology.{returned_at, used_of, inflow_at}
 use Rattle.water_model.specs.Hydrology.{stored_at}
 use Rattle.water_model.specs.Lookups.{of_entry}
 use Rattle.water_model.specs.Entries.{count_in, in_order}
@@ -26,10 +26,6 @@ use Rattle.result_lines.specs.declared.quantity.Quantity.TheVariants as quantity
 use Rattle.water_model.specs.declared.types.Basin.{Basin}
 use Rattle.water_model.specs.declared.types.Inflows.{Inflows}
 use Rattle.water_model.specs.declared.types.MonthRecord.{MonthRecord}
-use Rattle.water_model.specs.declared.types.ReturnRow.{ReturnRow}
-use Rattle.water_model.specs.declared.types.Right.{Right}
-use Rattle.water_model.specs.declared.types.RightKind.{RightKind}
-use Rattle.water_model.specs.declared.types.RightKind.TheVariants as kind
 use Rattle.result_reader.specs.Records.{IsTextMonth, AreTextMonths}
 use Rattle.result_reader.proofs.MonthRead.{take_of}
 use Rattle.water_model.proofs.Valid.{entry_at}
@@ -44,13 +40,7 @@ use Rattle.result_reader.proofs.WholeMonth.{IsAllRead, AreAllRead}
 read_list : (xs zs : List ℕ) (n : ℕ) → length zs ≡ n →
     ((k : ℕ) → k < n → Has xs k ⊎ ((Has xs k → ⊥) × (slice_index zs k ≡ 0))) →
     set_all xs (λ k. slice_index zs k) (replicate n 0) ≡ zs
-read_list xs zs n len each =
-    set_all-whole xs (replicate n 0) zs (length-replicate n 0 ∙ sym len) (λ k l. by_place k (each k (omega arith)))
-  where
-    by_place : (k : ℕ) → Has xs k ⊎ ((Has xs k → ⊥) × (slice_index zs k ≡ 0)) → Has xs k ⊎
-        ((Has xs k → ⊥) × (slice_index (replicate n 0) k ≡ slice_index zs k))
-    by_place k (inl h) = inl h
-    by_place k (inr (other, none)) = inr (other, no_numbers n k ∙ sym none)
+read_list xs zs n len each = grind (arith, set_all-whole, length-replicate, no_numbers)
 
 -- numbers that are equal at the indices that are set
 pub set_all-same : (xs : List ℕ) (a c : ℕ → ℕ) (ys : List ℕ) → ((k : ℕ) → Has xs k → a k ≡ c k) →
@@ -92,53 +82,20 @@ map-numbers f from (suc n) (y ∷ ys) e h =
 none_passes : {X : Type 0} (p : X → Bool) (xs : List X) (k : ℕ) (x : X) → list_any p xs ≡ false →
     slice_get xs k ≡ Some x → p x ≡ false
 none_passes p [] k x h e = cc
-none_passes p (y ∷ ys) zero x h e = let same : Some y ≡ Some x = e in let is : y ≡ x = cc in
-    rw (← is) (first (p y) (list_any p ys) h)
-  where
-    first : (q r : Bool) → q || r ≡ false → q ≡ false
-    first true r g = cc
-    first false r g = refl
-none_passes p (y ∷ ys) (suc k) x h e = none_passes p ys k x (second (p y) (list_any p ys) h) e
-  where
-    second : (q r : Bool) → q || r ≡ false → r ≡ false
-    second true r g = cc
-    second false r g = g
+none_passes p (y ∷ ys) zero x h e = let is : y ≡ x = cc in rw (← is) (or_parts (p y) (list_any p ys) h).0
+none_passes p (y ∷ ys) (suc k) x h e = none_passes p ys k x (or_parts (p y) (list_any p ys) h).1 e
 
 pub nothing_returns : (b : Basin) (deliveries : List (List ℕ)) (n i : ℕ) →
     list_any (λ row. row.node == n) b.returns ≡ false → returned_at b deliveries n i ≡ 0
-nothing_returns b deliveries n i h =
-    total_zero (length b.returns)
-    (λ k. of_entry b.returns k (λ row. if row.node == n then returned_by row deliveries i else 0) 0)
-    (λ k l. at_row k (entry_at b.returns k l))
-  where
-    at_row : (k : ℕ) → (row : ReturnRow) × (slice_get b.returns k ≡ Some row) →
-        of_entry b.returns k (λ row. if row.node == n then returned_by row deliveries i else 0) 0 ≡ 0
-    at_row k (row, is) = rw (is, none_passes (λ row. row.node == n) b.returns k row h is) refl
+nothing_returns b deliveries n i h = grind (arith, total_zero, entry_at, none_passes)
 
 pub nothing_used : (b : Basin) (deliveries : List (List ℕ)) (r i : ℕ) →
     of_entry b.rights r (λ right. is_some right.volume) false ≡ false → used_of b deliveries r i ≡ 0
-nothing_used b deliveries r i h = by_right (slice_get b.rights r) refl
-  where
-    by_volume : (o : Option ℕ) → is_some o ≡ false → used_by_volume o (used_in_year b deliveries r i) ≡ 0
-    by_volume None g = refl
-    by_volume (Some volume) g = cc
-
-    by_right : (o : Option Right) → slice_get b.rights r ≡ o → used_of b deliveries r i ≡ 0
-    by_right None e = rw e refl
-    by_right (Some right) e = rw e (by_volume right.volume (rw e at h))
+nothing_used b deliveries r i h = grind arith
 
 -- a right that takes water is on no link
 no_link : (b : Basin) (r : ℕ) (node : ℕ) → taking_node b r ≡ Some node → instream_link b r ≡ None
-no_link b r node h = by_right (slice_get b.rights r) refl
-  where
-    by_kind : (k : RightKind) → taking_node_of_kind b k ≡ Some node → link_of_kind k ≡ None
-    by_kind (kind.Diversion at) g = refl
-    by_kind (kind.Instream link) g = cc
-    by_kind (kind.Zone reservoir level) g = refl
-
-    by_right : (o : Option Right) → slice_get b.rights r ≡ o → instream_link b r ≡ None
-    by_right None e = rw e refl
-    by_right (Some right) e = rw e (by_kind right.kind (rw e at h))
+no_link b r node h = grind arith
 
 -- The record of a month.
 
@@ -180,10 +137,8 @@ none_unlisted : (b : Basin) (series : Inflows) (before : List MonthRecord) (m : 
     slice_index (amounts_of q m) k ≡ 0
 none_unlisted b series before m t quantity.Opening k l h = cc
 none_unlisted b series before m t quantity.Evaporated k l h = cc
-none_unlisted b series before m t quantity.Returned k l h =
-    t.returned k l ∙ nothing_returns b (map (λ j. j.delivered) before) k m.index h
-none_unlisted b series before m t quantity.Used k l h =
-    t.used k l ∙ nothing_used b (map (λ j. j.delivered) before) k m.index h
+none_unlisted b series before m t quantity.Returned k l h = grind (arith, nothing_returns)
+none_unlisted b series before m t quantity.Used k l h = grind (arith, nothing_used)
 none_unlisted b series before m t quantity.Flow k l h = cc
 none_unlisted b series before m t quantity.Outflow k l h = t.plan.outlets k l h
 none_unlisted b series before m t quantity.Closing k l h = cc
@@ -208,8 +163,7 @@ all_read b series before m t = record {
   nodes = t.month.fits.cut_nodes;
   supply = map-numbers
       (λ n. inflow_at b series n m.index + slice_index m.returned n + stored_at b m.opening m.evaporated n) 0
-      (length b.nodes) m.supply t.month.fits.supply
-      (λ k l. t.month.supply k l
+      (length b.nodes) m.supply t.month.fits.supply (λ k l. t.month.supply k l
       ∙ ap (λ n. inflow_at b series n m.index + slice_index m.returned n + stored_at b m.opening m.evaporated n)
       (sym (zero-add k)));
   sized = λ r set e. (has_set b series before m t r set e).1;
@@ -234,8 +188,7 @@ all_read b series before m t = record {
 -- Records one after another.
 
 pub month_of : (b : Basin) (series : Inflows) (records before ms : List MonthRecord) (m : MonthRecord) →
-    AreTextMonths b series records → records ≡ before ++ m ∷ ms →
-    IsTextMonth b series before m
+    AreTextMonths b series records → records ≡ before ++ m ∷ ms → IsTextMonth b series before m
 month_of b series records before ms m are is =
     subst (λ (xs : List MonthRecord). IsTextMonth b series xs m)
     (ap (take (length before)) is ∙ take-append_seam before (m ∷ ms))

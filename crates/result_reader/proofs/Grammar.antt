@@ -1,17 +1,20 @@
 -- What fills the lines that are due is what a machine accepts.
-use Rattle.std.proofs.Common.{◌≡◌, ℕ, zero, suc, Bool, true, false, refl, sym, ◌∙◌, ap, subst, List, [], ◌∷◌, ◌++◌, map}
+use Rattle.std.proofs.Common.{arith, ◌≡◌, ℕ, zero, suc, Bool, true, false, refl, sym, ◌∙◌, ap, subst, List, [], ◌∷◌}
+use Rattle.std.proofs.Common.{◌++◌, map}
 use Rattle.std.proofs.Common.{length, inl, inr}
 use Rattle.std.specs.Prelude.{◌&&◌, not, Some, None}
 use Rattle.std.specs.List.{list_all, list_any}
+use Rattle.std.proofs.lemmas.Bool.{and_parts}
+use Rattle.std.proofs.Math.Bool.{and-false}
 use Rattle.water_model.specs.declared.types.Basin.{Basin}
 use Rattle.water_model.specs.Indices.{numbers_from, members_from}
-use Rattle.result_reader.specs.Form.{shape_of, is_optional, fits, IsFollowedBy, Fills}
+use Rattle.result_reader.specs.Form.{is_optional, fits, IsFollowedBy, Fills}
 use Rattle.result_reader.specs.Due.{is_call, is_member, is_member_shape, opened, take_line, step}
 use Rattle.result_lines.specs.declared.item.Item.{Item}
 use Rattle.result_lines.specs.declared.item.Item.TheVariants as line
 use Rattle.result_reader.specs.declared.shape.Shape.{Shape}
 use Rattle.result_reader.specs.declared.shape.Shape.TheVariants as shape
-use Rattle.result_reader.proofs.Steps.{accepts, fits_shape, fits_itself, take_fits, take_skips, take_stops}
+use Rattle.result_reader.proofs.Steps.{nodes_from, accepts, fits_shape, fits_itself, take_fits, take_skips, take_stops}
 use Rattle.result_reader.proofs.Steps.{within_itself, accepts_step, step_open, step_shut, StepsTo, steps_to}
 use Rattle.result_reader.proofs.Steps.{accepts_within}
 
@@ -19,29 +22,22 @@ use Rattle.result_reader.proofs.Steps.{accepts_within}
 
 pub members_forward : (b : Basin) (ds : List Shape) (others : List Item) (set : List Bool) (must : Bool) (k : ℕ) →
     accepts b false ds others ≡ true → (must ≡ true → list_any (λ x. x) set ≡ true) →
-    accepts b must (map (λ n. shape.Member n) (numbers_from k (length set)) ++ ds)
-    (map (λ n. line.Member n) (members_from k set) ++ others) ≡ true
+    accepts b must (nodes_from k (length set) ++ ds) (map (λ n. line.Member n) (members_from k set) ++ others) ≡ true
 unfolding numbers_from members_from
 members_forward b ds others [] true k h some = let no : false ≡ true = some refl in cc
 members_forward b ds others [] false k h some = h
 members_forward b ds others (true ∷ set) must k h some =
-    accepts_step b must (shape.Member k ∷ (map (λ n. shape.Member n) (numbers_from (suc k) (length set)) ++ ds))
-    (map (λ n. shape.Member n) (numbers_from (suc k) (length set)) ++ ds) (line.Member k)
+    accepts_step b must (shape.Member k ∷ (nodes_from (suc k) (length set) ++ ds))
+    (nodes_from (suc k) (length set) ++ ds) (line.Member k)
     (map (λ n. line.Member n) (members_from (suc k) set) ++ others)
-    (step_open b must (shape.Member k ∷ (map (λ n. shape.Member n) (numbers_from (suc k) (length set)) ++ ds))
-    (line.Member k) (opens must)
-    ∙ take_fits b (shape.Member k) (map (λ n. shape.Member n) (numbers_from (suc k) (length set)) ++ ds) (line.Member k)
-    (fits_itself b (line.Member k) refl))
-    ∙ members_forward b ds others set false (suc k) h (λ no. cc)
-  where
-    opens : (m : Bool) → m && false ≡ false
-    opens true = refl
-    opens false = refl
+    (step_open b must (shape.Member k ∷ (nodes_from (suc k) (length set) ++ ds)) (line.Member k) (and-false must)
+    ∙ take_fits b (shape.Member k) (nodes_from (suc k) (length set) ++ ds) (line.Member k)
+    (fits_itself b (line.Member k) refl)) ∙ members_forward b ds others set false (suc k) h (λ no. cc)
 members_forward b ds others (false ∷ set) must k h some =
-    accepts_within b must (map (λ n. shape.Member n) (numbers_from (suc k) (length set)) ++ ds)
-    (shape.Member k ∷ (map (λ n. shape.Member n) (numbers_from (suc k) (length set)) ++ ds))
+    accepts_within b must (nodes_from (suc k) (length set) ++ ds)
+    (shape.Member k ∷ (nodes_from (suc k) (length set) ++ ds))
     (map (λ n. line.Member n) (members_from (suc k) set) ++ others)
-    (inl (refl, within_itself (map (λ n. shape.Member n) (numbers_from (suc k) (length set)) ++ ds)))
+    (inl (refl, within_itself (nodes_from (suc k) (length set) ++ ds)))
     (members_forward b ds others set must (suc k) h some)
 
 -- What fills is accepted.
@@ -70,22 +66,7 @@ fills_accepted b [] items h = rw h refl
 fills_accepted b (d ∷ ds) items (inl (o, h)) =
     accepts_within b false ds (d ∷ ds) items (inl (o, within_itself ds)) (fills_accepted b ds items h)
 fills_accepted b (d ∷ ds) items (inr (i, members, others, f, group, are, h)) =
-    rw are (by_item (plain b i) (fills_accepted b ds others h))
-  where
-    first : accepts b false (d ∷ ds) (i ∷ (members ++ others)) ≡ accepts b (is_call i) (opened b i ++ ds)
-        (members ++ others)
-    first = accepts_step b false (d ∷ ds) (opened b i ++ ds) i (members ++ others) (take_fits b d ds i f)
-
-    by_item : IsPlain b i → accepts b false ds others ≡ true → accepts b false (d ∷ ds) (i ∷ (members ++ others)) ≡ true
-    by_item (call right is) rest =
-        first ∙ after_call right is (subst (λ (x : Item). IsFollowedBy b x members) is group) rest
-      where
-        after_call : (right : ℕ) → i ≡ line.Call right → IsFollowedBy b (line.Call right) members →
-            accepts b false ds others ≡ true →
-            accepts b (is_call i) (opened b i ++ ds) (members ++ others) ≡ true
-        after_call right is (set, sized, some, named) rest =
-            rw (is, named, ← sized) (members_forward b ds others set true 0 rest (λ t. some))
-    by_item (other none still nothing _) rest = first ∙ rw (none, still, nothing members group) rest
+    grind (arith, plain, accepts, accepts_step, take_fits, members_forward, fills_accepted b ds others h)
 
 -- The members of a call, backward.
 
@@ -105,57 +86,33 @@ pub no_member_due : (b : Basin) (ds : List Shape) (i : Item) → has_no_members 
     take_line b ds i ≡ None
 no_member_due b [] i h m = refl
 no_member_due b (d ∷ ds) i h m =
-    by_fit (fits b d i) refl (is_optional d) refl
-    (no_member_due b ds i (second (not (is_member_shape d)) (has_no_members ds) h) m)
-  where
-    second : (p q : Bool) → p && q ≡ true → q ≡ true
-    second true q h = h
-    second false q h = cc
-
-    first : (p q : Bool) → p && q ≡ true → p ≡ true
-    first true q h = refl
-    first false q h = cc
-
-    alike : (i : Item) → is_member_shape (shape_of i) ≡ is_member i
-    alike line.Title = refl
-    alike (line.Run first months) = refl
-    alike (line.Month month) = refl
-    alike (line.Amount q entry amount) = refl
-    alike (line.Deliver right amount want) = refl
-    alike (line.Call right) = refl
-    alike (line.Member node) = refl
-    alike (line.Called right by') = refl
-    alike line.End = refl
-    alike (line.Done months) = refl
-
-    by_fit : (f : Bool) → fits b d i ≡ f → (p : Bool) → is_optional d ≡ p → take_line b ds i ≡ None →
-        take_line b (d ∷ ds) i ≡ None
-    by_fit true f p q rest =
-        let member : is_member_shape d ≡ true = ap is_member_shape (fits_shape b d i f) ∙ (alike i ∙ m) in
-        let not_member : not (is_member_shape d) ≡ true = first (not (is_member_shape d)) (has_no_members ds) h in
-        let no : false ≡ true = sym (ap not member) ∙ not_member in
-        cc
-    by_fit false f true q rest = take_skips b d ds i f q ∙ rest
-    by_fit false f false q rest = take_stops b d ds i f q
+    grind (
+      arith,
+      and_parts,
+      fits_shape,
+      take_skips,
+      take_stops,
+      no_member_due b ds i (and_parts (not (is_member_shape d)) (has_no_members ds) h).1 m,
+    )
 
 -- a line that an `in` line fits is that `in` line
 pub member_only : (b : Basin) (k : ℕ) (i : Item) → fits b (shape.Member k) i ≡ true → i ≡ line.Member k
-member_only b k i h = by_item i (fits_shape b (shape.Member k) i h)
-  where
-    by_item : (i : Item) → shape.Member k ≡ shape_of i → i ≡ line.Member k
-    by_item line.Title h = cc
-    by_item (line.Run first months) h = cc
-    by_item (line.Month month) h = cc
-    by_item (line.Amount q entry amount) h = cc
-    by_item (line.Deliver right amount want) h = cc
-    by_item (line.Call right) h = cc
-    by_item (line.Member node) h = cc
-    by_item (line.Called right by') h = cc
-    by_item line.End h = cc
-    by_item (line.Done months) h = cc
+member_only b k i h = grind (arith, fits_shape)
+
+skipped : {b : Basin} {ds : List Shape} {must : Bool} {k n : ℕ} {items : List Item} →
+    SplitsAt b ds must (suc k) n items → SplitsAt b ds must k (suc n) items
+unfolding members_from
+skipped s = record {
+  set = false ∷ s.set;
+  sized = ap suc s.sized;
+  some = s.some;
+  others = s.others;
+  are = s.are;
+  rest = s.rest;
+}
 
 members_back : (b : Basin) (ds : List Shape) → has_no_members ds ≡ true → (n k : ℕ) (must : Bool) (items : List Item) →
-    accepts b must (map (λ j. shape.Member j) (numbers_from k n) ++ ds) items ≡ true → SplitsAt b ds must k n items
+    accepts b must (nodes_from k n ++ ds) items ≡ true → SplitsAt b ds must k n items
 unfolding numbers_from members_from
 members_back b ds clean zero k false items h =
     record { set = []; sized = refl; some = λ no. cc; others = items; are = refl; rest = h }
@@ -170,40 +127,11 @@ members_back b ds clean zero k true (i ∷ is) h = by_step (steps_to b true ds i
     by_step s false m =
         let none : None ≡ Some s.0 = sym (step_shut b true ds i (ap not m)) ∙ s.1 in
         cc
-members_back b ds clean (suc n) k must [] h =
-    skipped (members_back b ds clean n (suc k) must [] h)
-  where
-    skipped : SplitsAt b ds must (suc k) n [] → SplitsAt b ds must k (suc n) []
-    skipped s =
-        record {
-          set = false ∷ s.set;
-          sized = ap suc s.sized;
-          some = s.some;
-          others = s.others;
-          are = s.are;
-          rest =
-              s.rest;
-        }
+members_back b ds clean (suc n) k must [] h = skipped (members_back b ds clean n (suc k) must [] h)
 members_back b ds clean (suc n) k must (i ∷ is) h =
-    by_fit (fits b (shape.Member k) i) refl
-    (steps_to b must (shape.Member k ∷ (map (λ j. shape.Member j) (numbers_from (suc k) n) ++ ds)) i is h)
+    by_fit (fits b (shape.Member k) i) refl (steps_to b must (shape.Member k ∷ (nodes_from (suc k) n ++ ds)) i is h)
     (λ m xs j. members_back b ds clean n (suc k) m xs j) (must && not (is_member i)) refl
   where
-    due_here : List Shape
-    due_here = map (λ j. shape.Member j) (numbers_from (suc k) n) ++ ds
-
-    skipped : SplitsAt b ds must (suc k) n (i ∷ is) → SplitsAt b ds must k (suc n) (i ∷ is)
-    skipped s =
-        record {
-          set = false ∷ s.set;
-          sized = ap suc s.sized;
-          some = s.some;
-          others = s.others;
-          are = s.are;
-          rest =
-              s.rest;
-        }
-
     taken : i ≡ line.Member k → SplitsAt b ds false (suc k) n is → SplitsAt b ds must k (suc n) (i ∷ is)
     taken here s = record {
       set = true ∷ s.set;
@@ -215,34 +143,28 @@ members_back b ds clean (suc n) k must (i ∷ is) h =
     }
 
     by_fit : (f : Bool) → fits b (shape.Member k) i ≡ f →
-        StepsTo b must (shape.Member k ∷ (map (λ j. shape.Member j) (numbers_from (suc k) n) ++ ds)) i is →
-        ((m : Bool) (xs : List Item) →
-        accepts b m (map (λ j. shape.Member j) (numbers_from (suc k) n) ++ ds) xs ≡ true →
+        StepsTo b must (shape.Member k ∷ (nodes_from (suc k) n ++ ds)) i is →
+        ((m : Bool) (xs : List Item) → accepts b m (nodes_from (suc k) n ++ ds) xs ≡ true →
         SplitsAt b ds m (suc k) n xs) →
         (g : Bool) → must && not (is_member i) ≡ g → SplitsAt b ds must k (suc n) (i ∷ is)
     by_fit f e s further true g =
         let none : None ≡ Some s.0 =
-        sym (step_shut b must (shape.Member k ∷ (map (λ j. shape.Member j) (numbers_from (suc k) n) ++ ds)) i g)
-        ∙ s.1 in cc
+        sym (step_shut b must (shape.Member k ∷ (nodes_from (suc k) n ++ ds)) i g) ∙ s.1 in cc
     by_fit true e s further false g =
         let here : i ≡ line.Member k = member_only b k i e in
-        let opens : opened b i ++ (map (λ j. shape.Member j) (numbers_from (suc k) n) ++ ds) ≡ map (λ j. shape.Member j)
-        (numbers_from (suc k) n) ++ ds = rw here refl in
-        let left : Some (opened b i ++ (map (λ j. shape.Member j) (numbers_from (suc k) n) ++ ds)) ≡ Some s.0 =
-        sym (take_fits b (shape.Member k) (map (λ j. shape.Member j) (numbers_from (suc k) n) ++ ds) i e)
-        ∙ (sym (step_open b must (shape.Member k ∷ (map (λ j. shape.Member j) (numbers_from (suc k) n) ++ ds)) i g)
-        ∙ s.1) in
-        let is_left : s.0 ≡ map (λ j. shape.Member j) (numbers_from (suc k) n) ++ ds = cc in
+        let opens : opened b i ++ (nodes_from (suc k) n ++ ds) ≡ nodes_from (suc k) n ++ ds = rw here refl in
+        let left : Some (opened b i ++ (nodes_from (suc k) n ++ ds)) ≡ Some s.0 =
+        sym (take_fits b (shape.Member k) (nodes_from (suc k) n ++ ds) i e)
+        ∙ (sym (step_open b must (shape.Member k ∷ (nodes_from (suc k) n ++ ds)) i g) ∙ s.1) in
+        let is_left : s.0 ≡ nodes_from (suc k) n ++ ds = cc in
         let plainly : is_call i ≡ false = ap is_call here in
         taken here (further false is (rw (← is_left, ← plainly) s.2))
     by_fit false e s further false g =
-        let left : step b must (map (λ j. shape.Member j) (numbers_from (suc k) n) ++ ds) i ≡ Some s.0 =
-        step_open b must (map (λ j. shape.Member j) (numbers_from (suc k) n) ++ ds) i g
-        ∙ (sym (take_skips b (shape.Member k) (map (λ j. shape.Member j) (numbers_from (suc k) n) ++ ds) i e refl)
-        ∙ (sym (step_open b must (shape.Member k ∷ (map (λ j. shape.Member j) (numbers_from (suc k) n) ++ ds)) i g)
-        ∙ s.1)) in
-        skipped (further must (i ∷ is)
-        (accepts_step b must (map (λ j. shape.Member j) (numbers_from (suc k) n) ++ ds) s.0 i is left ∙ s.2))
+        let left : step b must (nodes_from (suc k) n ++ ds) i ≡ Some s.0 =
+        step_open b must (nodes_from (suc k) n ++ ds) i g
+        ∙ (sym (take_skips b (shape.Member k) (nodes_from (suc k) n ++ ds) i e refl)
+        ∙ (sym (step_open b must (shape.Member k ∷ (nodes_from (suc k) n ++ ds)) i g) ∙ s.1)) in
+        skipped (further must (i ∷ is) (accepts_step b must (nodes_from (suc k) n ++ ds) s.0 i is left ∙ s.2))
 
 -- What is accepted fills.
 
@@ -252,26 +174,14 @@ accepted_fills b [] [] clean h = refl
 accepted_fills b [] (i ∷ is) clean h = let no : false ≡ true = h in cc
 accepted_fills b (d ∷ ds) [] clean h =
     inl (
-      first (is_optional d) (list_all is_optional ds) h,
-      accepted_fills b ds [] (second (not (is_member_shape d)) (has_no_members ds) clean)
-          (second (is_optional d) (list_all is_optional ds) h),
+      (and_parts (is_optional d) (list_all is_optional ds) h).0,
+      accepted_fills b ds [] (and_parts (not (is_member_shape d)) (has_no_members ds) clean).1
+          (and_parts (is_optional d) (list_all is_optional ds) h).1,
     )
-  where
-    second : (p q : Bool) → p && q ≡ true → q ≡ true
-    second true q h = h
-    second false q h = cc
-
-    first : (p q : Bool) → p && q ≡ true → p ≡ true
-    first true q h = refl
-    first false q h = cc
 accepted_fills b (d ∷ ds) (i ∷ is) clean h =
     by_fit (fits b d i) refl (is_optional d) refl (steps_to b false (d ∷ ds) i is h)
-    (λ xs j. accepted_fills b ds xs (second (not (is_member_shape d)) (has_no_members ds) clean) j)
+    (λ xs j. accepted_fills b ds xs (and_parts (not (is_member_shape d)) (has_no_members ds) clean).1 j)
   where
-    second : (p q : Bool) → p && q ≡ true → q ≡ true
-    second true q h = h
-    second false q h = cc
-
     by_fit : (f : Bool) → fits b d i ≡ f → (p : Bool) → is_optional d ≡ p → StepsTo b false (d ∷ ds) i is →
         ((xs : List Item) → accepts b false ds xs ≡ true → Fills b ds xs) → Fills b (d ∷ ds) (i ∷ is)
     by_fit true e p q s further = by_item (plain b i)
@@ -283,8 +193,8 @@ accepted_fills b (d ∷ ds) (i ∷ is) clean h =
         by_item : IsPlain b i → Fills b (d ∷ ds) (i ∷ is)
         by_item (call right here) =
             let split : SplitsAt b ds true 0 (length b.nodes) is =
-            members_back b ds (second (not (is_member_shape d)) (has_no_members ds) clean) (length b.nodes) 0 true is
-            (rw here at left) in
+            members_back b ds (and_parts (not (is_member_shape d)) (has_no_members ds) clean).1 (length b.nodes) 0 true
+            is (rw here at left) in
             inr (
               i,
               map (λ n. line.Member n) (members_from 0 split.set),

@@ -1,5 +1,6 @@
 -- Lists that are made element by element.
-use Rattle.std.proofs.Common.{◌≡◌, ℕ, zero, suc, ◌+◌, ◌≤◌, List, [], ◌∷◌, ◌++◌, length, sym, ap, ◌∙◌, take, append-nil}
+use Rattle.std.proofs.Common.{◌≡◌, ℕ, zero, suc, ◌+◌, ◌≤◌, List, [], ◌∷◌, ◌++◌, length, sym, ap, ◌∙◌, take}
+use Rattle.std.proofs.Common.{append-nil}
 use Rattle.std.proofs.Common.{append_assoc, add-one, take_all}
 use Rattle.std.specs.Prelude.{slice_get, Some, None}
 use Rattle.std.specs.List.{flat_map}
@@ -18,9 +19,7 @@ pub added-next : {X Y : Type 0} (f : X → List Y) (xs : List X) (k : ℕ) (x : 
     slice_get xs k ≡ Some x →
     mid ≡ old ++ flat_map f (take k xs) → new ≡ mid ++ f x → new ≡ old ++ flat_map f (take (k + 1) xs)
 added-next f xs k x old mid new at so_far here =
-    here
-    ∙ (ap (λ zs. zs ++ f x) so_far
-    ∙ (append_assoc old (flat_map f (take k xs)) (f x)
+    here ∙ (ap (λ zs. zs ++ f x) so_far ∙ (append_assoc old (flat_map f (take k xs)) (f x)
     ∙ ap (λ zs. old ++ zs) (sym (more f xs k x at) ∙ ap (λ n. flat_map f (take n xs)) (sym (add-one k)))))
 
 pub added-whole : {X Y : Type 0} (f : X → List Y) (xs : List X) (k : ℕ) (old new : List Y) → length xs ≤ k →

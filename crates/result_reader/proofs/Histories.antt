@@ -1,9 +1,10 @@
 -- Months that follow others are months that a text gives.
-use Rattle.std.proofs.Common.{◌≡◌, ℕ, zero, suc, Bool, true, false, refl, List, [], ◌∷◌}
-use Rattle.std.specs.Prelude.{Option, Some, None, ◌&&◌, not, nat_lt, length}
+use Rattle.std.proofs.Common.{arith, ◌≡◌, ℕ, zero, suc, Bool, true, false, refl, List, [], ◌∷◌}
+use Rattle.std.specs.Prelude.{Option, Some, None}
 use Rattle.std.specs.List.{list_any}
-use Rattle.water_model.specs.Basin.{taking_node, instream_link, tail_of, head_of}
-use Rattle.water_model.specs.Cuts.{leaves, separates}
+use Rattle.std.proofs.lemmas.Bool.{and_parts}
+use Rattle.water_model.specs.Basin.{taking_node, instream_link}
+use Rattle.water_model.specs.Cuts.{separates}
 use Rattle.water_model.specs.History.{Follows}
 use Rattle.water_model.specs.Lookups.{has}
 use Rattle.water_model.specs.declared.types.Basin.{Basin}
@@ -18,27 +19,15 @@ has_some (false ∷ set) zero h = cc
 has_some (false ∷ set) (suc k) h = has_some set k h
 
 -- a cut of a right has a node
-cut_has_some : (b : Basin) (taking link : Option ℕ) (cut : List Bool) →
-    separates b taking link cut ≡ true →
+cut_has_some : (b : Basin) (taking link : Option ℕ) (cut : List Bool) → separates b taking link cut ≡ true →
     list_any (λ in_set. in_set) cut ≡ true
 cut_has_some b None None cut h = cc
 cut_has_some b (Some node) None cut h = has_some cut node h
-cut_has_some b taking (Some link) cut h =
-    has_some cut (tail_of b link) (first (has cut (tail_of b link)) (not (has cut (head_of b link)))
-    (second (nat_lt link (length b.links)) (leaves b cut link) h))
-  where
-    second : (p q : Bool) → p && q ≡ true → q ≡ true
-    second true q g = g
-    second false q g = cc
-
-    first : (p q : Bool) → p && q ≡ true → p ≡ true
-    first true q g = refl
-    first false q g = cc
+cut_has_some b taking (Some link) cut h = grind (arith, has_some, and_parts)
 
 -- a record that follows others is one that a text gives, if its amounts are those of a text
 pub IsTextMonth-Follows : (b : Basin) (series : Inflows) (before : List MonthRecord) (m : MonthRecord) →
-    Follows b series before m → HasTextAmounts m →
-    IsTextMonth b series before m
+    Follows b series before m → HasTextAmounts m → IsTextMonth b series before m
 IsTextMonth-Follows b series before m f amounts = record {
   month = f.after;
   sets = record {

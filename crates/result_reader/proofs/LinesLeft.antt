@@ -1,16 +1,14 @@
 -- How many lines may still come.
-use Rattle.std.proofs.Common.{◌≡◌, ℕ, zero, suc, ◌+◌, ◌*◌, ◌^◌, ◌≤◌, Bool, true, false, refl, sym, ap, ◌∙◌, arith}
+use Rattle.std.proofs.Common.{inl, inr, ◌≡◌, ℕ, zero, suc, ◌+◌, ◌*◌, ◌^◌, ◌≤◌, Bool, refl, ap, ◌∙◌, arith}
 use Rattle.std.proofs.Common.{List, [], ◌∷◌, ◌++◌, length, map, length-append, mul_comm}
-use Rattle.std.specs.Prelude.{Some, None, is_some, not, ◌&&◌, if◌then◌else◌}
+use Rattle.std.specs.Prelude.{Some}
 use Rattle.std.specs.List.{flat_map}
 use Rattle.std.proofs.Math.Nat.{mul-le-mul}
 use Rattle.std.proofs.lemmas.List.Sums.{sum_by-append, sum_by-cons}
 use Rattle.water_model.proofs.Entries.{bounded_in, length-in_order}
 use Rattle.water_model.proofs.Order.{length-numbers_from}
-use Rattle.water_model.specs.Basin.{taking_node}
 use Rattle.water_model.specs.Entries.{count_in, in_order}
 use Rattle.water_model.specs.Indices.{numbers_from}
-use Rattle.result_lines.specs.Quantities.{has_line}
 use Rattle.result_lines.specs.Text.{section_space}
 use Rattle.water_model.specs.Hydrology.{run_month}
 use Rattle.water_model.specs.Valid.{IsValidBasin}
@@ -19,27 +17,18 @@ use Rattle.result_lines.specs.declared.item.Section.{Section}
 use Rattle.result_lines.specs.declared.item.Section.TheVariants as section
 use Rattle.result_lines.specs.declared.item.TheConstants.{SECTIONS}
 use Rattle.water_model.specs.declared.types.Basin.{Basin}
-use Rattle.result_reader.specs.Due.{is_member, opened, take_line, step}
-use Rattle.result_reader.specs.Form.{shape_of, is_optional, fits, shapes_at, shapes_in, due, due_in_month}
+use Rattle.result_reader.specs.Due.{opened, take_line, step}
+use Rattle.result_reader.specs.Form.{shape_of, shapes_at, shapes_in, due, due_in_month}
 use Rattle.result_reader.specs.Form.{due_for_month, due_from}
 use Rattle.result_reader.specs.Standing.{most_for, max_lines}
 use Rattle.result_reader.specs.declared.shape.Shape.{Shape}
 use Rattle.result_reader.specs.declared.shape.Shape.TheVariants as shape
 use Rattle.result_reader.proofs.Grammar.{plain, IsPlain, call, other}
-use Rattle.result_reader.proofs.Steps.{fits_shape, take_fits, take_skips, take_stops, step_open, step_shut}
+use Rattle.result_reader.proofs.Steps.{step_open, step_shut, Within, takes}
 
 -- each line that is due is at least one line
 most_for-some : (b : Basin) (d : Shape) → 1 ≤ most_for b d
-most_for-some b shape.Title = omega arith
-most_for-some b shape.Run = omega arith
-most_for-some b (shape.Month month) = omega arith
-most_for-some b (shape.Amount q entry) = omega arith
-most_for-some b (shape.Deliver right) = omega arith
-most_for-some b (shape.Call right) = omega arith
-most_for-some b (shape.Member node) = omega arith
-most_for-some b (shape.Called right) = omega arith
-most_for-some b shape.End = omega arith
-most_for-some b (shape.Done months) = omega arith
+most_for-some b d = grind arith
 
 -- n lines for each entry of a list
 max_lines-map : (b : Basin) (f : ℕ → Shape) (n : ℕ) → ((x : ℕ) → most_for b (f x) ≡ n) → (xs : List ℕ) →
@@ -65,32 +54,24 @@ opened-fewer b i = by_item (plain b i)
         ))
     by_item (other none still nothing empty) = rw none (most_for-some b (shape_of i))
 
+within-fewer : (b : Basin) (ds es : List Shape) → Within ds es → max_lines b ds ≤ max_lines b es
+within-fewer b ds [] h = rw h (omega arith)
+within-fewer b ds (e ∷ es) (inl (o, k)) = omega (arith, within-fewer b ds es k, sum_by-cons (most_for b) e es)
+within-fewer b ds (e ∷ es) (inr (rest, is, k)) =
+    rw is (omega (arith, within-fewer b rest es k, sum_by-cons (most_for b) e es, sum_by-cons (most_for b) e rest))
+
 take_line-fewer : (b : Basin) (ds : List Shape) (i : Item) (es : List Shape) → take_line b ds i ≡ Some es →
     max_lines b es + 1 ≤ max_lines b ds
-take_line-fewer b [] i es h = let none : None ≡ Some es = h in cc
-take_line-fewer b (d ∷ ds) i es h = by_fit (fits b d i) refl (is_optional d) refl (take_line-fewer b ds i es)
-  where
-    by_fit : (f : Bool) → fits b d i ≡ f → (p : Bool) → is_optional d ≡ p →
-        (take_line b ds i ≡ Some es → max_lines b es + 1 ≤ max_lines b ds) →
-        max_lines b es + 1 ≤ max_lines b (d ∷ ds)
-    by_fit true f p q further =
-        let same : Some (opened b i ++ ds) ≡ Some es = sym (take_fits b d ds i f) ∙ h in
-        let is : opened b i ++ ds ≡ es = cc in
-        rw (← is, sum_by-append (most_for b) (opened b i) ds, sum_by-cons (most_for b) d ds, fits_shape b d i f)
-        (omega (arith, opened-fewer b i))
-    by_fit false f true q further =
-        let fewer = further (sym (take_skips b d ds i f q) ∙ h) in
-        rw (sum_by-cons (most_for b) d ds) (omega arith)
-    by_fit false f false q further = let none : None ≡ Some es = sym (take_stops b d ds i f q) ∙ h in cc
+take_line-fewer b ds i es h =
+    let t = takes b ds i es h in
+    let fewer = within-fewer b (shape_of i ∷ t.0) ds t.2 in
+    rw (t.1, sum_by-append (most_for b) (opened b i) t.0)
+    (omega (arith, opened-fewer b i, fewer, sum_by-cons (most_for b) (shape_of i) t.0))
 
 -- with each line that comes fewer are left
 pub step-fewer : (b : Basin) (must : Bool) (ds : List Shape) (i : Item) (es : List Shape) → step b must ds i ≡ Some es →
     max_lines b es + 1 ≤ max_lines b ds
-step-fewer b must ds i es h = by_guard (must && not (is_member i)) refl
-  where
-    by_guard : (g : Bool) → must && not (is_member i) ≡ g → max_lines b es + 1 ≤ max_lines b ds
-    by_guard true g = let none : None ≡ Some es = sym (step_shut b must ds i g) ∙ h in cc
-    by_guard false g = take_line-fewer b ds i es (sym (step_open b must ds i g) ∙ h)
+step-fewer b must ds i es h = grind (arith, step_shut, take_line-fewer, step_open)
 
 -- At first.
 
@@ -110,18 +91,7 @@ more_for section.Calls b = length b.nodes
 more_for section.Called b = 0
 
 exceed_entry : (b : Basin) (k : Section) (x : ℕ) → Exceeds b (shapes_at k b x) (more_for k b)
-exceed_entry b (section.Amounts q) x = by_test (has_line b q x)
-  where
-    by_test : (t : Bool) → Exceeds b (if t then shape.Amount q x ∷ [] else []) 0
-    by_test true = refl
-    by_test false = refl
-exceed_entry b section.Deliveries x = refl
-exceed_entry b section.Calls x = omega arith
-exceed_entry b section.Called x = by_test (is_some (taking_node b x))
-  where
-    by_test : (t : Bool) → Exceeds b (if t then shape.Called x ∷ [] else []) 0
-    by_test true = refl
-    by_test false = refl
+exceed_entry b k x = grind arith
 
 exceed_entries : (b : Basin) (k : Section) (xs : List ℕ) →
     Exceeds b (flat_map (shapes_at k b) xs) (more_for k b * length xs)
@@ -143,10 +113,8 @@ exceed_sections : (b : Basin) (ks : List Section) → Exceeds b (flat_map (λ k.
 exceed_sections b [] = refl
 exceed_sections b (k ∷ ks) =
     exceed_both b (shapes_in k b) (flat_map (λ k. shapes_in k b) ks) (more_for k b * count_in (section_space k) b)
-    (more_in b ks)
-    (exceed_entries b k (in_order (section_space k) b)
-    ∙ ap (λ n. length (shapes_in k b) + more_for k b * n) (length-in_order (section_space k) b))
-    (exceed_sections b ks)
+    (more_in b ks) (exceed_entries b k (in_order (section_space k) b)
+    ∙ ap (λ n. length (shapes_in k b) + more_for k b * n) (length-in_order (section_space k) b)) (exceed_sections b ks)
 
 -- what is due in a month: a line for each, and for each right that may have a `call` the nodes
 pub most_in_month : (b : Basin) →
@@ -164,18 +132,7 @@ most_in_month b =
 
 -- what is due in a month is not much
 bounded_entry : (b : Basin) (k : Section) (x : ℕ) → length (shapes_at k b x) ≤ 1
-bounded_entry b (section.Amounts q) x = by_test (has_line b q x)
-  where
-    by_test : (t : Bool) → length (if t then shape.Amount q x ∷ [] else []) ≤ 1
-    by_test true = omega arith
-    by_test false = omega arith
-bounded_entry b section.Deliveries x = omega arith
-bounded_entry b section.Calls x = omega arith
-bounded_entry b section.Called x = by_test (is_some (taking_node b x))
-  where
-    by_test : (t : Bool) → length (if t then shape.Called x ∷ [] else []) ≤ 1
-    by_test true = omega arith
-    by_test false = omega arith
+bounded_entry b k x = grind arith
 
 bounded_entries : (b : Basin) (k : Section) (xs : List ℕ) → length (flat_map (shapes_at k b) xs) ≤ length xs
 bounded_entries b k [] = omega arith
@@ -224,13 +181,11 @@ months b n from (suc count) h =
     more : (x y : ℕ) → x ≡ 1 + n → y ≡ count * (1 + n) → x + y ≡ suc count * (1 + n)
     more x y e g = omega arith
 
-pub most_in_run : (b : Basin) (n : ℕ) → max_lines b (due_in_month b) ≡ n →
-    max_lines b (due b) ≡ b.months * (1 + n) + 3
+pub most_in_run : (b : Basin) (n : ℕ) → max_lines b (due_in_month b) ≡ n → max_lines b (due b) ≡ b.months * (1 + n) + 3
 unfolding due
 most_in_run b n h =
     sum_by-cons (most_for b) shape.Title (shape.Run ∷ due_from b 0 b.months)
-    ∙ (ap (λ k. 1 + k) (sum_by-cons (most_for b) shape.Run (due_from b 0 b.months)
-    ∙ ap (λ k. 1 + k)
+    ∙ (ap (λ k. 1 + k) (sum_by-cons (most_for b) shape.Run (due_from b 0 b.months) ∙ ap (λ k. 1 + k)
     (sum_by-append (most_for b) (flat_map (due_for_month b) (numbers_from 0 b.months)) (shape.Done b.months ∷ [])))
     ∙ last (max_lines b (flat_map (due_for_month b) (numbers_from 0 b.months))) (months b n 0 b.months h))
   where
@@ -239,8 +194,7 @@ most_in_run b n h =
 
 -- a bound on a run's lines
 pub most_of_run : (b : Basin) (dues count nodes rights : ℕ) → dues ≡ length (due_in_month b) → count ≡ b.months →
-    nodes ≡ length b.nodes → rights ≡ length b.rights →
-    max_lines b (due b) ≡ count * (1 + dues + rights * nodes) + 3
+    nodes ≡ length b.nodes → rights ≡ length b.rights → max_lines b (due b) ≡ count * (1 + dues + rights * nodes) + 3
 most_of_run b dues count nodes rights d m n r =
     most_in_run b (length (due_in_month b) + length b.nodes * length b.rights) (most_in_month b)
     ∙ rw (d, m, n, r) (same b.months (length (due_in_month b)) (length b.nodes) (length b.rights))
@@ -251,8 +205,4 @@ most_of_run b dues count nodes rights d m n r =
 -- which is small
 pub bounded_lines : (dues count nodes rights : ℕ) → dues ≤ 50000 → count ≤ 1200 → nodes ≤ 2000 → rights ≤ 2000 →
     count * (1 + dues + rights * nodes) + 3 ≤ 5 * 10 ^ 9
-bounded_lines dues count nodes rights d m n r =
-    let members : rights * nodes ≤ 2000 * 2000 = mul-le-mul r n in
-    let month : 1 + dues + rights * nodes ≤ 1 + 50000 + 2000 * 2000 = omega arith in
-    let all : count * (1 + dues + rights * nodes) ≤ 1200 * (1 + 50000 + 2000 * 2000) = mul-le-mul m month in
-    omega arith
+bounded_lines dues count nodes rights d m n r = grind (arith, mul-le-mul)

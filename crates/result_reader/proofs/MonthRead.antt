@@ -75,8 +75,7 @@ reads_calls b series cut sized (r ∷ rs) t within =
     by_set : (o : Option (List Bool)) → cut r ≡ o →
         ((u : ReadSoFar) → ((s : ℕ) (set : List Bool) → cut s ≡ Some set → s < length u.now.cuts.sets) →
         Reads b series u (flat_map (λ r. call_items r (cut r)) rs) (with_sets u.now (put_sets rs cut u.now.cuts.sets)))
-        →
-        Reads b series t (call_items r (cut r) ++ flat_map (λ r. call_items r (cut r)) rs)
+        → Reads b series t (call_items r (cut r) ++ flat_map (λ r. call_items r (cut r)) rs)
         (with_sets t.now (put_sets (r ∷ rs) cut t.now.cuts.sets))
     by_set None e further = rw e (further t within)
     by_set (Some set) e further =
@@ -143,9 +142,7 @@ HasRoom m now = (r : ℕ) (set : List Bool) → cut_of m r ≡ Some set → r < 
 
 sets_stay : (b : Basin) (m : MonthRecord) (k : Section) (now : MonthRecord) →
     length (with_section b m k now).cuts.sets ≡ length now.cuts.sets
-sets_stay b m (section.Amounts q) now =
-    ap (λ cuts. length cuts.sets)
-    (cuts_with q now (set_all (entries_with_line b q) (λ x. slice_index (amounts_of q m) x) (amounts_of q now)))
+sets_stay b m (section.Amounts q) now = grind (arith, cuts_with, set_all)
 sets_stay b m section.Deliveries now = refl
 sets_stay b m section.Calls now = length-put_sets (seniors_first b) (λ r. cut_of m r) now.cuts.sets
 sets_stay b m section.Called now = refl

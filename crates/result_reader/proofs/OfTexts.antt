@@ -42,8 +42,7 @@ are_each b f (x ∷ xs) h = (h x (inl refl), are_each b f xs (λ y m. h y (inr m
 are_all : (b : Basin) (f : ℕ → List Item) (xs : List ℕ) → ((x : ℕ) → Has xs x → AreOfText b (f x)) →
     AreOfText b (flat_map f xs)
 are_all b f [] h = tt
-are_all b f (x ∷ xs) h =
-    are_both b (f x) (flat_map f xs) (h x (inl refl)) (are_all b f xs (λ y m. h y (inr m)))
+are_all b f (x ∷ xs) h = are_both b (f x) (flat_map f xs) (h x (inl refl)) (are_all b f xs (λ y m. h y (inr m)))
 
 amount_at : (amounts : List ℕ) (n k : ℕ) → AreTextAmounts amounts → length amounts ≡ n → k < n →
     slice_index amounts k ≤ 10 ^ 15
@@ -90,8 +89,7 @@ entry_of_text : (b : Basin) (series : Inflows) (before : List MonthRecord) (m : 
     AreOfText b (lines_at k b m (calling_right b m) x)
 entry_of_text b series before m t (section.Amounts q) x l = by_test (has_line b q x)
   where
-    by_test : (p : Bool) →
-        AreOfText b (if p then line.Amount q x (slice_index (amounts_of q m) x) ∷ [] else [])
+    by_test : (p : Bool) → AreOfText b (if p then line.Amount q x (slice_index (amounts_of q m) x) ∷ [] else [])
     by_test true = (
       record {
         of_basin = l;
@@ -137,8 +135,7 @@ month_of_text b series before m valid t l = (
     month = subst IsMonth (sym t.month.month) (IsMonth-run_month b m.index valid.run (omega (arith, t.month.index)))
 
 months_of_text : (b : Basin) (series : Inflows) (records before ms : List MonthRecord) → IsValidBasin b →
-    AreTextMonths b series records → records ≡ before ++ ms →
-    AreOfText b (flat_map (items_of_month b) ms)
+    AreTextMonths b series records → records ≡ before ++ ms → AreOfText b (flat_map (items_of_month b) ms)
 months_of_text b series records before [] valid are is = tt
 months_of_text b series records before (m ∷ ms) valid are is =
     are_both b (items_of_month b m) (flat_map (items_of_month b) ms)

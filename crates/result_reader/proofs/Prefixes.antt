@@ -1,30 +1,25 @@
 -- The machine accepts the prefixes of what has the form.
 use Rattle.std.proofs.Common.{◌≡◌, ℕ, zero, suc, ◌<◌, Bool, true, false, refl, sym, ◌∙◌, ap, subst, arith, List, []}
-use Rattle.std.proofs.Common.{◌∷◌, ◌++◌, map, length, inl}
-use Rattle.std.specs.Prelude.{◌&&◌, not, Option, Some, None, is_some, if◌then◌else◌}
+use Rattle.std.proofs.Common.{◌∷◌, ◌++◌, length, inl}
+use Rattle.std.specs.Prelude.{◌&&◌, not, Option, Some, None}
 use Rattle.std.specs.List.{flat_map}
 use Rattle.std.specs.Option.{option_and_then}
 use Rattle.std.proofs.lemmas.List.Folds.{list_all-append}
 use Rattle.water_model.specs.declared.types.Basin.{Basin}
-use Rattle.water_model.specs.Basin.{taking_node}
-use Rattle.water_model.specs.Entries.{in_order}
 use Rattle.water_model.specs.Indices.{numbers_from}
-use Rattle.result_lines.specs.Quantities.{has_line}
-use Rattle.result_lines.specs.Text.{section_space}
-use Rattle.result_reader.specs.Form.{shape_of, is_optional, is_allowed, fits, shapes_at, shapes_in, due, due_in_month}
-use Rattle.result_reader.specs.Form.{due_for_month, due_from, IsPrefix}
-use Rattle.result_reader.specs.Due.{is_call, is_member, is_member_shape, opened, take_line, step, Due, all_due}
+use Rattle.result_reader.specs.Form.{shape_of, is_optional, is_allowed, shapes_at, due, due_in_month}
+use Rattle.result_reader.specs.Form.{due_from, IsPrefix}
+use Rattle.result_reader.specs.Due.{is_call, is_member, is_member_shape, opened, step, Due, all_due}
 use Rattle.result_reader.specs.Due.{due_after}
 use Rattle.result_lines.specs.declared.item.Item.{Item}
 use Rattle.result_lines.specs.declared.item.Item.TheVariants as line
 use Rattle.result_lines.specs.declared.item.Section.{Section}
-use Rattle.result_lines.specs.declared.item.Section.TheVariants as section
-use Rattle.result_lines.specs.declared.item.TheConstants.{SECTIONS}
 use Rattle.result_reader.specs.declared.shape.Shape.{Shape}
 use Rattle.result_reader.specs.declared.shape.Shape.TheVariants as shape
-use Rattle.result_reader.proofs.Steps.{accepts, accepts_step, steps_to, StepsTo, accepts_within, within_itself}
+use Rattle.result_reader.proofs.Steps.{nodes_from, accepts, accepts_step, steps_to, StepsTo, accepts_within}
+use Rattle.result_reader.proofs.Steps.{within_itself, Takes, takes}
 use Rattle.result_reader.proofs.Grammar.{has_no_members, fills_accepted, accepted_fills, plain, IsPlain, call, other}
-use Rattle.result_reader.proofs.Steps.{fits_itself, take_fits, step_open, step_shut, take_skips, take_stops}
+use Rattle.result_reader.proofs.Steps.{fits_itself, take_fits, step_open, step_shut}
 
 -- No `in` line is due at first.
 
@@ -37,27 +32,15 @@ flat_no_members : {X : Type 0} (f : X → List Shape) → ((x : X) → has_no_me
 flat_no_members f h [] = refl
 flat_no_members f h (x ∷ xs) = append_no_members (f x) (flat_map f xs) (h x) (flat_no_members f h xs)
 
-one_if : (p : Bool) (d : Shape) → is_member_shape d ≡ false → has_no_members (if p then d ∷ [] else []) ≡ true
-one_if true d h = rw h refl
-one_if false d h = refl
-
 at_no_members : (section : Section) (b : Basin) (entry : ℕ) → has_no_members (shapes_at section b entry) ≡ true
-at_no_members (section.Amounts q) b entry = one_if (has_line b q entry) (shape.Amount q entry) refl
-at_no_members section.Deliveries b entry = refl
-at_no_members section.Calls b entry = refl
-at_no_members section.Called b entry = one_if (is_some (taking_node b entry)) (shape.Called entry) refl
+at_no_members s b entry = grind arith
 
 pub in_month_no_members : (b : Basin) → has_no_members (due_in_month b) ≡ true
 unfolding due_in_month
-in_month_no_members b =
-    append_no_members (flat_map (λ s. shapes_in s b) SECTIONS) (shape.End ∷ [])
-    (flat_no_members (λ s. shapes_in s b)
-    (λ s. flat_no_members (shapes_at s b) (at_no_members s b) (in_order (section_space s) b)) SECTIONS) refl
+in_month_no_members b = grind (arith, append_no_members, flat_no_members, at_no_members)
 
 pub from_no_members : (b : Basin) (i count : ℕ) → has_no_members (due_from b i count) ≡ true
-from_no_members b i count =
-    append_no_members (flat_map (due_for_month b) (numbers_from i count)) (shape.Done b.months ∷ [])
-    (flat_no_members (due_for_month b) (λ i. in_month_no_members b) (numbers_from i count)) refl
+from_no_members b i count = grind (arith, append_no_members, flat_no_members, in_month_no_members)
 
 pub due_no_members : (b : Basin) → has_no_members (due b) ≡ true
 unfolding due
@@ -93,16 +76,14 @@ completes b (d ∷ ds) = by_shape d (completes b ds)
       rest = i ∷ c.rest;
       accepted =
           accepts_step b false (shape_of i ∷ ds) (opened b i ++ ds) i c.rest
-          (take_fits b (shape_of i) ds i (fits_itself b i allowed))
-          ∙ rw (none, still) c.accepted;
+          (take_fits b (shape_of i) ds i (fits_itself b i allowed)) ∙ rw (none, still) c.accepted;
     }
 
     left_out : (d : Shape) → is_optional d ≡ true → Completes b false ds → Completes b false (d ∷ ds)
     left_out d o c =
         record {
           rest = c.rest;
-          accepted =
-              accepts_within b false ds (d ∷ ds) c.rest (inl (o, within_itself ds)) c.accepted;
+          accepted = accepts_within b false ds (d ∷ ds) c.rest (inl (o, within_itself ds)) c.accepted;
         }
 
     by_shape : (d : Shape) → Completes b false ds → Completes b false (d ∷ ds)
@@ -153,37 +134,29 @@ accepted_prefix b s (i ∷ is) others h =
         let t = further (record { must = is_call i; dues = es }) j in
         (t.0, rw e t.1, t.2)
 
+-- the first of the lines comes, and then the others
+due_first : (b : Basin) (s t : Due) (i : Item) (is : List Item) → due_after b s (i ∷ is) ≡ Some t →
+    (es : List Shape) × (step b s.must s.dues i ≡ Some es) ×
+    (due_after b (record { must = is_call i; dues = es }) is ≡ Some t)
+due_first b s t i is h = by_step (step b s.must s.dues i) refl
+  where
+    after : Option (List Shape) → Option Due
+    after o = option_and_then (λ ds. due_after b (record { must = is_call i; dues = ds }) is) o
+
+    by_step : (o : Option (List Shape)) → step b s.must s.dues i ≡ o → (es : List Shape) ×
+        (step b s.must s.dues i ≡ Some es) × (due_after b (record { must = is_call i; dues = es }) is ≡ Some t)
+    by_step None e = let none : None ≡ Some t = sym (ap after e) ∙ h in cc
+    by_step (Some es) e = (es, e, sym (ap after e) ∙ h)
+
 accepted_after : (b : Basin) (s t : Due) (items others : List Item) → due_after b s items ≡ Some t →
     accepts b t.must t.dues others ≡ true → accepts b s.must s.dues (items ++ others) ≡ true
 accepted_after b s t [] others h a = let same : s ≡ t = cc in rw same a
 accepted_after b s t (i ∷ is) others h a =
-    by_step (step b s.must s.dues i) refl (λ u j. accepted_after b u t is others j a)
-  where
-    by_step : (o : Option (List Shape)) → step b s.must s.dues i ≡ o →
-        ((u : Due) → due_after b u is ≡ Some t → accepts b u.must u.dues (is ++ others) ≡ true) →
-        accepts b s.must s.dues (i ∷ (is ++ others)) ≡ true
-    by_step None e further = let none : None ≡ Some t =
-        sym (ap (λ o. option_and_then (λ ds. due_after b (record { must = is_call i; dues = ds }) is) o) e) ∙ h in cc
-    by_step (Some es) e further =
-        let some : due_after b (record { must = is_call i; dues = es }) is ≡ Some t =
-        sym (ap (λ o. option_and_then (λ ds. due_after b (record { must = is_call i; dues = ds }) is) o) e) ∙ h in
-        accepts_step b s.must s.dues es i (is ++ others) e ∙ further (record { must = is_call i; dues = es }) some
+    let f = due_first b s t i is h in
+    accepts_step b s.must s.dues f.0 i (is ++ others) f.1
+    ∙ accepted_after b (record { must = is_call i; dues = f.0 }) t is others f.2 a
 
 -- A `call` opens an `in` line of the first node.
-
-abbrev Opens : Basin → Item → List Shape → Type 0
-Opens b i es = (rest : List Shape) × (es ≡ opened b i ++ rest)
-
-take_line_opens : (b : Basin) (ds : List Shape) (i : Item) (es : List Shape) → take_line b ds i ≡ Some es → Opens b i es
-take_line_opens b [] i es h = let none : None ≡ Some es = h in cc
-take_line_opens b (d ∷ ds) i es h = by_fit (fits b d i) refl (is_optional d) refl (λ k. take_line_opens b ds i es k)
-  where
-    by_fit : (f : Bool) → fits b d i ≡ f → (p : Bool) → is_optional d ≡ p →
-        (take_line b ds i ≡ Some es → Opens b i es) → Opens b i es
-    by_fit true f p q further = let same : Some (opened b i ++ ds) ≡ Some es = sym (take_fits b d ds i f) ∙ h in
-        (ds, cc)
-    by_fit false f true q further = further (sym (take_skips b d ds i f q) ∙ h)
-    by_fit false f false q further = let none : None ≡ Some es = sym (take_stops b d ds i f q) ∙ h in cc
 
 pub step_can_go_on : (b : Basin) → 0 < length b.nodes → (must : Bool) (ds : List Shape) (i : Item) (es : List Shape) →
     step b must ds i ≡ Some es → CanGoOn (record { must = is_call i; dues = es })
@@ -194,35 +167,28 @@ step_can_go_on b some must ds i es h = by_guard (must && not (is_member i)) refl
         (node : ℕ) × (ds : List Shape) × (opened b (line.Call right) ++ rest ≡ shape.Member node ∷ ds)
     first b some right rest = by_count (length b.nodes) some
       where
-        by_count : (n : ℕ) → 0 < n →
-            (node : ℕ) × (ds : List Shape) ×
-            (map (λ k. shape.Member k) (numbers_from 0 n) ++ rest ≡ shape.Member node ∷ ds)
+        by_count : (n : ℕ) → 0 < n → (node : ℕ) × (ds : List Shape) ×
+            (nodes_from 0 n ++ rest ≡ shape.Member node ∷ ds)
         by_count zero l = absurd (omega arith)
-        by_count (suc n) l = (0, map (λ k. shape.Member k) (numbers_from 1 n) ++ rest, refl)
+        by_count (suc n) l = (0, nodes_from 1 n ++ rest, refl)
 
-    by_opening : Opens b i es → IsPlain b i → CanGoOn (record { must = is_call i; dues = es })
-    by_opening (rest, is) (call right here) t =
+    by_opening : Takes b ds i es → IsPlain b i → CanGoOn (record { must = is_call i; dues = es })
+    by_opening (rest, is, _) (call right here) t =
         let f = first b some right rest in
         (f.0, f.1, is ∙ (ap (λ x. opened b x ++ rest) here ∙ f.2))
-    by_opening (rest, is) (other none still nothing empty) t = let no : false ≡ true = sym still ∙ t in cc
+    by_opening (rest, is, _) (other none still nothing empty) t = let no : false ≡ true = sym still ∙ t in cc
 
     by_guard : (g : Bool) → must && not (is_member i) ≡ g → CanGoOn (record { must = is_call i; dues = es })
     by_guard true g = let none : None ≡ Some es = sym (step_shut b must ds i g) ∙ h in cc
-    by_guard false g = by_opening (take_line_opens b ds i es (sym (step_open b must ds i g) ∙ h)) (plain b i)
+    by_guard false g = by_opening (takes b ds i es (sym (step_open b must ds i g) ∙ h)) (plain b i)
 
 pub due_can_go_on : (b : Basin) → 0 < length b.nodes → (s t : Due) (items : List Item) → CanGoOn s →
     due_after b s items ≡ Some t → CanGoOn t
 due_can_go_on b some s t [] c h = let same : s ≡ t = cc in subst CanGoOn same c
 due_can_go_on b some s t (i ∷ is) c h =
-    by_step (step b s.must s.dues i) refl (λ u c j. due_can_go_on b some u t is c j)
-  where
-    by_step : (o : Option (List Shape)) → step b s.must s.dues i ≡ o →
-        ((u : Due) → CanGoOn u → due_after b u is ≡ Some t → CanGoOn t) → CanGoOn t
-    by_step None e further = let none : None ≡ Some t =
-        sym (ap (λ o. option_and_then (λ ds. due_after b (record { must = is_call i; dues = ds }) is) o) e) ∙ h in cc
-    by_step (Some es) e further =
-        further (record { must = is_call i; dues = es }) (step_can_go_on b some s.must s.dues i es e)
-        (sym (ap (λ o. option_and_then (λ ds. due_after b (record { must = is_call i; dues = ds }) is) o) e) ∙ h)
+    let f = due_first b s t i is h in
+    due_can_go_on b some (record { must = is_call i; dues = f.0 }) t is
+    (step_can_go_on b some s.must s.dues i f.0 f.1) f.2
 
 -- The prefixes are what the machine accepts.
 
@@ -247,17 +213,6 @@ pub due_more : (b : Basin) (s t : Due) (items : List Item) (i : Item) → due_af
     due_after b s (items ++ i ∷ []) ≡ option_and_then (λ ds. Some (record { must = is_call i; dues = ds }))
     (step b t.must t.dues i)
 due_more b s t [] i h = let same : s ≡ t = cc in rw same refl
-due_more b s t (x ∷ xs) i h = by_step (step b s.must s.dues x) refl (λ u j. due_more b u t xs i j)
-  where
-    by_step : (o : Option (List Shape)) → step b s.must s.dues x ≡ o →
-        ((u : Due) → due_after b u xs ≡ Some t →
-        due_after b u (xs ++ i ∷ []) ≡ option_and_then (λ ds. Some (record { must = is_call i; dues = ds }))
-        (step b t.must t.dues i)) →
-        due_after b s (x ∷ (xs ++ i ∷ [])) ≡ option_and_then (λ ds. Some (record { must = is_call i; dues = ds }))
-        (step b t.must t.dues i)
-    by_step None e further = let none : None ≡ Some t =
-        sym (ap (λ o. option_and_then (λ ds. due_after b (record { must = is_call x; dues = ds }) xs) o) e) ∙ h in cc
-    by_step (Some es) e further =
-        ap (λ o. option_and_then (λ ds. due_after b (record { must = is_call x; dues = ds }) (xs ++ i ∷ [])) o) e
-        ∙ further (record { must = is_call x; dues = es })
-        (sym (ap (λ o. option_and_then (λ ds. due_after b (record { must = is_call x; dues = ds }) xs) o) e) ∙ h)
+due_more b s t (x ∷ xs) i h =
+    let f = due_first b s t x xs h in
+    rw f.1 (due_more b (record { must = is_call x; dues = f.0 }) t xs i f.2)

@@ -14,7 +14,6 @@ use Rattle.water_text.proofs.MonthLaws.{month_is_read}
 use Rattle.water_text.specs.Amounts.{read_plain}
 use Rattle.water_text.specs.Fields.{pieces_of}
 use Rattle.water_text.specs.Months.{IsMonth, month_digits}
-use Rattle.water_text.specs.Names.{is_name}
 use Rattle.water_text.specs.declared.month.Month.{Month}
 use Rattle.water_model.specs.Entries.{count_in, name_in}
 use Rattle.result_lines.specs.Quantities.{space_of}
@@ -55,35 +54,19 @@ no_field-Ok (x ∷ fields) u h = cc
 
 one_field-Ok : (fields : List (List ℕ)) (x : List ℕ) → one_field fields ≡ Ok x → fields ≡ x ∷ []
 one_field-Ok [] x h = cc
-one_field-Ok (y ∷ fields) x h =
-    let t = through (no_field fields) (λ _. Ok y) x h in
-    let same : Ok y ≡ Ok x = t.2 in
-    let is : y ≡ x = cc in
-    rw (is, no_field-Ok fields t.0 t.1) refl
+one_field-Ok (y ∷ fields) x h = grind (arith, nat_tests, through, no_field-Ok)
 
 two_fields-Ok : (fields : List (List ℕ)) (f : List ℕ × List ℕ) → two_fields fields ≡ Ok f → fields ≡ f.0 ∷ f.1 ∷ []
 two_fields-Ok [] f h = cc
-two_fields-Ok (x ∷ fields) f h =
-    let t = through (one_field fields) (λ y. Ok (x, y)) f h in
-    let both : Ok (x, t.0) ≡ Ok f = t.2 in
-    let is : (x, t.0) ≡ f = cc in
-    ap (λ xs. x ∷ xs) (one_field-Ok fields t.0 t.1) ∙ ap (λ (g : List ℕ × List ℕ). g.0 ∷ g.1 ∷ []) is
+two_fields-Ok (x ∷ fields) f h = grind (arith, nat_tests, through, one_field-Ok)
 
 three_fields-Ok : (fields : List (List ℕ)) (f : List ℕ × List ℕ × List ℕ) → three_fields fields ≡ Ok f →
     fields ≡ f.0 ∷ f.1 ∷ f.2 ∷ []
 three_fields-Ok [] f h = cc
-three_fields-Ok (x ∷ fields) f h =
-    let t = through (two_fields fields) (λ g. Ok (x, g.0, g.1)) f h in
-    let all : Ok (x, t.0.0, t.0.1) ≡ Ok f = t.2 in
-    let is : (x, t.0.0, t.0.1) ≡ f = cc in
-    ap (λ xs. x ∷ xs) (two_fields-Ok fields t.0 t.1) ∙ ap (λ (g : List ℕ × List ℕ × List ℕ). g.0 ∷ g.1 ∷ g.2 ∷ []) is
+three_fields-Ok (x ∷ fields) f h = grind (arith, nat_tests, through, two_fields-Ok)
 
 name_field-Ok : (field name : List ℕ) → name_field field ≡ Ok name → field ≡ name
-name_field-Ok field name h = by_test (is_name field) h
-  where
-    by_test : (t : Bool) → (if t then Ok field else Err bad.BadField) ≡ Ok name → field ≡ name
-    by_test true e = cc
-    by_test false e = cc
+name_field-Ok field name h = grind (arith, nat_tests)
 
 -- a field that is read as a number is its spelling
 amount_field-Ok : (field : List ℕ) (n : ℕ) → amount_field field ≡ Ok n → (field ≡ decimal n) × (n ≤ 10 ^ 15)
@@ -125,21 +108,21 @@ record Says (b : Basin) (w : Word) (fields : List (List ℕ)) (i : Item) : Type 
   of_text : IsOfText b i
 
 -- the same for an item that is known
-says : (b : Basin) (w : Word) (fields xs : List (List ℕ)) (i j : Item) → fields ≡ xs →
+says : {b : Basin} {w : Word} {fields xs : List (List ℕ)} {i j : Item} → fields ≡ xs →
     spelling_of w ∷ xs ≡ fields_of b i → IsOfText b i → i ≡ j → Says b w fields j
-says b w fields xs i j are spelled of_text same = subst (λ (k : Item). Says b w fields k) same (record {
+says {b} {w} {fields} are spelled of_text same = subst (λ (k : Item). Says b w fields k) same (record {
   spelled = ap (λ ys. spelling_of w ∷ ys) are ∙ spelled;
   of_text = of_text;
 })
 
-two : (x x' y y' : List ℕ) → x ≡ x' → y ≡ y' → x ∷ y ∷ [] ≡ x' ∷ y' ∷ []
-two x x' y y' e f = rw (e, f) refl
+two : {x x' y y' : List ℕ} → x ≡ x' → y ≡ y' → x ∷ y ∷ [] ≡ x' ∷ y' ∷ []
+two e f = rw (e, f) refl
 
-three : (x x' y y' z z' : List ℕ) → x ≡ x' → y ≡ y' → z ≡ z' → x ∷ y ∷ z ∷ [] ≡ x' ∷ y' ∷ z' ∷ []
-three x x' y y' z z' e f g = rw (e, f, g) refl
+three : {x x' y y' z z' : List ℕ} → x ≡ x' → y ≡ y' → z ≡ z' → x ∷ y ∷ z ∷ [] ≡ x' ∷ y' ∷ z' ∷ []
+three e f g = rw (e, f, g) refl
 
-Ok-same : {X : Type 0} (x y : X) → (let r : Result X BadLine = Ok x in r) ≡ Ok y → x ≡ y
-Ok-same x y h = cc
+Ok-same : {X : Type 0} {x y : X} → (let r : Result X BadLine = Ok x in r) ≡ Ok y → x ≡ y
+Ok-same h = cc
 
 item_with-Ok : (b : Basin) (w : Word) (fields : List (List ℕ)) (i : Item) → item_with b w fields ≡ Ok i →
     Says b w fields i
@@ -151,9 +134,8 @@ item_with-Ok b word.Title fields i h =
     by_test : (x : List ℕ) (t : Bool) → bytes_eq x (codes "1") ≡ t → fields ≡ x ∷ [] →
         (if t then Ok line.Title else Err bad.BadField) ≡ Ok i → Says b word.Title fields i
     by_test x true e are g =
-        says b word.Title fields (codes "1" ∷ []) line.Title i
-        (are ∙ ap (λ y. y ∷ []) ((bytes_eq-Decides x (codes "1")).0 e)) refl
-        (record { of_basin = tt; numbers = tt }) (Ok-same line.Title i g)
+        says (are ∙ ap (λ y. y ∷ []) ((bytes_eq-Decides x (codes "1")).0 e)) refl
+        (record { of_basin = tt; numbers = tt }) (Ok-same g)
     by_test x false e are g = cc
 item_with-Ok b word.Run fields i h =
     let f = through (two_fields fields) _ i h in
@@ -161,16 +143,14 @@ item_with-Ok b word.Run fields i h =
     let n = through (count_field f.0.1) _ i m.2 in
     let month = month_field-Ok f.0.0 m.0 m.1 in
     let count = count_field-Ok f.0.1 n.0 n.1 in
-    says b word.Run fields (month_digits m.0 ∷ decimal n.0 ∷ []) (line.Run m.0 n.0) i
-    (two_fields-Ok fields f.0 f.1 ∙ two _ _ _ _ month.0 count.0) refl
-    (record { of_basin = month.1; numbers = (count.1, count.2) }) (Ok-same _ i n.2)
+    says (two_fields-Ok fields f.0 f.1 ∙ two month.0 count.0) refl
+    (record { of_basin = month.1; numbers = (count.1, count.2) }) (Ok-same n.2)
 item_with-Ok b word.Month fields i h =
     let x = through (one_field fields) _ i h in
     let m = through (month_field x.0) _ i x.2 in
     let month = month_field-Ok x.0 m.0 m.1 in
-    says b word.Month fields (month_digits m.0 ∷ []) (line.Month m.0) i
-    (one_field-Ok fields x.0 x.1 ∙ ap (λ y. y ∷ []) month.0) refl
-    (record { of_basin = month.1; numbers = tt }) (Ok-same _ i m.2)
+    says (one_field-Ok fields x.0 x.1 ∙ ap (λ y. y ∷ []) month.0) refl
+    (record { of_basin = month.1; numbers = tt }) (Ok-same m.2)
 item_with-Ok b (word.Amount q) fields i h =
     let f = through (two_fields fields) _ i h in
     let name = through (name_field f.0.0) _ i f.2 in
@@ -178,9 +158,8 @@ item_with-Ok b (word.Amount q) fields i h =
     let at = through (entry_named b (space_of q) name.0) _ i n.2 in
     let number = amount_field-Ok f.0.1 n.0 n.1 in
     let entry = entry_named-Ok b (space_of q) name.0 at.0 at.1 in
-    says b (word.Amount q) fields (name_in (space_of q) b at.0 ∷ decimal n.0 ∷ []) (line.Amount q at.0 n.0) i
-    (two_fields-Ok fields f.0 f.1 ∙ two _ _ _ _ (name_field-Ok f.0.0 name.0 name.1 ∙ entry.0) number.0) refl
-    (record { of_basin = entry.1; numbers = number.1 }) (Ok-same _ i at.2)
+    says (two_fields-Ok fields f.0 f.1 ∙ two (name_field-Ok f.0.0 name.0 name.1 ∙ entry.0) number.0) refl
+    (record { of_basin = entry.1; numbers = number.1 }) (Ok-same at.2)
 item_with-Ok b word.Deliver fields i h =
     let f = through (three_fields fields) _ i h in
     let name = through (name_field f.0.0) _ i f.2 in
@@ -190,27 +169,22 @@ item_with-Ok b word.Deliver fields i h =
     let number = amount_field-Ok f.0.1 n.0 n.1 in
     let want = amount_field-Ok f.0.2 w.0 w.1 in
     let entry = entry_named-Ok b space.Rights name.0 at.0 at.1 in
-    says b word.Deliver fields (name_in space.Rights b at.0 ∷ decimal n.0 ∷ decimal w.0 ∷ [])
-    (line.Deliver at.0 n.0 w.0) i
-    (three_fields-Ok fields f.0 f.1 ∙ three _ _ _ _ _ _ (name_field-Ok f.0.0 name.0 name.1 ∙ entry.0) number.0 want.0)
-    refl
-    (record { of_basin = entry.1; numbers = (number.1, want.1) }) (Ok-same _ i at.2)
+    says (three_fields-Ok fields f.0 f.1 ∙ three (name_field-Ok f.0.0 name.0 name.1 ∙ entry.0) number.0 want.0) refl
+    (record { of_basin = entry.1; numbers = (number.1, want.1) }) (Ok-same at.2)
 item_with-Ok b word.Call fields i h =
     let x = through (one_field fields) _ i h in
     let name = through (name_field x.0) _ i x.2 in
     let at = through (entry_named b space.Rights name.0) _ i name.2 in
     let entry = entry_named-Ok b space.Rights name.0 at.0 at.1 in
-    says b word.Call fields (name_in space.Rights b at.0 ∷ []) (line.Call at.0) i
-    (one_field-Ok fields x.0 x.1 ∙ ap (λ y. y ∷ []) (name_field-Ok x.0 name.0 name.1 ∙ entry.0)) refl
-    (record { of_basin = entry.1; numbers = tt }) (Ok-same _ i at.2)
+    says (one_field-Ok fields x.0 x.1 ∙ ap (λ y. y ∷ []) (name_field-Ok x.0 name.0 name.1 ∙ entry.0)) refl
+    (record { of_basin = entry.1; numbers = tt }) (Ok-same at.2)
 item_with-Ok b word.Member fields i h =
     let x = through (one_field fields) _ i h in
     let name = through (name_field x.0) _ i x.2 in
     let at = through (entry_named b space.Nodes name.0) _ i name.2 in
     let entry = entry_named-Ok b space.Nodes name.0 at.0 at.1 in
-    says b word.Member fields (name_in space.Nodes b at.0 ∷ []) (line.Member at.0) i
-    (one_field-Ok fields x.0 x.1 ∙ ap (λ y. y ∷ []) (name_field-Ok x.0 name.0 name.1 ∙ entry.0)) refl
-    (record { of_basin = entry.1; numbers = tt }) (Ok-same _ i at.2)
+    says (one_field-Ok fields x.0 x.1 ∙ ap (λ y. y ∷ []) (name_field-Ok x.0 name.0 name.1 ∙ entry.0)) refl
+    (record { of_basin = entry.1; numbers = tt }) (Ok-same at.2)
 item_with-Ok b word.Called fields i h =
     let f = through (two_fields fields) _ i h in
     let name = through (name_field f.0.0) _ i f.2 in
@@ -219,23 +193,18 @@ item_with-Ok b word.Called fields i h =
     let by' = through (entry_named b space.Rights other.0) _ i at.2 in
     let entry = entry_named-Ok b space.Rights name.0 at.0 at.1 in
     let caller = entry_named-Ok b space.Rights other.0 by'.0 by'.1 in
-    says b word.Called fields (name_in space.Rights b at.0 ∷ name_in space.Rights b by'.0 ∷ []) (line.Called at.0 by'.0)
-    i
-    (two_fields-Ok fields f.0 f.1
-    ∙ two _ _ _ _ (name_field-Ok f.0.0 name.0 name.1 ∙ entry.0) (name_field-Ok f.0.1 other.0 other.1 ∙ caller.0))
-    refl
-    (record { of_basin = (entry.1, caller.1); numbers = tt }) (Ok-same _ i by'.2)
+    says (two_fields-Ok fields f.0 f.1
+    ∙ two (name_field-Ok f.0.0 name.0 name.1 ∙ entry.0) (name_field-Ok f.0.1 other.0 other.1 ∙ caller.0)) refl
+    (record { of_basin = (entry.1, caller.1); numbers = tt }) (Ok-same by'.2)
 item_with-Ok b word.End fields i h =
     let x = through (no_field fields) _ i h in
-    says b word.End fields [] line.End i (no_field-Ok fields x.0 x.1) refl (record { of_basin = tt; numbers = tt })
-    (Ok-same _ i x.2)
+    says (no_field-Ok fields x.0 x.1) refl (record { of_basin = tt; numbers = tt }) (Ok-same x.2)
 item_with-Ok b word.Done fields i h =
     let x = through (one_field fields) _ i h in
     let n = through (count_field x.0) _ i x.2 in
     let count = count_field-Ok x.0 n.0 n.1 in
-    says b word.Done fields (decimal n.0 ∷ []) (line.Done n.0) i
-    (one_field-Ok fields x.0 x.1 ∙ ap (λ y. y ∷ []) count.0) refl
-    (record { of_basin = tt; numbers = (count.1, count.2) }) (Ok-same _ i n.2)
+    says (one_field-Ok fields x.0 x.1 ∙ ap (λ y. y ∷ []) count.0) refl
+    (record { of_basin = tt; numbers = (count.1, count.2) }) (Ok-same n.2)
 
 -- The bytes.
 

@@ -31,17 +31,18 @@ length-put_one r (Some set) ys = length-set ys r (Some set)
 put_sets-step : (r : ℕ) (rs : List ℕ) (cut : ℕ → Option (List Bool)) (ys : Sets) →
     put_sets (r ∷ rs) cut ys ≡ put_sets rs cut (put_one r (cut r) ys)
 unfolding put_one
-put_sets-step r rs cut ys = by_set (cut r) refl
-  where
-    by_set : (o : Option (List Bool)) → cut r ≡ o → put_sets (r ∷ rs) cut ys ≡ put_sets rs cut (put_one r (cut r) ys)
-    by_set None e = rw e refl
-    by_set (Some set) e = rw e refl
+put_sets-step r rs cut ys = grind (arith, put_one)
 
 pub length-put_sets : (rs : List ℕ) (cut : ℕ → Option (List Bool)) (ys : Sets) → length (put_sets rs cut ys) ≡ length ys
 length-put_sets [] cut ys = refl
 length-put_sets (r ∷ rs) cut ys =
-    ap length (put_sets-step r rs cut ys)
-    ∙ (length-put_sets rs cut (put_one r (cut r) ys) ∙ length-put_one r (cut r) ys)
+    grind (
+      arith,
+      put_sets-step,
+      put_one,
+      length-put_one,
+      length-put_sets rs cut (put_one r (cut r) ys) ∙ length-put_one r (cut r) ys,
+    )
 
 abbrev pub set_in : Sets → ℕ → Option (List Bool)
 set_in xs k = of_entry xs k (λ s. s) None
@@ -56,16 +57,7 @@ set_other (x ∷ xs) (suc r) (suc k) v h = set_other xs r k v (λ e. h (ap suc e
 put_one-keeps : (r k : ℕ) (cut : ℕ → Option (List Bool)) (ys : Sets) → k < length ys → set_in ys k ≡ cut k →
     set_in (put_one r (cut r) ys) k ≡ cut k
 unfolding put_one
-put_one-keeps r k cut ys l h = by_set (cut r) refl
-  where
-    by_set : (o : Option (List Bool)) → cut r ≡ o → set_in (put_one r (cut r) ys) k ≡ cut k
-    by_set None e = rw e h
-    by_set (Some set) e = elim (cases_eq k r) [
-      | inl same ↦
-          rw e (ap (λ j. set_in (slice_set ys r (Some set)) j) same
-          ∙ (entry_set ys r (Some set) (omega arith) ∙ (sym e ∙ ap cut (sym same))))
-      | inr other ↦ rw e (set_other ys r k (Some set) other ∙ h)
-    ]
+put_one-keeps r k cut ys l h = grind (arith, put_one, cases_eq, entry_set, set_other)
 
 put_sets-keeps : (rs : List ℕ) (k : ℕ) (cut : ℕ → Option (List Bool)) (ys : Sets) → k < length ys →
     set_in ys k ≡ cut k → set_in (put_sets rs cut ys) k ≡ cut k
@@ -78,13 +70,7 @@ put_sets-keeps (r ∷ rs) k cut ys l h =
 put_one-here : (r k : ℕ) (cut : ℕ → Option (List Bool)) (ys : Sets) → k ≡ r → k < length ys → set_in ys k ≡ None →
     set_in (put_one r (cut r) ys) k ≡ cut k
 unfolding put_one
-put_one-here r k cut ys same l h = by_set (cut r) refl
-  where
-    by_set : (o : Option (List Bool)) → cut r ≡ o → set_in (put_one r (cut r) ys) k ≡ cut k
-    by_set None e = rw e (h ∙ (sym e ∙ ap cut (sym same)))
-    by_set (Some set) e =
-        rw e (ap (λ j. set_in (slice_set ys r (Some set)) j) same
-        ∙ (entry_set ys r (Some set) (omega arith) ∙ (sym e ∙ ap cut (sym same))))
+put_one-here r k cut ys same l h = grind (arith, put_one, entry_set)
 
 put_one-other : (r k : ℕ) (o : Option (List Bool)) (ys : Sets) → k ≢ r → set_in (put_one r o ys) k ≡ set_in ys k
 unfolding put_one
@@ -96,8 +82,7 @@ pub put_sets-has : (rs : List ℕ) (k : ℕ) (cut : ℕ → Option (List Bool)) 
     set_in ys k ≡ None → Has rs k → set_in (put_sets rs cut ys) k ≡ cut k
 put_sets-has [] k cut ys l h m = absurd m
 put_sets-has (r ∷ rs) k cut ys l h m =
-    ap (λ xs. set_in xs k) (put_sets-step r rs cut ys)
-    ∙ elim (cases_eq k r) [
+    ap (λ xs. set_in xs k) (put_sets-step r rs cut ys) ∙ elim (cases_eq k r) [
       | inl same ↦
           put_sets-keeps rs k cut (put_one r (cut r) ys) (omega (arith, length-put_one r (cut r) ys))
           (put_one-here r k cut ys same l h)
@@ -126,14 +111,7 @@ same_sets (x ∷ xs) (y ∷ ys) e h =
 -- the sets of all rights
 pub all_sets : (rs : List ℕ) (n : ℕ) (ys : Sets) → length ys ≡ n → ((k : ℕ) → k < n → Has rs k) →
     put_sets rs (λ r. set_in ys r) (replicate n None) ≡ ys
-all_sets rs n ys e has =
-    same_sets (put_sets rs (λ r. set_in ys r) (replicate n None)) ys (len ∙ sym e)
-    (λ k l. put_sets-has rs k (λ r. set_in ys r) (replicate n None)
-    (omega (arith, len, length-replicate {A = Option (List Bool)} n None)) (no_sets n k)
-    (has k (omega (arith, len))))
-  where
-    len : length (put_sets rs (λ r. set_in ys r) (replicate n None)) ≡ n
-    len = length-put_sets rs (λ r. set_in ys r) (replicate n None) ∙ length-replicate n None
+all_sets rs n ys e has = grind (arith, same_sets, put_sets-has, length-replicate, no_sets, length-put_sets)
 
 -- sets that are the same at the rights that are gone over
 pub put_sets-same : (rs : List ℕ) (cut other : ℕ → Option (List Bool)) (ys : Sets) →
@@ -141,5 +119,9 @@ pub put_sets-same : (rs : List ℕ) (cut other : ℕ → Option (List Bool)) (ys
 unfolding put_one
 put_sets-same [] cut other ys h = refl
 put_sets-same (r ∷ rs) cut other ys h =
-    put_sets-step r rs cut ys ∙ (ap (λ o. put_sets rs cut (put_one r o ys)) (h r (inl refl))
-    ∙ (put_sets-same rs cut other (put_one r (other r) ys) (λ k m. h k (inr m)) ∙ sym (put_sets-step r rs other ys)))
+    grind (
+      arith,
+      put_sets-step,
+      put_one,
+      put_sets-same rs cut other (put_one r (other r) ys) (λ k m. h k (inr m)) ∙ sym (put_sets-step r rs other ys),
+    )

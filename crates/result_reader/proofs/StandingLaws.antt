@@ -1,5 +1,5 @@
 -- A reader stands for the lines that it accepted.
-use Rattle.std.proofs.Common.{◌≡◌, ℕ, ◌+◌, ◌-◌, ◌≤◌, false, refl, sym, ap, subst, ◌∙◌, arith, List, [], ◌∷◌, ◌++◌}
+use Rattle.std.proofs.Common.{◌≡◌, ℕ, ◌+◌, ◌≤◌, false, refl, sym, ap, subst, ◌∙◌, arith, List, [], ◌∷◌, ◌++◌}
 use Rattle.std.specs.Prelude.{Option, Some, None, Ok, Err}
 use Rattle.std.specs.Option.{option_and_then}
 use Rattle.result_lines.specs.Spelling.{line_of}
@@ -7,7 +7,7 @@ use Rattle.water_model.specs.Valid.{IsValidBasin}
 use Rattle.result_lines.specs.declared.item.Item.{Item}
 use Rattle.water_model.specs.declared.types.Basin.{Basin}
 use Rattle.result_reader.specs.Due.{Due, is_call, step, all_due, due_after}
-use Rattle.result_reader.specs.Form.{due, due_from, due_in_month}
+use Rattle.result_reader.specs.Form.{due, due_in_month}
 use Rattle.result_reader.specs.Progress.{dues_of, due_of, IsNextProgress}
 use Rattle.result_reader.specs.OfText.{IsOfText}
 use Rattle.result_reader.specs.Reading.{item_of, read_line}
@@ -17,7 +17,6 @@ use Rattle.result_reader.specs.declared.bad_line.BadLine.TheVariants as bad
 use Rattle.result_reader.specs.declared.position.Position.TheVariants as position
 use Rattle.result_reader.specs.declared.progress.Progress.{Progress}
 use Rattle.result_reader.specs.declared.shape.Shape.{Shape}
-use Rattle.result_reader.specs.declared.shape.Shape.TheVariants as shape
 use Rattle.result_reader.proofs.Prefixes.{due_more}
 use Rattle.result_reader.proofs.LinesLeft.{step-fewer}
 use Rattle.result_reader.proofs.Sayings.{item_is_said}
@@ -30,12 +29,7 @@ reader_view b dues p left = record { basin = b; due = due_of b dues p; left = le
 pub all_due_first : (b : Basin) (dues : List Shape) →
     all_due b ≡ due_of b dues (record { position = position.Title; next_member = None; must = false })
 unfolding due
-all_due_first b dues =
-    ap (λ n. let d : Due = record { must = false; dues = shape.Title ∷ shape.Run ∷ due_from b 0 n } in
-    d) (whole b.months)
-  where
-    whole : (n : ℕ) → n ≡ n - 0
-    whole n = omega arith
+all_due_first b dues = grind arith
 
 -- what is due after one more line
 due_later : (b : Basin) (dues : List Shape) (p : Progress) (items : List Item) (i : Item) (s : Option (List Shape)) →
@@ -51,13 +45,11 @@ pub line_refused : (b : Basin) (dues : List Shape) (p : Progress) (left : ℕ) (
     reader_view b dues p left ≡ r → item_of b bytes ≡ Err why → (items : List Item) → ReaderStandsFor r items →
     Err why ≡ read_line r.basin items bytes
 unfolding read_line
-line_refused b dues p left r bytes why is h items stands =
-    subst (λ (s : ReaderView). Err why ≡ read_line s.basin items bytes) is (rw h refl)
+line_refused b dues p left r bytes why is h items stands = grind arith
 
 -- A line whose item may not come is out of place.
 pub line_blocked : (b : Basin) (dues : List Shape) (p : Progress) (left : ℕ) (r : ReaderView) (bytes : List ℕ)
-    (i : Item) →
-    reader_view b dues p left ≡ r → item_of b bytes ≡ Ok i → IsNextProgress b dues p i None →
+    (i : Item) → reader_view b dues p left ≡ r → item_of b bytes ≡ Ok i → IsNextProgress b dues p i None →
     (items : List Item) → ReaderStandsFor r items → Err bad.OutOfPlace ≡ read_line r.basin items bytes
 unfolding read_line
 line_blocked b dues p left r bytes i is h next items =
@@ -75,8 +67,7 @@ pub record IsTaken (b : Basin) (r : ReaderView) (bytes : List ℕ) (i : Item) (l
 
 -- A line whose item may come is accepted.
 pub line_taken : (b : Basin) (dues : List Shape) (p next : Progress) (left : ℕ) (r : ReaderView) (bytes : List ℕ)
-    (i : Item) →
-    reader_view b dues p left ≡ r → item_of b bytes ≡ Ok i → IsNextProgress b dues p i (Some next) →
+    (i : Item) → reader_view b dues p left ≡ r → item_of b bytes ≡ Ok i → IsNextProgress b dues p i (Some next) →
     (items : List Item) → ReaderStandsFor r items → IsTaken b r bytes i (due_of b dues next) items
 unfolding read_line
 line_taken b dues p next left r bytes i is h step items =

@@ -1,14 +1,18 @@
 -- A small machine that accepts the prefixes of what fills the lines that are due, and its steps.
-use Rattle.std.proofs.Common.{◌≡◌, ℕ, Bool, true, false, refl, sym, ◌∙◌, ap, subst, List, [], ◌∷◌, ◌++◌, inl, inr}
+use Rattle.std.proofs.Common.{map, arith, ◌≡◌, ℕ, Bool, true, false, refl, sym, ◌∙◌, ap, subst, List, [], ◌∷◌, ◌++◌}
+use Rattle.std.proofs.Common.{inl}
+use Rattle.std.proofs.Common.{inr}
 use Rattle.std.specs.Prelude.{◌&&◌, not, ◌⊎◌, Option, Some, None, if◌then◌else◌, ◌==◌, slice_index}
 use Rattle.std.specs.List.{list_all}
 use Rattle.std.specs.Option.{option_map_or}
+use Rattle.std.proofs.lemmas.Bool.{and_parts}
 use Rattle.std.proofs.lemmas.Slice.Eq.{bytes_eq-Decides}
 use Rattle.result_lines.specs.declared.quantity.Quantity.{Quantity}
 use Rattle.result_lines.specs.declared.quantity.Quantity.TheVariants as quantity
 use Rattle.water_model.specs.declared.types.Basin.{Basin}
 use Rattle.result_reader.specs.Form.{shape_of, number_of, key_of, is_same_shape, is_optional, is_allowed, fits}
 use Rattle.result_reader.specs.Due.{is_call, is_member, opened, take_line, step}
+use Rattle.water_model.specs.Indices.{numbers_from}
 use Rattle.result_lines.specs.declared.item.Item.{Item}
 use Rattle.result_reader.specs.declared.shape.Shape.{Shape}
 use Rattle.result_reader.specs.declared.shape.Shape.TheVariants as shape
@@ -17,6 +21,10 @@ use Rattle.result_reader.specs.declared.shape.Shape.TheVariants as shape
 abbrev pub accepts : Basin → Bool → List Shape → List Item → Bool
 accepts b must ds [] = not must && list_all is_optional ds
 accepts b must ds (item ∷ items) = option_map_or (λ es. accepts b (is_call item) es items) (step b must ds item) false
+
+-- `in` lines of this many nodes, from one on
+abbrev pub nodes_from : ℕ → ℕ → List Shape
+nodes_from k n = map (λ j. shape.Member j) (numbers_from k n)
 
 -- Shapes with one key are equal.
 
@@ -30,13 +38,7 @@ quantity_at n =
     else (if n == 5 then quantity.Outflow else quantity.Closing)))))
 
 quantity_at-number_of : (q : Quantity) → quantity_at (number_of q) ≡ q
-quantity_at-number_of quantity.Opening = refl
-quantity_at-number_of quantity.Evaporated = refl
-quantity_at-number_of quantity.Returned = refl
-quantity_at-number_of quantity.Used = refl
-quantity_at-number_of quantity.Flow = refl
-quantity_at-number_of quantity.Outflow = refl
-quantity_at-number_of quantity.Closing = refl
+quantity_at-number_of q = grind arith
 
 abbrev of_key : List ℕ → Shape
 of_key [] = shape.Title
@@ -52,22 +54,11 @@ of_key (w ∷ xs) =
     else (if w == 8 then shape.End else shape.Done (slice_index xs 0)))))))))
 
 of_key-key_of : (s : Shape) → of_key (key_of s) ≡ s
-of_key-key_of shape.Title = refl
-of_key-key_of shape.Run = refl
-of_key-key_of (shape.Month month) = refl
-of_key-key_of (shape.Amount q x) = ap (λ k. shape.Amount k x) (quantity_at-number_of q)
-of_key-key_of (shape.Deliver x) = refl
-of_key-key_of (shape.Call x) = refl
-of_key-key_of (shape.Member x) = refl
-of_key-key_of (shape.Called x) = refl
-of_key-key_of shape.End = refl
-of_key-key_of (shape.Done x) = refl
+of_key-key_of s = grind (arith, quantity_at-number_of)
 
 pub same_shape_is : (a b : Shape) → is_same_shape a b ≡ true → a ≡ b
 unfolding is_same_shape
-same_shape_is a b h =
-    let keys : key_of a ≡ key_of b = (bytes_eq-Decides (key_of a) (key_of b)).0 h in
-    sym (of_key-key_of a) ∙ (ap of_key keys ∙ of_key-key_of b)
+same_shape_is a b h = grind (arith, bytes_eq-Decides, of_key-key_of)
 
 pub same_shape_itself : (a : Shape) → is_same_shape a a ≡ true
 unfolding is_same_shape
@@ -77,11 +68,7 @@ same_shape_itself a = (bytes_eq-Decides (key_of a) (key_of a)).1 refl
 
 pub fits_shape : (b : Basin) (d : Shape) (i : Item) → fits b d i ≡ true → d ≡ shape_of i
 unfolding fits
-fits_shape b d i h = same_shape_is d (shape_of i) (first (is_same_shape d (shape_of i)) (is_allowed b i) h)
-  where
-    first : (p q : Bool) → p && q ≡ true → p ≡ true
-    first true q h = refl
-    first false q h = cc
+fits_shape b d i h = same_shape_is d (shape_of i) (and_parts (is_same_shape d (shape_of i)) (is_allowed b i) h).0
 
 pub fits_itself : (b : Basin) (i : Item) → is_allowed b i ≡ true → fits b (shape_of i) i ≡ true
 unfolding fits
@@ -125,21 +112,20 @@ within_after : (xs ds es : List Shape) → Within ds es → Within (xs ++ ds) (x
 within_after [] ds es h = h
 within_after (x ∷ xs) ds es h = inr (xs ++ ds, refl, within_after xs ds es h)
 
--- what takes an optional line leaves optional lines out
-abbrev TakesOptional : Basin → List Shape → Item → List Shape → Type 0
-TakesOptional b ds i after = (rest : List Shape) × (after ≡ opened b i ++ rest) × Within rest ds
+-- what a line leaves: after the line that is due for it, with optional lines before that left out
+abbrev pub Takes : Basin → List Shape → Item → List Shape → Type 0
+Takes b ds i after = (rest : List Shape) × (after ≡ opened b i ++ rest) × Within (shape_of i ∷ rest) ds
 
-takes_optional : (b : Basin) (ds : List Shape) (i : Item) (after : List Shape) → is_optional (shape_of i) ≡ true →
-    take_line b ds i ≡ Some after → TakesOptional b ds i after
-takes_optional b [] i after o h = cc
-takes_optional b (d ∷ ds) i after o h =
-    by_fit (fits b d i) refl (is_optional d) refl (λ k. takes_optional b ds i after o k)
+pub takes : (b : Basin) (ds : List Shape) (i : Item) (after : List Shape) → take_line b ds i ≡ Some after →
+    Takes b ds i after
+takes b [] i after h = let none : None ≡ Some after = h in cc
+takes b (d ∷ ds) i after h = by_fit (fits b d i) refl (is_optional d) refl (λ k. takes b ds i after k)
   where
     by_fit : (f : Bool) → fits b d i ≡ f → (p : Bool) → is_optional d ≡ p →
-        (take_line b ds i ≡ Some after → TakesOptional b ds i after) → TakesOptional b (d ∷ ds) i after
+        (take_line b ds i ≡ Some after → Takes b ds i after) → Takes b (d ∷ ds) i after
     by_fit true f p q further =
         let is : Some (opened b i ++ ds) ≡ Some after = sym (take_fits b d ds i f) ∙ h in
-        (ds, cc, inl (ap is_optional (fits_shape b d i f) ∙ o, within_itself ds))
+        (ds, cc, inr (ds, ap (λ x. x ∷ ds) (sym (fits_shape b d i f)), within_itself ds))
     by_fit false f true q further =
         let t = further (sym (take_skips b d ds i f q) ∙ h) in
         (t.0, t.1, inl (q, t.2))
@@ -158,12 +144,14 @@ take_within b ds (e ∷ es) i less w h =
         ((xs : List Shape) → Within xs es → take_line b xs i ≡ Some less → TakesWithin b es i less) →
         TakesWithin b (e ∷ es) i less
     by_fit (inl (o, j)) true f p q further =
-        let t : TakesOptional b ds i less =
-        takes_optional b ds i less (ap is_optional (sym (fits_shape b e i f)) ∙ o) h in (
+        let t : Takes b ds i less = takes b ds i less h in
+        let left : Within t.0 ds =
+        within_trans t.0 (shape_of i ∷ t.0) ds (inl (ap is_optional (sym (fits_shape b e i f)) ∙ o, within_itself t.0))
+        t.2 in (
           opened b i ++ es,
           take_fits b e es i f,
           subst (λ (xs : List Shape). Within xs (opened b i ++ es)) (sym t.1)
-              (within_after (opened b i) t.0 es (within_trans t.0 ds es t.2 j)),
+              (within_after (opened b i) t.0 es (within_trans t.0 ds es left j)),
         )
     by_fit (inr (rest, is, j)) true f p q further =
         let same : Some (opened b i ++ rest) ≡ Some less =
@@ -182,22 +170,19 @@ take_within b ds (e ∷ es) i less w h =
     by_fit (inr (rest, is, j)) false f false q further =
         let none : None ≡ Some less = sym (take_stops b e rest i f q) ∙ (sym (ap (λ xs. take_line b xs i) is) ∙ h) in cc
 
+both : (p q t : Bool) → p && q ≡ true → (q ≡ true → t ≡ true) → p && t ≡ true
+both true q t h k = k h
+both false q t h k = h
+
 within_optional : (ds es : List Shape) → Within ds es → list_all is_optional ds ≡ true → list_all is_optional es ≡ true
 within_optional ds [] w h = refl
 within_optional ds (e ∷ es) (inl (o, k)) h = rw o (within_optional ds es k h)
-within_optional ds (e ∷ es) (inr (rest, is, k)) h =
-    both (is_optional e) (list_all is_optional rest) (list_all is_optional es) (sym (ap (list_all is_optional) is) ∙ h)
-    (within_optional rest es k)
-  where
-    both : (p q t : Bool) → p && q ≡ true → (q ≡ true → t ≡ true) → p && t ≡ true
-    both true q t h k = k h
-    both false q t h k = h
+within_optional ds (e ∷ es) (inr (rest, is, k)) h = grind (arith, both, within_optional rest es k)
 
 -- Optional lines more take nothing away.
 
 pub accepts_step : (b : Basin) (must : Bool) (ds es : List Shape) (i : Item) (is : List Item) →
-    step b must ds i ≡ Some es →
-    accepts b must ds (i ∷ is) ≡ accepts b (is_call i) es is
+    step b must ds i ≡ Some es → accepts b must ds (i ∷ is) ≡ accepts b (is_call i) es is
 accepts_step b must ds es i is h = rw h refl
 
 pub step_open : (b : Basin) (must : Bool) (ds : List Shape) (i : Item) → must && not (is_member i) ≡ false →
@@ -213,8 +198,7 @@ abbrev pub StepsTo : Basin → Bool → List Shape → Item → List Item → Ty
 StepsTo b must ds i is = (es : List Shape) × (step b must ds i ≡ Some es) × (accepts b (is_call i) es is ≡ true)
 
 pub steps_to : (b : Basin) (must : Bool) (ds : List Shape) (i : Item) (is : List Item) →
-    accepts b must ds (i ∷ is) ≡ true →
-    StepsTo b must ds i is
+    accepts b must ds (i ∷ is) ≡ true → StepsTo b must ds i is
 steps_to b must ds i is h = by_step (step b must ds i) refl
   where
     by_step : (s : Option (List Shape)) → step b must ds i ≡ s → StepsTo b must ds i is
@@ -224,20 +208,14 @@ steps_to b must ds i is h = by_step (step b must ds i) refl
 
 pub accepts_within : (b : Basin) (must : Bool) (ds es : List Shape) (items : List Item) → Within ds es →
     accepts b must ds items ≡ true → accepts b must es items ≡ true
-accepts_within b must ds es [] w h =
-    both (not must) (list_all is_optional ds) (list_all is_optional es) h (within_optional ds es w)
-  where
-    both : (p q t : Bool) → p && q ≡ true → (q ≡ true → t ≡ true) → p && t ≡ true
-    both true q t h k = k h
-    both false q t h k = h
+accepts_within b must ds es [] w h = grind (arith, both, within_optional)
 accepts_within b must ds es (i ∷ is) w h =
     by_guard (must && not (is_member i)) refl (steps_to b must ds i is h)
     (λ xs cs j. accepts_within b (is_call i) xs cs is j)
   where
     by_guard : (g : Bool) → must && not (is_member i) ≡ g → StepsTo b must ds i is →
         ((xs cs : List Shape) → Within xs cs → accepts b (is_call i) xs is ≡ true →
-        accepts b (is_call i) cs is ≡ true) →
-        accepts b must es (i ∷ is) ≡ true
+        accepts b (is_call i) cs is ≡ true) → accepts b must es (i ∷ is) ≡ true
     by_guard true e s further = let none : None ≡ Some s.0 = sym (step_shut b must ds i e) ∙ s.1 in cc
     by_guard false e s further =
         let taken : take_line b ds i ≡ Some s.0 = sym (step_open b must ds i e) ∙ s.1 in

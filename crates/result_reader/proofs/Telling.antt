@@ -1,7 +1,7 @@
 -- What the lines of a month say.
 use Rattle.std.proofs.Common.{◌≡◌, ℕ, suc, ◌<◌, Bool, true, false, refl, sym, ap, ◌∙◌, arith, inl, inr, List, []}
 use Rattle.std.proofs.Common.{◌∷◌, ◌++◌, length, map, fold, replicate, append_assoc, length-append}
-use Rattle.std.specs.Prelude.{Some, option_map, ◌⊎◌, slice_index, slice_set}
+use Rattle.std.specs.Prelude.{Some, ◌⊎◌, slice_index, slice_set}
 use Rattle.std.proofs.Math.ListN.{length-set}
 use Rattle.std.proofs.lemmas.Bool.{cases_eq}
 use Rattle.std.proofs.lemmas.List.{get_or-set_other}
@@ -10,7 +10,7 @@ use Rattle.water_model.specs.declared.types.Basin.{Basin}
 use Rattle.water_model.specs.declared.types.Inflows.{Inflows}
 use Rattle.water_model.specs.Indices.{members_from}
 use Rattle.result_lines.specs.Text.{call_items}
-use Rattle.result_reader.specs.ReadSoFar.{ReadSoFar, read_item, with_member}
+use Rattle.result_reader.specs.ReadSoFar.{ReadSoFar, read_item}
 use Rattle.water_model.specs.CutSets.{set_of, with_set}
 use Rattle.result_lines.specs.declared.item.Item.TheVariants as line
 use Rattle.water_model.proofs.Order.{Has}
@@ -47,23 +47,13 @@ pub set_all-has : (xs : List ℕ) (a : ℕ → ℕ) (ys : List ℕ) (k : ℕ) �
 set_all-has [] a ys k l h = absurd h
 set_all-has (x ∷ xs) a ys k l (inr h) =
     set_all-has xs a (slice_set ys x (a x)) k (omega (arith, length-set ys x (a x))) h
-set_all-has (x ∷ xs) a ys k l (inl e) =
-    set_all-keeps xs a (slice_set ys x (a x)) k (omega (arith, length-set ys x (a x)))
-    (get_or-set_at ys x k (a x) 0 e (omega arith) ∙ ap a (sym e))
+set_all-has (x ∷ xs) a ys k l (inl e) = grind (arith, set_all-keeps, length-set, get_or-set_at)
 
 -- a list whose numbers are all set is the list of these numbers
 pub set_all-whole : (xs ys zs : List ℕ) → length ys ≡ length zs →
     ((k : ℕ) → k < length zs → Has xs k ⊎ ((Has xs k → ⊥) × (slice_index ys k ≡ slice_index zs k))) →
     set_all xs (λ k. slice_index zs k) ys ≡ zs
-set_all-whole xs ys zs len each =
-    same_number_lists (set_all xs (λ k. slice_index zs k) ys) zs (length-set_all xs (λ k. slice_index zs k) ys ∙ len)
-    (λ k l. by_place k (omega (arith, length-set_all xs (λ k. slice_index zs k) ys))
-    (each k (omega (arith, length-set_all xs (λ k. slice_index zs k) ys))))
-  where
-    by_place : (k : ℕ) → k < length ys → Has xs k ⊎ ((Has xs k → ⊥) × (slice_index ys k ≡ slice_index zs k)) →
-        slice_index (set_all xs (λ k. slice_index zs k) ys) k ≡ slice_index zs k
-    by_place k l (inl h) = set_all-has xs (λ k. slice_index zs k) ys k l h
-    by_place k l (inr (other, same)) = set_all-other xs (λ k. slice_index zs k) ys k other ∙ same
+set_all-whole xs ys zs len each = grind (arith, same_number_lists, length-set_all, set_all-has, set_all-other)
 
 -- The sets of a month.
 
@@ -86,39 +76,26 @@ tell_members : (b : Basin) (series : Inflows) (right : ℕ) (set prefix : List B
     right < length t.now.cuts.sets → set_of t.now.cuts right ≡ Some (prefix ++ replicate (length set) false) →
     fold (read_item b series) t (map (λ n. line.Member n) (members_from k set)) ≡ put_cut t right (prefix ++ set)
 unfolding members_from
-tell_members b series right [] prefix k t c n l h =
-    ap (λ xs. record t { now = record t.now { cuts = record t.now.cuts { sets = xs } } })
-    (sym (set_entry t.now.cuts.sets right (Some (prefix ++ [])) l h))
+tell_members b series right [] prefix k t c n l h = grind (arith, set_entry)
 tell_members b series right (true ∷ set) prefix k t c n l h =
-    ap (λ u. fold (read_item b series) u (map (λ n. line.Member n) (members_from (suc k) set))) so_far
-    ∙ (tell_members b series right set (prefix ++ true ∷ []) (suc k)
-    (put_cut t right (prefix ++ true ∷ replicate (length set) false)) c
-    (omega (arith, length-append prefix (true ∷ [])))
-    (omega (arith, length-set t.now.cuts.sets right (Some (prefix ++ true ∷ replicate (length set) false))))
-    (entry_set t.now.cuts.sets right (Some (prefix ++ true ∷ replicate (length set) false)) l
-    ∙ ap (λ xs. Some xs) (sym (append_assoc prefix (true ∷ []) (replicate (length set) false))))
-    ∙ (ap (λ xs. record t { now = record t.now { cuts = record t.now.cuts { sets = xs } } })
-    (set_twice t.now.cuts.sets right (Some (prefix ++ true ∷ replicate (length set) false))
-    (Some ((prefix ++ true ∷ []) ++ set)))
-    ∙ ap (λ xs. put_cut t right xs) (append_assoc prefix (true ∷ []) set)))
-  where
-    placed : slice_set (prefix ++ false ∷ replicate (length set) false) k true ≡ prefix ++ true ∷ replicate (length set)
-        false
-    placed = rw (← n) (slice_set-after prefix (replicate (length set) false) false true)
-
-    so_far : with_member t t.calling k ≡ put_cut t right (prefix ++ true ∷ replicate (length set) false)
-    so_far =
-        ap (λ o. with_member t o k) c
-        ∙ (ap (λ o. record t {
-          now =
-              record t.now { cuts = with_set t.now.cuts right (option_map (λ xs. slice_set xs k true) o) };
-        }) h
-        ∙ ap (λ xs. put_cut t right xs) placed)
+    let some : List Bool = prefix ++ true ∷ replicate (length set) false in
+    grind (
+      arith,
+      length-append,
+      set_twice,
+      append_assoc,
+      slice_set-after,
+      entry_set,
+      length-set,
+      tell_members b series right set (prefix ++ true ∷ []) (suc k) (put_cut t right some) c
+          (omega (arith, length-append prefix (true ∷ [])))
+          (omega (arith, length-set t.now.cuts.sets right (Some some))) (entry_set t.now.cuts.sets right (Some some) l
+          ∙ ap (λ xs. Some xs) (sym (append_assoc prefix (true ∷ []) (replicate (length set) false)))),
+    )
 tell_members b series right (false ∷ set) prefix k t c n l h =
     tell_members b series right set (prefix ++ false ∷ []) (suc k) t c
     (omega (arith, length-append prefix (false ∷ [])))
-    l
-    (h ∙ ap (λ xs. Some xs) (sym (append_assoc prefix (false ∷ []) (replicate (length set) false))))
+    l (h ∙ ap (λ xs. Some xs) (sym (append_assoc prefix (false ∷ []) (replicate (length set) false))))
     ∙ ap (λ xs. put_cut t right xs) (append_assoc prefix (false ∷ []) set)
 
 -- the lines of one right's set

@@ -1,12 +1,11 @@
 -- The text of records has the form.
 use Rattle.std.proofs.Common.{◌≡◌, ℕ, suc, Bool, true, false, refl, sym, ap, subst, ◌∙◌, arith, inl, inr, List, [], ◌∷◌}
 use Rattle.std.proofs.Common.{◌++◌, length, map, append-nil, append_assoc, length-append}
-use Rattle.std.specs.Prelude.{Option, Some, None, is_some, find, ◌&&◌, nat_lt, slice_index, if◌then◌else◌}
+use Rattle.std.specs.Prelude.{Option, Some, None, is_some, find, slice_index, if◌then◌else◌}
 use Rattle.std.specs.List.{flat_map, list_any}
-use Rattle.std.specs.Option.{option_map_or}
+use Rattle.std.proofs.Math.Bool.{and-false}
 use Rattle.water_model.proofs.Order.{find-passes}
 use Rattle.water_model.specs.Basin.{is_senior, taking_node}
-use Rattle.water_model.specs.Cuts.{takes_within, node_within}
 use Rattle.water_model.specs.Entries.{in_order}
 use Rattle.water_model.specs.Hydrology.{run_month}
 use Rattle.water_model.specs.History.{cut_of, calls, calling_right}
@@ -133,37 +132,13 @@ not_called : (b : Basin) (m : MonthRecord) (r : ℕ) (xs : List ℕ) → is_some
     find (λ caller. calls b m r caller) xs ≡ None
 unfolding calls
 not_called b m r [] h = refl
-not_called b m r (x ∷ xs) h = rw (fails x) (not_called b m r xs h)
-  where
-    nowhere : (o : Option ℕ) (cut : Option (List Bool)) → is_some o ≡ false →
-        option_map_or (λ c. node_within o c) cut false ≡ false
-    nowhere None None g = refl
-    nowhere None (Some c) g = refl
-    nowhere (Some node) cut g = cc
-
-    never : (p : Bool) → p && false ≡ false
-    never true = refl
-    never false = refl
-
-    fails : (x : ℕ) → calls b m r x ≡ false
-    fails x =
-        rw (nowhere (taking_node b r) (cut_of m x) h)
-        (never (nat_lt (slice_index m.delivered x) (slice_index m.want x) && is_senior b x r && nat_lt 0
-        (slice_index m.want r)))
+not_called b m r (x ∷ xs) h = grind (arith, and-false, not_called b m r xs h)
 
 called_senior : (b : Basin) (m : MonthRecord) (r caller : ℕ) → calling_right b m r ≡ Some caller →
     is_senior b caller r ≡ true
 unfolding calling_right calls
 called_senior b m r caller e =
-    third (nat_lt (slice_index m.delivered caller) (slice_index m.want caller)) (is_senior b caller r)
-    (nat_lt 0 (slice_index m.want r))
-    (option_map_or (λ cut. takes_within b cut r) (cut_of m caller) false)
-    (find-passes (λ c. calls b m r c) (seniors_first b) caller e).0
-  where
-    third : (p q t u : Bool) → p && q && t && u ≡ true → q ≡ true
-    third p true t u h = refl
-    third true false t u h = cc
-    third false false t u h = cc
+    let passes = (find-passes (λ c. calls b m r c) (seniors_first b) caller e).0 in grind arith
 
 has_calls : (b : Basin) (series : Inflows) (before : List MonthRecord) (m : MonthRecord) →
     IsTextMonth b series before m → HasCalls b m (calling_right b m)
@@ -225,9 +200,7 @@ text_fills b series records are all =
 -- each line of a text is accepted after those before it
 pub texts_are_accepted : TextsAreAccepted
 texts_are_accepted b series records before after item valid are all is =
-    may_come b before (line_of b item) item
-    (item-line b valid item
-    (of_text before item after
+    may_come b before (line_of b item) item (item-line b valid item (of_text before item after
     (subst (λ (xs : List Item). AreOfText b xs) is (records_of_text b series records valid are))))
     (record {
       rest = after;

@@ -1,5 +1,6 @@
 -- The lines of a month say all of its record.
-use Rattle.std.proofs.Common.{◌≡◌, ℕ, ◌+◌, ◌<◌, Bool, refl, sym, ap, subst, ◌∙◌, List, [], ◌∷◌, ◌++◌, length, map, fold}
+use Rattle.std.proofs.Common.{arith, ◌≡◌, ℕ, ◌+◌, ◌<◌, Bool, refl, sym, ap, subst, ◌∙◌, List, [], ◌∷◌, ◌++◌, length}
+use Rattle.std.proofs.Common.{map, fold}
 use Rattle.std.proofs.Common.{replicate, append_assoc, append-nil, length-append}
 use Rattle.std.specs.Prelude.{Option, Some, None, slice_index}
 use Rattle.std.specs.List.{flat_map}
@@ -17,7 +18,7 @@ use Rattle.result_lines.specs.declared.quantity.Quantity.TheVariants as quantity
 use Rattle.water_model.specs.declared.types.Basin.{Basin}
 use Rattle.water_model.specs.declared.types.Inflows.{Inflows}
 use Rattle.water_model.specs.declared.types.MonthRecord.{MonthRecord}
-use Rattle.result_reader.specs.ReadSoFar.{ReadSoFar, read_item, read_so_far, nothing_read, with_supply}
+use Rattle.result_reader.specs.ReadSoFar.{ReadSoFar, read_item, read_so_far, with_supply}
 use Rattle.result_reader.proofs.Telling.{set_all, fold-both}
 use Rattle.result_reader.proofs.MonthRead.{Reads, sections_read, take_of, with_section}
 use Rattle.result_reader.proofs.Sets.{put_sets}
@@ -70,8 +71,7 @@ pub month_read : (b : Basin) (series : Inflows) (m : MonthRecord) (caller_of : �
 unfolding month_lines
 month_read b series m caller_of t i a =
     ap (λ u. u.months) (fold-both (read_item b series) begun (flat_map (λ k. lines_in k b m caller_of) SECTIONS)
-    (line.End ∷ []))
-    ∙ (ap (λ ms. ms ++ with_supply b series after.now ∷ []) so_far.months_are
+    (line.End ∷ [])) ∙ (ap (λ ms. ms ++ with_supply b series after.now ∷ []) so_far.months_are
     ∙ ap (λ k. t.months ++ k ∷ []) (ap (with_supply b series) now_is ∙ end_is b series m a))
   where
     begun : ReadSoFar
@@ -86,8 +86,7 @@ month_read b series m caller_of t i a =
 
     now_is : after.now ≡ before_end b m
     now_is =
-        so_far.now_is
-        ∙ ap (λ n. fold (λ now k. with_section b m k now) (blank_month b n m.month) SECTIONS) (sym i)
+        so_far.now_is ∙ ap (λ n. fold (λ now k. with_section b m k now) (blank_month b n m.month) SECTIONS) (sym i)
 
 -- each record is the next month's, and all of it was read
 abbrev pub AreAllRead : Basin → Inflows → ℕ → List MonthRecord → Type 0
@@ -113,15 +112,10 @@ months_read b series (m ∷ ms) t h =
 -- the text's items give the records
 pub records_read : (b : Basin) (series : Inflows) (records : List MonthRecord) → AreAllRead b series 0 records →
     (read_so_far b series (items_of b records)).months ≡ records
-records_read b series records h =
-    ap (λ u. u.months)
-    (fold-both (read_item b series) (nothing_read b) (flat_map (items_of_month b) records) (line.Done b.months ∷ []))
-    ∙ months_read b series records (nothing_read b) h
+records_read b series records h = grind (arith, fold-both, months_read)
 
 -- Records whose items are the same are the same.
 pub one_reading_of_items : (b : Basin) (series : Inflows) (records others : List MonthRecord) →
     AreAllRead b series 0 records → AreAllRead b series 0 others →
     items_of b records ≡ items_of b others → records ≡ others
-one_reading_of_items b series records others h k e =
-    sym (records_read b series records h) ∙
-    (ap (λ is. (read_so_far b series is).months) e ∙ records_read b series others k)
+one_reading_of_items b series records others h k e = grind (arith, records_read)

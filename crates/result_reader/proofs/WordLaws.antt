@@ -1,5 +1,5 @@
 -- Words, and how they are spelled.
-use Rattle.std.proofs.Common.{◌≡◌, ℕ, zero, suc, ◌+◌, Bool, true, false, refl, sym, ap, ◌∙◌, List, [], ◌∷◌, drop}
+use Rattle.std.proofs.Common.{arith, ◌≡◌, ℕ, zero, suc, ◌+◌, Bool, true, false, refl, sym, ap, ◌∙◌, List, [], ◌∷◌, drop}
 use Rattle.std.proofs.Common.{add-one, Option, Some, None}
 use Rattle.std.specs.Prelude.{find, slice_get}
 use Rattle.std.specs.Str.{bytes_eq}
@@ -9,8 +9,7 @@ use Rattle.result_reader.specs.declared.words.Word.{Word}
 
 -- the search goes on after an element that fails
 pub find-next : {X : Type 0} (p : X → Bool) (xs : List X) (i : ℕ) (x : X) (answer : Option X) →
-    slice_get xs i ≡ Some x → p x ≡ false →
-    find p (drop i xs) ≡ answer → find p (drop (i + 1) xs) ≡ answer
+    slice_get xs i ≡ Some x → p x ≡ false → find p (drop i xs) ≡ answer → find p (drop (i + 1) xs) ≡ answer
 find-next {X} p xs i x answer at fails h = ap (λ n. find p (drop n xs)) (add-one i) ∙ (after xs i at ∙ h)
   where
     after : (xs : List X) (i : ℕ) → slice_get xs i ≡ Some x → find p (drop (suc i) xs) ≡ find p (drop i xs)
@@ -20,11 +19,7 @@ find-next {X} p xs i x answer at fails h = ap (λ n. find p (drop n xs)) (add-on
 
 find-Some : {X : Type 0} (p : X → Bool) (xs : List X) (x : X) → find p xs ≡ Some x → p x ≡ true
 find-Some p [] x h = cc
-find-Some p (y ∷ ys) x h = by_test (p y) refl (find-Some p ys x)
-  where
-    by_test : (t : Bool) → p y ≡ t → (find p ys ≡ Some x → p x ≡ true) → p x ≡ true
-    by_test true e further = let here : Some y ≡ Some x = rw e at h in let is : y ≡ x = cc in rw (← is) e
-    by_test false e further = further (rw e at h)
+find-Some p (y ∷ ys) x h = grind (arith, find-Some p ys x)
 
 -- what is read as a word is its spelling
 pub word_spelled : (bytes : List ℕ) (w : Word) → word_of bytes ≡ Some w → bytes ≡ spelling_of w

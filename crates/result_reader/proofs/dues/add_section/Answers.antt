@@ -1,6 +1,6 @@
 use Rattle.std.proofs.Common.{arith, ◌∙◌, sym, ap}
 use Rattle.std.specs.Prelude.{slice_get}
-use Rattle.water_model.specs.Entries.{count_in, in_order}
+use Rattle.water_model.specs.Entries.{in_order}
 use Rattle.result_lines.specs.Text.{section_space}
 use Rattle.water_model.proofs.Entries.{length-in_order}
 use Rattle.result_reader.specs.Form.{shapes_at}
@@ -17,13 +17,12 @@ loop-position-preserved c =
 
 pub returns : goal.returns
 returns c =
-    added-whole (shapes_at c.args.section c.args.basin.now) (in_order (section_space c.args.section) c.args.basin.now)
-    c.loop-position.position _ _
-    (omega (
+    grind (
       arith,
-      length-in_order (section_space c.args.section) c.args.basin.now,
+      added-whole,
+      length-in_order,
       c.count_in-count.ensures,
-      ap (λ space. count_in space c.args.basin.now) c.space-space.ensures,
+      c.space-space.ensures,
       c.loop-position-test.false,
-    ))
-    c.loop-position.invariant
+      c.loop-position.invariant,
+    )

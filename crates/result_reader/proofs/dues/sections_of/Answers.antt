@@ -1,4 +1,4 @@
-use Rattle.std.proofs.Common.{[]}
+use Rattle.std.proofs.Common.{arith, []}
 use Rattle.std.proofs.lemmas.Option.{slice_get-get_or}
 use Rattle.result_lines.specs.declared.item.TheConstants.{SECTIONS}
 use Rattle.result_reader.specs.Form.{shapes_in}
@@ -12,6 +12,4 @@ loop-section-preserved c =
     c.loop-section.invariant c.in_ok-add_section.ensures
 
 pub returns : goal.returns
-returns c =
-    added-whole (λ section. shapes_in section c.args.basin.now) SECTIONS c.loop-section.section-index [] _
-    c.loop-section-test.false c.loop-section.invariant
+returns c = grind (arith, added-whole, c.loop-section-test.false, c.loop-section.invariant)

@@ -1,11 +1,10 @@
-use Rattle.std.proofs.Common.{◌≡◌, ℕ, ◌++◌, refl, ap, ◌∙◌}
+use Rattle.std.proofs.Common.{arith, ◌≡◌, ℕ, ◌++◌, refl}
 use Rattle.std.specs.Prelude.{codes}
 use Rattle.result_lines.specs.Spelling.{fields_of, line_of}
 use Rattle.result_lines.specs.declared.item.Item.TheVariants as line
 use Rattle.water_model.specs.Entries.{name_in}
 use Rattle.water_model.specs.declared.space.Space.TheVariants as space
 use Rattle.water_model.specs.declared.types.Basin.{Basin}
-use Rattle.result_reader.specs.Reading.{item_of}
 use Rattle.result_reader.proofs.Spelled.{item-line}
 use Rattle.result_reader.proofs.reading.is_member_line.Goals as goal
 
@@ -14,10 +13,5 @@ unfolding line_of fields_of
 spelled b n = refl
 
 pub returns-in-Some : goal.returns-in-Some
-returns-in-Some c = λ e.
-    let b = c.args.names.now.basin.now in
-    let same : c.args.text.now ≡ line_of b (line.Member c.args.node) =
-    c.in-Some.ensures ∙ (ap (λ xs. codes "in " ++ xs) (c.has_name.ensures.same e) ∙ spelled b c.args.node) in
-    ap (item_of b) same
-    ∙ item-line b c.requires (line.Member c.args.node)
-    (record { of_basin = c.has_name.ensures.within e; numbers = tt })
+returns-in-Some c =
+    grind (arith, spelled, item-line, c.in-Some.ensures, c.has_name.ensures.same, c.requires, c.has_name.ensures.within)

@@ -1,8 +1,6 @@
-use Rattle.std.proofs.Common.{sym, ap, ◌∙◌}
+use Rattle.std.proofs.Common.{arith, sym, ap, ◌∙◌}
 use Rattle.std.specs.Prelude.{Err}
 use Rattle.std.proofs.lemmas.Result.{err_from_is_err_and}
-use Rattle.result_reader.specs.Reading.{item_of}
-use Rattle.result_reader.specs.Standing.{ReaderView}
 use Rattle.result_reader.proofs.StandingLaws.{line_refused}
 use Rattle.result_reader.proofs.reader.ResultReader.line.Goals as goal
 
@@ -15,11 +13,7 @@ returns-in_err-item-clause-answer c =
     c.in_err-item.field-0.0 c.self.view_is (sym c.item_by_fields.ensures ∙ c.in_err-item.was) items stands)
 
 pub accept-requires : goal.accept-requires
-accept-requires c =
-    ap (λ (r : ReaderView). item_of r.basin c.args.text.now) (sym c.self.view_is)
-    ∙ c.is_member_line.ensures c.if-is_member_line.true
+accept-requires c = grind (arith, c.self.view_is, c.is_member_line.ensures, c.if-is_member_line.true)
 
 pub accept-requires-2 : goal.accept-requires-2
-accept-requires-2 c =
-    ap (λ (r : ReaderView). item_of r.basin c.args.text.now) (sym c.self.view_is)
-    ∙ (sym c.item_by_fields.ensures ∙ c.in_ok-item.was)
+accept-requires-2 c = grind (arith, c.self.view_is, c.item_by_fields.ensures, c.in_ok-item.was)
