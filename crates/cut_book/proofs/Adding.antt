@@ -1,12 +1,14 @@
 -- What the lines of an account book add up to.
-use Rattle.std.proofs.Common.{◌≡◌, ℕ, zero, suc, ◌+◌, ◌<◌, ◌≤◌, Bool, true, false, refl, sym, ap, ◌∙◌, arith, List, []}
+use Rattle.std.proofs.Common.{◌≡◌, ℕ, zero, suc, ◌+◌, ◌≤◌, Bool, true, false, refl, sym, ap, ◌∙◌, arith, List, []}
 use Rattle.std.proofs.Common.{◌∷◌, ◌++◌, length, inl, inr}
-use Rattle.std.specs.Prelude.{slice_index, Option, Some, None, max, pos, ◌-ℤ◌, if◌then◌else◌, ◌&&◌, ◌⊎◌, not, nat_lt}
+use Rattle.std.specs.Prelude.{slice_index, Option, Some, None, pos, ◌-ℤ◌, if◌then◌else◌, ◌&&◌, not, nat_lt}
 use Rattle.std.specs.Prelude.{◌==◌, filter, sum_by}
 use Rattle.std.specs.List.{flat_map}
+use Rattle.std.proofs.lemmas.Bool.{cases_lt}
 use Rattle.std.proofs.lemmas.Bool.Decides.{nat_tests}
 use Rattle.std.proofs.lemmas.List.Sums.{sum_by-cons, sum_by-append}
-use Rattle.finite_sums.specs.Sums.{total, total_where, greatest_where}
+use Rattle.finite_sums.specs.Sums.{total, total_where}
+use Rattle.finite_sums.proofs.Terms.{greatest_is}
 use Rattle.finite_sums.proofs.Totals.{total_first, total_same}
 use Rattle.water_model.specs.Basin.{is_on_link, is_senior}
 use Rattle.water_model.specs.Cuts.{enters, leaves, takes_within, kept_on, cut_capacity, cut_kept}
@@ -145,72 +147,19 @@ nothing_in p b right set =
     same_at true x = refl
     same_at false x = refl
 
--- What is kept on a link is some right's delivery, or nothing.
-
-abbrev IsAttained : ℕ → (ℕ → Bool) → (ℕ → ℕ) → Type 0
-IsAttained n p f = (k : ℕ) × (k < n) × (p k ≡ true) × (f k ≡ greatest_where n p f)
-
-greatest_attained : (n : ℕ) (p : ℕ → Bool) (f : ℕ → ℕ) → (greatest_where n p f ≡ 0) ⊎ IsAttained n p f
-unfolding greatest_where
-greatest_attained zero p f = inl refl
-greatest_attained (suc n) p f = by_test (p n) refl (greatest_attained n p f)
-  where
-    by_test : (t : Bool) → p n ≡ t → (greatest_where n p f ≡ 0) ⊎ IsAttained n p f → (greatest_where (suc n) p f ≡ 0) ⊎
-        IsAttained (suc n) p f
-    by_test false e (inl none) =
-        inl (ap (λ t. max (greatest_where n p f) (if t then f n else 0)) e ∙ omega (arith, none))
-    by_test false e (inr at) =
-        inr (
-          at.0,
-          omega (arith, at.1),
-          at.2,
-          at.3
-              ∙ (omega arith ∙ sym (ap (λ t. max (greatest_where n p f) (if t then f n else 0)) e)),
-        )
-    by_test true e (inl none) =
-        inr (
-          n,
-          omega arith,
-          e,
-          (let is : f n ≡ max (greatest_where n p f) (f n) = omega (arith, none) in is)
-              ∙ sym (ap (λ t. max (greatest_where n p f) (if t then f n else 0)) e),
-        )
-    by_test true e (inr at) = elim (least_or (f n) (greatest_where n p f)) [
-      | inl less ↦
-          inr (
-            at.0,
-            omega (arith, at.1),
-            at.2,
-            at.3
-                ∙ ((let is : greatest_where n p f ≡ max (greatest_where n p f) (f n) = omega arith in is)
-                ∙ sym (ap (λ t. max (greatest_where n p f) (if t then f n else 0)) e)),
-          )
-      | inr more ↦
-          inr (
-            n,
-            omega arith,
-            e,
-            (let is : f n ≡ max (greatest_where n p f) (f n) = omega arith in is)
-                ∙ sym (ap (λ t. max (greatest_where n p f) (if t then f n else 0)) e),
-          )
-    ]
-      where
-        least_or : (x y : ℕ) → (x ≤ y) ⊎ (y ≤ x)
-        least_or x y = grind arith
-
--- so where nobody holds the amount that is kept, it is nothing
+-- What is kept on a link is some right's delivery, or nothing: where nobody holds the amount, it is nothing.
 nobody_holds : (b : Basin) (delivered : List ℕ) (right link : ℕ) →
     holder_of b delivered link (kept_on b delivered right link) ≡ None → kept_on b delivered right link ≡ 0
 unfolding holder_of
-nobody_holds b delivered right link none =
-    elim (greatest_attained (length b.rights) (λ s. is_on_link b s link && is_senior b s right)
-    (λ s. slice_index delivered s)) [
-      | inl nothing ↦ nothing
-      | inr at ↦
-          absurd (clash
-          (sym (passes at.0 at.2 at.3) ∙ find-none (holds_amount b delivered link (kept_on b delivered right link))
-          (seniors_first b) at.0 none (seniors_have b.rights at.0 at.1)))
-    ]
+nobody_holds b delivered right link none = elim (cases_lt 0 (kept_on b delivered right link)) [
+  | inl some ↦
+      (let at = greatest_is (length b.rights) (λ s. is_on_link b s link && is_senior b s right)
+      (λ s. slice_index delivered s) some in
+      absurd (clash
+      (sym (passes at.0 at.2 at.3) ∙ find-none (holds_amount b delivered link (kept_on b delivered right link))
+      (seniors_first b) at.0 none (seniors_have b.rights at.0 at.1))))
+  | inr nothing ↦ omega arith
+]
   where
     clash : true ≡ false → ⊥
     clash e = cc
