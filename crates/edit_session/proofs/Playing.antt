@@ -22,7 +22,7 @@ use Rattle.edit_script.specs.declared.edit.Edit.TheVariants.{Inflow, Want, Show}
 use Rattle.edit_session.specs.Sessions.{HasKeptMonths, SessionView}
 use Rattle.month_fold.proofs.Works.{Solves-then, Solves-within}
 use Rattle.month_fold.specs.Works.{Solves, WorkDone}
-use Rattle.edit_session.proofs.Agreeing.{runs_agree}
+use Rattle.edit_session.proofs.Changes.{runs_agree}
 use Rattle.edit_session.specs.Shown.{Answers, AnswersWhole, AreShown, HaveShown, IsMonthOf, PutsPrefix, done_bytes}
 use Rattle.edit_session.specs.Shown.{months_bytes, shows_in}
 use Rattle.edit_session.specs.declared.stop.EditStop.{EditStop}
