@@ -14,7 +14,6 @@ use Rattle.next_unit.specs.Core.{IsLeastTight}
 use Rattle.next_unit.proofs.Helping.{short_has_reach}
 use Rattle.next_unit.proofs.Least.{core_is_least_tight_cut}
 use Rattle.call_list.specs.Helping.{IsHelpingText, helping_bytes, helping_lines, link_lines, node_lines}
-use Rattle.call_list.specs.declared.entry.Entry.{Entry}
 use Rattle.call_list.specs.declared.entry.Entry.TheVariants as line
 
 -- the record has a set of a short right
@@ -52,9 +51,10 @@ helping_text b m r core given reaches l short is_core = record {
     least = core_least b m r core given reaches l short is_core
 
 -- its lines: the first, those of the nodes and those of the links
-pub help_pieces : (b : Basin) (m : MonthRecord) (r : ℕ) (reach core : List Bool) (first : Entry) →
-    first ≡ line.Where m.month r (slice_index m.delivered r) (slice_index m.want r) →
-    first ∷ ((flat_map (node_lines core) (indices_of b.nodes) ++ (flat_map (link_lines b reach core)
-    (indices_of b.links) ++ [])) ++ [])
+pub help_pieces : (b : Basin) (m : MonthRecord) (r : ℕ) (reach core : List Bool) (amount want : ℕ) →
+    slice_index m.delivered r ≡ amount → slice_index m.want r ≡ want →
+    line.Where m.month r amount want
+    ∷ ((flat_map (node_lines core) (indices_of b.nodes) ++ (flat_map (link_lines b reach core) (indices_of b.links)
+    ++ [])) ++ [])
     ≡ helping_lines b m r reach core
-help_pieces b m r reach core first is = rw is (simp append-nil)
+help_pieces b m r reach core amount want is wants = rw (is, wants) (simp append-nil)

@@ -9,21 +9,32 @@ use Rattle.water_model.specs.CutSets.{CutSets, set_of, with_set, without_sets}
 use Rattle.water_model.specs.Lookups.{has}
 use Rattle.water_model.specs.declared.types.Basin.{Basin}
 use Rattle.water_model.specs.declared.types.MonthRecord.{MonthRecord}
-use Rattle.water_model.proofs.SetEntries.{emptied, set_of_with}
+use Rattle.water_model.proofs.SetEntries.{set_of_with}
 use Rattle.plan_residual.proofs.Queues.{nowhere}
 use Rattle.plan_residual.specs.Core.{IsCore}
 use Rattle.call_list.specs.Helpers.{HoldsCore, HoldsPrefix, HoldsSet}
 
--- before the first node
-pub prefix_none : (c : CutSets) (r : ℕ) (set : List Bool) → length set ≡ c.nodes →
-    set_of c r ≡ Some (replicate c.nodes false) → HoldsPrefix c c r set 0
-prefix_none c r set sized is = record {
+-- there are as many rights where all sets were given up
+pub cleared_size : (c : CutSets) → length (without_sets c).sets ≡ length c.sets
+cleared_size c = length-map {B = Option (List Bool)} c.sets (λ _. None)
+
+-- the empty set, where all sets were given up and this one was begun
+pub begun : (c : CutSets) (r : ℕ) (set : List Bool) → r < length c.sets → length set ≡ c.nodes →
+    HoldsPrefix c (with_set (without_sets c) r (Some (replicate c.nodes false))) r set 0
+begun c r set l sized = record {
   prefix = replicate c.nodes false;
-  holds = record { rights = refl; nodes = refl; is = is };
+  holds = record {
+    rights = length-set (without_sets c).sets r (Some (replicate c.nodes false)) ∙ cleared;
+    nodes = refl;
+    is = set_of_with (without_sets c) r (Some (replicate c.nodes false)) (omega (arith, cleared));
+  };
   sized = length-replicate c.nodes false ∙ sym sized;
   settled = λ n l. absurd (omega arith);
   rest = λ n l. nowhere c.nodes n;
 }
+  where
+    cleared : length (without_sets c).sets ≡ length c.sets
+    cleared = cleared_size c
 
 -- one more node that the set doesn't have
 pub prefix_skip : (before now : CutSets) (r : ℕ) (set : List Bool) (k : ℕ) → has set k ≡ false →
@@ -73,32 +84,6 @@ prefix_whole before now r set k all so = subst (λ (xs : List Bool). HoldsSet be
   where
     same : so.prefix ≡ set
     same = ext_get_or false so.prefix set so.sized (λ i l. so.settled i (omega (arith, so.sized)))
-
--- there are as many rights where all sets were given up
-pub cleared_size : (c d : CutSets) → d ≡ without_sets c → length d.sets ≡ length c.sets
-cleared_size c d cleared = rw cleared (length-map {B = Option (List Bool)} c.sets (λ _. None))
-
--- and a right was then given the empty set
-pub begun : (c d e : CutSets) (r : ℕ) → d ≡ without_sets c → e ≡ with_set d r (Some (replicate d.nodes false)) →
-    r < length c.sets → HoldsSet c e r (replicate e.nodes false)
-begun c d e r cleared given l = record {
-  rights = rw given (length-set d.sets r (Some (replicate d.nodes false)) ∙ cleared_size c d cleared);
-  nodes = ap (λ (x : CutSets). x.nodes) given ∙ ap (λ (x : CutSets). x.nodes) cleared;
-  is = rw given (set_of_with d r (Some (replicate d.nodes false)) (omega (arith, cleared_size c d cleared)));
-}
-
--- no right has a set where all were given up
-pub cleared_none : (c d : CutSets) (r : ℕ) → d ≡ without_sets c → set_of d r ≡ None
-cleared_none c d r cleared = rw cleared (emptied c.sets r)
-
--- the later set stays
-pub later_set : (c d e : CutSets) (r : ℕ) (before set : List Bool) → HoldsSet c d r before → HoldsSet d e r set →
-    HoldsSet c e r set
-later_set c d e r before set first later = record {
-  rights = later.rights ∙ first.rights;
-  nodes = later.nodes ∙ first.nodes;
-  is = later.is;
-}
 
 -- a core that is kept
 pub core_kept : (b : Basin) (m : MonthRecord) (r : ℕ) (old new : CutSets) (core : List Bool) → r < length b.rights →

@@ -1,12 +1,10 @@
 //! Where one more unit would help a short right, one `put` for each line.
-ghost use Rattle.std.specs.Prelude.{◌≡◌, ℕ, ◌<◌, ◌≤◌, Some, List, IfOk, IfSome, IsErr, false, length, replicate};
-ghost use Rattle.std.specs.Prelude.{slice_index};
+ghost use Rattle.std.specs.Prelude.{◌≡◌, ℕ, ◌<◌, ◌≤◌, Some, List, IfOk, IfSome, IsErr, length};
 ghost use Rattle.std.specs.List.{flat_map};
 ghost use Rattle.std.specs.Option.{option_to_list};
 ghost use Rattle.cut_cert.specs.Sets.{HasCut, cut_at};
 ghost use Rattle.rights_roll.specs.Rolls.{IsRollOf};
 ghost use Rattle.water_edge.specs.Edge.{HasCause, Puts};
-ghost use Rattle.water_model.specs.CutSets.{set_of};
 ghost use Rattle.water_model.specs.History.{HasReaches, IsShort};
 ghost use Rattle.water_model.specs.Valid.{IsValidBasin};
 ghost use Rattle.water_model.specs.declared.space.Space.TheVariants.{Links, Nodes};
@@ -45,21 +43,6 @@ impl Model for HelpFinder {
     ghost view = { λ f. record { search = f.search; cuts = f.cuts } };
 }
 
-/// Adds the nodes of a set to a right's empty one.
-fn mark(cuts: &mut CutList, right: u32, set: &[bool])
-    requires right { right < length cuts.old.sets }
-    requires nodes { length set.now ≡ cuts.old.nodes }
-    requires bounded { length set.now ≤ 2000 }
-    requires empty { set_of cuts.old right ≡ Some (replicate cuts.old.nodes false) }
-    ensures { HoldsSet cuts.old cuts.new right set.now }
-{
-    for node in 0..set.len() {
-        if set[node] {
-            cuts.add(right, node as u32);
-        }
-    }
-}
-
 /// Keeps a set as a right's, and gives up all others.
 fn keep(cuts: &mut CutList, right: u32, set: &[bool])
     requires right { right < length cuts.old.sets }
@@ -69,7 +52,11 @@ fn keep(cuts: &mut CutList, right: u32, set: &[bool])
 {
     cuts.clear();
     cuts.begin(right);
-    mark(cuts, right, set);
+    for node in 0..set.len() {
+        if set[node] {
+            cuts.add(right, node as u32);
+        }
+    }
 }
 
 impl HelpFinder {
@@ -176,22 +163,6 @@ impl<'b> Listing for Help<'b> {
     }
 }
 
-/// The first line: what a right got and wanted.
-fn first_line(basin: &Basin, month: &MonthRecord, right: u32) -> Entry
-    requires month { FitsText basin.now month.now }
-    requires right { right < length basin.now.rights }
-    ensures value { result ≡ Entry.Where month.now.month right
-        (slice_index month.now.delivered right) (slice_index month.now.want right) }
-    ensures named { IsOfBasin basin.now result }
-{
-    Entry::Where {
-        month: month.month,
-        right,
-        amount: month.delivered[right as usize],
-        want: month.want[right as usize],
-    }
-}
-
 /// Puts what a right got and wanted, the nodes of its core, and the links that lead from outside its reach into the
 /// core.
 fn put_indices<K: Sink>(
@@ -218,7 +189,12 @@ fn put_indices<K: Sink>(
         core,
         right,
     };
-    let first = first_line(basin, month, right);
+    let first = Entry::Where {
+        month: month.month,
+        right,
+        amount: month.delivered[right as usize],
+        want: month.want[right as usize],
+    };
     let parts = [Space::Nodes, Space::Links];
     put_listing(sink, &help, basin, roll, &[first], &parts, &[])
 }

@@ -57,30 +57,6 @@ impl<'b> MonthCalls<'b> {
         }
     }
 
-    /// The line of a node, if one more unit there would be a right's.
-    fn next_at(&self, node: u32) -> Option<Entry>
-        requires { node < length self.now.basin.nodes }
-        ensures lines { option_to_list result ≡ lines_of self.now Part.Nexts node }
-        ensures named { IfSome result (IsOfBasin self.now.basin) }
-    {
-        match self.next[node as usize] {
-            Some(right) => Some(Entry::Next { node, right }),
-            None => None,
-        }
-    }
-
-    /// The line of a link, if one more unit of carry on it would help a right.
-    fn link_at(&self, link: u32) -> Option<Entry>
-        requires { link < length self.now.basin.links }
-        ensures lines { option_to_list result ≡ lines_of self.now Part.Links link }
-        ensures named { IfSome result (IsOfBasin self.now.basin) }
-    {
-        match self.helped[link as usize] {
-            Some(right) => Some(Entry::Link { link, right }),
-            None => None,
-        }
-    }
-
     /// The right for which another is curtailed, or none.
     #[tactic(auto, unfolding(crate::specs::Found::curtailed_for))]
     fn caller_of(&self, right: u32) -> Option<u32>
@@ -100,18 +76,6 @@ impl<'b> MonthCalls<'b> {
         }
     }
 
-    /// The line of a right, if it is curtailed.
-    fn curtailed_at(&self, right: u32) -> Option<Entry>
-        requires { right < length self.now.basin.rights }
-        ensures lines { option_to_list result ≡ lines_of self.now Part.Curtailed right }
-        ensures named { IfSome result (IsOfBasin self.now.basin) }
-    {
-        match self.caller_of(right) {
-            Some(caller) => Some(Entry::Curtailed { right, caller }),
-            None => None,
-        }
-    }
-
     /// The line of an index of a part, if it has one.
     pub(crate) fn line_at(&self, part: Part, position: u32) -> Option<Entry>
         requires { position < count_in (space_of part) self.now.basin }
@@ -120,9 +84,18 @@ impl<'b> MonthCalls<'b> {
     {
         match part {
             Part::Shorts => self.short_at(position),
-            Part::Nexts => self.next_at(position),
-            Part::Links => self.link_at(position),
-            Part::Curtailed => self.curtailed_at(position),
+            Part::Nexts => self.next[position as usize].map(|right| Entry::Next {
+                node: position,
+                right,
+            }),
+            Part::Links => self.helped[position as usize].map(|right| Entry::Link {
+                link: position,
+                right,
+            }),
+            Part::Curtailed => self.caller_of(position).map(|caller| Entry::Curtailed {
+                right: position,
+                caller,
+            }),
         }
     }
 }

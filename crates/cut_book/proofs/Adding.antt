@@ -1,17 +1,18 @@
 -- What the lines of an account book add up to.
-use Rattle.std.proofs.Common.{◌≡◌, ℕ, zero, suc, ◌+◌, ◌<◌, ◌≤◌, Bool, true, false, refl, sym, ap, ◌∙◌, arith, List, []}
-use Rattle.std.proofs.Common.{◌∷◌, ◌++◌, length, inl, inr}
-use Rattle.std.specs.Prelude.{slice_index, Option, Some, None, max, pos, ◌-ℤ◌, if◌then◌else◌, ◌&&◌, ◌⊎◌, not, nat_lt}
+use Rattle.std.proofs.Common.{◌≡◌, ℕ, zero, suc, ◌+◌, ◌≤◌, Bool, true, false, refl, sym, ap, ◌∙◌, arith, List, []}
+use Rattle.std.proofs.Common.{◌∷◌, length, inl, inr}
+use Rattle.std.specs.Prelude.{slice_index, Option, Some, None, pos, ◌-ℤ◌, if◌then◌else◌, ◌&&◌, nat_lt}
 use Rattle.std.specs.Prelude.{◌==◌, filter, sum_by}
 use Rattle.std.specs.List.{flat_map}
+use Rattle.std.proofs.lemmas.Bool.{cases_lt}
 use Rattle.std.proofs.lemmas.Bool.Decides.{nat_tests}
 use Rattle.std.proofs.lemmas.List.Sums.{sum_by-cons, sum_by-append}
-use Rattle.finite_sums.specs.Sums.{total, total_where, greatest_where}
+use Rattle.finite_sums.specs.Sums.{total, total_where}
+use Rattle.finite_sums.proofs.Terms.{greatest_is, none_where}
 use Rattle.finite_sums.proofs.Totals.{total_first, total_same}
 use Rattle.water_model.specs.Basin.{is_on_link, is_senior}
-use Rattle.water_model.specs.Cuts.{enters, leaves, takes_within, kept_on, cut_capacity, cut_kept}
-use Rattle.water_model.specs.Lookups.{has}
-use Rattle.water_model.specs.Entries.{in_order}
+use Rattle.water_model.specs.Cuts.{kept_on, cut_capacity, cut_kept}
+use Rattle.water_model.specs.Entries.{count_in, in_order}
 use Rattle.water_model.specs.Indices.{numbers_from, indices_of, put_right, sort_rights, by_seniority, seniors_first}
 use Rattle.water_model.specs.Plans.{carry_of}
 use Rattle.water_model.specs.declared.types.Basin.{Basin}
@@ -32,10 +33,6 @@ use Rattle.cut_book.specs.declared.part.Part.TheVariants as part
 sum_same : {X : Type 0} (f g : X → ℕ) (xs : List X) → ((x : X) → f x ≡ g x) → sum_by f xs ≡ sum_by g xs
 sum_same f g [] h = refl
 sum_same f g (x ∷ xs) h = sum_by-cons f x xs ∙ (omega (arith, h x, sum_same f g xs h) ∙ sym (sum_by-cons g x xs))
-
-sum_none : {X : Type 0} (f : X → ℕ) (xs : List X) → ((x : X) → f x ≡ 0) → sum_by f xs ≡ 0
-sum_none f [] h = refl
-sum_none f (x ∷ xs) h = sum_by-cons f x xs ∙ omega (arith, h x, sum_none f xs h)
 
 sum_flat : {X Y : Type 0} (g : Y → ℕ) (f : X → List Y) (xs : List X) →
     sum_by g (flat_map f xs) ≡ sum_by (λ x. sum_by g (f x)) xs
@@ -101,116 +98,66 @@ sum_filtered g (e ∷ es) most = by_test (has_amount e) refl (sum_filtered g es 
     by_test false h rest =
         rw h (rest ∙ (omega (arith, nothing (g e) (amount_of e) h (most e)) ∙ sym (sum_by-cons g e es)))
 
-brought_most : (e : BookLine) → brought e ≤ amount_of e
-brought_most (line.Why month right amount want) = omega arith
-brought_most (line.Supply node amount) = omega arith
-brought_most (line.Enter link amount) = omega arith
-brought_most (line.Keep link amount holder) = omega arith
-brought_most (line.Take right amount) = omega arith
-brought_most (line.Sum amount) = omega arith
-
-kept_most : (e : BookLine) → kept e ≤ amount_of e
-kept_most (line.Why month right amount want) = omega arith
-kept_most (line.Supply node amount) = omega arith
-kept_most (line.Enter link amount) = omega arith
-kept_most (line.Keep link amount holder) = omega arith
-kept_most (line.Take right amount) = omega arith
-kept_most (line.Sum amount) = omega arith
+-- nor does a line more than its amount
+within_amount : (e : BookLine) → (brought e ≤ amount_of e) × (kept e ≤ amount_of e)
+within_amount (line.Why month right amount want) = (omega arith, omega arith)
+within_amount (line.Supply node amount) = (omega arith, omega arith)
+within_amount (line.Enter link amount) = (omega arith, omega arith)
+within_amount (line.Keep link amount holder) = (omega arith, omega arith)
+within_amount (line.Take right amount) = (omega arith, omega arith)
+within_amount (line.Sum amount) = (omega arith, omega arith)
 
 one : (g : BookLine → ℕ) (e : BookLine) → sum_by g (e ∷ []) ≡ g e
 one g e = sum_by-cons g e [] ∙ omega arith
 
--- the lines of a part, by what its terms are worth
-sum_part : (g : BookLine → ℕ) (p : Part) (b : Basin) (m : MonthRecord) (right : ℕ) (set : List Bool) (value : ℕ → ℕ) →
-    ((e : BookLine) → g e ≤ amount_of e) → ((k : ℕ) → sum_by g (terms_at p b m right k) ≡ value k) →
-    sum_by g (lines_in p b m right set)
-    ≡ sum_by (λ k. if counts p b right set k then value k else 0) (in_order (space_of p) b)
-sum_part g p b m right set value most is =
+-- the indices of a part, in its order
+sum_ordered : (p : Part) (b : Basin) (g : ℕ → ℕ) → sum_by g (in_order (space_of p) b) ≡ total (count_in (space_of p) b) g
+sum_ordered part.Supplies b g = sum_indices g b.nodes
+sum_ordered part.Enters b g = sum_indices g b.links
+sum_ordered part.Keeps b g = sum_indices g b.links
+sum_ordered part.Takes b g = sum_seniors b g
+
+-- what the lines of a part are worth, by its terms
+abbrev worth : (Part → ℕ → ℕ) → Basin → ℕ → List Bool → Part → ℕ
+worth value b right set p = total_where (count_in (space_of p) b) (counts p b right set) (value p)
+
+sum_part : (g : BookLine → ℕ) (value : Part → ℕ → ℕ) (p : Part) (b : Basin) (m : MonthRecord) (right : ℕ)
+    (set : List Bool) → ((e : BookLine) → g e ≤ amount_of e) →
+    ((k : ℕ) → sum_by g (terms_at p b m right k) ≡ value p k) →
+    sum_by g (lines_in p b m right set) ≡ worth value b right set p
+sum_part g value p b m right set most is =
     sum_flat g (lines_at p b m right set) (in_order (space_of p) b)
-    ∙ sum_same (λ k. sum_by g (lines_at p b m right set k)) (λ k. if counts p b right set k then value k else 0)
-    (in_order (space_of p) b) (λ k. at k (counts p b right set k))
+    ∙ sum_same _ (λ k. if counts p b right set k then value p k else 0) (in_order (space_of p) b)
+    (λ k. at k (counts p b right set k))
+    ∙ sum_ordered p b (λ k. if counts p b right set k then value p k else 0)
   where
     at : (k : ℕ) (t : Bool) →
-        sum_by g (if t then filter has_amount (terms_at p b m right k) else []) ≡ (if t then value k else 0)
+        sum_by g (if t then filter has_amount (terms_at p b m right k) else []) ≡ (if t then value p k else 0)
     at k true = sum_filtered g (terms_at p b m right k) most ∙ is k
     at k false = refl
 
-nothing_in : (p : Part) (b : Basin) (right : ℕ) (set : List Bool) →
-    sum_by (λ k. if counts p b right set k then 0 else 0) (in_order (space_of p) b) ≡ 0
-nothing_in p b right set =
-    sum_none (λ k. if counts p b right set k then 0 else 0) (in_order (space_of p) b)
-    (λ k. same_at (counts p b right set k) 0)
-  where
-    same_at : (t : Bool) (x : ℕ) → (if t then x else x) ≡ x
-    same_at true x = refl
-    same_at false x = refl
+sum_terms : (g : BookLine → ℕ) (value : Part → ℕ → ℕ) (b : Basin) (m : MonthRecord) (right : ℕ) (set : List Bool) →
+    ((e : BookLine) → g e ≤ amount_of e) → ((p : Part) (k : ℕ) → sum_by g (terms_at p b m right k) ≡ value p k) →
+    sum_by g (terms b m right set)
+    ≡ sum_by (worth value b right set) (part.Supplies ∷ part.Enters ∷ part.Keeps ∷ part.Takes ∷ [])
+sum_terms g value b m right set most is =
+    let parts : List Part = part.Supplies ∷ part.Enters ∷ part.Keeps ∷ part.Takes ∷ [] in
+    sum_flat g (λ p. lines_in p b m right set) parts
+    ∙ sum_same _ (worth value b right set) parts (λ p. sum_part g value p b m right set most (is p))
 
--- What is kept on a link is some right's delivery, or nothing.
-
-abbrev IsAttained : ℕ → (ℕ → Bool) → (ℕ → ℕ) → Type 0
-IsAttained n p f = (k : ℕ) × (k < n) × (p k ≡ true) × (f k ≡ greatest_where n p f)
-
-greatest_attained : (n : ℕ) (p : ℕ → Bool) (f : ℕ → ℕ) → (greatest_where n p f ≡ 0) ⊎ IsAttained n p f
-unfolding greatest_where
-greatest_attained zero p f = inl refl
-greatest_attained (suc n) p f = by_test (p n) refl (greatest_attained n p f)
-  where
-    by_test : (t : Bool) → p n ≡ t → (greatest_where n p f ≡ 0) ⊎ IsAttained n p f → (greatest_where (suc n) p f ≡ 0) ⊎
-        IsAttained (suc n) p f
-    by_test false e (inl none) =
-        inl (ap (λ t. max (greatest_where n p f) (if t then f n else 0)) e ∙ omega (arith, none))
-    by_test false e (inr at) =
-        inr (
-          at.0,
-          omega (arith, at.1),
-          at.2,
-          at.3
-              ∙ (omega arith ∙ sym (ap (λ t. max (greatest_where n p f) (if t then f n else 0)) e)),
-        )
-    by_test true e (inl none) =
-        inr (
-          n,
-          omega arith,
-          e,
-          (let is : f n ≡ max (greatest_where n p f) (f n) = omega (arith, none) in is)
-              ∙ sym (ap (λ t. max (greatest_where n p f) (if t then f n else 0)) e),
-        )
-    by_test true e (inr at) = elim (least_or (f n) (greatest_where n p f)) [
-      | inl less ↦
-          inr (
-            at.0,
-            omega (arith, at.1),
-            at.2,
-            at.3
-                ∙ ((let is : greatest_where n p f ≡ max (greatest_where n p f) (f n) = omega arith in is)
-                ∙ sym (ap (λ t. max (greatest_where n p f) (if t then f n else 0)) e)),
-          )
-      | inr more ↦
-          inr (
-            n,
-            omega arith,
-            e,
-            (let is : f n ≡ max (greatest_where n p f) (f n) = omega arith in is)
-                ∙ sym (ap (λ t. max (greatest_where n p f) (if t then f n else 0)) e),
-          )
-    ]
-      where
-        least_or : (x y : ℕ) → (x ≤ y) ⊎ (y ≤ x)
-        least_or x y = grind arith
-
--- so where nobody holds the amount that is kept, it is nothing
+-- What is kept on a link is some right's delivery, or nothing: where nobody holds the amount, it is nothing.
 nobody_holds : (b : Basin) (delivered : List ℕ) (right link : ℕ) →
     holder_of b delivered link (kept_on b delivered right link) ≡ None → kept_on b delivered right link ≡ 0
 unfolding holder_of
-nobody_holds b delivered right link none =
-    elim (greatest_attained (length b.rights) (λ s. is_on_link b s link && is_senior b s right)
-    (λ s. slice_index delivered s)) [
-      | inl nothing ↦ nothing
-      | inr at ↦
-          absurd (clash
-          (sym (passes at.0 at.2 at.3) ∙ find-none (holds_amount b delivered link (kept_on b delivered right link))
-          (seniors_first b) at.0 none (seniors_have b.rights at.0 at.1)))
-    ]
+nobody_holds b delivered right link none = elim (cases_lt 0 (kept_on b delivered right link)) [
+  | inl some ↦
+      (let at = greatest_is (length b.rights) (λ s. is_on_link b s link && is_senior b s right)
+      (λ s. slice_index delivered s) some in
+      absurd (clash
+      (sym (passes at.0 at.2 at.3) ∙ find-none (holds_amount b delivered link (kept_on b delivered right link))
+      (seniors_first b) at.0 none (seniors_have b.rights at.0 at.1))))
+  | inr nothing ↦ omega arith
+]
   where
     clash : true ≡ false → ⊥
     clash e = cc
@@ -247,63 +194,49 @@ no_brought b m right link = by_holder (holder_of b m.delivered link (kept_on b m
     by_holder None = refl
     by_holder (Some holder) = one brought (line.Keep link (kept_on b m.delivered right link) holder)
 
--- all parts
-sum_terms : (g : BookLine → ℕ) (b : Basin) (m : MonthRecord) (right : ℕ) (set : List Bool) (s e k t : ℕ) →
-    sum_by g (lines_in part.Supplies b m right set) ≡ s → sum_by g (lines_in part.Enters b m right set) ≡ e →
-    sum_by g (lines_in part.Keeps b m right set) ≡ k → sum_by g (lines_in part.Takes b m right set) ≡ t →
-    sum_by g (terms b m right set) ≡ s + e + k + t
-sum_terms g b m right set s e k t is_s is_e is_k is_t =
-    let supplies = lines_in part.Supplies b m right set in
-    let enters = lines_in part.Enters b m right set in
-    let keeps = lines_in part.Keeps b m right set in
-    let takes = lines_in part.Takes b m right set in
-    omega (
-      arith,
-      sum_by-append g supplies (enters ++ (keeps ++ (takes ++ []))),
-      sum_by-append g enters (keeps ++ (takes ++ [])),
-      sum_by-append g keeps (takes ++ []),
-      sum_by-append g takes [],
-      is_s,
-      is_e,
-      is_k,
-      is_t,
-    )
-
 pub brought_is_capacity : (b : Basin) (m : MonthRecord) (right : ℕ) (set : List Bool) →
     sum_by brought (terms b m right set) ≡ cut_capacity b m.month m.supply set
 brought_is_capacity b m right set =
-    sum_terms brought b m right set (total_where (length b.nodes) (λ n. has set n) (λ n. slice_index m.supply n))
-    (total_where (length b.links) (λ e. enters b set e) (λ e. carry_of b m.month e)) 0 0
-    (sum_part brought part.Supplies b m right set (λ n. slice_index m.supply n) brought_most
-    (λ n. one brought (line.Supply n (slice_index m.supply n)))
-    ∙ sum_indices (λ n. if has set n then slice_index m.supply n else 0) b.nodes)
-    (sum_part brought part.Enters b m right set (λ e. carry_of b m.month e) brought_most
-    (λ e. one brought (line.Enter e (carry_of b m.month e)))
-    ∙ sum_indices (λ e. if enters b set e then carry_of b m.month e else 0) b.links)
-    (sum_part brought part.Keeps b m right set (λ e. 0) brought_most (no_brought b m right)
-    ∙ nothing_in part.Keeps b right set)
-    (sum_part brought part.Takes b m right set (λ s. 0) brought_most
-    (λ s. one brought (line.Take s (slice_index m.delivered s))) ∙ nothing_in part.Takes b right set)
-    ∙ omega arith
+    sum_terms brought value b m right set (λ e. (within_amount e).0) each
+    ∙ omega (
+      arith,
+      none_where (length b.links) (counts part.Keeps b right set) (λ e. 0) (λ k l passes. refl),
+      none_where (length b.rights) (counts part.Takes b right set) (λ s. 0) (λ k l passes. refl),
+    )
+  where
+    value : Part → ℕ → ℕ
+    value part.Supplies n = slice_index m.supply n
+    value part.Enters e = carry_of b m.month e
+    value part.Keeps e = 0
+    value part.Takes s = 0
+
+    each : (p : Part) (k : ℕ) → sum_by brought (terms_at p b m right k) ≡ value p k
+    each part.Supplies n = one brought (line.Supply n (slice_index m.supply n))
+    each part.Enters e = one brought (line.Enter e (carry_of b m.month e))
+    each part.Keeps e = no_brought b m right e
+    each part.Takes s = one brought (line.Take s (slice_index m.delivered s))
 
 pub kept_is_kept : (b : Basin) (m : MonthRecord) (right : ℕ) (set : List Bool) →
     sum_by kept (terms b m right set) ≡ cut_kept b m.delivered right set
 kept_is_kept b m right set =
-    sum_terms kept b m right set 0 0
-    (total_where (length b.links) (λ e. leaves b set e && not (is_on_link b right e))
-    (λ e. kept_on b m.delivered right e))
-    (total_where (length b.rights) (λ s. takes_within b set s && is_senior b s right) (λ s. slice_index m.delivered s))
-    (sum_part kept part.Supplies b m right set (λ n. 0) kept_most
-    (λ n. one kept (line.Supply n (slice_index m.supply n))) ∙ nothing_in part.Supplies b right set)
-    (sum_part kept part.Enters b m right set (λ e. 0) kept_most (λ e. one kept (line.Enter e (carry_of b m.month e)))
-    ∙ nothing_in part.Enters b right set)
-    (sum_part kept part.Keeps b m right set (λ e. kept_on b m.delivered right e) kept_most (kept_terms b m right)
-    ∙ sum_indices (λ e. if leaves b set e && not (is_on_link b right e) then kept_on b m.delivered right e else 0)
-    b.links)
-    (sum_part kept part.Takes b m right set (λ s. slice_index m.delivered s) kept_most
-    (λ s. one kept (line.Take s (slice_index m.delivered s)))
-    ∙ sum_seniors b (λ s. if takes_within b set s && is_senior b s right then slice_index m.delivered s else 0))
-    ∙ omega arith
+    sum_terms kept value b m right set (λ e. (within_amount e).1) each
+    ∙ omega (
+      arith,
+      none_where (length b.nodes) (counts part.Supplies b right set) (λ n. 0) (λ k l passes. refl),
+      none_where (length b.links) (counts part.Enters b right set) (λ e. 0) (λ k l passes. refl),
+    )
+  where
+    value : Part → ℕ → ℕ
+    value part.Supplies n = 0
+    value part.Enters e = 0
+    value part.Keeps e = kept_on b m.delivered right e
+    value part.Takes s = slice_index m.delivered s
+
+    each : (p : Part) (k : ℕ) → sum_by kept (terms_at p b m right k) ≡ value p k
+    each part.Supplies n = one kept (line.Supply n (slice_index m.supply n))
+    each part.Enters e = one kept (line.Enter e (carry_of b m.month e))
+    each part.Keeps e = kept_terms b m right e
+    each part.Takes s = one kept (line.Take s (slice_index m.delivered s))
 
 pub lines_make_bound : LinesMakeBound
 lines_make_bound b m right set =

@@ -1,28 +1,54 @@
--- A changed series, and the months before the change.
+-- A changed series, the months before the change, and months that agree with those of a fresh run.
 use Rattle.std.proofs.Common.{◌≡◌, ℕ, ◌+◌, ◌*◌, ◌^◌, ◌<◌, ◌≤◌, Bool, true, false, refl, sym, ap, ◌∙◌, arith, List}
-use Rattle.std.proofs.Common.{length, take, min}
-use Rattle.std.specs.Prelude.{if◌then◌else◌, slice_get, Option, Some, None, unwrap_or, option_map}
-use Rattle.std.proofs.lemmas.List.{length-set, take_min}
+use Rattle.std.proofs.Common.{length, take, min, ◌≢◌, subst, suc}
+use Rattle.std.specs.Prelude.{if◌then◌else◌, slice_get, Option, Some, None, unwrap_or, option_map, slice_set}
+use Rattle.std.proofs.lemmas.List.{length-set, take_min, get_or-set_other, length-take}
 use Rattle.std.proofs.lemmas.List.Elements.{All-set}
 use Rattle.water_model.specs.Basin.{instream_link}
 use Rattle.water_model.specs.Lookups.{of_entry}
 use Rattle.water_model.specs.Hydrology.{inflow_of_kind, want_by_volume, cap_by_link, number_of, run_month, table_at}
-use Rattle.water_model.specs.Valid.{IsSeriesOf, is_gauged, is_gauged_kind, is_in_series}
+use Rattle.water_model.specs.Hydrology.{index_in}
+use Rattle.water_model.specs.Valid.{IsSeriesOf, is_gauged, is_gauged_kind, is_in_series, IsValidBasin}
 use Rattle.water_model.specs.declared.types.Basin.{Basin}
 use Rattle.water_model.specs.declared.types.Inflow.TheVariants.{Monthly, Gauged}
 use Rattle.water_model.specs.declared.types.Inflow as inflow
 use Rattle.water_model.specs.declared.types.Inflows.{Inflows}
 use Rattle.water_model.specs.declared.types.MonthRecord.{MonthRecord}
-use Rattle.water_model.proofs.Gauges.{gauge_within, wanted_within}
+use Rattle.water_model.proofs.Gauges.{gauge_within, wanted_within, cell_within}
 use Rattle.edit_script.specs.Edits.{edited_by, kept_by, IsValidEdit, with_inflow, with_want}
 use Rattle.edit_session.specs.Laws.{AgreeBefore, EditedSeriesFit, KeptMonthsStay}
 use Rattle.edit_session.specs.SessionInside.{IsValidSession}
-use Rattle.edit_session.specs.Sessions.{records_of}
+use Rattle.edit_session.specs.Sessions.{records_of, HasKeptMonths}
 use Rattle.edit_session.specs.declared.session.Session.TheInside.{Inside}
 use Rattle.edit_script.specs.declared.edit.Edit.{Edit}
 use Rattle.edit_script.specs.declared.edit.Edit.TheVariants.{Inflow, Want, Show}
-use Rattle.edit_session.proofs.Columns.{earlier_stays}
-use Rattle.edit_session.proofs.Prefixes.{prefix_partial, prefix_reaches}
+use Rattle.std.proofs.lemmas.Option.{slice_get_within}
+use Rattle.water_model.proofs.Histories.{follows_alike}
+use Rattle.water_model.proofs.Lists.{get_prefix, take_prefix}
+use Rattle.water_model.specs.History.{IsPartialHistory, Follows, HaveReaches}
+use Rattle.month_fold.proofs.Outcomes.{runs_have_one_outcome}
+use Rattle.edit_session.specs.Shown.{AgreesWithRuns}
+use Rattle.duality.proofs.Balance.{slice_get-take}
+
+-- The prefix of a partial history is one, also of a series that agrees with its own up to there.
+pub prefix_partial : (b : Basin) (series other : Inflows) (records : List MonthRecord) (month : ℕ) →
+    AgreeBefore b series other month →
+    IsPartialHistory b series records → IsPartialHistory b other (take month records)
+prefix_partial b series other records month agree h = record {
+  within = omega (arith, length-take month records, h.within);
+  each = λ j m e.
+      let r = get_prefix records month j m e in
+      let within : j < length records = slice_get_within records j m r.1 in
+      subst (λ (xs : List MonthRecord). Follows b other xs m) (sym (take_prefix records month j (omega (arith, r.0))))
+      (let follows = h.each j m r.1 in
+      let early : m.index < month = omega (arith, follows.after.index, length-take j records, r.0) in
+      follows_alike b series other (take j records) m (λ n l. agree.inflows n m.index l early)
+      (λ right used l. agree.wants right m.index used l early) follows);
+}
+
+pub prefix_reaches : (b : Basin) (records : List MonthRecord) (month : ℕ) → HaveReaches b records →
+    HaveReaches b (take month records)
+prefix_reaches b records month h = λ j m e. h j m (get_prefix records month j m e).1
 
 -- a changed series is one of its basin
 pub edited_fits : EditedSeriesFit
@@ -47,6 +73,16 @@ entry_same {X} xs k f g same = of_option (slice_get xs k) same
         unwrap_or (option_map f o) 0 ≡ unwrap_or (option_map g o) 0
     of_option None same = refl
     of_option (Some x) same = same x refl
+
+-- a number of an earlier month stays
+pub earlier_stays : (keys cells : List ℕ) (i index column key amount : ℕ) → i < index →
+    index_in keys key < length keys →
+    table_at keys (slice_set cells (index * length keys + column) amount) i key ≡ table_at keys cells i key
+earlier_stays keys cells i index column key amount l within =
+    get_or-set_other cells (index * length keys + column) (i * length keys + index_in keys key) amount 0 other
+  where
+    other : i * length keys + index_in keys key ≢ index * length keys + column
+    other e = let below = cell_within i index (length keys) (index_in keys key) l within in omega arith
 
 -- series agree before a month where their tables do
 tables_agree : (b : Basin) (series other : Inflows) (month : ℕ) →
@@ -78,6 +114,10 @@ tables_agree b series other month amounts wants = record {
     by_test true x y z same = same refl
     by_test false x y z same = refl
 
+-- a series agrees with itself
+same_series : (b : Basin) (series : Inflows) (month : ℕ) → AgreeBefore b series series month
+same_series b series month = record { inflows = λ node i l m. refl; wants = λ right i used l m. refl }
+
 -- the months that are kept over a change are before it
 edited_agrees : (b : Basin) (series : Inflows) (count : ℕ) (e : Edit) → IsSeriesOf b series →
     AgreeBefore b series (edited_by series e) (kept_by count e)
@@ -91,10 +131,7 @@ edited_agrees b series count (Want index place amount) fits =
     (λ node i l early gauged. refl)
     (λ right i l early wanted. sym (earlier_stays series.wanted series.want i index place right amount (omega arith)
     (wanted_within b series right fits l wanted)))
-edited_agrees b series count (Show index) fits = record {
-  inflows = λ node i l early. refl;
-  wants = λ right i used l early. refl;
-}
+edited_agrees b series count (Show index) fits = same_series b series count
 
 pub kept_stays : KeptMonthsStay
 kept_stays b series records e fits placed kept = record {
@@ -117,3 +154,23 @@ stays_ready old new e ready placed engine series kept = record {
   kept = rw (engine, series, kept)
       (kept_stays old.engine.basin old.series (records_of old.kept.items) e ready.series placed ready.kept);
 }
+
+-- a month that a session keeps agrees with that of a fresh run
+pub runs_agree : (b : Basin) (series : Inflows) (index : ℕ) (months : List MonthRecord) (m : MonthRecord) →
+    IsValidBasin b →
+    HasKeptMonths (record { basin = b; series = series; kept = months }) → slice_get months index ≡ Some m →
+    AgreesWithRuns b series index m
+runs_agree b series index months m valid kept at records n other at' =
+    let same = same_series b series (suc index) in
+    runs_have_one_outcome b series (take (suc index) months) (take (suc index) records) valid
+    (prefix_partial b series series months (suc index) same kept.partial)
+    (prefix_partial b series series records (suc index) same other.partial)
+    (prefix_reaches b months (suc index) kept.reaches) (prefix_reaches b records (suc index) other.reaches)
+    (omega (
+      arith,
+      length-take (suc index) months,
+      length-take (suc index) records,
+      slice_get_within months index m at,
+      slice_get_within records index n at',
+    ))
+    index m n (slice_get-take months index ∙ at) (slice_get-take records index ∙ at')

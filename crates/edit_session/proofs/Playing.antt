@@ -1,11 +1,10 @@
 -- A script answered line by line.
-use Rattle.std.proofs.Common.{◌≡◌, ℕ, zero, suc, ◌+◌, ◌*◌, ◌<◌, ◌≤◌, refl, sym, ap, subst, ◌∙◌, arith, List, [], ◌∷◌}
+use Rattle.std.proofs.Common.{◌≡◌, ℕ, zero, suc, ◌+◌, ◌<◌, refl, sym, subst, arith, List, [], ◌∷◌}
 use Rattle.std.proofs.Common.{◌++◌, length, take, drop, get_or, append-nil, add-one, drop-cons, inr}
-use Rattle.std.specs.Prelude.{Some, Ok, Err, All, slice_get}
+use Rattle.std.specs.Prelude.{Some, Result, Ok, Err, slice_get}
 use Rattle.std.specs.List.{flat_map}
 use Rattle.std.proofs.lemmas.Grind.{flat_map-append}
-use Rattle.std.proofs.lemmas.List.{take_more, length-take}
-use Rattle.std.proofs.Math.Nat.{add-mul}
+use Rattle.std.proofs.lemmas.List.{length-take}
 use Rattle.water_edge.specs.Edge.{Extends, Output}
 use Rattle.water_edge.proofs.Outputs.{Extends-nil, Extends-trans}
 use Rattle.result_lines.specs.Spelling.{whole_line}
@@ -17,34 +16,17 @@ use Rattle.water_model.specs.declared.types.MonthRecord.{MonthRecord}
 use Rattle.result_text.specs.Range.{FitsText}
 use Rattle.water_edge.proofs.Puts.{PutsPrefix-then}
 use Rattle.result_text.proofs.Whole.{FitsText-follows}
-use Rattle.edit_script.specs.Edits.{IsValidEdit, cost_from, edited, edited_by, kept_by, solved_by}
+use Rattle.edit_script.specs.Edits.{IsValidEdit, cost_from, edited_by, kept_by, solved_by}
 use Rattle.edit_script.specs.declared.edit.Edit.{Edit}
 use Rattle.edit_script.specs.declared.edit.Edit.TheVariants.{Inflow, Want, Show}
 use Rattle.edit_session.specs.Sessions.{HasKeptMonths, SessionView}
+use Rattle.month_fold.proofs.Works.{Solves-then, Solves-within}
 use Rattle.month_fold.specs.Works.{Solves, WorkDone}
-use Rattle.senior_hold.specs.MonthNetwork.{month_pushes}
-use Rattle.edit_session.proofs.Agreeing.{runs_agree}
+use Rattle.edit_session.proofs.Changes.{runs_agree}
 use Rattle.edit_session.specs.Shown.{Answers, AnswersWhole, AreShown, HaveShown, IsMonthOf, PutsPrefix, done_bytes}
 use Rattle.edit_session.specs.Shown.{months_bytes, shows_in}
 use Rattle.edit_session.specs.declared.stop.EditStop.{EditStop}
 use Rattle.edit_session.specs.declared.stop.EditStop.TheVariants as stop
-
--- lines after lines
-edited_after : (series : Inflows) (es fs : List Edit) → edited series (es ++ fs) ≡ edited (edited series es) fs
-edited_after series [] fs = refl
-edited_after series (e ∷ es) fs = edited_after (edited_by series e) es fs
-
-shown_after : (b : Basin) (series : Inflows) (es fs : List Edit) (xs ys : List MonthRecord) → AreShown b series es xs →
-    AreShown b (edited series es) fs ys →
-    AreShown b series (es ++ fs) (xs ++ ys)
-shown_after b series [] fs [] ys h k = k
-shown_after b series [] fs (x ∷ xs) ys h k = cc
-shown_after b series (Inflow index gauge amount ∷ es) fs xs ys h k =
-    shown_after b (edited_by series (Inflow index gauge amount)) es fs xs ys h k
-shown_after b series (Want index place amount ∷ es) fs xs ys h k =
-    shown_after b (edited_by series (Want index place amount)) es fs xs ys h k
-shown_after b series (Show index ∷ es) fs [] ys h k = absurd h
-shown_after b series (Show index ∷ es) fs (x ∷ xs) ys h k = (h.0, shown_after b series es fs xs ys h.1 k)
 
 bytes_after : (b : Basin) (xs ys : List MonthRecord) →
     months_bytes b (xs ++ ys) ≡ months_bytes b xs ++ months_bytes b ys
@@ -60,169 +42,98 @@ placed_by b series (Want index place amount) (Want i p a) h = h
 placed_by b series (Want index place amount) (Show i) h = h
 placed_by b series (Show index) e h = h
 
-placed_after : (b : Basin) (series : Inflows) (ds : List Edit) (e : Edit) → IsValidEdit b series e →
-    IsValidEdit b (edited series ds) e
-placed_after b series [] e h = h
-placed_after b series (d ∷ ds) e h = placed_after b (edited_by series d) ds e (placed_by b series d e h)
+-- a first line, and then others
+shown_then : (b : Basin) (series : Inflows) (e : Edit) (es : List Edit) (xs ys : List MonthRecord) →
+    AreShown b series (e ∷ []) xs → AreShown b (edited_by series e) es ys → AreShown b series (e ∷ es) (xs ++ ys)
+shown_then b series (Inflow index gauge amount) es xs ys h k = rw h k
+shown_then b series (Want index place amount) es xs ys h k = rw h k
+shown_then b series (Show index) es [] ys h k = absurd h
+shown_then b series (Show index) es (x ∷ xs) ys h k = (h.0, rw h.1 k)
 
--- the first lines were answered
-pub record IsPlayed (b : Basin) (series now : Inflows) (edits : List Edit) (old new : Output) (i : ℕ) : Type 0
-  where
-    pub shown : List MonthRecord
-    pub are : AreShown b series (take i edits) shown
-    pub edited : now ≡ edited series (take i edits)
-    pub put : Extends old new (months_bytes b shown)
+have_then : (b : Basin) (series : Inflows) (e : Edit) (es : List Edit) (xs ys : List MonthRecord) →
+    AreShown b series (e ∷ []) xs → HaveShown b (edited_by series e) es ys → HaveShown b series (e ∷ es) (xs ++ ys)
+have_then b series e es xs ys h k =
+    record { count = suc k.count; are = shown_then b series e (take k.count es) xs ys h k.are }
 
-pub played_none : (b : Basin) (series : Inflows) (edits : List Edit) (old : Output) →
-    IsPlayed b series series edits old old 0
-played_none b series edits old = record {
-  shown = [];
-  are = none edits;
-  edited = same edits;
-  put = Extends-nil old;
-}
-  where
-    none : (es : List Edit) → AreShown b series (take 0 es) []
-    none [] = refl
-    none (e ∷ es) = refl
-
-    same : (es : List Edit) → series ≡ edited series (take 0 es)
-    same [] = refl
-    same (e ∷ es) = refl
-
-pub next_placed : (b : Basin) (series now : Inflows) (edits : List Edit) (old new : Output) (i : ℕ)
-    (e : Edit) → IsPlayed b series now edits old new i →
-    All (IsValidEdit b series) edits → i < length edits → e ≡ get_or edits i e → IsValidEdit b now e
-next_placed b series now edits old new i e played placed l is =
-    subst (λ s. IsValidEdit b s e) (sym played.edited)
-    (placed_after b series (take i edits) e (subst (IsValidEdit b series) (sym is) (placed i e l)))
-
-one_more : (edits : List Edit) (i : ℕ) (e : Edit) → i < length edits → e ≡ get_or edits i e →
-    take (i + 1) edits ≡ take i edits ++ e ∷ []
-one_more edits i e l is = take_more edits i e l ∙ ap (λ x. take i edits ++ x ∷ []) (sym is)
-
-pub played_more : (b c : Basin) (series now then' : Inflows) (edits : List Edit) (old mid new : Output) (i : ℕ)
-    (e : Edit) (u : Unit {0}) → c ≡ b →
-    IsPlayed b series now edits old mid i → i < length edits → e ≡ get_or edits i e →
-    Answers c now (e ∷ []) (Ok u) mid new → then' ≡ edited_by now e →
-    IsPlayed b series then' edits old new (i + 1)
-played_more b c series now then' edits old mid new i e u same played l is shows next = record {
-  shown = played.shown ++ answers.0;
-  are = subst (λ (es : List Edit). AreShown b series es (played.shown ++ answers.0)) (sym (one_more edits i e l is))
-      (shown_after b series (take i edits) (e ∷ []) played.shown answers.0 played.are
-      (subst (λ s. AreShown b s (e ∷ []) answers.0) played.edited answers.1));
-  edited = next
-      ∙ (ap (λ s. edited_by s e) played.edited
-      ∙ (sym (edited_after series (take i edits) (e ∷ [])) ∙ ap (edited series) (sym (one_more edits i e l is))));
-  put = subst (λ (bytes : List ℕ). Extends old new bytes) (sym (bytes_after b played.shown answers.0))
-      (Extends-trans old mid new _ _ played.put answers.2);
-}
-  where
-    answers : Answers b now (e ∷ []) (Ok u) mid new
-    answers = subst (λ (x : Basin). Answers x now (e ∷ []) (Ok u) mid new) same shows
-
--- months shown by the line at i, and those before it
-have_more : (b : Basin) (series now : Inflows) (edits : List Edit) (old mid : Output) (i : ℕ) (e : Edit)
-    (ys : List MonthRecord) →
-    (played : IsPlayed b series now edits old mid i) → i < length edits → e ≡ get_or edits i e →
-    HaveShown b now (e ∷ []) ys → HaveShown b series edits (played.shown ++ ys)
-have_more b series now edits old mid i e ys played l is have =
-    by_count have.count (subst (λ s. AreShown b s (take have.count (e ∷ [])) ys) played.edited have.are)
-  where
-    by_count : (count : ℕ) → AreShown b (edited series (take i edits)) (take count (e ∷ [])) ys →
-        HaveShown b series edits (played.shown ++ ys)
-    by_count zero h =
-        record {
-          count = i;
-          are =
-              subst (λ (es : List Edit). AreShown b series es (played.shown ++ ys)) (append-nil (take i edits))
-              (shown_after b series (take i edits) [] played.shown ys played.are h);
-        }
-    by_count (suc zero) h =
-        record {
-          count = i + 1;
-          are =
-              subst (λ (es : List Edit). AreShown b series es (played.shown ++ ys)) (sym (one_more edits i e l is))
-              (shown_after b series (take i edits) (e ∷ []) played.shown ys played.are h);
-        }
-    by_count (suc (suc n)) h =
-        record {
-          count = i + 1;
-          are =
-              subst (λ (es : List Edit). AreShown b series es (played.shown ++ ys)) (sym (one_more edits i e l is))
-              (shown_after b series (take i edits) (e ∷ []) played.shown ys played.are h);
-        }
-
-stops_at : (b : Basin) (series now : Inflows) (edits : List Edit) (old mid new : Output) (i : ℕ)
-    (e : Edit) (why : EditStop) →
-    IsPlayed b series now edits old mid i → i < length edits → e ≡ get_or edits i e →
-    Answers b now (e ∷ []) (Err why) mid new → Answers b series edits (Err why) old new
-stops_at b series now edits old mid new i e stop.SinkFailed played l is answers = (
-  played.shown ++ answers.0,
-  have_more b series now edits old mid i e answers.0 played l is answers.1,
-  subst (λ (bytes : List ℕ). PutsPrefix old new bytes) (sym (bytes_after b played.shown answers.0))
-      (PutsPrefix-then old mid new _ _ played.put answers.2),
+answers_then : (b : Basin) (series : Inflows) (e : Edit) (es : List Edit) (u : Unit {0}) (r : Result (Unit {0}) EditStop)
+    (old mid new : Output) → Answers b series (e ∷ []) (Ok u) old mid → Answers b (edited_by series e) es r mid new →
+    Answers b series (e ∷ es) r old new
+answers_then b series e es u (Ok v) old mid new h k = (
+  h.0 ++ k.0,
+  shown_then b series e es h.0 k.0 h.1 k.1,
+  rw (bytes_after b h.0 k.0) (Extends-trans old mid new _ _ h.2 k.2),
 )
-stops_at b series now edits old mid new i e stop.OutOfMemory played l is answers = (
-  played.shown ++ answers.0,
-  have_more b series now edits old mid i e answers.0 played l is answers.1,
-  subst (λ (bytes : List ℕ). Extends old new bytes) (sym (bytes_after b played.shown answers.0))
-      (Extends-trans old mid new _ _ played.put answers.2),
+answers_then b series e es u (Err stop.SinkFailed) old mid new h k = (
+  h.0 ++ k.0,
+  have_then b series e es h.0 k.0 h.1 k.1,
+  rw (bytes_after b h.0 k.0) (PutsPrefix-then old mid new _ _ h.2 k.2),
+)
+answers_then b series e es u (Err stop.OutOfMemory) old mid new h k = (
+  h.0 ++ k.0,
+  have_then b series e es h.0 k.0 h.1 k.1,
+  rw (bytes_after b h.0 k.0) (Extends-trans old mid new _ _ h.2 k.2),
 )
 
--- of a session whose basin is still the same
-pub played_stops : (b c : Basin) (series now : Inflows) (edits : List Edit) (old mid new : Output) (i : ℕ)
-    (e : Edit) (why : EditStop) → c ≡ b →
-    IsPlayed b series now edits old mid i → i < length edits → e ≡ get_or edits i e →
+-- a first line that stops
+have_first : (b : Basin) (series : Inflows) (e : Edit) (es : List Edit) (xs : List MonthRecord) →
+    HaveShown b series (e ∷ []) xs → HaveShown b series (e ∷ es) xs
+have_first b series e [] xs h = h
+have_first b series e (f ∷ es) xs h = by_count h.count h.are
+  where
+    by_count : (n : ℕ) → AreShown b series (take n (e ∷ [])) xs → HaveShown b series (e ∷ f ∷ es) xs
+    by_count zero are = record { count = 0; are = are }
+    by_count (suc zero) are = record { count = 1; are = are }
+    by_count (suc (suc n)) are = record { count = 1; are = are }
+
+answers_first : (b : Basin) (series : Inflows) (e : Edit) (es : List Edit) (why : EditStop) (old new : Output) →
+    Answers b series (e ∷ []) (Err why) old new → Answers b series (e ∷ es) (Err why) old new
+answers_first b series e es stop.SinkFailed old new h = (h.0, have_first b series e es h.0 h.1, h.2)
+answers_first b series e es stop.OutOfMemory old new h = (h.0, have_first b series e es h.0 h.1, h.2)
+
+-- lines were answered: an answer to the others is one to all, and their work that of all
+pub record IsPlayed (b : Basin) (series now : Inflows) (edits rest : List Edit) (old mid : Output) (held kept : ℕ)
+    (start before : WorkDone) : Type 0 where
+  pub placed : (e : Edit) → IsValidEdit b series e → IsValidEdit b now e
+  pub answers : (r : Result (Unit {0}) EditStop) (new : Output) → Answers b now rest r mid new →
+      Answers b series edits r old new
+  pub work : (after : WorkDone) → Solves (cost_from kept rest) b before after →
+      Solves (cost_from held edits) b start after
+
+pub played_more : {b : Basin} {series now : Inflows} {edits es : List Edit} {old mid : Output} {held kept : ℕ}
+    {start before : WorkDone} (c : Basin) (e : Edit) (u : Unit {0}) (new : Output) (after : WorkDone) →
+    IsPlayed b series now edits (e ∷ es) old mid held kept start before → c ≡ b →
+    Answers c now (e ∷ []) (Ok u) mid new →
+    Solves (solved_by kept e) b before after →
+    IsPlayed b series (edited_by now e) edits es old new held (kept_by kept e + solved_by kept e) start after
+played_more {b} {series} {now} {edits} {es} {old} {mid} {held} {kept} {start} {before} c e u new after so same h work = record {
+  placed = λ d valid. placed_by b now e d (so.placed d valid);
+  answers = λ r then' k. so.answers r then' (answers_then b now e es u r mid new then'
+      (subst (λ (x : Basin). Answers x now (e ∷ []) (Ok u) mid new) same h) k);
+  work = λ then' k. so.work then' (Solves-then (solved_by kept e) _ b before after then' work k);
+}
+
+pub played_stops : {b : Basin} {series now : Inflows} {edits es : List Edit} {old mid : Output} {held kept : ℕ}
+    {start before : WorkDone} (c : Basin) (e : Edit) (why : EditStop) (new : Output) →
+    IsPlayed b series now edits (e ∷ es) old mid held kept start before → c ≡ b →
     Answers c now (e ∷ []) (Err why) mid new → Answers b series edits (Err why) old new
-played_stops b c series now edits old mid new i e why same played l is answers =
-    stops_at b series now edits old mid new i e why played l is
-    (subst (λ (x : Basin). Answers x now (e ∷ []) (Err why) mid new) same answers)
+played_stops {b} {series} {now} {edits} {es} {old} {mid} c e why new so same h =
+    so.answers (Err why) new (answers_first b now e es why mid new
+    (subst (λ (x : Basin). Answers x now (e ∷ []) (Err why) mid new) same h))
 
--- what is left of some steps, by the cost of the lines to come
-costs_more : (edits : List Edit) (i : ℕ) (e : Edit) (kept kept_then p start before after whole : ℕ) →
-    i < length edits → e ≡ get_or edits i e →
-    before + cost_from kept (drop i edits) * p ≤ start + whole * p → after ≤ before + solved_by kept e * p →
-    kept_then ≡ kept_by kept e + solved_by kept e →
-    after + cost_from kept_then (drop (i + 1) edits) * p ≤ start + whole * p
-costs_more edits i e kept kept_then p start before after whole l is so_far pushed then' =
-    let split : cost_from kept (drop i edits) ≡ solved_by kept e + cost_from kept_then (drop (i + 1) edits) = here in
-    let product : cost_from kept (drop i edits) * p ≡ solved_by kept e * p + cost_from kept_then
-    (drop (i + 1) edits) * p =
-    ap (λ n. n * p) split ∙ add-mul (solved_by kept e) (cost_from kept_then (drop (i + 1) edits)) p in
-    omega arith
-  where
-    rest : drop i edits ≡ e ∷ drop (i + 1) edits
-    rest = rw add-one (drop-cons edits i e l ∙ ap (λ x. x ∷ drop (suc i) edits) (sym is))
+pub works_stop : {b : Basin} {series now : Inflows} {edits es : List Edit} {old mid : Output} {held kept : ℕ}
+    {start before : WorkDone} (e : Edit) (after : WorkDone) →
+    IsPlayed b series now edits (e ∷ es) old mid held kept start before → Solves (solved_by kept e) b before after →
+    Solves (cost_from held edits) b start after
+works_stop {b} {kept = kept} {before} e after so work =
+    so.work after (Solves-within (solved_by kept e) _ b before after (omega arith) work)
 
-    here : cost_from kept (drop i edits) ≡ solved_by kept e + cost_from kept_then (drop (i + 1) edits)
-    here = ap (cost_from kept) rest ∙ ap (λ k. solved_by kept e + cost_from k (drop (i + 1) edits)) (sym then')
+-- the line at an index and those after it
+abbrev pub line_at : List Edit → ℕ → Edit
+line_at edits i = get_or edits i (Inflow 0 0 0)
 
--- `left` months are left of all that may be solved
-pub record IsWithin (whole left : ℕ) (b : Basin) (first now : WorkDone) : Type 0 where
-  pub months : now.months + left * 1 ≤ first.months + whole * 1
-  pub pushes : now.pushes + left * month_pushes b ≤ first.pushes + whole * month_pushes b
-
-pub works_more : (b : Basin) (edits : List Edit) (i : ℕ) (e : Edit) (kept kept_then whole : ℕ)
-    (first before after : WorkDone) → i < length edits → e ≡ get_or edits i e →
-    IsWithin whole (cost_from kept (drop i edits)) b first before → Solves (solved_by kept e) b before after →
-    kept_then ≡ kept_by kept e + solved_by kept e →
-    IsWithin whole (cost_from kept_then (drop (i + 1) edits)) b first after
-works_more b edits i e kept kept_then whole first before after l is so_far solves then' = record {
-  months = costs_more edits i e kept kept_then 1 first.months before.months after.months whole l is so_far.months
-      (omega (arith, solves.months)) then';
-  pushes = costs_more edits i e kept kept_then (month_pushes b) first.pushes before.pushes after.pushes whole l is
-      so_far.pushes solves.pushes then';
-}
-
-pub works_stop : (b : Basin) (edits : List Edit) (i : ℕ) (e : Edit) (kept whole : ℕ) (first before after : WorkDone) →
-    i < length edits → e ≡ get_or edits i e →
-    IsWithin whole (cost_from kept (drop i edits)) b first before → Solves (solved_by kept e) b before after →
-    Solves whole b first after
-works_stop b edits i e kept whole first before after l is so_far solves =
-    let all =
-    works_more b edits i e kept (kept_by kept e + solved_by kept e) whole first before after l is so_far solves refl in
-    record { months = omega (arith, all.months); pushes = omega (arith, all.pushes) }
+pub lines_from : (edits : List Edit) (i : ℕ) → i < length edits →
+    drop i edits ≡ line_at edits i ∷ drop (i + 1) edits
+lines_from edits i l = rw add-one (drop-cons edits i (Inflow 0 0 0) l)
 
 -- a month that a session keeps
 pub month_kept : (b : Basin) (s : SessionView) (series : Inflows) (index : ℕ) (m : MonthRecord) → IsValidBasin b →

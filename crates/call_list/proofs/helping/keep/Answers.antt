@@ -1,35 +1,29 @@
-use Rattle.std.proofs.Common.{arith, false, replicate}
-use Rattle.call_list.proofs.Keeping.{begun, cleared_none, cleared_size, later_set}
+use Rattle.std.proofs.Common.{arith, refl}
+use Rattle.water_model.proofs.SetEntries.{emptied}
+use Rattle.call_list.proofs.Keeping.{begun, cleared_size, prefix_whole}
 use Rattle.call_list.proofs.helping.keep.Goals as goal
 
 pub begin-requires-clause-right : goal.begin-requires-clause-right
-begin-requires-clause-right c =
-    omega (arith, cleared_size c.args.cuts.now c.clear.new.self c.clear.ensures, c.requires.right)
+begin-requires-clause-right c = rw c.clear.ensures (omega (arith, cleared_size c.args.cuts.now, c.requires.right))
 
 pub begin-requires-clause-free : goal.begin-requires-clause-free
-begin-requires-clause-free c = cleared_none c.args.cuts.now c.clear.new.self c.args.right c.clear.ensures
+begin-requires-clause-free c = rw c.clear.ensures (emptied c.args.cuts.now.sets c.args.right)
 
-pub mark-requires-clause-right : goal.mark-requires-clause-right
-mark-requires-clause-right c =
-    let held = begun c.args.cuts.now c.clear.new.self c.begin.new.self c.args.right c.clear.ensures c.begin.ensures
-    c.requires.right in
-    omega (arith, held.rights)
+pub loop-node-init : goal.loop-node-init
+loop-node-init c =
+    rw (c.begin.ensures, c.clear.ensures)
+    (begun c.args.cuts.now c.args.right c.args.set.now c.requires.right c.requires.nodes)
 
-pub mark-requires-clause-nodes : goal.mark-requires-clause-nodes
-mark-requires-clause-nodes c =
-    let held = begun c.args.cuts.now c.clear.new.self c.begin.new.self c.args.right c.clear.ensures c.begin.ensures
-    c.requires.right in
-    omega (arith, held.nodes)
+pub add-requires-clause-right : goal.add-requires-clause-right
+add-requires-clause-right c = omega (arith, c.loop-node.invariant.holds.rights, c.requires.right)
 
-pub mark-requires-clause-empty : goal.mark-requires-clause-empty
-mark-requires-clause-empty c =
-    (begun c.args.cuts.now c.clear.new.self c.begin.new.self c.args.right c.clear.ensures c.begin.ensures
-    c.requires.right).is
+pub add-requires-clause-node : goal.add-requires-clause-node
+add-requires-clause-node c = omega (arith, c.loop-node.invariant.holds.nodes, c.requires.nodes)
+
+pub add-requires-clause-held : goal.add-requires-clause-held
+add-requires-clause-held c = rw c.loop-node.invariant.holds.is refl
 
 pub returns : goal.returns
 returns c =
-    later_set c.args.cuts.now c.begin.new.self c.mark.new.cuts c.args.right (replicate c.begin.new.self.nodes false)
-    c.args.set.now
-    (begun c.args.cuts.now c.clear.new.self c.begin.new.self c.args.right c.clear.ensures c.begin.ensures
-    c.requires.right)
-    c.mark.ensures
+    prefix_whole c.args.cuts.now c.loop-node.cuts c.args.right c.args.set.now c.loop-node.node (omega arith)
+    c.loop-node.invariant
