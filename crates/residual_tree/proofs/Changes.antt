@@ -111,6 +111,14 @@ still labels v u long m = elim (cases_eq u v) [
   | inr ne ↦ inr (omega (arith, get_or-set_other labels v u 0 0 ne, m))
 ]
 
+-- a labeled node stays labeled where another one gets its word
+pub labeled_still : (labels : List ℕ) (v x u : ℕ) → label_of labels v ≡ 0 → IsLabeled labels u →
+    IsLabeled (slice_set labels v x) u
+labeled_still labels v x u unlabeled m = elim (cases_eq u v) [
+  | inl e ↦ absurd (omega (arith, ap (label_of labels) e, unlabeled, m))
+  | inr ne ↦ omega (arith, get_or-set_other labels v u x 0 ne, m)
+]
+
 -- a node is freed
 pub tree_free : {c : Contents} {labels : List ℕ} {saturated orphan free unscanned orphan' free' : ℕ → Type 0} (v : ℕ) →
     IsTreeBut c labels saturated orphan free unscanned → v < c.nodes → ((u : ℕ) → orphan u → orphan' u) → orphan' v →
@@ -230,8 +238,7 @@ tree_attach {c} {labels} {unscanned'} {v} {s} t no_orphan b unlabeled in_s more_
     let apart = λ (u : ℕ) (m : IsLabeled labels u) (e : u ≡ v). let was : label_of labels u ≡ label_of labels v =
     ap (label_of labels) e in
     let none : ⊥ = omega (arith, was, unlabeled, m) in none in
-    let kept = λ (u : ℕ) (m : IsLabeled labels u). let same = other u (apart u m) in
-    let now : IsLabeled (slice_set labels v (s + 1)) u = omega (arith, same, m) in now in
+    let kept = λ (u : ℕ) (m : IsLabeled labels u). labeled_still labels v (s + 1) u unlabeled m in
     let own = ranked_same t.rank v (t.rank (start_of (network c) s) + 1) in
     let rest = λ (u : ℕ) (ne : u ≢ v). ranked_other t.rank v (t.rank (start_of (network c) s) + 1) u ne in
     record {

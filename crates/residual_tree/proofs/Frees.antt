@@ -26,38 +26,20 @@ basin_end {c} labels s v k b within root is = elim (cases_lt v c.nodes) [
       absurd (omega (arith, k.shape.bounded_arcs, b, ap (label_of labels) e, root, is))
 ]
 
--- nodes were freed, and no other word changed
-pub record Frees (labels freed labels' freed' : List ℕ) (size size' : ℕ) : Type 0 where
-  pub larger : size ≤ size'
-  pub same : (k : ℕ) → k < size → slice_index freed' k ≡ slice_index freed k
-  pub words : (u s : ℕ) → label_of labels u ≢ s + 1 → label_of labels' u ≢ s + 1
+-- what may be done by a step into the node v: it is freed, if it is labeled by the step
+pub record FreesEnd (labels freed labels' freed' : List ℕ) (size size' s v : ℕ) : Type 0 where
+  pub child : label_of labels v ≡ s + 1 →
+      (size' ≡ size + 1) × (labels' ≡ slice_set labels v 0) × (freed' ≡ slice_set freed size v)
+  pub other : label_of labels v ≢ s + 1 → (size' ≡ size) × (labels' ≡ labels) × (freed' ≡ freed)
 
--- nothing was freed
-pub frees_none : (labels freed : List ℕ) (size : ℕ) → Frees labels freed labels freed size size
-frees_none labels freed size = record { larger = omega arith; same = λ k b. refl; words = λ u s ne. ne }
-
--- a node was freed by the step by which it was labeled
+-- a step was tried: its end is no longer labeled by it, and no other word changed
 pub record IsFreedEnd (c : Contents) (labels freed labels' freed' : List ℕ) (at last done size size' s : ℕ) : Type 0
   where
-    pub frees : Frees labels freed labels' freed' size size'
+    pub larger : size ≤ size'
+    pub same : (k : ℕ) → k < size → slice_index freed' k ≡ slice_index freed k
+    pub words : (u s : ℕ) → label_of labels u ≢ s + 1 → label_of labels' u ≢ s + 1
     pub next : IsFreeing c labels' freed' at last done size'
     pub gone : label_of labels' (end_of (network c) s) ≢ s + 1
-
--- what was said of one node is said of the same node
-pub freed_at : (labels freed : List ℕ) {labels' freed' : List ℕ} (size : ℕ) {size' : ℕ} (s : ℕ) {u : ℕ} (v : ℕ) →
-    u ≡ v → (label_of labels u ≡ s + 1 → (size' ≡ size + 1) × (labels' ≡ slice_set labels u 0) ×
-    (freed' ≡ slice_set freed size u)) →
-    label_of labels v ≡ s + 1 → (size' ≡ size + 1) × (labels' ≡ slice_set labels v 0) ×
-    (freed' ≡ slice_set freed size v)
-freed_at labels freed {labels'} {freed'} size {size'} s v same h =
-    subst (λ (x : ℕ). label_of labels x ≡ s + 1 →
-    (size' ≡ size + 1) × (labels' ≡ slice_set labels x 0) × (freed' ≡ slice_set freed size x)) same h
-
-pub kept_at : (labels freed : List ℕ) {labels' freed' : List ℕ} (size : ℕ) {size' : ℕ} (s : ℕ) {u : ℕ} (v : ℕ) → u ≡ v →
-    (label_of labels u ≢ s + 1 → (size' ≡ size) × (labels' ≡ labels) × (freed' ≡ freed)) →
-    label_of labels v ≢ s + 1 → (size' ≡ size) × (labels' ≡ labels) × (freed' ≡ freed)
-kept_at labels freed {labels'} {freed'} size {size'} s v same h =
-    subst (λ (x : ℕ). label_of labels x ≢ s + 1 → (size' ≡ size) × (labels' ≡ labels) × (freed' ≡ freed)) same h
 
 -- there is room for a node that is labeled among those freed
 pub freeing_room : {c : Contents} {labels freed : List ℕ} {at last done size : ℕ} (s : ℕ) → IsCirculation c →
@@ -82,14 +64,12 @@ freed_child {c} {labels} {freed} {done} {size} s k b f is =
     let order = f.order in
     let count = count_freed c.nodes v labels inner long (omega (arith, is)) in
     record {
-      frees = record {
-        larger = omega arith;
-        same = λ j d. get_or-set_other freed size j v 0 (λ e. absurd (omega (arith, d, e)));
-        words = λ u t ne. elim (freed_word labels v u long) [
-          | inl e ↦ λ same. absurd (omega (arith, e, same))
-          | inr o ↦ λ same. ne (sym o.1 ∙ same)
-        ];
-      };
+      larger = omega arith;
+      same = λ j d. get_or-set_other freed size j v 0 (λ e. absurd (omega (arith, d, e)));
+      words = λ u t ne. elim (freed_word labels v u long) [
+        | inl e ↦ λ same. absurd (omega (arith, e, same))
+        | inr o ↦ λ same. ne (sym o.1 ∙ same)
+      ];
       next = record {
         tree = tree_free v f.tree inner (λ u o. occurs_more v o) (occurs_here freed done size v order room)
             (λ u o. occurs_more v o) (occurs_here freed 0 size v (omega arith) room);
@@ -110,21 +90,19 @@ freed_child {c} {labels} {freed} {done} {size} s k b f is =
     }
 
 -- a step was tried, and its end freed if it was labeled by it
-pub freeing_end : {c : Contents} {labels freed labels' freed' : List ℕ} {at last done size size' : ℕ} (s : ℕ) →
+pub freeing_end : {c : Contents} {labels freed labels' freed' : List ℕ} {at last done size size' s : ℕ} →
     IsCirculation c → arc_of s < arcs c → IsFreeing c labels freed at last done size →
-    (label_of labels (end_of (network c) s) ≡ s + 1 → (size' ≡ size + 1) ×
-    (labels' ≡ slice_set labels (end_of (network c) s) 0) × (freed' ≡ slice_set freed size (end_of (network c) s))) →
-    (label_of labels (end_of (network c) s) ≢ s + 1 → (size' ≡ size) × (labels' ≡ labels) × (freed' ≡ freed)) →
+    FreesEnd labels freed labels' freed' size size' s (end_of (network c) s) →
     IsFreedEnd c labels freed labels' freed' at last done size size' s
-freeing_end {c} {labels} {freed} {size} s k b f child other =
-    elim (cases_eq (label_of labels (end_of (network c) s)) (s + 1)) [
-      | inl is ↦
-          let e = child is in
-          rw (e.1, e.2, e.0) (freed_child s k b f is)
-      | inr ne ↦
-          let e = other ne in
-          rw (e.1, e.2, e.0) record { frees = frees_none labels freed size; next = f; gone = ne }
-    ]
+freeing_end {c} {labels} {s = s} k b f h = elim (cases_eq (label_of labels (end_of (network c) s)) (s + 1)) [
+  | inl is ↦
+      let e = h.child is in
+      rw (e.1, e.2, e.0) (freed_child s k b f is)
+  | inr ne ↦
+      let e = h.other ne in
+      rw (e.1, e.2, e.0)
+      record { larger = omega arith; same = λ k b. refl; words = λ u s ne. ne; next = f; gone = ne }
+]
 
 -- a scratch word that names no step without room needs nothing: the next one follows
 past_firm : {c : Contents} {labels freed : List ℕ} {at last done size s : ℕ} → s ≡ step_of c at →
@@ -181,12 +159,10 @@ adopted_next {c} {labels} {s} k b is f on h =
 -- a step has no room, and the node that it enters was freed if it was labeled by it
 freed_next : {c : Contents} {labels freed labels' freed' : List ℕ} {at last size size' s : ℕ} → IsCirculation c →
     arc_of s < arcs c → s ≡ step_of c at → IsFreeing c labels freed at last 0 size →
-    (label_of labels (end_of (network c) s) ≡ s + 1 → (size' ≡ size + 1) ×
-    (labels' ≡ slice_set labels (end_of (network c) s) 0) × (freed' ≡ slice_set freed size (end_of (network c) s))) →
-    (label_of labels (end_of (network c) s) ≢ s + 1 → (size' ≡ size) × (labels' ≡ labels) × (freed' ≡ freed)) →
+    FreesEnd labels freed labels' freed' size size' s (end_of (network c) s) →
     IsFreeing c labels' freed' (at + 1) last 0 size'
-freed_next {c} {labels'} {s} k b is f child other =
-    let done = freeing_end s k b f child other in
+freed_next {c} {labels' = labels'} {s = s} k b is f h =
+    let done = freeing_end k b f h in
     past_firm is done.next (λ u d m e same. absurd (done.gone
     (ap (label_of labels') (sym (ap (end_of (network c)) same) ∙ e) ∙ omega (arith, m, same))))
 
@@ -205,10 +181,9 @@ loosen_next {c} {labels} {s} k b is f saturated other firm =
         | inl on ↦ elim (saturated on empty) [
           | inl adopted ↦ adopted_next k b is f on adopted
           | inr gone ↦
-              freed_next k b is f (λ e. (gone.more, gone.words, gone.last)) other
+              freed_next k b is f record { child = λ e. (gone.more, gone.words, gone.last); other = other }
         ]
-        | inr ne ↦
-            freed_next k b is f (λ e. absurd (ne e)) other
+        | inr ne ↦ freed_next k b is f record { child = λ e. absurd (ne e); other = other }
       ]
       | inr some ↦
           let e = firm (omega arith) in
@@ -224,19 +199,13 @@ pub record IsOrphaning (c : Contents) (labels freed : List ℕ) (at done size no
   pub order : done < size
 
 -- one more step was tried
-pub orphaning_next : {c : Contents} {labels freed labels' freed' : List ℕ} {at done size size' node : ℕ} (s : ℕ) →
-    IsCirculation c → arc_of s < arcs c → IsOrphaning c labels freed at done size node →
-    (label_of labels (end_of (network c) s) ≡ s + 1 → (size' ≡ size + 1) ×
-    (labels' ≡ slice_set labels (end_of (network c) s) 0) × (freed' ≡ slice_set freed size (end_of (network c) s))) →
-    (label_of labels (end_of (network c) s) ≢ s + 1 → (size' ≡ size) × (labels' ≡ labels) × (freed' ≡ freed)) →
+pub orphaning_next : {c : Contents} {labels freed labels' freed' : List ℕ} {at done size size' node s u : ℕ} →
+    IsCirculation c → arc_of s < arcs c → IsOrphaning c labels freed at done size node → end_of (network c) s ≡ u →
+    FreesEnd labels freed labels' freed' size size' s u →
     IsOrphaning c labels' freed' at done size' node × IsFreedEnd c labels freed labels' freed' at at done size size' s
-orphaning_next {done} s k b o child other =
-    let e = freeing_end s k b o.state child other in (
-      record {
-        state = e.next;
-        occurs = e.frees.same done o.order ∙ o.occurs;
-        order = omega (arith, o.order, e.frees.larger);
-      },
+orphaning_next {labels} {freed} {labels'} {freed'} {done = done} {size = size} {size' = size'} {s = s} k b o end h =
+    let e = freeing_end k b o.state (subst (FreesEnd labels freed labels' freed' size size' s) (sym end) h) in (
+      record { state = e.next; occurs = e.same done o.order ∙ o.occurs; order = omega (arith, o.order, e.larger) },
       e,
     )
 

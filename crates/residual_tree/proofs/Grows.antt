@@ -9,7 +9,7 @@ use Rattle.residual_tree.specs.declared.TheConstants.{ROOT}
 use Rattle.residual_tree.specs.Tree.{label_of, IsLabeled, IsResidualTree}
 use Rattle.residual_tree.specs.Repair.{none, only, no_step, IsFreeing, IsGrowing, HasArtificialStep}
 use Rattle.residual_tree.proofs.Changes.{count_most, count_attached, occurs_more, occurs_here, occurs_or}
-use Rattle.residual_tree.proofs.Changes.{occurs_nowhere, IsLooseWay, tree_attach, tree_map}
+use Rattle.residual_tree.proofs.Changes.{occurs_nowhere, IsLooseWay, labeled_still, tree_attach, tree_map}
 use Rattle.circulation.proofs.Scans.{end_within}
 use Rattle.residual_tree.proofs.Overs.{over_backward}
 
@@ -72,10 +72,7 @@ growing_attach {c} {labels} {queue} {done} {size} v s b g unlabeled in_s =
             let was = g.marked k (omega arith) in (
               omega (arith, is, was.0),
               subst (λ (u : ℕ). IsLabeled (slice_set labels v (s + 1)) u) (sym is)
-                  (elim (cases_eq (slice_index queue k) v) [
-                    | inl e ↦ absurd (omega (arith, ap (label_of labels) e, unlabeled, was.1))
-                    | inr other ↦ omega (arith, get_or-set_other labels v (slice_index queue k) (s + 1) 0 other, was.1)
-                  ]),
+                  (labeled_still labels v (s + 1) (slice_index queue k) unlabeled was.1),
             )
       ];
       bounded = omega (arith, count_attached c.nodes v (s + 1) labels b long unlabeled (omega arith), g.bounded);
@@ -84,62 +81,6 @@ growing_attach {c} {labels} {queue} {done} {size} v s b g unlabeled in_s =
 -- what a step with room enters is labeled
 abbrev pub IsTried : Contents → List ℕ → ℕ → Type 0
 IsTried c labels s = 0 < room_of (network c) (flow_of c) s → IsLabeled labels (end_of (network c) s)
-
--- the steps that leave a node that is labeled are tried
-pub record IsSpreading (c : Contents) (artificial : ℕ) (labels queue : List ℕ) (done size node : ℕ) : Type 0 where
-  pub state : IsGrowing c artificial labels [] queue 0 0 done size
-  pub occurs : slice_index queue done ≡ node
-  pub order : done < size
-  pub labeled : IsLabeled labels node
-
--- a step was tried
-pub record IsLabeledEnd (c : Contents) (artificial : ℕ) (labels queue labels' queue' : List ℕ)
-    (done size size' node s : ℕ) : Type 0
-  where
-    pub next : IsSpreading c artificial labels' queue' done size' node
-    pub more : (u : ℕ) → IsLabeled labels u → IsLabeled labels' u
-    pub here : IsTried c labels' s
-
--- nothing is to be labeled by the step
-tried_already : {c : Contents} {artificial : ℕ} {labels queue labels' queue' : List ℕ} {done size size' node : ℕ}
-    (s : ℕ) →
-    IsSpreading c artificial labels queue done size node → IsTried c labels s → (size' ≡ size) × (labels' ≡ labels) ×
-    (queue' ≡ queue) → IsLabeledEnd c artificial labels queue labels' queue' done size size' node s
-tried_already s p tried e =
-    rw (e.1, e.2, e.0) record { next = p; more = λ u m. m; here = tried }
-
--- the end of the step is labeled by it
-tried_fresh : {c : Contents} {artificial : ℕ} {labels queue : List ℕ} {done size node : ℕ} (s : ℕ) →
-    end_of (network c) s < c.nodes →
-    IsSpreading c artificial labels queue done size node → arc_of s < arcs c → start_of (network c) s ≡ node →
-    label_of labels (end_of (network c) s) ≡ 0 → 0 < room_of (network c) (flow_of c) s →
-    IsLabeledEnd c artificial labels queue (slice_set labels (end_of (network c) s) (s + 1))
-    (slice_set queue size (end_of (network c) s)) done size (size + 1) node s
-tried_fresh {c} {labels} {queue} {done} {size} {node} s inner p b starts unlabeled room =
-    let v = end_of (network c) s in
-    let long : v < length labels = omega (arith, p.state.tree.words, inner) in
-    let order = p.order in
-    let more = λ (u : ℕ) (m : IsLabeled labels u). let is : IsLabeled (slice_set labels v (s + 1)) u = elim
-    (cases_eq u v) [
-      | inl e ↦ absurd (omega (arith, ap (label_of labels) e, unlabeled, m))
-      | inr ne ↦ omega (arith, get_or-set_other labels v u (s + 1) 0 ne, m)
-    ] in is in
-    record {
-      next = record {
-        state = growing_attach v s inner p.state unlabeled
-            record {
-              arc = b;
-              enters = refl;
-              marked = subst (λ (u : ℕ). IsLabeled labels u) (sym starts) p.labeled;
-              room = inl room;
-            };
-        occurs = get_or-set_other queue size done v 0 (λ e. absurd (omega (arith, order, e))) ∙ p.occurs;
-        order = omega (arith, order);
-        labeled = more node p.labeled;
-      };
-      more = more;
-      here = λ r. omega (arith, get_or-set_same labels v (s + 1) 0 long);
-    }
 
 -- an unlabeled end of a step is a basin node
 pub inner_end : {c : Contents} (labels : List ℕ) (s : ℕ) → IsCirculation c → arc_of s < arcs c →
@@ -151,31 +92,81 @@ inner_end {c} labels s k b root unlabeled =
       | inr ne ↦ omega arith
     ]
 
--- a step was tried, and its end labeled if it has room and the end was unlabeled
-pub spreading_next : {c : Contents} {artificial : ℕ} {labels queue labels' queue' : List ℕ} {done size size' node : ℕ}
-    (s : ℕ) → IsCirculation c → IsSpreading c artificial labels queue done size node → arc_of s < arcs c →
-    start_of (network c) s ≡ node →
-    (label_of labels (end_of (network c) s) ≡ 0 → 0 < room_of (network c) (flow_of c) s → (size' ≡ size + 1)
-    × (labels' ≡ slice_set labels (end_of (network c) s) (s + 1)) ×
-    (queue' ≡ slice_set queue size (end_of (network c) s))) →
-    (IsLabeled labels (end_of (network c) s) → (size' ≡ size) × (labels' ≡ labels) × (queue' ≡ queue)) →
-    (room_of (network c) (flow_of c) s ≡ 0 → (size' ≡ size) × (labels' ≡ labels) × (queue' ≡ queue)) →
-    IsLabeledEnd c artificial labels queue labels' queue' done size size' node s
-spreading_next {c} {labels} s k p b starts fresh
-    seen full =
-    elim (cases_eq (label_of labels (end_of (network c) s)) 0) [
+-- what may be done by a step: its end is labeled and put into the queue, if it is unlabeled and the step has room
+pub record LabelsEnd (c : Contents) (labels queue labels' queue' : List ℕ) (size size' s : ℕ) : Type 0 where
+  pub fresh : label_of labels (end_of (network c) s) ≡ 0 → 0 < room_of (network c) (flow_of c) s →
+      (size' ≡ size + 1) × (labels' ≡ slice_set labels (end_of (network c) s) (s + 1)) ×
+      (queue' ≡ slice_set queue size (end_of (network c) s))
+  pub seen : IsLabeled labels (end_of (network c) s) → (size' ≡ size) × (labels' ≡ labels) × (queue' ≡ queue)
+  pub full : room_of (network c) (flow_of c) s ≡ 0 → (size' ≡ size) × (labels' ≡ labels) × (queue' ≡ queue)
+
+-- a step was tried
+pub record IsTriedStep (c : Contents) (State : List ℕ → List ℕ → ℕ → Type 0) (labels labels' queue' : List ℕ)
+    (size' s : ℕ) : Type 0
+  where
+    pub next : State labels' queue' size'
+    pub more : (u : ℕ) → IsLabeled labels u → IsLabeled labels' u
+    pub here : IsTried c labels' s
+
+-- nothing is to be labeled by the step
+tried_already : {c : Contents} (State : List ℕ → List ℕ → ℕ → Type 0) {labels queue labels' queue' : List ℕ}
+    {size size' : ℕ} (s : ℕ) → State labels queue size → IsTried c labels s →
+    (size' ≡ size) × (labels' ≡ labels) × (queue' ≡ queue) → IsTriedStep c State labels labels' queue' size' s
+tried_already State s p tried e = rw (e.1, e.2, e.0) record { next = p; more = λ u m. m; here = tried }
+
+-- what stands of the words, the queue and its size still stands after a step, if it does where the end is labeled
+pub tried_next : {c : Contents} (State : List ℕ → List ℕ → ℕ → Type 0) {labels queue labels' queue' : List ℕ}
+    {size size' s : ℕ} → IsCirculation c → arc_of s < arcs c → length labels ≡ c.nodes + 1 →
+    label_of labels c.nodes ≡ ROOT → State labels queue size → (end_of (network c) s < c.nodes →
+    label_of labels (end_of (network c) s) ≡ 0 → 0 < room_of (network c) (flow_of c) s →
+    State (slice_set labels (end_of (network c) s) (s + 1)) (slice_set queue size (end_of (network c) s)) (size + 1)) →
+    LabelsEnd c labels queue labels' queue' size size' s → IsTriedStep c State labels labels' queue' size' s
+tried_next {c} State {labels} {s = s} k b words root p attached h =
+    let v = end_of (network c) s in
+    elim (cases_eq (label_of labels v) 0) [
       | inl unlabeled ↦ elim (cases_eq (room_of (network c) (flow_of c) s) 0) [
-        | inl none ↦ tried_already s p
-            (λ r. absurd (omega (arith, none, r))) (full none)
-        | inr room ↦
-            let e = fresh unlabeled (omega arith) in
-            let inner = inner_end labels s k b p.state.tree.root unlabeled in
-            rw (e.1, e.2, e.0) (tried_fresh s inner p b starts unlabeled (omega arith))
+        | inl none ↦ tried_already State s p (λ r. absurd (omega (arith, none, r))) (h.full none)
+        | inr some ↦
+            let e = h.fresh unlabeled (omega arith) in
+            let inner : v < c.nodes = inner_end labels s k b root unlabeled in
+            rw (e.1, e.2, e.0) record {
+              next = attached inner unlabeled (omega arith);
+              more = λ u m. labeled_still labels v (s + 1) u unlabeled m;
+              here = λ r. omega (arith, get_or-set_same labels v (s + 1) 0 (omega (arith, words, inner)));
+            }
       ]
       | inr ne ↦
-          let labeled : IsLabeled labels (end_of (network c) s) = omega arith in
-          tried_already s p (λ r. labeled) (seen labeled)
+          let labeled : IsLabeled labels v = omega arith in
+          tried_already State s p (λ r. labeled) (h.seen labeled)
     ]
+
+-- the steps that leave a node that is labeled are tried
+pub record IsSpreading (c : Contents) (artificial : ℕ) (labels queue : List ℕ) (done size node : ℕ) : Type 0 where
+  pub state : IsGrowing c artificial labels [] queue 0 0 done size
+  pub occurs : slice_index queue done ≡ node
+  pub order : done < size
+  pub labeled : IsLabeled labels node
+
+-- one more step was tried
+pub spreading_next : {c : Contents} {artificial : ℕ} {labels queue labels' queue' : List ℕ}
+    {done size size' node s : ℕ} →
+    IsCirculation c → IsSpreading c artificial labels queue done size node → arc_of s < arcs c →
+    start_of (network c) s ≡ node → LabelsEnd c labels queue labels' queue' size size' s →
+    IsTriedStep c (λ ls q n. IsSpreading c artificial ls q done n node) labels labels' queue' size' s
+spreading_next {c} {artificial} {labels} {queue} {done = done} {size = size} {node = node} {s = s} k p b starts h =
+    let v = end_of (network c) s in
+    tried_next (λ ls q n. IsSpreading c artificial ls q done n node) k b p.state.tree.words p.state.tree.root p
+    (λ inner unlabeled room. record {
+      state = growing_attach v s inner p.state unlabeled record {
+        arc = b;
+        enters = refl;
+        marked = subst (λ (u : ℕ). IsLabeled labels u) (sym starts) p.labeled;
+        room = inl room;
+      };
+      occurs = get_or-set_other queue size done v 0 (let o = p.order in λ e. absurd (omega (arith, e))) ∙ p.occurs;
+      order = omega (arith, p.order);
+      labeled = labeled_still labels v (s + 1) node unlabeled p.labeled;
+    }) h
 
 -- all steps of the node were tried
 pub spreading_end : {c : Contents} {artificial : ℕ} {labels queue : List ℕ} {done size node : ℕ} →

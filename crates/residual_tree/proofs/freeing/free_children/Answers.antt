@@ -1,9 +1,9 @@
-use Rattle.std.proofs.Common.{List, ℕ, ◌≢◌, ◌+◌, ◌≤◌, arith, sym}
+use Rattle.std.proofs.Common.{List, ℕ, ◌≢◌, ◌+◌, ◌≤◌, arith}
 use Rattle.circulation.specs.Contents.{Contents, network}
 use Rattle.circulation.specs.Residual.{end_of}
 use Rattle.residual_tree.specs.Tree.{label_of}
 use Rattle.circulation.proofs.Scans.{scan_at, scan_next, scan_end}
-use Rattle.residual_tree.proofs.Frees.{IsOrphaning, freeing_room, orphaning_next, orphaning_end, freed_at, kept_at}
+use Rattle.residual_tree.proofs.Frees.{IsOrphaning, freeing_room, orphaning_next, orphaning_end}
 use Rattle.residual_tree.proofs.freeing.free_children.Goals as goal
 
 -- the node is a basin node
@@ -28,15 +28,13 @@ loop-place-preserved c =
     (omega (arith, c.loop-place-test.true, c.row_last-place-end.ensures.place)) c.step_at-step.ensures
     c.end_at.ensures in
     let e = c.free_end-count.ensures in
-    let next = orphaning_next c.step_at-step.result c.requires.kept at.arc state
-    (freed_at c.loop-place.labels c.loop-place.freed _ _ _ (sym at.end) e.child)
-    (kept_at c.loop-place.labels c.loop-place.freed _ _ _ (sym at.end) e.other) in
+    let next = orphaning_next c.requires.kept at.arc state at.end record { child = e.child; other = e.other } in
     record {
       state = (c.loop-place.invariant.state.0, next.0);
       scan = scan_next c.args.circ.now _ c.loop-place.place c.step_at-step.result _
           (λ s. label_of c.free_end-count.new.labels (end_of (network c.args.circ.now) s) ≢ s + 1)
           c.loop-place.invariant.scan c.step_at-step.ensures
-          (λ s. next.1.frees.words (end_of (network c.args.circ.now) s) s) next.1.gone;
+          (λ s. next.1.words (end_of (network c.args.circ.now) s) s) next.1.gone;
     }
 
 pub returns : goal.returns

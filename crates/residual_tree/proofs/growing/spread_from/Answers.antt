@@ -39,7 +39,8 @@ loop-place-preserved g c =
     (omega (arith, c.loop-place-test.true, c.row_last-place-end.ensures.place)) c.step_at-step.ensures
     c.end_at.ensures in
     let e = c.label_end-count.ensures in
-    let next = spreading_next c.step_at-step.result c.requires.1.1 state at.arc at.start e.fresh e.seen e.full in
+    let next = spreading_next c.requires.1.1 state at.arc at.start
+    record { fresh = e.fresh; seen = e.seen; full = e.full } in
     record {
       state = next.next;
       more = λ v m. next.more v (c.loop-place.invariant.more v m);

@@ -45,8 +45,8 @@ loop-place-preserved c =
     (omega (arith, c.loop-place.auto.place, first)) (omega (arith, c.loop-place-test.true, last))
     c.step_at-step.ensures c.end_at.ensures in
     let e = c.label_end-count.ensures in
-    let next = outgoing_next c.step_at-step.result c.requires.kept
-    c.loop-place.invariant.state at.arc at.start e.fresh e.seen e.full in
+    let next = outgoing_next c.requires.kept c.loop-place.invariant.state at.arc at.start
+    record { fresh = e.fresh; seen = e.seen; full = e.full } in
     record {
       state = next.next;
       scan = scan_next d d.nodes c.loop-place.place c.step_at-step.result (IsTried d c.loop-place.labels)
