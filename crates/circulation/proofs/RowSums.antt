@@ -1,20 +1,15 @@
 -- A sum over the steps of a row is one over arcs.
-use Rattle.std.proofs.Common.{ℕ, Fits, w64, Bool, true, false, not, ◌==◌, ◌≡◌, ◌+◌, ◌-◌, ◌*◌, ◌%◌, ◌^◌, ◌<◌}
-use Rattle.std.proofs.Common.{◌≤◌, List, length, slice_index, refl, arith, ap, sym, subst, inl, inr, ◌∙◌}
-use Rattle.std.proofs.lemmas.Bool.{cases_eq, cases_Bool, eq-eqb, ne_eqb, eqb-true, eqb-false}
+use Rattle.std.proofs.Common.{ℕ, Fits, w64, Bool, true, false, ◌==◌, ◌≡◌, ◌+◌, ◌-◌, ◌*◌, ◌%◌, ◌^◌, ◌<◌}
+use Rattle.std.proofs.Common.{◌≤◌, List, length, slice_index, arith, ap, sym, subst, inl, inr, ◌∙◌}
+use Rattle.std.proofs.lemmas.Bool.{cases_eq, cases_Bool, eq-eqb, ne_eqb, eqb-true}
 use Rattle.finite_sums.specs.Sums.{total, when}
 use Rattle.finite_sums.proofs.Totals.{total_more, total_same, total_zero, total_exchange, total_pick, total_most}
-use Rattle.circulation.specs.Residual.{arc_of, is_backward, by_direction}
+use Rattle.circulation.specs.Residual.{arc_of, by_direction}
 use Rattle.circulation.specs.Rows.{Rows, IsInRow, IsRow}
 
 -- no test is true and false
 clash : {t : Bool} → t ≡ true → t ≡ false → ⊥
 clash is fails = let e : true ≡ false = sym is ∙ fails in cc
-
--- what is not true is false
-not_true : (t : Bool) → not t ≡ true → t ≡ false
-not_true true h = cc
-not_true false h = refl
 
 -- what is known of indices: those that pass a test have numbers of arcs, and each arc with the key v has one index
 record AreNumbered (n arcs v : ℕ) (at number key : ℕ → ℕ) (test : ℕ → Bool) : Type 0 where
@@ -56,55 +51,17 @@ sum_over n arcs v at number key g test h =
     ] in
     total_same n _ _ by_place ∙ total_exchange n arcs f ∙ sym (total_same arcs _ _ by_arc)
 
--- the steps backward of a row go over the arcs that enter its node
-pub row_inflow : {from to : List ℕ} {r : Rows} {v : ℕ} (g : ℕ → ℕ) → IsRow from to r v →
-    total (slice_index r.first (v + 1) - slice_index r.first v)
-    (λ k. when (is_backward (slice_index r.step (slice_index r.first v + k)))
-    (g (arc_of (slice_index r.step (slice_index r.first v + k)))))
-    ≡ total (length from) (λ a. when (slice_index to a == v) (g a))
-row_inflow {from} {to} {r} {v} g row =
-    let first = slice_index r.first v in
-    let last = slice_index r.first (v + 1) in
-    let n = last - first in
-    let at : ℕ → ℕ = λ k. slice_index r.step (first + k) in
-    let order = row.order in
-    let inside : (k : ℕ) → k < n → IsInRow r v (first + k) = λ k b. record
-    { from = omega arith; below = omega arith } in
-    sum_over n (length from) v at (λ a. 2 * a + 1) (slice_index to) g is_backward record {
-      passes = λ k b back.
-          let odd = eqb-true (at k % 2) 1 back in
-          ((row.leads (first + k) (inside k b)).arc, omega (arith, odd));
-      numbers = λ k a b c is.
-          let back : is_backward (at k) ≡ true = eq-eqb (at k % 2) 1 (omega (arith, is)) in
-          let arc : arc_of (at k) ≡ a = omega (arith, is) in (
-            back,
-            (
-              ap (slice_index to) (sym arc)
-                  ∙ sym (ap (λ (t : Bool). by_direction t (slice_index from (arc_of (at k)))
-                  (slice_index to (arc_of (at k)))) back) ∙ (row.leads (first + k) (inside k b)).start,
-              arc,
-            ),
-          );
-      place = λ a b is.
-          let arc : arc_of (2 * a + 1) ≡ a = omega arith in
-          let back : is_backward (2 * a + 1) ≡ true = eq-eqb ((2 * a + 1) % 2) 1 (omega arith) in
-          let p = row.all (2 * a + 1) (omega (arith, arc))
-          (ap (λ (t : Bool). by_direction t (slice_index from (arc_of (2 * a + 1)))
-          (slice_index to (arc_of (2 * a + 1)))) back ∙ ap (slice_index to) arc ∙ is) in
-          let from = p.1.0.from in
-          let below = p.1.0.below in
-          let there : first + (p.0 - first) ≡ p.0 = omega arith in
-          (p.0 - first, (omega arith, ap (slice_index r.step) there ∙ p.1.1));
-      once = λ j k b c e. let same = row.once (first + j) (first + k) (inside j b) (inside k c) e in omega arith;
-    }
+-- the node that a step over an arc leaves, forward for 0 and backward for 1
+abbrev pub left_by : ℕ → List ℕ → List ℕ → ℕ → ℕ
+left_by way from to a = by_direction (way == 1) (slice_index from a) (slice_index to a)
 
--- and those forward over the arcs that leave it
-pub row_outflow : {from to : List ℕ} {r : Rows} {v : ℕ} (g : ℕ → ℕ) → IsRow from to r v →
+-- the steps of a row that go one way go over the arcs that leave its node that way
+pub row_flow : {from to : List ℕ} {r : Rows} {v : ℕ} (way : ℕ) (g : ℕ → ℕ) → way < 2 → IsRow from to r v →
     total (slice_index r.first (v + 1) - slice_index r.first v)
-    (λ k. when (not (is_backward (slice_index r.step (slice_index r.first v + k))))
+    (λ k. when (slice_index r.step (slice_index r.first v + k) % 2 == way)
     (g (arc_of (slice_index r.step (slice_index r.first v + k)))))
-    ≡ total (length from) (λ a. when (slice_index from a == v) (g a))
-row_outflow {from} {to} {r} {v} g row =
+    ≡ total (length from) (λ a. when (left_by way from to a == v) (g a))
+row_flow {from} {to} {r} {v} way g small row =
     let first = slice_index r.first v in
     let last = slice_index r.first (v + 1) in
     let n = last - first in
@@ -112,27 +69,25 @@ row_outflow {from} {to} {r} {v} g row =
     let order = row.order in
     let inside : (k : ℕ) → k < n → IsInRow r v (first + k) = λ k b. record
     { from = omega arith; below = omega arith } in
-    sum_over n (length from) v at (λ a. 2 * a) (slice_index from) g (λ s. not (is_backward s)) record {
-      passes = λ k b forth.
-          let even = eqb-false (at k % 2) 1 (not_true (is_backward (at k)) forth) in
-          ((row.leads (first + k) (inside k b)).arc, omega (arith, even));
+    sum_over n (length from) v at (λ a. 2 * a + way) (left_by way from to) g (λ s. s % 2 == way) record {
+      passes = λ k b is.
+          let rest = eqb-true (at k % 2) way is in
+          ((row.leads (first + k) (inside k b)).arc, omega (arith, rest));
       numbers = λ k a b c is.
-          let forth : is_backward (at k) ≡ false = ne_eqb (at k % 2) 1 (λ e. absurd (omega (arith, is, e))) in
-          let arc : arc_of (at k) ≡ a = omega (arith, is) in (
-            ap not forth,
+          let rest : at k % 2 ≡ way = omega (arith, is, small) in
+          let arc : arc_of (at k) ≡ a = omega (arith, is, small) in (
+            eq-eqb (at k % 2) way rest,
             (
-              ap (slice_index from) (sym arc)
-                  ∙ sym (ap (λ (t : Bool). by_direction t (slice_index from (arc_of (at k)))
-                  (slice_index to (arc_of (at k)))) forth) ∙ (row.leads (first + k) (inside k b)).start,
+              ap (left_by way from to) (sym arc) ∙ ap (λ (x : ℕ). left_by x from to (arc_of (at k))) (sym rest)
+                  ∙ (row.leads (first + k) (inside k b)).start,
               arc,
             ),
           );
       place = λ a b is.
-          let arc : arc_of (2 * a) ≡ a = omega arith in
-          let forth : is_backward (2 * a) ≡ false = ne_eqb (2 * a % 2) 1 (λ e. absurd (omega (arith, e))) in
-          let p = row.all (2 * a) (omega (arith, arc))
-          (ap (λ (t : Bool). by_direction t (slice_index from (arc_of (2 * a))) (slice_index to (arc_of (2 * a)))) forth
-          ∙ ap (slice_index from) arc ∙ is) in
+          let arc : arc_of (2 * a + way) ≡ a = omega arith in
+          let rest : (2 * a + way) % 2 ≡ way = omega arith in
+          let p = row.all (2 * a + way) (omega (arith, arc))
+          (ap (λ (x : ℕ). left_by x from to (arc_of (2 * a + way))) rest ∙ ap (left_by way from to) arc ∙ is) in
           let from = p.1.0.from in
           let below = p.1.0.below in
           let there : first + (p.0 - first) ≡ p.0 = omega arith in
@@ -217,11 +172,11 @@ row_sum_small {r} {amounts} {v} {test} {place} fits s =
     (omega (arith, fits (arc_of (slice_index r.step (first + k)))))) in
     omega (arith, each, s.is)
 
--- what arcs with words as amounts bring to a node
-pub inflow_small : (n v : ℕ) (to amounts : List ℕ) → ((a : ℕ) → Fits w64 (slice_index amounts a)) →
-    total n (λ a. when (slice_index to a == v) (slice_index amounts a)) ≤ n * 2 ^ 64
-inflow_small n v to amounts fits = total_most n (2 ^ 64) (λ a. when (slice_index to a == v) (slice_index amounts a))
-    (λ a l. when_le (slice_index to a == v) (slice_index amounts a) (2 ^ 64) (omega (arith, fits a)))
+-- what arcs with words as amounts carry
+pub amounts_small : (n : ℕ) (test : ℕ → Bool) (amounts : List ℕ) → ((a : ℕ) → Fits w64 (slice_index amounts a)) →
+    total n (λ a. when (test a) (slice_index amounts a)) ≤ n * 2 ^ 64
+amounts_small n test amounts fits = total_most n (2 ^ 64) (λ a. when (test a) (slice_index amounts a))
+    (λ a l. when_le (test a) (slice_index amounts a) (2 ^ 64) (omega (arith, fits a)))
 
 -- at the end of the row
 pub row_sum_all : {r : Rows} {amounts : List ℕ} {v : ℕ} {test : ℕ → Bool} {place sum : ℕ} →

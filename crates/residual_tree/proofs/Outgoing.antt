@@ -12,7 +12,8 @@ use Rattle.residual_tree.specs.Tree.{IsLabeled}
 use Rattle.residual_tree.specs.Repair.{OccursIn, no_step, IsGrowing}
 use Rattle.residual_tree.proofs.Changes.{occurs_more, occurs_here, tree_map}
 use Rattle.residual_tree.proofs.Frees.{felled}
-use Rattle.residual_tree.proofs.Grows.{growing_start, growing_room, growing_attach, LabelsEnd, IsTriedStep, tried_next, IsTried}
+use Rattle.residual_tree.proofs.Grows.{growing_start, growing_room, growing_attach, LabelsEnd, IsTriedStep, tried_next}
+use Rattle.residual_tree.proofs.Grows.{IsTried}
 
 -- the words where the outside alone is labeled
 abbrev pub bare : Contents → List ℕ

@@ -1,9 +1,9 @@
-use Rattle.std.proofs.Common.{◌≡◌, ◌+◌, ◌%◌, length, slice_index, arith, ◌∙◌}
+use Rattle.std.proofs.Common.{◌≡◌, ◌==◌, ◌+◌, ◌%◌, length, slice_index, arith, ◌∙◌}
 use Rattle.std.proofs.lemmas.Bool.{eq-eqb, ne_eqb}
 use Rattle.circulation.proofs.RowSums.{row_sum_start, row_sum_on, row_sum_off, row_sum_small, row_sum_all}
-use Rattle.circulation.proofs.RowSums.{row_inflow, inflow_small}
-use Rattle.circulation.proofs.circulation_mut.CirculationMut.inflow.Goals as goal
-use Rattle.circulation.proofs.circulation_mut.CirculationMut.inflow.Goals.{then-step-eq1, else-step-eq1}
+use Rattle.circulation.proofs.RowSums.{left_by, row_flow, amounts_small}
+use Rattle.circulation.proofs.circulation_mut.CirculationMut.carried.Goals as goal
+use Rattle.circulation.proofs.circulation_mut.CirculationMut.carried.Goals.{then-step-way, else-step-way}
 
 pub loop-place-init : goal.loop-place-init
 loop-place-init c = row_sum_start _ _ _ _ c.row_first-place.ensures.place
@@ -19,11 +19,11 @@ overflow_add-sum c =
     omega (arith, small, c.from-sum.ensures)
 
 pub loop-place-preserved : goal.loop-place-preserved
-loop-place-preserved c = elim c.if-step-eq1.branch [
-  | then-step-eq1 w ↦ row_sum_on c.loop-place.invariant c.step_at-step.ensures
-      (eq-eqb (c.step_at-step.result % 2) 1 w.if-step-eq1.true) (omega (arith, w.sum-is, w.from-sum.ensures))
-  | else-step-eq1 w ↦ row_sum_off c.loop-place.invariant c.step_at-step.ensures
-      (ne_eqb (c.step_at-step.result % 2) 1 w.if-step-eq1.false) w.sum-is
+loop-place-preserved c = elim c.if-step-way.branch [
+  | then-step-way w ↦ row_sum_on c.loop-place.invariant c.step_at-step.ensures
+      (eq-eqb (c.step_at-step.result % 2) c.args.way w.if-step-way.true) (omega (arith, w.sum-is, w.from-sum.ensures))
+  | else-step-way w ↦ row_sum_off c.loop-place.invariant c.step_at-step.ensures
+      (ne_eqb (c.step_at-step.result % 2) c.args.way w.if-step-way.false) w.sum-is
 ]
 
 pub returns-clause-sum : goal.returns-clause-sum
@@ -37,11 +37,12 @@ returns-clause-sum c =
       c.row_first-place.ensures.place,
       c.row_last-place-end.ensures.place,
     ) in
-    row_sum_all end c.loop-place.invariant ∙ row_inflow (slice_index c.args.amounts.now) row
+    row_sum_all end c.loop-place.invariant ∙ row_flow c.args.way (slice_index c.args.amounts.now) c.requires.way row
 
 pub returns-clause-small : goal.returns-clause-small
 returns-clause-small c =
     let kept = c.row_last-place-end.ensures.kept in
-    let most = inflow_small (length c.args.self.now.from) c.args.node c.args.self.now.to c.args.amounts.now
-    c.type_inv.amounts in
+    let d = c.args.self.now in
+    let most = amounts_small (length d.from) (λ a. left_by c.args.way d.from d.to a == c.args.node)
+    c.args.amounts.now c.type_inv.amounts in
     omega (arith, most, kept.shape.bounded_arcs, returns-clause-sum c)
