@@ -36,12 +36,10 @@ times_once (suc n) f x apart = elim (eqb_tells (f n) x) [
 -- the number of them is the sum over all numbers
 times_all : (n m : ℕ) (f : ℕ → ℕ) → ((k : ℕ) → k < n → f k < m) → total m (times n f) ≡ n
 times_all n m f below =
-    sym (total_exchange n m (λ k x. when (f k == x) 1))
-    ∙ total_same n (λ k. total m (λ x. when (f k == x) 1)) (λ k. 1)
+    sym (total_exchange n m (λ k x. when (f k == x) 1)) ∙ total_same n (λ k. total m (λ x. when (f k == x) 1)) (λ k. 1)
     (λ k b. total_pick m (f k) (λ x. when (f k == x) 1) (below k b)
     (λ x c ne. ap (λ (t : Bool). when t 1) (ne_eqb (f k) x (λ e. ne (sym e))))
-    ∙ ap (λ (t : Bool). when t 1) (eq-eqb (f k) (f k) refl))
-    ∙ total_ones n
+    ∙ ap (λ (t : Bool). when t 1) (eq-eqb (f k) (f k) refl)) ∙ total_ones n
 
 -- where one more number is not among them, they are fewer than there are
 pub room_for_one : (n m : ℕ) (f : ℕ → ℕ) (s : ℕ) → ((k : ℕ) → k < n → f k < m) → s < m →

@@ -1,6 +1,6 @@
 -- The parts of the words of a circulation.
 use Rattle.std.proofs.Common.{ℕ, ◌≡◌, ◌+◌, ◌*◌, ◌≤◌, List, ◌++◌, length, take, drop, map, replicate, arith, ap, sym}
-use Rattle.std.proofs.Common.{◌∙◌, inl}
+use Rattle.std.proofs.Common.{◌∙◌, inl, refl}
 use Rattle.std.proofs.lemmas.List.{take_at, take_all, drop_at, length-map, length-replicate}
 use Rattle.word_region.specs.Words.{words_at, with_words, zeroed}
 use Rattle.word_region.specs.declared.Place.{Place}
@@ -24,72 +24,50 @@ contents_of n a b s l u f x p q r = record {
 }
 
 -- contents are the same where all their lists are
-pub lists_same : (n n' : ℕ) (a a' b b' s s' l l' u u' f f' x x' p p' q q' r r' : List ℕ) → n ≡ n' → a ≡ a' → b ≡ b' →
+pub lists_same : {n n' : ℕ} {a a' b b' s s' l l' u u' f f' x x' p p' q q' r r' : List ℕ} → n ≡ n' → a ≡ a' → b ≡ b' →
     s ≡ s' → l ≡ l' → u ≡ u' → f ≡ f' → x ≡ x' → p ≡ p' → q ≡ q' → r ≡ r' →
     contents_of n a b s l u f x p q r ≡ contents_of n' a' b' s' l' u' f' x' p' q' r'
-lists_same n n' a a' b b' s s' l l' u u' f f' x x' p p' q q' r r' e₁ e₂ e₃ e₄ e₅ e₆ e₇ e₈ e₉ e₁₀ e₁₁ =
-    ap (λ (i : ℕ). contents_of i a b s l u f x p q r) e₁
-    ∙ ap (λ (i : List ℕ). contents_of n' i b s l u f x p q r) e₂
-    ∙ ap (λ (i : List ℕ). contents_of n' a' i s l u f x p q r) e₃
-    ∙ ap (λ (i : List ℕ). contents_of n' a' b' i l u f x p q r) e₄
-    ∙ ap (λ (i : List ℕ). contents_of n' a' b' s' i u f x p q r) e₅
-    ∙ ap (λ (i : List ℕ). contents_of n' a' b' s' l' i f x p q r) e₆
-    ∙ ap (λ (i : List ℕ). contents_of n' a' b' s' l' u' i x p q r) e₇
-    ∙ ap (λ (i : List ℕ). contents_of n' a' b' s' l' u' f' i p q r) e₈
-    ∙ ap (λ (i : List ℕ). contents_of n' a' b' s' l' u' f' x' i q r) e₉
-    ∙ ap (λ (i : List ℕ). contents_of n' a' b' s' l' u' f' x' p' i r) e₁₀
-    ∙ ap (λ (i : List ℕ). contents_of n' a' b' s' l' u' f' x' p' q' i) e₁₁
+lists_same e₁ e₂ e₃ e₄ e₅ e₆ e₇ e₈ e₉ e₁₀ e₁₁ = rw (e₁, e₂, e₃, e₄, e₅, e₆, e₇, e₈, e₉, e₁₀, e₁₁) refl
 
 -- the prefix and the rest
-cut : (xs ps qs prefix back : List ℕ) (n : ℕ) → xs ≡ ps ++ qs → length ps ≡ n → prefix ≡ take n xs → back ≡ drop n xs →
-    (prefix ≡ ps) × (back ≡ qs)
-cut xs ps qs prefix back n is count f b = (
-  f ∙ ap (take n) is ∙ take_at ps qs n count,
-  b ∙ ap (drop n) is ∙ drop_at ps qs n count,
-)
+cut : {xs : List ℕ} (ps qs : List ℕ) {prefix back : List ℕ} (n : ℕ) → xs ≡ ps ++ qs → length ps ≡ n →
+    prefix ≡ take n xs → back ≡ drop n xs → (prefix ≡ ps) × (back ≡ qs)
+cut ps qs n is count f b = (f ∙ ap (take n) is ∙ take_at ps qs n count, b ∙ ap (drop n) is ∙ drop_at ps qs n count)
 
 -- the parts of the words are the lists of the contents
-pub lent_is : (circ : Circulation) (c : Contents)
-    (kept moved ends k₁ step k₂ end first flow m₁ upper m₂ lower m₃ supply m₄ scratch : List ℕ) →
-    AreWordsOf circ c kept moved →
-    ends ≡ take circ.arcs kept → k₁ ≡ drop circ.arcs kept →
+pub lent_is : {circ : Circulation} {c : Contents}
+    {kept moved ends k₁ step k₂ end first flow m₁ upper m₂ lower m₃ supply m₄ scratch : List ℕ} →
+    AreWordsOf circ c kept moved → ends ≡ take circ.arcs kept → k₁ ≡ drop circ.arcs kept →
     step ≡ take (2 * circ.arcs) k₁ → k₂ ≡ drop (2 * circ.arcs) k₁ →
     end ≡ take (2 * circ.arcs) k₂ → first ≡ drop (2 * circ.arcs) k₂ →
-    flow ≡ take circ.arcs moved → m₁ ≡ drop circ.arcs moved →
-    upper ≡ take circ.arcs m₁ → m₂ ≡ drop circ.arcs m₁ →
-    lower ≡ take circ.arcs m₂ → m₃ ≡ drop circ.arcs m₂ →
-    supply ≡ take circ.nodes m₃ → m₄ ≡ drop circ.nodes m₃ →
+    flow ≡ take circ.arcs moved → m₁ ≡ drop circ.arcs moved → upper ≡ take circ.arcs m₁ → m₂ ≡ drop circ.arcs m₁ →
+    lower ≡ take circ.arcs m₂ → m₃ ≡ drop circ.arcs m₂ → supply ≡ take circ.nodes m₃ → m₄ ≡ drop circ.nodes m₃ →
     scratch ≡ take (4 * circ.nodes + 8) m₄ →
     contents_of circ.nodes (map tail_of ends) (map head_of ends) supply lower upper flow scratch first step end ≡ c
-lent_is circ c kept moved ends k₁ step k₂ end first flow m₁ upper m₂ lower m₃ supply m₄ scratch w
-    e₁ e₂ e₃ e₄ e₅ e₆ e₇ e₈ e₉ e₁₀ e₁₁ e₁₂ e₁₃ e₁₄ e₁₅ =
+lent_is {circ} {c} {ends} {scratch} w e₁ e₂ e₃ e₄ e₅ e₆ e₇ e₈ e₉ e₁₀ e₁₁ e₁₂ e₁₃ e₁₄ e₁₅ =
     let k = w.fixed in
     let shape = k.circulation.shape in
     let from = ap length k.from ∙ (length-map k.pairs tail_of ∙ k.arcs) in
-    let at_ends = cut kept k.pairs _ ends k₁ circ.arcs k.fixed k.arcs e₁ e₂ in
-    let at_step = cut k₁ c.rows.step _ step k₂ (2 * circ.arcs) at_ends.1 k.steps e₃ e₄ in
-    let at_end = cut k₂ c.rows.end c.rows.first end first (2 * circ.arcs) at_step.1 (k.circulation.rows.ends ∙ k.steps)
-    e₅ e₆ in
-    let at_flow = cut moved c.flow _ flow m₁ circ.arcs w.moving (shape.flow ∙ from) e₇ e₈ in
-    let at_upper = cut m₁ c.upper _ upper m₂ circ.arcs at_flow.1 (shape.upper ∙ from) e₉ e₁₀ in
-    let at_lower = cut m₂ c.lower _ lower m₃ circ.arcs at_upper.1 (shape.lower ∙ from) e₁₁ e₁₂ in
-    let at_supply = cut m₃ c.supply _ supply m₄ circ.nodes at_lower.1 (shape.supply ∙ k.nodes) e₁₃ e₁₄ in
+    let at_ends = cut k.pairs _ circ.arcs k.fixed k.arcs e₁ e₂ in
+    let at_step = cut c.rows.step _ (2 * circ.arcs) at_ends.1 k.steps e₃ e₄ in
+    let at_end = cut c.rows.end c.rows.first (2 * circ.arcs) at_step.1 (k.circulation.rows.ends ∙ k.steps) e₅ e₆ in
+    let at_flow = cut c.flow _ circ.arcs w.moving (shape.flow ∙ from) e₇ e₈ in
+    let at_upper = cut c.upper _ circ.arcs at_flow.1 (shape.upper ∙ from) e₉ e₁₀ in
+    let at_lower = cut c.lower _ circ.arcs at_upper.1 (shape.lower ∙ from) e₁₁ e₁₂ in
+    let at_supply = cut c.supply _ circ.nodes at_lower.1 (shape.supply ∙ k.nodes) e₁₃ e₁₄ in
     let at_scratch : scratch ≡ c.scratch = e₁₅ ∙ ap (take (4 * circ.nodes + 8)) at_supply.1
     ∙ take_at c.scratch w.unused (4 * circ.nodes + 8) (shape.scratch ∙ ap (λ (n : ℕ). 4 * n + 8) k.nodes) in
     let tails : map tail_of ends ≡ c.from = ap (map tail_of) at_ends.0 ∙ sym k.from in
     let heads : map head_of ends ≡ c.to = ap (map head_of) at_ends.0 ∙ sym k.to in
     let nodes = k.nodes in
-    lists_same circ.nodes c.nodes (map tail_of ends) c.from (map head_of ends) c.to supply c.supply lower c.lower upper
-    c.upper flow c.flow scratch c.scratch first c.rows.first step c.rows.step end c.rows.end (sym nodes) tails heads
+    lists_same (sym nodes) tails heads
     at_supply.0 at_lower.0 at_upper.0 at_flow.0 at_scratch at_end.1 at_step.0 at_end.0
 
 -- words that were lent hold what was left in them
 pub written_place : (words new : List ℕ) (place : Place) → length new ≡ place.len →
-    place.from + place.len ≤ length words →
-    words_at (take (length words) (with_words words place.from new)) place ≡ new
+    place.from + place.len ≤ length words → words_at (take (length words) (with_words words place.from new)) place ≡ new
 written_place words new place same fits =
-    ap (λ (ws : List ℕ). words_at ws place)
-    (take_all (length words) (with_words words place.from new)
+    ap (λ (ws : List ℕ). words_at ws place) (take_all (length words) (with_words words place.from new)
     (omega (arith, length-with_words words place.from new (omega (arith, same)))))
     ∙ words_at-with_words words new place (omega arith) same
 

@@ -12,9 +12,9 @@ pub record IsLinked (keys first next : List ℕ) (a : ℕ) : Type 0 where
   pub follows : (b : ℕ) → a ≤ b → b < length keys → IsNext keys (slice_index keys b) (b + 1) (slice_index next b)
 
 -- none is chained yet
-pub link_start : (keys first next : List ℕ) (a : ℕ) → a ≡ length keys →
+pub link_start : (keys first next : List ℕ) {a : ℕ} → a ≡ length keys →
     ((v : ℕ) → v < length first → slice_index first v ≡ length keys) → IsLinked keys first next a
-link_start keys first next a all none = record {
+link_start keys first next {a} all none = record {
   starts = λ v b. subst (λ (n : ℕ). IsNext keys v a n) (all ∙ sym (none v b)) record {
     within = omega (arith, all);
     after = omega arith;
@@ -25,17 +25,16 @@ link_start keys first next a all none = record {
 }
 
 -- one more turn is chained
-pub link_next : (keys first next : List ℕ) (a k : ℕ) → 0 < a → a ≤ length keys → k ≡ slice_index keys (a - 1) →
+pub link_next : {keys first next : List ℕ} {a k : ℕ} → 0 < a → a ≤ length keys → k ≡ slice_index keys (a - 1) →
     k < length first → length next ≡ length keys → IsLinked keys first next a →
     IsLinked keys (slice_set first k (a - 1)) (slice_set next (a - 1) (slice_index first k)) (a - 1)
-link_next keys first next a k some within is inside sizes l =
+link_next {keys} {first} {next} {a} {k} some within is inside sizes l =
     let old = l.starts k inside in
     record {
       starts = λ v b. elim (cases_eq v k) [
         | inl same ↦
             let here : slice_index (slice_set first k (a - 1)) v ≡ a - 1 =
-            ap (slice_index (slice_set first k (a - 1))) same
-            ∙ get_or-set_same first k (a - 1) 0 inside in
+            ap (slice_index (slice_set first k (a - 1))) same ∙ get_or-set_same first k (a - 1) 0 inside in
             subst (λ (n : ℕ). IsNext keys v (a - 1) n) (sym here) record {
               within = omega arith;
               after = omega arith;

@@ -21,34 +21,34 @@ abbrev pub AreWithin : ℕ → List Ends → Type 0
 AreWithin nodes es = All (λ e. (e.from ≤ nodes) × (e.to ≤ nodes) × (e.from ≢ e.to)) es
 
 -- each tail is a node
-pub from_within : (nodes : ℕ) (es : List Ends) (keys : List ℕ) → keys ≡ map (λ e. e.from) es → AreWithin nodes es →
+pub from_within : (nodes : ℕ) (es : List Ends) {keys : List ℕ} → keys ≡ map (λ e. e.from) es → AreWithin nodes es →
     (a : ℕ) → a < length keys → get_or keys a 0 ≤ nodes
-from_within nodes es keys is h a b =
+from_within nodes es is h a b =
     let c : a < length es = omega (arith, ap length is, length-map es (λ e. e.from)) in
     subst (λ (ks : List ℕ). get_or ks a 0 ≤ nodes) (sym is)
     (subst (λ (x : ℕ). x ≤ nodes) (sym (get_or-map (λ e. e.from) es a no_ends 0 c)) (h a no_ends c).0)
 
 -- each head is a node
-pub to_within : (nodes : ℕ) (es : List Ends) (keys : List ℕ) → keys ≡ map (λ e. e.to) es → AreWithin nodes es →
+pub to_within : (nodes : ℕ) (es : List Ends) {keys : List ℕ} → keys ≡ map (λ e. e.to) es → AreWithin nodes es →
     (a : ℕ) → a < length keys → get_or keys a 0 ≤ nodes
-to_within nodes es keys is h a b =
+to_within nodes es is h a b =
     let c : a < length es = omega (arith, ap length is, length-map es (λ e. e.to)) in
     subst (λ (ks : List ℕ). get_or ks a 0 ≤ nodes) (sym is)
     (subst (λ (x : ℕ). x ≤ nodes) (sym (get_or-map (λ e. e.to) es a no_ends 0 c)) (h a no_ends c).1)
 
 -- no arc goes from a node to itself
-pub ends_apart : (nodes : ℕ) (es : List Ends) (from to : List ℕ) → from ≡ map (λ e. e.from) es →
+pub ends_apart : (nodes : ℕ) (es : List Ends) {from to : List ℕ} → from ≡ map (λ e. e.from) es →
     to ≡ map (λ e. e.to) es → AreWithin nodes es → (a : ℕ) → a < length from → get_or from a 0 ≢ get_or to a 0
-ends_apart nodes es from to is_from is_to h a b same =
+ends_apart nodes es is_from is_to h a b same =
     let c : a < length es = omega (arith, ap length is_from, length-map es (λ e. e.from)) in
     (h a no_ends c).2
     (sym (get_or-map (λ e. e.from) es a no_ends 0 c) ∙ ap (λ (ks : List ℕ). get_or ks a 0) (sym is_from) ∙ same
     ∙ ap (λ (ks : List ℕ). get_or ks a 0) is_to ∙ get_or-map (λ e. e.to) es a no_ends 0 c)
 
 -- there are as many heads as tails
-pub lengths_agree : (es : List Ends) (from to : List ℕ) → from ≡ map (λ e. e.from) es → to ≡ map (λ e. e.to) es →
+pub lengths_agree : (es : List Ends) {from to : List ℕ} → from ≡ map (λ e. e.from) es → to ≡ map (λ e. e.to) es →
     length to ≡ length from
-lengths_agree es from to is_from is_to =
+lengths_agree es is_from is_to =
     omega (arith, ap length is_from, ap length is_to, length-map es (λ e. e.from), length-map es (λ e. e.to))
 
 -- nothing, tested or not
@@ -57,10 +57,10 @@ when-zero true x h = h
 when-zero false x h = refl
 
 -- all amounts 0 are a flow
-pub empty-circulation : (nodes : ℕ) (from to : List ℕ) (rows : Rows) → nodes < 2 ^ 32 → length from < 2 ^ 32 →
+pub empty-circulation : {nodes : ℕ} {from to : List ℕ} {rows : Rows} → nodes < 2 ^ 32 → length from < 2 ^ 32 →
     length to ≡ length from → HasEnds (network (empty_contents nodes from to rows)) →
     AreRows nodes from to rows → IsCirculation (empty_contents nodes from to rows)
-empty-circulation nodes from to rows bounded_nodes bounded_arcs same ends are_rows = record {
+empty-circulation {nodes} {from} {to} {rows} bounded_nodes bounded_arcs same ends are_rows = record {
   shape = record {
     bounded_nodes = bounded_nodes;
     bounded_arcs = bounded_arcs;
@@ -90,12 +90,11 @@ empty-circulation nodes from to rows bounded_nodes bounded_arcs same ends are_ro
 }
 
 -- a row of zeros in parts
-zeros_in_parts : (arcs nodes count : ℕ) →
+zeros_in_parts : (arcs nodes : ℕ) {count : ℕ} →
     count ≡ arcs + (arcs + (arcs + (nodes + (4 * nodes + 8 + (2 * nodes + 6))))) →
-    replicate {A = ℕ} count 0 ≡ replicate arcs 0
-    ++ (replicate arcs 0
+    replicate {A = ℕ} count 0 ≡ replicate arcs 0 ++ (replicate arcs 0
     ++ (replicate arcs 0 ++ (replicate nodes 0 ++ (replicate (4 * nodes + 8) 0 ++ replicate (2 * nodes + 6) 0))))
-zeros_in_parts arcs nodes count is =
+zeros_in_parts arcs nodes is =
     ap (λ (n : ℕ). replicate {A = ℕ} n 0) is
     ∙ sym (replicate-append-replicate {A = ℕ} arcs (arcs + (arcs + (nodes + (4 * nodes + 8 + (2 * nodes + 6))))) 0)
     ∙ ap (λ (xs : List ℕ). replicate arcs 0 ++ xs)
@@ -108,14 +107,13 @@ zeros_in_parts arcs nodes count is =
     (sym (replicate-append-replicate {A = ℕ} (4 * nodes + 8) (2 * nodes + 6) 0)))))
 
 -- the words of a circulation that is empty
-pub empty-words : (circ : Circulation) (c : Contents) (kept moved : List ℕ) → c.nodes ≡ circ.nodes →
-    length c.from ≡ circ.arcs → IsCirculation c →
-    c ≡ empty_contents c.nodes c.from c.to c.rows →
+pub empty-words : (circ : Circulation) {c : Contents} {kept moved : List ℕ} → c.nodes ≡ circ.nodes →
+    length c.from ≡ circ.arcs → IsCirculation c → c ≡ empty_contents c.nodes c.from c.to c.rows →
     moved ≡ replicate (word_count circ.nodes circ.arcs - fixed_count circ.nodes circ.arcs) 0 →
     (pairs : List ℕ) → length pairs ≡ circ.arcs → c.from ≡ map tail_of pairs → c.to ≡ map head_of pairs →
     length c.rows.step ≡ 2 * circ.arcs → ((p : ℕ) → slice_index c.rows.end p < 2 ^ 32) →
     kept ≡ pairs ++ (c.rows.step ++ (c.rows.end ++ c.rows.first)) → AreWordsOf circ c kept moved
-empty-words circ c kept moved nodes arcs k is none pairs count from to steps small fixed = record {
+empty-words circ {c} nodes arcs k is none pairs count from to steps small fixed = record {
   fixed = record {
     pairs = pairs;
     nodes = nodes;
@@ -128,36 +126,31 @@ empty-words circ c kept moved nodes arcs k is none pairs count from to steps sma
     circulation = k;
   };
   unused = replicate (2 * c.nodes + 6) 0;
-  moving = none
-      ∙ zeros_in_parts (length c.from) c.nodes (word_count circ.nodes circ.arcs - fixed_count circ.nodes circ.arcs)
-      (omega (arith, nodes, arcs))
-      ∙ ap (λ (e : Contents).
-      e.flow ++ (e.upper ++ (e.lower ++ (e.supply ++ (e.scratch ++ replicate (2 * c.nodes + 6) 0)))))
-      (sym is);
+  moving = none ∙ zeros_in_parts (length c.from) c.nodes (omega (arith, nodes, arcs)) ∙ ap (λ (e : Contents).
+      e.flow ++ (e.upper ++ (e.lower ++ (e.supply ++ (e.scratch ++ replicate (2 * c.nodes + 6) 0))))) (sym is);
 }
 
 -- the words of a circulation that was just opened
-pub laid-words : (circ : Circulation) (es : List Ends) (words : List ℕ) → circ.arcs ≡ length es →
+pub laid-words : (circ : Circulation) {es : List Ends} (words : List ℕ) → circ.arcs ≡ length es →
     circ.nodes < 2 ^ 32 → length es < 2 ^ 32 → AreWithin circ.nodes es →
     IsLaid circ.nodes es (take (fixed_count circ.nodes circ.arcs) words) →
     drop (fixed_count circ.nodes circ.arcs) words ≡ replicate
     (word_count circ.nodes circ.arcs - fixed_count circ.nodes circ.arcs) 0 →
     (rows : Rows) × HasWords circ (empty_contents circ.nodes (tails es) (heads es) rows) words
-laid-words circ es words arcs bounded_nodes bounded_arcs within laid none =
+laid-words circ {es} words arcs bounded_nodes bounded_arcs within laid none =
     let count = length-map es (λ (e : Ends). e.from) in
-    let same = lengths_agree es (tails es) (heads es) refl refl in
+    let same = lengths_agree es refl refl in
     let rows : AreRows circ.nodes (tails es) (heads es) laid.rows =
     subst (λ (xs : List ℕ). AreRows circ.nodes xs (heads es) laid.rows) laid.from
     (subst (λ (xs : List ℕ). AreRows circ.nodes (tails_of laid.pairs) xs laid.rows) laid.to laid.laid.rows) in
-    let kept = empty-circulation circ.nodes (tails es) (heads es) laid.rows bounded_nodes (omega (arith, count)) same
+    let kept = empty-circulation bounded_nodes (omega (arith, count)) same
     record {
-      from_in = from_within circ.nodes es (tails es) refl within;
-      to_in = λ a b. to_within circ.nodes es (heads es) refl within a (omega (arith, same));
-      apart = ends_apart circ.nodes es (tails es) (heads es) refl refl within;
+      from_in = from_within circ.nodes es refl within;
+      to_in = λ a b. to_within circ.nodes es refl within a (omega (arith, same));
+      apart = ends_apart circ.nodes es refl refl within;
     } rows in (
       laid.rows,
-      empty-words circ (empty_contents circ.nodes (tails es) (heads es) laid.rows)
-          (take (fixed_count circ.nodes circ.arcs) words) (drop (fixed_count circ.nodes circ.arcs) words)
+      empty-words circ
           refl (omega (arith, count, arcs)) kept refl none laid.pairs (omega (arith, laid.count, arcs)) (sym laid.from)
           (sym laid.to) (omega (arith, laid.laid.steps, laid.count, arcs)) laid.laid.small
           (laid.words ∙ ap (λ (xs : List ℕ). laid.pairs ++ xs) laid.laid.is),

@@ -17,10 +17,10 @@ pub record ArePacked (es : List Ends) (pairs : List ℕ) (at : ℕ) : Type 0 whe
   pub to : (a : ℕ) → a < at → head_of (slice_index pairs a) ≡ (get_or es a no_ends).to
 
 -- one more is packed
-pub packed_next : (es : List Ends) (pairs : List ℕ) (at f t : ℕ) → ArePacked es pairs at → at < length pairs →
+pub packed_next : {es : List Ends} {pairs : List ℕ} {at f t : ℕ} → ArePacked es pairs at → at < length pairs →
     t < 2 ^ 32 → f ≡ (get_or es at no_ends).from → t ≡ (get_or es at no_ends).to →
     ArePacked es (slice_set pairs at (f * 4294967296 + t)) (at + 1)
-packed_next es pairs at f t p room small from to =
+packed_next {es} {pairs} {at} {f} {t} p room small from to =
     let pair = f * 4294967296 + t in
     let here = get_or-set_same pairs at pair 0 room in
     let tail : pair / 4294967296 ≡ f = omega arith in
@@ -41,18 +41,18 @@ packed_next es pairs at f t p room small from to =
     }
 
 -- all are packed
-pub packed_tails : (es : List Ends) (pairs : List ℕ) (at : ℕ) → ArePacked es pairs at → length pairs ≡ length es →
+pub packed_tails : {es : List Ends} {pairs : List ℕ} {at : ℕ} → ArePacked es pairs at → length pairs ≡ length es →
     length es ≤ at → tails_of pairs ≡ tails es
-packed_tails es pairs at p same all =
+packed_tails {es} {pairs} p same all =
     let count = length-map pairs tail_of in
     let other = length-map es (λ (e : Ends). e.from) in
     ext_get_or 0 (tails_of pairs) (tails es) (omega arith)
     (λ a b. get_or-map tail_of pairs a 0 0 (omega arith) ∙ p.from a (omega arith)
     ∙ sym (get_or-map (λ (e : Ends). e.from) es a no_ends 0 (omega arith)))
 
-pub packed_heads : (es : List Ends) (pairs : List ℕ) (at : ℕ) → ArePacked es pairs at → length pairs ≡ length es →
+pub packed_heads : {es : List Ends} {pairs : List ℕ} {at : ℕ} → ArePacked es pairs at → length pairs ≡ length es →
     length es ≤ at → heads_of pairs ≡ heads es
-packed_heads es pairs at p same all =
+packed_heads {es} {pairs} p same all =
     let count = length-map pairs head_of in
     let other = length-map es (λ (e : Ends). e.to) in
     ext_get_or 0 (heads_of pairs) (heads es) (omega arith)

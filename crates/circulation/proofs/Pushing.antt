@@ -68,9 +68,9 @@ pushing_start w old step first last amount some flow = record {
 }
 
 -- after the last step each node is in balance again
-pub pushing_end : (w : Network) (old new step : ℕ → ℕ) (first last amount : ℕ) → IsFlow w old →
+pub pushing_end : {w : Network} {old new step : ℕ → ℕ} {first last amount : ℕ} → IsFlow w old →
     IsPushing w old new step first last last amount → IsFlow w new
-pushing_end w old new step first last amount flow p = record {
+pushing_end {w} {step} {first} flow p = record {
   low = p.low;
   high = p.high;
   balanced = λ v b. omega (
@@ -81,16 +81,15 @@ pushing_end w old new step first last amount flow p = record {
 }
 
 -- the arc of the next step has still its old flow
-pub untouched : (w : Network) (old new step : ℕ → ℕ) (first last at amount : ℕ) →
+pub untouched : {w : Network} {old new step : ℕ → ℕ} {first last at amount : ℕ} →
     IsClosedWalk w old step first last amount → IsPushing w old new step first last at amount → first ≤ at → at < last →
     new (arc_of (step at)) ≡ old (arc_of (step at))
-untouched w old new step first last at amount walk p a b =
+untouched {step} {at} walk p a b =
     p.pushed.off (arc_of (step at)) (λ i c d. walk.once i at c d b)
 
 -- an amount within the room keeps the bounds
 within_room : (back : Bool) (d x y low high : ℕ) → 0 < d → low ≤ x → x ≤ high → d ≤ by_direction back (high - x)
-    (x - low) →
-    y + when back d ≡ x + when (not back) d → (low ≤ y) × (y ≤ high)
+    (x - low) → y + when back d ≡ x + when (not back) d → (low ≤ y) × (y ≤ high)
 within_room true d x y low high p a b room change = (omega arith, omega arith)
 within_room false d x y low high p a b room change = (omega arith, omega arith)
 
@@ -101,8 +100,7 @@ pub pushing_next : (w : Network) (old new next step : ℕ → ℕ) (first last a
     ≡ new (arc_of (step at)) + when (not (is_backward (step at))) amount →
     ((a : ℕ) → a ≢ arc_of (step at) → next a ≡ new a) → IsPushing w old next step first last (at + 1) amount
 pushing_next w old new next step first last at amount flow walk p a b change other =
-    let same : new (arc_of (step at)) ≡ old (arc_of (step at)) =
-    untouched w old new step first last at amount walk p a b in
+    let same : new (arc_of (step at)) ≡ old (arc_of (step at)) = untouched walk p a b in
     let inside : arc_of (step at) < w.arcs = walk.arc at a b in
     let bounds = within_room (is_backward (step at)) amount (old (arc_of (step at))) (next (arc_of (step at)))
     (w.lower (arc_of (step at))) (w.upper (arc_of (step at))) walk.positive (flow.low _ inside)
@@ -118,8 +116,7 @@ pushing_next w old new next step first last at amount flow walk p a b change oth
       ];
       pushed = record {
         on = λ i c d. elim (eqb_tells i at) [
-          | inl e ↦ subst (λ (y : ℕ). next (arc_of (step y)) + when (is_backward (step y)) amount ≡ old
-              (arc_of (step y)) + when (not (is_backward (step y))) amount) (sym e.1) (omega (arith, same, change))
+          | inl e ↦ rw e.1 (omega (arith, same, change))
           | inr e ↦
               let before : i < at = omega arith in
               omega (arith, p.pushed.on i c before, other (arc_of (step i)) (walk.once i at c before b))
@@ -129,8 +126,7 @@ pushing_next w old new next step first last at amount flow walk p a b change oth
       moved = λ t in_transit at_end v.
           let before = p.moved (start_of w (step at)) (λ c. refl) (λ c. absurd (omega arith)) v in
           let now = moved_by_step w new next (step at) amount inside change (λ x c ne. other x ne) v in
-          let joined : end_of w (step at) ≡ t = elim
-          (eqb_tells (at + 1) last) [
+          let joined : end_of w (step at) ≡ t = elim (eqb_tells (at + 1) last) [
             | inl e ↦ walk.closed at e.1 ∙ sym
                 (at_end e.1)
             | inr e ↦ let c : at + 1 < last = omega arith in walk.joined at a c ∙ sym (in_transit c)
@@ -145,8 +141,7 @@ pub change_fits : (w : Network) (old new step : ℕ → ℕ) (first last at amou
     (is_backward (step at) ≡ true → amount ≤ new (arc_of (step at))) ×
     (is_backward (step at) ≡ false → new (arc_of (step at)) + amount ≤ w.upper (arc_of (step at)))
 change_fits w old new step first last at amount flow walk p a b =
-    let same : new (arc_of (step at)) ≡ old (arc_of (step at)) =
-    untouched w old new step first last at amount walk p a b in
+    let same : new (arc_of (step at)) ≡ old (arc_of (step at)) = untouched walk p a b in
     let room = walk.room at a b in
     let low = flow.low _ (walk.arc at a b) in
     let positive : 0 < amount = walk.positive in (
@@ -157,19 +152,18 @@ change_fits w old new step first last at amount flow walk p a b =
     )
 
 -- a circulation keeps what it is when the steps are done
-pub pushed-kept : (c x : Contents) (written flow : List ℕ) (first last at amount : ℕ) → c ≡ x → IsCirculation c →
-    length flow ≡ length c.flow → written ≡ flow → at ≡ last →
+pub pushed-kept : {c : Contents} (x : Contents) {written : List ℕ} (flow : List ℕ) {first last at amount : ℕ} → c ≡ x →
+    IsCirculation c → length flow ≡ length c.flow → written ≡ flow → at ≡ last →
     IsPushing (network x) (flow_of x) (λ a. slice_index flow a) (step_of x) first last at amount →
     IsCirculation (record c { flow = written })
-pushed-kept c x written flow first last at amount view k same is end p =
+pushed-kept {c} x flow {first} {last} {amount} view k same is end p =
     let kept = subst IsCirculation view k in
     let done = subst (λ (n : ℕ). IsPushing (network x) (flow_of x) (λ a. slice_index flow a)
     (step_of x) first last n amount) end p in
-    let last_flow = pushing_end (network x) (flow_of x) (λ a. slice_index flow a) (step_of x) first last amount
-    kept.flow done in
+    let last_flow = pushing_end kept.flow done in
     let own_flow = subst (λ (y : Contents). IsFlow (network y) (λ a. slice_index flow a)) (sym view) last_flow in
     let length_now : length flow ≡ length c.from = omega (arith, same, k.shape.flow) in
-    subst (λ (xs : List ℕ). IsCirculation (record c { flow = xs })) (sym is) (flow-kept c flow k length_now own_flow)
+    rw is (flow-kept flow k length_now own_flow)
 
 -- a circulation in which the steps before `at` are done
 pub record IsPushState (x y : Contents) (first last at amount : ℕ) : Type 0 where
@@ -177,51 +171,47 @@ pub record IsPushState (x y : Contents) (first last at amount : ℕ) : Type 0 wh
   pub size : length y.flow ≡ length x.flow
   pub pushing : IsPushing (network x) (flow_of x) (flow_of y) (step_of x) first last at amount
 
-pub push_start : (x y : Contents) (first last amount : ℕ) → y ≡ x → IsCirculation x → first < last →
+pub push_start : {x y : Contents} (first last amount : ℕ) → y ≡ x → IsCirculation x → first < last →
     IsPushState x y first last first amount
-push_start x y first last amount is k some = subst (λ (z : Contents). IsPushState x z first last first amount) (sym is)
-    record {
-      rest = refl;
-      size = refl;
-      pushing = pushing_start (network x) (flow_of x) (step_of x) first last amount some k.flow;
-    }
+push_start {x} first last amount is k some = rw is record {
+  rest = refl;
+  size = refl;
+  pushing = pushing_start (network x) (flow_of x) (step_of x) first last amount some k.flow;
+}
 
 -- the step that is next is still the same
-next_same : (x y : Contents) (first last at amount : ℕ) → IsPushState x y first last at amount →
+next_same : {x y : Contents} {first last at amount : ℕ} → IsPushState x y first last at amount →
     step_of x at ≡ step_of y at
-next_same x y first last at amount p = ap (λ (z : Contents). step_of z at) (sym p.rest)
+next_same {at} p = ap (λ (z : Contents). step_of z at) (sym p.rest)
 
 -- its arc has a flow
-pub push_inside : (x y : Contents) (first last at amount : ℕ) → IsCirculation x →
+pub push_inside : {x y : Contents} {first last at amount : ℕ} → IsCirculation x →
     IsClosedWalk (network x) (flow_of x) (step_of x) first last amount → IsPushState x y first last at amount →
     first ≤ at → at < last → arc_of (step_of y at) < length y.flow
-push_inside x y first last at amount k walk p a b =
-    subst (λ (s : ℕ). arc_of s < length y.flow) (next_same x y first last at amount p)
-    (omega (arith, walk.arc at a b, k.shape.flow, p.size))
+push_inside {y} {at} k walk p a b =
+    subst (λ (s : ℕ). arc_of s < length y.flow) (next_same p) (omega (arith, walk.arc at a b, k.shape.flow, p.size))
 
 -- which it can change
-pub push_fits : (x y : Contents) (first last at amount : ℕ) → IsCirculation x →
+pub push_fits : {x y : Contents} {first last at amount : ℕ} → IsCirculation x →
     IsClosedWalk (network x) (flow_of x) (step_of x) first last amount → IsPushState x y first last at amount →
-    first ≤ at → at < last →
-    (is_backward (step_of y at) ≡ true → amount ≤ flow_of y (arc_of (step_of y at))) ×
+    first ≤ at → at < last → (is_backward (step_of y at) ≡ true → amount ≤ flow_of y (arc_of (step_of y at))) ×
     (is_backward (step_of y at) ≡ false → flow_of y (arc_of (step_of y at)) + amount < 2 ^ 64)
-push_fits x y first last at amount k walk p a b =
+push_fits {x} {y} {at} {amount} k walk p a b =
     let fits = change_fits _ _ _ _ _ _ _ _ k.flow walk p.pushing a b in
     let small = k.shape.small (arc_of (step_of x at)) (walk.arc at a b) in
     subst (λ (s : ℕ). (is_backward s ≡ true → amount ≤ flow_of y (arc_of s)) ×
-    (is_backward s ≡ false → flow_of y (arc_of s) + amount < 2 ^ 64)) (next_same x y first last at amount p)
+    (is_backward s ≡ false → flow_of y (arc_of s) + amount < 2 ^ 64)) (next_same p)
     (fits.0, λ e. omega (arith, fits.1 e, small))
 
 -- and that was done
-pub push_next : (x y : Contents) (first last at amount new : ℕ) → IsCirculation x →
+pub push_next : {x y : Contents} {first last at amount : ℕ} (new : ℕ) → IsCirculation x →
     IsClosedWalk (network x) (flow_of x) (step_of x) first last amount → IsPushState x y first last at amount →
-    first ≤ at → at < last →
-    new + when (is_backward (step_of y at)) amount ≡ flow_of y (arc_of (step_of y at)) + when
+    first ≤ at → at < last → new + when (is_backward (step_of y at)) amount ≡ flow_of y (arc_of (step_of y at)) + when
     (not (is_backward (step_of y at))) amount →
     IsPushState x (record y { flow = slice_set y.flow (arc_of (step_of y at)) new }) first last (at + 1) amount
-push_next x y first last at amount new k walk p a b change =
-    let same = next_same x y first last at amount p in
-    let inside = push_inside x y first last at amount k walk p a b in
+push_next {x} {y} {first} {last} {at} {amount} new k walk p a b change =
+    let same = next_same p in
+    let inside = push_inside k walk p a b in
     let arc = arc_of (step_of y at) in
     let flow = slice_set y.flow arc new in
     let here = get_or-set_same y.flow arc new 0 inside in
@@ -232,20 +222,17 @@ push_next x y first last at amount new k walk p a b change =
       rest = ap (λ (z : Contents). record z { flow = flow }) p.rest;
       size = length-set y.flow arc new ∙ p.size;
       pushing = pushing_next (network x) (flow_of x) (flow_of y) (slice_index flow) (step_of x) first last at amount
-          k.flow walk p.pushing a b
-          (subst (λ (s : ℕ). slice_index flow (arc_of s) + when (is_backward s) amount ≡ flow_of y (arc_of s) + when
-          (not (is_backward s)) amount) (sym same) done)
+          k.flow walk p.pushing a b (rw same done)
           (λ c ne. get_or-set_other y.flow arc c new 0 (λ e. ne (e ∙ ap arc_of (sym same))));
     }
 
 -- when all steps are done it is a circulation again
-pub push_kept : (x y : Contents) (first last at amount : ℕ) → IsCirculation x → IsPushState x y first last at amount →
+pub push_kept : {x y : Contents} {first last at amount : ℕ} → IsCirculation x → IsPushState x y first last at amount →
     at ≡ last → IsCirculation y
-push_kept x y first last at amount k p end =
-    subst IsCirculation (sym p.rest)
-    (pushed-kept x x y.flow y.flow first last at amount refl k p.size refl end p.pushing)
+push_kept {x} {y} k p end =
+    subst IsCirculation (sym p.rest) (pushed-kept x y.flow refl k p.size refl end p.pushing)
 
-pub push_done : (x y : Contents) (first last at amount : ℕ) → IsPushState x y first last at amount → at ≡ last →
+pub push_done : {x y : Contents} {first last at amount : ℕ} → IsPushState x y first last at amount → at ≡ last →
     IsPushed (flow_of x) (flow_of y) (step_of x) first last amount
-push_done x y first last at amount p end =
+push_done {x} {y} {first} {amount} p end =
     subst (λ (n : ℕ). IsPushed (flow_of x) (flow_of y) (step_of x) first n amount) end p.pushing.pushed

@@ -58,11 +58,9 @@ key_of_turn : (from to : List ℕ) (s : ℕ) → arc_of s < length from →
     slice_index (from ++ to) (turn_of (length from) s) ≡ start_of (over from to) s
 key_of_turn from to s b = elim (cases_Bool (is_backward s)) [
   | inl e ↦ ap (slice_index (from ++ to)) (backward_from (length from) s e).turn ∙ get_or-append-add from to (arc_of s)
-      0
-      ∙ sym (ap (λ (t : Bool). by_direction t (slice_index from (arc_of s)) (slice_index to (arc_of s))) e)
+      0 ∙ sym (ap (λ (t : Bool). by_direction t (slice_index from (arc_of s)) (slice_index to (arc_of s))) e)
   | inr e ↦ ap (slice_index (from ++ to)) (forward_from (length from) s e).turn ∙ get_or_append_left from to 0
-      (arc_of s) b
-      ∙ sym (ap (λ (t : Bool). by_direction t (slice_index from (arc_of s)) (slice_index to (arc_of s))) e)
+      (arc_of s) b ∙ sym (ap (λ (t : Bool). by_direction t (slice_index from (arc_of s)) (slice_index to (arc_of s))) e)
 ]
 
 -- a lesser number is another
@@ -75,14 +73,10 @@ record IsWrittenAt (xs ys : List ℕ) (at x : ℕ) : Type 0 where
   other : (p : ℕ) → p ≢ at → slice_index ys p ≡ slice_index xs p
 
 written_at : (xs : List ℕ) (at x : ℕ) → at < length xs → IsWrittenAt xs (slice_set xs at x) at x
-written_at xs at x b = record {
-  here = get_or-set_same xs at x 0 b;
-  other = λ p ne. get_or-set_other xs at p x 0 ne;
-}
+written_at xs at x b = record { here = get_or-set_same xs at x 0 b; other = λ p ne. get_or-set_other xs at p x 0 ne }
 
 -- nothing was written yet
-pub part_start : (from to : List ℕ) (v first : ℕ) (steps ends : List ℕ) →
-    IsPartRow from to v 0 first first steps ends
+pub part_start : (from to : List ℕ) (v first : ℕ) (steps ends : List ℕ) → IsPartRow from to v 0 first first steps ends
 part_start from to v first steps ends = record {
   order = omega arith;
   leads = λ p b d. absurd (omega arith);
@@ -99,9 +93,9 @@ pub record IsNextStep (from to : List ℕ) (v upto at s : ℕ) : Type 0 where
   pub turn : turn_of (length from) s ≡ at
 
 -- the same over arcs whose ends are packed in words
-pub next_step : (pairs : List ℕ) (v upto at s : ℕ) → IsNext (keys_of pairs) v upto at → at < 2 * length pairs →
+pub next_step : (pairs : List ℕ) {v upto at : ℕ} (s : ℕ) → IsNext (keys_of pairs) v upto at → at < 2 * length pairs →
     arc_of s < length pairs → turn_of (length pairs) s ≡ at → IsNextStep (tails_of pairs) (heads_of pairs) v upto at s
-next_step pairs v upto at s next short arc turn =
+next_step pairs s next short arc turn =
     let count = length-map pairs tail_of in
     record {
       next = next;
@@ -111,42 +105,36 @@ next_step pairs v upto at s next short arc turn =
     }
 
 -- it leaves the node of the chain
-pub next_start : (from to : List ℕ) (v upto turn s : ℕ) → IsNextStep from to v upto turn s →
+pub next_start : {from to : List ℕ} {v upto turn s : ℕ} → IsNextStep from to v upto turn s →
     start_of (over from to) s ≡ v
-next_start from to v upto turn s n =
+next_start {from} {to} {s} n =
     sym (key_of_turn from to s n.arc) ∙ ap (slice_index (from ++ to)) n.turn ∙ n.next.here n.short
 
 -- and was not written before
-pub next_is_new : (from to : List ℕ) (v upto turn first last s : ℕ) (steps ends : List ℕ) →
+pub next_is_new : {from to : List ℕ} {v upto turn first last s : ℕ} {steps ends : List ℕ} →
     IsPartRow from to v upto first last steps ends → AreApart from to v first steps →
     IsNextStep from to v upto turn s → (p : ℕ) → p < last → slice_index steps p ≢ s
-next_is_new from to v upto turn first last s steps ends part before n p b same = elim (cases_lt p first) [
+next_is_new {from} {to} {first} part before n p b same = elim (cases_lt p first) [
   | inl early ↦
-      omega (
-        arith,
-        before.starts p early,
-        ap (start_of (over from to)) same,
-        next_start from to v upto turn s n,
-      )
+      omega (arith, before.starts p early, ap (start_of (over from to)) same, next_start n)
   | inr late ↦ omega (arith, part.turns p late b, ap (turn_of (length from)) same, n.turn, n.next.after)
 ]
 
 -- so there is room for it
-pub next_has_room : (from to : List ℕ) (v upto turn first last s : ℕ) (steps ends : List ℕ) →
+pub next_has_room : {from to : List ℕ} {v upto turn first last s : ℕ} {steps ends : List ℕ} →
     IsPartRow from to v upto first last steps ends → AreApart from to v first steps →
     AreApart from to (v + 1) last steps → IsNextStep from to v upto turn s → last < 2 * length from
-next_has_room from to v upto turn first last s steps ends part before apart n =
+next_has_room {from} {last} {s} {steps} part before apart n =
     room_for_one last (2 * length from) (slice_index steps) s (λ p b. omega (arith, apart.arcs p b))
-    (omega (arith, n.arc))
-    apart.once (next_is_new from to v upto turn first last s steps ends part before n)
+    (omega (arith, n.arc)) apart.once (next_is_new part before n)
 
 -- one more step was written
-pub part_next : (from to : List ℕ) (v upto turn first last s u : ℕ) (steps ends : List ℕ) →
+pub part_next : {from to : List ℕ} {v upto turn first last s u : ℕ} {steps ends : List ℕ} →
     IsPartRow from to v upto first last steps ends → IsNextStep from to v upto turn s → u ≡ end_of (over from to) s →
     last < length steps → length ends ≡ length steps →
     IsPartRow from to v (turn + 1) first (last + 1) (slice_set steps last s) (slice_set ends last u)
-part_next from to v upto turn first last s u steps ends part n end room sizes =
-    let start = next_start from to v upto turn s n in
+part_next {from} {to} {v} {upto} {turn} {last} {s} {u} {steps} {ends} part n end room sizes =
+    let start = next_start n in
     let w = written_at steps last s room in
     let e = written_at ends last u (omega arith) in
     let steps' = slice_set steps last s in
@@ -164,16 +152,11 @@ part_next from to v upto turn first last s u steps ends part n end room sizes =
         | inr at_last ↦
             let here : last ≡ p = omega arith in
             subst (λ (q : ℕ). Leads from to v (slice_index steps' q) (slice_index ends' q)) here
-            (subst (λ (x : ℕ). Leads from to v x (slice_index ends' last)) (sym w.here)
-            (subst (λ (x : ℕ). Leads from to v s x) (sym e.here) record { arc = n.arc; start = start; end = sym end }))
+            (rw (w.here, e.here) record { arc = n.arc; start = start; end = sym end })
       ];
       turns = λ p b d. elim (cases_lt p last) [
         | inl before ↦
-            omega (
-              arith,
-              part.turns p b before,
-              ap (turn_of (length from)) (w.other p (less_other p last before)),
-            )
+            omega (arith, part.turns p b before, ap (turn_of (length from)) (w.other p (less_other p last before)))
         | inr at_last ↦
             let here : p ≡ last = omega arith in
             omega (arith, is, ap (turn_of (length from)) (ap (slice_index steps') here ∙ w.here))
@@ -205,10 +188,10 @@ part_next from to v upto turn first last s u steps ends part n end room sizes =
     }
 
 -- past the end of the chain all steps were written
-pub part_end : (from to : List ℕ) (v upto turn first last turns : ℕ) (steps ends : List ℕ) → length to ≡ length from →
+pub part_end : {from to : List ℕ} {v upto turn first last turns : ℕ} {steps ends : List ℕ} → length to ≡ length from →
     turns ≡ 2 * length from → IsPartRow from to v upto first last steps ends → IsNext (from ++ to) v upto turn →
     turns ≤ turn → IsPartRow from to v turns first last steps ends
-part_end from to v upto turn first last turns steps ends sizes are part next past =
+part_end {from} {to} {upto} {turns} {steps} sizes are part next past =
     let all = length-append from to in
     let within = next.within in
     let after = next.after in
@@ -240,10 +223,10 @@ zeros_small xs n m none p = elim (cases_lt p n) [
 ]
 
 -- steps that are apart stay so when one more is written
-pub apart_more : (from to : List ℕ) (n last s : ℕ) (steps : List ℕ) → AreApart from to n last steps →
+pub apart_more : {from to : List ℕ} {n last : ℕ} (s : ℕ) {steps : List ℕ} → AreApart from to n last steps →
     last < length steps → arc_of s < length from → start_of (over from to) s < n →
     ((p : ℕ) → p < last → slice_index steps p ≢ s) → AreApart from to n (last + 1) (slice_set steps last s)
-apart_more from to n last s steps apart room arc start is_new =
+apart_more {from} {to} {n} {last} s {steps} apart room arc start is_new =
     let w = written_at steps last s room in
     let steps' = slice_set steps last s in
     record {
@@ -276,9 +259,9 @@ apart_more from to n last s steps apart room arc start is_new =
     }
 
 -- and when a later index is written
-pub apart_stays : (from to : List ℕ) (n last at s : ℕ) (steps : List ℕ) → AreApart from to n last steps →
+pub apart_stays : {from to : List ℕ} {n last : ℕ} (at s : ℕ) {steps : List ℕ} → AreApart from to n last steps →
     last ≤ at → AreApart from to n last (slice_set steps at s)
-apart_stays from to n last at s steps apart beyond =
+apart_stays {from} {to} {n} {last} at s {steps} apart beyond =
     let other : (p : ℕ) → p < last → slice_index (slice_set steps at s) p ≡ slice_index steps p =
     λ p b. get_or-set_other steps at p s 0 (less_other p at (omega arith)) in
     record {
@@ -288,13 +271,9 @@ apart_stays from to n last at s steps apart beyond =
     }
 
 -- steps that leave nodes below n leave nodes below n + 1
-pub apart_weak : (from to : List ℕ) (n last : ℕ) (steps : List ℕ) → AreApart from to n last steps →
+pub apart_weak : {from to : List ℕ} {n last : ℕ} {steps : List ℕ} → AreApart from to n last steps →
     AreApart from to (n + 1) last steps
-apart_weak from to n last steps apart = record {
-  arcs = apart.arcs;
-  starts = λ p b. omega (arith, apart.starts p b);
-  once = apart.once;
-}
+apart_weak apart = record { arcs = apart.arcs; starts = λ p b. omega (arith, apart.starts p b); once = apart.once }
 
 -- no step is written yet
 pub apart_start : (from to steps : List ℕ) → AreApart from to 0 0 steps
@@ -305,9 +284,10 @@ apart_start from to steps = record {
 }
 
 -- lists that were the same below an index stay so when a later index is written
-pub same_stays : (last at s u : ℕ) (steps ends steps' ends' : List ℕ) → AreSameBelow last steps ends steps' ends' →
+pub same_stays : {last : ℕ} (at s u : ℕ) {steps ends steps' ends' : List ℕ} →
+    AreSameBelow last steps ends steps' ends' →
     last ≤ at → AreSameBelow last steps ends (slice_set steps' at s) (slice_set ends' at u)
-same_stays last at s u steps ends steps' ends' same beyond = record {
+same_stays at s u {steps'} {ends'} same beyond = record {
   same_steps = λ p b. get_or-set_other steps' at p s 0 (less_other p at (omega arith)) ∙ same.same_steps p b;
   same_ends = λ p b. get_or-set_other ends' at p u 0 (less_other p at (omega arith)) ∙ same.same_ends p b;
 }
@@ -330,11 +310,12 @@ rows_start from to first step end some = record {
 }
 
 -- a row stays when more is written after it
-row_stays : (from to : List ℕ) (r more : Rows) (v last : ℕ) → slice_index more.first v ≡ slice_index r.first v →
+row_stays : {from to : List ℕ} {r : Rows} (more : Rows) {v last : ℕ} →
+    slice_index more.first v ≡ slice_index r.first v →
     slice_index more.first (v + 1) ≡ slice_index r.first (v + 1) → slice_index r.first (v + 1) ≤ last →
     length more.step ≡ length r.step → AreSameBelow last r.step r.end more.step more.end → IsRow from to r v →
     IsRow from to more v
-row_stays from to r more v last first next inside sizes same row =
+row_stays {from} {to} {r} more {v} {last} first next inside sizes same row =
     let within = row.within in
     let order = row.order in
     let before : (p : ℕ) → IsInRow more v p → IsInRow r v p =
@@ -343,8 +324,7 @@ row_stays from to r more v last first next inside sizes same row =
     record {
       order = omega arith;
       within = omega arith;
-      leads = λ p i.
-          subst (λ (y : ℕ). Leads from to v y (slice_index more.end p)) (sym (same.same_steps p (short p i)))
+      leads = λ p i. subst (λ (y : ℕ). Leads from to v y (slice_index more.end p)) (sym (same.same_steps p (short p i)))
           (subst (λ (y : ℕ). Leads from to v (slice_index r.step p) y) (sym (same.same_ends p (short p i)))
           (row.leads p (before p i)));
       once = λ p q i j e. row.once p q (before p i) (before q j)
@@ -357,12 +337,12 @@ row_stays from to r more v last first next inside sizes same row =
     }
 
 -- the row of one more node is written
-pub rows_next : (from to : List ℕ) (n last last' turns : ℕ) (first step end step' end' : List ℕ) →
+pub rows_next : {from to : List ℕ} {n last last' turns : ℕ} {first step end step' end' : List ℕ} →
     n + 1 < length first → AreRowsUpTo from to n last record { first = first; step = step; end = end } →
     turns ≡ 2 * length from → IsPartRow from to n turns last last' step' end' → AreSameBelow last step end step' end' →
     length step' ≡ length step → last' ≤ length step' →
     AreRowsUpTo from to (n + 1) last' record { first = slice_set first (n + 1) last'; step = step'; end = end' }
-rows_next from to n last last' turns first step end step' end' room rows are part same sizes inside =
+rows_next {from} {to} {n} {last} {last'} {first} {step} {end} {step'} {end'} room rows are part same sizes inside =
     let r : Rows = record { first = first; step = step; end = end } in
     let more : Rows = record { first = slice_set first (n + 1) last'; step = step'; end = end' } in
     let w = written_at first (n + 1) last' room in
@@ -379,7 +359,7 @@ rows_next from to n last last' turns first step end step' end' room rows are par
             omega (arith, next, ap (λ (u : ℕ). slice_index more.first (u + 1)) e)
       ];
       rows = λ v b. elim (cases_lt v n) [
-        | inl old ↦ row_stays from to r more v last (w.other v (less_other v (n + 1) (omega arith)))
+        | inl old ↦ row_stays more (w.other v (less_other v (n + 1) (omega arith)))
             (w.other (v + 1) (less_other (v + 1) (n + 1) (omega arith))) (rows.before v old) sizes same
             (rows.rows v old)
         | inr new ↦
@@ -407,10 +387,6 @@ rows_next from to n last last' turns first step end step' end' room rows are par
     }
 
 -- all rows are written
-pub rows_end : (from to : List ℕ) (nodes n last : ℕ) (r : Rows) → n ≡ nodes + 1 → length r.first ≡ nodes + 2 →
+pub rows_end : {from to : List ℕ} (nodes : ℕ) {n last : ℕ} {r : Rows} → n ≡ nodes + 1 → length r.first ≡ nodes + 2 →
     length r.end ≡ length r.step → AreRowsUpTo from to n last r → AreRows nodes from to r
-rows_end from to nodes n last r is firsts ends rows = record {
-  firsts = firsts;
-  ends = ends;
-  rows = λ v b. rows.rows v (omega arith);
-}
+rows_end nodes is firsts ends rows = record { firsts = firsts; ends = ends; rows = λ v b. rows.rows v (omega arith) }

@@ -1,5 +1,5 @@
 -- A scan over the row of a node.
-use Rattle.std.proofs.Common.{ℕ, Bool, true, false, ◌≡◌, ◌+◌, ◌<◌, ◌≤◌, length, slice_index, arith, ap, sym, subst, inl}
+use Rattle.std.proofs.Common.{ℕ, Bool, true, false, ◌≡◌, ◌+◌, ◌<◌, ◌≤◌, length, slice_index, arith, ap, subst, inl}
 use Rattle.std.proofs.Common.{inr, ◌∙◌}
 use Rattle.std.proofs.lemmas.Bool.{cases_lt}
 use Rattle.circulation.specs.Contents.{Contents, network, arcs, IsCirculation}
@@ -50,8 +50,7 @@ scan_at c v place s u k within from below step end =
       end = row.end;
       inside = omega (arith, row.end, end_within c (slice_index c.rows.step place) k row.arc);
     } in
-    subst (λ (x : ℕ). IsAt c v x u) (sym step)
-    (subst (λ (x : ℕ). IsAt c v (slice_index c.rows.step place) x) (sym end) own)
+    rw (step, end) own
 
 -- a scan goes on to the next index
 pub scan_next : (c : Contents) (v place s : ℕ) (Done Done' : ℕ → Type 0) → IsScan c v place Done →

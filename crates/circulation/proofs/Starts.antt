@@ -9,12 +9,12 @@ use Rattle.circulation.proofs.Kept.{scratch-kept, month-kept}
 use Rattle.circulation.proofs.Lends.{contents_of, lists_same}
 
 -- the words of a month that starts
-pub month-words : (circ : Circulation) (c : Contents) (kept old new supply upper start : List ℕ) →
+pub month-words : {circ : Circulation} {c : Contents} {kept : List ℕ} (old : List ℕ) {new supply upper start : List ℕ} →
     AreFixedOf circ c kept → length old ≡ word_count circ.nodes circ.arcs - fixed_count circ.nodes circ.arcs →
     IsStart c supply upper start →
     new ≡ start ++ (upper ++ (replicate circ.arcs 0 ++ (supply ++ drop (3 * circ.arcs + length supply) old))) →
     (scratch : List ℕ) × AreWordsOf circ (record (month_contents c supply upper start) { scratch = scratch }) kept new
-month-words circ c kept old new supply upper start w count s is =
+month-words {circ} {c} old {supply} {upper} {start} w count s is =
     let arcs : length c.from ≡ circ.arcs = ap length w.from ∙ (length-map w.pairs tail_of ∙ w.arcs) in
     let rest = drop (3 * circ.arcs + length supply) old in
     let scratch = take (4 * c.nodes + 8) rest in
@@ -31,24 +31,22 @@ month-words circ c kept old new supply upper start w count s is =
           steps = w.steps;
           small = w.small;
           fixed = w.fixed;
-          circulation = scratch-kept (month_contents c supply upper start) scratch long
-              (month-kept c supply upper start w.circulation s);
+          circulation = scratch-kept scratch long (month-kept w.circulation s);
         };
         unused = drop (4 * c.nodes + 8) rest;
-        moving = is
-            ∙ ap (λ (n : ℕ). start ++ (upper ++ (replicate n 0 ++ (supply ++ rest)))) (sym arcs)
+        moving = is ∙ ap (λ (n : ℕ). start ++ (upper ++ (replicate n 0 ++ (supply ++ rest)))) (sym arcs)
             ∙ ap (λ (xs : List ℕ). start ++ (upper ++ (replicate (length c.from) 0 ++ (supply ++ xs))))
             (sym (take-append-drop (4 * c.nodes + 8) rest));
       },
     )
 
 -- are known from the words
-frame_holds : (circ : Circulation) (c : Contents) (kept s l u f x : List ℕ) → AreFixedOf circ c kept →
+frame_holds : {circ : Circulation} {c : Contents} {kept : List ℕ} (s l u f x : List ℕ) → AreFixedOf circ c kept →
     let after = drop circ.arcs kept in let last = drop (2 * circ.arcs) after in
     contents_of c.nodes c.from c.to s l u f x c.rows.first c.rows.step c.rows.end
     ≡ contents_of circ.nodes (map tail_of (take circ.arcs kept)) (map head_of (take circ.arcs kept)) s l u f x
     (drop (2 * circ.arcs) last) (take (2 * circ.arcs) after) (take (2 * circ.arcs) last)
-frame_holds circ c kept s l u f x w =
+frame_holds {circ} {c} {kept} s l u f x w =
     let n = circ.arcs in
     let pairs : take n kept ≡ w.pairs = ap (take n) w.fixed ∙ take_at w.pairs _ n w.arcs in
     let after : drop n kept ≡ c.rows.step ++ (c.rows.end ++ c.rows.first) = ap (drop n) w.fixed
@@ -64,26 +62,23 @@ frame_holds circ c kept s l u f x w =
     ∙ drop_at c.rows.end c.rows.first (2 * n) ends in
     let from : c.from ≡ map tail_of (take n kept) = w.from ∙ ap (map tail_of) (sym pairs) in
     let to : c.to ≡ map head_of (take n kept) = w.to ∙ ap (map head_of) (sym pairs) in
-    lists_same c.nodes circ.nodes c.from (map tail_of (take n kept)) c.to (map head_of (take n kept)) s s l l u u f f
-    x x c.rows.first (drop (2 * n) (drop (2 * n) (drop n kept))) c.rows.step (take (2 * n) (drop n kept)) c.rows.end
-    (take (2 * n) (drop (2 * n) (drop n kept))) w.nodes from to refl refl refl refl refl (sym first) (sym step)
-    (sym end)
+    lists_same w.nodes from to refl refl refl refl refl (sym first) (sym step) (sym end)
 
 -- and so are the same in all contents whose words these may be
-pub frame_same : (circ : Circulation) (c d : Contents) (kept s l u f x : List ℕ) → AreFixedOf circ c kept →
+pub frame_same : {circ : Circulation} {c d : Contents} {kept : List ℕ} (s l u f x : List ℕ) → AreFixedOf circ c kept →
     AreFixedOf circ d kept → contents_of c.nodes c.from c.to s l u f x c.rows.first c.rows.step c.rows.end
     ≡ contents_of d.nodes d.from d.to s l u f x d.rows.first d.rows.step d.rows.end
-frame_same circ c d kept s l u f x w v = frame_holds circ c kept s l u f x w ∙ sym (frame_holds circ d kept s l u f x v)
+frame_same s l u f x w v = frame_holds s l u f x w ∙ sym (frame_holds s l u f x v)
 
 -- a month starts with the same contents, whichever contents its words were of
-pub month_same : (circ : Circulation) (c d m : Contents) (kept supply upper start scratch : List ℕ) →
+pub month_same : {circ : Circulation} {c d m : Contents} {kept : List ℕ} (supply upper start scratch : List ℕ) →
     AreFixedOf circ c kept → AreFixedOf circ d kept →
     m ≡ record (month_contents c supply upper start) { scratch = scratch } →
     m ≡ record (month_contents d supply upper start) { scratch = m.scratch }
-month_same circ c d m kept supply upper start scratch w v is =
+month_same {c} {d} supply upper start scratch w v is =
     let count : length c.from ≡ length d.from = ap (λ (e : Contents). length e.from)
-    (frame_same circ c d kept supply supply upper start scratch w v) in
-    is ∙ frame_same circ c d kept supply (replicate (length c.from) 0) upper start scratch w v
+    (frame_same supply supply upper start scratch w v) in
+    is ∙ frame_same supply (replicate (length c.from) 0) upper start scratch w v
     ∙ ap (λ (n : ℕ). record (month_contents d supply upper start) { lower = replicate n 0; scratch = scratch }) count
     ∙ ap (λ (x : List ℕ). record (month_contents d supply upper start) { scratch = x })
     (sym (ap (λ (e : Contents). e.scratch) is))

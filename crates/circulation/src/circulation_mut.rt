@@ -1,11 +1,11 @@
 //! A circulation in words that are borrowed.
 ghost use Rattle.std.specs.Prelude.{IsTrue, ◌↔◌, ◌≡◌, true, false, not, ℕ, ◌+◌, ◌*◌, ◌^◌, ◌<◌, ◌≤◌};
-ghost use Rattle.std.specs.Prelude.{length, slice_index, slice_set};
+ghost use Rattle.std.specs.Prelude.{◌==◌, length, slice_index, slice_set};
 ghost use Rattle.circulation.specs.Contents.{arcs, flow_of, step_of, held_contents, month_contents, network};
 ghost use Rattle.circulation.specs.Contents.{IsCirculation, IsStart};
 ghost use Rattle.circulation.specs.Network.{inflow, outflow};
-ghost use Rattle.circulation.specs.Residual.{is_backward, IsClosedWalk, IsPushed};
-ghost use Rattle.finite_sums.specs.Sums.{when};
+ghost use Rattle.circulation.specs.Residual.{by_direction, is_backward, IsClosedWalk, IsPushed};
+ghost use Rattle.finite_sums.specs.Sums.{total, when};
 
 use crate::{END, Ends};
 use std::marker::Model;
@@ -153,41 +153,29 @@ impl CirculationMut<'_> {
             slice_index supply.now v + inflow (network self.now) flow v ≡ outflow (network self.now) flow v) }
     {
         for node in 0..self.nodes() {
-            let gained = u128::from(supply[node as usize]) + self.inflow(amounts, node);
-            if gained != self.outflow(amounts, node) {
+            let gained = u128::from(supply[node as usize]) + self.carried(amounts, node, 1);
+            if gained != self.carried(amounts, node, 0) {
                 return false;
             }
         }
         true
     }
 
-    /// What the arcs that enter a node bring, with these amounts by arc.
-    fn inflow(&self, amounts: &[u64], node: u32) -> u128
+    /// What the arcs that leave a node carry, with these amounts by arc, where `way` is 0; and where it is 1, what
+    /// those that enter it bring.
+    fn carried(&self, amounts: &[u64], node: u32, way: u64) -> u128
         requires node { node ≤ self.now.nodes }
         requires amounts { length amounts.now ≡ arcs self.now }
-        ensures sum { result ≡ inflow (network self.now) (slice_index amounts.now) node }
+        requires way { way < 2 }
+        ensures sum { result ≡ total (arcs self.now) (λ a.
+            when (by_direction (way == 1) (slice_index self.now.from a) (slice_index self.now.to a) == node)
+            (slice_index amounts.now a)) }
         ensures small { result < 2 ^ 96 }
     {
         let mut sum = 0u128;
         for place in self.row_first(node)..self.row_last(node) {
             let step = self.step_at(place);
-            if step % 2 == 1 {
-                sum += u128::from(amounts[(step / 2) as usize]);
-            }
-        }
-        sum
-    }
-
-    /// What the arcs that leave a node carry, with these amounts by arc.
-    fn outflow(&self, amounts: &[u64], node: u32) -> u128
-        requires node { node ≤ self.now.nodes }
-        requires amounts { length amounts.now ≡ arcs self.now }
-        ensures { result ≡ outflow (network self.now) (slice_index amounts.now) node }
-    {
-        let mut sum = 0u128;
-        for place in self.row_first(node)..self.row_last(node) {
-            let step = self.step_at(place);
-            if step % 2 == 0 {
+            if step % 2 == way {
                 sum += u128::from(amounts[(step / 2) as usize]);
             }
         }

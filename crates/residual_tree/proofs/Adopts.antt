@@ -19,13 +19,13 @@ clear_outside c labels v b = record {
   before = λ x d h. absurd (omega (arith, d, eqb-true x c.nodes h));
 }
 
-pub clear_arrived : (c : Contents) (labels : List ℕ) (v u : ℕ) → v < c.nodes → u ≡ c.nodes → IsClear c labels v u
-clear_arrived c labels v u b is = subst (λ (x : ℕ). IsClear c labels v x) (sym is) (clear_outside c labels v b)
+pub clear_arrived : (c : Contents) (labels : List ℕ) (v : ℕ) {u : ℕ} → v < c.nodes → u ≡ c.nodes → IsClear c labels v u
+clear_arrived c labels v b is = subst (λ (x : ℕ). IsClear c labels v x) (sym is) (clear_outside c labels v b)
 
 -- and to a node, where it leads past the other to the node before it
-pub clear_step : (c : Contents) (labels : List ℕ) (v u : ℕ) → u ≢ v →
+pub clear_step : {c : Contents} {labels : List ℕ} {v : ℕ} (u : ℕ) → u ≢ v →
     IsClear c labels v (start_of (network c) (label_of labels u - 1)) → IsClear c labels v u
-clear_step c labels v u ne h = record {
+clear_step {c} {labels} {v} u ne h = record {
   on = λ x. x == u || h.on x;
   here = ap (λ t. t || h.on u) (eq-eqb u u refl);
   past = ap (λ t. t || h.on v) (ne_eqb v u (λ e. ne (sym e))) ∙ h.past;
@@ -63,11 +63,11 @@ rank_before rank on k x y less closed = elim (cases_Bool (on x)) [
 ]
 
 -- a node that is labeled is adopted over another step
-pub tree_adopt : (c : Contents) (labels : List ℕ) (saturated orphan free unscanned : ℕ → Type 0) (v s : ℕ) →
+pub tree_adopt : {c : Contents} {labels : List ℕ} {saturated orphan free unscanned : ℕ → Type 0} {v s : ℕ} →
     IsTreeBut c labels saturated orphan free unscanned → v < c.nodes → IsLabeled labels v → IsWayIn c labels v s →
     IsClear c labels v (start_of (network c) s) → IsTreeBut c (slice_set labels v (s + 1)) saturated orphan free
     unscanned
-tree_adopt c labels saturated orphan free unscanned v s t b labeled in_s clear = record {
+tree_adopt {c} {labels} {saturated} {orphan} {v} {s} t b labeled in_s clear = record {
   words = length-set labels v (s + 1) ∙ t.words;
   root = other c.nodes (λ e. absurd (omega (arith, e))) ∙ t.root;
   rank = rank;

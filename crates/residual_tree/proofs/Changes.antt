@@ -8,7 +8,7 @@ use Rattle.finite_sums.proofs.Totals.{total_change, count_at_most}
 use Rattle.circulation.specs.Contents.{Contents, network, flow_of, arcs}
 use Rattle.circulation.specs.Residual.{arc_of, start_of, end_of, room_of}
 use Rattle.residual_tree.specs.Tree.{label_of, IsLabeled}
-use Rattle.residual_tree.specs.Repair.{OccursIn, labeled_count, IsLooseBranch, IsTreeBut}
+use Rattle.residual_tree.specs.Repair.{OccursIn, labeled_count, IsTreeBut}
 
 -- no more basin nodes are labeled than there are
 pub count_most : (nodes : ℕ) (labels : List ℕ) → labeled_count nodes labels ≤ nodes
@@ -26,8 +26,8 @@ count_written nodes v x labels b =
 counts : (x : ℕ) → 0 < x → when (nat_lt 0 x) 1 ≡ 1
 counts x b = ap (λ (t : Bool). when t 1) (lt-ltb 0 x b)
 
-counts_not : (x : ℕ) → x ≡ 0 → when (nat_lt 0 x) 1 ≡ 0
-counts_not x e = ap (λ (t : Bool). when t 1) (le-ltb 0 x (omega arith))
+counts_not : {x : ℕ} → x ≡ 0 → when (nat_lt 0 x) 1 ≡ 0
+counts_not {x} e = ap (λ (t : Bool). when t 1) (le-ltb 0 x (omega arith))
 
 -- one node fewer is labeled
 pub count_freed : (nodes v : ℕ) (labels : List ℕ) → v < nodes → v < length labels → IsLabeled labels v →
@@ -36,7 +36,7 @@ count_freed nodes v labels b long m = omega (
   arith,
   count_written nodes v 0 labels b,
   counts (label_of labels v) m,
-  counts_not (label_of (slice_set labels v 0) v) (get_or-set_same labels v 0 0 long),
+  counts_not (get_or-set_same labels v 0 0 long),
 )
 
 -- a node that is labeled by another step is still one
@@ -59,14 +59,14 @@ count_attached nodes v x labels b long m some =
     omega (
       arith,
       count_written nodes v x labels b,
-      counts_not (label_of labels v) m,
+      counts_not m,
       counts (label_of (slice_set labels v x) v) (omega (arith, here)),
     )
 
 -- what stood in a list still stands there after one more step was written at its end
-pub occurs_more : (xs : List ℕ) (first size v x : ℕ) → OccursIn xs first size x →
+pub occurs_more : {xs : List ℕ} {first size : ℕ} (v : ℕ) {x : ℕ} → OccursIn xs first size x →
     OccursIn (slice_set xs size v) first (size + 1) x
-occurs_more xs first size v x h = record {
+occurs_more {xs} {size} v h = record {
   place = h.place;
   from = h.from;
   below = omega (arith, h.below);
@@ -84,9 +84,9 @@ occurs_here xs first size v order long = record {
 }
 
 -- what stands from an index on stands there or after it
-pub occurs_or : (xs : List ℕ) (first last x : ℕ) → OccursIn xs first last x →
+pub occurs_or : {xs : List ℕ} {first last x : ℕ} → OccursIn xs first last x →
     (slice_index xs first ≡ x) ⊎ OccursIn xs (first + 1) last x
-occurs_or xs first last x h = elim (cases_eq h.place first) [
+occurs_or {xs} {first} h = elim (cases_eq h.place first) [
   | inl e ↦ inl (ap (slice_index xs) (sym e) ∙ h.is)
   | inr ne ↦ inr record { place = h.place; from = omega (arith, h.from, ne); below = h.below; is = h.is }
 ]
@@ -111,11 +111,19 @@ still labels v u long m = elim (cases_eq u v) [
   | inr ne ↦ inr (omega (arith, get_or-set_other labels v u 0 0 ne, m))
 ]
 
+-- a labeled node stays labeled where another one gets its word
+pub labeled_still : (labels : List ℕ) (v x u : ℕ) → label_of labels v ≡ 0 → IsLabeled labels u →
+    IsLabeled (slice_set labels v x) u
+labeled_still labels v x u unlabeled m = elim (cases_eq u v) [
+  | inl e ↦ absurd (omega (arith, ap (label_of labels) e, unlabeled, m))
+  | inr ne ↦ omega (arith, get_or-set_other labels v u x 0 ne, m)
+]
+
 -- a node is freed
-pub tree_free : (c : Contents) (labels : List ℕ) (saturated orphan free unscanned orphan' free' : ℕ → Type 0) (v : ℕ) →
+pub tree_free : {c : Contents} {labels : List ℕ} {saturated orphan free unscanned orphan' free' : ℕ → Type 0} (v : ℕ) →
     IsTreeBut c labels saturated orphan free unscanned → v < c.nodes → ((u : ℕ) → orphan u → orphan' u) → orphan' v →
     ((u : ℕ) → free u → free' u) → free' v → IsTreeBut c (slice_set labels v 0) saturated orphan' free' unscanned
-tree_free c labels saturated orphan free unscanned orphan' free' v t b more_orphans here_orphan more_free here_free =
+tree_free {c} {labels} {orphan'} {free'} v t b more_orphans here_orphan more_free here_free =
     let long : v < length labels = omega (arith, t.words) in
     record {
       words = length-set labels v 0 ∙ t.words;
@@ -126,8 +134,7 @@ tree_free c labels saturated orphan free unscanned orphan' free' v t b more_orph
         | inr f ↦
             let was = t.branch u d (omega (arith, f.1, m)) in
             let s : label_of (slice_set labels v 0) u - 1 ≡ label_of labels u - 1 = ap (λ (x : ℕ). x - 1) f.1 in
-            subst (λ (x : ℕ). IsLooseBranch c (slice_set labels v 0) orphan' t.rank u x) (sym s)
-            record {
+            rw s record {
               arc = was.arc;
               enters = was.enters;
               before = was.before;
@@ -144,8 +151,7 @@ tree_free c labels saturated orphan free unscanned orphan' free' v t b more_orph
         | inl e ↦ absurd (omega (arith, e, m))
         | inr f ↦
             let s : label_of (slice_set labels v 0) u - 1 ≡ label_of labels u - 1 = ap (λ (x : ℕ). x - 1) f.1 in
-            subst (λ (x : ℕ). (0 < room_of (network c) (flow_of c) x) ⊎ saturated x) (sym s)
-            (t.room u d (omega (arith, f.1, m)))
+            rw s (t.room u d (omega (arith, f.1, m)))
       ];
       closed = λ s a r m. elim (freed_word labels v (start_of (network c) s) long) [
         | inl e ↦ absurd (omega (arith, e, m))
@@ -163,8 +169,8 @@ tree_free c labels saturated orphan free unscanned orphan' free' v t b more_orph
     }
 
 -- a tree but for some steps and nodes is one but for others that cover them
-pub tree_map : (c : Contents) (labels : List ℕ)
-    (saturated orphan free unscanned saturated' orphan' free' unscanned' : ℕ → Type 0) →
+pub tree_map : {c : Contents} {labels : List ℕ}
+    {saturated orphan free unscanned saturated' orphan' free' unscanned' : ℕ → Type 0} →
     IsTreeBut c labels saturated orphan free unscanned →
     ((u : ℕ) → u < c.nodes → IsLabeled labels u → end_of (network c) (label_of labels u - 1) ≡ u →
     saturated (label_of labels u - 1) →
@@ -175,31 +181,30 @@ pub tree_map : (c : Contents) (labels : List ℕ)
     free (end_of (network c) s) ⊎ unscanned (start_of (network c) s) →
     IsLabeled labels (end_of (network c) s) ⊎ (free' (end_of (network c) s) ⊎ unscanned' (start_of (network c) s))) →
     IsTreeBut c labels saturated' orphan' free' unscanned'
-tree_map c labels saturated orphan free unscanned saturated' orphan' free' unscanned' t saturated_steps orphans
-    others = record {
-      words = t.words;
-      root = t.root;
-      rank = t.rank;
-      branch = λ u d m.
-          let was = t.branch u d m in
-          record {
-            arc = was.arc;
-            enters = was.enters;
-            before = was.before;
-            marked = elim was.marked [
-              | inl labeled ↦ inl labeled
-              | inr o ↦ inr (orphans u (label_of labels u - 1) d (omega (arith, m)) was.arc was.enters o)
-            ];
-          };
-      room = λ u d m. elim (t.room u d m) [
-        | inl room ↦ inl room
-        | inr o ↦ saturated_steps u d m (t.branch u d m).enters o
-      ];
-      closed = λ s a r m. elim (t.closed s a r m) [
-        | inl labeled ↦ inl labeled
-        | inr o ↦ others s a r m o
-      ];
-    }
+tree_map {labels} t saturated_steps orphans others = record {
+  words = t.words;
+  root = t.root;
+  rank = t.rank;
+  branch = λ u d m.
+      let was = t.branch u d m in
+      record {
+        arc = was.arc;
+        enters = was.enters;
+        before = was.before;
+        marked = elim was.marked [
+          | inl labeled ↦ inl labeled
+          | inr o ↦ inr (orphans u (label_of labels u - 1) d (omega (arith, m)) was.arc was.enters o)
+        ];
+      };
+  room = λ u d m. elim (t.room u d m) [
+    | inl room ↦ inl room
+    | inr o ↦ saturated_steps u d m (t.branch u d m).enters o
+  ];
+  closed = λ s a r m. elim (t.closed s a r m) [
+    | inl labeled ↦ inl labeled
+    | inr o ↦ others s a r m o
+  ];
+}
 
 -- a rank in which the node v has x
 ranked : (ℕ → ℕ) → ℕ → ℕ → ℕ → ℕ
@@ -221,12 +226,11 @@ pub record IsLooseWay (c : Contents) (labels : List ℕ) (saturated : ℕ → Ty
   pub room : (0 < room_of (network c) (flow_of c) s) ⊎ saturated s
 
 -- an unlabeled node is labeled by a step
-pub tree_attach : (c : Contents) (labels : List ℕ) (saturated orphan free unscanned unscanned' : ℕ → Type 0) (v s : ℕ) →
+pub tree_attach : {c : Contents} {labels : List ℕ} {saturated orphan free unscanned unscanned' : ℕ → Type 0} {v s : ℕ} →
     IsTreeBut c labels saturated orphan free unscanned → ((u : ℕ) → orphan u → ⊥) → v < c.nodes →
-    label_of labels v ≡ 0 →
-    IsLooseWay c labels saturated v s → ((u : ℕ) → unscanned u → unscanned' u) → unscanned' v →
+    label_of labels v ≡ 0 → IsLooseWay c labels saturated v s → ((u : ℕ) → unscanned u → unscanned' u) → unscanned' v →
     IsTreeBut c (slice_set labels v (s + 1)) saturated orphan free unscanned'
-tree_attach c labels saturated orphan free unscanned unscanned' v s t no_orphan b unlabeled in_s more_unscanned
+tree_attach {c} {labels} {unscanned'} {v} {s} t no_orphan b unlabeled in_s more_unscanned
     here_unscanned =
     let long : v < length labels = omega (arith, t.words) in
     let here = get_or-set_same labels v (s + 1) 0 long in
@@ -234,8 +238,7 @@ tree_attach c labels saturated orphan free unscanned unscanned' v s t no_orphan 
     let apart = λ (u : ℕ) (m : IsLabeled labels u) (e : u ≡ v). let was : label_of labels u ≡ label_of labels v =
     ap (label_of labels) e in
     let none : ⊥ = omega (arith, was, unlabeled, m) in none in
-    let kept = λ (u : ℕ) (m : IsLabeled labels u). let same = other u (apart u m) in
-    let now : IsLabeled (slice_set labels v (s + 1)) u = omega (arith, same, m) in now in
+    let kept = λ (u : ℕ) (m : IsLabeled labels u). labeled_still labels v (s + 1) u unlabeled m in
     let own = ranked_same t.rank v (t.rank (start_of (network c) s) + 1) in
     let rest = λ (u : ℕ) (ne : u ≢ v). ranked_other t.rank v (t.rank (start_of (network c) s) + 1) u ne in
     record {
@@ -246,9 +249,7 @@ tree_attach c labels saturated orphan free unscanned unscanned' v s t no_orphan 
         | inl e ↦
             let is : label_of (slice_set labels v (s + 1)) u - 1 ≡ s =
             omega (arith, ap (label_of (slice_set labels v (s + 1))) e, here) in
-            subst (λ (x : ℕ). IsLooseBranch c (slice_set labels v (s + 1)) orphan
-            (ranked t.rank v (t.rank (start_of (network c) s) + 1)) u x) (sym is)
-            record {
+            rw is record {
               arc = in_s.arc;
               enters = in_s.enters ∙ sym e;
               before = omega (
@@ -263,8 +264,7 @@ tree_attach c labels saturated orphan free unscanned unscanned' v s t no_orphan 
             let same = other u ne in
             let was = t.branch u d (omega (arith, same, m)) in
             let is : label_of (slice_set labels v (s + 1)) u - 1 ≡ label_of labels u - 1 = ap (λ (x : ℕ). x - 1) same in
-            subst (λ (x : ℕ). IsLooseBranch c (slice_set labels v (s + 1)) orphan
-            (ranked t.rank v (t.rank (start_of (network c) s) + 1)) u x) (sym is) (elim was.marked [
+            rw is (elim was.marked [
               | inl labeled ↦ record {
                 arc = was.arc;
                 enters = was.enters;
@@ -284,12 +284,11 @@ tree_attach c labels saturated orphan free unscanned unscanned' v s t no_orphan 
         | inl e ↦
             let is : label_of (slice_set labels v (s + 1)) u - 1 ≡ s =
             omega (arith, ap (label_of (slice_set labels v (s + 1))) e, here) in
-            subst (λ (x : ℕ). (0 < room_of (network c) (flow_of c) x) ⊎ saturated x) (sym is) in_s.room
+            rw is in_s.room
         | inr ne ↦
             let same = other u ne in
             let is : label_of (slice_set labels v (s + 1)) u - 1 ≡ label_of labels u - 1 = ap (λ (x : ℕ). x - 1) same in
-            subst (λ (x : ℕ). (0 < room_of (network c) (flow_of c) x)
-            ⊎ saturated x) (sym is) (t.room u d (omega (arith, same, m)))
+            rw is (t.room u d (omega (arith, same, m)))
       ];
       closed = λ x a r m. elim (cases_eq (start_of (network c) x) v) [
         | inl e ↦ inr (inr (subst unscanned' (sym e) here_unscanned))

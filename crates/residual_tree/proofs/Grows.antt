@@ -7,9 +7,9 @@ use Rattle.circulation.specs.Contents.{Contents, network, flow_of, arcs, IsCircu
 use Rattle.circulation.specs.Residual.{arc_of, start_of, end_of, room_of}
 use Rattle.residual_tree.specs.declared.TheConstants.{ROOT}
 use Rattle.residual_tree.specs.Tree.{label_of, IsLabeled, IsResidualTree}
-use Rattle.residual_tree.specs.Repair.{OccursIn, none, only, no_step, IsFreeing, IsGrowing, HasArtificialStep}
+use Rattle.residual_tree.specs.Repair.{none, only, no_step, IsFreeing, IsGrowing, HasArtificialStep}
 use Rattle.residual_tree.proofs.Changes.{count_most, count_attached, occurs_more, occurs_here, occurs_or}
-use Rattle.residual_tree.proofs.Changes.{occurs_nowhere, IsLooseWay, tree_attach, tree_map}
+use Rattle.residual_tree.proofs.Changes.{occurs_nowhere, IsLooseWay, labeled_still, tree_attach, tree_map}
 use Rattle.circulation.proofs.Scans.{end_within}
 use Rattle.residual_tree.proofs.Overs.{over_backward}
 
@@ -18,12 +18,10 @@ pub no_none : (u : ℕ) → none u → ⊥
 no_none u h = h
 
 -- a tree whose freed nodes have no child left grows
-pub growing_start : (c : Contents) (labels freed queue : List ℕ) (at count : ℕ) → length queue ≡ c.nodes →
+pub growing_start : {c : Contents} {labels freed : List ℕ} (queue : List ℕ) {at count : ℕ} → length queue ≡ c.nodes →
     IsFreeing c labels freed at at count count → IsGrowing c (no_step c) labels freed queue 0 count 0 0
-growing_start c labels freed queue at count long f = record {
-  tree = tree_map c labels (OccursIn c.scratch at at) (OccursIn freed count count) (OccursIn freed 0 count) none
-      (only (no_step c)) none (OccursIn freed 0 count) (OccursIn queue 0 0) f.tree
-      (λ u d m e o. occurs_nowhere c.scratch at at (label_of labels u - 1) o (omega arith))
+growing_start {c} {labels} {freed} queue {at} {count} long f = record {
+  tree = tree_map f.tree (λ u d m e o. occurs_nowhere c.scratch at at (label_of labels u - 1) o (omega arith))
       (λ u s d e b g o. occurs_nowhere freed count count (start_of (network c) s) o (omega arith))
       (λ s b r m o. elim o [ inl free ↦ inr (inl free) | inr unscanned ↦ absurd unscanned ]);
   order = omega arith;
@@ -38,29 +36,26 @@ abbrev pub IsArtificialWay : Contents → ℕ → List ℕ → ℕ → ℕ → T
 IsArtificialWay c artificial labels v s = IsLooseWay c labels (only artificial) v s
 
 -- there is room for an unlabeled node in the queue
-pub growing_room : (c : Contents) (artificial : ℕ) (labels freed queue : List ℕ) (next count done size v : ℕ) →
+pub growing_room : {c : Contents} {artificial : ℕ} {labels freed queue : List ℕ} {next count done size : ℕ} (v : ℕ) →
     v < c.nodes →
     IsGrowing c artificial labels freed queue next count done size → label_of labels v ≡ 0 → size < length queue
-growing_room c artificial labels freed queue next count done size v b g unlabeled =
+growing_room {c} {labels} v b g unlabeled =
     let one = count_attached c.nodes v 1 labels b (omega (arith, g.tree.words, b)) unlabeled (omega arith) in
     omega (arith, one, count_most c.nodes (slice_set labels v 1), g.bounded, g.places)
 
 -- one more node is labeled
-pub growing_attach : (c : Contents) (artificial : ℕ) (labels freed queue : List ℕ) (next count done size v s : ℕ) →
-    v < c.nodes →
-    IsGrowing c artificial labels freed queue next count done size → label_of labels v ≡ 0 →
+pub growing_attach : {c : Contents} {artificial : ℕ} {labels freed queue : List ℕ} {next count done size : ℕ} (v s : ℕ)
+    → v < c.nodes → IsGrowing c artificial labels freed queue next count done size → label_of labels v ≡ 0 →
     IsArtificialWay c artificial labels v s →
     IsGrowing c artificial (slice_set labels v (s + 1)) freed (slice_set queue size v) next count done (size + 1)
-growing_attach c artificial labels freed queue next count done size v s b g unlabeled in_s =
+growing_attach {c} {labels} {queue} {done} {size} v s b g unlabeled in_s =
     let long : v < length labels = omega (arith, g.tree.words, b) in
-    let room : size < length queue = growing_room c artificial labels freed queue next count done size v b g unlabeled
-    in
+    let room : size < length queue = growing_room v b g unlabeled in
     let order = g.order in
     let here = get_or-set_same labels v (s + 1) 0 long in
     record {
-      tree = tree_attach c labels (only artificial) none (OccursIn freed next count) (OccursIn queue done size)
-          (OccursIn (slice_set queue size v) done (size + 1)) v s g.tree no_none b unlabeled in_s
-          (λ u o. occurs_more queue done size v u o) (occurs_here queue done size v order room);
+      tree = tree_attach g.tree no_none b unlabeled in_s
+          (λ u o. occurs_more v o) (occurs_here queue done size v order room);
       order = omega (arith, order);
       places = length-set queue size v ∙ g.places;
       within = g.within;
@@ -77,10 +72,7 @@ growing_attach c artificial labels freed queue next count done size v s b g unla
             let was = g.marked k (omega arith) in (
               omega (arith, is, was.0),
               subst (λ (u : ℕ). IsLabeled (slice_set labels v (s + 1)) u) (sym is)
-                  (elim (cases_eq (slice_index queue k) v) [
-                    | inl e ↦ absurd (omega (arith, ap (label_of labels) e, unlabeled, was.1))
-                    | inr other ↦ omega (arith, get_or-set_other labels v (slice_index queue k) (s + 1) 0 other, was.1)
-                  ]),
+                  (labeled_still labels v (s + 1) (slice_index queue k) unlabeled was.1),
             )
       ];
       bounded = omega (arith, count_attached c.nodes v (s + 1) labels b long unlabeled (omega arith), g.bounded);
@@ -90,6 +82,64 @@ growing_attach c artificial labels freed queue next count done size v s b g unla
 abbrev pub IsTried : Contents → List ℕ → ℕ → Type 0
 IsTried c labels s = 0 < room_of (network c) (flow_of c) s → IsLabeled labels (end_of (network c) s)
 
+-- an unlabeled end of a step is a basin node
+pub inner_end : {c : Contents} (labels : List ℕ) (s : ℕ) → IsCirculation c → arc_of s < arcs c →
+    label_of labels c.nodes ≡ ROOT → label_of labels (end_of (network c) s) ≡ 0 → end_of (network c) s < c.nodes
+inner_end {c} labels s k b root unlabeled =
+    let within = end_within c s k b in
+    elim (cases_eq (end_of (network c) s) c.nodes) [
+      | inl is ↦ absurd (omega (arith, ap (label_of labels) is, unlabeled, root))
+      | inr ne ↦ omega arith
+    ]
+
+-- what may be done by a step: its end is labeled and put into the queue, if it is unlabeled and the step has room
+pub record LabelsEnd (c : Contents) (labels queue labels' queue' : List ℕ) (size size' s : ℕ) : Type 0 where
+  pub fresh : label_of labels (end_of (network c) s) ≡ 0 → 0 < room_of (network c) (flow_of c) s →
+      (size' ≡ size + 1) × (labels' ≡ slice_set labels (end_of (network c) s) (s + 1)) ×
+      (queue' ≡ slice_set queue size (end_of (network c) s))
+  pub seen : IsLabeled labels (end_of (network c) s) → (size' ≡ size) × (labels' ≡ labels) × (queue' ≡ queue)
+  pub full : room_of (network c) (flow_of c) s ≡ 0 → (size' ≡ size) × (labels' ≡ labels) × (queue' ≡ queue)
+
+-- a step was tried
+pub record IsTriedStep (c : Contents) (State : List ℕ → List ℕ → ℕ → Type 0) (labels labels' queue' : List ℕ)
+    (size' s : ℕ) : Type 0
+  where
+    pub next : State labels' queue' size'
+    pub more : (u : ℕ) → IsLabeled labels u → IsLabeled labels' u
+    pub here : IsTried c labels' s
+
+-- nothing is to be labeled by the step
+tried_already : {c : Contents} (State : List ℕ → List ℕ → ℕ → Type 0) {labels queue labels' queue' : List ℕ}
+    {size size' : ℕ} (s : ℕ) → State labels queue size → IsTried c labels s →
+    (size' ≡ size) × (labels' ≡ labels) × (queue' ≡ queue) → IsTriedStep c State labels labels' queue' size' s
+tried_already State s p tried e = rw (e.1, e.2, e.0) record { next = p; more = λ u m. m; here = tried }
+
+-- what stands of the words, the queue and its size still stands after a step, if it does where the end is labeled
+pub tried_next : {c : Contents} (State : List ℕ → List ℕ → ℕ → Type 0) {labels queue labels' queue' : List ℕ}
+    {size size' s : ℕ} → IsCirculation c → arc_of s < arcs c → length labels ≡ c.nodes + 1 →
+    label_of labels c.nodes ≡ ROOT → State labels queue size → (end_of (network c) s < c.nodes →
+    label_of labels (end_of (network c) s) ≡ 0 → 0 < room_of (network c) (flow_of c) s →
+    State (slice_set labels (end_of (network c) s) (s + 1)) (slice_set queue size (end_of (network c) s)) (size + 1)) →
+    LabelsEnd c labels queue labels' queue' size size' s → IsTriedStep c State labels labels' queue' size' s
+tried_next {c} State {labels} {s = s} k b words root p attached h =
+    let v = end_of (network c) s in
+    elim (cases_eq (label_of labels v) 0) [
+      | inl unlabeled ↦ elim (cases_eq (room_of (network c) (flow_of c) s) 0) [
+        | inl none ↦ tried_already State s p (λ r. absurd (omega (arith, none, r))) (h.full none)
+        | inr some ↦
+            let e = h.fresh unlabeled (omega arith) in
+            let inner : v < c.nodes = inner_end labels s k b root unlabeled in
+            rw (e.1, e.2, e.0) record {
+              next = attached inner unlabeled (omega arith);
+              more = λ u m. labeled_still labels v (s + 1) u unlabeled m;
+              here = λ r. omega (arith, get_or-set_same labels v (s + 1) 0 (omega (arith, words, inner)));
+            }
+      ]
+      | inr ne ↦
+          let labeled : IsLabeled labels v = omega arith in
+          tried_already State s p (λ r. labeled) (h.seen labeled)
+    ]
+
 -- the steps that leave a node that is labeled are tried
 pub record IsSpreading (c : Contents) (artificial : ℕ) (labels queue : List ℕ) (done size node : ℕ) : Type 0 where
   pub state : IsGrowing c artificial labels [] queue 0 0 done size
@@ -97,117 +147,40 @@ pub record IsSpreading (c : Contents) (artificial : ℕ) (labels queue : List �
   pub order : done < size
   pub labeled : IsLabeled labels node
 
--- a step was tried
-pub record IsLabeledEnd (c : Contents) (artificial : ℕ) (labels queue labels' queue' : List ℕ)
-    (done size size' node s : ℕ) : Type 0
-  where
-    pub next : IsSpreading c artificial labels' queue' done size' node
-    pub more : (u : ℕ) → IsLabeled labels u → IsLabeled labels' u
-    pub here : IsTried c labels' s
-
--- nothing is to be labeled by the step
-tried_already : (c : Contents) (artificial : ℕ) (labels queue labels' queue' : List ℕ) (done size size' node s : ℕ) →
-    IsSpreading c artificial labels queue done size node → IsTried c labels s → (size' ≡ size) × (labels' ≡ labels) ×
-    (queue' ≡ queue) →
-    IsLabeledEnd c artificial labels queue labels' queue' done size size' node s
-tried_already c artificial labels queue labels' queue' done size size' node s p tried e =
-    subst (λ (x : List ℕ). IsLabeledEnd c artificial labels queue x queue' done size size' node s) (sym e.1)
-    (subst (λ (x : List ℕ). IsLabeledEnd c artificial labels queue labels x done size size' node s) (sym e.2)
-    (subst (λ (n : ℕ). IsLabeledEnd c artificial labels queue labels queue done size n node s) (sym e.0)
-    record { next = p; more = λ u m. m; here = tried }))
-
--- the end of the step is labeled by it
-tried_fresh : (c : Contents) (artificial : ℕ) (labels queue : List ℕ) (done size node s : ℕ) →
-    end_of (network c) s < c.nodes →
-    IsSpreading c artificial labels queue done size node → arc_of s < arcs c → start_of (network c) s ≡ node →
-    label_of labels (end_of (network c) s) ≡ 0 → 0 < room_of (network c) (flow_of c) s →
-    IsLabeledEnd c artificial labels queue (slice_set labels (end_of (network c) s) (s + 1))
-    (slice_set queue size (end_of (network c) s)) done size (size + 1) node s
-tried_fresh c artificial labels queue done size node s inner p b starts unlabeled room =
-    let v = end_of (network c) s in
-    let long : v < length labels = omega (arith, p.state.tree.words, inner) in
-    let order = p.order in
-    let more = λ (u : ℕ) (m : IsLabeled labels u). let is : IsLabeled (slice_set labels v (s + 1)) u = elim
-    (cases_eq u v) [
-      | inl e ↦ absurd (omega (arith, ap (label_of labels) e, unlabeled, m))
-      | inr ne ↦ omega (arith, get_or-set_other labels v u (s + 1) 0 ne, m)
-    ] in is in
-    record {
-      next = record {
-        state = growing_attach c artificial labels [] queue 0 0 done size v s inner p.state unlabeled
-            record {
-              arc = b;
-              enters = refl;
-              marked = subst (λ (u : ℕ). IsLabeled labels u) (sym starts) p.labeled;
-              room = inl room;
-            };
-        occurs = get_or-set_other queue size done v 0 (λ e. absurd (omega (arith, order, e))) ∙ p.occurs;
-        order = omega (arith, order);
-        labeled = more node p.labeled;
-      };
-      more = more;
-      here = λ r. omega (arith, get_or-set_same labels v (s + 1) 0 long);
-    }
-
--- an unlabeled end of a step is a basin node
-pub inner_end : (c : Contents) (labels : List ℕ) (s : ℕ) → IsCirculation c → arc_of s < arcs c →
-    label_of labels c.nodes ≡ ROOT → label_of labels (end_of (network c) s) ≡ 0 → end_of (network c) s < c.nodes
-inner_end c labels s k b root unlabeled =
-    let within = end_within c s k b in
-    elim (cases_eq (end_of (network c) s) c.nodes) [
-      | inl is ↦ absurd (omega (arith, ap (label_of labels) is, unlabeled, root))
-      | inr ne ↦ omega arith
-    ]
-
--- a step was tried, and its end labeled if it has room and the end was unlabeled
-pub spreading_next : (c : Contents) (artificial : ℕ) (labels queue labels' queue' : List ℕ)
-    (done size size' node s : ℕ) →
+-- one more step was tried
+pub spreading_next : {c : Contents} {artificial : ℕ} {labels queue labels' queue' : List ℕ}
+    {done size size' node s : ℕ} →
     IsCirculation c → IsSpreading c artificial labels queue done size node → arc_of s < arcs c →
-    start_of (network c) s ≡ node →
-    (label_of labels (end_of (network c) s) ≡ 0 → 0 < room_of (network c) (flow_of c) s → (size' ≡ size + 1)
-    × (labels' ≡ slice_set labels (end_of (network c) s) (s + 1)) ×
-    (queue' ≡ slice_set queue size (end_of (network c) s))) →
-    (IsLabeled labels (end_of (network c) s) → (size' ≡ size) × (labels' ≡ labels) × (queue' ≡ queue)) →
-    (room_of (network c) (flow_of c) s ≡ 0 → (size' ≡ size) × (labels' ≡ labels) × (queue' ≡ queue)) →
-    IsLabeledEnd c artificial labels queue labels' queue' done size size' node s
-spreading_next c artificial labels queue labels' queue' done size size' node s k p b starts fresh seen full =
-    elim (cases_eq (label_of labels (end_of (network c) s)) 0) [
-      | inl unlabeled ↦ elim (cases_eq (room_of (network c) (flow_of c) s) 0) [
-        | inl none ↦ tried_already c artificial labels queue labels' queue' done size size' node s p
-            (λ r. absurd (omega (arith, none, r))) (full none)
-        | inr room ↦
-            let e = fresh unlabeled (omega arith) in
-            let inner = inner_end c labels s k b p.state.tree.root unlabeled in
-            subst (λ (x : List ℕ). IsLabeledEnd c artificial labels queue x queue' done size size' node s) (sym e.1)
-            (subst (λ (x : List ℕ). IsLabeledEnd c artificial labels queue
-            (slice_set labels (end_of (network c) s) (s + 1)) x done
-            size size' node s) (sym e.2)
-            (subst (λ (n : ℕ). IsLabeledEnd c artificial labels queue (slice_set labels (end_of (network c) s) (s + 1))
-            (slice_set queue size (end_of (network c) s)) done size n node s) (sym e.0)
-            (tried_fresh c artificial labels queue done size node s inner p b starts unlabeled (omega arith))))
-      ]
-      | inr ne ↦
-          let labeled : IsLabeled labels (end_of (network c) s) = omega arith in
-          tried_already c artificial labels queue labels' queue' done size size' node s p (λ r. labeled) (seen labeled)
-    ]
+    start_of (network c) s ≡ node → LabelsEnd c labels queue labels' queue' size size' s →
+    IsTriedStep c (λ ls q n. IsSpreading c artificial ls q done n node) labels labels' queue' size' s
+spreading_next {c} {artificial} {labels} {queue} {done = done} {size = size} {node = node} {s = s} k p b starts h =
+    let v = end_of (network c) s in
+    tried_next (λ ls q n. IsSpreading c artificial ls q done n node) k b p.state.tree.words p.state.tree.root p
+    (λ inner unlabeled room. record {
+      state = growing_attach v s inner p.state unlabeled record {
+        arc = b;
+        enters = refl;
+        marked = subst (λ (u : ℕ). IsLabeled labels u) (sym starts) p.labeled;
+        room = inl room;
+      };
+      occurs = get_or-set_other queue size done v 0 (let o = p.order in λ e. absurd (omega (arith, e))) ∙ p.occurs;
+      order = omega (arith, p.order);
+      labeled = labeled_still labels v (s + 1) node unlabeled p.labeled;
+    }) h
 
 -- all steps of the node were tried
-pub spreading_end : (c : Contents) (artificial : ℕ) (labels queue : List ℕ) (done size node : ℕ) →
+pub spreading_end : {c : Contents} {artificial : ℕ} {labels queue : List ℕ} {done size node : ℕ} →
     IsSpreading c artificial labels queue done size node →
     ((s : ℕ) → arc_of s < arcs c → start_of (network c) s ≡ node → IsTried c labels s) →
     IsGrowing c artificial labels [] queue 0 0 (done + 1) size
-spreading_end c artificial labels queue done size node p tried = record {
-  tree = tree_map c labels (only artificial) none (OccursIn [] 0 0) (OccursIn queue done size)
-      (only artificial) none (OccursIn [] 0 0) (OccursIn queue (done + 1) size) p.state.tree
-      (λ u d m e o. inr o)
-      (λ u s d e b f o. o)
-      (λ s b r m o. elim o [
-        | inl free ↦ inr (inl free)
-        | inr unscanned ↦ elim (occurs_or queue done size (start_of (network c) s) unscanned) [
-          | inl here ↦ inl (tried s b (sym here ∙ p.occurs) r)
-          | inr later ↦ inr (inr later)
-        ]
-      ]);
+spreading_end p tried = record {
+  tree = tree_map p.state.tree (λ u d m e o. inr o) (λ u s d e b f o. o) (λ s b r m o. elim o [
+    | inl free ↦ inr (inl free)
+    | inr unscanned ↦ elim (occurs_or unscanned) [
+      | inl here ↦ inl (tried s b (sym here ∙ p.occurs) r)
+      | inr later ↦ inr (inr later)
+    ]
+  ]);
   order = omega (arith, p.order);
   places = p.state.places;
   within = p.state.within;
@@ -216,9 +189,9 @@ spreading_end c artificial labels queue done size node p tried = record {
 }
 
 -- a tree in which no step is artificial
-pub artificial_none : (c : Contents) (labels : List ℕ) → HasArtificialStep c labels (no_step c) →
+pub artificial_none : {c : Contents} {labels : List ℕ} → HasArtificialStep c labels (no_step c) →
     IsResidualTree c labels
-artificial_none c labels t = record {
+artificial_none t = record {
   words = t.words;
   root = t.root;
   rank = t.rank;
@@ -252,32 +225,29 @@ artificial_some c labels artificial t = record {
 }
 
 -- the node before a node in a tree with an artificial step
-pub artificial_marked : (c : Contents) (labels : List ℕ) (artificial v : ℕ) → HasArtificialStep c labels artificial →
-    v < c.nodes → IsLabeled labels v →
+pub artificial_marked : {c : Contents} {labels : List ℕ} {artificial : ℕ} (v : ℕ) →
+    HasArtificialStep c labels artificial → v < c.nodes → IsLabeled labels v →
     IsLabeled labels (start_of (network c) (label_of labels v - 1))
-artificial_marked c labels artificial v t b m = elim (t.branch v b m).marked
+artificial_marked v t b m = elim (t.branch v b m).marked
     [ inl labeled ↦ labeled | inr o ↦ absurd o ]
 
 -- a tree with an artificial step is closed
-pub artificial_closed : (c : Contents) (labels : List ℕ) (artificial s : ℕ) → HasArtificialStep c labels artificial →
-    arc_of s < arcs c →
+pub artificial_closed : {c : Contents} {labels : List ℕ} {artificial : ℕ} (s : ℕ) →
+    HasArtificialStep c labels artificial → arc_of s < arcs c →
     0 < room_of (network c) (flow_of c) s → IsLabeled labels (start_of (network c) s) →
     IsLabeled labels (end_of (network c) s)
-artificial_closed c labels artificial s t b room m = elim (t.closed s b room m) [
+artificial_closed s t b room m = elim (t.closed s b room m) [
   | inl labeled ↦ labeled
   | inr o ↦ elim o [ inl free ↦ absurd free | inr unscanned ↦ absurd unscanned ]
 ]
 
 -- the head of an arc is labeled by an artificial step
-pub lend_start : (c : Contents) (labels queue : List ℕ) (v s : ℕ) → IsResidualTree c labels → length queue ≡ c.nodes →
-    v < c.nodes → label_of labels v ≡ 0 → arc_of s < arcs c → end_of (network c) s ≡ v →
-    start_of (network c) s ≡ c.nodes →
-    IsGrowing c s (slice_set labels v (s + 1)) [] (slice_set queue 0 v) 0 0 0 1
-lend_start c labels queue v s t places b unlabeled arc enters starts =
-    growing_attach c s labels [] queue 0 0 0 0 v s b record {
-      tree = tree_map c labels (only s) none none none (only s) none (OccursIn [] 0 0) (OccursIn queue 0 0)
-          (artificial_some c labels s t) (λ u d m e o. inr o)
-          (λ u x d e f g o. o)
+pub lend_start : {c : Contents} {labels : List ℕ} (queue : List ℕ) (v s : ℕ) → IsResidualTree c labels →
+    length queue ≡ c.nodes → v < c.nodes → label_of labels v ≡ 0 → arc_of s < arcs c → end_of (network c) s ≡ v →
+    start_of (network c) s ≡ c.nodes → IsGrowing c s (slice_set labels v (s + 1)) [] (slice_set queue 0 v) 0 0 0 1
+lend_start {c} {labels} queue v s t places b unlabeled arc enters starts =
+    growing_attach v s b record {
+      tree = tree_map (artificial_some c labels s t) (λ u d m e o. inr o) (λ u x d e f g o. o)
           (λ x d r m o. elim o [ inl free ↦ absurd free | inr unscanned ↦ absurd unscanned ]);
       order = omega arith;
       places = places;
@@ -292,9 +262,9 @@ lend_start c labels queue v s t places b unlabeled arc enters starts =
     }
 
 -- no more nodes are labeled than there are
-pub queue_short : (c : Contents) (artificial : ℕ) (labels freed queue : List ℕ) (next count done size : ℕ) →
+pub queue_short : {c : Contents} {artificial : ℕ} {labels freed queue : List ℕ} {next count done size : ℕ} →
     IsGrowing c artificial labels freed queue next count done size → size ≤ c.nodes
-queue_short c artificial labels freed queue next count done size g = omega (arith, g.bounded, count_most c.nodes labels)
+queue_short {c} {labels} g = omega (arith, g.bounded, count_most c.nodes labels)
 
 -- the tail of an exit was labeled back over it
 pub record IsLending (c : Contents) (labels queue : List ℕ) (x size : ℕ) : Type 0 where
@@ -303,12 +273,11 @@ pub record IsLending (c : Contents) (labels queue : List ℕ) (x size : ℕ) : T
   pub grows : IsGrowing c (label_of labels (slice_index queue 0) - 1) labels [] queue 0 0 0 size
 
 -- the artificial step is that of the first node in the queue
-pub lending : (c : Contents) (labels queue labels' queue' : List ℕ) (x v s size : ℕ) → IsCirculation c →
-    IsResidualTree c labels → length queue ≡ c.nodes → x < arcs c → slice_index c.to x ≡ c.nodes →
+pub lending : {c : Contents} {labels : List ℕ} (queue : List ℕ) {labels' queue' : List ℕ} (x : ℕ) {v s size : ℕ} →
+    IsCirculation c → IsResidualTree c labels → length queue ≡ c.nodes → x < arcs c → slice_index c.to x ≡ c.nodes →
     label_of labels (slice_index c.from x) ≡ 0 → v ≡ slice_index c.from x → s ≡ 2 * x + 1 →
-    labels' ≡ slice_set labels v (s + 1) →
-    queue' ≡ slice_set queue 0 v → size ≡ 1 → IsLending c labels' queue' x size
-lending c labels queue labels' queue' x v s size k t places b out unlabeled node step made made' one =
+    labels' ≡ slice_set labels v (s + 1) → queue' ≡ slice_set queue 0 v → size ≡ 1 → IsLending c labels' queue' x size
+lending {c} {labels} queue {labels'} {queue'} x {s} k t places b out unlabeled node step made made' one =
     let o = over_backward (network c) (flow_of c) x in
     let within = k.ends.from_in x b in
     let ne : slice_index c.from x ≢ c.nodes = λ e. k.ends.apart x b (e ∙ sym out) in
@@ -324,18 +293,6 @@ lending c labels queue labels' queue' x v s size k t places b out unlabeled node
     ∙ get_or-set_same labels (slice_index c.from x) (2 * x + 1 + 1) 0 (omega (arith, t.words, inner)) in
     let is : label_of labels' (slice_index queue' 0) - 1 ≡ 2 * x + 1 = omega (arith, ap (label_of labels') first, own)
     in
-    let grows = lend_start c labels queue (slice_index c.from x) (2 * x + 1) t places inner unlabeled
-    (omega (arith, o.arc, b))
-    o.enters
-    (o.starts ∙ out) in
-    record {
-      artificial = is;
-      labeled = omega (arith, own);
-      grows = subst (λ (n : ℕ). IsGrowing c n labels' [] queue' 0 0 0 size) (sym is)
-          (subst (λ (n : ℕ). IsGrowing c (2 * x + 1) labels' [] queue' 0 0 0 n) (sym one)
-          (subst (λ (xs : List ℕ). IsGrowing c (2 * x + 1) xs [] queue' 0 0 0 1) (sym way_is)
-          (subst (λ (xs : List ℕ). IsGrowing c (2 * x + 1) (slice_set labels (slice_index c.from x) (2 * x + 1 + 1)) []
-          xs
-          0 0 0 1)
-          (sym queue_is) grows)));
-    }
+    let grows = lend_start queue (slice_index c.from x) (2 * x + 1) t places inner unlabeled (omega (arith, o.arc, b))
+    o.enters (o.starts ∙ out) in
+    record { artificial = is; labeled = omega (arith, own); grows = rw (is, one, way_is, queue_is) grows }

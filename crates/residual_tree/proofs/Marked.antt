@@ -1,6 +1,6 @@
 -- What is written to the words of the nodes, and to the marks beside them.
 use Rattle.std.proofs.Common.{ℕ, true, ◌≡◌, ◌==◌, ◌+◌, ◌-◌, ◌/◌, ◌%◌, ◌^◌, ◌<◌, List, length, replicate, arith, ap, sym}
-use Rattle.std.proofs.Common.{subst, ◌∙◌}
+use Rattle.std.proofs.Common.{◌∙◌}
 use Rattle.std.specs.Int.{bit_at}
 use Rattle.std.proofs.lemmas.List.{get_or-replicate, length-replicate}
 use Rattle.std.proofs.lemmas.Nat.Bits.{bit_at_ones}
@@ -16,9 +16,9 @@ full m v b =
     ap (λ (b : ℕ). b == 1) (bit_at_ones 64 (v % 64) bit)
 
 -- all nodes are unlabeled
-all_marked : (n nodes : ℕ) → n ≡ nodes + 1 → HasUnlabeledMarks (replicate n 0)
+all_marked : {n : ℕ} (nodes : ℕ) → n ≡ nodes + 1 → HasUnlabeledMarks (replicate n 0)
     (replicate (words_for nodes) (2 ^ 64 - 1))
-all_marked n nodes is =
+all_marked {n} nodes is =
     let long : length {A = ℕ} (replicate n 0) ≡ n = length-replicate n 0 in
     let short : length {A = ℕ} (replicate n 0) - 1 ≡ nodes = omega (arith, long, is) in
     record {
@@ -30,11 +30,7 @@ all_marked n nodes is =
     }
 
 -- the words of all nodes are 0, and all bits are 1
-pub marked_all : (labels unlabeled : List ℕ) (n m nodes : ℕ) → n ≡ nodes + 1 → m ≡ words_for nodes →
-    labels ≡ replicate n 0 →
-    unlabeled ≡ replicate m (2 ^ 64 - 1) → HasUnlabeledMarks labels unlabeled
-marked_all labels unlabeled n m nodes is count none full =
-    subst (λ (x : List ℕ). HasUnlabeledMarks x unlabeled) (sym none)
-    (subst (λ (x : List ℕ). HasUnlabeledMarks (replicate n 0) x) (sym full)
-    (subst (λ (k : ℕ). HasUnlabeledMarks (replicate n 0) (replicate k (2 ^ 64 - 1))) (sym count)
-    (all_marked n nodes is)))
+pub marked_all : {labels unlabeled : List ℕ} {n m : ℕ} (nodes : ℕ) → n ≡ nodes + 1 → m ≡ words_for nodes →
+    labels ≡ replicate n 0 → unlabeled ≡ replicate m (2 ^ 64 - 1) → HasUnlabeledMarks labels unlabeled
+marked_all nodes is count none full =
+    rw (none, full, count) (all_marked nodes is)

@@ -1,18 +1,19 @@
 -- The tree grows from the outside, where no other node is labeled.
 use Rattle.std.proofs.Common.{ℕ, ◌≡◌, ◌+◌, ◌<◌, ◌⊎◌, List, [], length, replicate, slice_index, slice_set, refl}
-use Rattle.std.proofs.Common.{arith, ap, sym, subst, inl, inr}
+use Rattle.std.proofs.Common.{arith, sym, subst, inl, inr}
 use Rattle.std.specs.List.{range_with_len}
 use Rattle.std.proofs.lemmas.Bool.{cases_eq, cases_lt}
-use Rattle.std.proofs.lemmas.List.{get_or-set_other, get_or-set_same, get_or-replicate, get_or_past, length-replicate}
+use Rattle.std.proofs.lemmas.List.{get_or-set_other, get_or-replicate, get_or_past, length-replicate}
 use Rattle.std.proofs.lemmas.List.FromFn.{length-range_with_len, get_or-range_with_len}
-use Rattle.circulation.specs.Contents.{Contents, network, flow_of, arcs, IsCirculation}
-use Rattle.circulation.specs.Residual.{arc_of, start_of, end_of, room_of}
+use Rattle.circulation.specs.Contents.{Contents, network, arcs, IsCirculation}
+use Rattle.circulation.specs.Residual.{arc_of, start_of, end_of}
 use Rattle.residual_tree.specs.declared.TheConstants.{ROOT}
-use Rattle.residual_tree.specs.Tree.{label_of, IsLabeled}
-use Rattle.residual_tree.specs.Repair.{OccursIn, none, only, no_step, IsGrowing}
+use Rattle.residual_tree.specs.Tree.{IsLabeled}
+use Rattle.residual_tree.specs.Repair.{OccursIn, no_step, IsGrowing}
 use Rattle.residual_tree.proofs.Changes.{occurs_more, occurs_here, tree_map}
 use Rattle.residual_tree.proofs.Frees.{felled}
-use Rattle.residual_tree.proofs.Grows.{growing_start, growing_room, growing_attach, inner_end, IsTried}
+use Rattle.residual_tree.proofs.Grows.{growing_start, growing_room, growing_attach, LabelsEnd, IsTriedStep, tried_next}
+use Rattle.residual_tree.proofs.Grows.{IsTried}
 
 -- the words where the outside alone is labeled
 abbrev pub bare : Contents → List ℕ
@@ -39,112 +40,44 @@ bare_labeled c u m = elim (cases_eq u c.nodes) [
     ]
 
 -- before the first step
-pub outgoing_start : (c : Contents) (labels queue : List ℕ) → IsCirculation c → length queue ≡ c.nodes →
-    labels ≡ bare c →
-    IsOutgoing c labels queue 0
-outgoing_start c labels queue k places is =
+pub outgoing_start : {c : Contents} {labels : List ℕ} (queue : List ℕ) → IsCirculation c → length queue ≡ c.nodes →
+    labels ≡ bare c → IsOutgoing c labels queue 0
+outgoing_start {c} queue k places is =
     subst (λ (x : List ℕ). IsOutgoing c x queue 0) (sym is) record {
-      grows = growing_start c (bare c) (range_with_len 0 c.nodes) queue 0 c.nodes places
-          (felled c (range_with_len 0 c.nodes) k (length-range_with_len 0 c.nodes)
+      grows = growing_start queue places (felled (range_with_len 0 c.nodes) k (length-range_with_len 0 c.nodes)
           (λ v b. omega (arith, get_or-range_with_len 0 c.nodes v 0 b)));
       fresh = λ u m. inl (bare_labeled c u m);
     }
 
--- a step was tried
-pub record IsOutEnd (c : Contents) (labels queue labels' queue' : List ℕ) (size size' s : ℕ) : Type 0 where
-  pub next : IsOutgoing c labels' queue' size'
-  pub more : (u : ℕ) → IsLabeled labels u → IsLabeled labels' u
-  pub here : IsTried c labels' s
-
--- nothing is to be labeled by the step
-out_already : (c : Contents) (labels queue labels' queue' : List ℕ) (size size' s : ℕ) →
-    IsOutgoing c labels queue size → IsTried c labels s → (size' ≡ size) × (labels' ≡ labels) × (queue' ≡ queue) →
-    IsOutEnd c labels queue labels' queue' size size' s
-out_already c labels queue labels' queue' size size' s p tried e =
-    subst (λ (x : List ℕ). IsOutEnd c labels queue x queue' size size' s) (sym e.1)
-    (subst (λ (x : List ℕ). IsOutEnd c labels queue labels x size size' s) (sym e.2)
-    (subst (λ (n : ℕ). IsOutEnd c labels queue labels queue size n s) (sym e.0)
-    record { next = p; more = λ u m. m; here = tried }))
-
--- the end of the step is labeled by it
-out_fresh : (c : Contents) (labels queue : List ℕ) (size s : ℕ) → end_of (network c) s < c.nodes →
+-- one more step was tried
+pub outgoing_next : {c : Contents} {labels queue labels' queue' : List ℕ} {size size' s : ℕ} → IsCirculation c →
     IsOutgoing c labels queue size → arc_of s < arcs c → start_of (network c) s ≡ c.nodes →
-    label_of labels (end_of (network c) s) ≡ 0 → 0 < room_of (network c) (flow_of c) s →
-    IsOutEnd c labels queue (slice_set labels (end_of (network c) s) (s + 1))
-    (slice_set queue size (end_of (network c) s)) size (size + 1) s
-out_fresh c labels queue size s inner p b starts unlabeled room =
+    LabelsEnd c labels queue labels' queue' size size' s → IsTriedStep c (IsOutgoing c) labels labels' queue' size' s
+outgoing_next {c} {labels} {queue} {size = size} {s = s} k p b starts h =
     let v = end_of (network c) s in
-    let all = range_with_len 0 c.nodes in
-    let long : v < length labels = omega (arith, p.grows.tree.words, inner) in
-    let free : size < length queue = growing_room c (no_step c) labels all queue 0 c.nodes 0 size v inner p.grows
-    unlabeled in
-    let more = λ (u : ℕ) (m : IsLabeled labels u). let is : IsLabeled (slice_set labels v (s + 1)) u = elim
-    (cases_eq u v) [
-      | inl e ↦ absurd (omega (arith, ap (label_of labels) e, unlabeled, m))
-      | inr ne ↦ omega (arith, get_or-set_other labels v u (s + 1) 0 ne, m)
-    ] in is in
-    record {
-      next = record {
-        grows = growing_attach c (no_step c) labels all queue 0 c.nodes 0 size v s inner p.grows unlabeled
-            record {
-              arc = b;
-              enters = refl;
-              marked = subst (λ (u : ℕ). IsLabeled labels u) (sym starts) (omega (arith, p.grows.tree.root));
-              room = inl room;
-            };
-        fresh = λ u m. elim (cases_eq u v) [
-          | inl e ↦ inr (subst (OccursIn (slice_set queue size v) 0 (size + 1)) (sym e)
-              (occurs_here queue 0 size v (omega arith) free))
-          | inr ne ↦ elim (p.fresh u (omega (arith, get_or-set_other labels v u (s + 1) 0 ne, m))) [
-            | inl outer ↦ inl outer
-            | inr before ↦ inr (occurs_more queue 0 size v u before)
-          ]
-        ];
+    tried_next (IsOutgoing c) k b p.grows.tree.words p.grows.tree.root p (λ inner unlabeled room. record {
+      grows = growing_attach v s inner p.grows unlabeled record {
+        arc = b;
+        enters = refl;
+        marked = subst (λ (u : ℕ). IsLabeled labels u) (sym starts) (omega (arith, p.grows.tree.root));
+        room = inl room;
       };
-      more = more;
-      here = λ r. omega (arith, get_or-set_same labels v (s + 1) 0 long);
-    }
-
--- a step was tried, and its end labeled if it has room and the end was unlabeled
-pub outgoing_next : (c : Contents) (labels queue labels' queue' : List ℕ) (size size' s : ℕ) →
-    IsCirculation c → IsOutgoing c labels queue size → arc_of s < arcs c → start_of (network c) s ≡ c.nodes →
-    (label_of labels (end_of (network c) s) ≡ 0 → 0 < room_of (network c) (flow_of c) s → (size' ≡ size + 1)
-    × (labels' ≡ slice_set labels (end_of (network c) s) (s + 1)) ×
-    (queue' ≡ slice_set queue size (end_of (network c) s))) →
-    (IsLabeled labels (end_of (network c) s) → (size' ≡ size) × (labels' ≡ labels) × (queue' ≡ queue)) →
-    (room_of (network c) (flow_of c) s ≡ 0 → (size' ≡ size) × (labels' ≡ labels) × (queue' ≡ queue)) →
-    IsOutEnd c labels queue labels' queue' size size' s
-outgoing_next c labels queue labels' queue' size size' s k p b starts fresh seen full =
-    elim (cases_eq (label_of labels (end_of (network c) s)) 0) [
-      | inl unlabeled ↦ elim (cases_eq (room_of (network c) (flow_of c) s) 0) [
-        | inl empty ↦ out_already c labels queue labels' queue' size size' s p (λ r. absurd (omega (arith, empty, r)))
-            (full empty)
-        | inr room ↦
-            let e = fresh unlabeled (omega arith) in
-            let inner = inner_end c labels s k b p.grows.tree.root unlabeled in
-            subst (λ (x : List ℕ). IsOutEnd c labels queue x queue' size size' s) (sym e.1)
-            (subst (λ (x : List ℕ). IsOutEnd c labels queue (slice_set labels (end_of (network c) s) (s + 1)) x size
-            size' s)
-            (sym e.2)
-            (subst (λ (n : ℕ). IsOutEnd c labels queue (slice_set labels (end_of (network c) s) (s + 1))
-            (slice_set queue size (end_of (network c) s)) size n s) (sym e.0)
-            (out_fresh c labels queue size s inner p b starts unlabeled (omega arith))))
-      ]
-      | inr ne ↦
-          let labeled : IsLabeled labels (end_of (network c) s) = omega arith in
-          out_already c labels queue labels' queue' size size' s p (λ r. labeled) (seen labeled)
-    ]
+      fresh = λ u m. elim (cases_eq u v) [
+        | inl e ↦ inr (subst (OccursIn (slice_set queue size v) 0 (size + 1)) (sym e)
+            (occurs_here queue 0 size v (omega arith) (growing_room v inner p.grows unlabeled)))
+        | inr ne ↦ elim (p.fresh u (omega (arith, get_or-set_other labels v u (s + 1) 0 ne, m))) [
+          | inl outer ↦ inl outer
+          | inr before ↦ inr (occurs_more v before)
+        ]
+      ];
+    }) h
 
 -- all steps from the outside were tried
-pub outgoing_end : (c : Contents) (labels queue : List ℕ) (size : ℕ) → IsOutgoing c labels queue size →
+pub outgoing_end : {c : Contents} {labels queue : List ℕ} {size : ℕ} → IsOutgoing c labels queue size →
     ((s : ℕ) → arc_of s < arcs c → start_of (network c) s ≡ c.nodes → IsTried c labels s) →
     IsGrowing c (no_step c) labels [] queue 0 0 0 size
-outgoing_end c labels queue size p tried = record {
-  tree = tree_map c labels (only (no_step c)) none (OccursIn (range_with_len 0 c.nodes) 0 c.nodes)
-      (OccursIn queue 0 size)
-      (only (no_step c)) none (OccursIn [] 0 0) (OccursIn queue 0 size) p.grows.tree
-      (λ u d m e o. inr o)
-      (λ u s d e b f o. o)
+outgoing_end {c} p tried = record {
+  tree = tree_map p.grows.tree (λ u d m e o. inr o) (λ u s d e b f o. o)
       (λ s b r m o. elim (p.fresh (start_of (network c) s) m) [
         | inl outer ↦ inl (tried s b outer r)
         | inr unscanned ↦ inr (inr unscanned)

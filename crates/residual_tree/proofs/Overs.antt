@@ -23,8 +23,7 @@ over w g s a back arc labels = record {
   enters = ap (λ (p : Bool). by_direction p (w.to (arc_of s)) (w.from (arc_of s))) labels
       ∙ ap (λ (x : ℕ). by_direction back (w.to x) (w.from x)) arc;
   room = ap (λ (p : Bool). by_direction p (w.upper (arc_of s) - g (arc_of s)) (g (arc_of s) - w.lower (arc_of s)))
-      labels
-      ∙ ap (λ (x : ℕ). by_direction back (w.upper x - g x) (g x - w.lower x)) arc;
+      labels ∙ ap (λ (x : ℕ). by_direction back (w.upper x - g x) (g x - w.lower x)) arc;
 }
 
 -- the step forward over an arc

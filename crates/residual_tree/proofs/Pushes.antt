@@ -10,7 +10,7 @@ use Rattle.circulation.specs.Residual.{arc_of, is_backward, by_direction, start_
 use Rattle.circulation.specs.Residual.{IsPushed}
 use Rattle.augment.specs.Search.{SameButScratch}
 use Rattle.residual_tree.specs.Tree.{label_of, IsLabeled, IsResidualTree}
-use Rattle.residual_tree.specs.Repair.{OccursIn, none, only, IsTreeBut, IsSaturatedTree, HasArtificialStep}
+use Rattle.residual_tree.specs.Repair.{OccursIn, none, IsTreeBut, IsSaturatedTree, HasArtificialStep}
 use Rattle.residual_tree.specs.Repair.{HasSomeArtificial}
 use Rattle.residual_tree.proofs.Changes.{tree_map}
 use Rattle.residual_tree.proofs.Grows.{artificial_some, artificial_closed}
@@ -46,10 +46,10 @@ on_walk step first last a b =
     (on_or (last - first) step first a)
 
 -- where the ends of the steps of a closed walk are labeled, so are their starts
-walk_starts : (w : Network) (g step : ℕ → ℕ) (first last amount : ℕ) (labels : List ℕ) →
+walk_starts : {w : Network} {g step : ℕ → ℕ} {first last amount : ℕ} (labels : List ℕ) →
     IsClosedWalk w g step first last amount → ((i : ℕ) → first ≤ i → i < last → IsLabeled labels (end_of w (step i))) →
     (i : ℕ) → first ≤ i → i < last → IsLabeled labels (start_of w (step i))
-walk_starts w g step first last amount labels walk ends i b c = elim (cases_eq i first) [
+walk_starts {w} {step} {first} {last} labels walk ends i b c = elim (cases_eq i first) [
   | inl e ↦
       let some = walk.some in
       let at_end : last - 1 + 1 ≡ last = omega arith in
@@ -83,8 +83,7 @@ same_room : (c : Contents) (lower flow : List ℕ) (s : ℕ) → slice_index flo
     room_of (network (record c { lower = lower; flow = flow })) (slice_index flow) s ≡ room_of (network c) (flow_of c) s
 same_room c lower flow s f l =
     ap (λ (x : ℕ). by_direction (is_backward s) (slice_index c.upper (arc_of s) - x) (x - slice_index lower (arc_of s)))
-    f
-    ∙ ap (λ (x : ℕ). by_direction (is_backward s) (slice_index c.upper (arc_of s) - flow_of c (arc_of s))
+    f ∙ ap (λ (x : ℕ). by_direction (is_backward s) (slice_index c.upper (arc_of s) - flow_of c (arc_of s))
     (flow_of c (arc_of s) - x)) l
 
 -- a step against a step of the walk gains room
@@ -93,8 +92,7 @@ gains : (c : Contents) (lower flow : List ℕ) (s t amount : ℕ) → arc_of s �
     slice_index c.lower (arc_of s) ≤ flow_of c (arc_of s) → flow_of c (arc_of s) ≤ slice_index c.upper (arc_of s) →
     amount ≤ room_of (network c) (flow_of c) t →
     slice_index flow (arc_of t) + when (is_backward t) amount ≡ flow_of c (arc_of t) + when (not (is_backward t))
-    amount →
-    0 < room_of (network (record c { lower = lower; flow = flow })) (slice_index flow) s
+    amount → 0 < room_of (network (record c { lower = lower; flow = flow })) (slice_index flow) s
 gains c lower flow s t amount e ne positive l low high room on =
     let flow_at = ap (slice_index flow) e in
     let old_at = ap (flow_of c) e in
@@ -122,13 +120,14 @@ abbrev pub IsSaturated : List ℕ → ℕ → ℕ → ℕ → ℕ → Type 0
 IsSaturated scratch first last artificial s = OccursIn scratch first last s ⊎ (s ≡ artificial)
 
 -- after a push along a closed walk of nodes that are labeled, only its steps and an artificial one may have no room
-pub pushed_saturated : (c : Contents) (labels lower flow : List ℕ) (r first last amount : ℕ) → IsCirculation c →
+pub pushed_saturated : {c : Contents} {labels : List ℕ} (lower flow : List ℕ) {r first last amount : ℕ} →
+    IsCirculation c →
     (t : HasSomeArtificial c labels r) → IsClosedWalk (network c) (flow_of c) (step_of c) first last amount →
     IsPushed (flow_of c) (slice_index flow) (step_of c) first last amount → step_of c first ≡ 2 * r →
     ((i : ℕ) → first ≤ i → i < last → IsLabeled labels (end_of (network c) (step_of c i))) →
     flow_of c r ≤ slice_index c.lower r → ((a : ℕ) → a ≢ r → slice_index lower a ≡ slice_index c.lower a) →
     IsTreeBut (record c { lower = lower; flow = flow }) labels (IsSaturated c.scratch first last t.step) none none none
-pushed_saturated c labels lower flow r first last amount k t walk pushed forward ends held lowers =
+pushed_saturated {c} {labels} lower flow {r} {first} {last} {amount} k t walk pushed forward ends held lowers =
     let arc_first : arc_of (step_of c first) ≡ r = ap arc_of forward ∙ (over_forward (network c) (flow_of c) r).arc in
     let off_room = λ (s : ℕ) (off : (i : ℕ) → first ≤ i → i < last → arc_of (step_of c i) ≢ arc_of s).
     let ne : arc_of s ≢ r = λ e. off first (omega arith) walk.some (arc_first ∙ sym e) in
@@ -176,19 +175,17 @@ pushed_saturated c labels lower flow r first last amount k t walk pushed forward
           ];
       closed = λ s b room m. inl (elim (on_walk (step_of c) first last (arc_of s) walk.some) [
         | inl on ↦ walk_end (network c) s (step_of c on.place) labels (sym on.arc)
-            (walk_starts (network c) (flow_of c) (step_of c) first last amount labels walk ends on.place on.from
-            on.below)
-            (ends on.place on.from on.below)
-        | inr off ↦ artificial_closed c labels t.step s t.tree b (omega (arith, off_room s off, room)) m
+            (walk_starts labels walk ends on.place on.from on.below) (ends on.place on.from on.below)
+        | inr off ↦ artificial_closed s t.tree b (omega (arith, off_room s off, room)) m
       ]);
     }
 
 -- after a hold on an arc only the step back over it may have lost its room
-pub held_saturated : (c : Contents) (labels lower : List ℕ) (r at : ℕ) → IsResidualTree c labels →
+pub held_saturated : {c : Contents} {labels : List ℕ} (lower : List ℕ) (r at : ℕ) → IsResidualTree c labels →
     step_of c at ≡ 2 * r + 1 →
     ((a : ℕ) → a ≢ r → slice_index lower a ≡ slice_index c.lower a) → slice_index c.lower r ≤ slice_index lower r →
     IsSaturatedTree (record c { lower = lower }) labels at (at + 1)
-held_saturated c labels lower r at t is lowers more = record {
+held_saturated {c} {labels} lower r at t is lowers more = record {
   words = t.words;
   root = t.root;
   rank = t.rank;
@@ -208,8 +205,7 @@ held_saturated c labels lower r at t is lowers more = record {
             place = at;
             from = omega arith;
             below = omega arith;
-            is = is
-                ∙ ap (λ (a : ℕ). 2 * a + 1) (sym own) ∙ sym f.0;
+            is = is ∙ ap (λ (a : ℕ). 2 * a + 1) (sym own) ∙ sym f.0;
           }
           | inr other ↦ inl (omega (arith, same_room c lower c.flow s refl (lowers (arc_of s) other), was.room))
         ]
@@ -238,9 +234,9 @@ held_saturated c labels lower r at t is lowers more = record {
 }
 
 -- the tree does not depend on the scratch words
-pub tree_over : (c : Contents) (labels scratch : List ℕ) → IsResidualTree c labels →
+pub tree_over : {c : Contents} {labels : List ℕ} (scratch : List ℕ) → IsResidualTree c labels →
     IsResidualTree (record c { scratch = scratch }) labels
-tree_over c labels scratch t = record {
+tree_over scratch t = record {
   words = t.words;
   root = t.root;
   rank = t.rank;
@@ -251,26 +247,25 @@ tree_over c labels scratch t = record {
 }
 
 -- after a hold on an arc, whose step back was written down
-pub hold_saturated : (c d e : Contents) (labels : List ℕ) (r amount s : ℕ) → IsCirculation c → IsResidualTree c labels →
+pub hold_saturated : {c d e : Contents} {labels : List ℕ} (r amount : ℕ) {s : ℕ} → IsCirculation c →
+    IsResidualTree c labels →
     r < arcs c → s ≡ 2 * r + 1 → d ≡ record c { scratch = slice_set c.scratch 0 s } → e ≡ held_contents d r amount →
     IsSaturatedTree e labels 0 1
-hold_saturated c d e labels r amount s k t b is written held =
+hold_saturated {c} {labels} r amount {s} k t b is written held =
     let long : r < length c.lower = omega (arith, k.shape.lower, b) in
     let now = held ∙ ap (λ (x : Contents). held_contents x r amount) written in
     let more = max (slice_index c.lower r) amount in
     let here = get_or-set_same c.lower r more 0 long in
     let at : slice_index (slice_set c.scratch 0 s) 0 ≡ 2 * r + 1 =
     get_or-set_same c.scratch 0 s 0 (omega (arith, k.shape.scratch)) ∙ is in
-    subst (λ (x : Contents). IsSaturatedTree x labels 0 1) (sym now)
-    (held_saturated (record c { scratch = slice_set c.scratch 0 s }) labels (slice_set c.lower r more) r 0
-    (tree_over c labels (slice_set c.scratch 0 s) t) at
-    (λ a ne. get_or-set_other c.lower r a more 0 ne) (omega (arith, here)))
+    subst (λ (x : Contents). IsSaturatedTree x labels 0 1) (sym now) (held_saturated (slice_set c.lower r more) r 0
+    (tree_over (slice_set c.scratch 0 s) t) at (λ a ne. get_or-set_other c.lower r a more 0 ne) (omega (arith, here)))
 
 -- a tree that is repaired does not depend on the scratch words
-pub but_over : (c : Contents) (labels scratch : List ℕ) (saturated orphan free unscanned : ℕ → Type 0) →
+pub but_over : {c : Contents} {labels : List ℕ} (scratch : List ℕ) {saturated orphan free unscanned : ℕ → Type 0} →
     IsTreeBut c labels saturated orphan free unscanned → IsTreeBut (record c { scratch = scratch }) labels saturated
     orphan free unscanned
-but_over c labels scratch saturated orphan free unscanned t = record {
+but_over scratch t = record {
   words = t.words;
   root = t.root;
   rank = t.rank;
@@ -282,35 +277,27 @@ but_over c labels scratch saturated orphan free unscanned t = record {
 }
 
 -- a tree in which all steps have room, as one with an artificial step to the head of an arc
-pub residual_artificial : (c : Contents) (labels : List ℕ) (r : ℕ) → IsResidualTree c labels →
+pub residual_artificial : {c : Contents} {labels : List ℕ} (r : ℕ) → IsResidualTree c labels →
     HasSomeArtificial c labels r
-residual_artificial c labels r t = record {
+residual_artificial {c} {labels} r t = record {
   step = 2 * r;
   enters = (over_forward (network c) (flow_of c) r).enters;
   tree = artificial_some c labels (2 * r) t;
 }
 
 -- the artificial step was written before the walk
-pub saturated_written : (c : Contents) (labels : List ℕ) (first first' last artificial : ℕ) → first' + 1 ≡ first →
+pub saturated_written : {c : Contents} {labels : List ℕ} (first first' last artificial : ℕ) → first' + 1 ≡ first →
     first ≤ length c.scratch → first ≤ last → IsTreeBut c labels (IsSaturated c.scratch first last artificial) none none
-    none →
-    IsSaturatedTree (record c { scratch = slice_set c.scratch (first - 1) artificial }) labels first' last
-saturated_written c labels first first' last artificial before long order t =
+    none → IsSaturatedTree (record c { scratch = slice_set c.scratch (first - 1) artificial }) labels first' last
+saturated_written {c} first first' last artificial before long order t =
     let place : first - 1 ≡ first' = omega arith in
-    tree_map (record c { scratch = slice_set c.scratch (first - 1) artificial }) labels
-    (IsSaturated c.scratch first last artificial) none
-    none none
-    (OccursIn (slice_set c.scratch (first - 1) artificial) first' last) none none none
-    (but_over c labels (slice_set c.scratch (first - 1) artificial) (IsSaturated c.scratch first last artificial) none
-    none none t)
-    (λ u d m e o. elim o [
+    tree_map (but_over (slice_set c.scratch (first - 1) artificial) t) (λ u d m e o. elim o [
       | inl occurs ↦ inr record {
         place = occurs.place;
         from = omega (arith, occurs.from);
         below = occurs.below;
         is = get_or-set_other c.scratch (first - 1) occurs.place artificial 0
-            (λ f. absurd (omega (arith, occurs.from, f)))
-            ∙ occurs.is;
+            (λ f. absurd (omega (arith, occurs.from, f))) ∙ occurs.is;
       }
       | inr own ↦ inr record {
         place = first';
@@ -320,37 +307,29 @@ saturated_written c labels first first' last artificial before long order t =
             ∙ get_or-set_same c.scratch (first - 1) artificial 0 (omega arith) ∙ sym own;
       }
     ])
-    (λ u s d e b g o. o)
-    (λ s b r m o. inr o)
+    (λ u s d e b g o. o) (λ s b r m o. inr o)
 
 -- the tree stays where only scratch words were written
-pub stopped_tree : (c d : Contents) (labels labels' : List ℕ) → IsResidualTree c labels → SameButScratch c d →
-    labels' ≡ labels →
-    IsResidualTree d labels'
-stopped_tree c d labels labels' t rest same =
-    subst (λ (x : List ℕ). IsResidualTree d x) (sym same)
-    (subst (λ (x : Contents). IsResidualTree x labels) (sym rest) (tree_over c labels d.scratch t))
+pub stopped_tree : {c : Contents} (d : Contents) {labels labels' : List ℕ} → IsResidualTree c labels →
+    SameButScratch c d → labels' ≡ labels → IsResidualTree d labels'
+stopped_tree d t rest same =
+    rw (same, rest) (tree_over d.scratch t)
 
 -- a tree with an artificial step, which was written down
-pub settle_saturated : (c d : Contents) (labels : List ℕ) (artificial s : ℕ) → IsCirculation c →
+pub settle_saturated : {c d : Contents} {labels : List ℕ} {artificial s : ℕ} → IsCirculation c →
     HasArtificialStep c labels artificial → s ≡ artificial →
     d ≡ record c { scratch = slice_set c.scratch 0 s } → IsSaturatedTree d labels 0 1
-settle_saturated c d labels artificial s k t is written =
+settle_saturated {c} {d} {labels} {artificial} {s} k t is written =
     let at : slice_index (slice_set c.scratch 0 s) 0 ≡ artificial =
     get_or-set_same c.scratch 0 s 0 (omega (arith, k.shape.scratch)) ∙ is in
-    subst (λ (x : Contents). IsSaturatedTree x labels 0 1) (sym written)
-    (tree_map (record c { scratch = slice_set c.scratch 0 s }) labels (only artificial) none none none
-    (OccursIn (slice_set c.scratch 0 s) 0 1) none none none
-    (but_over c labels (slice_set c.scratch 0 s) (only artificial) none none none t)
+    subst (λ (x : Contents). IsSaturatedTree x labels 0 1) (sym written) (tree_map
+    (but_over (slice_set c.scratch 0 s) t)
     (λ u d m e o. inr record { place = 0; from = omega arith; below = omega arith; is = at ∙ sym o })
-    (λ u s d e b g o. o)
-    (λ s b r m o. inr o))
+    (λ u s d e b g o. o) (λ s b r m o. inr o))
 
 -- a tree with an artificial step stays where only scratch words were written
-pub stopped_artificial : (c d : Contents) (labels labels' : List ℕ) (artificial : ℕ) →
+pub stopped_artificial : {c : Contents} (d : Contents) {labels labels' : List ℕ} {artificial : ℕ} →
     HasArtificialStep c labels artificial → SameButScratch c d →
     labels' ≡ labels → HasArtificialStep d labels' artificial
-stopped_artificial c d labels labels' artificial t rest same =
-    subst (λ (x : List ℕ). HasArtificialStep d x artificial) (sym same)
-    (subst (λ (x : Contents). HasArtificialStep x labels artificial) (sym rest)
-    (but_over c labels d.scratch (only artificial) none none none t))
+stopped_artificial d t rest same =
+    rw (same, rest) (but_over d.scratch t)

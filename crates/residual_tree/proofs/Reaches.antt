@@ -24,8 +24,7 @@ walk_from (suc n) c labels k t v b m less = elim (cases_lt v c.nodes) [
       let branch = t.branch v inner m in
       let s = label_of labels v - 1 in
       let before = walk_from n c labels k t (start_of (network c) s) (start_within (network c) s k.ends branch.arc)
-      branch.marked
-      (omega (arith, branch.before, less)) in
+      branch.marked (omega (arith, branch.before, less)) in
       (s ∷ before.0, (branch.arc, branch.enters, branch.room, before.1))
   | inr outer ↦ let e : v ≡ c.nodes = omega arith in ([], e)
 ]
@@ -50,68 +49,66 @@ pub same_labeled : (c d : Contents) (labels labels' : List ℕ) (v : ℕ) → Is
 same_labeled c d labels labels' v k same t t' b m =
     let back : c ≡ record d { scratch = c.scratch } =
     ap (λ (x : Contents). record x { scratch = c.scratch }) (sym same) in
-    let own = stopped_tree d c labels' labels' t' back refl in
+    let own = stopped_tree c t' back refl in
     (labeled_is_reachable_lem c labels' v k own b).1 ((labeled_is_reachable_lem c labels v k t b).0 m)
 
 pub unlabeled_is_greatest_cut_lem : UnlabeledIsGreatestCut
-unlabeled_is_greatest_cut_lem c labels r k t b none head = unlabeled_cut c labels r k (residual_artificial c labels r t)
+unlabeled_is_greatest_cut_lem c labels r k t b none head = unlabeled_cut k (residual_artificial r t)
     b none head
 
 -- what leaves a cut besides the arc itself
-same_out : (old new : Contents) (r : ℕ) (y : ℕ → Bool) → IsRaisedOver old new r →
+same_out : {old new : Contents} {r : ℕ} (y : ℕ → Bool) → IsRaisedOver old new r →
     cut_out (network new) r y ≡ cut_out (network old) r y
-same_out old new r y raised =
+same_out {old} {new} {r} y raised =
     ap (λ (x : Contents). total (arcs x) (λ a. when (leaves (network x) y a && not (a == r)) (slice_index new.lower a)))
-    raised.rest
-    ∙ total_same (arcs old) _ _ (λ a b. elim (cases_eq a r) [
+    raised.rest ∙ total_same (arcs old) _ _ (λ a b. elim (cases_eq a r) [
       | inl e ↦
           let off : (leaves (network old) y a && not (a == r)) ≡ false =
-          and_right (leaves (network old) y a) (not (a == r))
-          (ap not (eq-eqb a r e)) in
+          and_right (leaves (network old) y a) (not (a == r)) (ap not (eq-eqb a r e)) in
           ap (λ (t : Bool). when t (slice_index new.lower a)) off
           ∙ sym (ap (λ (t : Bool). when t (slice_index old.lower a)) off)
       | inr ne ↦ ap (when (leaves (network old) y a && not (a == r))) (raised.lowers a ne)
     ])
 
 -- what comes into a cut
-same_in : (old new : Contents) (r : ℕ) (y : ℕ → Bool) → IsRaisedOver old new r →
+same_in : {old new : Contents} {r : ℕ} (y : ℕ → Bool) → IsRaisedOver old new r →
     cut_in (network new) y ≡ cut_in (network old) y
-same_in old new r y raised = ap (λ (x : Contents). cut_in (network x) y) raised.rest
+same_in y raised = ap (λ (x : Contents). cut_in (network x) y) raised.rest
 
 -- a cut is one in both networks
-cut_old : (old new : Contents) (r : ℕ) (y : ℕ → Bool) → IsRaisedOver old new r → IsCut (network new) r y →
+cut_old : {old new : Contents} {r : ℕ} {y : ℕ → Bool} → IsRaisedOver old new r → IsCut (network new) r y →
     IsCut (network old) r y
-cut_old old new r y raised cut = record {
+cut_old {r} {y} raised cut = record {
   basin = λ v b. cut.basin v (omega (arith, b, ap (λ (x : Contents). x.nodes) raised.rest));
   tail = ap (λ (x : Contents). y (slice_index x.from r)) (sym raised.rest) ∙ cut.tail;
   head = ap (λ (x : Contents). y (slice_index x.to r)) (sym raised.rest) ∙ cut.head;
 }
 
-cut_new : (old new : Contents) (r : ℕ) (y : ℕ → Bool) → IsRaisedOver old new r → IsCut (network old) r y →
+cut_new : {old new : Contents} {r : ℕ} {y : ℕ → Bool} → IsRaisedOver old new r → IsCut (network old) r y →
     IsCut (network new) r y
-cut_new old new r y raised cut = record {
+cut_new {r} {y} raised cut = record {
   basin = λ v b. cut.basin v (omega (arith, b, ap (λ (x : Contents). x.nodes) raised.rest));
   tail = ap (λ (x : Contents). y (slice_index x.from r)) raised.rest ∙ cut.tail;
   head = ap (λ (x : Contents). y (slice_index x.to r)) raised.rest ∙ cut.head;
 }
 
 -- a cut is tight in both networks
-tight_old : (old new : Contents) (r : ℕ) (y : ℕ → Bool) → IsRaisedOver old new r →
+tight_old : {old new : Contents} {r : ℕ} {y : ℕ → Bool} → IsRaisedOver old new r →
     IsTight (network new) (flow_of new) r y → IsTight (network old) (flow_of new) r y
-tight_old old new r y raised t = record {
-  cut = cut_old old new r y raised t.cut;
-  equal = sym (same_in old new r y raised) ∙ t.equal ∙ ap (λ (n : ℕ). flow_of new r + n) (same_out old new r y raised);
+tight_old {new} {r} {y} raised t = record {
+  cut = cut_old raised t.cut;
+  equal = sym (same_in y raised) ∙ t.equal ∙ ap (λ (n : ℕ). flow_of new r + n) (same_out y raised);
 }
 
-tight_new : (old new : Contents) (r : ℕ) (y : ℕ → Bool) → IsRaisedOver old new r →
+tight_new : {old new : Contents} {r : ℕ} {y : ℕ → Bool} → IsRaisedOver old new r →
     IsTight (network old) (flow_of new) r y → IsTight (network new) (flow_of new) r y
-tight_new old new r y raised t = record {
-  cut = cut_new old new r y raised t.cut;
-  equal = same_in old new r y raised ∙ t.equal ∙ ap (λ (n : ℕ). flow_of new r + n) (sym (same_out old new r y raised));
+tight_new {new} {r} {y} raised t = record {
+  cut = cut_new raised t.cut;
+  equal = same_in y raised ∙ t.equal ∙ ap (λ (n : ℕ). flow_of new r + n) (sym (same_out y raised));
 }
 
 pub cut_stays_when_held_lem : CutStaysWhenHeld
 cut_stays_when_held_lem old new r y raised g = record {
-  tight = tight_old old new r y raised g.tight;
-  greatest = λ z tight. g.greatest z (tight_new old new r z raised tight);
+  tight = tight_old raised g.tight;
+  greatest = λ z tight. g.greatest z (tight_new raised tight);
 }

@@ -8,13 +8,13 @@ use Rattle.circulation.specs.Contents.{Contents, flow_of, arcs, step_of, held_co
 use Rattle.circulation.specs.Residual.{arc_of, IsPushed}
 use Rattle.augment.specs.Search.{SameButScratch}
 use Rattle.augment.proofs.Raises.{pushed_first}
-use Rattle.residual_tree.specs.Repair.{none, only, IsSaturatedTree, HasSomeArtificial}
+use Rattle.residual_tree.specs.Repair.{IsSaturatedTree, HasSomeArtificial}
 use Rattle.residual_tree.specs.Raised.{IsTraced, IsRaisedOver}
 use Rattle.residual_tree.proofs.Pushes.{but_over, pushed_saturated, saturated_written}
 
 -- nothing changed but scratch words
-pub raised_scratch : (c d : Contents) (r : ℕ) → d ≡ record c { scratch = d.scratch } → IsRaisedOver c d r
-raised_scratch c d r rest = record {
+pub raised_scratch : (c : Contents) {d : Contents} (r : ℕ) → d ≡ record c { scratch = d.scratch } → IsRaisedOver c d r
+raised_scratch c r rest = record {
   rest = subst (λ (x : Contents). x ≡ record c { lower = x.lower; flow = x.flow; scratch = x.scratch }) (sym rest) refl;
   lowers = λ a ne. ap (λ (x : Contents). slice_index x.lower a) rest;
 }
@@ -32,9 +32,9 @@ abbrev pub raised_contents : Contents → List ℕ → List ℕ → ℕ → ℕ 
 raised_contents c scratch flow r amount =
     record c { scratch = scratch; flow = flow; lower = slice_set c.lower r (max (slice_index c.lower r) amount) }
 
-raised_is : (c d e f : Contents) (r amount : ℕ) → d ≡ record c { scratch = d.scratch } →
+raised_is : (c : Contents) {d e f : Contents} (r amount : ℕ) → d ≡ record c { scratch = d.scratch } →
     e ≡ record d { flow = e.flow } → f ≡ held_contents e r amount → f ≡ raised_contents c d.scratch e.flow r amount
-raised_is c d e f r amount written pushed held =
+raised_is c {e} r amount written pushed held =
     held ∙ ap (λ (x : Contents). held_contents x r amount) pushed
     ∙ ap (λ (x : Contents). held_contents (record x { flow = e.flow }) r amount) written
 
@@ -43,19 +43,18 @@ pub record IsRoundTree (c g : Contents) (labels : List ℕ) (first last : ℕ) :
   pub saturated : IsSaturatedTree g labels first last
   pub arcs : (i : ℕ) → first ≤ i → i < last → arc_of (step_of g i) < arcs g
 
-pub round_saturated : (c d e f g : Contents) (labels : List ℕ) (r most first first' last last' amount flow : ℕ) →
-    IsCirculation d → (t : HasSomeArtificial c labels r) → arc_of t.step < arcs c →
+pub round_saturated : {c d e f g : Contents} {labels : List ℕ} {r most first : ℕ} (first' : ℕ) {last last' amount : ℕ}
+    (flow : ℕ) → IsCirculation d → (t : HasSomeArtificial c labels r) → arc_of t.step < arcs c →
     flow_of c r ≡ slice_index c.lower r →
     IsTraced c d labels r most first amount → 0 < amount → e ≡ record d { flow = e.flow } → last ≡ 4 * c.nodes + 8 →
     IsPushed (flow_of d) (flow_of e) (step_of d) first last amount → f ≡ held_contents e r flow → first' + 1 ≡ first →
     g ≡ record f { scratch = slice_set f.scratch (first - 1) t.step } → last' ≡ last →
     IsRoundTree c g labels first' last'
-round_saturated c d e f g labels r most first first' last last' amount flow k t b held traced positive pushed is p made
-    before
-    written more =
+round_saturated {c} {d} {e} {f} {labels} {r} {first} first' {last} {amount} flow k t b held traced positive
+    pushed is p made before written more =
     let rest = traced.rest in
     let kept = subst IsCirculation rest k in
-    let now = raised_is c d e f r flow rest pushed made in
+    let now = raised_is c r flow rest pushed made in
     let moved = subst (λ (x : Contents). IsPushed (flow_of x) (flow_of e) (step_of d) first last amount) rest p in
     let whole = subst (λ (n : ℕ). IsPushed (flow_of c) (flow_of e) (step_of d) first n amount) is moved in
     let walk = traced.walk positive in
@@ -64,19 +63,15 @@ round_saturated c d e f g labels r most first first' last last' amount flow k t 
     let over : HasSomeArtificial (record c { scratch = d.scratch }) labels r = record {
       step = t.step;
       enters = t.enters;
-      tree = but_over c labels d.scratch (only t.step) none none none t.tree;
+      tree = but_over d.scratch t.tree;
     } in
     let long : first ≤ length d.scratch = omega (arith, kept.shape.scratch, traced.some) in
-    subst (λ (x : Contents). IsRoundTree c x labels first' last') (sym after)
-    (subst (λ (n : ℕ). IsRoundTree c (record here { scratch = slice_set d.scratch (first - 1) t.step }) labels first' n)
-    (sym (more ∙ is))
+    rw after (subst (λ (n : ℕ). IsRoundTree c (record here { scratch = slice_set d.scratch (first - 1) t.step }) labels
+    first' n) (sym (more ∙ is))
     record {
-      saturated = saturated_written here labels first first' (4 * c.nodes + 8) t.step before long
-          (omega (arith, traced.some))
-          (pushed_saturated (record c { scratch = d.scratch }) labels
-          (slice_set c.lower r (max (slice_index c.lower r) flow))
-          e.flow r
-          first (4 * c.nodes + 8) amount kept over walk whole traced.forward traced.ends
+      saturated = saturated_written first first' (4 * c.nodes + 8) t.step before long (omega (arith, traced.some))
+          (pushed_saturated (slice_set c.lower r (max (slice_index c.lower r) flow))
+          e.flow kept over walk whole traced.forward traced.ends
           (omega (arith, held)) (λ a ne. get_or-set_other c.lower r a (max (slice_index c.lower r) flow) 0 ne));
       arcs = λ i h j. elim (cases_eq i (first - 1)) [
         | inl f ↦ omega (
@@ -99,14 +94,13 @@ pub record IsRound (c f : Contents) (r amount : ℕ) : Type 0 where
   pub raised : flow_of f r ≡ flow_of c r + amount
   pub held : flow_of f r ≡ slice_index f.lower r
 
-pub round_is : (c d e f : Contents) (labels : List ℕ) (r most first last amount flow : ℕ) → IsCirculation d →
-    r < arcs c →
-    flow_of c r ≡ slice_index c.lower r → IsTraced c d labels r most first amount → 0 < amount →
+pub round_is : {c d e f : Contents} {labels : List ℕ} {r most first last amount flow : ℕ} → IsCirculation d →
+    r < arcs c → flow_of c r ≡ slice_index c.lower r → IsTraced c d labels r most first amount → 0 < amount →
     e ≡ record d { flow = e.flow } → last ≡ 4 * c.nodes + 8 → IsPushed (flow_of d) (flow_of e)
     (step_of d) first last amount → flow ≡ flow_of e r → f ≡ held_contents e r flow → IsRound c f r amount
-round_is c d e f labels r most first last amount flow k b held traced positive pushed is p seen made =
+round_is {c} {d} {e} {r} {first} {last} {amount} {flow} k b held traced positive pushed is p seen made =
     let rest = traced.rest in
-    let now = raised_is c d e f r flow rest pushed made in
+    let now = raised_is c r flow rest pushed made in
     let more = max (slice_index c.lower r) flow in
     let kept = subst IsCirculation rest k in
     let long : r < length c.lower = omega (arith, kept.shape.lower, b) in
@@ -115,50 +109,44 @@ round_is c d e f labels r most first last amount flow k b held traced positive p
     let before = ap (λ (x : Contents). flow_of x r) rest in
     let here = get_or-set_same c.lower r more 0 long in
     subst (λ (x : Contents). IsRound c x r amount) (sym now) record {
-      rest = record {
-        rest = refl;
-        lowers = λ a ne. get_or-set_other c.lower r a more 0 ne;
-      };
+      rest = record { rest = refl; lowers = λ a ne. get_or-set_other c.lower r a more 0 ne };
       raised = omega (arith, own, before);
       held = omega (arith, here, own, before, seen, held);
     }
 
 -- what a hold leaves of the contents
-pub hold_is : (c d : Contents) (r amount : ℕ) → IsCirculation c → r < arcs c → amount ≡ flow_of c r →
+pub hold_is : {c d : Contents} (r : ℕ) {amount : ℕ} → IsCirculation c → r < arcs c → amount ≡ flow_of c r →
     d ≡ record (held_contents c r amount) { scratch = d.scratch } → IsRound c d r 0
-hold_is c d r amount k b is made =
+hold_is {c} r {amount} k b is made =
     let more = max (slice_index c.lower r) amount in
     let long : r < length c.lower = omega (arith, k.shape.lower, b) in
     let here = get_or-set_same c.lower r more 0 long in
     subst (λ (x : Contents). IsRound c x r 0) (sym made) record {
-      rest = record {
-        rest = refl;
-        lowers = λ a ne. get_or-set_other c.lower r a more 0 ne;
-      };
+      rest = record { rest = refl; lowers = λ a ne. get_or-set_other c.lower r a more 0 ne };
       raised = omega arith;
       held = omega (arith, here, is, k.flow.low r b);
     }
 
 -- only scratch words changed
-pub scratch_is : (f g : Contents) (scratch : List ℕ) → g ≡ record f { scratch = scratch } →
+pub scratch_is : (f : Contents) {g : Contents} (scratch : List ℕ) → g ≡ record f { scratch = scratch } →
     g ≡ record f { scratch = g.scratch }
-scratch_is f g scratch e = e
+scratch_is f scratch e = e
     ∙ ap (λ (xs : List ℕ). record f { scratch = xs }) (sym (ap (λ (x : Contents). x.scratch) e))
 
 -- a round after which scratch words were written
-pub round_written : (c f g : Contents) (r amount : ℕ) (scratch : List ℕ) → IsRound c f r amount →
+pub round_written : {c f g : Contents} {r amount : ℕ} (scratch : List ℕ) → IsRound c f r amount →
     g ≡ record f { scratch = scratch } → IsRound c g r amount
-round_written c f g r amount scratch round e = record {
-  rest = raised_more c f g r round.rest (raised_scratch f g r (scratch_is f g scratch e));
+round_written {c} {f} {g} {r} scratch round e = record {
+  rest = raised_more c f g r round.rest (raised_scratch f r (scratch_is f scratch e));
   raised = ap (λ (x : Contents). flow_of x r) e ∙ round.raised;
   held = ap (λ (x : Contents). flow_of x r) e ∙ round.held ∙ sym (ap (λ (x : Contents). slice_index x.lower r) e);
 }
 
 -- a hold of an arc that was held at its flow
-pub hold_still : (c d : Contents) (r amount : ℕ) → IsCirculation c → r < arcs c → amount ≡ flow_of c r →
+pub hold_still : {c d : Contents} (r : ℕ) {amount : ℕ} → IsCirculation c → r < arcs c → amount ≡ flow_of c r →
     flow_of c r ≡ slice_index c.lower r → d ≡ record (held_contents c r amount) { scratch = d.scratch } →
     SameButScratch c d
-hold_still c d r amount k b is held made =
+hold_still {c} {d} r {amount} k b is held made =
     let more = max (slice_index c.lower r) amount in
     let long : r < length c.lower = omega (arith, k.shape.lower, b) in
     made ∙ ap (λ (xs : List ℕ). record c { lower = xs; scratch = d.scratch })

@@ -6,15 +6,15 @@ use Rattle.std.proofs.lemmas.List.{get_or-set_other, get_or-set_same}
 use Rattle.circulation.specs.Contents.{Contents, network, flow_of, arcs}
 use Rattle.circulation.specs.Residual.{arc_of, start_of, end_of, room_of, opposite}
 use Rattle.residual_tree.specs.Tree.{label_of, IsLabeled}
-use Rattle.residual_tree.specs.Repair.{OccursIn, none, only, no_step, IsFoundLabel, IsShut, IsGrowing, IsWayIn}
+use Rattle.residual_tree.specs.Repair.{OccursIn, no_step, IsFoundLabel, IsShut, IsGrowing, IsWayIn}
 use Rattle.residual_tree.proofs.Changes.{occurs_more, occurs_here, occurs_or, occurs_nowhere, tree_map}
 use Rattle.residual_tree.proofs.Opposites.{opposite_is}
 use Rattle.residual_tree.proofs.Grows.{growing_attach, growing_room}
 
 -- where none of the steps that leave a node is a way in when turned, there is none
-pub shut_end : (c : Contents) (labels : List ℕ) (v : ℕ) →
+pub shut_end : {c : Contents} {labels : List ℕ} {v : ℕ} →
     ((s : ℕ) → arc_of s < arcs c → start_of (network c) s ≡ v → IsShut c labels s) → (s : ℕ) → IsWayIn c labels v s → ⊥
-shut_end c labels v shut s in_s =
+shut_end {c} {labels} shut s in_s =
     let o = opposite_is (network c) s in
     let none = shut (opposite s) (omega (arith, o.arc, in_s.arc)) (o.starts ∙ in_s.enters)
     (subst (λ (u : ℕ). IsLabeled labels u) (sym o.enters) in_s.marked) in
@@ -34,10 +34,10 @@ way_in c labels v s b starts m room =
     }
 
 -- what was found by a step that was turned
-pub found_way : (c : Contents) (labels : List ℕ) (v s word : ℕ) → arc_of s < arcs c → start_of (network c) s ≡ v →
+pub found_way : (c : Contents) (labels : List ℕ) (v s : ℕ) {word : ℕ} → arc_of s < arcs c → start_of (network c) s ≡ v →
     IsLabeled labels (end_of (network c) s) → 0 < room_of (network c) (flow_of c) (opposite s) → word ≡ opposite s + 1 →
     IsFoundLabel c labels v word
-found_way c labels v s word b starts m room is = record {
+found_way c labels v s b starts m room is = record {
   none = λ e. absurd (omega (arith, is, e));
   some = λ t e.
       let same : opposite s ≡ t = omega (arith, is, e) in
@@ -57,40 +57,35 @@ pub record IsSeeding (c : Contents) (old labels freed queue found : List ℕ) (n
   pub fresh : (u : ℕ) → IsLabeled labels u → IsLabeled old u ⊎ OccursIn queue 0 size u
 
 -- before the first way is taken
-pub seeding_start : (c : Contents) (labels freed queue found : List ℕ) (count : ℕ) →
+pub seeding_start : {c : Contents} {labels freed queue : List ℕ} (found : List ℕ) {count : ℕ} →
     IsGrowing c (no_step c) labels freed queue 0 count 0 0 →
     ((k : ℕ) → k < count → IsFoundLabel c labels (slice_index freed k) (slice_index found k)) →
     IsSeeding c labels labels freed queue found 0 count 0
-seeding_start c labels freed queue found count g ways =
+seeding_start found g ways =
     record { grows = g; ways = ways; kept = λ u m. m; fresh = λ u m. inl m }
 
 -- a freed node was tried: it is labeled, or had no way in
-seed_past : (c : Contents) (old labels freed queue found : List ℕ) (next count size v : ℕ) →
-    slice_index freed next ≡ v →
-    IsSeeding c old labels freed queue found next count size →
+seed_past : {c : Contents} {old labels freed queue found : List ℕ} {next count size : ℕ} (v : ℕ) →
+    slice_index freed next ≡ v → IsSeeding c old labels freed queue found next count size →
     (IsLabeled labels v ⊎ ((s : ℕ) → IsWayIn c old v s → ⊥)) →
     IsSeeding c old labels freed queue found (next + 1) count size
-seed_past c old labels freed queue found next count size v is s tried = record {
+seed_past {c} {labels} v is s tried = record {
   grows = record {
-    tree = tree_map c labels (only (no_step c)) none (OccursIn freed next count) (OccursIn queue 0 size)
-        (only (no_step c)) none (OccursIn freed (next + 1) count) (OccursIn queue 0 size) s.grows.tree
-        (λ u d m e o. inr o)
-        (λ u x d e b f o. o)
-        (λ x b r m o. elim o [
-          | inl free ↦ elim (occurs_or freed next count (end_of (network c) x) free) [
-            | inl here ↦
-                let same : v ≡ end_of (network c) x = sym is ∙ here in
-                elim tried [
-                  | inl labeled ↦ inl (subst (λ (u : ℕ). IsLabeled labels u) same labeled)
-                  | inr shut ↦ elim (s.fresh (start_of (network c) x) m) [
-                    | inl before ↦ absurd (shut x record { arc = b; enters = sym same; marked = before; room = r })
-                    | inr unscanned ↦ inr (inr unscanned)
-                  ]
-                ]
-            | inr later ↦ inr (inl later)
-          ]
-          | inr unscanned ↦ inr (inr unscanned)
-        ]);
+    tree = tree_map s.grows.tree (λ u d m e o. inr o) (λ u x d e b f o. o) (λ x b r m o. elim o [
+      | inl free ↦ elim (occurs_or free) [
+        | inl here ↦
+            let same : v ≡ end_of (network c) x = sym is ∙ here in
+            elim tried [
+              | inl labeled ↦ inl (subst (λ (u : ℕ). IsLabeled labels u) same labeled)
+              | inr shut ↦ elim (s.fresh (start_of (network c) x) m) [
+                | inl before ↦ absurd (shut x record { arc = b; enters = sym same; marked = before; room = r })
+                | inr unscanned ↦ inr (inr unscanned)
+              ]
+            ]
+        | inr later ↦ inr (inl later)
+      ]
+      | inr unscanned ↦ inr (inr unscanned)
+    ]);
     order = s.grows.order;
     places = s.grows.places;
     within = s.grows.within;
@@ -103,18 +98,17 @@ seed_past c old labels freed queue found next count size v is s tried = record {
 }
 
 -- a freed node is labeled by the way that was found
-seed_fresh : (c : Contents) (old labels freed queue found : List ℕ) (next count size v word : ℕ) → next < count →
+seed_fresh : {c : Contents} {old labels freed queue found : List ℕ} {next count size : ℕ} (v word : ℕ) → next < count →
     slice_index freed next ≡ v → slice_index found next ≡ word → IsSeeding c old labels freed queue found next count
-    size →
-    label_of labels v ≡ 0 → 0 < word →
+    size → label_of labels v ≡ 0 → 0 < word →
     IsSeeding c old (slice_set labels v word) freed (slice_set queue size v) found (next + 1) count (size + 1)
-seed_fresh c old labels freed queue found next count size v word b is is_word s unlabeled some =
+seed_fresh {c} {old} {labels} {freed} {queue} {next} {count} {size} v word b is is_word s unlabeled some =
     let inner : v < c.nodes = omega (arith, s.grows.within next b, is) in
     let long : v < length labels = omega (arith, s.grows.tree.words, inner) in
-    let room = growing_room c (no_step c) labels freed queue next count 0 size v inner s.grows unlabeled in
+    let room = growing_room v inner s.grows unlabeled in
     let step : word ≡ word - 1 + 1 = omega arith in
     let before = subst (λ (u : ℕ). IsWayIn c old u (word - 1)) is ((s.ways next b).some (word - 1) (is_word ∙ step)) in
-    let grows = growing_attach c (no_step c) labels freed queue next count 0 size v (word - 1) inner s.grows unlabeled
+    let grows = growing_attach v (word - 1) inner s.grows unlabeled
     record {
       arc = before.arc;
       enters = before.enters;
@@ -122,82 +116,64 @@ seed_fresh c old labels freed queue found next count size v word b is is_word s 
       room = inl before.room;
     } in
     let here = get_or-set_same labels v word 0 long in
-    seed_past c old (slice_set labels v word) freed (slice_set queue size v) found next count (size + 1) v is
+    seed_past v is
     record {
       grows = subst (λ (n : ℕ). IsGrowing c (no_step c) (slice_set labels v n) freed (slice_set queue size v) next count
-          0
-          (size + 1)) (sym step) grows;
+          0 (size + 1)) (sym step) grows;
       ways = s.ways;
       kept = λ u m. elim (cases_eq u v) [
         | inl e ↦ omega (arith, ap (label_of (slice_set labels v word)) e, here, some)
         | inr ne ↦ omega (arith, get_or-set_other labels v u word 0 ne, s.kept u m)
       ];
       fresh = λ u m. elim (cases_eq u v) [
-        | inl e ↦ inr (subst (λ (x : ℕ). OccursIn (slice_set queue size v) 0 (size + 1) x) (sym e)
-            (occurs_here queue 0 size v (omega arith) room))
+        | inl e ↦ inr (rw e (occurs_here queue 0 size v (omega arith) room))
         | inr ne ↦ elim (s.fresh u (omega (arith, get_or-set_other labels v u word 0 ne, m))) [
           | inl labeled ↦ inl labeled
-          | inr occurs ↦ inr (occurs_more queue 0 size v u occurs)
+          | inr occurs ↦ inr (occurs_more v occurs)
         ]
       ];
-    }
-    (inl (omega (arith, here, some)))
+    } (inl (omega (arith, here, some)))
 
 -- one more freed node was tried
-pub seeding_next : (c : Contents) (old labels labels' freed queue queue' found : List ℕ)
-    (next count size size' v word : ℕ) →
-    next < count → slice_index freed next ≡ v → slice_index found next ≡ word →
+pub seeding_next : {c : Contents} {old labels labels' freed queue queue' found : List ℕ} {next count size size' : ℕ}
+    (v : ℕ) {word : ℕ} → next < count → slice_index freed next ≡ v → slice_index found next ≡ word →
     IsSeeding c old labels freed queue found next count size →
     (word ≡ 0 → (size' ≡ size) × (labels' ≡ labels) × (queue' ≡ queue)) →
     (IsLabeled labels v → (size' ≡ size) × (labels' ≡ labels) × (queue' ≡ queue)) →
     (0 < word → label_of labels v ≡ 0 → (size' ≡ size + 1) × (labels' ≡ slice_set labels v word)
-    × (queue' ≡ slice_set queue size v)) →
-    IsSeeding c old labels' freed queue' found (next + 1) count size'
-seeding_next c old labels labels' freed queue queue' found next count size size' v word b is is_word s skipped seen
-    fresh =
+    × (queue' ≡ slice_set queue size v)) → IsSeeding c old labels' freed queue' found (next + 1) count size'
+seeding_next {c} {old} {labels} {labels'} {freed} {queue} {queue'} {found} {next} {count} {size} {size'} v {word} b is
+    is_word s skipped seen fresh =
     elim (cases_eq (label_of labels v) 0) [
       | inl unlabeled ↦ elim (cases_eq word 0) [
         | inl empty ↦
             let e = skipped empty in
-            seed_same c old labels labels' freed queue queue' found (next + 1) count size size' e
-            (seed_past c old labels freed queue found next count size v is s
+            seed_same c old labels labels' freed queue queue' found (next + 1) count size size' e (seed_past v is s
             (inr (subst (λ (u : ℕ). (x : ℕ) → IsWayIn c old u x → ⊥) is ((s.ways next b).none (is_word ∙ empty)))))
         | inr some ↦
             let e = fresh (omega arith) unlabeled in
-            subst (λ (x : List ℕ). IsSeeding c old x freed queue' found (next + 1) count size') (sym e.1)
-            (subst (λ (x : List ℕ). IsSeeding c old (slice_set labels v word) freed x found (next + 1) count size')
-            (sym e.2)
-            (subst (λ (n : ℕ). IsSeeding c old (slice_set labels v word) freed (slice_set queue size v) found (next + 1)
-            count n) (sym e.0)
-            (seed_fresh c old labels freed queue found next count size v word b is is_word s unlabeled (omega arith))))
+            rw (e.1, e.2, e.0) (seed_fresh v word b is is_word s unlabeled (omega arith))
       ]
       | inr ne ↦
           seed_same c old labels labels' freed queue queue' found (next + 1) count size size' (seen (omega arith))
-          (seed_past c old labels freed queue found next count size v is s (inl (omega arith)))
+          (seed_past v is s (inl (omega arith)))
     ]
   where
     seed_same : (c : Contents) (old labels labels' freed queue queue' found : List ℕ) (next count size size' : ℕ) →
         (size' ≡ size) × (labels' ≡ labels) × (queue' ≡ queue) → IsSeeding c old labels freed queue found next count
-        size →
-        IsSeeding c old labels' freed queue' found next count size'
+        size → IsSeeding c old labels' freed queue' found next count size'
     seed_same c old labels labels' freed queue queue' found next count size size' e s =
-        subst (λ (x : List ℕ). IsSeeding c old x freed queue' found next count size') (sym e.1)
-        (subst (λ (x : List ℕ). IsSeeding c old labels freed x found next count size') (sym e.2)
-        (subst (λ (n : ℕ). IsSeeding c old labels freed queue found next count n) (sym e.0) s))
+        rw (e.1, e.2, e.0) s
 
 -- all freed nodes were tried, so that they count no more
-pub seeded : (c : Contents) (artificial : ℕ) (labels freed queue : List ℕ) (count done size : ℕ) →
+pub seeded : {c : Contents} {artificial : ℕ} {labels freed queue : List ℕ} {count done size : ℕ} →
     IsGrowing c artificial labels freed queue count count done size → IsGrowing c artificial labels [] queue 0 0 done
     size
-seeded c artificial labels freed queue count done size g = record {
-  tree = tree_map c labels (only artificial) none (OccursIn freed count count) (OccursIn queue done size)
-      (only artificial) none (OccursIn [] 0 0) (OccursIn queue done size) g.tree
-      (λ u d m e o. inr o)
-      (λ u s d e b f o. o)
-      (λ s b r m o. elim o [
-        | inl free ↦ occurs_nowhere freed count count (end_of (network c) s) free (omega arith)
-        | inr unscanned ↦ inr (inr unscanned)
-      ]);
+seeded {c} {freed} {count} g = record {
+  tree = tree_map g.tree (λ u d m e o. inr o) (λ u s d e b f o. o) (λ s b r m o. elim o [
+    | inl free ↦ occurs_nowhere freed count count (end_of (network c) s) free (omega arith)
+    | inr unscanned ↦ inr (inr unscanned)
+  ]);
   order = g.order;
   places = g.places;
   within = λ k b. absurd (omega arith);

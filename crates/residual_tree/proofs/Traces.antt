@@ -31,9 +31,9 @@ pub record IsTracing (c d : Contents) (labels : List ℕ) (r most first node amo
   pub passed : (i : ℕ) → first ≤ i → i < 4 * c.nodes + 8 → IsPassed c labels r (step_of d i)
 
 -- at the tail
-pub tracing_start : (c : Contents) (labels : List ℕ) (r most : ℕ) → IsCirculation c → r < arcs c → 0 < most →
+pub tracing_start : {c : Contents} (labels : List ℕ) (r most : ℕ) → IsCirculation c → r < arcs c → 0 < most →
     IsLabeled labels (slice_index c.from r) → IsTracing c c labels r most (4 * c.nodes + 8) (slice_index c.from r) most
-tracing_start c labels r most k b positive m =
+tracing_start {c} labels r most k b positive m =
     let inside = k.ends.from_in r b in
     record {
       rest = refl;
@@ -50,9 +50,10 @@ pub record IsWritten (d e : Contents) (first first' s : ℕ) : Type 0 where
   pub at : step_of e first' ≡ s
   pub others : (i : ℕ) → first ≤ i → step_of e i ≡ step_of d i
 
-pub wrote : (d e : Contents) (first first' s : ℕ) → e ≡ record d { scratch = slice_set d.scratch (first - 1) s } →
+pub wrote : (d : Contents) {e : Contents} (first first' s : ℕ) →
+    e ≡ record d { scratch = slice_set d.scratch (first - 1) s } →
     first' + 1 ≡ first → first ≤ length d.scratch → IsWritten d e first first' s
-wrote d e first first' s is before long =
+wrote d {e} first first' s is before long =
     let scratch = ap (λ (x : Contents). x.scratch) is in
     let place : first' ≡ first - 1 = omega arith in
     record {
@@ -64,58 +65,50 @@ wrote d e first first' s is before long =
     }
 
 -- only the scratch words were written
-pub rest_more : (c d e : Contents) (scratch : List ℕ) → SameButScratch c d → e ≡ record d { scratch = scratch } →
-    SameButScratch c e
-rest_more c d e scratch rest is =
+pub rest_more : (c d : Contents) {e : Contents} (scratch : List ℕ) → SameButScratch c d →
+    e ≡ record d { scratch = scratch } → SameButScratch c e
+rest_more c d scratch rest is =
     let own = ap (λ (x : Contents). x.scratch) is in
     is ∙ ap (λ (x : Contents). record x { scratch = scratch }) rest
     ∙ ap (λ (xs : List ℕ). record c { scratch = xs }) (sym own)
 
 -- there are as many scratch words as before
-pub long_as : (c d : Contents) → SameButScratch c d → IsCirculation d → length d.scratch ≡ 4 * c.nodes + 8
-long_as c d rest k = k.shape.scratch ∙ ap (λ (x : Contents). 4 * x.nodes + 8) rest
+pub long_as : (c : Contents) {d : Contents} → SameButScratch c d → IsCirculation d → length d.scratch ≡ 4 * c.nodes + 8
+long_as c rest k = k.shape.scratch ∙ ap (λ (x : Contents). 4 * x.nodes + 8) rest
 
 -- the step by which the node is labeled
-pub tracing_back : (c d : Contents) (labels : List ℕ) (r most first node amount s : ℕ) → IsCirculation c →
+pub tracing_back : {c d : Contents} {labels : List ℕ} {r most first node amount s : ℕ} → IsCirculation c →
     IsTracing c d labels r most first node amount → (t : HasSomeArtificial c labels r) →
-    flow_of c r ≡ slice_index c.lower r →
-    node ≢ slice_index c.to r → node ≢ c.nodes → s ≡ label_of labels node - 1 →
+    flow_of c r ≡ slice_index c.lower r → node ≢ slice_index c.to r → node ≢ c.nodes → s ≡ label_of labels node - 1 →
     IsWayBack (network c) (flow_of c) r 1 (place_of c.nodes t.tree.rank) node s
-tracing_back c d labels r most first node amount s k p t held ne basin is =
+tracing_back {node} k p t held ne basin is =
     let inside = (p.trail t).inside in
-    way_back c labels r node s k t (omega (arith, held)) (omega (arith, inside, basin)) p.labeled ne is
+    way_back node k t (omega (arith, held)) (omega (arith, inside, basin)) p.labeled ne is
 
 -- one more step back
-pub tracing_next : (c d e : Contents) (labels : List ℕ) (r most first first' node next amount more s : ℕ) →
+pub tracing_next : {c d e : Contents} {labels : List ℕ} {r most first : ℕ} (first' : ℕ) {node next amount more s : ℕ} →
     IsCirculation c → IsTracing c d labels r most first node amount → (t : HasSomeArtificial c labels r) →
     flow_of c r ≡ slice_index c.lower r → node ≢ slice_index c.to r → node ≢ c.nodes → s ≡ label_of labels node - 1 →
     next ≡ start_of (network d) s → more ≡ min amount (room_of (network d) (flow_of d) s) → first' + 1 ≡ first →
     e ≡ record d { scratch = slice_set d.scratch (first - 1) s } → IsCirculation e →
     IsTracing c e labels r most first' next more
-tracing_next c d e labels r most first first' node next amount more s k p t held ne basin is is_next is_more before
-    written
-    kept =
-    let back = tracing_back c d labels r most first node amount s k p t held ne basin is in
+tracing_next {c} {d} {e} {labels} {r} {most} {first} first' {node} {amount} {s} k p t held ne basin is is_next
+    is_more before written kept =
+    let back = tracing_back k p t held ne basin is in
     let trail = p.trail t in
-    let wr = wrote d e first first' s written before (omega (arith, long_as c d p.rest p.kept, trail.within)) in
+    let wr = wrote d first first' s written before (omega (arith, long_as c p.rest p.kept, trail.within)) in
     let start = is_next ∙ ap (λ (x : Contents). start_of (network x) s) p.rest in
     let room = is_more ∙ ap (λ (x : Contents). min amount (room_of (network x) (flow_of x) s)) p.rest in
     let inside = (p.trail t).inside in
     record {
-      rest = rest_more c d e (slice_set d.scratch (first - 1) s) p.rest written;
+      rest = rest_more c d (slice_set d.scratch (first - 1) s) p.rest written;
       kept = kept;
-      labeled = subst (λ (u : ℕ). IsLabeled labels u) (sym start)
-          (subst (λ (x : ℕ). IsLabeled labels (start_of (network c) x)) (sym is)
-          (artificial_marked c labels t.step node t.tree (omega (arith, inside, basin)) p.labeled));
+      labeled = rw (start, is) (artificial_marked node t.tree (omega (arith, inside, basin)) p.labeled);
       trail = λ t'.
-          let back' = tracing_back c d labels r most first node amount s k p t' held ne basin is in
+          let back' = tracing_back k p t' held ne basin is in
           let moved = trail_next (network c) (flow_of c) r most (place_of c.nodes t'.tree.rank) (step_of d) (step_of e)
-          first first'
-          (4 * c.nodes + 8) node amount s (sym before) (p.trail t') back' wr.at wr.others in
-          subst (λ (u : ℕ). IsTrail (network c) (flow_of c) r most (place_of c.nodes t'.tree.rank) (step_of e) first'
-          (4 * c.nodes + 8) u more) (sym start)
-          (subst (λ (x : ℕ). IsTrail (network c) (flow_of c) r most (place_of c.nodes t'.tree.rank) (step_of e) first'
-          (4 * c.nodes + 8) (start_of (network c) s) x) (sym room) moved);
+          first first' (4 * c.nodes + 8) node amount s (sym before) (p.trail t') back' wr.at wr.others in
+          rw (start, room) moved;
       passed = λ i h j. elim (cases_eq i first') [
         | inl f ↦ subst (λ (x : ℕ). IsPassed c labels r x) (sym (ap (step_of e) f ∙ wr.at)) record {
           labeled = subst (λ (u : ℕ). IsLabeled labels u) (sym back.enters) p.labeled;
@@ -128,28 +121,27 @@ tracing_next c d e labels r most first first' node next amount more s k p t held
     }
 
 -- the head of an arc with room is labeled where its tail is
-pub head_labeled : (c : Contents) (labels : List ℕ) (r most : ℕ) → HasSomeArtificial c labels r → r < arcs c →
-    0 < most →
-    flow_of c r + most ≤ slice_index c.upper r → IsLabeled labels (slice_index c.from r) →
+pub head_labeled : {c : Contents} {labels : List ℕ} {r : ℕ} (most : ℕ) → HasSomeArtificial c labels r → r < arcs c →
+    0 < most → flow_of c r + most ≤ slice_index c.upper r → IsLabeled labels (slice_index c.from r) →
     IsLabeled labels (slice_index c.to r)
-head_labeled c labels r most t b positive room m =
+head_labeled {c} {labels} {r} most t b positive room m =
     let o = over_forward (network c) (flow_of c) r in
     subst (λ (u : ℕ). IsLabeled labels u) o.enters
-    (artificial_closed c labels t.step (2 * r) t.tree (omega (arith, o.arc, b)) (omega (arith, o.room, positive, room))
+    (artificial_closed (2 * r) t.tree (omega (arith, o.arc, b)) (omega (arith, o.room, positive, room))
     (subst (λ (u : ℕ). IsLabeled labels u) (sym o.starts) m))
 
 -- the tree leads to the tail through the head of the arc
-pub tracing_head : (c d e : Contents) (labels : List ℕ) (r most first first' node amount s : ℕ) → IsCirculation c →
-    r < arcs c → IsTracing c d labels r most first node amount → HasSomeArtificial c labels r →
+pub tracing_head : {c d e : Contents} {labels : List ℕ} {r most first : ℕ} (first' : ℕ) {node amount s : ℕ} →
+    IsCirculation c → r < arcs c → IsTracing c d labels r most first node amount → HasSomeArtificial c labels r →
     flow_of c r + most ≤ slice_index c.upper r → node ≡ slice_index c.to r → s ≡ 2 * r → first' + 1 ≡ first →
     e ≡ record d { scratch = slice_set d.scratch (first - 1) s } → IsTraced c e labels r most first' amount
-tracing_head c d e labels r most first first' node amount s k b p t room is step before written =
+tracing_head {c} {d} {e} {labels} {r} {most} {first} first' {amount} {s} k b p t room is step before written =
     let trail = p.trail t in
-    let wr = wrote d e first first' s written before (omega (arith, long_as c d p.rest p.kept, trail.within)) in
+    let wr = wrote d first first' s written before (omega (arith, long_as c p.rest p.kept, trail.within)) in
     let home = subst (λ (u : ℕ). IsTrail (network c) (flow_of c) r most (place_of c.nodes t.tree.rank) (step_of d) first
     (4 * c.nodes + 8) u amount) is trail in
     record {
-      rest = rest_more c d e (slice_set d.scratch (first - 1) s) p.rest written;
+      rest = rest_more c d (slice_set d.scratch (first - 1) s) p.rest written;
       some = omega (arith, before, trail.within);
       prefix = omega (arith, before, trail.space);
       walk = λ positive. trail_closed (network c) (flow_of c) r most (place_of c.nodes t.tree.rank) (step_of d)
@@ -167,7 +159,8 @@ tracing_head c d e labels r most first first' node amount s k b p t room is step
     }
 
 -- the tree came from the outside, and the walk goes out by the exit
-pub tracing_exit : (c d d' e : Contents) (labels : List ℕ) (r x most first first' first'' node amount more s s' : ℕ) →
+pub tracing_exit : {c d d' e : Contents} {labels : List ℕ} {r : ℕ} (x : ℕ) {most first : ℕ} (first' first'' : ℕ)
+    {node amount more s s' : ℕ} →
     IsCirculation c → r < arcs c → 0 < most → IsTracing c d labels r most first node amount →
     HasSomeArtificial c labels r →
     flow_of c r + most ≤ slice_index c.upper r → IsLabeled labels (slice_index c.from r) → IsExit c r x →
@@ -175,16 +168,16 @@ pub tracing_exit : (c d d' e : Contents) (labels : List ℕ) (r x most first fir
     more ≡ min amount (room_of (network d) (flow_of d) s) → first' + 1 ≡ first → first'' + 1 ≡ first' →
     d' ≡ record d { scratch = slice_set d.scratch (first - 1) s } → IsCirculation d' →
     e ≡ record d' { scratch = slice_set d'.scratch (first' - 1) s' } → IsTraced c e labels r most first'' more
-tracing_exit c d d' e labels r x most first first' first'' node amount more s s' k b some p t room m exit ne is step_x
-    step_r is_more before before' written kept' written' =
+tracing_exit {c} {d} {d'} {e} {labels} {r} x {most} {first} first' first'' {amount} {more} {s} {s'} k b some p t room m
+    exit ne is step_x step_r is_more before before' written kept' written' =
     let trail = p.trail t in
     let apart : slice_index c.to r ≢ c.nodes = λ f. ne (is ∙ sym f) in
     let ex = exit apart in
-    let head = head_labeled c labels r most t b some room m in
-    let rest' = rest_more c d d' (slice_set d.scratch (first - 1) s) p.rest written in
-    let wr = wrote d d' first first' s written before (omega (arith, long_as c d p.rest p.kept, trail.within)) in
-    let wr' = wrote d' e first' first'' s' written' before'
-    (omega (arith, long_as c d' rest' kept', trail.within, before)) in
+    let head = head_labeled most t b some room m in
+    let rest' = rest_more c d (slice_set d.scratch (first - 1) s) p.rest written in
+    let wr = wrote d first first' s written before (omega (arith, long_as c p.rest p.kept, trail.within)) in
+    let wr' = wrote d' first' first'' s' written' before'
+    (omega (arith, long_as c rest' kept', trail.within, before)) in
     let home = subst (λ (u : ℕ). IsTrail (network c) (flow_of c) r most (place_of c.nodes t.tree.rank) (step_of d) first
     (4 * c.nodes + 8) u amount) is trail in
     let second : step_of e (first'' + 1) ≡ 2 * x = ap (step_of e) before' ∙ wr'.others first' (omega arith) ∙ wr.at
@@ -196,11 +189,10 @@ tracing_exit c d d' e labels r x most first first' first'' node amount more s s'
     ap (λ (y : Contents). room_of (network y) (flow_of y) s) p.rest ∙ ap (room_of (network c) (flow_of c)) step_x
     ∙ over_exit.room in
     record {
-      rest = rest_more c d' e (slice_set d'.scratch (first' - 1) s') rest' written';
+      rest = rest_more c d' (slice_set d'.scratch (first' - 1) s') rest' written';
       some = omega (arith, before, before', trail.within);
       prefix = omega (arith, before, before', trail.space);
-      walk = λ positive. trail_exit (network c) (flow_of c) r x most (place_of c.nodes t.tree.rank) (step_of d)
-          (step_of e) first first'' (4 * c.nodes + 8) amount more k.ends b ex.0 (omega (arith, before, before')) home
+      walk = λ positive. trail_exit x (step_of e) first'' more k.ends b ex.0 (omega (arith, before, before')) home
           (omega (arith, room)) (wr'.at ∙ step_r) second others ex.1 ex.2 apart
           (λ i h j. ((p.passed i h j).head, (p.passed i h j).basin)) positive (omega (arith, is_more))
           (omega (arith, is_more, room_exit));
@@ -223,10 +215,10 @@ tracing_exit c d d' e labels r x most first first' first'' node amount more s s'
     }
 
 -- there is room for two more words before them
-pub tracing_space : (c d : Contents) (labels : List ℕ) (r most first node amount : ℕ) →
+pub tracing_space : {c d : Contents} {labels : List ℕ} {r most first node amount : ℕ} →
     IsTracing c d labels r most first node amount → HasSomeArtificial c labels r → (2 ≤ first) ×
     (first ≤ 4 * d.nodes + 8)
-tracing_space c d labels r most first node amount p t =
+tracing_space p t =
     let trail = p.trail t in (
       omega (arith, trail.space),
       omega (arith, trail.within, ap (λ (x : Contents). 4 * x.nodes + 8) p.rest),

@@ -1,5 +1,5 @@
 -- The closed walk along an arc, an exit and the tree.
-use Rattle.std.proofs.Common.{ℕ, ◌≡◌, ◌≢◌, ◌+◌, ◌-◌, ◌*◌, ◌<◌, ◌≤◌, ◌⊎◌, List, slice_index, arith, ap, sym, subst, inl}
+use Rattle.std.proofs.Common.{ℕ, ◌≡◌, ◌≢◌, ◌+◌, ◌-◌, ◌*◌, ◌<◌, ◌≤◌, ◌⊎◌, List, slice_index, arith, ap, sym, inl}
 use Rattle.std.proofs.Common.{inr, ◌∙◌}
 use Rattle.std.proofs.lemmas.Bool.{cases_eq, cases_lt}
 use Rattle.circulation.specs.Network.{Network, HasEnds}
@@ -13,29 +13,22 @@ use Rattle.residual_tree.proofs.Overs.{over_forward, over_either}
 use Rattle.residual_tree.proofs.Ranks.{place_of, place_positive, place_falls}
 
 -- the step by which a basin node other than the head of the arc r is labeled, where no flow can be taken back from r
-pub way_back : (c : Contents) (labels : List ℕ) (r node s : ℕ) → IsCirculation c → (t : HasSomeArtificial c labels r) →
+pub way_back : {c : Contents} {labels : List ℕ} {r : ℕ} (node : ℕ) {s : ℕ} → IsCirculation c →
+    (t : HasSomeArtificial c labels r) →
     flow_of c r ≤ slice_index c.lower r → node < c.nodes → IsLabeled labels node → node ≢ slice_index c.to r →
     s ≡ label_of labels node - 1 → IsWayBack (network c) (flow_of c) r 1 (place_of c.nodes t.tree.rank) node s
-way_back c labels r node s k t held b m ne is =
+way_back {c} {labels} node k t held b m ne is =
     let branch = t.tree.branch node b m in
     let marked_room : 0 < room_of (network c) (flow_of c) (label_of labels node - 1) = elim (t.tree.room node b m) [
       | inl room ↦ room
       | inr artificial ↦ absurd (ne (sym branch.enters ∙ ap (end_of (network c)) artificial ∙ t.enters))
     ] in
     let inside = start_within (network c) (label_of labels node - 1) k.ends branch.arc in
-    subst (λ (x : ℕ). IsWayBack (network c) (flow_of c) r 1 (place_of c.nodes t.tree.rank) node x) (sym is)
-    record {
+    rw is record {
       arc = branch.arc;
       other = λ e. elim (over_either (network c) (flow_of c) (label_of labels node - 1)) [
         | inl f ↦ ne (sym branch.enters ∙ f.1.enters ∙ ap (slice_index c.to) e)
-        | inr f ↦ omega (
-          arith,
-          marked_room,
-          f.1.room,
-          ap (flow_of c) e,
-          ap (slice_index c.lower) e,
-          held,
-        )
+        | inr f ↦ omega (arith, marked_room, f.1.room, ap (flow_of c) e, ap (slice_index c.lower) e, held)
       ];
       enters = branch.enters;
       inside = inside;
@@ -53,14 +46,14 @@ ends_at w s a e = elim (over_either w (λ x. 0) s) [
 ]
 
 -- the trail from the outside, closed to a walk by the arc r and an exit from its head
-pub trail_exit : (w : Network) (g : ℕ → ℕ) (r x most : ℕ) (position step step' : ℕ → ℕ)
-    (first first' last amount amount' : ℕ) → HasEnds w → r < w.arcs → x < w.arcs → first ≡ first' + 2 →
-    IsTrail w g r most position step first last w.nodes amount → most ≤ w.upper r - g r → step' first' ≡ 2 * r →
+pub trail_exit : {w : Network} {g : ℕ → ℕ} {r : ℕ} (x : ℕ) {most : ℕ} {position step : ℕ → ℕ} (step' : ℕ → ℕ)
+    {first : ℕ} (first' : ℕ) {last amount : ℕ} (amount' : ℕ) → HasEnds w → r < w.arcs → x < w.arcs → first ≡ first' + 2
+    → IsTrail w g r most position step first last w.nodes amount → most ≤ w.upper r - g r → step' first' ≡ 2 * r →
     step' (first' + 1) ≡ 2 * x → ((i : ℕ) → first ≤ i → step' i ≡ step i) → w.from x ≡ w.to r → w.to x ≡ w.nodes →
     w.to r ≢ w.nodes → ((i : ℕ) → first ≤ i → i < last → (end_of w (step i) ≢ w.to r) × (end_of w (step i) ≢ w.nodes)) →
     0 < amount' → amount' ≤ amount → amount' ≤ w.upper x - g x → IsClosedWalk w g step' first' last amount'
-trail_exit w g r x most position step step' first first' last amount amount' ends b d is t most_fits at_arc at_exit
-    others from_exit to_exit apart_out apart positive least least_exit =
+trail_exit {w} {g} {r} x {step} step' {first} first' {last} amount' ends b d is t most_fits at_arc at_exit others
+    from_exit to_exit apart_out apart positive least least_exit =
     let over_arc = over_forward w g r in
     let over_exit = over_forward w g x in
     let arc_first : arc_of (step' first') ≡ r = ap arc_of at_arc ∙ over_arc.arc in

@@ -4,7 +4,7 @@ use Rattle.circulation.proofs.Lends.{lent_is}
 use Rattle.circulation.proofs.Circulation.lend.Goals as goal
 
 pub returns : goal.returns
-returns c = λ c' w. lent_is c.args.self.now c' c.args.fixed.now c.args.moving.now _ _ _ _ _ _ _ _ _ _ _ _ _ _ _ w
+returns c = λ c' w. lent_is w
     c.split_at.ensures.front c.split_at.ensures.back c.split_at-2.ensures.front c.split_at-2.ensures.back
     c.split_at-3.ensures.front c.split_at-3.ensures.back c.split_at_mut-flow.ensures.front
     c.split_at_mut-flow.ensures.back c.split_at_mut-upper.ensures.front c.split_at_mut-upper.ensures.back
@@ -14,7 +14,7 @@ returns c = λ c' w. lent_is c.args.self.now c' c.args.fixed.now c.args.moving.n
 pub invariant_of-result : goal.invariant_of-result
 invariant_of-result c =
     let w = c.requires.1 in
-    let is = lent_is c.args.self.now c.requires.0 c.args.fixed.now c.args.moving.now _ _ _ _ _ _ _ _ _ _ _ _ _ _ _ w
+    let is = lent_is w
     c.split_at.ensures.front c.split_at.ensures.back c.split_at-2.ensures.front c.split_at-2.ensures.back
     c.split_at-3.ensures.front c.split_at-3.ensures.back c.split_at_mut-flow.ensures.front
     c.split_at_mut-flow.ensures.back c.split_at_mut-upper.ensures.front c.split_at_mut-upper.ensures.back

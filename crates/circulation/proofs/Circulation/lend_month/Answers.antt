@@ -5,8 +5,7 @@ use Rattle.circulation.proofs.Circulation.lend_month.Goals as goal
 pub lend-requires : goal.lend-requires
 lend-requires c =
     let start = on_last c.args.self.now.arcs c.args.start.now in
-    let words = month-words c.args.self.now c.requires.start.0 c.args.fixed.now c.args.moving.now
-    c.write_month.new.words c.args.supply.now c.args.upper.now start c.requires.start.1.0 c.requires.count
+    let words = month-words c.args.moving.now c.requires.start.1.0 c.requires.count
     c.requires.start.1.1 c.write_month.ensures in (
       record (month_contents c.requires.start.0 c.args.supply.now c.args.upper.now start) { scratch = words.0 },
       words.1,
@@ -15,11 +14,9 @@ lend-requires c =
 pub returns : goal.returns
 returns c = λ d v.
     let start = on_last c.args.self.now.arcs c.args.start.now in
-    let words = month-words c.args.self.now c.requires.start.0 c.args.fixed.now c.args.moving.now
-    c.write_month.new.words c.args.supply.now c.args.upper.now start c.requires.start.1.0 c.requires.count
+    let words = month-words c.args.moving.now c.requires.start.1.0 c.requires.count
     c.requires.start.1.1 c.write_month.ensures in
     let is = c.lend.ensures
     (record (month_contents c.requires.start.0 c.args.supply.now c.args.upper.now start) { scratch = words.0 })
     words.1 in
-    month_same c.args.self.now c.requires.start.0 d c.lend.result c.args.fixed.now c.args.supply.now c.args.upper.now
-    start words.0 c.requires.start.1.0 v is
+    month_same c.args.supply.now c.args.upper.now start words.0 c.requires.start.1.0 v is

@@ -20,8 +20,7 @@ returns-clause-held c =
     let size = ap (λ (r : Words). length r.words) c.in_ok-place.ensures.taken
     ∙ length-zeroed c.args.region.now.words c.args.region.now.used c.words.result c.in_ok-place.ensures.fitted in
     let circ : Circulation = record { place = place; nodes = c.args.nodes; arcs = arcs } in
-    let has = laid-words circ c.args.ends.now c.lay.new.words refl c.ranges.nodes.fits c.requires.bounded
-    c.requires.ends
+    let has = laid-words circ c.lay.new.words refl c.ranges.nodes.fits c.requires.bounded c.requires.ends
     c.lay.ensures.fixed c.lay.ensures.moving in
     let fits : place.from + place.len ≤ length c.take.new.self.words = omega
     (arith, from, ap (λ (p : Place). p.len) at, size, c.in_ok-place.ensures.fitted) in (

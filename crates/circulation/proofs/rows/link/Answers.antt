@@ -4,15 +4,14 @@ use Rattle.circulation.proofs.Links.{link_start, link_next, turns_are}
 use Rattle.circulation.proofs.rows.link.Goals as goal
 
 pub loop-a-init : goal.loop-a-init
-loop-a-init c = link_start (keys_of c.args.pairs.now) c.args.first.now c.args.next.now _
+loop-a-init c = link_start (keys_of c.args.pairs.now) c.args.first.now c.args.next.now
     (omega (arith, turns_are c.args.pairs.now)) c.requires.none
 
 pub loop-a-preserved : goal.loop-a-preserved
 loop-a-preserved c =
     let turns = turns_are c.args.pairs.now in
     let within = c.requires.within (c.loop-a.a - 1) (omega (arith, turns, c.loop-a.auto.a, c.loop-a-test.true)) in
-    link_next (keys_of c.args.pairs.now) c.loop-a.first c.loop-a.next c.loop-a.a c.key-key.result c.loop-a-test.true
-    (omega (arith, turns, c.loop-a.auto.a)) c.key-key.ensures
+    link_next c.loop-a-test.true (omega (arith, turns, c.loop-a.auto.a)) c.key-key.ensures
     (omega (arith, within, c.key-key.ensures, c.loop-a.auto.first))
     (omega (arith, turns, c.loop-a.auto.next, c.requires.nexts)) c.loop-a.invariant
 

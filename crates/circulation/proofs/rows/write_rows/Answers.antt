@@ -1,4 +1,4 @@
-use Rattle.std.proofs.Common.{◌+◌, ◌*◌, length, arith, ◌∙◌}
+use Rattle.std.proofs.Common.{◌+◌, arith, ◌∙◌}
 use Rattle.std.proofs.lemmas.List.{length-map, length-set}
 use Rattle.circulation.specs.Places.{tail_of}
 use Rattle.circulation.proofs.RowLists.{rows_start, apart_start, rows_next, rows_end}
@@ -17,9 +17,7 @@ loop-node-preserved c =
     let row = c.write_row-place.ensures in
     let inv = c.loop-node.invariant in
     record {
-      rows = rows_next _ _ _ _ _ (2 * length c.args.pairs.now) c.loop-node.first c.loop-node.step c.loop-node.ends
-          c.write_row-place.new.step c.write_row-place.new.ends
-          (omega (arith, c.loop-node-test.true, inv.firsts))
+      rows = rows_next (omega (arith, c.loop-node-test.true, inv.firsts))
           inv.rows (omega (arith, length-map c.args.pairs.now tail_of)) row.row row.same
           c.write_row-place.auto.step row.inside;
       apart = row.apart;
@@ -28,6 +26,6 @@ loop-node-preserved c =
     }
 
 pub returns-clause-rows : goal.returns-clause-rows
-returns-clause-rows c = rows_end _ _ _ c.loop-node.node c.loop-node.place _
+returns-clause-rows c = rows_end _
     (omega (arith, c.loop-node-test.false, c.loop-node.auto.node-end)) c.loop-node.invariant.firsts
     (omega (arith, c.loop-node.auto.ends, c.loop-node.auto.step, c.requires.ends)) c.loop-node.invariant.rows

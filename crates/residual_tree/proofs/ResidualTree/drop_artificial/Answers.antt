@@ -4,6 +4,5 @@ use Rattle.residual_tree.proofs.ResidualTree.drop_artificial.Goals as goal
 
 pub repair-requires-clause-saturated : goal.repair-requires-clause-saturated
 repair-requires-clause-saturated c =
-    settle_saturated c.args.circ.now c.scratch_set.new.self c.args.self.now _ _ c.nodes-nodes.ensures.kept
-    c.requires.tree
+    settle_saturated c.nodes-nodes.ensures.kept c.requires.tree
     (ap (λ (a : ℕ). 2 * a + 1) c.from.ensures) c.scratch_set.ensures.written

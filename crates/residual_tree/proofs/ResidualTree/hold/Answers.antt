@@ -6,7 +6,7 @@ use Rattle.residual_tree.proofs.ResidualTree.hold.Goals as goal
 
 pub repair-requires-clause-saturated : goal.repair-requires-clause-saturated
 repair-requires-clause-saturated c =
-    hold_saturated c.args.circ.now c.scratch_set.new.self c.hold.new.self c.args.self.now c.args.arc c.args.amount _
+    hold_saturated c.args.arc c.args.amount
     c.nodes-nodes.ensures.kept c.requires.tree c.requires.arc (ap (λ (a : ℕ). 2 * a + 1) c.from.ensures)
     c.scratch_set.ensures.written c.hold.ensures.held
 

@@ -9,7 +9,7 @@ use Rattle.residual_tree.proofs.adopting.is_near.Goals as goal
 
 pub returns-then-at-outside : goal.returns-then-at-outside
 returns-then-at-outside c = λ e. c.loop-steps.invariant.clear
-    (clear_arrived c.args.circ.now c.args.labels.now c.args.other c.loop-steps.at c.requires.other
+    (clear_arrived c.args.circ.now c.args.labels.now c.args.other c.requires.other
     (c.if-at-outside.true ∙ c.nodes-outside.ensures.number))
 
 pub loop-steps-preserved : goal.loop-steps-preserved
@@ -23,11 +23,11 @@ loop-steps-preserved c =
     let arc = c.requires.steps c.loop-steps.at inner (omega (arith, c.get-word.ensures, c.if-word-eq0.false)) in
     record {
       within = omega (arith, starts, start_within b (label_of labels c.loop-steps.at - 1) c.requires.kept arc);
-      clear = λ h. c.loop-steps.invariant.clear (clear_step b labels c.args.other c.loop-steps.at c.if-at-other.false
+      clear = λ h. c.loop-steps.invariant.clear (clear_step c.loop-steps.at c.if-at-other.false
           (subst (λ (u : ℕ). IsClear b labels c.args.other u) starts h));
     }
 
 pub returns : goal.returns
 returns c = λ e. c.loop-steps.invariant.clear
-    (clear_arrived c.args.circ.now c.args.labels.now c.args.other c.loop-steps.at c.requires.other
+    (clear_arrived c.args.circ.now c.args.labels.now c.args.other c.requires.other
     (eqb-true c.loop-steps.at c.nodes-outside.result e ∙ c.nodes-outside.ensures.number))

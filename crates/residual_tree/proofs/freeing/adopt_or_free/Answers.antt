@@ -5,17 +5,14 @@ use Rattle.residual_tree.proofs.freeing.adopt_or_free.Goals as goal
 pub adopt_or_free_end-size-requires-clause-room : goal.adopt_or_free_end-size-requires-clause-room
 adopt_or_free_end-size-requires-clause-room c = λ is.
     let arc = c.requires.arcs c.loop-at.at c.loop-at.auto.at c.loop-at-test.true in
-    freeing_room c.args.circ.now c.loop-at.labels c.loop-at.freed _ _ _ _ c.scratch_get-step.result c.requires.kept
+    freeing_room c.scratch_get-step.result c.requires.kept
     (omega (arith, c.scratch_get-step.ensures, arc)) c.loop-at.invariant is
 
 pub loop-at-preserved : goal.loop-at-preserved
 loop-at-preserved c =
     let arc = c.requires.arcs c.loop-at.at c.loop-at.auto.at c.loop-at-test.true in
     let e = c.adopt_or_free_end-size.ensures in
-    loosen_next c.args.circ.now c.loop-at.labels c.loop-at.freed c.adopt_or_free_end-size.new.labels
-    c.adopt_or_free_end-size.new.freed
-    c.loop-at.at
-    c.args.last c.loop-at.size c.adopt_or_free_end-size.result c.scratch_get-step.result c.requires.kept
+    loosen_next c.requires.kept
     (omega (arith, c.scratch_get-step.ensures, arc)) c.scratch_get-step.ensures c.loop-at.invariant e.saturated e.other
     e.firm
 

@@ -18,8 +18,7 @@ end_at-requires c = scan_inside c.args.circ.now c.args.node _ c.requires.kept c.
 pub is_way_back-requires : goal.is_way_back-requires
 is_way_back-requires c =
     let at = scan_at c.args.circ.now c.args.node c.loop-place.place c.step_at-step.result c.end_at.result
-    c.requires.kept
-    c.requires.node (omega (arith, c.loop-place.auto.place, c.row_first-place.ensures.place))
+    c.requires.kept c.requires.node (omega (arith, c.loop-place.auto.place, c.row_first-place.ensures.place))
     (omega (arith, c.loop-place-test.true, c.row_last-place-end.ensures.place)) c.step_at-step.ensures
     c.end_at.ensures in
     record { arc = at.arc; node = at.end; inside = at.inside; words = c.requires.words; kept = c.requires.kept }
@@ -39,16 +38,14 @@ loop-place-preserved c = scan_next c.args.circ.now c.args.node c.loop-place.plac
 pub returns-then-is_way_back : goal.returns-then-is_way_back
 returns-then-is_way_back c =
     let at = scan_at c.args.circ.now c.args.node c.loop-place.place c.step_at-step.result c.end_at.result
-    c.requires.kept
-    c.requires.node (omega (arith, c.loop-place.auto.place, c.row_first-place.ensures.place))
+    c.requires.kept c.requires.node (omega (arith, c.loop-place.auto.place, c.row_first-place.ensures.place))
     (omega (arith, c.loop-place-test.true, c.row_last-place-end.ensures.place)) c.step_at-step.ensures
     c.end_at.ensures in
     let yes = c.is_way_back.ensures.yes c.if-is_way_back.true in
-    found_way c.args.circ.now c.args.labels.now c.args.node c.step_at-step.result _ at.arc at.start yes.0 yes.1
+    found_way c.args.circ.now c.args.labels.now c.args.node c.step_at-step.result at.arc at.start yes.0 yes.1
     (ap (λ (n : ℕ). n + 1) c.opposite.ensures)
 
 pub returns : goal.returns
 returns c = found_none c.args.circ.now c.args.labels.now c.args.node
-    (shut_end c.args.circ.now c.args.labels.now c.args.node (scan_end c.args.circ.now c.args.node _ _ c.requires.kept
-    c.requires.node
+    (shut_end (scan_end c.args.circ.now c.args.node _ _ c.requires.kept c.requires.node
     c.loop-place.invariant (omega (arith, c.loop-place-test.false, c.row_last-place-end.ensures.place))))

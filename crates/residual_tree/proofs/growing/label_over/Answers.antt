@@ -5,10 +5,7 @@ use Rattle.residual_tree.proofs.growing.label_over.Goals as goal
 
 pub spread-requires : goal.spread-requires
 spread-requires c =
-    let l = lending c.args.circ.now c.args.labels.now c.args.queue.now c.attach-size.new.labels c.attach-size.new.queue
-    c.args.exit
-    c.ends-node.result.from (2 * c.from.result + 1) c.attach-size.result c.requires.kept c.requires.tree
-    c.requires.places
+    let l = lending c.args.queue.now c.args.exit c.requires.kept c.requires.tree c.requires.places
     c.requires.exit c.requires.out c.requires.unlabeled c.ends-node.ensures.from
     (ap (λ (a : ℕ). 2 * a + 1) c.from.ensures)
     c.attach-size.ensures.labels c.attach-size.ensures.queue c.attach-size.ensures.count in
@@ -16,10 +13,7 @@ spread-requires c =
 
 pub returns-clause-tree : goal.returns-clause-tree
 returns-clause-tree c =
-    let l = lending c.args.circ.now c.args.labels.now c.args.queue.now c.attach-size.new.labels c.attach-size.new.queue
-    c.args.exit
-    c.ends-node.result.from (2 * c.from.result + 1) c.attach-size.result c.requires.kept c.requires.tree
-    c.requires.places
+    let l = lending c.args.queue.now c.args.exit c.requires.kept c.requires.tree c.requires.places
     c.requires.exit c.requires.out c.requires.unlabeled c.ends-node.ensures.from
     (ap (λ (a : ℕ). 2 * a + 1) c.from.ensures)
     c.attach-size.ensures.labels c.attach-size.ensures.queue c.attach-size.ensures.count in
@@ -27,10 +21,7 @@ returns-clause-tree c =
 
 pub returns-clause-head : goal.returns-clause-head
 returns-clause-head c =
-    let l = lending c.args.circ.now c.args.labels.now c.args.queue.now c.attach-size.new.labels c.attach-size.new.queue
-    c.args.exit
-    c.ends-node.result.from (2 * c.from.result + 1) c.attach-size.result c.requires.kept c.requires.tree
-    c.requires.places
+    let l = lending c.args.queue.now c.args.exit c.requires.kept c.requires.tree c.requires.places
     c.requires.exit c.requires.out c.requires.unlabeled c.ends-node.ensures.from
     (ap (λ (a : ℕ). 2 * a + 1) c.from.ensures)
     c.attach-size.ensures.labels c.attach-size.ensures.queue c.attach-size.ensures.count in

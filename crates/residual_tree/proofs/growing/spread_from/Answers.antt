@@ -1,4 +1,4 @@
-use Rattle.std.proofs.Common.{List, ℕ, ◌≤◌, [], arith}
+use Rattle.std.proofs.Common.{List, ℕ, ◌≤◌, arith}
 use Rattle.circulation.specs.Contents.{Contents, network}
 use Rattle.circulation.specs.Residual.{end_of}
 use Rattle.circulation.proofs.Scans.{scan_at, scan_next, scan_end}
@@ -8,19 +8,17 @@ use Rattle.residual_tree.proofs.growing.spread_from.Goals as goal
 
 -- the node is a basin node
 inside : (c : Contents) (artificial : ℕ) (labels queue : List ℕ) (done size node : ℕ) →
-    IsSpreading c artificial labels queue done size
-    node →
-    node ≤ c.nodes
+    IsSpreading c artificial labels queue done size node → node ≤ c.nodes
 inside c artificial labels queue done size node p = omega (arith, (p.state.marked done p.order).0, p.occurs)
 
 pub offset_bounds-queue-done : goal.offset_bounds-queue-done
 offset_bounds-queue-done g c =
-    let short = queue_short _ _ _ _ _ _ _ _ _ c.requires.1.0 in
+    let short = queue_short c.requires.1.0 in
     omega (arith, short, c.requires.0, c.requires.1.1.shape.bounded_nodes)
 
 pub bounds-queue-done : goal.bounds-queue-done
 bounds-queue-done g c =
-    let short = queue_short _ _ _ _ _ _ _ _ _ c.requires.1.0 in
+    let short = queue_short c.requires.1.0 in
     omega (arith, short, c.requires.0, c.requires.1.0.places)
 
 pub label_end-count-requires-clause-room : goal.label_end-count-requires-clause-room
@@ -30,10 +28,8 @@ label_end-count-requires-clause-room g c = λ unlabeled.
     (inside _ _ _ _ _ _ _ state) (omega (arith, c.loop-place.auto.place, c.row_first-place.ensures.place))
     (omega (arith, c.loop-place-test.true, c.row_last-place-end.ensures.place)) c.step_at-step.ensures
     c.end_at.ensures in
-    growing_room c.args.circ.now g.artificial c.loop-place.labels [] c.loop-place.queue _ _ _ _ _
-    (inner_end c.args.circ.now c.loop-place.labels c.step_at-step.result c.requires.1.1 at.arc state.state.tree.root
-    unlabeled)
-    state.state unlabeled
+    growing_room _ (inner_end c.loop-place.labels c.step_at-step.result c.requires.1.1 at.arc state.state.tree.root
+    unlabeled) state.state unlabeled
 
 pub loop-place-preserved : goal.loop-place-preserved
 loop-place-preserved g c =
@@ -43,22 +39,19 @@ loop-place-preserved g c =
     (omega (arith, c.loop-place-test.true, c.row_last-place-end.ensures.place)) c.step_at-step.ensures
     c.end_at.ensures in
     let e = c.label_end-count.ensures in
-    let next = spreading_next c.args.circ.now g.artificial c.loop-place.labels c.loop-place.queue
-    c.label_end-count.new.labels
-    c.label_end-count.new.queue _ _ c.label_end-count.result _ c.step_at-step.result c.requires.1.1 state
-    at.arc at.start e.fresh e.seen e.full in
+    let next = spreading_next c.requires.1.1 state at.arc at.start
+    record { fresh = e.fresh; seen = e.seen; full = e.full } in
     record {
       state = next.next;
       more = λ v m. next.more v (c.loop-place.invariant.more v m);
       scan = scan_next c.args.circ.now _ c.loop-place.place c.step_at-step.result _
-          (IsTried c.args.circ.now c.label_end-count.new.labels)
-          c.loop-place.invariant.scan c.step_at-step.ensures
+          (IsTried c.args.circ.now c.label_end-count.new.labels) c.loop-place.invariant.scan c.step_at-step.ensures
           (λ s tried room. next.more (end_of (network c.args.circ.now) s) (tried room)) next.here;
     }
 
 pub returns-clause-tree : goal.returns-clause-tree
 returns-clause-tree g c =
     let state = c.loop-place.invariant.state in
-    spreading_end c.args.circ.now g.artificial c.loop-place.labels c.loop-place.queue _ _ _ state
+    spreading_end state
     (scan_end c.args.circ.now _ _ _ c.requires.1.1 (inside _ _ _ _ _ _ _ state) c.loop-place.invariant.scan
     (omega (arith, c.loop-place-test.false, c.row_last-place-end.ensures.place)))

@@ -9,23 +9,20 @@ use Rattle.residual_tree.proofs.raising.raise_by_tree.Goals as goal
 pub returns-then-word-eq0-clause-cut : goal.returns-then-word-eq0-clause-cut
 returns-then-word-eq0-clause-cut g c = λ _ head.
     let kept = c.ends-tail.ensures.kept in
-    let hold = hold_is c.args.circ.now c.hold.new.circ c.args.arc c.flow-start.result c.flow-start.ensures.kept
-    c.requires.arc
+    let hold = hold_is c.args.arc c.flow-start.ensures.kept c.requires.arc
     c.flow-start.ensures.amount c.hold.ensures.held in
     let all = raised_more c.args.circ.now c.hold.new.circ c.raise_labeled.new.circ c.args.arc hold.rest
     c.raise_labeled.ensures.rest in
     let to = ap (λ (x : Contents). slice_index x.to c.args.arc) all.rest in
     let arcs = ap (λ (x : Contents). length x.from) all.rest in
-    unlabeled_cut c.raise_labeled.new.circ c.raise_labeled.new.tree c.args.arc kept
-    (residual_artificial c.raise_labeled.new.circ c.raise_labeled.new.tree c.args.arc c.raise_labeled.ensures.tree)
+    unlabeled_cut kept (residual_artificial c.args.arc c.raise_labeled.ensures.tree)
     (omega (arith, arcs, c.requires.arc))
     (ap (label_of c.raise_labeled.new.tree) (sym c.ends-tail.ensures.from) ∙ sym c.word.ensures ∙ c.if-word-eq0.true)
     (subst (λ (v : ℕ). IsLabeled c.raise_labeled.new.tree v) (sym to) head)
 
 pub returns-else-word-eq0-clause-rest : goal.returns-else-word-eq0-clause-rest
 returns-else-word-eq0-clause-rest g c =
-    let hold = hold_is c.args.circ.now c.hold.new.circ c.args.arc c.flow-start.result c.flow-start.ensures.kept
-    c.requires.arc
+    let hold = hold_is c.args.arc c.flow-start.ensures.kept c.requires.arc
     c.flow-start.ensures.amount c.hold.ensures.held in
     raised_more c.args.circ.now c.hold.new.circ c.raise_labeled.new.circ c.args.arc hold.rest
     c.raise_labeled.ensures.rest
@@ -33,6 +30,5 @@ returns-else-word-eq0-clause-rest g c =
 pub returns-else-word-eq0-clause-still : goal.returns-else-word-eq0-clause-still
 returns-else-word-eq0-clause-still g c = λ none held.
     scratch_more c.args.circ.now c.hold.new.circ c.raise_labeled.new.circ
-    (hold_still c.args.circ.now c.hold.new.circ c.args.arc c.flow-start.result c.flow-start.ensures.kept c.requires.arc
-    c.flow-start.ensures.amount held c.hold.ensures.held)
-    (c.raise_labeled.ensures.still none)
+    (hold_still c.args.arc c.flow-start.ensures.kept c.requires.arc
+    c.flow-start.ensures.amount held c.hold.ensures.held) (c.raise_labeled.ensures.still none)

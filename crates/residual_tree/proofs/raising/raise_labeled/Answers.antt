@@ -9,8 +9,7 @@ round-requires-clause-tree g c = artificial_some c.loop-pushes.circ c.loop-pushe
 pub returns-then-not-round-clause-tree : goal.returns-then-not-round-clause-tree
 returns-then-not-round-clause-tree g c =
     let stopped = c.round.ensures.stopped c.if-not-round.true in
-    stopped_tree c.loop-pushes.circ c.round.new.circ c.loop-pushes.tree c.round.new.tree c.loop-pushes.invariant.tree
-    stopped.0 stopped.1
+    stopped_tree c.round.new.circ c.loop-pushes.invariant.tree stopped.0 stopped.1
 
 pub returns-then-not-round-clause-rest : goal.returns-then-not-round-clause-rest
 returns-then-not-round-clause-rest g c =

@@ -14,29 +14,25 @@ returns-then-word-eq0-clause-cut g c = λ _.
     let from = ap (λ (x : Contents). slice_index x.from c.args.arc) inv.rest.rest in
     let head = ap (λ (x : Contents). slice_index x.from c.args.exit) inv.rest.rest ∙ c.requires.head
     ∙ sym (ap (λ (x : Contents). slice_index x.to c.args.arc) inv.rest.rest) in
-    unlabeled_cut c.loop-pushes.circ c.add_artificial.new.self c.args.arc inv.kept
+    unlabeled_cut inv.kept
     record {
       step = 2 * c.args.exit + 1;
       enters = (over_backward (network c.loop-pushes.circ) (flow_of c.loop-pushes.circ) c.args.exit).enters ∙ head;
       tree = c.add_artificial.ensures.tree;
-    }
-    (omega (arith, arcs, c.requires.arc))
+    } (omega (arith, arcs, c.requires.arc))
     (ap (label_of c.add_artificial.new.self) (from ∙ sym c.ends-ends.ensures.from) ∙ sym c.word-in-loop-pushes.ensures
-    ∙ c.if-word-eq0.true)
-    (subst (λ (v : ℕ). IsLabeled c.add_artificial.new.self v) head c.add_artificial.ensures.head)
+    ∙ c.if-word-eq0.true) (subst (λ (v : ℕ). IsLabeled c.add_artificial.new.self v) head c.add_artificial.ensures.head)
 
 pub drop_artificial-requires-clause-tree : goal.drop_artificial-requires-clause-tree
 drop_artificial-requires-clause-tree g c =
     let stopped = c.round.ensures.stopped c.if-not-round.true in
-    stopped_artificial c.loop-pushes.circ c.round.new.circ c.add_artificial.new.self c.round.new.tree _
-    c.add_artificial.ensures.tree stopped.0
-    stopped.1
+    stopped_artificial c.round.new.circ c.add_artificial.ensures.tree stopped.0 stopped.1
 
 pub returns-then-not-round-clause-rest : goal.returns-then-not-round-clause-rest
 returns-then-not-round-clause-rest g c =
     raised_more c.args.circ.now c.loop-pushes.circ c.drop_artificial.new.circ c.args.arc c.loop-pushes.invariant.rest
     (raised_more c.loop-pushes.circ c.round.new.circ c.drop_artificial.new.circ c.args.arc c.round.ensures.rest
-    (raised_scratch c.round.new.circ c.drop_artificial.new.circ c.args.arc c.drop_artificial.ensures.rest))
+    (raised_scratch c.round.new.circ c.args.arc c.drop_artificial.ensures.rest))
 
 pub loop-pushes-preserved : goal.loop-pushes-preserved
 loop-pushes-preserved g c =

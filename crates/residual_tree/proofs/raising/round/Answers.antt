@@ -27,14 +27,9 @@ pub repair-requires-clause-arcs : goal.repair-requires-clause-arcs
 repair-requires-clause-arcs g c =
     let t = c.trace-walk.ensures.traced in
     let nodes = ap (λ (x : Contents). x.nodes) t.rest in
-    (round_saturated c.args.circ.now c.trace-walk.new.circ c.push.new.self c.hold.new.self c.write_step-first.new.circ
-    c.args.tree.now
-    c.args.arc c.args.most c.trace-walk.result.first c.write_step-first.result _ _ c.trace-walk.result.amount
-    c.flow-flow.result
-    c.trace-walk.ensures.kept
+    (round_saturated c.write_step-first.result c.flow-flow.result c.trace-walk.ensures.kept
     record { step = c.args.artificial; enters = c.requires.artificial_end; tree = c.requires.tree }
-    c.requires.artificial_arc
-    c.requires.held t (omega (arith, c.if-walk-eq0.false)) c.push.ensures.rest
+    c.requires.artificial_arc c.requires.held t (omega (arith, c.if-walk-eq0.false)) c.push.ensures.rest
     (omega (arith, nodes, c.nodes.ensures.number, t.some)) c.push.ensures.pushed c.hold.ensures.held
     c.write_step-first.ensures.first
     c.write_step-first.ensures.written (omega (arith, c.write_step-first.ensures.first))).arcs
@@ -43,14 +38,9 @@ pub repair-requires-clause-saturated : goal.repair-requires-clause-saturated
 repair-requires-clause-saturated g c =
     let t = c.trace-walk.ensures.traced in
     let nodes = ap (λ (x : Contents). x.nodes) t.rest in
-    (round_saturated c.args.circ.now c.trace-walk.new.circ c.push.new.self c.hold.new.self c.write_step-first.new.circ
-    c.args.tree.now
-    c.args.arc c.args.most c.trace-walk.result.first c.write_step-first.result _ _ c.trace-walk.result.amount
-    c.flow-flow.result
-    c.trace-walk.ensures.kept
+    (round_saturated c.write_step-first.result c.flow-flow.result c.trace-walk.ensures.kept
     record { step = c.args.artificial; enters = c.requires.artificial_end; tree = c.requires.tree }
-    c.requires.artificial_arc
-    c.requires.held t (omega (arith, c.if-walk-eq0.false)) c.push.ensures.rest
+    c.requires.artificial_arc c.requires.held t (omega (arith, c.if-walk-eq0.false)) c.push.ensures.rest
     (omega (arith, nodes, c.nodes.ensures.number, t.some)) c.push.ensures.pushed c.hold.ensures.held
     c.write_step-first.ensures.first
     c.write_step-first.ensures.written (omega (arith, c.write_step-first.ensures.first))).saturated
@@ -59,13 +49,11 @@ pub returns-clause-pushed : goal.returns-clause-pushed
 returns-clause-pushed g c = λ _.
     let t = c.trace-walk.ensures.traced in
     let nodes = ap (λ (x : Contents). x.nodes) t.rest in
-    let round = round_is c.args.circ.now c.trace-walk.new.circ c.push.new.self c.hold.new.self c.args.tree.now
-    c.args.arc
-    c.args.most c.trace-walk.result.first _ c.trace-walk.result.amount c.flow-flow.result c.trace-walk.ensures.kept
+    let round = round_is c.trace-walk.ensures.kept
     c.requires.arc c.requires.held t (omega (arith, c.if-walk-eq0.false)) c.push.ensures.rest
     (omega (arith, nodes, c.nodes.ensures.number, t.some)) c.push.ensures.pushed c.flow-flow.ensures.amount
     c.hold.ensures.held in
-    let done = round_written _ _ c.write_step-first.new.circ _ _ _ round c.write_step-first.ensures.written in
+    let done = round_written _ round c.write_step-first.ensures.written in
     let limit = t.limit in (
       omega (arith, done.raised, c.if-walk-eq0.false),
       omega (arith, done.raised, limit),

@@ -8,8 +8,7 @@ use Rattle.residual_tree.proofs.tracing.trace.Goals as goal
 pub loop-node-init : goal.loop-node-init
 loop-node-init c =
     rw (c.nodes-nodes.ensures.number, c.ends-ends.ensures.from)
-    (tracing_start c.args.circ.now c.args.tree.now c.args.arc c.args.most c.requires.kept c.requires.arc
-    c.requires.positive
+    (tracing_start c.args.tree.now c.args.arc c.args.most c.requires.kept c.requires.arc c.requires.positive
     c.requires.labeled)
 
 pub loop-node-preserved : goal.loop-node-preserved
@@ -20,9 +19,7 @@ loop-node-preserved c =
     c.if-node-nodes.false (e ∙ sym c.nodes-nodes.ensures.number) in
     let step = ap (λ (n : ℕ). n - 1) c.word-step.ensures in
     let w = c.write_step-first-in-loop-node in
-    tracing_next c.args.circ.now c.loop-node.circ w.new.circ c.args.tree.now c.args.arc c.args.most c.loop-node.first
-    w.result
-    c.loop-node.node c.start-node.result c.loop-node.amount c.min-amount-in-loop-node.result (c.word-step.result - 1)
+    tracing_next w.result
     c.requires.kept c.loop-node.invariant c.requires.tree c.requires.held ne basin step c.start-node.ensures
     (c.min-amount-in-loop-node.ensures ∙ ap (min c.loop-node.amount) c.room-in-loop-node.ensures) w.ensures.first
     w.ensures.written w.ensures.kept
@@ -33,47 +30,36 @@ returns-then-node-nodes-clause-traced c =
     (e ∙ sym c.ends-ends.ensures.to) in
     let x = c.write_step-first in
     let w = c.write_step-first-then-node-nodes in
-    tracing_exit c.args.circ.now c.loop-node.circ x.new.circ w.new.circ c.args.tree.now c.args.arc c.args.exit
-    c.args.most
-    c.loop-node.first x.result w.result c.loop-node.node c.loop-node.amount c.min-amount.result (2 * c.from-out.result)
-    (2 * c.from.result) c.requires.kept c.requires.arc c.requires.positive c.loop-node.invariant c.requires.tree
-    c.requires.most
+    tracing_exit c.args.exit x.result w.result c.requires.kept c.requires.arc c.requires.positive c.loop-node.invariant
+    c.requires.tree c.requires.most
     c.requires.labeled c.requires.exit ne (c.if-node-nodes.true ∙ c.nodes-nodes.ensures.number)
     (ap (λ (a : ℕ). 2 * a) c.from-out.ensures) (ap (λ (a : ℕ). 2 * a) c.from.ensures)
     (c.min-amount.ensures ∙ ap (min c.loop-node.amount) c.room.ensures) x.ensures.first w.ensures.first
-    x.ensures.written
-    x.ensures.kept w.ensures.written
+    x.ensures.written x.ensures.kept w.ensures.written
 
 pub returns-clause-traced : goal.returns-clause-traced
 returns-clause-traced c =
     let w = c.write_step-first-2 in
-    tracing_head c.args.circ.now c.loop-node.circ w.new.circ c.args.tree.now c.args.arc c.args.most c.loop-node.first
-    w.result
-    c.loop-node.node c.loop-node.amount _ c.requires.kept c.requires.arc c.loop-node.invariant c.requires.tree
+    tracing_head w.result c.requires.kept c.requires.arc c.loop-node.invariant c.requires.tree
     c.requires.most (c.loop-node-test.false ∙ c.ends-ends.ensures.to) (ap (λ (a : ℕ). 2 * a) c.from-2.ensures)
-    w.ensures.first
-    w.ensures.written
+    w.ensures.first w.ensures.written
 
 pub write_step-first-requires-clause-some : goal.write_step-first-requires-clause-some
 write_step-first-requires-clause-some c =
-    omega (arith, (tracing_space _ _ _ _ _ _ _ _ c.loop-node.invariant c.requires.tree).0)
+    omega (arith, (tracing_space c.loop-node.invariant c.requires.tree).0)
 
 pub write_step-first-requires-clause-fits : goal.write_step-first-requires-clause-fits
-write_step-first-requires-clause-fits c = (tracing_space _ _ _ _ _ _ _ _ c.loop-node.invariant c.requires.tree).1
+write_step-first-requires-clause-fits c = (tracing_space c.loop-node.invariant c.requires.tree).1
 
 pub write_step-first-requires-then-node-nodes-clause-some : goal.write_step-first-requires-then-node-nodes-clause-some
 write_step-first-requires-then-node-nodes-clause-some c =
-    omega (
-      arith,
-      (tracing_space _ _ _ _ _ _ _ _ c.loop-node.invariant c.requires.tree).0,
-      c.write_step-first.ensures.first,
-    )
+    omega (arith, (tracing_space c.loop-node.invariant c.requires.tree).0, c.write_step-first.ensures.first)
 
 pub write_step-first-requires-then-node-nodes-clause-fits : goal.write_step-first-requires-then-node-nodes-clause-fits
 write_step-first-requires-then-node-nodes-clause-fits c =
     omega (
       arith,
-      (tracing_space _ _ _ _ _ _ _ _ c.loop-node.invariant c.requires.tree).1,
+      (tracing_space c.loop-node.invariant c.requires.tree).1,
       c.write_step-first.ensures.first,
       ap (λ (x : Contents). x.nodes) c.write_step-first.ensures.written,
     )
@@ -84,25 +70,24 @@ room-requires-in-loop-node-clause-arc c =
     (e ∙ sym c.ends-ends.ensures.to) in
     let basin = λ (e : c.loop-node.node ≡ c.args.circ.now.nodes).
     c.if-node-nodes.false (e ∙ sym c.nodes-nodes.ensures.number) in
-    let back = tracing_back c.args.circ.now c.loop-node.circ c.args.tree.now c.args.arc c.args.most c.loop-node.first
-    c.loop-node.node c.loop-node.amount (c.word-step.result - 1) c.requires.kept c.loop-node.invariant c.requires.tree
+    let back = tracing_back c.requires.kept c.loop-node.invariant c.requires.tree
     c.requires.held ne basin (ap (λ (n : ℕ). n - 1) c.word-step.ensures) in
     omega (arith, back.arc, ap (λ (x : Contents). length x.from) c.loop-node.invariant.rest)
 
 pub write_step-first-requires-in-loop-node-clause-some : goal.write_step-first-requires-in-loop-node-clause-some
 write_step-first-requires-in-loop-node-clause-some c =
-    omega (arith, (tracing_space _ _ _ _ _ _ _ _ c.loop-node.invariant c.requires.tree).0)
+    omega (arith, (tracing_space c.loop-node.invariant c.requires.tree).0)
 
 pub write_step-first-requires-in-loop-node-clause-fits : goal.write_step-first-requires-in-loop-node-clause-fits
 write_step-first-requires-in-loop-node-clause-fits c =
-    (tracing_space _ _ _ _ _ _ _ _ c.loop-node.invariant c.requires.tree).1
+    (tracing_space c.loop-node.invariant c.requires.tree).1
 
 pub write_step-first-requires-2-clause-some : goal.write_step-first-requires-2-clause-some
 write_step-first-requires-2-clause-some c =
-    omega (arith, (tracing_space _ _ _ _ _ _ _ _ c.loop-node.invariant c.requires.tree).0)
+    omega (arith, (tracing_space c.loop-node.invariant c.requires.tree).0)
 
 pub write_step-first-requires-2-clause-fits : goal.write_step-first-requires-2-clause-fits
-write_step-first-requires-2-clause-fits c = (tracing_space _ _ _ _ _ _ _ _ c.loop-node.invariant c.requires.tree).1
+write_step-first-requires-2-clause-fits c = (tracing_space c.loop-node.invariant c.requires.tree).1
 
 pub returns-then-node-nodes-clause-blocked : goal.returns-then-node-nodes-clause-blocked
 returns-then-node-nodes-clause-blocked c = λ empty.

@@ -1,7 +1,0 @@
-use Rattle.std.proofs.Common.{not}
-use Rattle.circulation.specs.Residual.{is_backward}
-use Rattle.circulation.proofs.RowSums.{IsRowSum}
-use Rattle.circulation.proofs.circulation_mut.CirculationMut.outflow.Given as goal
-
-abbrev pub invariant-loop-place : goal.invariant-loop-place
-invariant-loop-place l = IsRowSum l.self.rows l.amounts l.node (λ s. not (is_backward s)) l.place l.sum
