@@ -1,29 +1,24 @@
 -- Plans with one more unit for a right, by a unit that was moved.
 use Rattle.std.proofs.Common.{◌≡◌, ◌≢◌, ℕ, ◌+◌, ◌-◌, ◌<◌, ◌≤◌, min, Bool, true, false, refl, sym, ◌∙◌, ap, arith, subst}
 use Rattle.std.proofs.Common.{List, length, inl, inr}
-use Rattle.std.proofs.lemmas.Bool.{and_from, both_ways, cases_eq, eq-eqb}
+use Rattle.std.proofs.lemmas.Bool.{and_from, both_ways, eq-eqb}
 use Rattle.std.proofs.lemmas.Bool.Decides.{eqb_tells}
 use Rattle.std.proofs.lemmas.List.{get_or-set_same, get_or-set_other, length-set}
 use Rattle.std.specs.Prelude.{◌&&◌, ◌==◌, if◌then◌else◌, slice_index, Some, None, Option}
 use Rattle.finite_sums.specs.Sums.{when}
 use Rattle.finite_sums.proofs.Totals.{total_change, term_le_greatest}
 use Rattle.water_model.specs.Basin.{instream_link, taking_node, takes_at, is_on_link, is_at, is_senior, is_outlet}
-use Rattle.water_model.specs.Basin.{link_of_kind}
 use Rattle.water_model.specs.Plans.{IsFeasible, delivery, delivery_by_link, taken_at}
 use Rattle.water_model.specs.History.{IsShort}
 use Rattle.duality.specs.Laws.{ServesSeniors}
-use Rattle.water_model.specs.Valid.{HasValidSite}
 use Rattle.water_model.specs.declared.types.Basin.{Basin}
 use Rattle.water_model.specs.declared.types.MonthRecord.{MonthRecord}
 use Rattle.water_model.specs.declared.types.Plan.{Plan}
-use Rattle.water_model.specs.declared.types.RightKind.{RightKind}
-use Rattle.water_model.specs.declared.types.RightKind.TheVariants.{Diversion, Instream, Zone}
-use Rattle.water_model.proofs.Valid.{kind_is}
 use Rattle.duality.proofs.Duality.{delivery_by_take}
 use Rattle.water_model.proofs.Seniority.{not_senior_to_itself}
 use Rattle.plan_residual.specs.Residual.{HasPlan}
 use Rattle.next_unit.specs.Core.{one_more}
-use Rattle.next_unit.proofs.Pushes.{IsMoved, one_less}
+use Rattle.next_unit.proofs.Pushes.{IsMoved, one_less, set_each}
 
 -- with these carries and supplies, a plan with one more unit for a right
 pub record HelpsBy (b : Basin) (m : MonthRecord) (carry : ℕ → ℕ) (supply : List ℕ) (r : ℕ) : Type 0 where
@@ -79,14 +74,6 @@ serves b m r carry own from to rank q given now same = record {
   each = λ s l senior. of_link s l senior (instream_link b s) refl;
 }
   where
-    position : (s e : ℕ) → s < length b.rights → instream_link b s ≡ Some e → e < length b.links
-    position s e l is = let k = kind_is b given.valid s l in of_kind k.kind k.site (sym k.link ∙ is)
-      where
-        of_kind : (k : RightKind) → HasValidSite b k → link_of_kind k ≡ Some e → e < length b.links
-        of_kind (Diversion node) h i = cc
-        of_kind (Instream link) h i = let same : link ≡ e = cc in omega (arith, h, same)
-        of_kind (Zone reservoir level) h i = cc
-
     of_link : (s : ℕ) → s < length b.rights → is_senior b s r ≡ true → (o : Option ℕ) → instream_link b s ≡ o →
         slice_index m.delivered s ≤ delivery b m.want q s
     of_link s l senior None is =
@@ -98,7 +85,7 @@ serves b m r carry own from to rank q given now same = record {
           same s l senior,
         )
     of_link s l senior (Some e) is =
-        let kept = now.kept e (position s e l is) in
+        let kept = now.kept e in
         let on : is_on_link b s e && is_senior b s r ≡ true =
         and_from (is_on_link b s e) (is_senior b s r) (ap (λ o. is_at o e) is ∙ eq-eqb e e refl) senior in
         let most = term_le_greatest (length b.rights) (λ s. is_on_link b s e && is_senior b s r)
@@ -133,15 +120,12 @@ taken_there b m r carry supply take out own node to rank flow given l short no_l
     take_len = length-set take r (slice_index take r + 1) ∙ source.take_len;
     out_len = source.out_len;
     carries = now.carries;
-    wants = λ s k. elim (cases_eq s r) [
-      | inl same ↦ subst (λ j. slice_index q.take j ≤ slice_index m.want j) (sym same)
-          (omega (arith, here, short, got, source.own))
-      | inr ne ↦ omega (arith, other s ne, given.plan.wants s k, source.takes s k)
-    ];
-    instream = λ s k none. elim (cases_eq s r) [
-      | inl same ↦ absurd (not_both (sym none ∙ ap (taking_node b) same ∙ at))
-      | inr ne ↦ omega (arith, other s ne, given.plan.instream s k none, source.takes s k)
-    ];
+    wants = set_each (λ s x. s < length b.rights → x ≤ slice_index m.want s) take r (slice_index take r + 1)
+        (omega (arith, l, source.take_len)) (λ k. omega (arith, short, got, source.own))
+        (λ s ne k. omega (arith, given.plan.wants s k, source.takes s k));
+    instream = set_each (λ s x. s < length b.rights → taking_node b s ≡ None → x ≡ 0) take r (slice_index take r + 1)
+        (omega (arith, l, source.take_len)) (λ k none. absurd (not_both (sym none ∙ at)))
+        (λ s ne k none. omega (arith, given.plan.instream s k none, source.takes s k));
     outlets = λ n k no. omega (arith, given.plan.outlets n k no, source.outs n k);
     balance = λ n k. omega (arith, given.plan.balance n k, now.moved n, source.sums n k, taken n);
   };

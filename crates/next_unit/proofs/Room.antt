@@ -25,8 +25,7 @@ use Rattle.water_model.proofs.Sets.{total_where_none_pass}
 use Rattle.duality.proofs.CutBalance.{cut_balance}
 use Rattle.plan_residual.specs.Residual.{HasPlan}
 use Rattle.next_unit.specs.Laws.{SmallSupplyLeavesRoom}
-use Rattle.next_unit.proofs.Helps.{HasNumbers, numbers_of}
-use Rattle.next_unit.proofs.Down.{RiversCanRise}
+use Rattle.next_unit.proofs.Leads.{HasNumbers, RiversCanRise, numbers_of}
 
 -- a river carries as much as there may be
 river_carry : (b : Basin) (month : Month) (e : ℕ) → IsValidBasin b → e < length b.links → is_river b e ≡ true →
