@@ -32,8 +32,7 @@ pub one_more_at : (xs : List ℕ) (n k : ℕ) → n < length xs →
     slice_index (one_more xs n) k ≡ slice_index xs k + when (n == k) 1
 one_more_at xs n k l = elim (eqb_tells n k) [
   | inl same ↦ subst (λ j. slice_index (one_more xs n) j ≡ slice_index xs j + when (n == j) 1) same.1
-      (get_or-set_same xs n (slice_index xs n + 1) 0 l
-      ∙ ap (λ t. slice_index xs n + when t 1) (sym (eq-eqb n n refl)))
+      (get_or-set_same xs n (slice_index xs n + 1) 0 l ∙ ap (λ t. slice_index xs n + when t 1) (sym (eq-eqb n n refl)))
   | inr other ↦ omega (
     arith,
     get_or-set_other xs n k (slice_index xs n + 1) 0 (λ e. other.1 (sym e)),
@@ -87,7 +86,7 @@ serves b m r carry own from to rank q given now same = record {
     of_link s l senior (Some e) is =
         let kept = now.kept e in
         let on : is_on_link b s e && is_senior b s r ≡ true =
-        and_from (is_on_link b s e) (is_senior b s r) (ap (λ o. is_at o e) is ∙ eq-eqb e e refl) senior in
+        and_from _ _ (ap (λ o. is_at o e) is ∙ eq-eqb e e refl) senior in
         let most = term_le_greatest (length b.rights) (λ s. is_on_link b s e && is_senior b s r)
         (λ s. slice_index m.delivered s) s l on in
         let was : slice_index m.delivered s ≡ min (slice_index m.want s) (slice_index m.plan.flow e) =
@@ -147,8 +146,7 @@ taken_there b m r carry supply take out own node to rank flow given l short no_l
     not_both h = cc
 
     not_itself : (s : ℕ) → is_senior b s r ≡ true → s ≢ r
-    not_itself s senior e =
-        both_ways (is_senior b r r) (not_senior_to_itself b r) (ap (λ k. is_senior b k r) (sym e) ∙ senior)
+    not_itself s senior e = both_ways _ (not_senior_to_itself b r) (ap (λ k. is_senior b k r) (sym e) ∙ senior)
 
     got : slice_index m.delivered r ≡ slice_index m.plan.take r
     got = given.delivered.each r l ∙ delivery_by_take b m.want m.plan r no_link
@@ -160,8 +158,7 @@ taken_there b m r carry supply take out own node to rank flow given l short no_l
 
     taken : (n : ℕ) → taken_at b q.take n ≡ taken_at b take n + when (to == n) 1
     taken n = by_test (to == n) (taken_at b take n) (taken_at b q.take n) (slice_index q.take r) (slice_index take r)
-        here
-        (taken_change b take q.take r to n l at other)
+        here (taken_change b take q.take r to n l at other)
 
 -- what an instream right is delivered where its link carries one more unit
 own_more : (b : Basin) (m : MonthRecord) (r e : ℕ) (q : Plan) → HasPlan b m → r < length b.rights → IsShort m r →
@@ -193,7 +190,7 @@ let_out_there b m r e carry supply take out node to rank flow given l short is t
     outlets = λ n k no. omega (
       arith,
       get_or-set_other out to n (slice_index out to + 1) 0 (λ same.
-          both_ways (is_outlet b to) (ap (is_outlet b) (sym same) ∙ no) outlet),
+          both_ways _ (ap (is_outlet b) (sym same) ∙ no) outlet),
       given.plan.outlets n k no,
       source.outs n k,
     );

@@ -36,7 +36,7 @@ by_sent b m node rank given l out = record {
     outlets = λ n k no. omega (
       arith,
       get_or-set_other m.plan.out out.node n (slice_index m.plan.out out.node + 1) 0 (λ same.
-          both_ways (is_outlet b out.node) (ap (is_outlet b) (sym same) ∙ no) out.outlet),
+          both_ways _ (ap (is_outlet b) (sym same) ∙ no) out.outlet),
       given.plan.outlets n k no,
     );
     balance = λ n k. omega (

@@ -2,11 +2,11 @@
 use Rattle.std.proofs.Common.{◌≡◌, ℕ, ◌+◌, ◌-◌, ◌<◌, Bool, true, false, refl, sym, ◌∙◌, ap, arith, subst, List}
 use Rattle.std.proofs.Common.{length}
 use Rattle.std.proofs.lemmas.Bool.{and_parts, both_ways, false_from_ne_true, ltb-true, not-true, not_from_false}
-use Rattle.std.specs.Prelude.{not, nat_lt, if◌then◌else◌, slice_index, Some, None, Option}
+use Rattle.std.specs.Prelude.{not, if◌then◌else◌, slice_index, Some, None, Option}
 use Rattle.water_model.specs.Lookups.{has}
 use Rattle.water_model.specs.Basin.{head_of, tail_of, instream_link, taking_node}
 use Rattle.water_model.specs.Plans.{carry_of}
-use Rattle.water_model.specs.Cuts.{IsTight, IsCut, separates, leaves}
+use Rattle.water_model.specs.Cuts.{IsTight, IsCut, separates}
 use Rattle.water_model.specs.History.{IsShort}
 use Rattle.water_model.specs.declared.types.Basin.{Basin}
 use Rattle.water_model.specs.declared.types.MonthRecord.{MonthRecord}
@@ -62,12 +62,12 @@ crossing b r e cut is_cut is = of_link (instream_link b r) is is_cut.separates
     of_link None i h = cc
     of_link (Some link) i h =
         let same : link ≡ e = cc in
-        let parts = and_parts (nat_lt link (length b.links)) (leaves b cut link) h in
-        let ends = and_parts (has cut (tail_of b link)) (not (has cut (head_of b link))) parts.1 in
+        let parts = and_parts _ _ h in
+        let ends = and_parts _ _ parts.1 in
         subst (λ j. IsCrossing b r j cut) same record {
-          below = ltb-true link (length b.links) parts.0;
+          below = ltb-true _ _ parts.0;
           tail = ends.0;
-          head = not-true (has cut (head_of b link)) ends.1;
+          head = not-true _ ends.1;
         }
 
 -- the supply has the unit
@@ -136,8 +136,7 @@ instream_helped b m r node e core cut given l short tight room up here is at =
     let rank : ℕ → ℕ = rank_by set (λ n. false) ranks.ranked.rank (λ n. 0) numbers.number numbers.most 0 in
     let low = rank_low set (λ n. false) ranks.ranked.rank (λ n. 0) numbers.number numbers.most 0 in
     let rest = rank_rest set (λ n. false) ranks.ranked.rank (λ n. 0) numbers.number numbers.most 0 in
-    let head_out : has set (head_of b e) ≡ false = false_from_ne_true (has set (head_of b e))
-    (λ h. both_ways (has cut (head_of b e)) cross.head
+    let head_out : has set (head_of b e) ≡ false = false_from_ne_true _ (λ h. both_ways _ cross.head
     (ranked_within b m r (tail_of b e) set cut ranks.ranked (tight_closed b m r cut given l short tight)
     (cut_has_node b r (tail_of b e) cut tight.is_cut at) (head_of b e) h)) in
     let gone : HasGone b m r carry was node (tail_of b e) rank =
@@ -148,10 +147,10 @@ instream_helped b m r node e core cut given l short tight room up here is at =
     (λ k h. ap (slice_index m.plan.flow) (sym (own_is b r e k is h)))) in
     let out =
     go_down b m r e (λ n. not (has set n)) rank numbers carry node gone.flow given room
-    (λ k c rise h. not_from_false (has set (head_of b k)) (false_from_ne_true (has set (head_of b k))
-    (λ i. both_ways (has set (tail_of b k)) (not-true (has set (tail_of b k)) h) (ranks.closed.forward k c rise i))))
-    (λ n h. rest n (not-true (has set n) h) refl) (λ e. omega arith) is cross.below
-    (ap not ranks.ranked.node) (not_from_false (has set (head_of b e)) head_out)
+    (λ k c rise h. not_from_false _ (false_from_ne_true _
+    (λ i. both_ways _ (not-true _ h) (ranks.closed.forward k c rise i))))
+    (λ n h. rest n (not-true _ h) refl) (λ e. omega arith) is cross.below
+    (ap not ranks.ranked.node) (not_from_false _ head_out)
     (omega (arith, low (tail_of b e) ranks.ranked.node)) gone.moved in
     let_out_there b m r e carry (one_more m.supply node) m.plan.take m.plan.out node out.node rank out.flow given l
     short
@@ -163,10 +162,8 @@ supply_in_core_helps b m r core cut node given l short tight room is_core here =
   where
     by_kind : (o t : Option ℕ) → instream_link b r ≡ o → taking_node b r ≡ t → node_by_link b t o ≡ Some is_core.node →
         HelpsBy b m (carry_of b m.month) (one_more m.supply node) r
-    by_kind None t is at e =
-        taking_helped b m r node is_core.node core given l short is_core.upstream here is (at ∙ e)
+    by_kind None t is at e = taking_helped b m r node is_core.node core given l short is_core.upstream here is (at ∙ e)
     by_kind (Some link) t is at e =
         let same : is_core.node ≡ tail_of b link = cc in
         instream_helped b m r node link core cut given l short tight room
-        (subst (λ n. AreUpstream b m r n core) same is_core.upstream) here is
-        (is_core.at ∙ ap (λ n. Some n) same)
+        (subst (λ n. AreUpstream b m r n core) same is_core.upstream) here is (is_core.at ∙ ap (λ n. Some n) same)

@@ -70,15 +70,14 @@ module _ (b : Basin) (m : MonthRecord) (r target : ℕ) (set : List Bool) (ranke
     (wide : (e : ℕ) → carry_of b m.month e ≤ carry e) where
   over : (back : Bool) (e : ℕ) (flow : List ℕ) → e < length b.links → room_by b m r back e ≡ true →
       start_by b back e ≢ target → inside (start_by b back e) ≡ true →
-      rank (end_by b back e) < rank (start_by b back e) →
-      IsMoved b m r carry own from (start_by b back e) rank flow →
+      rank (end_by b back e) < rank (start_by b back e) → IsMoved b m r carry own from (start_by b back e) rank flow →
       HasGone b m r carry own from (end_by b back e) rank
   over false e flow l room ne here lower now = record {
     flow = one_more flow e;
     moved = move_forward b m (kept_on b m.delivered r) carry (λ k. instream_link b r ≡ Some k) own from e rank flow l
         own now (omega (
           arith,
-          ltb-true (slice_index m.plan.flow e) (carry_of b m.month e) room,
+          ltb-true _ _ room,
           wide e,
           now.old e l not_own (omega (arith, lower)),
         )) lower (own_stays b m (kept_on b m.delivered r) carry (λ k. instream_link b r ≡ Some k) own from
@@ -92,7 +91,7 @@ module _ (b : Basin) (m : MonthRecord) (r target : ℕ) (set : List Bool) (ranke
     moved = move_backward b m (kept_on b m.delivered r) carry (λ k. instream_link b r ≡ Some k) own from e rank flow l
         now (omega (
           arith,
-          ltb-true (kept_on b m.delivered r e) (slice_index m.plan.flow e) parts.1,
+          ltb-true _ _ parts.1,
           now.old e l not_own (omega (arith, lower)),
         )) lower not_own;
   }
@@ -101,7 +100,7 @@ module _ (b : Basin) (m : MonthRecord) (r target : ℕ) (set : List Bool) (ranke
       parts = and_parts _ _ room
 
       not_own : instream_link b r ≡ Some e → ⊥
-      not_own is = off_link b r e e (not-true (is_on_link b r e) parts.0) is refl
+      not_own is = off_link b r e e (not-true _ parts.0) is refl
 
   go : (fuel node : ℕ) (flow : List ℕ) → rank node < fuel → inside node ≡ true →
       IsMoved b m r carry own from node rank flow → HasGone b m r carry own from target rank
@@ -144,8 +143,7 @@ RiversCanRise b m = (e : ℕ) → e < length b.links → is_river b e ≡ true �
 module _ (b : Basin) (m : MonthRecord) (least carry : ℕ → ℕ) (is_own : ℕ → Type 0) (own from : ℕ) (rank : ℕ → ℕ)
     (given : HasPlan b m) (rivers : RiversCanRise b m) (wide : (e : ℕ) → carry_of b m.month e ≤ carry e)
     (numbers : HasNumbers b) (out : ℕ → Bool)
-    (stays : (e : ℕ) → e < length b.links → can_rise b m e ≡ true → out (tail_of b e) ≡ true →
-    out (head_of b e) ≡ true)
+    (stays : (e : ℕ) → e < length b.links → can_rise b m e ≡ true → out (tail_of b e) ≡ true → out (head_of b e) ≡ true)
     (same : (n : ℕ) → out n ≡ true → rank n ≡ numbers.most - numbers.number n)
     (off : (e : ℕ) → is_own e → out (tail_of b e) ≡ true → ⊥) where
   send : (fuel to : ℕ) (flow : List ℕ) → to < length b.nodes → out to ≡ true → rank to < fuel →
@@ -173,11 +171,10 @@ module _ (b : Basin) (m : MonthRecord) (least carry : ℕ → ℕ) (is_own : ℕ
         (move_forward b m least carry is_own own from e rank flow k own there
         (omega (
           arith,
-          ltb-true (slice_index m.plan.flow e) (carry_of b m.month e) rise,
+          ltb-true _ _ rise,
           wide e,
           there.old e k (λ is. off e is at) (omega (arith, lower)),
-        )) lower
-        (own_stays b m least carry is_own own from (tail_of b e) e rank flow k there (slice_index flow e + 1)
+        )) lower (own_stays b m least carry is_own own from (tail_of b e) e rank flow k there (slice_index flow e + 1)
         (λ is. off e is at))))
   ]
 
@@ -210,10 +207,10 @@ go_down b m r e out rank numbers carry from flow given room stays same wide is l
     let least : ℕ → ℕ = kept_on b m.delivered r in
     let was : ℕ = slice_index m.plan.flow e in
     send_down b m least carry mine (was + 1) from rank given room.rivers wide numbers out stays same
-    (λ k h at. both_ways (out (tail_of b e)) not_out (ap (λ j. out (tail_of b j)) (own_is b r e k is h) ∙ at))
+    (λ k h at. both_ways _ not_out (ap (λ j. out (tail_of b j)) (own_is b r e k is h) ∙ at))
     (head_of b e) (one_more flow e) (ends b given.valid e l).1 head_out
     (move_forward b m least carry mine was from e rank flow l (was + 1) now
-    (omega (arith, ltb-true was (carry_of b m.month e) (room.own e is), wide e, now.own e is))
+    (omega (arith, ltb-true _ _ (room.own e is), wide e, now.own e is))
     (omega (arith, same (head_of b e) head_out, high))
     (λ k h. subst (λ j. slice_index (one_more flow e) j ≡ was + 1) (own_is b r e k is h)
     (omega (arith, get_or-set_same flow e (slice_index flow e + 1) 0 (omega (arith, now.size, l)), now.own e is))))

@@ -22,7 +22,7 @@ one_less flow e = slice_set flow e (slice_index flow e - 1)
 
 -- an own link is no other one
 pub off_link : (b : Basin) (r e k : ℕ) → is_on_link b r e ≡ false → instream_link b r ≡ Some k → k ≢ e
-off_link b r e k off is same = both_ways (is_on_link b r e) off (ap (λ o. is_at o e) is ∙ eq-eqb k e same)
+off_link b r e k off is same = both_ways _ off (ap (λ o. is_at o e) is ∙ eq-eqb k e same)
 
 -- what holds of the new number at its index, and of the others at theirs, holds of each
 pub set_each : (P : ℕ → ℕ → Type 0) (xs : List ℕ) (e y : ℕ) → e < length xs → P e y →
@@ -90,8 +90,7 @@ module _ (b : Basin) (m : MonthRecord) (least carry : ℕ → ℕ) (is_own : ℕ
         ((k : ℕ) → is_own k → slice_index (slice_set flow e y) k ≡ after) →
         ((n : ℕ) → outflow_from b m.plan.flow n + inflow_to b (slice_set flow e y) n + when (from == n) 1
         ≡ inflow_to b m.plan.flow n + outflow_from b (slice_set flow e y) n + when (next == n) 1) →
-        ((k : ℕ) → k < length b.links → (is_own k → ⊥) →
-        min (rank (tail_of b k)) (rank (head_of b k)) < rank next →
+        ((k : ℕ) → k < length b.links → (is_own k → ⊥) → min (rank (tail_of b k)) (rank (head_of b k)) < rank next →
         (k ≢ e) × (slice_index flow k ≡ slice_index m.plan.flow k)) →
         IsMovedBy after from next rank (slice_set flow e y)
     over_link after next y most some own moved apart = record {
@@ -108,8 +107,7 @@ module _ (b : Basin) (m : MonthRecord) (least carry : ℕ → ℕ) (is_own : ℕ
 
     -- to one of lesser rank
     lower_end : (next : ℕ) → rank next < rank to → rank next ≤ min (rank (tail_of b e)) (rank (head_of b e)) →
-        (k : ℕ) → k < length b.links → (is_own k → ⊥) →
-        min (rank (tail_of b k)) (rank (head_of b k)) < rank next →
+        (k : ℕ) → k < length b.links → (is_own k → ⊥) → min (rank (tail_of b k)) (rank (head_of b k)) < rank next →
         (k ≢ e) × (slice_index flow k ≡ slice_index m.plan.flow k)
     lower_end next lower ends k c off h = (
       λ same. (let at = ap (λ j. min (rank (tail_of b j)) (rank (head_of b j))) same in omega (arith, at, h, ends)),
@@ -128,8 +126,7 @@ module _ (b : Basin) (m : MonthRecord) (least carry : ℕ → ℕ) (is_own : ℕ
     rise now n = (rises (tail_of b e == n) (head_of b e == n) (slice_index flow e) (slice_index flow e + 1)
         (outflow_from b flow n) (outflow_from b (one_more flow e) n) (inflow_to b flow n)
         (inflow_to b (one_more flow e) n) (when (from == n) 1) (outflow_from b m.plan.flow n)
-        (inflow_to b m.plan.flow n) refl
-        (changed (λ k. tail_of b k == n) flow e (slice_index flow e + 1) l now.size)
+        (inflow_to b m.plan.flow n) refl (changed (λ k. tail_of b k == n) flow e (slice_index flow e + 1) l now.size)
         (changed (λ k. head_of b k == n) flow e (slice_index flow e + 1) l now.size)).0 (now.moved n)
 
     -- a step forward over a link with its old flow
@@ -160,8 +157,7 @@ module _ (b : Basin) (m : MonthRecord) (least carry : ℕ → ℕ) (is_own : ℕ
     -- the first step over an own link, to any node
     pub own_first : (now : IsMovedBy own from (tail_of b e) rank flow) →
         ((k : ℕ) → slice_index flow k ≡ slice_index m.plan.flow k) → is_own e → ((k : ℕ) → is_own k → e ≡ k) →
-        slice_index flow e < carry e →
-        IsMovedBy (slice_index flow e + 1) from (head_of b e) rank (one_more flow e)
+        slice_index flow e < carry e → IsMovedBy (slice_index flow e + 1) from (head_of b e) rank (one_more flow e)
     own_first now same is one room =
         over_link own from (tail_of b e) e rank flow l now (slice_index flow e + 1) (head_of b e)
         (slice_index flow e + 1) (omega (arith, room)) (omega (arith, now.kept e))

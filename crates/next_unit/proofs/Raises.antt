@@ -75,7 +75,7 @@ go_in b m r target link reach core up numbers own from node flow given into here
     let low = rank_low core.set high core.ranked.rank up.ranked.rank numbers.number most top in
     let first : HasGone b m r carry own from (tail_of b link) rank =
     go_to b m r (tail_of b link) up.set up.ranked high rank (most + 1 + top) carry own from
-    (λ n h. (and_parts (has up.set n) (not (has reach n)) h).0) stays at_high own_tail (wide b m.month link) node flow
+    (λ n h. (and_parts (has up.set n) _ h).0) stays at_high own_tail (wide b m.month link) node flow
     here now in
     let lower : rank (head_of b link) < rank (tail_of b link) = omega (
       arith,
@@ -95,26 +95,23 @@ go_in b m r target link reach core up numbers own from node flow given into here
     (one_more first.flow link) into.head next
   where
     not_core : (n : ℕ) → has reach n ≡ false → has core.set n ≡ false
-    not_core n h = false_from_ne_true (has core.set n) (λ i. both_ways (has reach n) h (into.within n i))
+    not_core n h = false_from_ne_true _ (λ i. both_ways _ h (into.within n i))
 
     at_high : (n : ℕ) → beyond up.set reach n ≡ true →
         rank_in b m r target link reach core up numbers n ≡ numbers.most + 1 + core.ranked.top + up.ranked.rank n
     at_high n h = rank_high core.set (beyond up.set reach) core.ranked.rank up.ranked.rank numbers.number numbers.most
-        core.ranked.top n
-        (not_core n (not-true (has reach n) (and_parts (has up.set n) (not (has reach n)) h).1)) h
+        core.ranked.top n (not_core n (not-true (has reach n) (and_parts (has up.set n) _ h).1)) h
 
     tail_high : beyond up.set reach (tail_of b link) ≡ true
-    tail_high = and_from (has up.set (tail_of b link)) (not (has reach (tail_of b link))) up.ranked.node
-        (not_from_false (has reach (tail_of b link)) into.tail)
+    tail_high = and_from _ _ up.ranked.node (not_from_false _ into.tail)
 
     off : instream_link b r ≡ Some link → ⊥
-    off is = both_ways (has reach (tail_of b link)) into.tail (into.within (tail_of b link)
+    off is = both_ways _ into.tail (into.within (tail_of b link)
         (ap (has core.set) (into.own link is) ∙ core.ranked.node))
 
     own_tail : (e : ℕ) → instream_link b r ≡ Some e → beyond up.set reach (tail_of b e) ≡ true →
         tail_of b e ≡ tail_of b link
-    own_tail e is h = absurd (both_ways (has reach (tail_of b e))
-        (not-true (has reach (tail_of b e)) (and_parts (has up.set (tail_of b e)) (not (has reach (tail_of b e))) h).1)
+    own_tail e is h = absurd (both_ways _ (not-true _ (and_parts (has up.set (tail_of b e)) _ h).1)
         (into.within (tail_of b e) (ap (has core.set) (into.own e is) ∙ core.ranked.node)))
 
     leaves_reach : (back : Bool) (e : ℕ) → e < length b.links → room_by b m r back e ≡ true →
@@ -127,10 +124,8 @@ go_in b m r target link reach core up numbers own from node flow given into here
     stays : (back : Bool) (e : ℕ) → e < length b.links → room_by b m r back e ≡ true →
         beyond up.set reach (start_by b back e) ≡ true → has up.set (end_by b back e) ≡ true →
         beyond up.set reach (end_by b back e) ≡ true
-    stays back e l room h to = and_from (has up.set (end_by b back e)) (not (has reach (end_by b back e))) to
-        (not_from_false (has reach (end_by b back e)) (leaves_reach back e l room
-        (not-true (has reach (start_by b back e))
-        (and_parts (has up.set (start_by b back e)) (not (has reach (start_by b back e))) h).1)))
+    stays back e l room h to = and_from _ _ to (not_from_false _ (leaves_reach back e l room (not-true _
+        (and_parts (has up.set (start_by b back e)) _ h).1)))
 
 -- a source outside the reach from which the link's tail is reached
 record StartsAt (b : Basin) (m : MonthRecord) (r : ℕ) (up reach : List Bool) : Type 0 where
@@ -142,8 +137,7 @@ record StartsAt (b : Basin) (m : MonthRecord) (r : ℕ) (up reach : List Bool) :
 
 starts_beyond : (up reach : List Bool) (n : ℕ) → has up n ≡ true → has (others reach) n ≡ true → beyond up reach n ≡
     true
-starts_beyond up reach n h i =
-    and_from (has up n) (not (has reach n)) h (not_from_false (has reach n) (not_in_set reach n i))
+starts_beyond up reach n h i = and_from _ _ h (not_from_false _ (not_in_set reach n i))
 
 outlet_starts : (b : Basin) (m : MonthRecord) (r : ℕ) (up reach : List Bool) → HasPlan b m →
     IsClosed b m r (others reach) → OutletIn m up (length b.nodes) → StartsAt b m r up reach
@@ -195,8 +189,7 @@ junior_starts b m r up reach given left j =
         out_len = given.plan.out_len;
         takes = λ s k. omega (arith, less s);
         seniors = λ s k senior. other s (λ same. no_circle (ap (λ i. is_senior b i r) (sym same) ∙ senior));
-        own = other r (λ same. both_ways (is_senior b r r) (not_senior_to_itself b r)
-            (ap (is_senior b r) same ∙ j.junior));
+        own = other r (λ same. both_ways _ (not_senior_to_itself b r) (ap (is_senior b r) same ∙ j.junior));
         outs = λ n k. omega arith;
         sums = λ n k. omega (arith, taken at.node at.at n);
       };
@@ -210,7 +203,7 @@ junior_starts b m r up reach given left j =
     other s ne = get_or-set_other m.plan.take j.right s (slice_index m.plan.take j.right - 1) 0 ne
 
     no_circle : is_senior b j.right r ≡ true → ⊥
-    no_circle h = both_ways (is_senior b r r) (not_senior_to_itself b r) (senior_trans b.rights r j.right r j.junior h)
+    no_circle h = both_ways _ (not_senior_to_itself b r) (senior_trans b.rights r j.right r j.junior h)
 
     by_test : (t : Bool) (x y z w : ℕ) → w ≡ z + 1 → x + (if t then z else 0) ≡ y + (if t then w else 0) →
         y + when t 1 ≡ x
@@ -226,8 +219,7 @@ junior_starts b m r up reach given left j =
           j.some,
           get_or-set_same m.plan.take j.right (slice_index m.plan.take j.right - 1) 0
               (omega (arith, j.below, given.plan.take_len)),
-        ))
-        (taken_change b m.plan.take (one_less m.plan.take j.right) j.right node n j.below at other)
+        )) (taken_change b m.plan.take (one_less m.plan.take j.right) j.right node n j.below at other)
 
 -- a right that takes
 taking_raised : (b : Basin) (m : MonthRecord) (r target link : ℕ) (reach : List Bool) (core : HasRanks b m r target)
@@ -261,14 +253,10 @@ instream_raised b m r e link reach core up numbers given l short room into start
     (λ k h. ap (slice_index m.plan.flow) (sym (own_is b r e k is h)))) in
     let out =
     go_down b m r e (λ n. not (has core.set n) && not (has up.set n)) rank numbers carry
-    start.node gone.flow given room stays
-    (λ n h. (let parts = and_parts (not (has core.set n)) (not (has up.set n)) h in
+    start.node gone.flow given room stays (λ n h. (let parts = and_parts _ _ h in
     rank_rest core.set high core.ranked.rank up.ranked.rank numbers.number numbers.most core.ranked.top n
-    (not-true (has core.set n) parts.0)
-    (and_left (has up.set n) (not (has reach n)) (not-true (has up.set n) parts.1))))
-    (wide b m.month link) is below
-    (and_left (not (has core.set (tail_of b e))) (not (has up.set (tail_of b e))) (ap not core.ranked.node))
-    (both_out (head_of b e) not_core not_up)
+    (not-true _ parts.0) (and_left _ _ (not-true _ parts.1)))) (wide b m.month link) is below
+    (and_left _ _ (ap not core.ranked.node)) (both_out (head_of b e) not_core not_up)
     (omega (
       arith,
       rank_low core.set high core.ranked.rank up.ranked.rank numbers.number numbers.most
@@ -280,23 +268,19 @@ instream_raised b m r e link reach core up numbers given l short room into start
   where
     both_out : (n : ℕ) → has core.set n ≡ false → has up.set n ≡ false → not (has core.set n) && not (has up.set n) ≡
         true
-    both_out n h i = and_from (not (has core.set n)) (not (has up.set n)) (not_from_false (has core.set n) h)
-        (not_from_false (has up.set n) i)
+    both_out n h i = and_from _ _ (not_from_false _ h) (not_from_false _ i)
 
     not_core : has core.set (head_of b e) ≡ false
-    not_core = false_from_ne_true (has core.set (head_of b e)) (λ i.
-        both_ways (has reach (head_of b e)) head_out (into.within (head_of b e) i))
+    not_core = false_from_ne_true _ (λ i. both_ways _ head_out (into.within (head_of b e) i))
 
     stays : (k : ℕ) → k < length b.links → can_rise b m k ≡ true →
         not (has core.set (tail_of b k)) && not (has up.set (tail_of b k)) ≡ true →
         not (has core.set (head_of b k)) && not (has up.set (head_of b k)) ≡ true
     stays k c rise h =
-        let parts = and_parts (not (has core.set (tail_of b k))) (not (has up.set (tail_of b k))) h in
-        both_out (head_of b k)
-        (false_from_ne_true (has core.set (head_of b k)) (λ i. both_ways (has core.set (tail_of b k))
-        (not-true (has core.set (tail_of b k)) parts.0) (core.closed.forward k c rise i)))
-        (false_from_ne_true (has up.set (head_of b k)) (λ i. both_ways (has up.set (tail_of b k))
-        (not-true (has up.set (tail_of b k)) parts.1) (up.closed.forward k c rise i)))
+        let parts = and_parts _ _ h in
+        both_out (head_of b k) (false_from_ne_true _ (λ i. both_ways _
+        (not-true _ parts.0) (core.closed.forward k c rise i))) (false_from_ne_true _ (λ i. both_ways _
+        (not-true _ parts.1) (up.closed.forward k c rise i)))
 
 -- and one whose link's head does: the unit goes round
 round_raised : (b : Basin) (m : MonthRecord) (r e link : ℕ) (reach : List Bool) (core : HasRanks b m r (tail_of b e))
@@ -309,11 +293,8 @@ round_raised b m r e link reach core up numbers given l short room into is below
     let rank : ℕ → ℕ = rank_in b m r (tail_of b e) link reach core up numbers in
     let gone : HasGone b m r carry (slice_index m.plan.flow e + 1) (tail_of b e) (tail_of b e) rank =
     go_in b m r (tail_of b e) link reach core up numbers (slice_index m.plan.flow e + 1) (tail_of b e) (head_of b e)
-    (one_more m.plan.flow e) given into
-    (and_from (has up.set (head_of b e)) (not (has reach (head_of b e))) is_up
-    (not_from_false (has reach (head_of b e)) head_out))
-    (first_over b m r e carry rank given below is
-    (omega (arith, ltb-true (slice_index m.plan.flow e) (carry_of b m.month e) (room.own e is), wide b m.month link e))
+    (one_more m.plan.flow e) given into (and_from _ _ is_up (not_from_false _ head_out))
+    (first_over b m r e carry rank given below is (omega (arith, ltb-true _ _ (room.own e is), wide b m.month link e))
     (wide b m.month link)) in
     went_round b m r e carry (tail_of b e) rank gone.flow given l short is gone.moved
 
@@ -348,8 +329,7 @@ carry_into_core_helps b m r core reach link given l short is_reach room is_core 
 
     into : (target : ℕ) (ranks : HasRanks b m r target) → has ranks.set (head_of b link) ≡ true →
         node_by_link b (taking_node b r) (instream_link b r) ≡ Some target →
-        ((e : ℕ) → instream_link b r ≡ Some e → tail_of b e ≡ target) →
-        IsInto b m r target link reach ranks up
+        ((e : ℕ) → instream_link b r ≡ Some e → tail_of b e ≡ target) → IsInto b m r target link reach ranks up
     into target ranks at_head at own = record {
       below = below;
       tail = tail;
@@ -392,7 +372,7 @@ carry_into_core_helps b m r core reach link given l short is_reach room is_core 
               cross.head
               is_up
           | inr not_up ↦ elim source [
-            | inl own ↦ absurd (both_ways (has up.set (head_of b e)) not_up
+            | inl own ↦ absurd (both_ways _ not_up
                 (subst (λ k. has up.set (head_of b k) ≡ true) (sym (own_is b r e own.link is own.is)) own.inside))
             | inr other ↦ elim other [
               | inl outlet ↦ instream_raised b m r e link reach ranks up numbers given l short room way
