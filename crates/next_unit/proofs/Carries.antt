@@ -22,7 +22,7 @@ no_carry_past_tight_cuts_helps b month supply delivered r cut link want q l tigh
   where
     not_raised : (e : ℕ) → enters b cut e ≡ true → raised_carry b month link e ≡ carry_of b month e
     not_raised e h = elim (eqb_tells link e) [
-      | inl same ↦ absurd (both_ways (enters b cut link) past (ap (enters b cut) same.1 ∙ h))
+      | inl same ↦ absurd (both_ways _ past (ap (enters b cut) same.1 ∙ h))
       | inr other ↦ omega (arith, ap (λ t. when t 1) other.0)
     ]
 

@@ -1,29 +1,24 @@
 -- Plans with one more unit for a right, by a unit that was moved.
 use Rattle.std.proofs.Common.{◌≡◌, ◌≢◌, ℕ, ◌+◌, ◌-◌, ◌<◌, ◌≤◌, min, Bool, true, false, refl, sym, ◌∙◌, ap, arith, subst}
 use Rattle.std.proofs.Common.{List, length, inl, inr}
-use Rattle.std.proofs.lemmas.Bool.{and_from, both_ways, cases_eq, eq-eqb}
+use Rattle.std.proofs.lemmas.Bool.{and_from, both_ways, eq-eqb}
 use Rattle.std.proofs.lemmas.Bool.Decides.{eqb_tells}
 use Rattle.std.proofs.lemmas.List.{get_or-set_same, get_or-set_other, length-set}
 use Rattle.std.specs.Prelude.{◌&&◌, ◌==◌, if◌then◌else◌, slice_index, Some, None, Option}
 use Rattle.finite_sums.specs.Sums.{when}
 use Rattle.finite_sums.proofs.Totals.{total_change, term_le_greatest}
 use Rattle.water_model.specs.Basin.{instream_link, taking_node, takes_at, is_on_link, is_at, is_senior, is_outlet}
-use Rattle.water_model.specs.Basin.{link_of_kind}
 use Rattle.water_model.specs.Plans.{IsFeasible, delivery, delivery_by_link, taken_at}
 use Rattle.water_model.specs.History.{IsShort}
 use Rattle.duality.specs.Laws.{ServesSeniors}
-use Rattle.water_model.specs.Valid.{HasValidSite}
 use Rattle.water_model.specs.declared.types.Basin.{Basin}
 use Rattle.water_model.specs.declared.types.MonthRecord.{MonthRecord}
 use Rattle.water_model.specs.declared.types.Plan.{Plan}
-use Rattle.water_model.specs.declared.types.RightKind.{RightKind}
-use Rattle.water_model.specs.declared.types.RightKind.TheVariants.{Diversion, Instream, Zone}
-use Rattle.water_model.proofs.Valid.{kind_is}
 use Rattle.duality.proofs.Duality.{delivery_by_take}
 use Rattle.water_model.proofs.Seniority.{not_senior_to_itself}
 use Rattle.plan_residual.specs.Residual.{HasPlan}
 use Rattle.next_unit.specs.Core.{one_more}
-use Rattle.next_unit.proofs.Pushes.{IsMoved, one_less}
+use Rattle.next_unit.proofs.Pushes.{IsMoved, one_less, set_each}
 
 -- with these carries and supplies, a plan with one more unit for a right
 pub record HelpsBy (b : Basin) (m : MonthRecord) (carry : ℕ → ℕ) (supply : List ℕ) (r : ℕ) : Type 0 where
@@ -37,8 +32,7 @@ pub one_more_at : (xs : List ℕ) (n k : ℕ) → n < length xs →
     slice_index (one_more xs n) k ≡ slice_index xs k + when (n == k) 1
 one_more_at xs n k l = elim (eqb_tells n k) [
   | inl same ↦ subst (λ j. slice_index (one_more xs n) j ≡ slice_index xs j + when (n == j) 1) same.1
-      (get_or-set_same xs n (slice_index xs n + 1) 0 l
-      ∙ ap (λ t. slice_index xs n + when t 1) (sym (eq-eqb n n refl)))
+      (get_or-set_same xs n (slice_index xs n + 1) 0 l ∙ ap (λ t. slice_index xs n + when t 1) (sym (eq-eqb n n refl)))
   | inr other ↦ omega (
     arith,
     get_or-set_other xs n k (slice_index xs n + 1) 0 (λ e. other.1 (sym e)),
@@ -79,14 +73,6 @@ serves b m r carry own from to rank q given now same = record {
   each = λ s l senior. of_link s l senior (instream_link b s) refl;
 }
   where
-    position : (s e : ℕ) → s < length b.rights → instream_link b s ≡ Some e → e < length b.links
-    position s e l is = let k = kind_is b given.valid s l in of_kind k.kind k.site (sym k.link ∙ is)
-      where
-        of_kind : (k : RightKind) → HasValidSite b k → link_of_kind k ≡ Some e → e < length b.links
-        of_kind (Diversion node) h i = cc
-        of_kind (Instream link) h i = let same : link ≡ e = cc in omega (arith, h, same)
-        of_kind (Zone reservoir level) h i = cc
-
     of_link : (s : ℕ) → s < length b.rights → is_senior b s r ≡ true → (o : Option ℕ) → instream_link b s ≡ o →
         slice_index m.delivered s ≤ delivery b m.want q s
     of_link s l senior None is =
@@ -98,9 +84,9 @@ serves b m r carry own from to rank q given now same = record {
           same s l senior,
         )
     of_link s l senior (Some e) is =
-        let kept = now.kept e (position s e l is) in
+        let kept = now.kept e in
         let on : is_on_link b s e && is_senior b s r ≡ true =
-        and_from (is_on_link b s e) (is_senior b s r) (ap (λ o. is_at o e) is ∙ eq-eqb e e refl) senior in
+        and_from _ _ (ap (λ o. is_at o e) is ∙ eq-eqb e e refl) senior in
         let most = term_le_greatest (length b.rights) (λ s. is_on_link b s e && is_senior b s r)
         (λ s. slice_index m.delivered s) s l on in
         let was : slice_index m.delivered s ≡ min (slice_index m.want s) (slice_index m.plan.flow e) =
@@ -133,15 +119,12 @@ taken_there b m r carry supply take out own node to rank flow given l short no_l
     take_len = length-set take r (slice_index take r + 1) ∙ source.take_len;
     out_len = source.out_len;
     carries = now.carries;
-    wants = λ s k. elim (cases_eq s r) [
-      | inl same ↦ subst (λ j. slice_index q.take j ≤ slice_index m.want j) (sym same)
-          (omega (arith, here, short, got, source.own))
-      | inr ne ↦ omega (arith, other s ne, given.plan.wants s k, source.takes s k)
-    ];
-    instream = λ s k none. elim (cases_eq s r) [
-      | inl same ↦ absurd (not_both (sym none ∙ ap (taking_node b) same ∙ at))
-      | inr ne ↦ omega (arith, other s ne, given.plan.instream s k none, source.takes s k)
-    ];
+    wants = set_each (λ s x. s < length b.rights → x ≤ slice_index m.want s) take r (slice_index take r + 1)
+        (omega (arith, l, source.take_len)) (λ k. omega (arith, short, got, source.own))
+        (λ s ne k. omega (arith, given.plan.wants s k, source.takes s k));
+    instream = set_each (λ s x. s < length b.rights → taking_node b s ≡ None → x ≡ 0) take r (slice_index take r + 1)
+        (omega (arith, l, source.take_len)) (λ k none. absurd (not_both (sym none ∙ at)))
+        (λ s ne k none. omega (arith, given.plan.instream s k none, source.takes s k));
     outlets = λ n k no. omega (arith, given.plan.outlets n k no, source.outs n k);
     balance = λ n k. omega (arith, given.plan.balance n k, now.moved n, source.sums n k, taken n);
   };
@@ -163,8 +146,7 @@ taken_there b m r carry supply take out own node to rank flow given l short no_l
     not_both h = cc
 
     not_itself : (s : ℕ) → is_senior b s r ≡ true → s ≢ r
-    not_itself s senior e =
-        both_ways (is_senior b r r) (not_senior_to_itself b r) (ap (λ k. is_senior b k r) (sym e) ∙ senior)
+    not_itself s senior e = both_ways _ (not_senior_to_itself b r) (ap (λ k. is_senior b k r) (sym e) ∙ senior)
 
     got : slice_index m.delivered r ≡ slice_index m.plan.take r
     got = given.delivered.each r l ∙ delivery_by_take b m.want m.plan r no_link
@@ -176,8 +158,7 @@ taken_there b m r carry supply take out own node to rank flow given l short no_l
 
     taken : (n : ℕ) → taken_at b q.take n ≡ taken_at b take n + when (to == n) 1
     taken n = by_test (to == n) (taken_at b take n) (taken_at b q.take n) (slice_index q.take r) (slice_index take r)
-        here
-        (taken_change b take q.take r to n l at other)
+        here (taken_change b take q.take r to n l at other)
 
 -- what an instream right is delivered where its link carries one more unit
 own_more : (b : Basin) (m : MonthRecord) (r e : ℕ) (q : Plan) → HasPlan b m → r < length b.rights → IsShort m r →
@@ -209,7 +190,7 @@ let_out_there b m r e carry supply take out node to rank flow given l short is t
     outlets = λ n k no. omega (
       arith,
       get_or-set_other out to n (slice_index out to + 1) 0 (λ same.
-          both_ways (is_outlet b to) (ap (is_outlet b) (sym same) ∙ no) outlet),
+          both_ways _ (ap (is_outlet b) (sym same) ∙ no) outlet),
       given.plan.outlets n k no,
       source.outs n k,
     );

@@ -60,13 +60,12 @@ closed_common b m r xs ys len one other = record {
 }
   where
     in_both : (n : ℕ) → has xs n ≡ true → has ys n ≡ true → has (common xs ys) n ≡ true
-    in_both n h i = in_common xs ys n len ∙ and_from (has xs n) (has ys n) h i
+    in_both n h i = in_common xs ys n len ∙ and_from _ _ h i
 
     of_both : (n : ℕ) → has (common xs ys) n ≡ true → (has xs n ≡ true) × (has ys n ≡ true)
-    of_both n h = and_parts (has xs n) (has ys n) (sym (in_common xs ys n len) ∙ h)
+    of_both n h = and_parts _ _ (sym (in_common xs ys n len) ∙ h)
 
-    of_node : (o : Option ℕ) → node_within o xs ≡ true → node_within o ys ≡ true →
-        node_within o (common xs ys) ≡ true
+    of_node : (o : Option ℕ) → node_within o xs ≡ true → node_within o ys ≡ true → node_within o (common xs ys) ≡ true
     of_node None h i = h
     of_node (Some n) h i = in_both n h i
 
@@ -79,7 +78,7 @@ reach_within b m r s one other given short short' senior none first second n h =
     second.contains (others set)
     (closed_sets_leave_tight_cuts b m s set given short'.in_range short'.short closed cut) n
     (left one n (has_below one n h) first.is_tight.is_cut.one_each
-    (λ i. both_ways (has one n) (not_in_set one n (parts n i).0) h))
+    (λ i. both_ways _ (not_in_set one n (parts n i).0) h))
   where
     set : List Bool
     set = common (others one) (others other)
@@ -102,21 +101,18 @@ reach_within b m r s one other given short short' senior none first second n h =
     )
 
     parts : (k : ℕ) → has set k ≡ true → (has (others one) k ≡ true) × (has (others other) k ≡ true)
-    parts k i = and_parts (has (others one) k) (has (others other) k)
-        (sym (in_common (others one) (others other) k len) ∙ i)
+    parts k i = and_parts _ _ (sym (in_common (others one) (others other) k len) ∙ i)
 
     left : (c : List Bool) (k : ℕ) → k < length c → length c ≡ length b.nodes → (has set k ≡ true → ⊥) →
         has (others set) k ≡ true
-    left c k l e out = in_others set k (omega (arith, l, e, sized)) (false_from_ne_true (has set k) out)
+    left c k l e out = in_others set k (omega (arith, l, e, sized)) (false_from_ne_true _ out)
 
     no_link : (e : ℕ) → None ≡ Some e → ⊥
     no_link e i = cc
 
     closed : IsClosed b m s set
-    closed = closed_common b m s (others one) (others other) len
-        (closed_from_apart b m s (others one)
-        (closed_for_junior b m r s (others one) given short senior
-        (apart_from_closed b m r (others one)
+    closed = closed_common b m s (others one) (others other) len (closed_from_apart b m s (others one)
+        (closed_for_junior b m r s (others one) given short senior (apart_from_closed b m r (others one)
         (tight_cuts_hold_none_reached b m r one given short.in_range short.short first.is_tight)))
         (λ e l on. absurd (no_link e (sym none ∙ on))))
         (tight_cuts_hold_none_reached b m s other given short'.in_range short'.short second.is_tight)
@@ -124,7 +120,7 @@ reach_within b m r s one other given short short' senior none first second n h =
     of_node : (o : Option ℕ) → node_within o other ≡ true → node_within o (others set) ≡ true
     of_node None i = i
     of_node (Some k) i = left other k (has_below other k i) second.is_tight.is_cut.one_each
-        (λ j. both_ways (has other k) (not_in_set other k (parts k j).1) i)
+        (λ j. both_ways _ (not_in_set other k (parts k j).1) i)
 
     by_link : (o : Option ℕ) → o ≡ None → separates b (taking_node b s) o other ≡ true →
         separates b (taking_node b s) o (others set) ≡ true
@@ -159,8 +155,7 @@ module _ (b : Basin) (m : MonthRecord) (link : ℕ) (month : TakesOneMore b m) (
   pub not_full : can_rise b m link ≡ true → IsHelped b m link None
   not_full rises s l helps =
       let to = leads s l helps in
-      both_ways (has (cut_at m.cuts s) (tail_of b link)) to.outside
-      (core_within b m s to.uses.core (cut_at m.cuts s) month.plan l to.uses.short
+      both_ways _ to.outside (core_within b m s to.uses.core (cut_at m.cuts s) month.plan l to.uses.short
       (short_has_reach b m s month.reaches l to.uses.short).is_tight to.uses.is_core (tail_of b link)
       (to.uses.is_core.upstream.closed.forward link below rises to.uses.here))
 
@@ -198,14 +193,12 @@ module _ (b : Basin) (m : MonthRecord) (link : ℕ) (month : TakesOneMore b m) (
     where
       by_order : (s : ℕ) → s < length b.rights → instream_link b s ≡ None → LeadsTo b m link s → (s ≡ r) ⊎ (s ≢ r) → ⊥
       by_order s l on to (inl same) =
-          both_ways (has (cut_at m.cuts s) (tail_of b link)) to.outside
-          (ap (λ q. has (cut_at m.cuts q) (tail_of b link)) same ∙ within)
+          both_ways _ to.outside (ap (λ q. has (cut_at m.cuts q) (tail_of b link)) same ∙ within)
       by_order s l on to (inr differ) = elim (senior_total b.rights month.plan.valid.roll.strict s r l
           next.uses.in_range differ) [
             | inl above ↦ next.first s above to.uses
             | inr senior ↦
-                both_ways (has (cut_at m.cuts s) (tail_of b link)) to.outside
-                (reach_within b m r s (cut_at m.cuts r) (cut_at m.cuts s) month.plan
+                both_ways _ to.outside (reach_within b m r s (cut_at m.cuts r) (cut_at m.cuts s) month.plan
                 (record { in_range = next.uses.in_range; short = next.uses.short })
                 (record { in_range = l; short = to.uses.short }) senior on
                 (short_has_reach b m r month.reaches next.uses.in_range next.uses.short)

@@ -1,9 +1,7 @@
 -- Where one more unit helps, exactly; and that each right has a core.
 use Rattle.std.proofs.Common.{◌≡◌, ℕ, ◌+◌, ◌<◌, ◌≤◌, Bool, true, refl, arith, List, length, false}
 use Rattle.std.proofs.lemmas.Bool.{both_ways, and_parts, not-true, true_from_ne_false}
-use Rattle.std.specs.Prelude.{◌↔◌, not}
-use Rattle.water_model.specs.Lookups.{has}
-use Rattle.water_model.specs.Basin.{head_of, tail_of}
+use Rattle.std.specs.Prelude.{◌↔◌}
 use Rattle.water_model.specs.Cuts.{enters, IsTight}
 use Rattle.water_model.specs.declared.types.Basin.{Basin}
 use Rattle.water_model.specs.declared.types.MonthRecord.{MonthRecord}
@@ -19,8 +17,7 @@ more_than x d e l = omega (arith, e, l)
 
 pub supply_helps_exactly_in_core : SupplyHelpsExactlyInCore
 supply_helps_exactly_in_core b m r core cut node given l short tight room is_core = (
-  λ h. true_from_ne_false (has core node) (λ out.
-      more_than _ _ h.more
+  λ h. true_from_ne_false _ (λ out. more_than _ _ h.more
       (nothing_outside_tight_cuts_helps b m.month m.supply m.delivered r core node m.want h.plan l
       (core_is_least_tight_cut b m r core cut given l short tight is_core).is_tight out h.is_plan h.serves)),
   λ here. supply_in_core_helps b m r core cut node given l short tight room is_core here,
@@ -29,18 +26,15 @@ supply_helps_exactly_in_core b m r core cut node given l short tight room is_cor
 -- with more carry a link that helps enters each tight cut
 pub must_enter : (b : Basin) (m : MonthRecord) (r link : ℕ) (cut : List Bool) → r < length b.rights →
     IsTight b m.month m.supply m.delivered r cut → CarryHelpsRight b m link r → enters b cut link ≡ true
-must_enter b m r link cut l tight h = true_from_ne_false (enters b cut link) (λ past.
-    more_than _ _ h.more
+must_enter b m r link cut l tight h = true_from_ne_false _ (λ past. more_than _ _ h.more
     (no_carry_past_tight_cuts_helps b m.month m.supply m.delivered r cut link m.want h.plan l tight past h.is_plan
     h.serves))
 
 pub carry_helps_exactly_into_core : CarryHelpsExactlyIntoCore
 carry_helps_exactly_into_core b m r core reach link given l short is_reach room is_core below = (
   λ h. (
-    not-true (has reach (tail_of b link)) (and_parts (has reach (head_of b link)) (not (has reach (tail_of b link)))
-        (must_enter b m r link reach l is_reach.is_tight h)).1,
-    (and_parts (has core (head_of b link)) (not (has core (tail_of b link)))
-        (must_enter b m r link core l
+    not-true _ (and_parts _ _ (must_enter b m r link reach l is_reach.is_tight h)).1,
+    (and_parts _ _ (must_enter b m r link core l
         (core_is_least_tight_cut b m r core reach given l short is_reach.is_tight is_core).is_tight h)).0,
   ),
   λ both. carry_into_core_helps b m r core reach link given l short is_reach room is_core below both.0 both.1,
@@ -50,9 +44,8 @@ pub rights_have_cores : RightsHaveCores
 rights_have_cores = core_of
 
 -- two tests that decide it
-pub decided_no : {C D : Type 0} (t : Bool) → C ↔ ((t ≡ false) × D) → t ≡ true →
-    (false ≡ true → C) × (C → false ≡ true)
-decided_no t both h = (λ i. absurd (both_ways false refl i), λ i. absurd (both_ways t (both.0 i).0 h))
+pub decided_no : {C D : Type 0} (t : Bool) → C ↔ ((t ≡ false) × D) → t ≡ true → (false ≡ true → C) × (C → false ≡ true)
+decided_no t both h = (λ i. absurd (both_ways _ refl i), λ i. absurd (both_ways _ (both.0 i).0 h))
 
 pub decided_by : {C : Type 0} (t u : Bool) → C ↔ ((t ≡ false) × (u ≡ true)) → t ≡ false →
     (u ≡ true → C) × (C → u ≡ true)

@@ -73,7 +73,7 @@ now_helped b m position link right o within at helps now = record {
   helps = helps;
   first = λ s l senior other.
       let above : o.place s < o.place right =
-      ltb-true (o.place s) (o.place right) (sym (o.senior s right l in_range) ∙ senior) in
+      ltb-true _ _ (sym (o.senior s right l in_range) ∙ senior) in
       let here : o.place right ≡ position = ap o.place (sym at) ∙ o.placed position within in
       now.before (o.place s) (omega arith) (subst (λ (q : ℕ). CarryHelpsRight b m link q) (sym (o.each s l)) other);
 }
@@ -182,8 +182,7 @@ no_more b m position helped undecided count o l none lists now = record {
   each = λ e k. elim (lists.each e k) [
     | inl decided ↦ decided_to b m (position + 1) e (slice_index_or helped e None)
         (λ i below. o.below i (omega arith)) decided
-    | inr at ↦ still_helped b m position e (slice_index_or helped e None)
-        (λ so_far helps. none at.0 at.1
+    | inr at ↦ still_helped b m position e (slice_index_or helped e None) (λ so_far helps. none at.0 at.1
         (subst (λ (f : ℕ). CarryHelpsRight b m f (right_at b position)) (sym at.2) helps)) (now.each e k)
   ];
 }
@@ -191,8 +190,7 @@ no_more b m position helped undecided count o l none lists now = record {
 -- a diversion or zone is helped by no link for which no right was known at first
 pub none_instream : (b : Basin) (m : MonthRecord) (position : ℕ) (helped : List (Option ℕ)) →
     instream_link b (right_at b position) ≡ None → right_at b position < length b.rights →
-    AreHelpedTo b m position helped →
-    AreHelpedTo b m (position + 1) helped
+    AreHelpedTo b m position helped → AreHelpedTo b m (position + 1) helped
 none_instream b m position helped none l now = record {
   count = now.count;
   each = λ e k. still_helped b m position e (slice_index_or helped e None)
@@ -209,8 +207,7 @@ all_helped b m indices helped o all now = record {
 }
   where
     of_answer : (e : ℕ) (answer : Option ℕ) → IsHelpedTo b m indices e answer → IsHelped b m e answer
-    of_answer e None none = λ s l helps.
-        none.before (o.place s) (let k = o.in_range s l in omega arith)
+    of_answer e None none = λ s l helps. none.before (o.place s) (let k = o.in_range s l in omega arith)
         (subst (λ (r : ℕ). CarryHelpsRight b m e r) (sym (o.each s l)) helps)
     of_answer e (Some r) now = now
 

@@ -1,30 +1,25 @@
 -- One more unit of supply in the core is one more unit for the right.
-use Rattle.std.proofs.Common.{◌≡◌, ℕ, ◌+◌, ◌-◌, ◌<◌, ◌≤◌, Bool, true, false, refl, sym, ◌∙◌, ap, arith, subst, List}
+use Rattle.std.proofs.Common.{◌≡◌, ℕ, ◌+◌, ◌-◌, ◌<◌, Bool, true, false, refl, sym, ◌∙◌, ap, arith, subst, List}
 use Rattle.std.proofs.Common.{length}
 use Rattle.std.proofs.lemmas.Bool.{and_parts, both_ways, false_from_ne_true, ltb-true, not-true, not_from_false}
-use Rattle.std.specs.Prelude.{not, nat_lt, if◌then◌else◌, slice_index, Some, None, Option}
-use Rattle.finite_sums.specs.Sums.{greatest_where}
-use Rattle.finite_sums.proofs.Totals.{term_le_greatest}
+use Rattle.std.specs.Prelude.{not, if◌then◌else◌, slice_index, Some, None, Option}
 use Rattle.water_model.specs.Lookups.{has}
-use Rattle.water_model.specs.Network.{IsForward}
 use Rattle.water_model.specs.Basin.{head_of, tail_of, instream_link, taking_node}
 use Rattle.water_model.specs.Plans.{carry_of}
-use Rattle.water_model.specs.Cuts.{IsTight, IsCut, separates, leaves}
+use Rattle.water_model.specs.Cuts.{IsTight, IsCut, separates}
 use Rattle.water_model.specs.History.{IsShort}
-use Rattle.water_model.specs.Valid.{IsValidBasin}
 use Rattle.water_model.specs.declared.types.Basin.{Basin}
 use Rattle.water_model.specs.declared.types.MonthRecord.{MonthRecord}
 use Rattle.water_model.proofs.Valid.{ends}
 use Rattle.water_model.proofs.Sets.{has_below}
-use Rattle.river_net.proofs.Ranks.{forward_numbers}
 use Rattle.plan_residual.specs.Residual.{HasPlan}
 use Rattle.plan_residual.specs.Core.{node_of, node_by_link, AreUpstream}
 use Rattle.next_unit.specs.Core.{HasRoomDown, one_more}
 use Rattle.next_unit.specs.Laws.{SupplyInCoreHelps, HelpsRight}
 use Rattle.next_unit.proofs.Least.{tight_closed, cut_has_node}
 use Rattle.plan_residual.proofs.Upstream.{ranks_to, ranked_within}
-use Rattle.next_unit.proofs.Pushes.{not_moved}
-use Rattle.next_unit.proofs.Leads.{HasGone, HasGoneOut, go_to, go_down}
+use Rattle.next_unit.proofs.Pushes.{unmoved}
+use Rattle.next_unit.proofs.Leads.{HasGone, go_to, go_down, numbers_of, own_is, own_none}
 use Rattle.next_unit.proofs.Changed.{HelpsBy, IsSource, one_more_at, taken_there, let_out_there}
 
 -- ranks along a way from some nodes to those of a set, from these over the right's link, and down rivers
@@ -53,23 +48,6 @@ rank_high set high low_rank high_rank forward most top n h i =
     ap (λ t. if t then most + 1 + low_rank n else (if high n then most + 1 + top + high_rank n else most - forward n)) h
     ∙ ap (λ t. if t then most + 1 + top + high_rank n else most - forward n) i
 
--- numbers that rise along links
-pub record HasNumbers (b : Basin) : Type 0 where
-  pub number : ℕ → ℕ
-  pub most : ℕ
-  pub runs : IsForward b.links number
-  pub bound : (n : ℕ) → n < length b.nodes → number n ≤ most
-
-pub numbers_of : (b : Basin) → IsValidBasin b → HasNumbers b
-numbers_of b valid =
-    let numbers = forward_numbers b.nodes b.links (record { ends = ends b valid }) valid.network in
-    record {
-      number = numbers.rank;
-      most = greatest_where (length b.nodes) (λ n. true) numbers.rank;
-      runs = numbers.forward;
-      bound = λ n k. term_le_greatest (length b.nodes) (λ n. true) numbers.rank n k refl;
-    }
-
 -- what a tight cut says of the link of an instream right
 pub record IsCrossing (b : Basin) (r e : ℕ) (cut : List Bool) : Type 0 where
   pub below : e < length b.links
@@ -84,26 +62,13 @@ crossing b r e cut is_cut is = of_link (instream_link b r) is is_cut.separates
     of_link None i h = cc
     of_link (Some link) i h =
         let same : link ≡ e = cc in
-        let parts = and_parts (nat_lt link (length b.links)) (leaves b cut link) h in
-        let ends = and_parts (has cut (tail_of b link)) (not (has cut (head_of b link))) parts.1 in
+        let parts = and_parts _ _ h in
+        let ends = and_parts _ _ parts.1 in
         subst (λ j. IsCrossing b r j cut) same record {
-          below = ltb-true link (length b.links) parts.0;
+          below = ltb-true _ _ parts.0;
           tail = ends.0;
-          head = not-true (has cut (head_of b link)) ends.1;
+          head = not-true _ ends.1;
         }
-
--- the right's own link is one alone
-pub own_is : (b : Basin) (r e k : ℕ) → instream_link b r ≡ Some e → instream_link b r ≡ Some k → e ≡ k
-own_is b r e k is h = same_some e k (sym is ∙ h)
-  where
-    same_some : (j k : ℕ) → Some j ≡ Some k → j ≡ k
-    same_some j k h = cc
-
-pub own_none : {A : Type 0} (b : Basin) (r k : ℕ) → instream_link b r ≡ None → instream_link b r ≡ Some k → A
-own_none b r k none h = absurd (not_both (sym none ∙ h))
-  where
-    not_both : None ≡ Some k → ⊥
-    not_both h = cc
 
 -- the supply has the unit
 supply_source : (b : Basin) (m : MonthRecord) (r node : ℕ) → HasPlan b m → node < length b.nodes →
@@ -146,10 +111,10 @@ taking_helped b m r node target core given l short up here none at =
     let node_in : node < length b.nodes = omega (arith, has_below core node here, up.one_each) in
     let ranks = ranks_to b m r target given.valid target_in in
     let gone : HasGone b m r (carry_of b m.month) 0 node target ranks.ranked.rank =
-    go_to b m r target ranks.set ranks.ranked (has ranks.set) ranks.ranked.rank 0 (carry_of b m.month) 0 node node
-    m.plan.flow (λ n h. h) (λ back e k room from to. to) (λ n h. omega arith) (λ e is. own_none b r e none is)
-    (λ e. omega arith) (up.least ranks.set ranks.closed ranks.ranked.node node here)
-    (not_moved b m r (carry_of b m.month) 0 node ranks.ranked.rank given (λ e. omega arith)
+    go_to b m r target ranks.set ranks.ranked (has ranks.set) ranks.ranked.rank 0 (carry_of b m.month) 0 node
+    (λ n h. h) (λ back e k room from to. to) (λ n h. omega arith) (λ e is. own_none b r e none is) (λ e. omega arith)
+    node m.plan.flow (up.least ranks.set ranks.closed ranks.ranked.node node here)
+    (unmoved b m r (carry_of b m.month) 0 node ranks.ranked.rank given (λ e. omega arith)
     (λ e is. own_none b r e none is)) in
     taken_there b m r (carry_of b m.month) (one_more m.supply node) m.plan.take m.plan.out 0 node target
     ranks.ranked.rank gone.flow given l short none at (supply_source b m r node given node_in) gone.moved
@@ -171,23 +136,21 @@ instream_helped b m r node e core cut given l short tight room up here is at =
     let rank : ℕ → ℕ = rank_by set (λ n. false) ranks.ranked.rank (λ n. 0) numbers.number numbers.most 0 in
     let low = rank_low set (λ n. false) ranks.ranked.rank (λ n. 0) numbers.number numbers.most 0 in
     let rest = rank_rest set (λ n. false) ranks.ranked.rank (λ n. 0) numbers.number numbers.most 0 in
-    let head_out : has set (head_of b e) ≡ false = false_from_ne_true (has set (head_of b e))
-    (λ h. both_ways (has cut (head_of b e)) cross.head
+    let head_out : has set (head_of b e) ≡ false = false_from_ne_true _ (λ h. both_ways _ cross.head
     (ranked_within b m r (tail_of b e) set cut ranks.ranked (tight_closed b m r cut given l short tight)
     (cut_has_node b r (tail_of b e) cut tight.is_cut at) (head_of b e) h)) in
     let gone : HasGone b m r carry was node (tail_of b e) rank =
-    go_to b m r (tail_of b e) set ranks.ranked (has set) rank (numbers.most + 1) carry was node node m.plan.flow
-    (λ n h. h) (λ back e k room from to. to) (λ n h. low n h) (λ k h j. ap (tail_of b) (sym (own_is b r e k is h)))
-    (λ e. omega arith) (up.least set ranks.closed ranks.ranked.node node here)
-    (not_moved b m r carry was node rank given (λ e. omega arith)
+    go_to b m r (tail_of b e) set ranks.ranked (has set) rank (numbers.most + 1) carry was node (λ n h. h)
+    (λ back e k room from to. to) (λ n h. low n h) (λ k h j. ap (tail_of b) (sym (own_is b r e k is h)))
+    (λ e. omega arith) node m.plan.flow (up.least set ranks.closed ranks.ranked.node node here)
+    (unmoved b m r carry was node rank given (λ e. omega arith)
     (λ k h. ap (slice_index m.plan.flow) (sym (own_is b r e k is h)))) in
-    let out : HasGoneOut b m r carry (was + 1) node rank =
-    go_down b m r e (λ n. not (has set n)) rank numbers.number numbers.most carry node gone.flow given room
-    numbers.runs numbers.bound
-    (λ k c rise h. not_from_false (has set (head_of b k)) (false_from_ne_true (has set (head_of b k))
-    (λ i. both_ways (has set (tail_of b k)) (not-true (has set (tail_of b k)) h) (ranks.closed.forward k c rise i))))
-    (λ n h. rest n (not-true (has set n) h) refl) (λ e. omega arith) is cross.below
-    (ap not ranks.ranked.node) (not_from_false (has set (head_of b e)) head_out)
+    let out =
+    go_down b m r e (λ n. not (has set n)) rank numbers carry node gone.flow given room
+    (λ k c rise h. not_from_false _ (false_from_ne_true _
+    (λ i. both_ways _ (not-true _ h) (ranks.closed.forward k c rise i))))
+    (λ n h. rest n (not-true _ h) refl) (λ e. omega arith) is cross.below
+    (ap not ranks.ranked.node) (not_from_false _ head_out)
     (omega (arith, low (tail_of b e) ranks.ranked.node)) gone.moved in
     let_out_there b m r e carry (one_more m.supply node) m.plan.take m.plan.out node out.node rank out.flow given l
     short
@@ -199,10 +162,8 @@ supply_in_core_helps b m r core cut node given l short tight room is_core here =
   where
     by_kind : (o t : Option ℕ) → instream_link b r ≡ o → taking_node b r ≡ t → node_by_link b t o ≡ Some is_core.node →
         HelpsBy b m (carry_of b m.month) (one_more m.supply node) r
-    by_kind None t is at e =
-        taking_helped b m r node is_core.node core given l short is_core.upstream here is (at ∙ e)
+    by_kind None t is at e = taking_helped b m r node is_core.node core given l short is_core.upstream here is (at ∙ e)
     by_kind (Some link) t is at e =
         let same : is_core.node ≡ tail_of b link = cc in
         instream_helped b m r node link core cut given l short tight room
-        (subst (λ n. AreUpstream b m r n core) same is_core.upstream) here is
-        (is_core.at ∙ ap (λ n. Some n) same)
+        (subst (λ n. AreUpstream b m r n core) same is_core.upstream) here is (is_core.at ∙ ap (λ n. Some n) same)

@@ -4,11 +4,11 @@ use Rattle.std.proofs.Common.{subst, List, [], ◌∷◌, length, ap₂}
 use Rattle.std.proofs.lemmas.Bool.{and_from, and_parts, both_ways, false_from_ne_true, true_from_ne_false, not-true}
 use Rattle.std.proofs.lemmas.Int.{ints}
 use Rattle.std.proofs.lemmas.List.{get_or-set_other}
-use Rattle.std.specs.Prelude.{slice_index, not, nat_lt, Option, Some, None}
+use Rattle.std.specs.Prelude.{slice_index, not, Option, Some, None}
 use Rattle.water_model.specs.Lookups.{has}
 use Rattle.water_model.specs.Basin.{head_of, tail_of, taking_node, instream_link}
 use Rattle.water_model.specs.Plans.{delivery}
-use Rattle.water_model.specs.Cuts.{node_within, IsCut, IsTight, separates, leaves, cut_capacity, cut_kept}
+use Rattle.water_model.specs.Cuts.{node_within, IsCut, IsTight, separates, cut_capacity, cut_kept}
 use Rattle.water_model.specs.History.{IsShort}
 use Rattle.duality.specs.Laws.{AgreesOn}
 use Rattle.water_model.specs.declared.types.Basin.{Basin}
@@ -36,13 +36,13 @@ others_twice (x ∷ set) = ap₂ (λ y ys. y ∷ ys) (twice x) (others_twice set
 
 -- what a set holds if a closed set does not hold it
 held : (set : List Bool) (n : ℕ) → n < length set → (has (others set) n ≡ true → ⊥) → has set n ≡ true
-held set n l h = true_from_ne_false (has set n) (λ none. h (in_others set n l none))
+held set n l h = true_from_ne_false _ (λ none. h (in_others set n l none))
 
 pub outside : (set : List Bool) (n : ℕ) → n < length set → (has set n ≡ true → ⊥) → has (others set) n ≡ true
-outside set n l h = in_others set n l (false_from_ne_true (has set n) h)
+outside set n l h = in_others set n l (false_from_ne_true _ h)
 
 pub apart : (set : List Bool) (n : ℕ) → has set n ≡ true → has (others set) n ≡ true → ⊥
-apart set n h out = both_ways (has set n) (not_in_set set n out) h
+apart set n h out = both_ways _ (not_in_set set n out) h
 
 -- a tight cut is closed backward
 pub tight_closed : (b : Basin) (m : MonthRecord) (r : ℕ) (cut : List Bool) → HasPlan b m → r < length b.rights →
@@ -70,8 +70,8 @@ cut_has_node b r node cut is_cut at = of_link (instream_link b r) (taking_node b
     of_link None (Some v) h e = let same : v ≡ node = cc in subst (λ u. has cut u ≡ true) same h
     of_link (Some link) t h e =
         let same : tail_of b link ≡ node = cc in
-        let crosses = (and_parts (nat_lt link (length b.links)) (leaves b cut link) h).1 in
-        subst (λ u. has cut u ≡ true) same (and_parts (has cut (tail_of b link)) (not (has cut (head_of b link)))
+        let crosses = (and_parts _ _ h).1 in
+        subst (λ u. has cut u ≡ true) same (and_parts _ _
         crosses).0
 
 -- so the core is within it
@@ -104,8 +104,7 @@ left_closed b m r set cut given l short tight len back within = record {
 
     of_node : (o : Option ℕ) → node_within o (others cut) ≡ true → node_within o (others set) ≡ true
     of_node None h = h
-    of_node (Some n) h = wider n
-        (let below = has_below (others cut) n h in let same = length-others cut in
+    of_node (Some n) h = wider n (let below = has_below (others cut) n h in let same = length-others cut in
         let one = tight.is_cut.one_each in omega arith) h
 
 pub core_is_least_tight_cut : CoreIsLeastTightCut
@@ -124,7 +123,7 @@ core_is_least_tight_cut b m r core cut given l short tight is_core = record {
     inside = core_within b m r core cut given l short tight is_core
 
     not_inside : (n : ℕ) → has cut n ≡ false → has core n ≡ false
-    not_inside n h = false_from_ne_true (has core n) (λ some. both_ways (has cut n) h (inside n some))
+    not_inside n h = false_from_ne_true _ (λ some. both_ways _ h (inside n some))
 
     of_link : (o t : Option ℕ) → separates b t o cut ≡ true → node_by_link b t o ≡ Some is_core.node →
         separates b t o core ≡ true
@@ -132,12 +131,10 @@ core_is_least_tight_cut b m r core cut given l short tight is_core = record {
     of_link None (Some v) h e = let same : is_core.node ≡ v = cc in subst (λ u. has core u ≡ true) same up.holds
     of_link (Some link) t h e =
         let same : is_core.node ≡ tail_of b link = cc in
-        let parts = and_parts (nat_lt link (length b.links)) (leaves b cut link) h in
-        let ends = and_parts (has cut (tail_of b link)) (not (has cut (head_of b link))) parts.1 in
-        and_from (nat_lt link (length b.links)) (leaves b core link) parts.0
-        (and_from (has core (tail_of b link)) (not (has core (head_of b link)))
-        (subst (λ u. has core u ≡ true) same up.holds)
-        (ap not (not_inside (head_of b link) (not-true (has cut (head_of b link)) ends.1))))
+        let parts = and_parts _ _ h in
+        let ends = and_parts _ _ parts.1 in
+        and_from _ _ parts.0 (and_from _ _ (subst (λ u. has core u ≡ true) same up.holds)
+        (ap not (not_inside (head_of b link) (not-true _ ends.1))))
 
     is_cut : IsCut b r core
     is_cut = record {
@@ -158,5 +155,5 @@ nothing_outside_tight_cuts_helps b month supply delivered r cut node want q l ti
     agrees : AgreesOn cut supply (one_more supply node)
     agrees = record {
       each = λ n h. get_or-set_other supply node n (slice_index supply node + 1) 0
-          (λ same. both_ways (has cut node) out (ap (has cut) (sym same) ∙ h));
+          (λ same. both_ways _ out (ap (has cut) (sym same) ∙ h));
     }

@@ -66,7 +66,7 @@ module _ (b : Basin) (month : Month) (supply want : List ℕ) (q h : Plan) (up :
   clash k first = by_case (gq.greatest h plan)
     where
       tests : (up k ≡ true) × (not (delivery b want q k == target k) ≡ true)
-      tests = and_parts (up k) (not (delivery b want q k == target k)) first.holds
+      tests = and_parts _ _ first.holds
 
       equal : (s : ℕ) → s < length b.rights → is_senior b s k ≡ true → delivery b want q s ≡ target s
       equal s l senior = settled (up s) (delivery b want q s) (target s) (closed s k senior tests.0)
@@ -122,7 +122,7 @@ no_more_unused b m node s p given cuts l unused plan serves =
     by_core short core =
         nothing_outside_tight_cuts_helps b m.month m.supply m.delivered s core.0 node m.want p l
         (core_is_least_tight_cut b m s core.0 (cuts s l short).0 given l short (cuts s l short).1 core.1).is_tight
-        (false_from_ne_true (has core.0 node) (λ here.
+        (false_from_ne_true _ (λ here.
         unused (record { in_range = l; short = short; core = core.0; is_core = core.1; here = here })))
         plan (record { each = serves })
 
@@ -168,9 +168,8 @@ pub goes_to_one : (b : Basin) (m : MonthRecord) (node right : ℕ) (q : Plan) �
     HelpsRight b m (one_more m.supply node) right → IsNextAt b m node right →
     IsGreatest b m.month (one_more m.supply node) m.want q → GivesOneMore b m q right
 goes_to_one b m node right q given cuts help next gq = record {
-  seniors = λ s l senior. all s l (or_right (s == right) (is_senior b s right) senior)
-      ∙ not_due s (not_itself s senior);
-  more = all right next.uses.in_range (or_left (right == right) (is_senior b right right) (eq-eqb right right refl))
+  seniors = λ s l senior. all s l (or_right _ _ senior) ∙ not_due s (not_itself s senior);
+  more = all right next.uses.in_range (or_left _ _ (eq-eqb right right refl))
       ∙ ap (λ t. slice_index m.delivered right + when t 1) (eq-eqb right right refl);
 }
   where
@@ -182,21 +181,20 @@ goes_to_one b m node right q given cuts help next gq = record {
     not_due s h = plus_zero (slice_index m.delivered s) (s == right) h
 
     not_itself : (s : ℕ) → is_senior b s right ≡ true → s == right ≡ false
-    not_itself s senior = false_from_ne_true (s == right) (λ h.
-        both_ways (is_senior b right right) (not_senior_to_itself b right)
-        (ap (λ k. is_senior b k right) (sym (eqb-true s right h)) ∙ senior))
+    not_itself s senior = false_from_ne_true _ (λ h. both_ways _ (not_senior_to_itself b right)
+        (ap (λ k. is_senior b k right) (sym (eqb-true _ _ h)) ∙ senior))
 
     above : (s t : ℕ) → is_senior b s t ≡ true → up_to b right t ≡ true → is_senior b s right ≡ true
-    above s t senior h = elim (or_cases (t == right) (is_senior b t right) h) [
+    above s t senior h = elim (or_cases _ _ h) [
       | inl same ↦ ap (λ k. is_senior b s k) (sym (eqb-true t right same)) ∙ senior
       | inr more ↦ senior_trans b.rights s t right senior more
     ]
 
     closed : (s t : ℕ) → is_senior b s t ≡ true → up_to b right t ≡ true → up_to b right s ≡ true
-    closed s t senior h = or_right (s == right) (is_senior b s right) (above s t senior h)
+    closed s t senior h = or_right _ _ (above s t senior h)
 
     reaches : (s : ℕ) → s < length b.rights → up_to b right s ≡ true → due m right s ≤ delivery b m.want help.plan s
-    reaches s l h = elim (or_cases (s == right) (is_senior b s right) h) [
+    reaches s l h = elim (or_cases _ _ h) [
       | inl same ↦ subst (λ k. due m right k ≤ delivery b m.want help.plan k) (sym (eqb-true s right same))
           (omega (arith, help.more, ap (λ t. when t 1) (eq-eqb right right refl)))
       | inr senior ↦ omega (arith, help.serves.each s l senior, not_due s (not_itself s senior))
@@ -210,7 +208,7 @@ goes_to_one b m node right q given cuts help next gq = record {
     bound : (s : ℕ) → s < length b.rights → up_to b right s ≡ true →
         ((t : ℕ) → t < length b.rights → is_senior b t s ≡ true → due m right t ≤ delivery b m.want q t) →
         delivery b m.want q s ≤ due m right s
-    bound s l h all = elim (or_cases (s == right) (is_senior b s right) h) [
+    bound s l h all = elim (or_cases _ _ h) [
       | inl same ↦ subst (λ k. delivery b m.want q k ≤ due m right k) (sym (eqb-true s right same))
           (omega (
             arith,
@@ -285,10 +283,10 @@ module _ (b : Basin) (m : MonthRecord) (node : ℕ) (given : HasPlan b m) where
   could_use : (s : ℕ) (o : (s < length b.rights) ⊎ (length b.rights ≤ s)) → test_by s o ≡ true → CouldUseAt b m node s
   could_use s (inl l) h =
       let core = rights_have_cores b m s given l in
-      let parts = and_parts (is_short_at s) (has core.0 node) h in
+      let parts = and_parts _ _ h in
       record {
         in_range = l;
-        short = ltb-true (slice_index m.delivered s) (slice_index m.want s) parts.0;
+        short = ltb-true _ _ parts.0;
         core = core.0;
         is_core = core.1;
         here = parts.1;
@@ -298,9 +296,7 @@ module _ (b : Basin) (m : MonthRecord) (node : ℕ) (given : HasPlan b m) where
   unused : (s : ℕ) (o : (s < length b.rights) ⊎ (length b.rights ≤ s)) → test_by s o ≡ false → CouldUseAt b m node s → ⊥
   unused s (inl l) h uses =
       let core = rights_have_cores b m s given l in
-      both_ways (is_used s l) h
-      (and_from (is_short_at s) (has core.0 node)
-      (lt-ltb (slice_index m.delivered s) (slice_index m.want s) uses.short)
+      both_ways _ h (and_from _ _ (lt-ltb _ _ uses.short)
       (same_core b m s uses.core core.0 uses.is_core core.1 node uses.here))
   unused s (inr above) h uses = absurd (omega (arith, above, uses.in_range))
 
@@ -375,8 +371,7 @@ unfolding calls
 called b m right caller cut short senior wants is within =
     four (nat_lt (slice_index m.delivered caller) (slice_index m.want caller)) (is_senior b caller right)
     (nat_lt 0 (slice_index m.want right)) (option_map_or (λ cut. takes_within b cut right) (cut_of m caller) false)
-    (lt-ltb (slice_index m.delivered caller) (slice_index m.want caller) short) senior
-    (lt-ltb 0 (slice_index m.want right) wants)
+    (lt-ltb _ _ short) senior (lt-ltb _ _ wants)
     (ap (λ o. option_map_or (λ cut. takes_within b cut right) o false) is ∙ within)
   where
     four : (p q s t : Bool) → p ≡ true → q ≡ true → s ≡ true → t ≡ true → p && q && s && t ≡ true

@@ -1,15 +1,15 @@
 -- One more unit of carry on a link that leads from outside the reach into the core is one more unit for the right.
 use Rattle.std.proofs.Common.{◌≡◌, ◌≢◌, ℕ, ◌+◌, ◌-◌, ◌<◌, ◌≤◌, Bool, true, false, refl, sym, ◌∙◌, ap, arith, subst}
 use Rattle.std.proofs.Common.{List, length, inl, inr}
-use Rattle.std.proofs.lemmas.Bool.{and_from, and_parts, and_left, both_ways, cases_Bool, eq-eqb, eqb-true}
+use Rattle.std.proofs.lemmas.Bool.{and_from, and_parts, and_left, both_ways, cases_Bool, eq-eqb}
 use Rattle.std.proofs.lemmas.Bool.{false_from_ne_true, ltb-true, not-true, not_from_false}
 use Rattle.std.proofs.lemmas.List.{get_or-set_same, get_or-set_other, length-set}
 use Rattle.std.specs.Prelude.{◌&&◌, ◌==◌, not, if◌then◌else◌, slice_index, ◌⊎◌, Some, None, Option}
 use Rattle.finite_sums.specs.Sums.{when}
 use Rattle.water_model.specs.Lookups.{has}
-use Rattle.water_model.specs.Basin.{head_of, tail_of, instream_link, taking_node, is_on_link, is_at, is_senior}
+use Rattle.water_model.specs.Basin.{head_of, tail_of, instream_link, taking_node, is_senior}
 use Rattle.water_model.specs.Plans.{carry_of, taken_at}
-use Rattle.water_model.specs.Cuts.{node_within, takes_within, IsTight}
+use Rattle.water_model.specs.Cuts.{kept_on, node_within, takes_within, IsTight}
 use Rattle.water_model.specs.History.{IsShort}
 use Rattle.water_text.specs.declared.month.Month.{Month}
 use Rattle.water_model.specs.declared.types.Basin.{Basin}
@@ -25,12 +25,11 @@ use Rattle.next_unit.specs.Core.{HasRoomDown, one_more, raised_carry}
 use Rattle.next_unit.specs.Laws.{CarryIntoCoreHelps, CarryHelpsRight}
 use Rattle.next_unit.proofs.Least.{tight_closed, cut_has_node}
 use Rattle.plan_residual.proofs.Upstream.{HasRanks, ranks_to, ranked_within, room_by, start_by, end_by}
-use Rattle.next_unit.proofs.Pushes.{IsMoved, not_moved, move_forward, off_link, one_less, own_first}
-use Rattle.next_unit.proofs.Leads.{HasGone, HasGoneOut, go_to, go_down}
+use Rattle.next_unit.proofs.Pushes.{IsMoved, unmoved, move_forward, one_less, own_stays}
+use Rattle.next_unit.proofs.Leads.{HasGone, HasNumbers, go_to, first_over, go_down, numbers_of, own_is, own_none}
 use Rattle.next_unit.proofs.Changed.{HelpsBy, IsSource, one_less_at, taken_change, taken_there, let_out_there}
 use Rattle.next_unit.proofs.Changed.{went_round}
-use Rattle.next_unit.proofs.Helps.{rank_by, rank_low, rank_rest, rank_high, HasNumbers, numbers_of, crossing, own_is}
-use Rattle.next_unit.proofs.Helps.{own_none}
+use Rattle.next_unit.proofs.Helps.{rank_by, rank_low, rank_rest, rank_high, crossing}
 use Rattle.next_unit.proofs.Sources.{OwnIn, OutletIn, JuniorIn, source_in}
 
 -- the carries are no less, and on the link one more
@@ -75,50 +74,44 @@ go_in b m r target link reach core up numbers own from node flow given into here
     let rank : ℕ → ℕ = rank_in b m r target link reach core up numbers in
     let low = rank_low core.set high core.ranked.rank up.ranked.rank numbers.number most top in
     let first : HasGone b m r carry own from (tail_of b link) rank =
-    go_to b m r (tail_of b link) up.set up.ranked high rank (most + 1 + top) carry own from node flow
-    (λ n h. (and_parts (has up.set n) (not (has reach n)) h).0) stays at_high own_tail (wide b m.month link) here now in
+    go_to b m r (tail_of b link) up.set up.ranked high rank (most + 1 + top) carry own from
+    (λ n h. (and_parts (has up.set n) _ h).0) stays at_high own_tail (wide b m.month link) node flow
+    here now in
     let lower : rank (head_of b link) < rank (tail_of b link) = omega (
       arith,
       low (head_of b link) into.head,
       at_high (tail_of b link) tail_high,
       core.ranked.below (head_of b link) into.head,
     ) in
-    let old = first.moved.heads link into.below off lower in
-    let over : IsMoved b m r carry own from (head_of b link) rank (one_more first.flow link) =
-    move_forward b m r carry own own from link rank first.flow into.below first.moved old
-    (omega (arith, raised_there b m.month link, given.plan.carries link into.below)) lower
-    (λ k is. get_or-set_other first.flow link k (slice_index first.flow link + 1) 0 (off_link b r link k off is)
-    ∙ first.moved.own k is) in
-    go_to b m r target core.set core.ranked (has core.set) rank (most + 1) carry own from (head_of b link)
-    (one_more first.flow link) (λ n h. h) (λ back e k room from to. to) low (λ e is h. into.own e is)
-    (wide b m.month link) into.head over
+    let mine : ℕ → Type 0 = λ e. instream_link b r ≡ Some e in
+    let least : ℕ → ℕ = kept_on b m.delivered r in
+    let old = first.moved.old link into.below off (omega (arith, lower)) in
+    let next = move_forward b m least carry mine own from link rank first.flow into.below own first.moved
+    (omega (arith, old, raised_there b m.month link, given.plan.carries link into.below)) lower
+    (own_stays b m least carry mine own from (tail_of b link) link rank first.flow into.below first.moved
+    (slice_index first.flow link + 1) off) in
+    go_to b m r target core.set core.ranked (has core.set) rank (most + 1) carry own from (λ n h. h)
+    (λ back e k room from to. to) low (λ e is h. into.own e is) (wide b m.month link) (head_of b link)
+    (one_more first.flow link) into.head next
   where
     not_core : (n : ℕ) → has reach n ≡ false → has core.set n ≡ false
-    not_core n h = false_from_ne_true (has core.set n) (λ i. both_ways (has reach n) h (into.within n i))
+    not_core n h = false_from_ne_true _ (λ i. both_ways _ h (into.within n i))
 
     at_high : (n : ℕ) → beyond up.set reach n ≡ true →
         rank_in b m r target link reach core up numbers n ≡ numbers.most + 1 + core.ranked.top + up.ranked.rank n
     at_high n h = rank_high core.set (beyond up.set reach) core.ranked.rank up.ranked.rank numbers.number numbers.most
-        core.ranked.top n
-        (not_core n (not-true (has reach n) (and_parts (has up.set n) (not (has reach n)) h).1)) h
+        core.ranked.top n (not_core n (not-true (has reach n) (and_parts (has up.set n) _ h).1)) h
 
     tail_high : beyond up.set reach (tail_of b link) ≡ true
-    tail_high = and_from (has up.set (tail_of b link)) (not (has reach (tail_of b link))) up.ranked.node
-        (not_from_false (has reach (tail_of b link)) into.tail)
+    tail_high = and_from _ _ up.ranked.node (not_from_false _ into.tail)
 
-    off : is_on_link b r link ≡ false
-    off = false_from_ne_true (is_on_link b r link) (λ on.
-        both_ways (has reach (tail_of b link)) into.tail (into.within (tail_of b link)
-        (ap (has core.set) (into.own link (on_it (instream_link b r) on)) ∙ core.ranked.node)))
-      where
-        on_it : (o : Option ℕ) → is_at o link ≡ true → o ≡ Some link
-        on_it None h = cc
-        on_it (Some k) h = ap (λ j. Some j) (eqb-true k link h)
+    off : instream_link b r ≡ Some link → ⊥
+    off is = both_ways _ into.tail (into.within (tail_of b link)
+        (ap (has core.set) (into.own link is) ∙ core.ranked.node))
 
     own_tail : (e : ℕ) → instream_link b r ≡ Some e → beyond up.set reach (tail_of b e) ≡ true →
         tail_of b e ≡ tail_of b link
-    own_tail e is h = absurd (both_ways (has reach (tail_of b e))
-        (not-true (has reach (tail_of b e)) (and_parts (has up.set (tail_of b e)) (not (has reach (tail_of b e))) h).1)
+    own_tail e is h = absurd (both_ways _ (not-true _ (and_parts (has up.set (tail_of b e)) _ h).1)
         (into.within (tail_of b e) (ap (has core.set) (into.own e is) ∙ core.ranked.node)))
 
     leaves_reach : (back : Bool) (e : ℕ) → e < length b.links → room_by b m r back e ≡ true →
@@ -131,10 +124,8 @@ go_in b m r target link reach core up numbers own from node flow given into here
     stays : (back : Bool) (e : ℕ) → e < length b.links → room_by b m r back e ≡ true →
         beyond up.set reach (start_by b back e) ≡ true → has up.set (end_by b back e) ≡ true →
         beyond up.set reach (end_by b back e) ≡ true
-    stays back e l room h to = and_from (has up.set (end_by b back e)) (not (has reach (end_by b back e))) to
-        (not_from_false (has reach (end_by b back e)) (leaves_reach back e l room
-        (not-true (has reach (start_by b back e))
-        (and_parts (has up.set (start_by b back e)) (not (has reach (start_by b back e))) h).1)))
+    stays back e l room h to = and_from _ _ to (not_from_false _ (leaves_reach back e l room (not-true _
+        (and_parts (has up.set (start_by b back e)) _ h).1)))
 
 -- a source outside the reach from which the link's tail is reached
 record StartsAt (b : Basin) (m : MonthRecord) (r : ℕ) (up reach : List Bool) : Type 0 where
@@ -146,8 +137,7 @@ record StartsAt (b : Basin) (m : MonthRecord) (r : ℕ) (up reach : List Bool) :
 
 starts_beyond : (up reach : List Bool) (n : ℕ) → has up n ≡ true → has (others reach) n ≡ true → beyond up reach n ≡
     true
-starts_beyond up reach n h i =
-    and_from (has up n) (not (has reach n)) h (not_from_false (has reach n) (not_in_set reach n i))
+starts_beyond up reach n h i = and_from _ _ h (not_from_false _ (not_in_set reach n i))
 
 outlet_starts : (b : Basin) (m : MonthRecord) (r : ℕ) (up reach : List Bool) → HasPlan b m →
     IsClosed b m r (others reach) → OutletIn m up (length b.nodes) → StartsAt b m r up reach
@@ -199,8 +189,7 @@ junior_starts b m r up reach given left j =
         out_len = given.plan.out_len;
         takes = λ s k. omega (arith, less s);
         seniors = λ s k senior. other s (λ same. no_circle (ap (λ i. is_senior b i r) (sym same) ∙ senior));
-        own = other r (λ same. both_ways (is_senior b r r) (not_senior_to_itself b r)
-            (ap (is_senior b r) same ∙ j.junior));
+        own = other r (λ same. both_ways _ (not_senior_to_itself b r) (ap (is_senior b r) same ∙ j.junior));
         outs = λ n k. omega arith;
         sums = λ n k. omega (arith, taken at.node at.at n);
       };
@@ -214,7 +203,7 @@ junior_starts b m r up reach given left j =
     other s ne = get_or-set_other m.plan.take j.right s (slice_index m.plan.take j.right - 1) 0 ne
 
     no_circle : is_senior b j.right r ≡ true → ⊥
-    no_circle h = both_ways (is_senior b r r) (not_senior_to_itself b r) (senior_trans b.rights r j.right r j.junior h)
+    no_circle h = both_ways _ (not_senior_to_itself b r) (senior_trans b.rights r j.right r j.junior h)
 
     by_test : (t : Bool) (x y z w : ℕ) → w ≡ z + 1 → x + (if t then z else 0) ≡ y + (if t then w else 0) →
         y + when t 1 ≡ x
@@ -230,8 +219,7 @@ junior_starts b m r up reach given left j =
           j.some,
           get_or-set_same m.plan.take j.right (slice_index m.plan.take j.right - 1) 0
               (omega (arith, j.below, given.plan.take_len)),
-        ))
-        (taken_change b m.plan.take (one_less m.plan.take j.right) j.right node n j.below at other)
+        )) (taken_change b m.plan.take (one_less m.plan.take j.right) j.right node n j.below at other)
 
 -- a right that takes
 taking_raised : (b : Basin) (m : MonthRecord) (r target link : ℕ) (reach : List Bool) (core : HasRanks b m r target)
@@ -243,7 +231,7 @@ taking_raised b m r target link reach core up numbers given l short into start n
     let rank : ℕ → ℕ = rank_in b m r target link reach core up numbers in
     let gone : HasGone b m r carry 0 start.node target rank =
     go_in b m r target link reach core up numbers 0 start.node start.node m.plan.flow given into start.here
-    (not_moved b m r carry 0 start.node rank given (wide b m.month link) (λ e is. own_none b r e none is)) in
+    (unmoved b m r carry 0 start.node rank given (wide b m.month link) (λ e is. own_none b r e none is)) in
     taken_there b m r carry m.supply start.take start.out 0 start.node target rank gone.flow given l short none at
     start.source gone.moved
 
@@ -261,19 +249,14 @@ instream_raised b m r e link reach core up numbers given l short room into start
     let high : ℕ → Bool = beyond up.set reach in
     let gone : HasGone b m r carry was start.node (tail_of b e) rank =
     go_in b m r (tail_of b e) link reach core up numbers was start.node start.node m.plan.flow given into start.here
-    (not_moved b m r carry was start.node rank given (wide b m.month link)
+    (unmoved b m r carry was start.node rank given (wide b m.month link)
     (λ k h. ap (slice_index m.plan.flow) (sym (own_is b r e k is h)))) in
-    let out : HasGoneOut b m r carry (was + 1) start.node rank =
-    go_down b m r e (λ n. not (has core.set n) && not (has up.set n)) rank numbers.number numbers.most carry
-    start.node gone.flow given room numbers.runs
-    numbers.bound stays
-    (λ n h. (let parts = and_parts (not (has core.set n)) (not (has up.set n)) h in
+    let out =
+    go_down b m r e (λ n. not (has core.set n) && not (has up.set n)) rank numbers carry
+    start.node gone.flow given room stays (λ n h. (let parts = and_parts _ _ h in
     rank_rest core.set high core.ranked.rank up.ranked.rank numbers.number numbers.most core.ranked.top n
-    (not-true (has core.set n) parts.0)
-    (and_left (has up.set n) (not (has reach n)) (not-true (has up.set n) parts.1))))
-    (wide b m.month link) is below
-    (and_left (not (has core.set (tail_of b e))) (not (has up.set (tail_of b e))) (ap not core.ranked.node))
-    (both_out (head_of b e) not_core not_up)
+    (not-true _ parts.0) (and_left _ _ (not-true _ parts.1)))) (wide b m.month link) is below
+    (and_left _ _ (ap not core.ranked.node)) (both_out (head_of b e) not_core not_up)
     (omega (
       arith,
       rank_low core.set high core.ranked.rank up.ranked.rank numbers.number numbers.most
@@ -285,23 +268,19 @@ instream_raised b m r e link reach core up numbers given l short room into start
   where
     both_out : (n : ℕ) → has core.set n ≡ false → has up.set n ≡ false → not (has core.set n) && not (has up.set n) ≡
         true
-    both_out n h i = and_from (not (has core.set n)) (not (has up.set n)) (not_from_false (has core.set n) h)
-        (not_from_false (has up.set n) i)
+    both_out n h i = and_from _ _ (not_from_false _ h) (not_from_false _ i)
 
     not_core : has core.set (head_of b e) ≡ false
-    not_core = false_from_ne_true (has core.set (head_of b e)) (λ i.
-        both_ways (has reach (head_of b e)) head_out (into.within (head_of b e) i))
+    not_core = false_from_ne_true _ (λ i. both_ways _ head_out (into.within (head_of b e) i))
 
     stays : (k : ℕ) → k < length b.links → can_rise b m k ≡ true →
         not (has core.set (tail_of b k)) && not (has up.set (tail_of b k)) ≡ true →
         not (has core.set (head_of b k)) && not (has up.set (head_of b k)) ≡ true
     stays k c rise h =
-        let parts = and_parts (not (has core.set (tail_of b k))) (not (has up.set (tail_of b k))) h in
-        both_out (head_of b k)
-        (false_from_ne_true (has core.set (head_of b k)) (λ i. both_ways (has core.set (tail_of b k))
-        (not-true (has core.set (tail_of b k)) parts.0) (core.closed.forward k c rise i)))
-        (false_from_ne_true (has up.set (head_of b k)) (λ i. both_ways (has up.set (tail_of b k))
-        (not-true (has up.set (tail_of b k)) parts.1) (up.closed.forward k c rise i)))
+        let parts = and_parts _ _ h in
+        both_out (head_of b k) (false_from_ne_true _ (λ i. both_ways _
+        (not-true _ parts.0) (core.closed.forward k c rise i))) (false_from_ne_true _ (λ i. both_ways _
+        (not-true _ parts.1) (up.closed.forward k c rise i)))
 
 -- and one whose link's head does: the unit goes round
 round_raised : (b : Basin) (m : MonthRecord) (r e link : ℕ) (reach : List Bool) (core : HasRanks b m r (tail_of b e))
@@ -314,11 +293,8 @@ round_raised b m r e link reach core up numbers given l short room into is below
     let rank : ℕ → ℕ = rank_in b m r (tail_of b e) link reach core up numbers in
     let gone : HasGone b m r carry (slice_index m.plan.flow e + 1) (tail_of b e) (tail_of b e) rank =
     go_in b m r (tail_of b e) link reach core up numbers (slice_index m.plan.flow e + 1) (tail_of b e) (head_of b e)
-    (one_more m.plan.flow e) given into
-    (and_from (has up.set (head_of b e)) (not (has reach (head_of b e))) is_up
-    (not_from_false (has reach (head_of b e)) head_out))
-    (own_first b m r e carry rank given below is
-    (omega (arith, ltb-true (slice_index m.plan.flow e) (carry_of b m.month e) (room.own e is), wide b m.month link e))
+    (one_more m.plan.flow e) given into (and_from _ _ is_up (not_from_false _ head_out))
+    (first_over b m r e carry rank given below is (omega (arith, ltb-true _ _ (room.own e is), wide b m.month link e))
     (wide b m.month link)) in
     went_round b m r e carry (tail_of b e) rank gone.flow given l short is gone.moved
 
@@ -353,8 +329,7 @@ carry_into_core_helps b m r core reach link given l short is_reach room is_core 
 
     into : (target : ℕ) (ranks : HasRanks b m r target) → has ranks.set (head_of b link) ≡ true →
         node_by_link b (taking_node b r) (instream_link b r) ≡ Some target →
-        ((e : ℕ) → instream_link b r ≡ Some e → tail_of b e ≡ target) →
-        IsInto b m r target link reach ranks up
+        ((e : ℕ) → instream_link b r ≡ Some e → tail_of b e ≡ target) → IsInto b m r target link reach ranks up
     into target ranks at_head at own = record {
       below = below;
       tail = tail;
@@ -397,7 +372,7 @@ carry_into_core_helps b m r core reach link given l short is_reach room is_core 
               cross.head
               is_up
           | inr not_up ↦ elim source [
-            | inl own ↦ absurd (both_ways (has up.set (head_of b e)) not_up
+            | inl own ↦ absurd (both_ways _ not_up
                 (subst (λ k. has up.set (head_of b k) ≡ true) (sym (own_is b r e own.link is own.is)) own.inside))
             | inr other ↦ elim other [
               | inl outlet ↦ instream_raised b m r e link reach ranks up numbers given l short room way

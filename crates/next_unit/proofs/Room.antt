@@ -6,7 +6,7 @@ use Rattle.std.proofs.lemmas.Bool.{and_from, and_parts, both_ways, lt-ltb, leb-t
 use Rattle.std.proofs.lemmas.Bool.{false_from_ne_true, not_from_false}
 use Rattle.std.proofs.lemmas.List.FromFn.{length-map-range_with_len, get_or-map-range_with_len}
 use Rattle.std.specs.List.{range_with_len}
-use Rattle.std.specs.Prelude.{not, nat_le, if◌then◌else◌, slice_index, option_map, unwrap_or}
+use Rattle.std.specs.Prelude.{nat_le, if◌then◌else◌, slice_index, option_map, unwrap_or}
 use Rattle.finite_sums.specs.Sums.{total}
 use Rattle.finite_sums.proofs.Totals.{total_le, term_le_total_where}
 use Rattle.water_model.specs.Lookups.{has}
@@ -25,8 +25,7 @@ use Rattle.water_model.proofs.Sets.{total_where_none_pass}
 use Rattle.duality.proofs.CutBalance.{cut_balance}
 use Rattle.plan_residual.specs.Residual.{HasPlan}
 use Rattle.next_unit.specs.Laws.{SmallSupplyLeavesRoom}
-use Rattle.next_unit.proofs.Helps.{HasNumbers, numbers_of}
-use Rattle.next_unit.proofs.Down.{RiversCanRise}
+use Rattle.next_unit.proofs.Leads.{HasNumbers, RiversCanRise, numbers_of}
 
 -- a river carries as much as there may be
 river_carry : (b : Basin) (month : Month) (e : ℕ) → IsValidBasin b → e < length b.links → is_river b e ≡ true →
@@ -73,25 +72,20 @@ flow_by_numbers b m e numbers set given l len is =
     at_most false x = omega arith
 
     none_enters : (k : ℕ) → k < length b.links → enters b set k ≡ false
-    none_enters k c = false_from_ne_true (enters b set k) (λ h.
-        let parts = and_parts (has set (head_of b k)) (not (has set (tail_of b k))) h in
+    none_enters k c = false_from_ne_true _ (λ h.
+        let parts = and_parts _ _ h in
         let inside = ends b given.valid k c in
-        let head_low = leb-true (numbers.number (head_of b k)) (numbers.number (tail_of b e))
-        (sym (is (head_of b k) inside.1) ∙ parts.0) in
+        let head_low = leb-true _ _ (sym (is (head_of b k) inside.1) ∙ parts.0) in
         let tail_low : nat_le (numbers.number (tail_of b k)) (numbers.number (tail_of b e)) ≡ true =
-        le-leb (numbers.number (tail_of b k)) (numbers.number (tail_of b e))
-        (omega (arith, head_low, numbers.runs.runs k c)) in
-        both_ways (has set (tail_of b k)) (not-true (has set (tail_of b k)) parts.1)
-        (is (tail_of b k) inside.0 ∙ tail_low))
+        le-leb _ _ (omega (arith, head_low, numbers.runs.runs k c)) in
+        both_ways _ (not-true _ parts.1) (is (tail_of b k) inside.0 ∙ tail_low))
 
     here : leaves b set e ≡ true
     here =
         let inside = ends b given.valid e l in
-        and_from (has set (tail_of b e)) (not (has set (head_of b e)))
-        (is (tail_of b e) inside.0 ∙ le-leb (numbers.number (tail_of b e)) (numbers.number (tail_of b e)) (omega arith))
-        (not_from_false (has set (head_of b e)) (false_from_ne_true (has set (head_of b e)) (λ h.
-        let low = leb-true (numbers.number (head_of b e)) (numbers.number (tail_of b e))
-        (sym (is (head_of b e) inside.1) ∙ h) in
+        and_from _ _ (is (tail_of b e) inside.0 ∙ le-leb _ _ (omega arith))
+        (not_from_false _ (false_from_ne_true _ (λ h.
+        let low = leb-true _ _ (sym (is (head_of b e) inside.1) ∙ h) in
         absurd (omega (arith, low, numbers.runs.runs e l)))))
 
 flow_le_supply : (b : Basin) (m : MonthRecord) (e : ℕ) → HasPlan b m → e < length b.links →
@@ -104,16 +98,15 @@ flow_le_supply b m e given l =
 
 pub rivers_can_rise : (b : Basin) (m : MonthRecord) → HasPlan b m →
     total (length b.nodes) (λ n. slice_index m.supply n) < 10 ^ 15 → RiversCanRise b m
-rivers_can_rise b m given small e k river = lt-ltb (slice_index m.plan.flow e) (carry_of b m.month e)
+rivers_can_rise b m given small e k river = lt-ltb _ _
     (omega (arith, flow_le_supply b m e given k, small, river_carry b m.month e given.valid k river))
 
 pub small_supply_leaves_room : SmallSupplyLeavesRoom
 small_supply_leaves_room b m r given l short small fits = record {
   rivers = rivers_can_rise b m given small;
-  own = λ e is. lt-ltb (slice_index m.plan.flow e) (carry_of b m.month e)
+  own = λ e is. lt-ltb _ _
       (by_min (slice_index m.want r) (slice_index m.plan.flow e) (slice_index m.delivered r) (carry_of b m.month e)
-      short
-      (given.delivered.each r l ∙ ap (λ o. delivery_by_link o (slice_index m.want r) m.plan r) is) (fits e is));
+      short (given.delivered.each r l ∙ ap (λ o. delivery_by_link o (slice_index m.want r) m.plan r) is) (fits e is));
 }
   where
     by_min : (w f d c : ℕ) → d < w → d ≡ min w f → w ≤ c → f < c

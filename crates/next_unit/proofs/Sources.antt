@@ -4,10 +4,10 @@ use Rattle.std.proofs.Common.{◌≡◌, ℕ, zero, suc, ◌<◌, Bool, true, fa
 use Rattle.std.proofs.Common.{List, [], ◌∷◌, length, inl, inr}
 use Rattle.std.proofs.lemmas.Bool.{and_from, and_parts, both_ways, cases_Bool, false_from_ne_true, lt-ltb, ltb-true}
 use Rattle.std.proofs.lemmas.Bool.{not-true, not_from_false, or_cases, or_left, or_right, or_from}
-use Rattle.std.specs.Prelude.{◌&&◌, ◌||◌, not, nat_lt, slice_index, ◌⊎◌, Option, Some, None}
+use Rattle.std.specs.Prelude.{◌&&◌, ◌||◌, nat_lt, slice_index, ◌⊎◌, Option, Some, None}
 use Rattle.water_model.specs.Lookups.{has}
 use Rattle.water_model.specs.Basin.{head_of, tail_of, instream_link, taking_node, is_senior}
-use Rattle.water_model.specs.Cuts.{node_within, takes_within, separates, leaves, IsCut, IsTight, IsReach}
+use Rattle.water_model.specs.Cuts.{node_within, takes_within, separates, IsCut, IsTight, IsReach}
 use Rattle.water_model.specs.History.{IsShort}
 use Rattle.water_model.specs.declared.types.Basin.{Basin}
 use Rattle.water_model.specs.declared.types.MonthRecord.{MonthRecord}
@@ -56,9 +56,9 @@ both_closed b m r xs ys len one other = record {
         ∙ by_parts (has xs from) (has ys from) (has xs to) (has ys to) f g (sym (has_either xs ys to len) ∙ h)
       where
         by_parts : (p q s t : Bool) → (s ≡ true → p ≡ true) → (t ≡ true → q ≡ true) → (s || t) ≡ true → (p || q) ≡ true
-        by_parts p q s t f g h = elim (or_cases s t h) [
-          | inl i ↦ or_left p q (f i)
-          | inr i ↦ or_right p q (g i)
+        by_parts p q s t f g h = elim (or_cases _ _ h) [
+          | inl i ↦ or_left _ _ (f i)
+          | inr i ↦ or_right _ _ (g i)
         ]
 
 -- a source in a set
@@ -107,29 +107,28 @@ source_in b m r node reach set given l short is_reach len back here beyond =
     elim (own_in (instream_link b r) refl) [
       | inl own ↦ inl own
       | inr no_own ↦ elim (find_below (length b.nodes) (λ n. nat_lt 0 (slice_index m.plan.out n) && has set n)) [
-        | inr some ↦ (let parts = and_parts (nat_lt 0 (slice_index m.plan.out some.0)) (has set some.0) some.2 in
+        | inr some ↦ (let parts = and_parts _ _ some.2 in
             inr (inl record {
               node = some.0;
               below = some.1;
-              some = ltb-true 0 (slice_index m.plan.out some.0) parts.0;
+              some = ltb-true _ _ parts.0;
               inside = parts.1;
             }))
         | inl no_outlet ↦ elim (find_below (length b.rights) (λ s. is_senior b r s
             && (nat_lt 0 (slice_index m.plan.take s) && takes_within b set s))) [
-              | inr some ↦ (let parts = and_parts (is_senior b r some.0)
-                  (nat_lt 0 (slice_index m.plan.take some.0) && takes_within b set some.0) some.2 in
-                  let inner = and_parts (nat_lt 0 (slice_index m.plan.take some.0)) (takes_within b set some.0)
+              | inr some ↦ (let parts = and_parts _ _ some.2 in
+                  let inner = and_parts _ _
                   parts.1 in
                   inr (inr record {
                     right = some.0;
                     below = some.1;
                     junior = parts.0;
-                    some = ltb-true 0 (slice_index m.plan.take some.0) inner.0;
+                    some = ltb-true _ _ inner.0;
                     inside = inner.1;
                   }))
-              | inl no_junior ↦ absurd (both_ways (has reach node) beyond
+              | inl no_junior ↦ absurd (both_ways _ beyond
                   (is_reach.contains both (tight no_own no_outlet no_junior) node
-                  (has_either reach set node same_len ∙ or_right (has reach node) (has set node) here)))
+                  (has_either reach set node same_len ∙ or_right _ _ here)))
             ]
       ]
     ]
@@ -165,10 +164,10 @@ source_in b m r node reach set given l short is_reach len back here beyond =
 
     -- what is outside the reach and not in the set is in neither
     neither : (n : ℕ) → has (others reach) n ≡ true → has set n ≡ false → has both n ≡ false
-    neither n h i = has_either reach set n same_len ∙ or_from (has reach n) (has set n) (not_in_set reach n h) i
+    neither n h i = has_either reach set n same_len ∙ or_from _ _ (not_in_set reach n h) i
 
     no_both : (x y : Bool) → x ≡ true → x && y ≡ false → y ≡ false
-    no_both x y h i = false_from_ne_true y (λ j. both_ways (x && y) i (and_from x y h j))
+    no_both x y h i = false_from_ne_true _ (λ j. both_ways _ i (and_from _ _ h j))
 
     -- a junior takes outside both
     junior_out : (o : Option ℕ) → node_within o (others reach) ≡ true → node_within o set ≡ false →
@@ -184,22 +183,18 @@ source_in b m r node reach set given l short is_reach len back here beyond =
         IsTight b m.month m.supply m.delivered r both
     tight no_own no_outlet no_junior =
         subst (λ s. IsTight b m.month m.supply m.delivered r s) (others_twice both)
-        (closed_sets_leave_tight_cuts b m r (others both) given l short
-        (no_source_closed b m r both given both_len
+        (closed_sets_leave_tight_cuts b m r (others both) given l short (no_source_closed b m r both given both_len
         (both_closed b m r reach set same_len (tight_closed b m r reach given l short is_reach.is_tight) back)
-        (λ n k some h. both_ways (has both n) (neither n (closed.outlets n k some)
-        (no_both (nat_lt 0 (slice_index m.plan.out n)) (has set n) (lt-ltb 0 (slice_index m.plan.out n) some)
-        (no_outlet n k))) h)
+        (λ n k some h. both_ways _ (neither n (closed.outlets n k some)
+        (no_both (nat_lt 0 (slice_index m.plan.out n)) (has set n) (lt-ltb _ _ some) (no_outlet n k))) h)
         (λ s k senior takes. junior_out (taking_node b s) (closed.juniors s k senior takes)
-        (no_both (nat_lt 0 (slice_index m.plan.take s)) (takes_within b set s)
-        (lt-ltb 0 (slice_index m.plan.take s) takes)
+        (no_both (nat_lt 0 (slice_index m.plan.take s)) (takes_within b set s) (lt-ltb _ _ takes)
         (no_both (is_senior b r s) (nat_lt 0 (slice_index m.plan.take s) && takes_within b set s) senior
-        (no_junior s k))))
-        (λ e k is h. both_ways (has both (head_of b e)) (neither (head_of b e) (closed.own e k is) (no_own e is)) h))
+        (no_junior s k)))) (λ e k is h. both_ways _ (neither (head_of b e) (closed.own e k is) (no_own e is)) h))
         (subst (λ s. IsCut b r s) (sym (others_twice both)) (cut no_own)))
       where
         wider : (n : ℕ) → has reach n ≡ true → has both n ≡ true
-        wider n h = has_either reach set n same_len ∙ or_left (has reach n) (has set n) h
+        wider n h = has_either reach set n same_len ∙ or_left _ _ h
 
         cut : ((e : ℕ) → instream_link b r ≡ Some e → has set (head_of b e) ≡ false) → IsCut b r both
         cut no_own = record {
@@ -212,10 +207,8 @@ source_in b m r node reach set given l short is_reach len back here beyond =
             of_link None None is h = h
             of_link None (Some n) is h = wider n h
             of_link (Some link) t is h =
-                let parts = and_parts (nat_lt link (length b.links)) (leaves b reach link) h in
-                let ends = and_parts (has reach (tail_of b link)) (not (has reach (head_of b link))) parts.1 in
-                and_from (nat_lt link (length b.links)) (leaves b both link) parts.0
-                (and_from (has both (tail_of b link)) (not (has both (head_of b link))) (wider (tail_of b link) ends.0)
-                (not_from_false (has both (head_of b link)) (has_either reach set (head_of b link) same_len
-                ∙ or_from (has reach (head_of b link)) (has set (head_of b link))
-                (not-true (has reach (head_of b link)) ends.1) (no_own link is))))
+                let parts = and_parts _ _ h in
+                let ends = and_parts _ _ parts.1 in
+                and_from _ _ parts.0 (and_from _ _ (wider (tail_of b link) ends.0)
+                (not_from_false _ (has_either reach set (head_of b link) same_len ∙ or_from _ _
+                (not-true _ ends.1) (no_own link is))))

@@ -9,11 +9,13 @@ ghost use Rattle.next_unit.specs.Laws.{FirstChangedIsNext, CurtailedGetNothing, 
 ghost use Rattle.next_unit.specs.Laws.{NextUnitShowsInHistories, ShortTakersAreCurtailedOrNext};
 
 /// The core of a short right is the least tight cut.
+#[tactic(auto, using(crate::proofs::Least::core_is_least_tight_cut))]
 pub fn core_is_least_tight_cut()
     ensures { CoreIsLeastTightCut }
 {}
 
 /// One more unit of supply outside a tight cut does not help.
+#[tactic(auto, using(crate::proofs::Least::nothing_outside_tight_cuts_helps))]
 pub fn nothing_outside_tight_cuts_helps()
     ensures { NothingOutsideTightCutsHelps }
 {}
@@ -24,6 +26,7 @@ pub fn supply_in_core_helps()
 {}
 
 /// One more unit of carry on a link that does not enter a tight cut does not help.
+#[tactic(auto, using(crate::proofs::Carries::no_carry_past_tight_cuts_helps))]
 pub fn no_carry_past_tight_cuts_helps()
     ensures { NoCarryPastTightCutsHelps }
 {}
@@ -44,11 +47,13 @@ pub fn carry_helps_exactly_into_core()
 {}
 
 /// Each right has a core.
+#[tactic(auto, using(crate::proofs::Exact::rights_have_cores))]
 pub fn rights_have_cores()
     ensures { RightsHaveCores }
 {}
 
 /// Rivers and the link of a short instream right have room where the whole supply is small.
+#[tactic(auto, using(crate::proofs::Room::small_supply_leaves_room))]
 pub fn small_supply_leaves_room()
     ensures { SmallSupplyLeavesRoom }
 {}
@@ -69,6 +74,7 @@ pub fn next_unit_is_decided()
 {}
 
 /// One more unit of supply at a node goes to the most senior short right whose core holds it, and costs no senior.
+#[tactic(auto, using(crate::proofs::InHistories::next_unit_goes_to_one))]
 pub fn next_unit_goes_to_one()
     ensures { NextUnitGoesToOne }
 {}
@@ -99,6 +105,7 @@ pub fn curtailed_are_called()
 {}
 
 /// A short diversion or zone is curtailed for a senior, or the next unit at its node is its own.
+#[tactic(auto, using(crate::proofs::Next::short_takers_are_curtailed_or_next))]
 pub fn short_takers_are_curtailed_or_next()
     ensures { ShortTakersAreCurtailedOrNext }
 {}

@@ -15,8 +15,7 @@ returns-then-holds c =
     (cut_at c.args.month.now.cuts c.args.right) c.args.link c.requires.plan c.requires.right c.requires.short
     c.requires.reach c.requires.room c.requires.core c.requires.link)
     (ap (λ (o : Option Link). has (cut_at c.args.month.now.cuts c.args.right)
-    (unwrap_or (option_map (λ x. x.from) o) 0)) c.index-ends.ensures
-    ∙ (sym c.holds.ensures ∙ c.if-holds.true))
+    (unwrap_or (option_map (λ x. x.from) o) 0)) c.index-ends.ensures ∙ (sym c.holds.ensures ∙ c.if-holds.true))
 
 pub returns-else-holds : goal.returns-else-holds
 returns-else-holds c =
@@ -30,5 +29,4 @@ returns-else-holds c =
     (cut_at c.args.month.now.cuts c.args.right) c.args.link c.requires.plan c.requires.right c.requires.short
     c.requires.reach c.requires.room c.requires.core c.requires.link)
     (ap (λ (o : Option Link). has (cut_at c.args.month.now.cuts c.args.right)
-    (unwrap_or (option_map (λ x. x.from) o) 0)) c.index-ends.ensures
-    ∙ (sym c.holds.ensures ∙ c.if-holds.false)))
+    (unwrap_or (option_map (λ x. x.from) o) 0)) c.index-ends.ensures ∙ (sym c.holds.ensures ∙ c.if-holds.false)))

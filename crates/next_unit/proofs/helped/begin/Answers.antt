@@ -21,8 +21,7 @@ loop-link-preserved c = elim c.if-is_undecided.branch [
       decided_as _ _ _ _ _ _ _ _ w.undecided-is w.count-is
       (one_decided c.args.basin.now c.args.month.now c.loop-link.helped c.loop-link.undecided c.loop-link.count
       c.loop-link.link c.decided_by_next-answer.result (omega arith) c.loop-link.invariant
-      c.decided_by_next-answer.ensures
-      (OnFalse_at w.if-is_undecided.false c.is_undecided.ensures))
+      c.decided_by_next-answer.ensures (OnFalse_at w.if-is_undecided.false c.is_undecided.ensures))
 ]
 
 pub returns-clause-helped : goal.returns-clause-helped

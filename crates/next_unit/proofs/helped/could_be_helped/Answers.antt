@@ -13,8 +13,7 @@ returns-then-is_short-clause-no c =
     let b = c.args.basin.now in
     let m = c.args.month.now in
     let short = ltb-true _ _ (sym c.is_short.ensures ∙ c.if-is_short.true) in
-    OnFalse_from c.any_enters.result (HelpNot b m c.args.undecided.now c.args.count c.args.right)
-    (λ none j l helps.
+    OnFalse_from c.any_enters.result (HelpNot b m c.args.undecided.now c.args.count c.args.right) (λ none j l helps.
     both_ways (enters b (cut_at m.cuts c.args.right) (slice_index c.args.undecided.now j))
     (OnFalse_at none c.any_enters.ensures j l)
     (must_enter b m c.args.right (slice_index c.args.undecided.now j) (cut_at m.cuts c.args.right) c.requires.right
