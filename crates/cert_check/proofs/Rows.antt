@@ -80,31 +80,31 @@ pub record Section (b : Basin) (series : Inflows) (P : ReadSoFar → Type 0) (go
   pub reads : (x : ℕ) (t : ReadSoFar) → P t → NoneHolds (rows b series t (item x)) → good x
   pub keeps : (x : ℕ) (t : ReadSoFar) → P t → P (read_item b series t (item x))
 
-pub section_good : {b : Basin} {series : Inflows} (P : ReadSoFar → Type 0) {good : ℕ → Type 0} {item : ℕ → Item} →
+pub section_good : {b : Basin} {series : Inflows} {P : ReadSoFar → Type 0} {good : ℕ → Type 0} {item : ℕ → Item} →
     Section b series P good item →
     (xs : List ℕ) {t : ReadSoFar} → P t → ((x : ℕ) → Has xs x → good x) → AreGood b series t (map item xs)
-section_good P s [] p h = tt
-section_good {b} {series} P {good} {item} s (x ∷ xs) {t} p h = (
+section_good s [] p h = tt
+section_good {b} {series} {P} {good} {item} s (x ∷ xs) {t} p h = (
   s.makes x t p (h x (inl refl)),
-  section_good P s xs (s.keeps x t p)
+  section_good s xs (s.keeps x t p)
       (λ y m. h y (inr m)),
 )
 
-pub good_section : {b : Basin} {series : Inflows} (P : ReadSoFar → Type 0) {good : ℕ → Type 0} {item : ℕ → Item} →
+pub good_section : {b : Basin} {series : Inflows} {P : ReadSoFar → Type 0} {good : ℕ → Type 0} {item : ℕ → Item} →
     Section b series P good item →
     (xs : List ℕ) (t : ReadSoFar) → P t → AreGood b series t (map item xs) → (x : ℕ) → Has xs x → good x
-good_section P s [] t p g y m = absurd m
-good_section {b} {series} P {good} s (x ∷ xs) t p g y (inl is) = subst_good (sym is)
+good_section s [] t p g y m = absurd m
+good_section {b} {series} {P} {good} s (x ∷ xs) t p g y (inl is) = subst_good (sym is)
   where
     subst_good : x ≡ y → good y
     subst_good e = rw (← e) (s.reads x t p g.0)
-good_section {b} {series} P {good} {item} s (x ∷ xs) t p g y (inr m) =
-    good_section P s xs (read_item b series t (item x)) (s.keeps x t p) g.1 y m
+good_section {b} {series} {P} {good} {item} s (x ∷ xs) t p g y (inr m) =
+    good_section s xs (read_item b series t (item x)) (s.keeps x t p) g.1 y m
 
-pub section_keeps : {b : Basin} {series : Inflows} (P : ReadSoFar → Type 0) {good : ℕ → Type 0} {item : ℕ → Item} →
+pub section_keeps : {b : Basin} {series : Inflows} {P : ReadSoFar → Type 0} {good : ℕ → Type 0} {item : ℕ → Item} →
     Section b series P good item → (xs : List ℕ) {t : ReadSoFar} → P t → P (fold (read_item b series) t (map item xs))
-section_keeps P s [] p = p
-section_keeps {b} {series} P {good} {item} s (x ∷ xs) {t} p = section_keeps P s xs (s.keeps x t p)
+section_keeps s [] p = p
+section_keeps {b} {series} {P} {good} {item} s (x ∷ xs) {t} p = section_keeps s xs (s.keeps x t p)
 
 -- A test of the numbers of a list.
 pub none_holds : {p : ℕ → Bool} (xs : List ℕ) → ((x : ℕ) → Has xs x → p x ≡ false) → list_any p xs ≡ false
