@@ -1,6 +1,6 @@
 -- Lines that no row holds of.
 use Rattle.std.proofs.Common.{◌≡◌, ℕ, Bool, true, false, refl, sym, arith, inl, inr, List, [], ◌∷◌, ◌++◌, map, fold}
-use Rattle.std.specs.Prelude.{Some, None, ◌&&◌, ◌==◌, not, find, option_map, is_none}
+use Rattle.std.specs.Prelude.{Some, None, ◌&&◌, ◌==◌, not, find, option_map, is_none, if◌then◌else◌}
 use Rattle.std.specs.List.{list_any}
 use Rattle.std.proofs.lemmas.Bool.Decides.{nat_tests}
 use Rattle.std.proofs.lemmas.Bool.{or_parts}
@@ -16,6 +16,8 @@ use Rattle.result_reader.specs.Due.{is_member}
 use Rattle.result_reader.specs.ReadSoFar.{ReadSoFar, read_item}
 use Rattle.cut_cert.specs.Callers.{is_short}
 use Rattle.cert_check.specs.Checking.{Row, rows, own_rows, first_row, passes, cut_needless, called_wrong}
+use Rattle.cert_check.specs.FirstRows.{first_of}
+use Rattle.cert_check.specs.declared.refuted.RefutedKind.{RefutedKind}
 
 -- no row of the list holds
 abbrev pub NoneHolds : List Row → Type 0
@@ -147,3 +149,33 @@ pub members_good : (b : Basin) (series : Inflows) (xs : List ℕ) (t : ReadSoFar
 members_good b series [] t = tt
 members_good b series (x ∷ xs) t =
     (member_good b series t x, members_good b series xs (read_item b series t (line.Member x)))
+
+-- The first row that holds, in parts.
+
+found : (xs : List Row) → option_map (λ (row : Row). row.0) (find (λ (row : Row). row.1) xs) ≡ first_of xs
+found [] = refl
+found ((kind, holds) ∷ xs) = by_test holds (found xs)
+  where
+    by_test : (t : Bool) → option_map (λ (row : Row). row.0) (find (λ (row : Row). row.1) xs) ≡ first_of xs →
+        option_map (λ (row : Row). row.0)
+        (find (λ (row : Row). row.1) ((kind, t) ∷ xs)) ≡ (if t then Some kind else first_of xs)
+    by_test true h = refl
+    by_test false h = h
+
+pub first_is : (b : Basin) (series : Inflows) (t : ReadSoFar) (i : Item) →
+    first_row b series t i ≡ first_of (rows b series t i)
+unfolding first_row
+first_is b series t i = found (rows b series t i)
+
+-- the first of some rows and others
+pub some_first : (xs ys : List Row) {kind : RefutedKind} → first_of xs ≡ Some kind → first_of (xs ++ ys) ≡ Some kind
+some_first [] ys h = cc
+some_first ((k, true) ∷ xs) ys h = h
+some_first ((k, false) ∷ xs) ys {kind} h = some_first xs ys h
+
+pub none_first : (xs ys : List Row) → first_of xs ≡ None → first_of (xs ++ ys) ≡ first_of ys
+none_first [] ys h = refl
+none_first ((k, true) ∷ xs) ys h = cc
+none_first ((k, false) ∷ xs) ys h = none_first xs ys h
+
+-- What is known stays while what was read stays.
