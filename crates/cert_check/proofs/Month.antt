@@ -286,13 +286,7 @@ read_balance {b} {series} n a is = ap (λ k. balances b (with_supply b series k)
 
 pub read_sees : {b : Basin} {series : Inflows} {m now : MonthRecord} → IsAllRead b series m → now ≡ with_out b m →
     Sees b series m now
-read_sees {b} {series} a is = record {
-  month = ap (λ k. k.month) is;
-  delivered = ap (λ k. k.delivered) is;
-  want = ap (λ k. k.want) is;
-  supply = ap (λ k. (with_supply b series k).supply) is ∙ a.supply;
-  sets = ap (λ k. length k.cuts.sets) is ∙ length-replicate (length b.rights) None;
-}
+read_sees {b} {series} a is = grind (arith, with_supply, length-replicate)
 
 -- what stands after the calls
 abbrev pub with_calls : Basin → MonthRecord → MonthRecord

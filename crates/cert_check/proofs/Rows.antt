@@ -127,10 +127,8 @@ nothing_passed b t i h xs = none_holds xs (λ r m. rw (h r) (and-false (is_short
 pub early_good : (b : Basin) (series : Inflows) (t : ReadSoFar) (i : Item) → t.calling ≡ None →
     ((r : ℕ) → passes b i r ≡ false) → cut_needless t i ≡ false → called_wrong b t i ≡ false →
     NoneHolds (own_rows b series t i) → NoneHolds (rows b series t i)
-early_good b series t i none passed needless called own = (
-  rw none (and-false (not (is_member i))),
-  (nothing_passed b t i passed (indices_of b.rights), (needless, (called, own))),
-)
+early_good b series t i none passed needless called own =
+    grind (arith, nat_tests, and-false, not, is_member, nothing_passed, indices_of)
 
 -- Tests of numbers.
 pub is_same : {x y : ℕ} → not (x == y) ≡ false → x ≡ y
