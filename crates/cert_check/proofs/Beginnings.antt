@@ -66,12 +66,4 @@ blank_is {b} valid = record {
 pub first_book : {b : Basin} {series : Inflows} {k : CheckProgress} → k.reader.basin ≡ b →
     reader.ReaderStandsFor k.reader [] → Keeps b series k.state.value (nothing_read b) → k.read ≡ 0 → k.last_other ≡ 0 →
     k.ended ≡ false → IsAuditIfAny b (nothing_read b) [] k.audit → IsProgressOf b series k []
-first_book basin stands state read last ended audit = record {
-  items = [];
-  verdict = refl;
-  basin = basin;
-  reader = stands;
-  state = state;
-  counts = record { read = read; last_other = last; ended = ended };
-  audit = audit;
-}
+first_book basin stands state read last ended audit = grind (arith, nat_tests)

@@ -1,5 +1,5 @@
 -- The supply of a month is the list of what is supplied to each node.
-use Rattle.std.proofs.Common.{◌≡◌, ℕ, ◌+◌, ◌-◌, ◌*◌, ◌^◌, ◌<◌, ◌≤◌, ap, ◌∙◌, arith, List, [], length, map, sym}
+use Rattle.std.proofs.Common.{◌≡◌, ℕ, ◌+◌, ◌-◌, ◌*◌, ◌^◌, ◌<◌, ◌≤◌, ap, ◌∙◌, arith, List, [], length, map}
 use Rattle.std.specs.Prelude.{slice_index, All}
 use Rattle.std.proofs.lemmas.List.{get_or_default, length-map}
 use Rattle.finite_sums.specs.Sums.{total}
@@ -41,10 +41,7 @@ supply_at b series m {n} l =
 pub supply_is : (b : Basin) (series : Inflows) (m : MonthRecord) {supply : List ℕ} → length supply ≡ length b.nodes →
     ((n : ℕ) → n < length b.nodes → slice_index supply n ≡ inflow_at b series n m.index + slice_index m.returned n +
     stored_at b m.opening m.evaporated n) → supply ≡ (with_supply b series m).supply
-supply_is b series m {supply} len each =
-    same_number_lists supply (with_supply b series m).supply (len ∙ sym (length-supply b series m))
-    (λ k l. (let within : k < length b.nodes = omega (arith, len) in
-    each k within ∙ sym (supply_at b series m within)))
+supply_is b series m {supply} len each = grind (arith, same_number_lists, with_supply, length-supply, supply_at)
 
 -- What a month under way supplies is less than a river can carry.
 

@@ -22,7 +22,7 @@ use Rattle.cert_check.specs.Laws.{YesExactlyForHistories}
 use Rattle.cert_check.specs.Whole.{pieces_of, after_last, lines_of_pieces, rest_of_pieces, text_verdict}
 use Rattle.cert_check.specs.declared.refuted.Refuted.{Refuted}
 use Rattle.cert_check.proofs.Amounts.{history_texts}
-use Rattle.cert_check.proofs.HistoriesGiveYes.{histories_give_yes}
+use Rattle.cert_check.proofs.RunGood.{histories_give_yes}
 use Rattle.cert_check.proofs.TextVerdicts.{after_last-end, long_rest, short_rest}
 use Rattle.cert_check.proofs.RunSound.{yes_gives_history}
 

@@ -147,19 +147,7 @@ closings b series dues take a = record {
 
 pub end_good : {b : Basin} {series : Inflows} {dues : List (ℕ × ℕ)} {t : ReadSoFar} → Callers b series dues dues t →
     NoneHolds (rows b series t line.End)
-end_good {b} {series} {dues} {t} c = (
-  loose_fails b series t line.End c.all.settled,
-  (
-    missing_fails b t line.End (λ r l s f q. c.all.none_left r l s f),
-    (
-      refl,
-      (
-        rw (c.due, c.count) (not_less (length dues)),
-        tt,
-      ),
-    ),
-  ),
-)
+end_good {b} {series} {dues} {t} c = grind (arith, nat_tests, loose_fails, settled, missing_fails, not_less)
 
 -- The converse.
 
@@ -219,21 +207,7 @@ at_most h = grind (arith, nat_tests)
 
 pub closing_past : {b : Basin} {series : Inflows} {t : ReadSoFar} (v amount : ℕ) →
     NoneHolds (rows b series t (line.Amount quantity.Closing v amount)) → IsPast b series t
-closing_past {b} {series} {t} v amount n = record {
-  all = record {
-    settled = settled b series t (line.Amount quantity.Closing v amount) refl n.0;
-    none_left = λ r l s f. (let set = none_missing b t (line.Amount quantity.Closing v amount) n.1.0 l s refl in
-        let never : None ≡ Some set.0 = sym f ∙ set.1 in cc);
-  };
-  count = at_most n.1.1.1.0;
-}
+closing_past {b} {series} {t} v amount n = grind (arith, nat_tests, settled, none_missing, at_most)
 
 pub end_past : {b : Basin} {series : Inflows} {t : ReadSoFar} → NoneHolds (rows b series t line.End) → IsPast b series t
-end_past {b} {series} {t} n = record {
-  all = record {
-    settled = settled b series t line.End refl n.0;
-    none_left = λ r l s f. (let set = none_missing b t line.End n.1.0 l s refl in let never : None ≡ Some set.0 =
-        sym f ∙ set.1 in cc);
-  };
-  count = at_most n.1.1.1.0;
-}
+end_past {b} {series} {t} n = grind (arith, nat_tests, settled, none_missing, at_most)

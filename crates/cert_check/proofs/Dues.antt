@@ -131,8 +131,4 @@ pub keeps_all : {b : Basin} {series : Inflows} {a : CheckState} {t : ReadSoFar} 
     callers_due b a.month ≡ callers_of b a.month (take a.answered (seniors_first b)) →
     Keeps b series (record a { answered = length b.rights }) t
 keeps_all {b} {series} {a} {t} k all =
-    keeps_answered k (record {
-      within = omega arith;
-      called = count_is k all ∙ ap (λ xs. length (callers_of b t.now xs))
-          (sym (take_all (length b.rights) (seniors_first b) (omega (arith, length-by_seniority b.rights))));
-    })
+    grind (arith, nat_tests, keeps_answered, count_is, callers_of, take_all, seniors_first, length-by_seniority)

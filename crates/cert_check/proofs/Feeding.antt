@@ -313,16 +313,11 @@ pub refused_on : (b : Basin) (series : Inflows) (text piece more : List ℕ) (at
     text_verdict b series ((text ++ take at piece) ++ slice_range piece at (length piece) ++ more) ≡ Err e →
     text_verdict b series (text ++ piece ++ more) ≡ Err e
 refused_on b series text piece more at e h =
-    ap (λ xs. text_verdict b series (xs ++ more)) (ap (λ xs. text ++ xs) (sym (take-append-drop at piece))
-    ∙ (sym (append_assoc text (take at piece) (drop at piece))
-    ∙ ap (λ xs. (text ++ take at piece) ++ xs) (sym (take_rest piece at)))) ∙ h
+    grind (arith, nat_tests, text_verdict, take-append-drop, append_assoc, take, drop, take_rest)
 
 -- No byte is left.
 pub text_answered : {c : CheckerView} {line : LineHeld} {text : List ℕ} (result : Result ℕ Refuted) →
     AreGiven c line text → ((lines : List (List ℕ)) → CheckerStandsFor c lines → IsAnswer c.basin result
     (verdict c.basin c.series lines line.bytes)) → IsAnswer c.basin result (text_verdict c.basin c.series text)
 text_answered {c} {line} {text} result given answer =
-    let is : text_verdict c.basin c.series text ≡ verdict c.basin c.series given.lines line.bytes =
-    ap (λ ps. verdict c.basin c.series (lines_of_pieces ps) (rest_of_pieces ps)) given.pieces
-    ∙ short_rest c.basin c.series given.lines line.bytes given.short in
-    rw is (answer given.lines given.stands)
+    grind (arith, nat_tests, text_verdict, verdict, lines_of_pieces, rest_of_pieces, short_rest)

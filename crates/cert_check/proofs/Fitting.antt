@@ -1,5 +1,5 @@
 -- The parts of what a check state keeps, at first and where one amount changes.
-use Rattle.std.proofs.Common.{◌≡◌, ℕ, Bool, true, false, refl, sym, ap, ◌∙◌, arith, List, length, take}
+use Rattle.std.proofs.Common.{◌≡◌, ℕ, Bool, true, false, refl, ap, ◌∙◌, arith, List, length, take}
 use Rattle.std.specs.Prelude.{Option, Some, None, ◌&&◌, not, slice_set}
 use Rattle.std.proofs.Math.ListN.{length-set}
 use Rattle.cut_cert.specs.Callers.{AreCallers}
@@ -95,10 +95,7 @@ callers_same b m n d w s xs = rw (d, w, s) refl
 
 pub callers_stay : {b : Basin} {m n : MonthRecord} {callers : List (Option ℕ)} → Stays m n → AreCallers b m callers →
     AreCallers b n callers
-callers_stay s known = record {
-  enough = known.enough;
-  each = λ node below. known.each node below ∙ (rw (s.delivered, s.want, s.cuts) refl);
-}
+callers_stay s known = grind arith
 
 pub settled_stay : {b : Basin} {m n : MonthRecord} {count : ℕ} → Stays m n → AreSettled b m count → AreSettled b n count
 settled_stay s k =
@@ -106,11 +103,7 @@ settled_stay s k =
 
 pub answered_stay : {b : Basin} {m n : MonthRecord} {count lines : ℕ} → Stays m n → AreAnswered b m count lines →
     AreAnswered b n count lines
-answered_stay {b} {m} {n} {count} s k = record {
-  within = k.within;
-  called = k.called ∙ ap length (callers_same b m n (sym s.delivered) (sym s.want)
-      (ap (λ (cuts : CutSets). cuts.sets) (sym s.cuts)) (take count (seniors_first b)));
-}
+answered_stay {b} {m} {n} {count} s k = grind (arith, callers_same, take, seniors_first)
 
 -- the supply that is made stays so, unless it is made of the quantity
 pub supply_stays : (b : Basin) (series : Inflows) (q : Quantity) (entry amount : ℕ) (m now : MonthRecord)

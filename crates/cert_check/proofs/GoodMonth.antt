@@ -66,25 +66,24 @@ pub inner_good : {b : Basin} {series : Inflows} {before : List MonthRecord} {m :
     {t : ReadSoFar} → At b before (begun b m) t → AreGood b series t (inner_lines b m (callers_due b m))
 inner_good {b} {series} {before} {m} strict a good {t} at =
     let s = stages a at in
-    let opening_good = section_good (section.After before)
+    let opening_good = section_good
     (section.openings b series before (λ x. slice_index m.opening x)) (entries_with_line b quantity.Opening)
     (at.calling, at.months) good.opening in
-    let evaporated_good = section_good (section.Opened m.index m.opening)
+    let evaporated_good = section_good
     (section.evaporations b series m.index m.opening (λ x. slice_index m.evaporated x))
     (entries_with_line b quantity.Evaporated)
     (s.opening.calling, ap (λ k. k.index) s.opening.now_is, ap (λ k. k.opening) s.opening.now_is) good.evaporated in
-    let returned_good = section_good (section.AfterAt before m.index)
+    let returned_good = section_good
     (section.returns b series before m.index (λ x. slice_index m.returned x)) (entries_with_line b quantity.Returned)
     (s.evaporated.calling, s.evaporated.months, ap (λ k. k.index) s.evaporated.now_is) good.returned in
-    let used_good = section_good (section.AfterAt before m.index)
+    let used_good = section_good
     (section.uses b series before m.index (λ x. slice_index m.used x)) (entries_with_line b quantity.Used)
     (s.returned.calling, s.returned.months, ap (λ k. k.index) s.returned.now_is) good.used in
-    let flow_good = section_good (section.InMonth m.month)
+    let flow_good = section_good
     (section.flows b series m.month (λ x. slice_index m.plan.flow x)) (entries_with_line b quantity.Flow)
     (s.used.calling, ap (λ k. k.month) s.used.now_is) good.flow in
     let deliver_good =
-    section_good (section.Flows m.index m.used m.plan.flow)
-    (section.deliveries b series m.index m.used m.plan.flow (λ x. slice_index m.delivered x)
+    section_good (section.deliveries b series m.index m.used m.plan.flow (λ x. slice_index m.delivered x)
     (λ x. slice_index m.want x)) (seniors_first b) (
       s.flow.calling,
       ap (λ k. k.index) s.flow.now_is,
@@ -108,9 +107,9 @@ inner_good {b} {series} {before} {m} strict a good {t} at =
           ap (λ k. k.plan.take) (called_stays b series (callers_due b m) (after_calls b series m t) ∙ after.now_is);
     } in
     let last = closings b series (callers_due b m) m.plan.take (λ x. slice_index m.closing x) in
-    let closing_good = section_good (After b series (callers_due b m) m.plan.take) last
+    let closing_good = section_good last
     (entries_with_line b quantity.Closing) past good.closing in
-    let ended = section_keeps (After b series (callers_due b m) m.plan.take) last
+    let ended = section_keeps last
     (entries_with_line b quantity.Closing) past in
     good_both b series t (opening_lines b m) _ opening_good
     (good_both b series (after_opening b series m t) (evaporated_lines b m) _ evaporated_good
@@ -231,33 +230,30 @@ inner_is_good {b} {series} {before} {m} {dues} outlet a {t} at g =
       take_is = ap (λ k. k.plan.take) called.0;
     } in (
       record {
-        opening = good_section (section.After before)
+        opening = good_section
             (section.openings b series before (λ x. slice_index m.opening x)) (entries_with_line b quantity.Opening)
             (t) (at.calling, at.months)
             opening.0;
-        evaporated = good_section (section.Opened m.index m.opening)
-            (section.evaporations b series m.index m.opening (λ x. slice_index m.evaporated x))
+        evaporated = good_section (section.evaporations b series m.index m.opening (λ x. slice_index m.evaporated x))
             (entries_with_line b quantity.Evaporated) (after_opening b series m t)
             (s.opening.calling, ap (λ k. k.index) s.opening.now_is, ap (λ k. k.opening) s.opening.now_is)
             evaporated.0;
-        returned = good_section (section.AfterAt before m.index)
-            (section.returns b series before m.index (λ x. slice_index m.returned x))
+        returned = good_section (section.returns b series before m.index (λ x. slice_index m.returned x))
             (entries_with_line b quantity.Returned) (after_evaporated b series m t)
             (s.evaporated.calling, s.evaporated.months, ap (λ k. k.index) s.evaporated.now_is)
             returned.0;
-        used = good_section (section.AfterAt before m.index)
+        used = good_section
             (section.uses b series before m.index (λ x. slice_index m.used x)) (entries_with_line b quantity.Used)
             (after_returned b series m t) (
               s.returned.calling,
               s.returned.months,
               ap (λ k. k.index) s.returned.now_is,
             ) used.0;
-        flow = good_section (section.InMonth m.month)
+        flow = good_section
             (section.flows b series m.month (λ x. slice_index m.plan.flow x)) (entries_with_line b quantity.Flow)
             (after_used b series m t) (s.used.calling, ap (λ k. k.month) s.used.now_is)
             flow.0;
-        deliver = good_section (section.Flows m.index m.used m.plan.flow)
-            (section.deliveries b series m.index m.used m.plan.flow (λ x. slice_index m.delivered x)
+        deliver = good_section (section.deliveries b series m.index m.used m.plan.flow (λ x. slice_index m.delivered x)
             (λ x. slice_index m.want x)) (seniors_first b) (after_flow b series m t) (
               s.flow.calling,
               ap (λ k. k.index) s.flow.now_is,
@@ -270,8 +266,7 @@ inner_is_good {b} {series} {before} {m} {dues} outlet a {t} at g =
             out.0);
         sets = right_sets (after_out b series m t) a s.out.now_is
             calls.0 called.0 settled past.all;
-        closing = good_section (After b series (callers_due b m) m.plan.take)
-            (closings b series (callers_due b m) m.plan.take (λ x. slice_index m.closing x))
+        closing = good_section (closings b series (callers_due b m) m.plan.take (λ x. slice_index m.closing x))
             (entries_with_line b quantity.Closing) (after_called b series m dues t) stands closing.0;
       },
       called.1,

@@ -5,7 +5,6 @@ pub mod Sections
 pub mod Calls
 pub mod Callers
 pub mod Outflows
-pub mod Spread
 pub mod Month
 pub mod GoodMonth
 pub mod Follows
@@ -14,7 +13,6 @@ pub mod TextVerdicts
 pub mod Feeding
 pub mod RunGood
 pub mod Amounts
-pub mod HistoriesGiveYes
 pub mod Inverts
 pub mod SomeOutlet
 pub mod Sheets
@@ -31,7 +29,6 @@ pub mod Bounded
 pub mod Missing
 pub mod Dues
 pub mod Even
-pub mod FirstRows
 pub mod MemberLines
 pub mod Standings
 pub mod ByteLaws

@@ -14,8 +14,7 @@ use Rattle.cert_check.specs.Checking.{cut_missing, first_row}
 use Rattle.cert_check.specs.Ready.{IsReadyForLine}
 use Rattle.cert_check.specs.declared.state.CheckState.{CheckState}
 use Rattle.cert_check.specs.declared.state.Context.{Context}
-use Rattle.cert_check.proofs.FirstRows.{first_is}
-use Rattle.cert_check.proofs.Rows.{none_holds}
+use Rattle.cert_check.proofs.Rows.{first_is, none_holds}
 use Rattle.std.proofs.Math.Bool.{and-false}
 
 none_missing : (b : Basin) (t : ReadSoFar) (n : ℕ) → cut_missing b t (line.Member n) ≡ false

@@ -1,6 +1,6 @@
--- The lines of a month are not refuted exactly where its record is right.
+-- The lines of sections, one section after another.
 use Rattle.std.proofs.Common.{◌≡◌, ℕ, ◌<◌, Bool, true, false, refl, sym, ap, subst, ◌∙◌, arith, inl, inr, List, [], ◌∷◌}
-use Rattle.std.proofs.Common.{◌++◌, length, map, fold, replicate}
+use Rattle.std.proofs.Common.{◌++◌, length, map, fold, replicate, append_assoc}
 use Rattle.std.specs.Prelude.{Option, Some, None, slice_index, nat_lt}
 use Rattle.std.specs.List.{flat_map}
 use Rattle.std.proofs.lemmas.List.{length-replicate}
@@ -35,7 +35,24 @@ use Rattle.result_reader.proofs.WholeMonth.{IsAllRead}
 use Rattle.cert_check.specs.Checking.{balances, callers_due, caller_due, amount_wrong}
 use Rattle.cert_check.proofs.Calls.{Sees, HasRightSets, sees_more, after_call}
 use Rattle.cert_check.proofs.Callers.{called_line, called_lines, same_callers}
-use Rattle.cert_check.proofs.Spread.{onto, onto_same, spread}
+
+-- and others after them
+abbrev pub onto : {A : Type 0} → (Section → List A) → List Section → List A → List A
+onto f [] ys = ys
+onto f (k ∷ ks) ys = f k ++ onto f ks ys
+
+pub spread : {A : Type 0} (f : Section → List A) (ks : List Section) (ys : List A) → flat_map f ks ++ ys ≡ onto f ks ys
+spread f [] ys = refl
+spread f (k ∷ ks) ys = append_assoc (f k) (flat_map f ks) ys ∙ ap (λ zs. f k ++ zs) (spread f ks ys)
+
+pub onto_same : {A : Type 0} (f g : Section → List A) → ((k : Section) → f k ≡ g k) →
+    (ks : List Section) (ys : List A) →
+    onto f ks ys ≡ onto g ks ys
+onto_same f g h [] ys = refl
+onto_same f g h (k ∷ ks) ys =
+    ap (λ xs. xs ++ onto f ks ys) (h k) ∙ ap (λ zs. g k ++ zs) (onto_same f g h ks ys)
+
+-- The lines of a month are not refuted exactly where its record is right.
 
 -- what stands after some lines of a month: no open call, the months before, and the month so far
 pub record At (b : Basin) (before : List MonthRecord) (now : MonthRecord) (t : ReadSoFar) : Type 0 where
@@ -269,13 +286,7 @@ read_balance {b} {series} n a is = ap (λ k. balances b (with_supply b series k)
 
 pub read_sees : {b : Basin} {series : Inflows} {m now : MonthRecord} → IsAllRead b series m → now ≡ with_out b m →
     Sees b series m now
-read_sees {b} {series} a is = record {
-  month = ap (λ k. k.month) is;
-  delivered = ap (λ k. k.delivered) is;
-  want = ap (λ k. k.want) is;
-  supply = ap (λ k. (with_supply b series k).supply) is ∙ a.supply;
-  sets = ap (λ k. length k.cuts.sets) is ∙ length-replicate (length b.rights) None;
-}
+read_sees {b} {series} a is = grind (arith, with_supply, length-replicate)
 
 -- what stands after the calls
 abbrev pub with_calls : Basin → MonthRecord → MonthRecord

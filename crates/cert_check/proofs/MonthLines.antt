@@ -23,7 +23,7 @@ use Rattle.result_reader.specs.declared.shape.Shape.TheVariants as shape
 use Rattle.cert_check.proofs.Callers.{called_line}
 use Rattle.cert_check.proofs.Inverts.{Fields, no_fields, one_line, each_line, each_call, each_called}
 use Rattle.cert_check.proofs.Sheets.{Sheet, sheet_lines, filter_apart, in_order_apart, seniors_apart}
-use Rattle.cert_check.proofs.Spread.{onto, spread}
+use Rattle.cert_check.proofs.Month.{onto, spread}
 
 -- what the lines of a section give
 record Content : Type 0 where

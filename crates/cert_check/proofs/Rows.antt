@@ -1,6 +1,6 @@
 -- Lines that no row holds of.
 use Rattle.std.proofs.Common.{◌≡◌, ℕ, Bool, true, false, refl, sym, arith, inl, inr, List, [], ◌∷◌, ◌++◌, map, fold}
-use Rattle.std.specs.Prelude.{Some, None, ◌&&◌, ◌==◌, not, find, option_map, is_none}
+use Rattle.std.specs.Prelude.{Some, None, ◌&&◌, ◌==◌, not, find, option_map, is_none, if◌then◌else◌}
 use Rattle.std.specs.List.{list_any}
 use Rattle.std.proofs.lemmas.Bool.Decides.{nat_tests}
 use Rattle.std.proofs.lemmas.Bool.{or_parts}
@@ -16,6 +16,8 @@ use Rattle.result_reader.specs.Due.{is_member}
 use Rattle.result_reader.specs.ReadSoFar.{ReadSoFar, read_item}
 use Rattle.cut_cert.specs.Callers.{is_short}
 use Rattle.cert_check.specs.Checking.{Row, rows, own_rows, first_row, passes, cut_needless, called_wrong}
+use Rattle.cert_check.specs.FirstRows.{first_of}
+use Rattle.cert_check.specs.declared.refuted.RefutedKind.{RefutedKind}
 
 -- no row of the list holds
 abbrev pub NoneHolds : List Row → Type 0
@@ -80,31 +82,31 @@ pub record Section (b : Basin) (series : Inflows) (P : ReadSoFar → Type 0) (go
   pub reads : (x : ℕ) (t : ReadSoFar) → P t → NoneHolds (rows b series t (item x)) → good x
   pub keeps : (x : ℕ) (t : ReadSoFar) → P t → P (read_item b series t (item x))
 
-pub section_good : {b : Basin} {series : Inflows} (P : ReadSoFar → Type 0) {good : ℕ → Type 0} {item : ℕ → Item} →
+pub section_good : {b : Basin} {series : Inflows} {P : ReadSoFar → Type 0} {good : ℕ → Type 0} {item : ℕ → Item} →
     Section b series P good item →
     (xs : List ℕ) {t : ReadSoFar} → P t → ((x : ℕ) → Has xs x → good x) → AreGood b series t (map item xs)
-section_good P s [] p h = tt
-section_good {b} {series} P {good} {item} s (x ∷ xs) {t} p h = (
+section_good s [] p h = tt
+section_good {b} {series} {P} {good} {item} s (x ∷ xs) {t} p h = (
   s.makes x t p (h x (inl refl)),
-  section_good P s xs (s.keeps x t p)
+  section_good s xs (s.keeps x t p)
       (λ y m. h y (inr m)),
 )
 
-pub good_section : {b : Basin} {series : Inflows} (P : ReadSoFar → Type 0) {good : ℕ → Type 0} {item : ℕ → Item} →
+pub good_section : {b : Basin} {series : Inflows} {P : ReadSoFar → Type 0} {good : ℕ → Type 0} {item : ℕ → Item} →
     Section b series P good item →
     (xs : List ℕ) (t : ReadSoFar) → P t → AreGood b series t (map item xs) → (x : ℕ) → Has xs x → good x
-good_section P s [] t p g y m = absurd m
-good_section {b} {series} P {good} s (x ∷ xs) t p g y (inl is) = subst_good (sym is)
+good_section s [] t p g y m = absurd m
+good_section {b} {series} {P} {good} s (x ∷ xs) t p g y (inl is) = subst_good (sym is)
   where
     subst_good : x ≡ y → good y
     subst_good e = rw (← e) (s.reads x t p g.0)
-good_section {b} {series} P {good} {item} s (x ∷ xs) t p g y (inr m) =
-    good_section P s xs (read_item b series t (item x)) (s.keeps x t p) g.1 y m
+good_section {b} {series} {P} {good} {item} s (x ∷ xs) t p g y (inr m) =
+    good_section s xs (read_item b series t (item x)) (s.keeps x t p) g.1 y m
 
-pub section_keeps : {b : Basin} {series : Inflows} (P : ReadSoFar → Type 0) {good : ℕ → Type 0} {item : ℕ → Item} →
+pub section_keeps : {b : Basin} {series : Inflows} {P : ReadSoFar → Type 0} {good : ℕ → Type 0} {item : ℕ → Item} →
     Section b series P good item → (xs : List ℕ) {t : ReadSoFar} → P t → P (fold (read_item b series) t (map item xs))
-section_keeps P s [] p = p
-section_keeps {b} {series} P {good} {item} s (x ∷ xs) {t} p = section_keeps P s xs (s.keeps x t p)
+section_keeps s [] p = p
+section_keeps {b} {series} {P} {good} {item} s (x ∷ xs) {t} p = section_keeps s xs (s.keeps x t p)
 
 -- A test of the numbers of a list.
 pub none_holds : {p : ℕ → Bool} (xs : List ℕ) → ((x : ℕ) → Has xs x → p x ≡ false) → list_any p xs ≡ false
@@ -125,10 +127,8 @@ nothing_passed b t i h xs = none_holds xs (λ r m. rw (h r) (and-false (is_short
 pub early_good : (b : Basin) (series : Inflows) (t : ReadSoFar) (i : Item) → t.calling ≡ None →
     ((r : ℕ) → passes b i r ≡ false) → cut_needless t i ≡ false → called_wrong b t i ≡ false →
     NoneHolds (own_rows b series t i) → NoneHolds (rows b series t i)
-early_good b series t i none passed needless called own = (
-  rw none (and-false (not (is_member i))),
-  (nothing_passed b t i passed (indices_of b.rights), (needless, (called, own))),
-)
+early_good b series t i none passed needless called own =
+    grind (arith, nat_tests, and-false, not, is_member, nothing_passed, indices_of)
 
 -- Tests of numbers.
 pub is_same : {x y : ℕ} → not (x == y) ≡ false → x ≡ y
@@ -147,3 +147,33 @@ pub members_good : (b : Basin) (series : Inflows) (xs : List ℕ) (t : ReadSoFar
 members_good b series [] t = tt
 members_good b series (x ∷ xs) t =
     (member_good b series t x, members_good b series xs (read_item b series t (line.Member x)))
+
+-- The first row that holds, in parts.
+
+found : (xs : List Row) → option_map (λ (row : Row). row.0) (find (λ (row : Row). row.1) xs) ≡ first_of xs
+found [] = refl
+found ((kind, holds) ∷ xs) = by_test holds (found xs)
+  where
+    by_test : (t : Bool) → option_map (λ (row : Row). row.0) (find (λ (row : Row). row.1) xs) ≡ first_of xs →
+        option_map (λ (row : Row). row.0)
+        (find (λ (row : Row). row.1) ((kind, t) ∷ xs)) ≡ (if t then Some kind else first_of xs)
+    by_test true h = refl
+    by_test false h = h
+
+pub first_is : (b : Basin) (series : Inflows) (t : ReadSoFar) (i : Item) →
+    first_row b series t i ≡ first_of (rows b series t i)
+unfolding first_row
+first_is b series t i = found (rows b series t i)
+
+-- the first of some rows and others
+pub some_first : (xs ys : List Row) {kind : RefutedKind} → first_of xs ≡ Some kind → first_of (xs ++ ys) ≡ Some kind
+some_first [] ys h = cc
+some_first ((k, true) ∷ xs) ys h = h
+some_first ((k, false) ∷ xs) ys {kind} h = some_first xs ys h
+
+pub none_first : (xs ys : List Row) → first_of xs ≡ None → first_of (xs ++ ys) ≡ first_of ys
+none_first [] ys h = refl
+none_first ((k, true) ∷ xs) ys h = cc
+none_first ((k, false) ∷ xs) ys h = none_first xs ys h
+
+-- What is known stays while what was read stays.

@@ -32,12 +32,13 @@ use Rattle.result_reader.proofs.WholeMonth.{AreAllRead, month_read}
 use Rattle.cert_check.specs.Checking.{callers_due, is_done, is_whole, verdict}
 use Rattle.cert_check.proofs.Callers.{called_line}
 use Rattle.cert_check.proofs.Follows.{follows_good}
-use Rattle.cert_check.proofs.Month.{At, begun, month_is, inner_lines, section_lines}
+use Rattle.cert_check.proofs.Month.{At, begun, month_is, inner_lines, section_lines, onto}
 use Rattle.cert_check.proofs.GoodMonth.{inner_good}
 use Rattle.cert_check.proofs.Rows.{AreGood, good_both}
-use Rattle.cert_check.proofs.Spread.{onto}
 use Rattle.cert_check.proofs.Sections.{title_good, run_good, month_good, last_good}
 use Rattle.cert_check.proofs.Verdicts.{verdict_good, says_yes}
+use Rattle.cert_check.specs.Laws.{HistoriesGiveYes}
+use Rattle.cert_check.proofs.Amounts.{history_texts}
 
 -- after the last line of a month no call is open
 unfoldable pub Calm : Basin → Inflows → List Item → Type 0
@@ -199,3 +200,9 @@ text_good {b} {series} {records} valid history texts = says_yes b series (map (l
     (λ x y i e. prefix_open (items_of_head b ++ flat_map (items_of_month b) records) x y (line.Done b.months) i e
     (months_open b records)) (run_items_good valid history.partial texts))
     (ends_whole (items_of_head b ++ flat_map (items_of_month b) records) b.months)
+
+-- The text of each history is accepted.
+
+pub histories_give_yes : HistoriesGiveYes
+histories_give_yes b series records valid fits history =
+    text_good valid history (history_texts valid fits history.partial)

@@ -35,8 +35,7 @@ use Rattle.result_reader.proofs.WholeMonth.{IsAllRead}
 use Rattle.cert_check.proofs.Callers.{called_line}
 use Rattle.cert_check.proofs.Calls.{once_in_order}
 use Rattle.cert_check.proofs.Inverts.{AreApart}
-use Rattle.cert_check.proofs.Month.{inner_lines, section_lines}
-use Rattle.cert_check.proofs.Spread.{onto, onto_same}
+use Rattle.cert_check.proofs.Month.{inner_lines, section_lines, onto, onto_same}
 use Rattle.result_reader.proofs.Sets.{put_sets, set_in, length-put_sets, put_sets-has, put_sets-same, no_sets}
 use Rattle.result_reader.proofs.AllRead.{set_all-same}
 

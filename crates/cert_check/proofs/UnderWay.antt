@@ -189,19 +189,7 @@ in_month {b} valid {series} fits before i at l (x ∷ xs) t h g m =
 -- a month begins
 pub month_begins : (b : Basin) (series : Inflows) {before : List MonthRecord} {i : ℕ} (t : ReadSoFar) →
     i ≡ length before → t.months ≡ before → InMonth b before i (read_item b series t (line.Month (run_month b i)))
-month_begins b series t at months = record {
-  months = months;
-  index = ap length months ∙ sym at;
-  month = refl;
-  bounded = record {
-    opening = λ v. omega (arith, no_numbers (length b.reservoirs) v);
-    evaporated = λ v. omega (arith, no_numbers (length b.reservoirs) v);
-    returned = λ n. omega (arith, no_numbers (length b.nodes) n);
-    flow = λ e. omega (arith, no_numbers (length b.links) e);
-    take = λ r. omega (arith, no_numbers (length b.rights) r);
-    delivered = λ r. omega (arith, no_numbers (length b.rights) r);
-  };
-}
+month_begins b series t at months = grind (arith, nat_tests, no_numbers)
 
 -- No `called` line so far.
 

@@ -19,15 +19,7 @@ use Rattle.cert_check.proofs.Fitting.{amounts_sized}
 use Rattle.cert_check.proofs.entering.enter.Goals as goal
 
 pub enter_amount-requires : goal.enter_amount-requires
-enter_amount-requires c =
-    let entry : c.in-Amount.entry < count_in (space_of c.in-Amount.quantity) c.args.context.now.basin.now =
-    subst (λ i. IsOfBasin c.args.context.now.basin.now i) c.in-Amount.is c.requires.item in
-    omega (
-      arith,
-      entry,
-      amounts_sized c.requires.awaits.keeps.month.fits
-          c.in-Amount.quantity,
-    )
+enter_amount-requires c = grind (arith, count_in, space_of, amounts_sized)
 
 pub returns-in-Amount : goal.returns-in-Amount
 returns-in-Amount c = λ t k m good. along t c.in-Amount.is c.enter_amount.ensures (keeps_amount c.in-Amount.quantity
@@ -80,10 +72,7 @@ returns-in-Member c =
     λ t k m good. by_call c t (m.uncalled (ap is_before_called c.in-Member.is)) c.args.state.now.calling refl k
 
 pub returns-in-Called : goal.returns-in-Called
-returns-in-Called c = λ t k m good. along t c.in-Called.is c.enter_called.ensures.2 (keeps_next c.in-Called.right
-    c.in-Called.by c.enter_called.ensures.0 k
-    (subst (λ i. first_row c.args.context.now.basin.now c.args.context.now.series.now t i ≡ None) c.in-Called.is good)
-    c.enter_called.ensures.1)
+returns-in-Called c = grind (arith, along, keeps_next, first_row)
 
 -- what was used is little, as all that was delivered is
 pub enter_end-requires-clause-little : goal.enter_end-requires-clause-little

@@ -3,10 +3,4 @@ use Rattle.water_model.proofs.Order.{length-by_seniority}
 use Rattle.cert_check.proofs.entering.enter_called.Goals as goal
 
 pub overflow_add-state : goal.overflow_add-state
-overflow_add-state c =
-    omega (
-      arith,
-      c.in-Some.ensures.within,
-      length-by_seniority c.args.basin.now.rights,
-      c.requires.basin.bounded.rights,
-    )
+overflow_add-state c = grind (arith, length-by_seniority)

@@ -1,4 +1,4 @@
-use Rattle.std.proofs.Common.{◌≡◌, sym, ap, ◌∙◌, arith, length}
+use Rattle.std.proofs.Common.{◌≡◌, ◌∙◌, arith}
 use Rattle.water_model.specs.Basin.{is_outlet}
 use Rattle.water_model.specs.Indices.{numbers_from}
 use Rattle.std.specs.Prelude.{nat_le, filter}
@@ -18,8 +18,4 @@ loop-node-preserved c = record {
 }
 
 pub returns : goal.returns
-returns c = λ n.
-    let end : c.loop-node.node ≡ length c.args.basin.now.nodes =
-    omega (arith, c.len-node-end.ensures, c.loop-node-test.false, c.loop-node.auto) in
-    ap (λ k. list_all (λ other. nat_le other n) (filter (λ v. is_outlet c.args.basin.now v) (numbers_from 0 k)))
-    (sym end) ∙ c.loop-node.invariant.last n
+returns c = grind (arith, list_all, nat_le, filter, is_outlet, numbers_from)

@@ -8,6 +8,4 @@ passes-requires-clause-right c =
     (omega (arith, c.loop-at-test.true))
 
 pub lacks_call-requires-clause-right : goal.lacks_call-requires-clause-right
-lacks_call-requires-clause-right c =
-    order_in_range c.args.basin.now.rights c.args.order.now c.loop-at.at c.requires.order
-    (omega (arith, c.loop-at-test.true))
+lacks_call-requires-clause-right c = grind (arith, order_in_range)

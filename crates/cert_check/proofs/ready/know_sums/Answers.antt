@@ -20,6 +20,4 @@ make_sums-requires-clause-supply c = λ n l.
     )
 
 pub returns-clause-keeps : goal.returns-clause-keeps
-returns-clause-keeps c = λ t k.
-    let known = c.know_supply.ensures.keeps t k in
-    keeps_room known (c.make_sums.ensures.into ∙ known.room.into) (c.make_sums.ensures.out_of ∙ known.room.out_of)
+returns-clause-keeps c = grind (arith, keeps_room)

@@ -4,11 +4,7 @@ use Rattle.cert_check.proofs.Dues.{keeps_supply}
 use Rattle.cert_check.proofs.ready.know_supply.Goals as goal
 
 pub make_supply-requires-clause-small : goal.make_supply-requires-clause-small
-make_supply-requires-clause-small c = λ n l.
-    let month = c.requires.month in
-    let small = node_small
-    c.requires.context.valid c.requires.context.series month.partial month.under_way month.keeps.month.shows l in
-    omega (arith, small)
+make_supply-requires-clause-small c = grind (arith, node_small)
 
 pub returns-then-not-state-clause-keeps : goal.returns-then-not-state-clause-keeps
 returns-then-not-state-clause-keeps c = λ t k. rw c.make_supply.ensures (keeps_supply k)

@@ -1,16 +1,10 @@
-use Rattle.std.proofs.Common.{length, sym, ap, ◌∙◌, arith}
+use Rattle.std.proofs.Common.{sym, ◌∙◌, arith}
 use Rattle.water_model.proofs.Order.{length-by_seniority}
 use Rattle.cert_check.proofs.Missing.{none_missed, some_missed}
 use Rattle.cert_check.proofs.refusing.cut_missing.Goals as goal
 
 pub pass_over-requires-clause-from : goal.pass_over-requires-clause-from
-pass_over-requires-clause-from c =
-    omega (
-      arith,
-      c.requires.awaits.keeps.passed.within,
-      ap length (c.by_seniority-order.ensures ∙ c.requires.context.roll.order),
-      length-by_seniority c.args.context.now.basin.now.rights,
-    )
+pass_over-requires-clause-from c = grind (arith, length-by_seniority)
 
 pub returns-in-Some : goal.returns-in-Some
 returns-in-Some c = λ t k. sym (none_missed c.requires.context.valid k c.in-Some.ensures)

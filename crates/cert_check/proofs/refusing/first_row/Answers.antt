@@ -1,6 +1,6 @@
 use Rattle.std.proofs.Common.{sym, ◌∙◌}
 use Rattle.cert_check.specs.Checking.{call_rows, own_rows}
-use Rattle.cert_check.proofs.FirstRows.{first_is, some_first, none_first}
+use Rattle.cert_check.proofs.Rows.{first_is, some_first, none_first}
 use Rattle.cert_check.proofs.MemberLines.{no_row}
 use Rattle.cert_check.proofs.refusing.first_row.Goals as goal
 
