@@ -188,42 +188,6 @@ spreading_end p tried = record {
   bounded = p.state.bounded;
 }
 
--- a tree in which no step is artificial
-pub artificial_none : {c : Contents} {labels : List ℕ} → HasArtificialStep c labels (no_step c) →
-    IsResidualTree c labels
-artificial_none t = record {
-  words = t.words;
-  root = t.root;
-  rank = t.rank;
-  branch = λ v b m.
-      let was = t.branch v b m in
-      record {
-        arc = was.arc;
-        enters = was.enters;
-        marked = elim was.marked [ inl labeled ↦ labeled | inr o ↦ absurd o ];
-        before = was.before;
-        room = elim (t.room v b m) [ inl room ↦ room | inr o ↦ absurd (omega (arith, was.arc, o)) ];
-      };
-  closed = λ s b r m. elim (t.closed s b r m) [
-    | inl labeled ↦ labeled
-    | inr o ↦ elim o [ inl free ↦ absurd free | inr unscanned ↦ absurd unscanned ]
-  ];
-}
-
--- a tree in which all steps have room
-pub artificial_some : (c : Contents) (labels : List ℕ) (artificial : ℕ) → IsResidualTree c labels →
-    HasArtificialStep c labels artificial
-artificial_some c labels artificial t = record {
-  words = t.words;
-  root = t.root;
-  rank = t.rank;
-  branch = λ v b m.
-      let was = t.branch v b m in
-      record { arc = was.arc; enters = was.enters; before = was.before; marked = inl was.marked };
-  room = λ v b m. inl (t.branch v b m).room;
-  closed = λ s b r m. inl (t.closed s b r m);
-}
-
 -- the node before a node in a tree with an artificial step
 pub artificial_marked : {c : Contents} {labels : List ℕ} {artificial : ℕ} (v : ℕ) →
     HasArtificialStep c labels artificial → v < c.nodes → IsLabeled labels v →
@@ -240,6 +204,39 @@ artificial_closed s t b room m = elim (t.closed s b room m) [
   | inl labeled ↦ labeled
   | inr o ↦ elim o [ inl free ↦ absurd free | inr unscanned ↦ absurd unscanned ]
 ]
+
+-- a tree in which no step is artificial
+pub artificial_none : {c : Contents} {labels : List ℕ} → HasArtificialStep c labels (no_step c) →
+    IsResidualTree c labels
+artificial_none t = record {
+  words = t.words;
+  root = t.root;
+  rank = t.rank;
+  branch = λ v b m.
+      let was = t.branch v b m in
+      record {
+        arc = was.arc;
+        enters = was.enters;
+        marked = artificial_marked v t b m;
+        before = was.before;
+        room = elim (t.room v b m) [ inl room ↦ room | inr o ↦ absurd (omega (arith, was.arc, o)) ];
+      };
+  closed = λ s b r m. artificial_closed s t b r m;
+}
+
+-- a tree in which all steps have room
+pub artificial_some : (c : Contents) (labels : List ℕ) (artificial : ℕ) → IsResidualTree c labels →
+    HasArtificialStep c labels artificial
+artificial_some c labels artificial t = record {
+  words = t.words;
+  root = t.root;
+  rank = t.rank;
+  branch = λ v b m.
+      let was = t.branch v b m in
+      record { arc = was.arc; enters = was.enters; before = was.before; marked = inl was.marked };
+  room = λ v b m. inl (t.branch v b m).room;
+  closed = λ s b r m. inl (t.closed s b r m);
+}
 
 -- the head of an arc is labeled by an artificial step
 pub lend_start : {c : Contents} {labels : List ℕ} (queue : List ℕ) (v s : ℕ) → IsResidualTree c labels →

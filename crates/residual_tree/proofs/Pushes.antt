@@ -11,9 +11,9 @@ use Rattle.circulation.specs.Residual.{IsPushed}
 use Rattle.augment.specs.Search.{SameButScratch}
 use Rattle.residual_tree.specs.Tree.{label_of, IsLabeled, IsResidualTree}
 use Rattle.residual_tree.specs.Repair.{OccursIn, none, IsTreeBut, IsSaturatedTree, HasArtificialStep}
-use Rattle.residual_tree.specs.Repair.{HasSomeArtificial}
+use Rattle.residual_tree.specs.Repair.{no_step, HasSomeArtificial}
 use Rattle.residual_tree.proofs.Changes.{tree_map}
-use Rattle.residual_tree.proofs.Grows.{artificial_some, artificial_closed}
+use Rattle.residual_tree.proofs.Grows.{artificial_none, artificial_some, artificial_closed}
 use Rattle.residual_tree.proofs.Overs.{over_forward, over_either}
 
 -- a step of a walk that goes over the arc a
@@ -233,18 +233,25 @@ held_saturated {c} {labels} lower r at t is lowers more = record {
   ]) m);
 }
 
--- the tree does not depend on the scratch words
-pub tree_over : {c : Contents} {labels : List ℕ} (scratch : List ℕ) → IsResidualTree c labels →
-    IsResidualTree (record c { scratch = scratch }) labels
-tree_over scratch t = record {
+-- a tree that is repaired does not depend on the scratch words
+pub but_over : {c : Contents} {labels : List ℕ} (scratch : List ℕ) {saturated orphan free unscanned : ℕ → Type 0} →
+    IsTreeBut c labels saturated orphan free unscanned → IsTreeBut (record c { scratch = scratch }) labels saturated
+    orphan free unscanned
+but_over scratch t = record {
   words = t.words;
   root = t.root;
   rank = t.rank;
   branch = λ v b m.
       let was = t.branch v b m in
-      record { arc = was.arc; enters = was.enters; marked = was.marked; before = was.before; room = was.room };
+      record { arc = was.arc; enters = was.enters; before = was.before; marked = was.marked };
+  room = t.room;
   closed = t.closed;
 }
+
+-- the tree does not depend on the scratch words
+pub tree_over : {c : Contents} {labels : List ℕ} (scratch : List ℕ) → IsResidualTree c labels →
+    IsResidualTree (record c { scratch = scratch }) labels
+tree_over {c} {labels} scratch t = artificial_none (but_over scratch (artificial_some c labels (no_step c) t))
 
 -- after a hold on an arc, whose step back was written down
 pub hold_saturated : {c d e : Contents} {labels : List ℕ} (r amount : ℕ) {s : ℕ} → IsCirculation c →
@@ -260,21 +267,6 @@ hold_saturated {c} {labels} r amount {s} k t b is written held =
     get_or-set_same c.scratch 0 s 0 (omega (arith, k.shape.scratch)) ∙ is in
     subst (λ (x : Contents). IsSaturatedTree x labels 0 1) (sym now) (held_saturated (slice_set c.lower r more) r 0
     (tree_over (slice_set c.scratch 0 s) t) at (λ a ne. get_or-set_other c.lower r a more 0 ne) (omega (arith, here)))
-
--- a tree that is repaired does not depend on the scratch words
-pub but_over : {c : Contents} {labels : List ℕ} (scratch : List ℕ) {saturated orphan free unscanned : ℕ → Type 0} →
-    IsTreeBut c labels saturated orphan free unscanned → IsTreeBut (record c { scratch = scratch }) labels saturated
-    orphan free unscanned
-but_over scratch t = record {
-  words = t.words;
-  root = t.root;
-  rank = t.rank;
-  branch = λ v b m.
-      let was = t.branch v b m in
-      record { arc = was.arc; enters = was.enters; before = was.before; marked = was.marked };
-  room = t.room;
-  closed = t.closed;
-}
 
 -- a tree in which all steps have room, as one with an artificial step to the head of an arc
 pub residual_artificial : {c : Contents} {labels : List ℕ} (r : ℕ) → IsResidualTree c labels →
