@@ -1,5 +1,5 @@
 -- What a push and a hold do to the tree.
-use Rattle.std.proofs.Common.{ℕ, zero, suc, Bool, not, max, ◌≡◌, ◌≢◌, ◌+◌, ◌-◌, ◌*◌, ◌<◌, ◌≤◌, ◌⊎◌, List, length}
+use Rattle.std.proofs.Common.{ℕ, zero, suc, Bool, true, false, not, max, ◌≡◌, ◌≢◌, ◌+◌, ◌-◌, ◌*◌, ◌<◌, ◌≤◌, ◌⊎◌, List, length}
 use Rattle.std.proofs.Common.{slice_index, slice_set, refl, arith, ap, sym, subst, inl, inr, ◌∙◌}
 use Rattle.std.proofs.lemmas.Bool.{cases_eq}
 use Rattle.finite_sums.specs.Sums.{when}
@@ -14,7 +14,7 @@ use Rattle.residual_tree.specs.Repair.{OccursIn, none, IsTreeBut, IsSaturatedTre
 use Rattle.residual_tree.specs.Repair.{no_step, HasSomeArtificial}
 use Rattle.residual_tree.proofs.Changes.{tree_map}
 use Rattle.residual_tree.proofs.Grows.{artificial_none, artificial_some, artificial_closed}
-use Rattle.residual_tree.proofs.Overs.{over_forward, over_either}
+use Rattle.residual_tree.proofs.Overs.{IsOver, over, over_forward, over_either}
 
 -- a step of a walk that goes over the arc a
 record IsOn (step : ℕ → ℕ) (first last a : ℕ) : Type 0 where
@@ -196,10 +196,7 @@ held_saturated {c} {labels} lower r at t is lowers more = record {
       let was = t.branch v b m in
       let s = label_of labels v - 1 in
       elim (over_either (network c) (flow_of c) s) [
-        | inl f ↦ elim (over_either (network (record c { lower = lower })) (flow_of c) s) [
-          | inl h ↦ inl (omega (arith, f.1.room, h.1.room, was.room))
-          | inr h ↦ absurd (omega (arith, f.0, h.0))
-        ]
+        | inl f ↦ inl (omega (arith, f.1.room, (now s false f.1.labels).room, was.room))
         | inr f ↦ elim (cases_eq (arc_of s) r) [
           | inl own ↦ inr record {
             place = at;
@@ -212,26 +209,18 @@ held_saturated {c} {labels} lower r at t is lowers more = record {
       ];
   closed = λ s b room m. inl (t.closed s b (elim (cases_eq (arc_of s) r) [
     | inl own ↦ elim (over_either (network c) (flow_of c) s) [
-      | inl f ↦ elim (over_either (network (record c { lower = lower })) (flow_of c) s) [
-        | inl h ↦ omega (arith, f.1.room, h.1.room, room)
-        | inr h ↦ absurd (omega (arith, f.0, h.0))
-      ]
-      | inr f ↦ elim (over_either (network (record c { lower = lower })) (flow_of c) s) [
-        | inl h ↦ absurd (omega (arith, f.0, h.0))
-        | inr h ↦ omega (
-          arith,
-          f.1.room,
-          h.1.room,
-          room,
-          ap (slice_index lower) own,
-          ap (slice_index c.lower) own,
-          more,
-        )
-      ]
+      | inl f ↦ omega (arith, f.1.room, (now s false f.1.labels).room, room)
+      | inr f ↦
+          let after = (now s true f.1.labels).room in
+          omega (arith, f.1.room, after, room, ap (slice_index lower) own, ap (slice_index c.lower) own, more)
     ]
     | inr other ↦ omega (arith, same_room c lower c.flow s refl (lowers (arc_of s) other), room)
   ]) m);
 }
+  where
+    now : (s : ℕ) (back : Bool) → is_backward s ≡ back →
+        IsOver (network (record c { lower = lower })) (flow_of c) s (arc_of s) back
+    now s back way = over (network (record c { lower = lower })) (flow_of c) s (arc_of s) back refl way
 
 -- a tree that is repaired does not depend on the scratch words
 pub but_over : {c : Contents} {labels : List ℕ} (scratch : List ℕ) {saturated orphan free unscanned : ℕ → Type 0} →

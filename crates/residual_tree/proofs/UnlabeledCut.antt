@@ -13,39 +13,40 @@ use Rattle.residual_tree.specs.Repair.{HasSomeArtificial, HasArtificialStep}
 use Rattle.residual_tree.proofs.Grows.{artificial_closed, artificial_marked}
 use Rattle.residual_tree.proofs.Overs.{over_forward, over_backward, over_either}
 
--- no step with room leads from a node that is labeled to an unlabeled one, by arcs
+-- a step from a node that is labeled to an unlabeled one has no room
+no_room : {c : Contents} {labels : List ℕ} {artificial : ℕ} (s : ℕ) → HasArtificialStep c labels artificial →
+    arc_of s < arcs c → IsLabeled labels (start_of (network c) s) → label_of labels (end_of (network c) s) ≡ 0 →
+    room_of (network c) (flow_of c) s ≡ 0
+no_room {c} s t b m none = elim (cases_eq (room_of (network c) (flow_of c) s) 0) [
+  | inl empty ↦ empty
+  | inr some ↦ absurd (omega (arith, artificial_closed s t b (omega arith) m, none))
+]
+
+-- the same by arcs, forward
 pub closed_out : {c : Contents} {labels : List ℕ} {artificial : ℕ} (a : ℕ) → HasArtificialStep c labels artificial →
     a < arcs c → IsLabeled labels (slice_index c.from a) → label_of labels (slice_index c.to a) ≡ 0 →
     slice_index c.upper a ≤ flow_of c a
 closed_out {c} {labels} a t b m none =
     let o = over_forward (network c) (flow_of c) a in
-    elim (cases_lt (flow_of c a) (slice_index c.upper a)) [
-      | inl room ↦ absurd (omega (
-        arith,
-        artificial_closed (2 * a) t (omega (arith, o.arc, b)) (omega (arith, o.room, room))
-            (subst (λ (u : ℕ). IsLabeled labels u) (sym o.starts) m),
-        ap (label_of labels) o.enters,
-        none,
-      ))
-      | inr full ↦ full
-    ]
+    omega (
+      arith,
+      o.room,
+      no_room (2 * a) t (omega (arith, o.arc, b))
+          (subst (λ (u : ℕ). IsLabeled labels u) (sym o.starts) m) (ap (label_of labels) o.enters ∙ none),
+    )
 
--- the same backward
+-- and backward
 pub closed_in : {c : Contents} {labels : List ℕ} {artificial : ℕ} (a : ℕ) → HasArtificialStep c labels artificial →
     a < arcs c → IsLabeled labels (slice_index c.to a) → label_of labels (slice_index c.from a) ≡ 0 →
     flow_of c a ≤ slice_index c.lower a
 closed_in {c} {labels} a t b m none =
     let o = over_backward (network c) (flow_of c) a in
-    elim (cases_lt (slice_index c.lower a) (flow_of c a)) [
-      | inl room ↦ absurd (omega (
-        arith,
-        artificial_closed (2 * a + 1) t (omega (arith, o.arc, b)) (omega (arith, o.room, room))
-            (subst (λ (u : ℕ). IsLabeled labels u) (sym o.starts) m),
-        ap (label_of labels) o.enters,
-        none,
-      ))
-      | inr empty ↦ empty
-    ]
+    omega (
+      arith,
+      o.room,
+      no_room (2 * a + 1) t (omega (arith, o.arc, b))
+          (subst (λ (u : ℕ). IsLabeled labels u) (sym o.starts) m) (ap (label_of labels) o.enters ∙ none),
+    )
 
 -- no step with room leads into a set whose arcs have none
 blocked : (c : Contents) {r : ℕ} (s : ℕ) {z : ℕ → Bool} → IsSaturated (network c) (flow_of c) r z → arc_of s < arcs c →
