@@ -1,7 +1,9 @@
--- The step over the same arc the other way.
-use Rattle.std.proofs.Common.{ℕ, Bool, ◌≡◌, ◌+◌, ◌-◌, ◌*◌, arith, ap, sym, subst, inl, inr, ◌∙◌}
+-- The step over the same arc the other way, and the steps of a row.
+use Rattle.std.proofs.Common.{ℕ, Bool, ◌≡◌, ◌+◌, ◌-◌, ◌*◌, ◌<◌, ◌≤◌, slice_index, arith, ap, sym, subst, inl, inr, ◌∙◌}
+use Rattle.circulation.specs.Contents.{Contents, IsCirculation}
 use Rattle.circulation.specs.Network.{Network}
 use Rattle.circulation.specs.Residual.{arc_of, by_direction, start_of, end_of, opposite}
+use Rattle.circulation.proofs.Scans.{IsAt, scan_at}
 use Rattle.residual_tree.proofs.Overs.{over_forward, over_backward, over_either}
 
 -- what is known of the step over the same arc the other way
@@ -36,3 +38,10 @@ opposite_is w s = elim (over_either w (λ x. 0) s) [
         back = ap (λ (b : Bool). by_direction b (2 * arc_of s + 1) (2 * arc_of s - 1)) o.labels ∙ omega (arith, f.0);
       }
 ]
+
+-- the step at an index in the row of a node, by where the row begins and ends
+pub row_step : {c : Contents} (v : ℕ) {place s u first last : ℕ} → IsCirculation c → v ≤ c.nodes →
+    first ≡ slice_index c.rows.first v → last ≡ slice_index c.rows.first (v + 1) → first ≤ place → place < last →
+    s ≡ slice_index c.rows.step place → u ≡ slice_index c.rows.end place → IsAt c v s u
+row_step {c} v {place} {s} {u} k within first last from below step end =
+    scan_at c v place s u k within (omega (arith, first, from)) (omega (arith, last, below)) step end

@@ -40,6 +40,7 @@ raised_is c {e} r amount written pushed held =
 
 -- the tree after a walk was written, a push, a hold, and the artificial step before the walk
 pub record IsRoundTree (c g : Contents) (labels : List ℕ) (first last : ℕ) : Type 0 where
+  pub fits : last ≤ 4 * g.nodes + 8
   pub saturated : IsSaturatedTree g labels first last
   pub arcs : (i : ℕ) → first ≤ i → i < last → arc_of (step_of g i) < arcs g
 
@@ -69,6 +70,7 @@ round_saturated {c} {d} {e} {f} {labels} {r} {first} first' {last} {amount} flow
     rw after (subst (λ (n : ℕ). IsRoundTree c (record here { scratch = slice_set d.scratch (first - 1) t.step }) labels
     first' n) (sym (more ∙ is))
     record {
+      fits = omega arith;
       saturated = saturated_written first first' (4 * c.nodes + 8) t.step before long (omega (arith, traced.some))
           (pushed_saturated (slice_set c.lower r (max (slice_index c.lower r) flow))
           e.flow kept over walk whole traced.forward traced.ends
