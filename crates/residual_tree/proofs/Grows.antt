@@ -9,7 +9,7 @@ use Rattle.residual_tree.specs.declared.TheConstants.{ROOT}
 use Rattle.residual_tree.specs.Tree.{label_of, IsLabeled, IsResidualTree}
 use Rattle.residual_tree.specs.Repair.{none, only, no_step, IsFreeing, IsGrowing, HasArtificialStep}
 use Rattle.residual_tree.proofs.Changes.{count_most, count_attached, occurs_more, occurs_here, occurs_or}
-use Rattle.residual_tree.proofs.Changes.{occurs_nowhere, IsLooseWay, labeled_still, tree_attach, tree_map}
+use Rattle.residual_tree.proofs.Changes.{occurs_nowhere, other_word, IsLooseWay, labeled_still, tree_attach, tree_map}
 use Rattle.circulation.proofs.Scans.{end_within}
 use Rattle.residual_tree.proofs.Overs.{over_backward}
 
@@ -86,11 +86,7 @@ IsTried c labels s = 0 < room_of (network c) (flow_of c) s → IsLabeled labels 
 pub inner_end : {c : Contents} (labels : List ℕ) (s : ℕ) → IsCirculation c → arc_of s < arcs c →
     label_of labels c.nodes ≡ ROOT → label_of labels (end_of (network c) s) ≡ 0 → end_of (network c) s < c.nodes
 inner_end {c} labels s k b root unlabeled =
-    let within = end_within c s k b in
-    elim (cases_eq (end_of (network c) s) c.nodes) [
-      | inl is ↦ absurd (omega (arith, ap (label_of labels) is, unlabeled, root))
-      | inr ne ↦ omega arith
-    ]
+    other_word labels (end_of (network c) s) c.nodes (end_within c s k b) (λ e. omega (arith, e, unlabeled, root))
 
 -- what may be done by a step: its end is labeled and put into the queue, if it is unlabeled and the step has room
 pub record LabelsEnd (c : Contents) (labels queue labels' queue' : List ℕ) (size size' s : ℕ) : Type 0 where

@@ -10,6 +10,7 @@ use Rattle.augment.proofs.Cuts.{IsSaturated, tight-from_closed, saturated-from_t
 use Rattle.augment.proofs.Trees.{in_set, set_from, not_in_set, start_within}
 use Rattle.residual_tree.specs.Tree.{label_of, IsLabeled, unlabeled}
 use Rattle.residual_tree.specs.Repair.{HasSomeArtificial, HasArtificialStep}
+use Rattle.residual_tree.proofs.Changes.{other_word}
 use Rattle.residual_tree.proofs.Grows.{artificial_closed, artificial_marked}
 use Rattle.residual_tree.proofs.Overs.{over_forward, over_backward, over_either}
 
@@ -124,13 +125,8 @@ pub unlabeled_cut : {c : Contents} {labels : List ℕ} {r : ℕ} → IsCirculati
     IsGreatestCut (network c) (flow_of c) r (unlabeled c labels)
 unlabeled_cut {c} {labels} {r} k t b none head =
     let root : IsLabeled labels c.nodes = omega (arith, t.tree.root) in
-    let tail_in : slice_index c.from r < c.nodes = elim (cases_lt (slice_index c.from r) c.nodes) [
-      | inl d ↦ d
-      | inr d ↦
-          let from_in = k.ends.from_in r b in
-          let is : slice_index c.from r ≡ c.nodes = omega arith in
-          absurd (omega (arith, ap (label_of labels) is, none, root))
-    ] in
+    let tail_in : slice_index c.from r < c.nodes = other_word labels (slice_index c.from r) c.nodes (k.ends.from_in r b)
+    (λ e. omega (arith, e, none, root)) in
     record {
       tight = tight-from_closed (network c) r (λ v. nat_lt v c.nodes && (label_of labels v == 0)) (flow_of c) b
           record {
