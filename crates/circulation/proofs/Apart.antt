@@ -3,13 +3,8 @@ use Rattle.std.proofs.Common.{ℕ, zero, suc, Bool, ◌==◌, ◌≡◌, ◌≢�
 use Rattle.std.proofs.lemmas.Bool.{eq-eqb, ne_eqb}
 use Rattle.std.proofs.lemmas.Bool.Decides.{eqb_tells}
 use Rattle.finite_sums.specs.Sums.{total, when}
+use Rattle.finite_sums.proofs.Counts.{total_ones}
 use Rattle.finite_sums.proofs.Totals.{total_le, total_same, total_zero, total_add, total_exchange, total_pick}
-
--- a sum of ones
-total_ones : (n : ℕ) → total n (λ k. 1) ≡ n
-unfolding total
-total_ones zero = refl
-total_ones (suc n) = omega (arith, total_ones n)
 
 -- how often a number is among others
 abbrev times : ℕ → (ℕ → ℕ) → ℕ → ℕ

@@ -1,5 +1,5 @@
 -- A push along a closed walk keeps the flow: what holds when the steps before `at` are done.
-use Rattle.std.proofs.Common.{ℕ, Bool, true, false, not, ◌==◌, ◌≡◌, ◌≢◌, ◌+◌, ◌-◌, ◌^◌, ◌<◌, ◌≤◌, List, length}
+use Rattle.std.proofs.Common.{ℕ, Bool, true, false, not, ◌==◌, ◌≡◌, ◌≢◌, ◌+◌, ◌-◌, ◌^◌, ◌<◌, ◌≤◌, length}
 use Rattle.std.proofs.Common.{slice_index, slice_set, refl, arith, ap, sym, subst, inl, inr, ◌∙◌}
 use Rattle.std.proofs.lemmas.Bool.Decides.{eqb_tells}
 use Rattle.std.proofs.lemmas.List.{get_or-set_same, get_or-set_other, length-set}
@@ -151,20 +151,6 @@ change_fits w old new step first last at amount flow walk p a b =
           (old (arc_of (step at)) - w.lower (arc_of (step at)))) e room in omega (arith, r, same),
     )
 
--- a circulation keeps what it is when the steps are done
-pub pushed-kept : {c : Contents} (x : Contents) {written : List ℕ} (flow : List ℕ) {first last at amount : ℕ} → c ≡ x →
-    IsCirculation c → length flow ≡ length c.flow → written ≡ flow → at ≡ last →
-    IsPushing (network x) (flow_of x) (λ a. slice_index flow a) (step_of x) first last at amount →
-    IsCirculation (record c { flow = written })
-pushed-kept {c} x flow {first} {last} {amount} view k same is end p =
-    let kept = subst IsCirculation view k in
-    let done = subst (λ (n : ℕ). IsPushing (network x) (flow_of x) (λ a. slice_index flow a)
-    (step_of x) first last n amount) end p in
-    let last_flow = pushing_end kept.flow done in
-    let own_flow = subst (λ (y : Contents). IsFlow (network y) (λ a. slice_index flow a)) (sym view) last_flow in
-    let length_now : length flow ≡ length c.from = omega (arith, same, k.shape.flow) in
-    rw is (flow-kept flow k length_now own_flow)
-
 -- a circulation in which the steps before `at` are done
 pub record IsPushState (x y : Contents) (first last at amount : ℕ) : Type 0 where
   pub rest : y ≡ record x { flow = y.flow }
@@ -229,8 +215,11 @@ push_next {x} {y} {first} {last} {at} {amount} new k walk p a b change =
 -- when all steps are done it is a circulation again
 pub push_kept : {x y : Contents} {first last at amount : ℕ} → IsCirculation x → IsPushState x y first last at amount →
     at ≡ last → IsCirculation y
-push_kept {x} {y} k p end =
-    subst IsCirculation (sym p.rest) (pushed-kept x y.flow refl k p.size refl end p.pushing)
+push_kept {x} {y} {first} {last} {amount = amount} k p end =
+    let done = subst (λ (n : ℕ). IsPushing (network x) (flow_of x) (flow_of y) (step_of x) first last n amount) end
+    p.pushing in
+    subst IsCirculation (sym p.rest) (flow-kept y.flow k (omega (arith, p.size, k.shape.flow))
+    (pushing_end k.flow done))
 
 pub push_done : {x y : Contents} {first last at amount : ℕ} → IsPushState x y first last at amount → at ≡ last →
     IsPushed (flow_of x) (flow_of y) (step_of x) first last amount

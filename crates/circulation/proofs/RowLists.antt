@@ -147,8 +147,7 @@ part_next {from} {to} {v} {upto} {turn} {last} {s} {u} {steps} {ends} part n end
       leads = λ p b d. elim (cases_lt p last) [
         | inl before ↦
             let ne = less_other p last before in
-            subst (λ (x : ℕ). Leads from to v x (slice_index ends' p)) (sym (w.other p ne))
-            (subst (λ (x : ℕ). Leads from to v (slice_index steps p) x) (sym (e.other p ne)) (part.leads p b before))
+            rw (w.other p ne, e.other p ne) (part.leads p b before)
         | inr at_last ↦
             let here : last ≡ p = omega arith in
             subst (λ (q : ℕ). Leads from to v (slice_index steps' q) (slice_index ends' q)) here
@@ -222,6 +221,14 @@ zeros_small xs n m none p = elim (cases_lt p n) [
   | inr more ↦ omega (arith, get_or_past (take n (drop m xs)) p 0 (omega (arith, length-take n (drop m xs), more)))
 ]
 
+-- what each word below an index is, each is still when one more is written
+each_written : (P : ℕ → Type 0) (xs : List ℕ) (last x : ℕ) → last < length xs →
+    ((p : ℕ) → p < last → P (slice_index xs p)) → P x → (p : ℕ) → p < last + 1 → P (slice_index (slice_set xs last x) p)
+each_written P xs last x room before here p b = elim (cases_eq p last) [
+  | inl e ↦ subst P (sym (ap (slice_index (slice_set xs last x)) e ∙ get_or-set_same xs last x 0 room)) here
+  | inr ne ↦ subst P (sym (get_or-set_other xs last p x 0 ne)) (before p (omega arith))
+]
+
 -- steps that are apart stay so when one more is written
 pub apart_more : {from to : List ℕ} {n last : ℕ} (s : ℕ) {steps : List ℕ} → AreApart from to n last steps →
     last < length steps → arc_of s < length from → start_of (over from to) s < n →
@@ -230,23 +237,8 @@ apart_more {from} {to} {n} {last} s {steps} apart room arc start is_new =
     let w = written_at steps last s room in
     let steps' = slice_set steps last s in
     record {
-      arcs = λ p b. elim (cases_lt p last) [
-        | inl before ↦
-            subst (λ (x : ℕ). arc_of x < length from) (sym (w.other p (less_other p last before))) (apart.arcs p before)
-        | inr at_last ↦
-            let here : last ≡ p = omega arith in
-            subst (λ (q : ℕ). arc_of (slice_index steps' q) < length from) here
-            (subst (λ (x : ℕ). arc_of x < length from) (sym w.here) arc)
-      ];
-      starts = λ p b. elim (cases_lt p last) [
-        | inl before ↦
-            subst (λ (x : ℕ). start_of (over from to) x < n) (sym (w.other p (less_other p last before)))
-            (apart.starts p before)
-        | inr at_last ↦
-            let here : last ≡ p = omega arith in
-            subst (λ (q : ℕ). start_of (over from to) (slice_index steps' q) < n) here
-            (subst (λ (x : ℕ). start_of (over from to) x < n) (sym w.here) start)
-      ];
+      arcs = each_written (λ (x : ℕ). arc_of x < length from) steps last s room apart.arcs arc;
+      starts = each_written (λ (x : ℕ). start_of (over from to) x < n) steps last s room apart.starts start;
       once = λ p q d b same. elim (cases_lt q last) [
         | inl before ↦ apart.once p q d before
             (sym (w.other p (less_other p last (omega arith))) ∙ same ∙ w.other q (less_other q last before))
@@ -324,9 +316,7 @@ row_stays {from} {to} {r} more {v} {last} first next inside sizes same row =
     record {
       order = omega arith;
       within = omega arith;
-      leads = λ p i. subst (λ (y : ℕ). Leads from to v y (slice_index more.end p)) (sym (same.same_steps p (short p i)))
-          (subst (λ (y : ℕ). Leads from to v (slice_index r.step p) y) (sym (same.same_ends p (short p i)))
-          (row.leads p (before p i)));
+      leads = λ p i. rw (same.same_steps p (short p i), same.same_ends p (short p i)) (row.leads p (before p i));
       once = λ p q i j e. row.once p q (before p i) (before q j)
           (sym (same.same_steps p (short p i)) ∙ e ∙ same.same_steps q (short q j));
       all = λ s d e.

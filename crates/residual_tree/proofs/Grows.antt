@@ -9,7 +9,7 @@ use Rattle.residual_tree.specs.declared.TheConstants.{ROOT}
 use Rattle.residual_tree.specs.Tree.{label_of, IsLabeled, IsResidualTree}
 use Rattle.residual_tree.specs.Repair.{none, only, no_step, IsFreeing, IsGrowing, HasArtificialStep}
 use Rattle.residual_tree.proofs.Changes.{count_most, count_attached, occurs_more, occurs_here, occurs_or}
-use Rattle.residual_tree.proofs.Changes.{occurs_nowhere, IsLooseWay, labeled_still, tree_attach, tree_map}
+use Rattle.residual_tree.proofs.Changes.{occurs_nowhere, other_word, IsLooseWay, labeled_still, tree_attach, tree_map}
 use Rattle.circulation.proofs.Scans.{end_within}
 use Rattle.residual_tree.proofs.Overs.{over_backward}
 
@@ -86,11 +86,7 @@ IsTried c labels s = 0 < room_of (network c) (flow_of c) s → IsLabeled labels 
 pub inner_end : {c : Contents} (labels : List ℕ) (s : ℕ) → IsCirculation c → arc_of s < arcs c →
     label_of labels c.nodes ≡ ROOT → label_of labels (end_of (network c) s) ≡ 0 → end_of (network c) s < c.nodes
 inner_end {c} labels s k b root unlabeled =
-    let within = end_within c s k b in
-    elim (cases_eq (end_of (network c) s) c.nodes) [
-      | inl is ↦ absurd (omega (arith, ap (label_of labels) is, unlabeled, root))
-      | inr ne ↦ omega arith
-    ]
+    other_word labels (end_of (network c) s) c.nodes (end_within c s k b) (λ e. omega (arith, e, unlabeled, root))
 
 -- what may be done by a step: its end is labeled and put into the queue, if it is unlabeled and the step has room
 pub record LabelsEnd (c : Contents) (labels queue labels' queue' : List ℕ) (size size' s : ℕ) : Type 0 where
@@ -188,42 +184,6 @@ spreading_end p tried = record {
   bounded = p.state.bounded;
 }
 
--- a tree in which no step is artificial
-pub artificial_none : {c : Contents} {labels : List ℕ} → HasArtificialStep c labels (no_step c) →
-    IsResidualTree c labels
-artificial_none t = record {
-  words = t.words;
-  root = t.root;
-  rank = t.rank;
-  branch = λ v b m.
-      let was = t.branch v b m in
-      record {
-        arc = was.arc;
-        enters = was.enters;
-        marked = elim was.marked [ inl labeled ↦ labeled | inr o ↦ absurd o ];
-        before = was.before;
-        room = elim (t.room v b m) [ inl room ↦ room | inr o ↦ absurd (omega (arith, was.arc, o)) ];
-      };
-  closed = λ s b r m. elim (t.closed s b r m) [
-    | inl labeled ↦ labeled
-    | inr o ↦ elim o [ inl free ↦ absurd free | inr unscanned ↦ absurd unscanned ]
-  ];
-}
-
--- a tree in which all steps have room
-pub artificial_some : (c : Contents) (labels : List ℕ) (artificial : ℕ) → IsResidualTree c labels →
-    HasArtificialStep c labels artificial
-artificial_some c labels artificial t = record {
-  words = t.words;
-  root = t.root;
-  rank = t.rank;
-  branch = λ v b m.
-      let was = t.branch v b m in
-      record { arc = was.arc; enters = was.enters; before = was.before; marked = inl was.marked };
-  room = λ v b m. inl (t.branch v b m).room;
-  closed = λ s b r m. inl (t.closed s b r m);
-}
-
 -- the node before a node in a tree with an artificial step
 pub artificial_marked : {c : Contents} {labels : List ℕ} {artificial : ℕ} (v : ℕ) →
     HasArtificialStep c labels artificial → v < c.nodes → IsLabeled labels v →
@@ -240,6 +200,39 @@ artificial_closed s t b room m = elim (t.closed s b room m) [
   | inl labeled ↦ labeled
   | inr o ↦ elim o [ inl free ↦ absurd free | inr unscanned ↦ absurd unscanned ]
 ]
+
+-- a tree in which no step is artificial
+pub artificial_none : {c : Contents} {labels : List ℕ} → HasArtificialStep c labels (no_step c) →
+    IsResidualTree c labels
+artificial_none t = record {
+  words = t.words;
+  root = t.root;
+  rank = t.rank;
+  branch = λ v b m.
+      let was = t.branch v b m in
+      record {
+        arc = was.arc;
+        enters = was.enters;
+        marked = artificial_marked v t b m;
+        before = was.before;
+        room = elim (t.room v b m) [ inl room ↦ room | inr o ↦ absurd (omega (arith, was.arc, o)) ];
+      };
+  closed = λ s b r m. artificial_closed s t b r m;
+}
+
+-- a tree in which all steps have room
+pub artificial_some : (c : Contents) (labels : List ℕ) (artificial : ℕ) → IsResidualTree c labels →
+    HasArtificialStep c labels artificial
+artificial_some c labels artificial t = record {
+  words = t.words;
+  root = t.root;
+  rank = t.rank;
+  branch = λ v b m.
+      let was = t.branch v b m in
+      record { arc = was.arc; enters = was.enters; before = was.before; marked = inl was.marked };
+  room = λ v b m. inl (t.branch v b m).room;
+  closed = λ s b r m. inl (t.closed s b r m);
+}
 
 -- the head of an arc is labeled by an artificial step
 pub lend_start : {c : Contents} {labels : List ℕ} (queue : List ℕ) (v s : ℕ) → IsResidualTree c labels →

@@ -1,4 +1,5 @@
 pub mod Marked
+pub mod Overs
 pub mod Opposites
 pub mod Changes
 pub mod Adopts
@@ -6,7 +7,6 @@ pub mod Frees
 pub mod Grows
 pub mod Seeds
 pub mod Outgoing
-pub mod Overs
 pub mod UnlabeledCut
 pub mod Ranks
 pub mod Walks

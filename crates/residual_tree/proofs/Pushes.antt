@@ -1,6 +1,6 @@
 -- What a push and a hold do to the tree.
-use Rattle.std.proofs.Common.{ℕ, zero, suc, Bool, not, max, ◌≡◌, ◌≢◌, ◌+◌, ◌-◌, ◌*◌, ◌<◌, ◌≤◌, ◌⊎◌, List, length}
-use Rattle.std.proofs.Common.{slice_index, slice_set, refl, arith, ap, sym, subst, inl, inr, ◌∙◌}
+use Rattle.std.proofs.Common.{ℕ, zero, suc, Bool, true, false, not, max, ◌≡◌, ◌≢◌, ◌+◌, ◌-◌, ◌*◌, ◌<◌, ◌≤◌, ◌⊎◌, List}
+use Rattle.std.proofs.Common.{length, slice_index, slice_set, refl, arith, ap, sym, subst, inl, inr, ◌∙◌}
 use Rattle.std.proofs.lemmas.Bool.{cases_eq}
 use Rattle.finite_sums.specs.Sums.{when}
 use Rattle.circulation.specs.Network.{Network}
@@ -11,10 +11,10 @@ use Rattle.circulation.specs.Residual.{IsPushed}
 use Rattle.augment.specs.Search.{SameButScratch}
 use Rattle.residual_tree.specs.Tree.{label_of, IsLabeled, IsResidualTree}
 use Rattle.residual_tree.specs.Repair.{OccursIn, none, IsTreeBut, IsSaturatedTree, HasArtificialStep}
-use Rattle.residual_tree.specs.Repair.{HasSomeArtificial}
+use Rattle.residual_tree.specs.Repair.{no_step, HasSomeArtificial}
 use Rattle.residual_tree.proofs.Changes.{tree_map}
-use Rattle.residual_tree.proofs.Grows.{artificial_some, artificial_closed}
-use Rattle.residual_tree.proofs.Overs.{over_forward, over_either}
+use Rattle.residual_tree.proofs.Grows.{artificial_none, artificial_some, artificial_closed}
+use Rattle.residual_tree.proofs.Overs.{IsOver, over, over_forward, over_either}
 
 -- a step of a walk that goes over the arc a
 record IsOn (step : ℕ → ℕ) (first last a : ℕ) : Type 0 where
@@ -196,10 +196,7 @@ held_saturated {c} {labels} lower r at t is lowers more = record {
       let was = t.branch v b m in
       let s = label_of labels v - 1 in
       elim (over_either (network c) (flow_of c) s) [
-        | inl f ↦ elim (over_either (network (record c { lower = lower })) (flow_of c) s) [
-          | inl h ↦ inl (omega (arith, f.1.room, h.1.room, was.room))
-          | inr h ↦ absurd (omega (arith, f.0, h.0))
-        ]
+        | inl f ↦ inl (omega (arith, f.1.room, (now s false f.1.labels).room, was.room))
         | inr f ↦ elim (cases_eq (arc_of s) r) [
           | inl own ↦ inr record {
             place = at;
@@ -212,54 +209,18 @@ held_saturated {c} {labels} lower r at t is lowers more = record {
       ];
   closed = λ s b room m. inl (t.closed s b (elim (cases_eq (arc_of s) r) [
     | inl own ↦ elim (over_either (network c) (flow_of c) s) [
-      | inl f ↦ elim (over_either (network (record c { lower = lower })) (flow_of c) s) [
-        | inl h ↦ omega (arith, f.1.room, h.1.room, room)
-        | inr h ↦ absurd (omega (arith, f.0, h.0))
-      ]
-      | inr f ↦ elim (over_either (network (record c { lower = lower })) (flow_of c) s) [
-        | inl h ↦ absurd (omega (arith, f.0, h.0))
-        | inr h ↦ omega (
-          arith,
-          f.1.room,
-          h.1.room,
-          room,
-          ap (slice_index lower) own,
-          ap (slice_index c.lower) own,
-          more,
-        )
-      ]
+      | inl f ↦ omega (arith, f.1.room, (now s false f.1.labels).room, room)
+      | inr f ↦
+          let after = (now s true f.1.labels).room in
+          omega (arith, f.1.room, after, room, ap (slice_index lower) own, ap (slice_index c.lower) own, more)
     ]
     | inr other ↦ omega (arith, same_room c lower c.flow s refl (lowers (arc_of s) other), room)
   ]) m);
 }
-
--- the tree does not depend on the scratch words
-pub tree_over : {c : Contents} {labels : List ℕ} (scratch : List ℕ) → IsResidualTree c labels →
-    IsResidualTree (record c { scratch = scratch }) labels
-tree_over scratch t = record {
-  words = t.words;
-  root = t.root;
-  rank = t.rank;
-  branch = λ v b m.
-      let was = t.branch v b m in
-      record { arc = was.arc; enters = was.enters; marked = was.marked; before = was.before; room = was.room };
-  closed = t.closed;
-}
-
--- after a hold on an arc, whose step back was written down
-pub hold_saturated : {c d e : Contents} {labels : List ℕ} (r amount : ℕ) {s : ℕ} → IsCirculation c →
-    IsResidualTree c labels →
-    r < arcs c → s ≡ 2 * r + 1 → d ≡ record c { scratch = slice_set c.scratch 0 s } → e ≡ held_contents d r amount →
-    IsSaturatedTree e labels 0 1
-hold_saturated {c} {labels} r amount {s} k t b is written held =
-    let long : r < length c.lower = omega (arith, k.shape.lower, b) in
-    let now = held ∙ ap (λ (x : Contents). held_contents x r amount) written in
-    let more = max (slice_index c.lower r) amount in
-    let here = get_or-set_same c.lower r more 0 long in
-    let at : slice_index (slice_set c.scratch 0 s) 0 ≡ 2 * r + 1 =
-    get_or-set_same c.scratch 0 s 0 (omega (arith, k.shape.scratch)) ∙ is in
-    subst (λ (x : Contents). IsSaturatedTree x labels 0 1) (sym now) (held_saturated (slice_set c.lower r more) r 0
-    (tree_over (slice_set c.scratch 0 s) t) at (λ a ne. get_or-set_other c.lower r a more 0 ne) (omega (arith, here)))
+  where
+    now : (s : ℕ) (back : Bool) → is_backward s ≡ back →
+        IsOver (network (record c { lower = lower })) (flow_of c) s (arc_of s) back
+    now s back way = over (network (record c { lower = lower })) (flow_of c) s (arc_of s) back refl way
 
 -- a tree that is repaired does not depend on the scratch words
 pub but_over : {c : Contents} {labels : List ℕ} (scratch : List ℕ) {saturated orphan free unscanned : ℕ → Type 0} →
@@ -275,6 +236,26 @@ but_over scratch t = record {
   room = t.room;
   closed = t.closed;
 }
+
+-- the tree does not depend on the scratch words
+pub tree_over : {c : Contents} {labels : List ℕ} (scratch : List ℕ) → IsResidualTree c labels →
+    IsResidualTree (record c { scratch = scratch }) labels
+tree_over {c} {labels} scratch t = artificial_none (but_over scratch (artificial_some c labels (no_step c) t))
+
+-- after a hold on an arc, whose step back was written down
+pub hold_saturated : {c d e : Contents} {labels : List ℕ} (r amount : ℕ) {s : ℕ} → IsCirculation c →
+    IsResidualTree c labels →
+    r < arcs c → s ≡ 2 * r + 1 → d ≡ record c { scratch = slice_set c.scratch 0 s } → e ≡ held_contents d r amount →
+    IsSaturatedTree e labels 0 1
+hold_saturated {c} {labels} r amount {s} k t b is written held =
+    let long : r < length c.lower = omega (arith, k.shape.lower, b) in
+    let now = held ∙ ap (λ (x : Contents). held_contents x r amount) written in
+    let more = max (slice_index c.lower r) amount in
+    let here = get_or-set_same c.lower r more 0 long in
+    let at : slice_index (slice_set c.scratch 0 s) 0 ≡ 2 * r + 1 =
+    get_or-set_same c.scratch 0 s 0 (omega (arith, k.shape.scratch)) ∙ is in
+    subst (λ (x : Contents). IsSaturatedTree x labels 0 1) (sym now) (held_saturated (slice_set c.lower r more) r 0
+    (tree_over (slice_set c.scratch 0 s) t) at (λ a ne. get_or-set_other c.lower r a more 0 ne) (omega (arith, here)))
 
 -- a tree in which all steps have room, as one with an artificial step to the head of an arc
 pub residual_artificial : {c : Contents} {labels : List ℕ} (r : ℕ) → IsResidualTree c labels →

@@ -1,7 +1,9 @@
 -- Ranks as small numbers: one more than how many nodes have a lesser rank.
-use Rattle.std.proofs.Common.{ℕ, zero, suc, Bool, nat_lt, ◌≡◌, ◌+◌, ◌<◌, ◌≤◌, if◌then◌else◌, arith, ap, inl, inr, refl}
-use Rattle.std.proofs.lemmas.Bool.{cases_eq, cases_lt, lt-ltb, le-ltb}
+use Rattle.std.proofs.Common.{ℕ, zero, suc, Bool, nat_lt, ◌≡◌, ◌+◌, ◌<◌, ◌≤◌, if◌then◌else◌, arith, ap, inl, inr}
+use Rattle.std.proofs.lemmas.Bool.{cases_eq, lt-ltb, le-ltb}
+use Rattle.std.proofs.lemmas.Bool.Decides.{nat_tests}
 use Rattle.finite_sums.specs.Sums.{total}
+use Rattle.finite_sums.proofs.Counts.{total_ones}
 use Rattle.finite_sums.proofs.Totals.{total_le}
 
 -- sums of terms in order, of which one is less
@@ -26,17 +28,12 @@ unfolding counted
 counted_not x y b = ap (λ (t : Bool). if t then 1 else 0) (le-ltb x y b)
 
 counted_one : (x y : ℕ) → counted x y ≤ 1
-counted_one x y = elim (cases_lt x y) [
-  | inl b ↦ omega (arith, counted_less x y b)
-  | inr b ↦
-      omega (arith, counted_not x y b)
-]
+unfolding counted
+counted_one x y = grind (arith, nat_tests)
 
 counted_more : (x y z : ℕ) → y ≤ z → counted x y ≤ counted x z
-counted_more x y z b = elim (cases_lt x y) [
-  | inl c ↦ omega (arith, counted_less x y c, counted_less x z (omega arith))
-  | inr c ↦ omega (arith, counted_not x y c)
-]
+unfolding counted
+counted_more x y z b = grind (arith, nat_tests)
 
 -- one more than how many nodes have a lesser rank
 pub place_of : ℕ → (ℕ → ℕ) → ℕ → ℕ
@@ -45,12 +42,6 @@ place_of nodes rank v = total (nodes + 1) (λ u. counted (rank u) (rank v)) + 1
 pub place_positive : (nodes : ℕ) (rank : ℕ → ℕ) (v : ℕ) → 0 < place_of nodes rank v
 unfolding place_of
 place_positive nodes rank v = omega arith
-
--- a sum of ones
-total_ones : (n : ℕ) → total n (λ k. 1) ≡ n
-unfolding total
-total_ones zero = refl
-total_ones (suc n) = omega (arith, total_ones n)
 
 pub place_most : (nodes : ℕ) (rank : ℕ → ℕ) (v : ℕ) → v ≤ nodes → place_of nodes rank v ≤ nodes + 1
 unfolding place_of

@@ -5,7 +5,7 @@ use Rattle.std.proofs.lemmas.Bool.{cases_eq, cases_lt, eq-eqb, and_right}
 use Rattle.finite_sums.specs.Sums.{total, when}
 use Rattle.finite_sums.proofs.Totals.{total_same}
 use Rattle.circulation.specs.Network.{leaves, cut_in, cut_out, IsCut, IsTight}
-use Rattle.circulation.specs.Contents.{Contents, network, flow_of, arcs, IsCirculation}
+use Rattle.circulation.specs.Contents.{Contents, network, arcs, IsCirculation}
 use Rattle.circulation.specs.Residual.{start_of}
 use Rattle.augment.proofs.Trees.{start_within}
 use Rattle.augment.specs.Search.{SameButScratch}
@@ -84,31 +84,24 @@ cut_old {r} {y} raised cut = record {
   head = ap (λ (x : Contents). y (slice_index x.to r)) (sym raised.rest) ∙ cut.head;
 }
 
-cut_new : {old new : Contents} {r : ℕ} {y : ℕ → Bool} → IsRaisedOver old new r → IsCut (network old) r y →
-    IsCut (network new) r y
-cut_new {r} {y} raised cut = record {
-  basin = λ v b. cut.basin v (omega (arith, b, ap (λ (x : Contents). x.nodes) raised.rest));
-  tail = ap (λ (x : Contents). y (slice_index x.from r)) raised.rest ∙ cut.tail;
-  head = ap (λ (x : Contents). y (slice_index x.to r)) raised.rest ∙ cut.head;
-}
-
 -- a cut is tight in both networks
-tight_old : {old new : Contents} {r : ℕ} {y : ℕ → Bool} → IsRaisedOver old new r →
-    IsTight (network new) (flow_of new) r y → IsTight (network old) (flow_of new) r y
-tight_old {new} {r} {y} raised t = record {
+tight_old : {old new : Contents} {r : ℕ} {g : ℕ → ℕ} {y : ℕ → Bool} → IsRaisedOver old new r →
+    IsTight (network new) g r y → IsTight (network old) g r y
+tight_old {r = r} {g = g} {y = y} raised t = record {
   cut = cut_old raised t.cut;
-  equal = sym (same_in y raised) ∙ t.equal ∙ ap (λ (n : ℕ). flow_of new r + n) (same_out y raised);
+  equal = sym (same_in y raised) ∙ t.equal ∙ ap (λ (n : ℕ). g r + n) (same_out y raised);
 }
 
-tight_new : {old new : Contents} {r : ℕ} {y : ℕ → Bool} → IsRaisedOver old new r →
-    IsTight (network old) (flow_of new) r y → IsTight (network new) (flow_of new) r y
-tight_new {new} {r} {y} raised t = record {
-  cut = cut_new raised t.cut;
-  equal = same_in y raised ∙ t.equal ∙ ap (λ (n : ℕ). flow_of new r + n) (sym (same_out y raised));
+-- the change the other way
+raised_back : {old new : Contents} {r : ℕ} → IsRaisedOver old new r → IsRaisedOver new old r
+raised_back {old} raised = record {
+  rest = sym (ap (λ (x : Contents). record x { lower = old.lower; flow = old.flow; scratch = old.scratch })
+      raised.rest);
+  lowers = λ a ne. sym (raised.lowers a ne);
 }
 
 pub cut_stays_when_held_lem : CutStaysWhenHeld
 cut_stays_when_held_lem old new r y raised g = record {
   tight = tight_old raised g.tight;
-  greatest = λ z tight. g.greatest z (tight_new raised tight);
+  greatest = λ z tight. g.greatest z (tight_old (raised_back raised) tight);
 }

@@ -40,6 +40,7 @@ raised_is c {e} r amount written pushed held =
 
 -- the tree after a walk was written, a push, a hold, and the artificial step before the walk
 pub record IsRoundTree (c g : Contents) (labels : List ℕ) (first last : ℕ) : Type 0 where
+  pub fits : last ≤ 4 * g.nodes + 8
   pub saturated : IsSaturatedTree g labels first last
   pub arcs : (i : ℕ) → first ≤ i → i < last → arc_of (step_of g i) < arcs g
 
@@ -69,6 +70,7 @@ round_saturated {c} {d} {e} {f} {labels} {r} {first} first' {last} {amount} flow
     rw after (subst (λ (n : ℕ). IsRoundTree c (record here { scratch = slice_set d.scratch (first - 1) t.step }) labels
     first' n) (sym (more ∙ is))
     record {
+      fits = omega arith;
       saturated = saturated_written first first' (4 * c.nodes + 8) t.step before long (omega (arith, traced.some))
           (pushed_saturated (slice_set c.lower r (max (slice_index c.lower r) flow))
           e.flow kept over walk whole traced.forward traced.ends
@@ -127,20 +129,18 @@ hold_is {c} r {amount} k b is made =
       held = omega (arith, here, is, k.flow.low r b);
     }
 
--- only scratch words changed
-pub scratch_is : (f : Contents) {g : Contents} (scratch : List ℕ) → g ≡ record f { scratch = scratch } →
-    g ≡ record f { scratch = g.scratch }
-scratch_is f scratch e = e
-    ∙ ap (λ (xs : List ℕ). record f { scratch = xs }) (sym (ap (λ (x : Contents). x.scratch) e))
-
 -- a round after which scratch words were written
 pub round_written : {c f g : Contents} {r amount : ℕ} (scratch : List ℕ) → IsRound c f r amount →
     g ≡ record f { scratch = scratch } → IsRound c g r amount
-round_written {c} {f} {g} {r} scratch round e = record {
-  rest = raised_more c f g r round.rest (raised_scratch f r (scratch_is f scratch e));
-  raised = ap (λ (x : Contents). flow_of x r) e ∙ round.raised;
-  held = ap (λ (x : Contents). flow_of x r) e ∙ round.held ∙ sym (ap (λ (x : Contents). slice_index x.lower r) e);
-}
+round_written {c} {r = r} {amount = amount} scratch round e = subst (λ (x : Contents). IsRound c x r amount) (sym e)
+    record {
+      rest = record {
+        rest = ap (λ (x : Contents). record x { scratch = scratch }) round.rest.rest;
+        lowers = round.rest.lowers;
+      };
+      raised = round.raised;
+      held = round.held;
+    }
 
 -- a hold of an arc that was held at its flow
 pub hold_still : {c d : Contents} (r : ℕ) {amount : ℕ} → IsCirculation c → r < arcs c → amount ≡ flow_of c r →

@@ -10,42 +10,44 @@ use Rattle.augment.proofs.Cuts.{IsSaturated, tight-from_closed, saturated-from_t
 use Rattle.augment.proofs.Trees.{in_set, set_from, not_in_set, start_within}
 use Rattle.residual_tree.specs.Tree.{label_of, IsLabeled, unlabeled}
 use Rattle.residual_tree.specs.Repair.{HasSomeArtificial, HasArtificialStep}
+use Rattle.residual_tree.proofs.Changes.{other_word}
 use Rattle.residual_tree.proofs.Grows.{artificial_closed, artificial_marked}
 use Rattle.residual_tree.proofs.Overs.{over_forward, over_backward, over_either}
 
--- no step with room leads from a node that is labeled to an unlabeled one, by arcs
+-- a step from a node that is labeled to an unlabeled one has no room
+no_room : {c : Contents} {labels : List ℕ} {artificial : ℕ} (s : ℕ) → HasArtificialStep c labels artificial →
+    arc_of s < arcs c → IsLabeled labels (start_of (network c) s) → label_of labels (end_of (network c) s) ≡ 0 →
+    room_of (network c) (flow_of c) s ≡ 0
+no_room {c} s t b m none = elim (cases_eq (room_of (network c) (flow_of c) s) 0) [
+  | inl empty ↦ empty
+  | inr some ↦ absurd (omega (arith, artificial_closed s t b (omega arith) m, none))
+]
+
+-- the same by arcs, forward
 pub closed_out : {c : Contents} {labels : List ℕ} {artificial : ℕ} (a : ℕ) → HasArtificialStep c labels artificial →
     a < arcs c → IsLabeled labels (slice_index c.from a) → label_of labels (slice_index c.to a) ≡ 0 →
     slice_index c.upper a ≤ flow_of c a
 closed_out {c} {labels} a t b m none =
     let o = over_forward (network c) (flow_of c) a in
-    elim (cases_lt (flow_of c a) (slice_index c.upper a)) [
-      | inl room ↦ absurd (omega (
-        arith,
-        artificial_closed (2 * a) t (omega (arith, o.arc, b)) (omega (arith, o.room, room))
-            (subst (λ (u : ℕ). IsLabeled labels u) (sym o.starts) m),
-        ap (label_of labels) o.enters,
-        none,
-      ))
-      | inr full ↦ full
-    ]
+    omega (
+      arith,
+      o.room,
+      no_room (2 * a) t (omega (arith, o.arc, b))
+          (subst (λ (u : ℕ). IsLabeled labels u) (sym o.starts) m) (ap (label_of labels) o.enters ∙ none),
+    )
 
--- the same backward
+-- and backward
 pub closed_in : {c : Contents} {labels : List ℕ} {artificial : ℕ} (a : ℕ) → HasArtificialStep c labels artificial →
     a < arcs c → IsLabeled labels (slice_index c.to a) → label_of labels (slice_index c.from a) ≡ 0 →
     flow_of c a ≤ slice_index c.lower a
 closed_in {c} {labels} a t b m none =
     let o = over_backward (network c) (flow_of c) a in
-    elim (cases_lt (slice_index c.lower a) (flow_of c a)) [
-      | inl room ↦ absurd (omega (
-        arith,
-        artificial_closed (2 * a + 1) t (omega (arith, o.arc, b)) (omega (arith, o.room, room))
-            (subst (λ (u : ℕ). IsLabeled labels u) (sym o.starts) m),
-        ap (label_of labels) o.enters,
-        none,
-      ))
-      | inr empty ↦ empty
-    ]
+    omega (
+      arith,
+      o.room,
+      no_room (2 * a + 1) t (omega (arith, o.arc, b))
+          (subst (λ (u : ℕ). IsLabeled labels u) (sym o.starts) m) (ap (label_of labels) o.enters ∙ none),
+    )
 
 -- no step with room leads into a set whose arcs have none
 blocked : (c : Contents) {r : ℕ} (s : ℕ) {z : ℕ → Bool} → IsSaturated (network c) (flow_of c) r z → arc_of s < arcs c →
@@ -123,13 +125,8 @@ pub unlabeled_cut : {c : Contents} {labels : List ℕ} {r : ℕ} → IsCirculati
     IsGreatestCut (network c) (flow_of c) r (unlabeled c labels)
 unlabeled_cut {c} {labels} {r} k t b none head =
     let root : IsLabeled labels c.nodes = omega (arith, t.tree.root) in
-    let tail_in : slice_index c.from r < c.nodes = elim (cases_lt (slice_index c.from r) c.nodes) [
-      | inl d ↦ d
-      | inr d ↦
-          let from_in = k.ends.from_in r b in
-          let is : slice_index c.from r ≡ c.nodes = omega arith in
-          absurd (omega (arith, ap (label_of labels) is, none, root))
-    ] in
+    let tail_in : slice_index c.from r < c.nodes = other_word labels (slice_index c.from r) c.nodes (k.ends.from_in r b)
+    (λ e. omega (arith, e, none, root)) in
     record {
       tight = tight-from_closed (network c) r (λ v. nat_lt v c.nodes && (label_of labels v == 0)) (flow_of c) b
           record {

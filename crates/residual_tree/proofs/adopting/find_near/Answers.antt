@@ -1,10 +1,9 @@
 use Rattle.std.proofs.Common.{ℕ, ◌≡◌, arith, sym, subst, ◌∙◌}
 use Rattle.circulation.specs.Contents.{network}
 use Rattle.circulation.specs.Residual.{start_of, opposite}
-use Rattle.circulation.proofs.Scans.{scan_at}
 use Rattle.residual_tree.specs.Repair.{IsWayIn}
 use Rattle.residual_tree.specs.Adopting.{IsClear}
-use Rattle.residual_tree.proofs.Opposites.{opposite_is}
+use Rattle.residual_tree.proofs.Opposites.{opposite_is, row_step}
 use Rattle.residual_tree.proofs.Seeds.{way_in}
 use Rattle.residual_tree.proofs.adopting.find_near.Goals as goal
 
@@ -14,9 +13,8 @@ returns-then-is_near c = λ s e.
     let labels = c.args.labels.now in
     let v = c.args.node in
     let step = c.step_at-step.result in
-    let at = scan_at b v c.loop-place.place step c.end_at-end.result c.requires.kept (omega (arith, c.requires.node))
-    (omega (arith, c.loop-place.auto.place, c.row_first-place.ensures.place))
-    (omega (arith, c.loop-place-test.true, c.row_last-place-end.ensures.place)) c.step_at-step.ensures
+    let at = row_step v c.requires.kept (omega (arith, c.requires.node)) c.row_first-place.ensures.place
+    c.row_last-place-end.ensures.place c.loop-place.auto.place c.loop-place-test.true c.step_at-step.ensures
     c.end_at-end.ensures in
     let yes = c.is_way_back.ensures.yes c.if-is_way_back.true in
     let is : opposite step ≡ s = omega (arith, e, c.opposite.ensures) in

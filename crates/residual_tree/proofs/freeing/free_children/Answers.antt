@@ -2,7 +2,8 @@ use Rattle.std.proofs.Common.{List, ℕ, ◌≢◌, ◌+◌, ◌≤◌, arith}
 use Rattle.circulation.specs.Contents.{Contents, network}
 use Rattle.circulation.specs.Residual.{end_of}
 use Rattle.residual_tree.specs.Tree.{label_of}
-use Rattle.circulation.proofs.Scans.{scan_at, scan_next, scan_end}
+use Rattle.circulation.proofs.Scans.{scan_next, scan_end}
+use Rattle.residual_tree.proofs.Opposites.{row_step}
 use Rattle.residual_tree.proofs.Frees.{IsOrphaning, freeing_room, orphaning_next, orphaning_end}
 use Rattle.residual_tree.proofs.freeing.free_children.Goals as goal
 
@@ -14,18 +15,16 @@ inside c labels freed at done size node o = omega (arith, o.state.within done o.
 pub free_end-count-requires-clause-room : goal.free_end-count-requires-clause-room
 free_end-count-requires-clause-room c = λ is.
     let state = c.loop-place.invariant.state.1 in
-    let at = scan_at c.args.circ.now _ c.loop-place.place c.step_at-step.result c.end_at.result c.requires.kept
-    (inside _ _ _ _ _ _ _ state) (omega (arith, c.loop-place.auto.place, c.row_first-place.ensures.place))
-    (omega (arith, c.loop-place-test.true, c.row_last-place-end.ensures.place)) c.step_at-step.ensures
+    let at = row_step _ c.requires.kept (inside _ _ _ _ _ _ _ state) c.row_first-place.ensures.place
+    c.row_last-place-end.ensures.place c.loop-place.auto.place c.loop-place-test.true c.step_at-step.ensures
     c.end_at.ensures in
     freeing_room c.step_at-step.result c.requires.kept at.arc state.state (rw at.end is)
 
 pub loop-place-preserved : goal.loop-place-preserved
 loop-place-preserved c =
     let state = c.loop-place.invariant.state.1 in
-    let at = scan_at c.args.circ.now _ c.loop-place.place c.step_at-step.result c.end_at.result c.requires.kept
-    (inside _ _ _ _ _ _ _ state) (omega (arith, c.loop-place.auto.place, c.row_first-place.ensures.place))
-    (omega (arith, c.loop-place-test.true, c.row_last-place-end.ensures.place)) c.step_at-step.ensures
+    let at = row_step _ c.requires.kept (inside _ _ _ _ _ _ _ state) c.row_first-place.ensures.place
+    c.row_last-place-end.ensures.place c.loop-place.auto.place c.loop-place-test.true c.step_at-step.ensures
     c.end_at.ensures in
     let e = c.free_end-count.ensures in
     let next = orphaning_next c.requires.kept at.arc state at.end record { child = e.child; other = e.other } in

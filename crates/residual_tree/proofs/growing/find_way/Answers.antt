@@ -1,6 +1,7 @@
 use Rattle.std.proofs.Common.{ℕ, ◌+◌, arith, ap}
 use Rattle.residual_tree.specs.Repair.{IsShut}
-use Rattle.circulation.proofs.Scans.{scan_start, scan_inside, scan_at, scan_next, scan_end}
+use Rattle.circulation.proofs.Scans.{scan_start, scan_inside, scan_next, scan_end}
+use Rattle.residual_tree.proofs.Opposites.{row_step}
 use Rattle.residual_tree.proofs.Seeds.{found_way, found_none, shut_end}
 use Rattle.residual_tree.proofs.growing.find_way.Goals as goal
 
@@ -17,17 +18,15 @@ end_at-requires c = scan_inside c.args.circ.now c.args.node _ c.requires.kept c.
 
 pub is_way_back-requires : goal.is_way_back-requires
 is_way_back-requires c =
-    let at = scan_at c.args.circ.now c.args.node c.loop-place.place c.step_at-step.result c.end_at.result
-    c.requires.kept c.requires.node (omega (arith, c.loop-place.auto.place, c.row_first-place.ensures.place))
-    (omega (arith, c.loop-place-test.true, c.row_last-place-end.ensures.place)) c.step_at-step.ensures
+    let at = row_step c.args.node c.requires.kept c.requires.node c.row_first-place.ensures.place
+    c.row_last-place-end.ensures.place c.loop-place.auto.place c.loop-place-test.true c.step_at-step.ensures
     c.end_at.ensures in
     record { arc = at.arc; node = at.end; inside = at.inside; words = c.requires.words; kept = c.requires.kept }
 
 pub opposite-requires-clause-arc : goal.opposite-requires-clause-arc
 opposite-requires-clause-arc c =
-    (scan_at c.args.circ.now c.args.node c.loop-place.place c.step_at-step.result c.end_at.result c.requires.kept
-    c.requires.node (omega (arith, c.loop-place.auto.place, c.row_first-place.ensures.place))
-    (omega (arith, c.loop-place-test.true, c.row_last-place-end.ensures.place)) c.step_at-step.ensures
+    (row_step c.args.node c.requires.kept c.requires.node c.row_first-place.ensures.place
+    c.row_last-place-end.ensures.place c.loop-place.auto.place c.loop-place-test.true c.step_at-step.ensures
     c.end_at.ensures).arc
 
 pub loop-place-preserved : goal.loop-place-preserved
@@ -37,9 +36,8 @@ loop-place-preserved c = scan_next c.args.circ.now c.args.node c.loop-place.plac
 
 pub returns-then-is_way_back : goal.returns-then-is_way_back
 returns-then-is_way_back c =
-    let at = scan_at c.args.circ.now c.args.node c.loop-place.place c.step_at-step.result c.end_at.result
-    c.requires.kept c.requires.node (omega (arith, c.loop-place.auto.place, c.row_first-place.ensures.place))
-    (omega (arith, c.loop-place-test.true, c.row_last-place-end.ensures.place)) c.step_at-step.ensures
+    let at = row_step c.args.node c.requires.kept c.requires.node c.row_first-place.ensures.place
+    c.row_last-place-end.ensures.place c.loop-place.auto.place c.loop-place-test.true c.step_at-step.ensures
     c.end_at.ensures in
     let yes = c.is_way_back.ensures.yes c.if-is_way_back.true in
     found_way c.args.circ.now c.args.labels.now c.args.node c.step_at-step.result at.arc at.start yes.0 yes.1

@@ -11,18 +11,13 @@ spread-requires c =
     c.attach-size.ensures.labels c.attach-size.ensures.queue c.attach-size.ensures.count in
     (l.grows, c.requires.kept)
 
-pub returns-clause-tree : goal.returns-clause-tree
-returns-clause-tree c =
-    let l = lending c.args.queue.now c.args.exit c.requires.kept c.requires.tree c.requires.places
-    c.requires.exit c.requires.out c.requires.unlabeled c.ends-node.ensures.from
-    (ap (λ (a : ℕ). 2 * a + 1) c.from.ensures)
+pub returns : goal.returns
+returns c =
+    let l = lending c.args.queue.now c.args.exit c.requires.kept c.requires.tree c.requires.places c.requires.exit
+    c.requires.out c.requires.unlabeled c.ends-node.ensures.from (ap (λ (a : ℕ). 2 * a + 1) c.from.ensures)
     c.attach-size.ensures.labels c.attach-size.ensures.queue c.attach-size.ensures.count in
-    subst (λ (n : ℕ). HasArtificialStep c.args.circ.now c.spread.new.labels n) l.artificial c.spread.ensures.tree
-
-pub returns-clause-head : goal.returns-clause-head
-returns-clause-head c =
-    let l = lending c.args.queue.now c.args.exit c.requires.kept c.requires.tree c.requires.places
-    c.requires.exit c.requires.out c.requires.unlabeled c.ends-node.ensures.from
-    (ap (λ (a : ℕ). 2 * a + 1) c.from.ensures)
-    c.attach-size.ensures.labels c.attach-size.ensures.queue c.attach-size.ensures.count in
-    c.spread.ensures.more _ l.labeled
+    record {
+      tree = subst (λ (n : ℕ). HasArtificialStep c.args.circ.now c.spread.new.labels n) l.artificial
+          c.spread.ensures.tree;
+      head = c.spread.ensures.more _ l.labeled;
+    }

@@ -1,7 +1,8 @@
 use Rattle.std.proofs.Common.{List, ℕ, ◌≤◌, arith}
 use Rattle.circulation.specs.Contents.{Contents, network}
 use Rattle.circulation.specs.Residual.{end_of}
-use Rattle.circulation.proofs.Scans.{scan_at, scan_next, scan_end}
+use Rattle.circulation.proofs.Scans.{scan_next, scan_end}
+use Rattle.residual_tree.proofs.Opposites.{row_step}
 use Rattle.residual_tree.proofs.Grows.{IsSpreading, IsTried, queue_short, growing_room, inner_end, spreading_next}
 use Rattle.residual_tree.proofs.Grows.{spreading_end}
 use Rattle.residual_tree.proofs.growing.spread_from.Goals as goal
@@ -24,9 +25,8 @@ bounds-queue-done g c =
 pub label_end-count-requires-clause-room : goal.label_end-count-requires-clause-room
 label_end-count-requires-clause-room g c = λ unlabeled.
     let state = c.loop-place.invariant.state in
-    let at = scan_at c.args.circ.now _ c.loop-place.place c.step_at-step.result c.end_at.result c.requires.1.1
-    (inside _ _ _ _ _ _ _ state) (omega (arith, c.loop-place.auto.place, c.row_first-place.ensures.place))
-    (omega (arith, c.loop-place-test.true, c.row_last-place-end.ensures.place)) c.step_at-step.ensures
+    let at = row_step _ c.requires.1.1 (inside _ _ _ _ _ _ _ state) c.row_first-place.ensures.place
+    c.row_last-place-end.ensures.place c.loop-place.auto.place c.loop-place-test.true c.step_at-step.ensures
     c.end_at.ensures in
     growing_room _ (inner_end c.loop-place.labels c.step_at-step.result c.requires.1.1 at.arc state.state.tree.root
     unlabeled) state.state unlabeled
@@ -34,9 +34,8 @@ label_end-count-requires-clause-room g c = λ unlabeled.
 pub loop-place-preserved : goal.loop-place-preserved
 loop-place-preserved g c =
     let state = c.loop-place.invariant.state in
-    let at = scan_at c.args.circ.now _ c.loop-place.place c.step_at-step.result c.end_at.result c.requires.1.1
-    (inside _ _ _ _ _ _ _ state) (omega (arith, c.loop-place.auto.place, c.row_first-place.ensures.place))
-    (omega (arith, c.loop-place-test.true, c.row_last-place-end.ensures.place)) c.step_at-step.ensures
+    let at = row_step _ c.requires.1.1 (inside _ _ _ _ _ _ _ state) c.row_first-place.ensures.place
+    c.row_last-place-end.ensures.place c.loop-place.auto.place c.loop-place-test.true c.step_at-step.ensures
     c.end_at.ensures in
     let e = c.label_end-count.ensures in
     let next = spreading_next c.requires.1.1 state at.arc at.start

@@ -23,27 +23,17 @@ push-requires-clause-walk g c =
 pub write_step-first-requires-clause-some : goal.write_step-first-requires-clause-some
 write_step-first-requires-clause-some g c = c.trace-walk.ensures.traced.prefix
 
-pub repair-requires-clause-arcs : goal.repair-requires-clause-arcs
-repair-requires-clause-arcs g c =
+pub repair-requires : goal.repair-requires
+repair-requires g c =
     let t = c.trace-walk.ensures.traced in
     let nodes = ap (λ (x : Contents). x.nodes) t.rest in
-    (round_saturated c.write_step-first.result c.flow-flow.result c.trace-walk.ensures.kept
+    let r = round_saturated c.write_step-first.result c.flow-flow.result c.trace-walk.ensures.kept
     record { step = c.args.artificial; enters = c.requires.artificial_end; tree = c.requires.tree }
     c.requires.artificial_arc c.requires.held t (omega (arith, c.if-walk-eq0.false)) c.push.ensures.rest
     (omega (arith, nodes, c.nodes.ensures.number, t.some)) c.push.ensures.pushed c.hold.ensures.held
     c.write_step-first.ensures.first
-    c.write_step-first.ensures.written (omega (arith, c.write_step-first.ensures.first))).arcs
-
-pub repair-requires-clause-saturated : goal.repair-requires-clause-saturated
-repair-requires-clause-saturated g c =
-    let t = c.trace-walk.ensures.traced in
-    let nodes = ap (λ (x : Contents). x.nodes) t.rest in
-    (round_saturated c.write_step-first.result c.flow-flow.result c.trace-walk.ensures.kept
-    record { step = c.args.artificial; enters = c.requires.artificial_end; tree = c.requires.tree }
-    c.requires.artificial_arc c.requires.held t (omega (arith, c.if-walk-eq0.false)) c.push.ensures.rest
-    (omega (arith, nodes, c.nodes.ensures.number, t.some)) c.push.ensures.pushed c.hold.ensures.held
-    c.write_step-first.ensures.first
-    c.write_step-first.ensures.written (omega (arith, c.write_step-first.ensures.first))).saturated
+    c.write_step-first.ensures.written (omega (arith, c.write_step-first.ensures.first)) in
+    record { fits = r.fits; arcs = r.arcs; saturated = r.saturated }
 
 pub returns-clause-pushed : goal.returns-clause-pushed
 returns-clause-pushed g c = λ _.
