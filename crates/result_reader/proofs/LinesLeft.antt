@@ -206,3 +206,5 @@ most_of_run b dues count nodes rights d m n r =
 pub bounded_lines : (dues count nodes rights : ℕ) → dues ≤ 50000 → count ≤ 1200 → nodes ≤ 2000 → rights ≤ 2000 →
     count * (1 + dues + rights * nodes) + 3 ≤ 5 * 10 ^ 9
 bounded_lines dues count nodes rights d m n r = grind (arith, mul-le-mul)
+
+pub ruleset run_lines = (bounded_due, bounded_lines, most_of_run)

@@ -112,3 +112,8 @@ call_opens b i h = grind (arith, plain, call, other)
 
 pub other_opens : (b : Basin) (i : Item) → is_call i ≡ false → opened b i ≡ []
 other_opens b i h = grind (arith, plain, call, other)
+
+-- the steps of `in` lines, and of others
+pub ruleset member_steps = (member_step, member_too_early, no_member_step, place_no_members)
+
+pub ruleset other_steps = (other_step, call_opens, other_opens)

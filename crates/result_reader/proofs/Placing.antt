@@ -55,3 +55,5 @@ done_taken b begun i l f = grind (arith, done_is_due, take_fits)
 pub done_refused : (b : Basin) (begun : ℕ) (i : Item) → b.months ≤ begun → fits b (shape.Done b.months) i ≡ false →
     take_line b (months_due b begun) i ≡ None
 done_refused b begun i l f = grind (arith, done_is_due, take_stops)
+
+pub ruleset month_steps = (month_taken, month_refused, done_taken, done_refused)

@@ -34,6 +34,7 @@ use Rattle.result_reader.specs.Words.{word_of}
 use Rattle.result_reader.specs.declared.words.Word.TheVariants as word
 use Rattle.basin_names.proofs.Names.{named-at}
 use Rattle.result_reader.proofs.NameLaws.{name_is}
+use Rattle.result_reader.proofs.WordLaws.{word_read}
 
 -- bytes without a byte: a space, or a line feed
 abbrev pub Lacks : ℕ → List ℕ → Type 0
@@ -106,10 +107,6 @@ word_plain q = grind arith
 
 word_short : (q : Quantity) → length (amount_word q) ≤ 12
 word_short q = grind arith
-
-word_read : (q : Quantity) → word_of (amount_word q) ≡ Some (word.Amount q)
-unfolding word_of
-word_read q = grind arith
 
 fields_plain : (b : Basin) → IsValidBasin b → (i : Item) → IsOfText b i → list_all is_plain (fields_of b i) ≡ true
 unfolding fields_of
@@ -196,7 +193,7 @@ item_in-fields b valid line.Title o = refl
 item_in-fields b valid (line.Run first months) o = grind (arith, nat_tests, read_month-month_digits, count_read)
 item_in-fields b valid (line.Month month) o = rw (read_month-month_digits month o.of_basin) refl
 item_in-fields b valid (line.Amount q entry amount) o =
-    grind (arith, nat_tests, word_read, name_is, amount_read, named-at)
+    grind (arith, nat_tests, word_read (word.Amount q), name_is, amount_read, named-at)
 item_in-fields b valid (line.Deliver right amount want) o =
     rw (
       name_is b valid space.Rights right o.of_basin,

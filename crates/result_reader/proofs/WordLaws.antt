@@ -26,3 +26,8 @@ pub word_spelled : (bytes : List ℕ) (w : Word) → word_of bytes ≡ Some w �
 unfolding word_of
 word_spelled bytes w h =
     sym ((bytes_eq-Decides (spelling_of w) bytes).0 (find-Some (λ w. bytes_eq (spelling_of w) bytes) words w h))
+
+-- the word that is spelled is read
+pub word_read : (w : Word) → Some w ≡ word_of (spelling_of w)
+unfolding word_of
+word_read w = grind arith

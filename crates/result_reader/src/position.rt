@@ -66,6 +66,7 @@ fn find_due(basin: &Basin, dues: &[Shape], from: usize, item: &Item) -> DueSearc
 }
 
 /// The position after the line of the next month, or after the last line, if the line is the one that is due.
+#[tactic(auto, using(crate::proofs::Placing::month_steps))]
 fn next_month(basin: &Basin, begun: u32, item: &Item) -> Option<Position>
     requires basin { IsValidBasin basin.now }
     requires begun { begun ≤ basin.now.months }

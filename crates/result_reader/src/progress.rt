@@ -22,6 +22,7 @@ pub struct Progress {
 }
 
 /// The progress after an `in` line of a node.
+#[tactic(auto, using(crate::proofs::Members::member_steps))]
 fn next_member(basin: &Basin, dues: &[Shape], progress: Progress, node: u32) -> Option<Progress>
     requires basin { IsValidBasin basin.now }
     requires dues { dues.now ≡ form.due_in_month basin.now }
@@ -42,6 +43,7 @@ fn next_member(basin: &Basin, dues: &[Shape], progress: Progress, node: u32) -> 
 }
 
 /// The progress after a line that is no `in` line.
+#[tactic(auto, using(crate::proofs::Members::other_steps))]
 fn next_other(basin: &Basin, dues: &[Shape], progress: Progress, item: &Item) -> Option<Progress>
     requires basin { IsValidBasin basin.now }
     requires dues { dues.now ≡ form.due_in_month basin.now }

@@ -52,6 +52,7 @@ impl<'b> Model for ResultReader<'b> {
 }
 
 /// How many lines a text may have at most, where these are due in each month.
+#[tactic(auto, using(crate::proofs::LinesLeft::run_lines))]
 fn max_lines(basin: &Basin, dues: &[Shape]) -> u64
     requires basin { IsValidBasin basin.now }
     requires dues { dues.now ≡ due_in_month basin.now }

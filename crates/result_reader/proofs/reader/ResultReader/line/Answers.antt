@@ -1,4 +1,4 @@
-use Rattle.std.proofs.Common.{arith, sym, ap, ◌∙◌}
+use Rattle.std.proofs.Common.{sym, ap, ◌∙◌}
 use Rattle.std.specs.Prelude.{Err}
 use Rattle.std.proofs.lemmas.Result.{err_from_is_err_and}
 use Rattle.result_reader.proofs.StandingLaws.{line_refused}
@@ -11,9 +11,3 @@ returns-in_err-item-clause-answer c =
     ∙ line_refused c.self.inside.names.basin.now c.self.inside.dues.items c.self.inside.progress c.self.inside.left
     c.args.self.now c.args.text.now
     c.in_err-item.field-0.0 c.self.view_is (sym c.item_by_fields.ensures ∙ c.in_err-item.was) items stands)
-
-pub accept-requires : goal.accept-requires
-accept-requires c = grind (arith, c.self.view_is, c.is_member_line.ensures, c.if-is_member_line.true)
-
-pub accept-requires-2 : goal.accept-requires-2
-accept-requires-2 c = grind (arith, c.self.view_is, c.item_by_fields.ensures, c.in_ok-item.was)
