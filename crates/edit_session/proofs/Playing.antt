@@ -1,5 +1,5 @@
 -- A script answered line by line.
-use Rattle.std.proofs.Common.{◌≡◌, ℕ, zero, suc, ◌+◌, ◌<◌, refl, sym, subst, arith, List, [], ◌∷◌}
+use Rattle.std.proofs.Common.{◌≡◌, ℕ, zero, suc, ◌+◌, ◌<◌, refl, subst, arith, List, [], ◌∷◌}
 use Rattle.std.proofs.Common.{◌++◌, length, take, drop, get_or, append-nil, add-one, drop-cons, inr}
 use Rattle.std.specs.Prelude.{Some, Result, Ok, Err, slice_get}
 use Rattle.std.specs.List.{flat_map}
@@ -136,40 +136,34 @@ pub lines_from : (edits : List Edit) (i : ℕ) → i < length edits →
 lines_from edits i l = rw add-one (drop-cons edits i (Inflow 0 0 0) l)
 
 -- a month that a session keeps
-pub month_kept : (b : Basin) (s : SessionView) (series : Inflows) (index : ℕ) (m : MonthRecord) → IsValidBasin b →
-    s.basin ≡ b → s.series ≡ series → HasKeptMonths s →
-    slice_get s.kept index ≡ Some m → IsMonthOf b series index m
-month_kept b s series index m valid e f kept at =
+pub month_kept : {b : Basin} {s : SessionView} {series : Inflows} {index : ℕ} {m : MonthRecord} → IsValidBasin b →
+    s.basin ≡ b → s.series ≡ series → HasKeptMonths s → slice_get s.kept index ≡ Some m → IsMonthOf b series index m
+month_kept {b} {s} {series} {index} {m} valid e f kept at =
     let here : HasKeptMonths (record { basin = b; series = series; kept = s.kept }) =
     record { partial = rw (← e, ← f) kept.partial; reaches = rw (← e) kept.reaches } in
     record { months = s.kept; kept = here; here = at; agrees = runs_agree b series index s.kept m valid here at }
 
-pub month_fits : (b : Basin) (series : Inflows) (index : ℕ) (m : MonthRecord) → IsValidBasin b → index < b.months →
+pub month_fits : {b : Basin} {series : Inflows} {index : ℕ} {m : MonthRecord} → IsValidBasin b → index < b.months →
     IsMonthOf b series index m → FitsText b m
-month_fits b series index m valid l is =
+month_fits {b} {series} {index} {m} valid l is =
     FitsText-follows b series (take index is.months) m valid (is.kept.partial.each index m is.here)
     (omega (arith, length-take index is.months))
 
 -- it is shown
-pub show_put : (b : Basin) (series : Inflows) (index : ℕ) (m : MonthRecord) (old new : Output) (u : Unit {0}) →
+pub show_put : {b : Basin} {series : Inflows} {index : ℕ} {m : MonthRecord} (old new : Output) (u : Unit {0}) →
     IsMonthOf b series index m →
     Extends old new (flat_map (whole_line b) (items_of_month b m)) → Answers b series (Show index ∷ []) (Ok u) old new
-show_put b series index m old new u is put = (
-  m ∷ [],
-  (is, refl),
-  subst (λ (bytes : List ℕ). Extends old new bytes)
-      (sym (append-nil (flat_map (whole_line b) (items_of_month b m)))) put,
-)
+show_put {b} {m} old new u is put =
+    (m ∷ [], (is, refl), rw (append-nil (flat_map (whole_line b) (items_of_month b m))) put)
 
-pub show_failed : (b : Basin) (series : Inflows) (index : ℕ) (m : MonthRecord) (old new : Output) →
+pub show_failed : {b : Basin} {series : Inflows} {index : ℕ} {m : MonthRecord} (old new : Output) →
     IsMonthOf b series index m →
     PutsPrefix old new (flat_map (whole_line b) (items_of_month b m)) →
     Answers b series (Show index ∷ []) (Err stop.SinkFailed) old new
-show_failed b series index m old new is put = (
+show_failed {b} {m} old new is put = (
   m ∷ [],
   record { count = 1; are = (is, refl) },
-  subst (λ (bytes : List ℕ). PutsPrefix old new bytes)
-      (sym (append-nil (flat_map (whole_line b) (items_of_month b m)))) put,
+  rw (append-nil (flat_map (whole_line b) (items_of_month b m))) put,
 )
 
 pub nothing_shown : (b : Basin) (series : Inflows) (edits : List Edit) (old : Output) →
