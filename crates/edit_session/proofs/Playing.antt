@@ -55,9 +55,9 @@ have_then : (b : Basin) (series : Inflows) (e : Edit) (es : List Edit) (xs ys : 
 have_then b series e es xs ys h k =
     record { count = suc k.count; are = shown_then b series e (take k.count es) xs ys h k.are }
 
-answers_then : (b : Basin) (series : Inflows) (e : Edit) (es : List Edit) (u : Unit {0}) (r : Result (Unit {0}) EditStop)
-    (old mid new : Output) → Answers b series (e ∷ []) (Ok u) old mid → Answers b (edited_by series e) es r mid new →
-    Answers b series (e ∷ es) r old new
+answers_then : (b : Basin) (series : Inflows) (e : Edit) (es : List Edit) (u : Unit {0})
+    (r : Result (Unit {0}) EditStop) (old mid new : Output) → Answers b series (e ∷ []) (Ok u) old mid →
+    Answers b (edited_by series e) es r mid new → Answers b series (e ∷ es) r old new
 answers_then b series e es u (Ok v) old mid new h k = (
   h.0 ++ k.0,
   shown_then b series e es h.0 k.0 h.1 k.1,
@@ -105,11 +105,11 @@ pub played_more : {b : Basin} {series now : Inflows} {edits es : List Edit} {old
     Answers c now (e ∷ []) (Ok u) mid new →
     Solves (solved_by kept e) b before after →
     IsPlayed b series (edited_by now e) edits es old new held (kept_by kept e + solved_by kept e) start after
-played_more {b} {series} {now} {edits} {es} {old} {mid} {held} {kept} {start} {before} c e u new after so same h work = record {
+played_more {b} {now = now} {es = es} {old} {mid} {kept = kept} c e u new after so same h work = record {
   placed = λ d valid. placed_by b now e d (so.placed d valid);
   answers = λ r then' k. so.answers r then' (answers_then b now e es u r mid new then'
       (subst (λ (x : Basin). Answers x now (e ∷ []) (Ok u) mid new) same h) k);
-  work = λ then' k. so.work then' (Solves-then (solved_by kept e) _ b before after then' work k);
+  work = λ then' k. so.work then' (Solves-then (solved_by kept e) _ b _ after then' work k);
 }
 
 pub played_stops : {b : Basin} {series now : Inflows} {edits es : List Edit} {old mid : Output} {held kept : ℕ}
