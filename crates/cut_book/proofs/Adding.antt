@@ -113,7 +113,8 @@ one : (g : BookLine → ℕ) (e : BookLine) → sum_by g (e ∷ []) ≡ g e
 one g e = sum_by-cons g e [] ∙ omega arith
 
 -- the indices of a part, in its order
-sum_ordered : (p : Part) (b : Basin) (g : ℕ → ℕ) → sum_by g (in_order (space_of p) b) ≡ total (count_in (space_of p) b) g
+sum_ordered : (p : Part) (b : Basin) (g : ℕ → ℕ) →
+    sum_by g (in_order (space_of p) b) ≡ total (count_in (space_of p) b) g
 sum_ordered part.Supplies b g = sum_indices g b.nodes
 sum_ordered part.Enters b g = sum_indices g b.links
 sum_ordered part.Keeps b g = sum_indices g b.links
