@@ -1,10 +1,10 @@
--- For each node and each link there is one answer.
-use Rattle.std.proofs.Common.{◌≡◌, ℕ, zero, suc, ◌<◌, true, refl, sym, ◌∙◌, ap, arith, List, [], ◌∷◌, length, inl, inr}
-use Rattle.std.proofs.Common.{subst, Option, Some, None}
-use Rattle.std.specs.Prelude.{slice_index_or, IfSome}
-use Rattle.std.proofs.lemmas.Bool.{cases_eq, cases_lt}
+-- For each node and each link there is one answer, and for whom a right is curtailed follows from it.
+use Rattle.std.proofs.Common.{◌≡◌, ℕ, ◌<◌, true, refl, sym, ◌∙◌, ap, arith, List, length, inl, inr, Option, Some, None}
+use Rattle.std.proofs.Common.{Bool, false, subst}
+use Rattle.std.specs.Prelude.{slice_index_or, IfSome, if◌then◌else◌, nat_lt, slice_index}
+use Rattle.std.proofs.lemmas.Bool.{cases_eq, cases_lt, lt-ltb, ltb-true}
 use Rattle.std.proofs.lemmas.List.{get_or_past}
-use Rattle.water_model.specs.Basin.{is_senior}
+use Rattle.water_model.specs.Basin.{is_senior, taking_node}
 use Rattle.water_model.specs.Rights.{AreStrict}
 use Rattle.water_model.specs.Valid.{IsValidBasin}
 use Rattle.water_model.specs.declared.types.Basin.{Basin}
@@ -13,7 +13,10 @@ use Rattle.water_model.proofs.Seniority.{senior_total}
 use Rattle.plan_residual.specs.Next.{CouldUseAt, IsNextOrFree}
 use Rattle.next_unit.specs.Helped.{IsHelped}
 use Rattle.next_unit.specs.Laws.{CarryHelpsRight}
-use Rattle.call_list.specs.Found.{Found, IsFoundIn, FitsFound}
+use Rattle.call_list.specs.Found.{Found, IsFoundIn, FitsFound, curtailed_for, if_senior, next_at}
+use Rattle.water_model.proofs.Sets.{has_below}
+use Rattle.next_unit.specs.Next.{IsCurtailedFor}
+use Rattle.call_list.specs.Laws.{CurtailedExactly}
 
 -- an index with a right is one of the list
 pub answered_below : (xs : List (Option ℕ)) (k r : ℕ) → slice_index_or xs k None ≡ Some r → k < length xs
@@ -21,17 +24,6 @@ answered_below xs k r h = elim (cases_lt k (length xs)) [
   | inl below ↦ below
   | inr past ↦ (let none : None ≡ Some r = sym (get_or_past xs k None past) ∙ h in cc)
 ]
-
--- two lists of one length with the same answer at each index
-pub same_answers : (xs ys : List (Option ℕ)) → length xs ≡ length ys →
-    ((k : ℕ) → k < length xs → slice_index_or xs k None ≡ slice_index_or ys k None) → xs ≡ ys
-same_answers [] [] e h = refl
-same_answers [] (y ∷ ys) e h = absurd (omega arith)
-same_answers (x ∷ xs) [] e h = absurd (omega arith)
-same_answers (x ∷ xs) (y ∷ ys) e h =
-    let first : x ≡ y = h zero (omega arith) in
-    let others : xs ≡ ys = same_answers xs ys (omega arith) (λ k l. h (suc k) (omega arith)) in
-    cc
 
 -- there is one most senior right of those of which something holds
 one_first : (b : Basin) (P : ℕ → Type 0) (r s : ℕ) → AreStrict b.rights → r < length b.rights → s < length b.rights →
@@ -70,29 +62,96 @@ pub fits_found : (b : Basin) (m : MonthRecord) (found : Found) → IsFoundIn b m
 fits_found b m found is = record {
   nodes = is.next.one_each;
   links = is.helped.count;
-  next = λ n. by_next n (slice_index_or found.next n None) refl;
-  helped = λ e. by_link e (slice_index_or found.helped e None) refl;
+  next = λ n. elim (cases_lt n (length found.next)) [
+    | inl below ↦ of_next n (slice_index_or found.next n None) (is.next.each n (omega (arith, is.next.one_each)))
+    | inr past ↦ rw (get_or_past found.next n None past) tt
+  ];
+  helped = λ e. elim (cases_lt e (length found.helped)) [
+    | inl below ↦ of_link e (slice_index_or found.helped e None) (is.helped.each e (omega (arith, is.helped.count)))
+    | inr past ↦ rw (get_or_past found.helped e None past) tt
+  ];
 }
   where
-    within : Option ℕ → Type 0
-    within o = IfSome o (λ right. right < length b.rights)
+    of_next : (n : ℕ) (o : Option ℕ) → IsNextOrFree b m n o → IfSome o (λ right. right < length b.rights)
+    of_next n None h = tt
+    of_next n (Some r) h = h.uses.in_range
 
-    of_next : (n r : ℕ) → IsNextOrFree b m n (Some r) → r < length b.rights
-    of_next n r h = h.uses.in_range
+    of_link : (e : ℕ) (o : Option ℕ) → IsHelped b m e o → IfSome o (λ right. right < length b.rights)
+    of_link e None h = tt
+    of_link e (Some r) h = h.in_range
 
-    of_link : (e r : ℕ) → IsHelped b m e (Some r) → r < length b.rights
-    of_link e r h = h.in_range
+pub curtailed_by : (b : Basin) (m : MonthRecord) (next : List (Option ℕ)) (right node caller : ℕ) →
+    0 < slice_index m.want right → taking_node b right ≡ Some node → slice_index_or next node None ≡ Some caller →
+    is_senior b caller right ≡ true → curtailed_for b m next right ≡ Some caller
+unfolding curtailed_for
+curtailed_by b m next right node caller wants at here senior =
+    ap (λ t. if t then if_senior b right (next_at next (taking_node b right)) else None)
+    (lt-ltb 0 (slice_index m.want right) wants)
+    ∙ (ap (λ o. if_senior b right (next_at next o)) at
+    ∙ (ap (if_senior b right) here ∙ ap (λ t. if t then Some caller else None) senior))
 
-    by_next : (n : ℕ) (o : Option ℕ) → slice_index_or found.next n None ≡ o → within o
-    by_next n None e = tt
-    by_next n (Some r) e =
-        of_next n r
-        (subst (λ (o : Option ℕ). IsNextOrFree b m n o) e
-        (is.next.each n (omega (arith, answered_below found.next n r e, is.next.one_each))))
+-- where a right is curtailed for another, it wants water, and the next unit at its node goes to that senior
+record HasCaller (b : Basin) (m : MonthRecord) (next : List (Option ℕ)) (right caller : ℕ) : Type 0 where
+  wants : 0 < slice_index m.want right
+  node : ℕ
+  at : taking_node b right ≡ Some node
+  here : slice_index_or next node None ≡ Some caller
+  senior : is_senior b caller right ≡ true
 
-    by_link : (e : ℕ) (o : Option ℕ) → slice_index_or found.helped e None ≡ o → within o
-    by_link e None h = tt
-    by_link e (Some r) h =
-        of_link e r
-        (subst (λ (o : Option ℕ). IsHelped b m e o) h
-        (is.helped.each e (omega (arith, answered_below found.helped e r h, is.helped.count))))
+has_caller : (b : Basin) (m : MonthRecord) (next : List (Option ℕ)) (right caller : ℕ) →
+    curtailed_for b m next right ≡ Some caller → HasCaller b m next right caller
+unfolding curtailed_for
+has_caller b m next right caller h =
+    let some = wanting (nat_lt 0 (slice_index m.want right)) _ h in
+    let first = senior_only _ some.1 in
+    let here = at_node _ first.0 in
+    record {
+      wants = ltb-true 0 (slice_index m.want right) some.0;
+      node = here.0;
+      at = here.1;
+      here = here.2;
+      senior = first.1;
+    }
+  where
+    wanting : (t : Bool) (o : Option ℕ) → (if t then o else None) ≡ Some caller → (t ≡ true) × (o ≡ Some caller)
+    wanting true o e = (refl, e)
+    wanting false o e = let none : None ≡ Some caller = e in cc
+
+    senior_only : (o : Option ℕ) → if_senior b right o ≡ Some caller →
+        (o ≡ Some caller) × (is_senior b caller right ≡ true)
+    senior_only None e = let none : None ≡ Some caller = e in cc
+    senior_only (Some r) e = by_test (is_senior b r right) refl e
+      where
+        by_test : (t : Bool) → is_senior b r right ≡ t → (if t then Some r else None) ≡ Some caller →
+            (Some r ≡ Some caller) × (is_senior b caller right ≡ true)
+        by_test true senior e = let is : Some r ≡ Some caller = e in (is, cc)
+        by_test false senior e = let none : None ≡ Some caller = e in cc
+
+    at_node : (o : Option ℕ) → next_at next o ≡ Some caller → (node : ℕ) × (o ≡ Some node) ×
+        (slice_index_or next node None ≡ Some caller)
+    at_node None e = let none : None ≡ Some caller = e in cc
+    at_node (Some node) e = (node, refl, e)
+
+pub curtailed_exactly : CurtailedExactly
+curtailed_exactly b m found right caller given is l = (to, from)
+  where
+    to : curtailed_for b m found.next right ≡ Some caller → IsCurtailedFor b m right caller
+    to h = let c = has_caller b m found.next right caller h in record {
+      in_range = l;
+      wants = c.wants;
+      node = c.node;
+      at = c.at;
+      senior = c.senior;
+      next = subst (λ (o : Option ℕ). IsNextOrFree b m c.node o) c.here
+          (is.next.each c.node
+          (omega (arith, answered_below found.next c.node caller c.here, is.next.one_each)));
+    }
+
+    from : IsCurtailedFor b m right caller → curtailed_for b m found.next right ≡ Some caller
+    from c =
+        let uses = c.next.uses in
+        let below : c.node < length b.nodes =
+        omega (arith, has_below uses.core c.node uses.here, uses.is_core.upstream.one_each) in
+        curtailed_by b m found.next right c.node caller c.wants c.at
+        (same_next b m c.node given.valid (slice_index_or found.next c.node None) (Some caller)
+        (is.next.each c.node below) c.next) c.senior

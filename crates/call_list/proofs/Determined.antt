@@ -1,7 +1,7 @@
 -- A basin and a series leave one list of calls.
-use Rattle.std.proofs.Common.{◌≡◌, ℕ, zero, suc, refl, sym, ◌∙◌, ap, ap₂, arith, Bool, List, [], ◌∷◌, ◌++◌, length}
+use Rattle.std.proofs.Common.{◌≡◌, ℕ, suc, refl, sym, ◌∙◌, ap, ap₂, arith, Bool, List, [], ◌∷◌, ◌++◌, length}
 use Rattle.std.proofs.Common.{take, length-take, Option, Some, None}
-use Rattle.std.proofs.lemmas.List.{length-map}
+use Rattle.std.proofs.lemmas.List.{ext_get_or, length-map}
 use Rattle.std.specs.Prelude.{slice_get, slice_index, slice_index_or, option_map, if◌then◌else◌, nat_lt}
 use Rattle.std.specs.List.{flat_map}
 use Rattle.std.proofs.lemmas.Option.{slice_get_within, slice_get-map}
@@ -15,6 +15,7 @@ use Rattle.water_model.specs.declared.types.Inflows.{Inflows}
 use Rattle.water_model.specs.declared.types.MonthRecord.{MonthRecord}
 use Rattle.water_model.proofs.Lists.{prefix_partial}
 use Rattle.water_model.proofs.Order.{flat_same}
+use Rattle.duality.proofs.Balance.{slice_get-take}
 use Rattle.duality.proofs.Outcome.{one_outcome}
 use Rattle.plan_residual.specs.Core.{IsCore}
 use Rattle.plan_residual.specs.Next.{CouldUseAt, IsNextOrFree}
@@ -31,7 +32,7 @@ use Rattle.call_list.specs.declared.part.Part.{Part}
 use Rattle.call_list.specs.declared.part.Part.TheVariants as part
 use Rattle.call_list.specs.Laws.{FoundIsDetermined, ListIsDetermined}
 use Rattle.call_list.specs.Whole.{MonthFound, records_of}
-use Rattle.call_list.proofs.Answers.{same_answers, same_next, same_helped}
+use Rattle.call_list.proofs.Answers.{same_next, same_helped}
 
 -- a month of some history of a basin and a series
 pub record IsMonthIn (b : Basin) (series : Inflows) (m : MonthRecord) : Type 0 where
@@ -124,21 +125,14 @@ module _ (b : Basin) (series : Inflows) (m n : MonthRecord) (one : IsMonthIn b s
   same_found f g is are =
       let make : List (Option ℕ) → List (Option ℕ) → Found = λ next helped. record { next = next; helped = helped } in
       ap₂ make
-      (same_answers f.next g.next (is.next.one_each ∙ sym are.next.one_each) (λ k l.
+      (ext_get_or None f.next g.next (is.next.one_each ∙ sym are.next.one_each) (λ k l.
       same_next b n k one.valid (slice_index_or f.next k None) (slice_index_or g.next k None)
       (next_there k (slice_index_or f.next k None) (is.next.each k (omega (arith, l, is.next.one_each))))
       (are.next.each k (omega (arith, l, is.next.one_each)))))
-      (same_answers f.helped g.helped (is.helped.count ∙ sym are.helped.count) (λ k l.
+      (ext_get_or None f.helped g.helped (is.helped.count ∙ sym are.helped.count) (λ k l.
       same_helped b n k one.valid (slice_index_or f.helped k None) (slice_index_or g.helped k None)
       (helped_there k (slice_index_or f.helped k None) (is.helped.each k (omega (arith, l, is.helped.count))))
       (are.helped.each k (omega (arith, l, is.helped.count)))))
-
--- the last of a prefix
-last_taken : {X : Type 0} (xs : List X) (i : ℕ) (x : X) → slice_get xs i ≡ Some x →
-    slice_get (take (suc i) xs) i ≡ Some x
-last_taken [] i x h = cc
-last_taken (y ∷ xs) zero x h = h
-last_taken (y ∷ xs) (suc i) x h = last_taken xs i x h
 
 pub found_is_determined : FoundIsDetermined
 found_is_determined b series records others i m n f g valid fits partial partial' at at' is are =
@@ -153,7 +147,8 @@ found_is_determined b series records others i m n f g valid fits partial partial
       length-take (suc i) others,
       slice_get_within records i m at,
       slice_get_within others i n at',
-    )) i m n (last_taken records i m at) (last_taken others i n at')) f g is are
+    )) i m n (slice_get-take records i ∙ at)
+    (slice_get-take others i ∙ at')) f g is are
 
 -- and so are the lines of the month
 same_caller : (b : Basin) (m n : MonthRecord) (next : List (Option ℕ)) (right : ℕ) → HaveSameOutcome m n →
@@ -224,20 +219,5 @@ list_is_determined b series months others valid fits partial partial' len are ar
         let same = one_outcome b series (records_of months) (records_of others) valid partial partial' count i x.month
         y.month here there in
         same_lines b x.month y.month x.found y.found same
-        (same_found b series x.month y.month
-        (record {
-          valid = valid;
-          fits = fits;
-          records = records_of months;
-          position = i;
-          partial = partial;
-          at = here;
-        })
-        (record {
-          valid = valid;
-          fits = fits;
-          records = records_of others;
-          position = i;
-          partial = partial';
-          at = there;
-        }) same x.found y.found (are.each i x at) (are'.each i y at'))
+        (found_is_determined b series (records_of months) (records_of others) i x.month y.month x.found y.found valid
+        fits partial partial' here there (are.each i x at) (are'.each i y at'))

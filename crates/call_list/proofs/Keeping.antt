@@ -1,10 +1,10 @@
 -- The set of a right that cuts keep.
 use Rattle.std.proofs.Common.{◌≡◌, ℕ, ◌+◌, ◌<◌, ◌≤◌, Bool, true, false, refl, sym, ◌∙◌, ap, subst, arith}
-use Rattle.std.proofs.Common.{List, [], length, replicate, inl, inr}
+use Rattle.std.proofs.Common.{List, length, replicate, inl, inr}
 use Rattle.std.proofs.lemmas.Bool.{cases_eq}
 use Rattle.std.proofs.lemmas.List.{ext_get_or, get_or-set_same, get_or-set_other, length-map}
 use Rattle.std.proofs.lemmas.List.{length-replicate, length-set}
-use Rattle.std.specs.Prelude.{slice_set, unwrap_or, IfSome, Option, Some, None}
+use Rattle.std.specs.Prelude.{slice_set, IfSome, Option, Some, None}
 use Rattle.water_model.specs.CutSets.{CutSets, set_of, with_set, without_sets}
 use Rattle.water_model.specs.Lookups.{has}
 use Rattle.water_model.specs.declared.types.Basin.{Basin}
@@ -12,7 +12,7 @@ use Rattle.water_model.specs.declared.types.MonthRecord.{MonthRecord}
 use Rattle.water_model.proofs.SetEntries.{set_of_with}
 use Rattle.plan_residual.proofs.Queues.{nowhere}
 use Rattle.plan_residual.specs.Core.{IsCore}
-use Rattle.call_list.specs.Helpers.{HoldsCore, HoldsPrefix, HoldsSet}
+use Rattle.call_list.specs.Helpers.{HelpFinderSeen, HoldsCore, HoldsPrefix, HoldsSet, IsHelpFinderOf}
 
 -- there are as many rights where all sets were given up
 pub cleared_size : (c : CutSets) → length (without_sets c).sets ≡ length c.sets
@@ -86,16 +86,15 @@ prefix_whole before now r set k all so = subst (λ (xs : List Bool). HoldsSet be
     same = ext_get_or false so.prefix set so.sized (λ i l. so.settled i (omega (arith, so.sized)))
 
 -- a core that is kept
-pub core_kept : (b : Basin) (m : MonthRecord) (r : ℕ) (old new : CutSets) (core : List Bool) → r < length b.rights →
-    length old.sets ≡ length b.rights → old.nodes ≡ length b.nodes → IsCore b m r core → HoldsSet old new r core →
+pub core_kept : {b : Basin} {m : MonthRecord} {r : ℕ} {finder : HelpFinderSeen} {new : CutSets} {core : List Bool} →
+    IsHelpFinderOf b finder → r < length b.rights → IsCore b m r core → HoldsSet finder.cuts new r core →
     HoldsCore b m r new
-core_kept b m r old new core l rights nodes is_core held = record {
+core_kept is l is_core held = record {
   cut = record {
     in_range = l;
-    rights = held.rights ∙ rights;
-    nodes = held.nodes ∙ nodes;
+    rights = held.rights ∙ is.rights;
+    nodes = held.nodes ∙ is.nodes;
     held = rw held.is refl;
   };
-  is_core = subst (λ (set : List Bool). IsCore b m r set)
-      (sym (ap (λ (o : Option (List Bool)). unwrap_or o []) held.is)) is_core;
+  is_core = rw held.is is_core;
 }

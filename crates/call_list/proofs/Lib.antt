@@ -1,5 +1,4 @@
 pub mod Answers
-pub mod Curtailed
 pub mod HelpTexts
 pub mod Keeping
 pub mod Whole

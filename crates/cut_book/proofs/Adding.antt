@@ -1,8 +1,8 @@
 -- What the lines of an account book add up to.
-use Rattle.std.proofs.Common.{◌≡◌, ℕ, zero, suc, ◌+◌, ◌≤◌, Bool, true, false, refl, sym, ap, ◌∙◌, arith, List, []}
-use Rattle.std.proofs.Common.{◌∷◌, length, inl, inr}
-use Rattle.std.specs.Prelude.{slice_index, Option, Some, None, pos, ◌-ℤ◌, if◌then◌else◌, ◌&&◌, nat_lt}
-use Rattle.std.specs.Prelude.{◌==◌, filter, sum_by}
+use Rattle.std.proofs.Common.{◌≡◌, ℕ, zero, suc, ◌+◌, ◌≤◌, Bool, true, false, refl, sym, ap, ◌∙◌, arith, List, [], ◌∷◌}
+use Rattle.std.proofs.Common.{length, inl, inr, ◌++◌}
+use Rattle.std.specs.Prelude.{slice_index, Option, Some, None, pos, ◌-ℤ◌, if◌then◌else◌, ◌&&◌, nat_lt, ◌==◌, filter}
+use Rattle.std.specs.Prelude.{sum_by}
 use Rattle.std.specs.List.{flat_map}
 use Rattle.std.proofs.lemmas.Bool.{cases_lt}
 use Rattle.std.proofs.lemmas.Bool.Decides.{nat_tests}
@@ -11,7 +11,7 @@ use Rattle.finite_sums.specs.Sums.{total, total_where}
 use Rattle.finite_sums.proofs.Terms.{greatest_is, none_where}
 use Rattle.finite_sums.proofs.Totals.{total_first, total_same}
 use Rattle.water_model.specs.Basin.{is_on_link, is_senior}
-use Rattle.water_model.specs.Cuts.{kept_on, cut_capacity, cut_kept}
+use Rattle.water_model.specs.Cuts.{kept_on, cut_capacity, cut_kept, IsTight}
 use Rattle.water_model.specs.Entries.{count_in, in_order}
 use Rattle.water_model.specs.Indices.{numbers_from, indices_of, put_right, sort_rights, by_seniority, seniors_first}
 use Rattle.water_model.specs.Plans.{carry_of}
@@ -19,14 +19,16 @@ use Rattle.water_model.specs.declared.types.Basin.{Basin}
 use Rattle.water_model.specs.declared.types.MonthRecord.{MonthRecord}
 use Rattle.water_model.specs.declared.types.Right.{Right}
 use Rattle.water_model.proofs.Order.{seniors_have, find-none}
-use Rattle.cut_book.specs.Book.{counts, terms_at, keep_terms, lines_at, lines_in, space_of, terms}
-use Rattle.cut_book.specs.Entries.{brought, kept, amount_of, has_amount}
+use Rattle.cut_book.specs.Book.{counts, terms_at, keep_terms, lines_at, lines_in, space_of, terms, account}
+use Rattle.cut_book.specs.Entries.{brought, kept, amount_of, has_amount, balance_of}
 use Rattle.cut_book.specs.Holders.{holder_of, holds_amount}
 use Rattle.cut_book.specs.Laws.{LinesMakeBound, TightBooksSumToDelivery}
 use Rattle.cut_book.specs.declared.entry.BookLine.{BookLine}
 use Rattle.cut_book.specs.declared.entry.BookLine.TheVariants as line
 use Rattle.cut_book.specs.declared.part.Part.{Part}
 use Rattle.cut_book.specs.declared.part.Part.TheVariants as part
+use Rattle.cut_cert.specs.Sets.{cut_at}
+use Rattle.cut_book.specs.Shortages.{ShortageView, terms_of}
 
 -- Sums over lists.
 
@@ -111,7 +113,8 @@ one : (g : BookLine → ℕ) (e : BookLine) → sum_by g (e ∷ []) ≡ g e
 one g e = sum_by-cons g e [] ∙ omega arith
 
 -- the indices of a part, in its order
-sum_ordered : (p : Part) (b : Basin) (g : ℕ → ℕ) → sum_by g (in_order (space_of p) b) ≡ total (count_in (space_of p) b) g
+sum_ordered : (p : Part) (b : Basin) (g : ℕ → ℕ) →
+    sum_by g (in_order (space_of p) b) ≡ total (count_in (space_of p) b) g
 sum_ordered part.Supplies b g = sum_indices g b.nodes
 sum_ordered part.Enters b g = sum_indices g b.links
 sum_ordered part.Keeps b g = sum_indices g b.links
@@ -246,3 +249,12 @@ lines_make_bound b m right set =
 pub tight_books_sum_to_delivery : TightBooksSumToDelivery
 tight_books_sum_to_delivery b m right set tight =
     omega (arith, brought_is_capacity b m right set, kept_is_kept b m right set, tight.tight)
+
+-- the account of a tight cut: its terms, and the delivery
+pub account_lines : (s : ShortageView) (sum : BookLine) → sum ≡ line.Sum (slice_index s.month.delivered s.right) →
+    IsTight s.basin s.month.month s.month.supply s.month.delivered s.right (cut_at s.cuts s.right) →
+    terms_of s ++ sum ∷ [] ≡ account s.basin s.month s.right (cut_at s.cuts s.right)
+account_lines s sum last tight =
+    let made : balance_of (terms_of s) ≡ slice_index s.month.delivered s.right =
+    tight_books_sum_to_delivery s.basin s.month s.right (cut_at s.cuts s.right) tight in
+    rw (last, made) refl

@@ -1,4 +1,3 @@
 pub mod Holding
 pub mod Adding
-pub mod Written
 pub mod Examples

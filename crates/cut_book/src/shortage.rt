@@ -1,9 +1,10 @@
 //! A right that is short in a month, and the terms of its account.
-ghost use Rattle.std.specs.Prelude.{◌≡◌, ◌∷◌, [], ◌<◌, filter, length, slice_index, IfSome};
+ghost use Rattle.std.specs.Prelude.{◌≡◌, ◌<◌, slice_index, IfSome};
 ghost use Rattle.std.specs.Option.{option_to_list};
 ghost use Rattle.water_model.specs.Entries.{count_in};
-ghost use Rattle.cut_book.specs.Book.{space_of};
-ghost use Rattle.cut_book.specs.Entries.{IsOfBasin, amount_of, has_amount};
+ghost use Rattle.cut_cert.specs.Sets.{cut_at};
+ghost use Rattle.cut_book.specs.Book.{counts, space_of, terms_at};
+ghost use Rattle.cut_book.specs.Entries.{IsOfBasin, amount_of};
 ghost use Rattle.cut_book.specs.Shortages.{lines_of};
 
 use crate::entry::BookLine;
@@ -38,98 +39,85 @@ impl<'b> Model for Shortage<'b> {
     ghost invariant = { λ s. IsShortage (shortage s.basin.now s.roll.now s.month.now s.cuts.now s.right) };
 }
 
-/// A term as a line, which it is unless its amount is 0.
-fn unless_zero(entry: BookLine, amount: u64) -> Option<BookLine>
-    requires { amount_of entry ≡ amount }
-    ensures lines { option_to_list result ≡ filter has_amount (entry ∷ []) }
-    ensures same { IfSome result (λ line. line ≡ entry) }
+/// The amount of a line.
+fn amount_of(line: BookLine) -> u64
+    ensures { result ≡ amount_of line }
 {
-    if amount == 0 { None } else { Some(entry) }
+    match line {
+        BookLine::Why { amount, .. }
+        | BookLine::Supply { amount, .. }
+        | BookLine::Enter { amount, .. }
+        | BookLine::Keep { amount, .. }
+        | BookLine::Take { amount, .. }
+        | BookLine::Sum { amount } => amount,
+    }
 }
 
 impl<'b> Shortage<'b> {
-    /// The line of a node's supply.
-    fn supply_at(&self, node: u32) -> Option<BookLine>
-        requires { node < length self.now.basin.nodes }
-        ensures lines { option_to_list result ≡ lines_of self.now Part.Supplies node }
-        ensures named { IfSome result (IsOfBasin self.now.basin) }
+    /// Whether an index of a part has a term in the bound of the right's set.
+    fn counts(&self, part: Part, index: u32) -> bool
+        requires { index < count_in (space_of part) self.now.basin }
+        ensures { result ≡ counts part self.now.basin self.now.right (cut_at self.now.cuts self.now.right) index }
     {
-        if !holds(self.cuts, self.right, node) {
-            return None;
+        match part {
+            Part::Supplies => holds(self.cuts, self.right, index),
+            Part::Enters => enters(self.basin, self.cuts, self.right, index),
+            Part::Keeps => {
+                leaves(self.basin, self.cuts, self.right, index)
+                    && !is_on_link(self.basin, self.right, index)
+            }
+            Part::Takes => {
+                takes_within(self.basin, self.cuts, self.right, index)
+                    && is_senior_to(self.basin, index, self.right)
+            }
         }
-        let amount = self.month.supply[node as usize];
-        unless_zero(BookLine::Supply { node, amount }, amount)
     }
 
-    /// The line of a link that enters the set.
-    fn enter_at(&self, link: u32) -> Option<BookLine>
-        requires { link < length self.now.basin.links }
-        ensures lines { option_to_list result ≡ lines_of self.now Part.Enters link }
+    /// The term of an index of a part, if it has one.
+    fn term_at(&self, part: Part, index: u32) -> Option<BookLine>
+        requires { index < count_in (space_of part) self.now.basin }
+        ensures term { option_to_list result ≡ terms_at part self.now.basin self.now.month self.now.right index }
         ensures named { IfSome result (IsOfBasin self.now.basin) }
     {
-        if !enters(self.basin, self.cuts, self.right, link) {
-            return None;
-        }
-        let amount = carry_of(self.basin, link, self.month.month);
-        unless_zero(BookLine::Enter { link, amount }, amount)
-    }
-
-    /// The line of a link that leaves the set, other than the right's own.
-    fn keep_at(&self, link: u32) -> Option<BookLine>
-        requires { link < length self.now.basin.links }
-        ensures lines { option_to_list result ≡ lines_of self.now Part.Keeps link }
-        ensures named { IfSome result (IsOfBasin self.now.basin) }
-    {
-        if !leaves(self.basin, self.cuts, self.right, link)
-            || is_on_link(self.basin, self.right, link)
-        {
-            return None;
-        }
         let delivered = self.month.delivered.as_slice();
-        let amount = kept_on(self.basin, self.roll, delivered, self.right, link);
-        let holder = holder_of(self, link, amount)?;
-        unless_zero(
-            BookLine::Keep {
-                link,
-                amount,
-                holder,
+        Some(match part {
+            Part::Supplies => BookLine::Supply {
+                node: index,
+                amount: self.month.supply[index as usize],
             },
-            amount,
-        )
+            Part::Enters => BookLine::Enter {
+                link: index,
+                amount: carry_of(self.basin, index, self.month.month),
+            },
+            Part::Keeps => {
+                let amount = kept_on(self.basin, self.roll, delivered, self.right, index);
+                BookLine::Keep {
+                    link: index,
+                    amount,
+                    holder: holder_of(self, index, amount)?,
+                }
+            }
+            Part::Takes => BookLine::Take {
+                right: index,
+                amount: delivered[index as usize],
+            },
+        })
     }
 
-    /// The line of a senior diversion or zone that takes in the set.
-    fn take_at(&self, taker: u32) -> Option<BookLine>
-        requires { taker < length self.now.basin.rights }
-        ensures lines { option_to_list result ≡ lines_of self.now Part.Takes taker }
-        ensures named { IfSome result (IsOfBasin self.now.basin) }
-    {
-        if !takes_within(self.basin, self.cuts, self.right, taker)
-            || !is_senior_to(self.basin, taker, self.right)
-        {
-            return None;
-        }
-        let amount = self.month.delivered[taker as usize];
-        unless_zero(
-            BookLine::Take {
-                right: taker,
-                amount,
-            },
-            amount,
-        )
-    }
-
-    /// The line of an index of a part, if it has one.
+    /// The line of an index of a part, if it has one: its term, unless its amount is 0.
     pub fn line_at(&self, part: Part, index: u32) -> Option<BookLine>
         requires { index < count_in (space_of part) self.now.basin }
         ensures lines { option_to_list result ≡ lines_of self.now part index }
         ensures named { IfSome result (IsOfBasin self.now.basin) }
     {
-        match part {
-            Part::Supplies => self.supply_at(index),
-            Part::Enters => self.enter_at(index),
-            Part::Keeps => self.keep_at(index),
-            Part::Takes => self.take_at(index),
+        if !self.counts(part, index) {
+            return None;
+        }
+        let line = self.term_at(part, index)?;
+        if amount_of(line) == 0 {
+            None
+        } else {
+            Some(line)
         }
     }
 

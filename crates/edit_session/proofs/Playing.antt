@@ -1,5 +1,5 @@
 -- A script answered line by line.
-use Rattle.std.proofs.Common.{◌≡◌, ℕ, zero, suc, ◌+◌, ◌<◌, refl, sym, subst, arith, List, [], ◌∷◌}
+use Rattle.std.proofs.Common.{◌≡◌, ℕ, zero, suc, ◌+◌, ◌<◌, refl, subst, arith, List, [], ◌∷◌}
 use Rattle.std.proofs.Common.{◌++◌, length, take, drop, get_or, append-nil, add-one, drop-cons, inr}
 use Rattle.std.specs.Prelude.{Some, Result, Ok, Err, slice_get}
 use Rattle.std.specs.List.{flat_map}
@@ -55,9 +55,9 @@ have_then : (b : Basin) (series : Inflows) (e : Edit) (es : List Edit) (xs ys : 
 have_then b series e es xs ys h k =
     record { count = suc k.count; are = shown_then b series e (take k.count es) xs ys h k.are }
 
-answers_then : (b : Basin) (series : Inflows) (e : Edit) (es : List Edit) (u : Unit {0}) (r : Result (Unit {0}) EditStop)
-    (old mid new : Output) → Answers b series (e ∷ []) (Ok u) old mid → Answers b (edited_by series e) es r mid new →
-    Answers b series (e ∷ es) r old new
+answers_then : (b : Basin) (series : Inflows) (e : Edit) (es : List Edit) (u : Unit {0})
+    (r : Result (Unit {0}) EditStop) (old mid new : Output) → Answers b series (e ∷ []) (Ok u) old mid →
+    Answers b (edited_by series e) es r mid new → Answers b series (e ∷ es) r old new
 answers_then b series e es u (Ok v) old mid new h k = (
   h.0 ++ k.0,
   shown_then b series e es h.0 k.0 h.1 k.1,
@@ -105,11 +105,11 @@ pub played_more : {b : Basin} {series now : Inflows} {edits es : List Edit} {old
     Answers c now (e ∷ []) (Ok u) mid new →
     Solves (solved_by kept e) b before after →
     IsPlayed b series (edited_by now e) edits es old new held (kept_by kept e + solved_by kept e) start after
-played_more {b} {series} {now} {edits} {es} {old} {mid} {held} {kept} {start} {before} c e u new after so same h work = record {
+played_more {b} {now = now} {es = es} {old} {mid} {kept = kept} c e u new after so same h work = record {
   placed = λ d valid. placed_by b now e d (so.placed d valid);
   answers = λ r then' k. so.answers r then' (answers_then b now e es u r mid new then'
       (subst (λ (x : Basin). Answers x now (e ∷ []) (Ok u) mid new) same h) k);
-  work = λ then' k. so.work then' (Solves-then (solved_by kept e) _ b before after then' work k);
+  work = λ then' k. so.work then' (Solves-then (solved_by kept e) _ b _ after then' work k);
 }
 
 pub played_stops : {b : Basin} {series now : Inflows} {edits es : List Edit} {old mid : Output} {held kept : ℕ}
@@ -136,40 +136,34 @@ pub lines_from : (edits : List Edit) (i : ℕ) → i < length edits →
 lines_from edits i l = rw add-one (drop-cons edits i (Inflow 0 0 0) l)
 
 -- a month that a session keeps
-pub month_kept : (b : Basin) (s : SessionView) (series : Inflows) (index : ℕ) (m : MonthRecord) → IsValidBasin b →
-    s.basin ≡ b → s.series ≡ series → HasKeptMonths s →
-    slice_get s.kept index ≡ Some m → IsMonthOf b series index m
-month_kept b s series index m valid e f kept at =
+pub month_kept : {b : Basin} {s : SessionView} {series : Inflows} {index : ℕ} {m : MonthRecord} → IsValidBasin b →
+    s.basin ≡ b → s.series ≡ series → HasKeptMonths s → slice_get s.kept index ≡ Some m → IsMonthOf b series index m
+month_kept {b} {s} {series} {index} {m} valid e f kept at =
     let here : HasKeptMonths (record { basin = b; series = series; kept = s.kept }) =
     record { partial = rw (← e, ← f) kept.partial; reaches = rw (← e) kept.reaches } in
     record { months = s.kept; kept = here; here = at; agrees = runs_agree b series index s.kept m valid here at }
 
-pub month_fits : (b : Basin) (series : Inflows) (index : ℕ) (m : MonthRecord) → IsValidBasin b → index < b.months →
+pub month_fits : {b : Basin} {series : Inflows} {index : ℕ} {m : MonthRecord} → IsValidBasin b → index < b.months →
     IsMonthOf b series index m → FitsText b m
-month_fits b series index m valid l is =
+month_fits {b} {series} {index} {m} valid l is =
     FitsText-follows b series (take index is.months) m valid (is.kept.partial.each index m is.here)
     (omega (arith, length-take index is.months))
 
 -- it is shown
-pub show_put : (b : Basin) (series : Inflows) (index : ℕ) (m : MonthRecord) (old new : Output) (u : Unit {0}) →
+pub show_put : {b : Basin} {series : Inflows} {index : ℕ} {m : MonthRecord} (old new : Output) (u : Unit {0}) →
     IsMonthOf b series index m →
     Extends old new (flat_map (whole_line b) (items_of_month b m)) → Answers b series (Show index ∷ []) (Ok u) old new
-show_put b series index m old new u is put = (
-  m ∷ [],
-  (is, refl),
-  subst (λ (bytes : List ℕ). Extends old new bytes)
-      (sym (append-nil (flat_map (whole_line b) (items_of_month b m)))) put,
-)
+show_put {b} {m} old new u is put =
+    (m ∷ [], (is, refl), rw (append-nil (flat_map (whole_line b) (items_of_month b m))) put)
 
-pub show_failed : (b : Basin) (series : Inflows) (index : ℕ) (m : MonthRecord) (old new : Output) →
+pub show_failed : {b : Basin} {series : Inflows} {index : ℕ} {m : MonthRecord} (old new : Output) →
     IsMonthOf b series index m →
     PutsPrefix old new (flat_map (whole_line b) (items_of_month b m)) →
     Answers b series (Show index ∷ []) (Err stop.SinkFailed) old new
-show_failed b series index m old new is put = (
+show_failed {b} {m} old new is put = (
   m ∷ [],
   record { count = 1; are = (is, refl) },
-  subst (λ (bytes : List ℕ). PutsPrefix old new bytes)
-      (sym (append-nil (flat_map (whole_line b) (items_of_month b m)))) put,
+  rw (append-nil (flat_map (whole_line b) (items_of_month b m))) put,
 )
 
 pub nothing_shown : (b : Basin) (series : Inflows) (edits : List Edit) (old : Output) →

@@ -1,4 +1,4 @@
-use Rattle.call_list.proofs.Curtailed.{curtailed_exactly}
+use Rattle.call_list.proofs.Answers.{curtailed_exactly}
 use Rattle.call_list.proofs.laws.curtailed_exactly.Goals as goal
 
 pub returns : goal.returns

@@ -6,7 +6,7 @@ use Rattle.cut_book.specs.Book.{account}
 use Rattle.cut_book.specs.Entries.{whole_line}
 use Rattle.cut_book.specs.Shortages.{ShortageView, shortage}
 use Rattle.cut_book.specs.declared.entry.BookLine.{BookLine}
-use Rattle.cut_book.proofs.Written.{account_lines}
+use Rattle.cut_book.proofs.Adding.{account_lines}
 use Rattle.cut_book.proofs.writer.put_book.Goals as goal
 
 pub returns-clause-text : goal.returns-clause-text

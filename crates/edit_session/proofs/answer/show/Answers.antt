@@ -10,26 +10,23 @@ put_month-requires-clause-roll g c = rw c.basin.ensures.value c.roll.ensures
 pub put_month-requires-clause-month : goal.put_month-requires-clause-month
 put_month-requires-clause-month g c =
     let valid = rw (c.basin.ensures.value, c.in_ok-solve.ensures.basin) at c.basin.ensures.valid in
-    rw (c.basin.ensures.value, c.in_ok-solve.ensures.basin)
-    (month_fits c.args.session.now.basin c.args.session.now.series c.args.index c.month.result.now valid c.requires
-    (month_kept c.args.session.now.basin c.solve.new.self c.args.session.now.series c.args.index c.month.result.now
-    valid c.in_ok-solve.ensures.basin c.in_ok-solve.ensures.series c.in_ok-solve.ensures.history c.month.ensures))
+    rw (c.basin.ensures.value, c.in_ok-solve.ensures.basin) (month_fits valid c.requires
+    (month_kept valid c.in_ok-solve.ensures.basin c.in_ok-solve.ensures.series c.in_ok-solve.ensures.history
+    c.month.ensures))
 
 pub returns-in-Ok-clause-answers : goal.returns-in-Ok-clause-answers
 returns-in-Ok-clause-answers g c =
     let valid = rw (c.basin.ensures.value, c.in_ok-solve.ensures.basin) at c.basin.ensures.valid in
-    show_put c.args.session.now.basin c.args.session.now.series c.args.index c.month.result.now _ _ _
-    (month_kept c.args.session.now.basin c.solve.new.self c.args.session.now.series c.args.index c.month.result.now
-    valid c.in_ok-solve.ensures.basin c.in_ok-solve.ensures.series c.in_ok-solve.ensures.history c.month.ensures)
-    (rw (c.basin.ensures.value, c.in_ok-solve.ensures.basin) at c.in-Ok.ensures.text)
+    show_put _ _ _
+    (month_kept valid c.in_ok-solve.ensures.basin c.in_ok-solve.ensures.series c.in_ok-solve.ensures.history
+    c.month.ensures) (rw (c.basin.ensures.value, c.in_ok-solve.ensures.basin) at c.in-Ok.ensures.text)
 
 pub returns-in-Err-clause-answers : goal.returns-in-Err-clause-answers
 returns-in-Err-clause-answers g c =
     let valid = rw (c.basin.ensures.value, c.in_ok-solve.ensures.basin) at c.basin.ensures.valid in
-    show_failed c.args.session.now.basin c.args.session.now.series c.args.index c.month.result.now _ _
-    (month_kept c.args.session.now.basin c.solve.new.self c.args.session.now.series c.args.index c.month.result.now
-    valid c.in_ok-solve.ensures.basin c.in_ok-solve.ensures.series c.in_ok-solve.ensures.history c.month.ensures)
-    (rw (c.basin.ensures.value, c.in_ok-solve.ensures.basin) at c.in-Err.ensures.text)
+    show_failed _ _
+    (month_kept valid c.in_ok-solve.ensures.basin c.in_ok-solve.ensures.series c.in_ok-solve.ensures.history
+    c.month.ensures) (rw (c.basin.ensures.value, c.in_ok-solve.ensures.basin) at c.in-Err.ensures.text)
 
 pub returns-in_err-solve-clause-answers : goal.returns-in_err-solve-clause-answers
 returns-in_err-solve-clause-answers g c =

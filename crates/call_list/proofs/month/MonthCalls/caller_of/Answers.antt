@@ -2,7 +2,7 @@ use Rattle.std.proofs.Common.{◌≡◌, ℕ, Option, Some, sym, ◌∙◌, subs
 use Rattle.std.proofs.lemmas.Option.{get_or_from_slice_get}
 use Rattle.call_list.specs.Found.{curtailed_for}
 use Rattle.call_list.specs.MonthsCalls.{CallsSeen}
-use Rattle.call_list.proofs.Curtailed.{curtailed_by}
+use Rattle.call_list.proofs.Answers.{curtailed_by}
 use Rattle.call_list.proofs.month.MonthCalls.caller_of.Goals as goal
 
 pub returns-then-is_senior_to-clause-value : goal.returns-then-is_senior_to-clause-value
