@@ -260,10 +260,7 @@ same_core : (b : Basin) (m : MonthRecord) (r : ℕ) (core other : List Bool) →
     (n : ℕ) → has core n ≡ true → has other n ≡ true
 same_core b m r core other one two n h =
     one.upstream.least other two.upstream.closed
-    (subst (λ v. has other v ≡ true) (same_some two.node one.node (sym two.at ∙ one.at)) two.upstream.holds) n h
-  where
-    same_some : (j k : ℕ) → Some j ≡ Some k → j ≡ k
-    same_some j k h = cc
+    (subst (λ v. has other v ≡ true) (cc (two.at, one.at)) two.upstream.holds) n h
 
 -- so it can be tested which rights could use a unit
 module _ (b : Basin) (m : MonthRecord) (node : ℕ) (given : HasPlan b m) where

@@ -19,6 +19,7 @@ use Rattle.plan_residual.proofs.Terms.{length-others}
 use Rattle.plan_residual.proofs.Closed.{in_others, not_in_set, tight_cuts_hold_none_reached}
 use Rattle.plan_residual.proofs.Closed.{closed_sets_leave_tight_cuts}
 use Rattle.plan_residual.specs.Core.{IsClosedBackward}
+use Rattle.next_unit.proofs.Leads.{own_is, own_none}
 use Rattle.next_unit.proofs.Least.{tight_closed, others_twice, outside, apart}
 use Rattle.plan_residual.proofs.Upstream.{find_below}
 
@@ -150,17 +151,11 @@ source_in b m r node reach set given l short is_reach len back here beyond =
 
     own_in : (o : Option ℕ) → instream_link b r ≡ o →
         OwnIn b r set ⊎ ((e : ℕ) → instream_link b r ≡ Some e → has set (head_of b e) ≡ false)
-    own_in None is = inr (λ e h. absurd (not_both e (sym is ∙ h)))
-      where
-        not_both : (e : ℕ) → None ≡ Some e → ⊥
-        not_both e h = cc
+    own_in None is = inr (λ e h. own_none b r e is h)
     own_in (Some link) is = elim (cases_Bool (has set (head_of b link))) [
       | inl h ↦ inl record { link = link; is = is; inside = h }
-      | inr h ↦ inr (λ e i. subst (λ k. has set (head_of b k) ≡ false) (same_some link e (sym is ∙ i)) h)
+      | inr h ↦ inr (λ e i. subst (λ k. has set (head_of b k) ≡ false) (own_is b r link e is i) h)
     ]
-      where
-        same_some : (j k : ℕ) → Some j ≡ Some k → j ≡ k
-        same_some j k h = cc
 
     -- what is outside the reach and not in the set is in neither
     neither : (n : ℕ) → has (others reach) n ≡ true → has set n ≡ false → has both n ≡ false
