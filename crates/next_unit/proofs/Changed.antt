@@ -119,10 +119,10 @@ taken_there b m r carry supply take out own node to rank flow given l short no_l
     take_len = length-set take r (slice_index take r + 1) ∙ source.take_len;
     out_len = source.out_len;
     carries = now.carries;
-    wants = set_each (λ s x. s < length b.rights → x ≤ slice_index m.want s) take r (slice_index take r + 1)
+    wants = set_each (λ s x. s < length b.rights → x ≤ slice_index m.want s) take r (slice_index take r + 1) 0
         (omega (arith, l, source.take_len)) (λ k. omega (arith, short, got, source.own))
         (λ s ne k. omega (arith, given.plan.wants s k, source.takes s k));
-    instream = set_each (λ s x. s < length b.rights → taking_node b s ≡ None → x ≡ 0) take r (slice_index take r + 1)
+    instream = set_each (λ s x. s < length b.rights → taking_node b s ≡ None → x ≡ 0) take r (slice_index take r + 1) 0
         (omega (arith, l, source.take_len)) (λ k none. absurd (not_both (sym none ∙ at)))
         (λ s ne k none. omega (arith, given.plan.instream s k none, source.takes s k));
     outlets = λ n k no. omega (arith, given.plan.outlets n k no, source.outs n k);

@@ -1,9 +1,9 @@
 -- The most senior right that one more unit of carry on a link would help, seniors first.
-use Rattle.std.proofs.Common.{◌≡◌, ℕ, ◌+◌, ◌<◌, ◌≤◌, true, false, sym, ◌∙◌, ap, subst, arith, Bool, List, []}
+use Rattle.std.proofs.Common.{◌≡◌, ℕ, ◌+◌, ◌<◌, ◌≤◌, true, false, sym, ◌∙◌, ap, subst, arith, Bool, List, [], refl}
 use Rattle.std.proofs.Common.{length, inl, inr}
-use Rattle.std.proofs.lemmas.Bool.{cases_eq, cases_lt, ltb-true}
-use Rattle.std.proofs.lemmas.List.{get_or-set_same, get_or-set_other, length-set}
-use Rattle.std.specs.Prelude.{Option, Some, None, slice_index, slice_index_or, slice_set, unwrap_or, is_some}
+use Rattle.std.proofs.lemmas.Bool.{cases_lt, ltb-true}
+use Rattle.std.proofs.lemmas.List.{length-set}
+use Rattle.std.specs.Prelude.{Option, Some, None, slice_index, slice_index_or, slice_set, unwrap_or, is_some, ◌⊎◌}
 use Rattle.water_model.specs.Basin.{instream_link}
 use Rattle.water_model.specs.Cuts.{IsReach}
 use Rattle.water_model.specs.History.{HasReaches, IsShort}
@@ -17,9 +17,10 @@ use Rattle.plan_residual.specs.Core.{IsCore}
 use Rattle.plan_residual.specs.Reaches.{HasReach}
 use Rattle.plan_residual.specs.Sweep.{right_at}
 use Rattle.next_unit.specs.Core.{raised_carry}
-use Rattle.next_unit.specs.Helped.{IsFirstHelped, IsHelped, AreHelped, HelpsNoneTo, IsHelpedTo, AreHelpedTo}
+use Rattle.next_unit.specs.Helped.{IsFirstHelped, IsHelped, AreHelped, HelpsNoneTo, IsHelpedTo, AreHelpedTo, IsListed}
 use Rattle.next_unit.specs.Helped.{AreBeingHelped, AreUndecided, HelpNot, IsCandidate, TakesOneMore}
 use Rattle.next_unit.specs.Laws.{CarryHelpsRight}
+use Rattle.next_unit.proofs.Pushes.{set_each}
 
 -- a right that could get more is short
 pub helped_is_short : (b : Basin) (m : MonthRecord) (link r : ℕ) → r < length b.rights → CarryHelpsRight b m link r →
@@ -124,25 +125,14 @@ module _ (b : Basin) (m : MonthRecord) (position : ℕ) (helped : List (Option �
   abbrev link : ℕ
   link = slice_index undecided j
 
-  at : (e : ℕ) → e ≡ link → slice_index_or (slice_set helped link answer) e None ≡ answer
-  at e same =
-      ap (λ i. slice_index_or (slice_set helped link answer) i None) same
-      ∙ get_or-set_same helped link answer None (let l = lists.links.1 j listed in omega (arith, l, counted))
-
-  elsewhere : (e : ℕ) → (e ≡ link → ⊥) →
-      slice_index_or (slice_set helped link answer) e None ≡ slice_index_or helped e None
-  elsewhere e other = get_or-set_other helped link e answer None other
+  below : link < length helped
+  below = let l = lists.links.1 j listed in omega (arith, l, counted)
 
   pub still_undecided : AreUndecided b m (slice_set helped link answer) undecided count
   still_undecided = record {
     links = lists.links;
-    each = λ e k. elim (cases_eq e link) [
-      | inl same ↦ inr (j, listed, sym same)
-      | inr other ↦ elim (lists.each e k) [
-        | inl decided ↦ inl (subst (λ (o : Option ℕ). IsHelped b m e o) (sym (elsewhere e other)) decided)
-        | inr at ↦ inr at
-      ]
-    ];
+    each = set_each (λ e o. e < length b.links → IsHelped b m e o ⊎ IsListed undecided count e) helped link answer None
+        below (λ k. inr (j, listed, refl)) (λ e other. lists.each e);
   }
 
   pub one_gone_over : AreBeingHelped b m position helped undecided j → IsHelpedTo b m (position + 1) link answer →
@@ -150,20 +140,13 @@ module _ (b : Basin) (m : MonthRecord) (position : ℕ) (helped : List (Option �
   one_gone_over now here = record {
     each = record {
       count = length-set helped link answer ∙ now.each.count;
-      each = λ e k. elim (cases_eq e link) [
-        | inl same ↦ subst (λ (o : Option ℕ). IsHelpedTo b m position e o) (sym (at e same))
-            (earlier b m position e answer (subst (λ f. IsHelpedTo b m (position + 1) f answer) (sym same) here))
-        | inr other ↦ subst (λ (o : Option ℕ). IsHelpedTo b m position e o) (sym (elsewhere e other))
-            (now.each.each e k)
-      ];
+      each = set_each (λ e o. e < length b.links → IsHelpedTo b m position e o) helped link answer None below
+          (λ k. earlier b m position link answer here) (λ e other. now.each.each e);
     };
-    gone_over = λ i k. elim (cases_eq (slice_index undecided i) link) [
-      | inl same ↦ subst (λ (o : Option ℕ). IsHelpedTo b m (position + 1) (slice_index undecided i) o)
-          (sym (at (slice_index undecided i) same))
-          (subst (λ f. IsHelpedTo b m (position + 1) f answer) (sym same) here)
-      | inr other ↦ subst (λ (o : Option ℕ). IsHelpedTo b m (position + 1) (slice_index undecided i) o)
-          (sym (elsewhere (slice_index undecided i) other)) (now.gone_over i (before i k other))
-    ];
+    gone_over = λ i k. set_each (λ e o. slice_index undecided i ≡ e → IsHelpedTo b m (position + 1) e o) helped link
+        answer None below (λ same. here)
+        (λ e other same. subst (λ f. IsHelpedTo b m (position + 1) f (slice_index_or helped f None)) same
+        (now.gone_over i (before i k (λ at. other (sym same ∙ at))))) (slice_index undecided i) refl;
   }
     where
       before : (i : ℕ) → i < j + 1 → (slice_index undecided i ≡ link → ⊥) → i < j
