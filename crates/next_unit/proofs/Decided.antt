@@ -140,7 +140,7 @@ record LeadsTo (b : Basin) (m : MonthRecord) (link s : ℕ) : Type 0 where
   uses : CouldUseAt b m (head_of b link) s
 
 -- a link of a month whose sets are the reaches
-module _ (b : Basin) (m : MonthRecord) (link : ℕ) (month : TakesOneMore b m) (below : link < length b.links) where
+module _ {b : Basin} {m : MonthRecord} {link : ℕ} (month : TakesOneMore b m) (below : link < length b.links) where
   leads : (s : ℕ) → s < length b.rights → CarryHelpsRight b m link s → LeadsTo b m link s
   leads s l helps =
       let short = helped_is_short b m link s l helps in
@@ -219,9 +219,9 @@ decided_none b m link None h none = none
 decided_none b m link (Some r) h none = cc
 
 -- before the first link
-pub none_decided_yet : (b : Basin) (m : MonthRecord) (helped : List (Option ℕ)) (undecided : List ℕ) →
+pub none_decided_yet : {b : Basin} {m : MonthRecord} {helped : List (Option ℕ)} {undecided : List ℕ} →
     length helped ≡ length b.links → length undecided ≡ length b.links → AreDecided b m helped undecided 0 0
-none_decided_yet b m helped undecided one other = record {
+none_decided_yet one other = record {
   for_helped = one;
   for_list = other;
   bounded = omega arith;
@@ -231,7 +231,7 @@ none_decided_yet b m helped undecided one other = record {
 }
 
 -- one more link
-module _ (b : Basin) (m : MonthRecord) (helped : List (Option ℕ)) (undecided : List ℕ) (count link : ℕ)
+module _ {b : Basin} {m : MonthRecord} {helped : List (Option ℕ)} {undecided : List ℕ} {count link : ℕ}
     (answer : Option ℕ) (l : link < length b.links) (now : AreDecided b m helped undecided count link) where
   below : link < length helped
   below = omega (arith, now.for_helped, l)
@@ -250,8 +250,8 @@ module _ (b : Basin) (m : MonthRecord) (helped : List (Option ℕ)) (undecided :
     bounded = let bounded = now.bounded in omega arith;
     listed = now.listed;
     each = at_first here;
-    decided = set_each (λ e o. e < link + 1 → IsHelped b m e o ⊎ IsListed undecided count e) helped link answer None below
-        (λ k. inl is) (λ e other k. now.decided e (omega arith));
+    decided = set_each (λ e o. e < link + 1 → IsHelped b m e o ⊎ IsListed undecided count e) helped link answer None
+        below (λ k. inl is) (λ e other k. now.decided e (omega arith));
   }
 
   -- which is listed
@@ -264,8 +264,8 @@ module _ (b : Basin) (m : MonthRecord) (helped : List (Option ℕ)) (undecided :
     listed = set_each (λ j f. j < count + 1 → f < length b.links) undecided count link 0 room (λ k. l)
         (λ j other k. now.listed j (omega arith));
     each = at_first here;
-    decided = set_each (λ e o. e < link + 1 → IsHelped b m e o ⊎ IsListed (slice_set undecided count link) (count + 1) e)
-        helped link answer None below (λ k. inr (count, omega arith, get_or-set_same undecided count link 0 room))
+    decided = set_each
+        (λ e o. e < link + 1 → IsHelped b m e o ⊎ IsListed (slice_set undecided count link) (count + 1) e) helped link answer None below (λ k. inr (count, omega arith, get_or-set_same undecided count link 0 room))
         (λ e other k. elim (now.decided e (omega arith)) [
           | inl is ↦ inl is
           | inr is ↦ inr (
@@ -279,25 +279,19 @@ module _ (b : Basin) (m : MonthRecord) (helped : List (Option ℕ)) (undecided :
       room : count < length undecided
       room = omega (arith, now.bounded, now.for_list, l)
 
--- the same list and count
-pub decided_as : (b : Basin) (m : MonthRecord) (helped : List (Option ℕ)) (undecided list : List ℕ)
-    (count number links : ℕ) → list ≡ undecided → number ≡ count → AreDecided b m helped undecided count links →
-    AreDecided b m helped list number links
-decided_as b m helped undecided list count number links same equal now = rw (same, equal) now
-
 -- all links are decided
-pub all_helped_to : (b : Basin) (m : MonthRecord) (helped : List (Option ℕ)) (undecided : List ℕ) (count links : ℕ) →
+pub all_helped_to : {b : Basin} {m : MonthRecord} {helped : List (Option ℕ)} {undecided : List ℕ} {count links : ℕ} →
     length b.links ≤ links → AreDecided b m helped undecided count links → AreHelpedTo b m 0 helped
-all_helped_to b m helped undecided count links all now = record {
+all_helped_to all now = record {
   count = now.for_helped;
   each = λ e l. now.each e (omega arith);
 }
 
 -- or are listed as undecided
-pub all_decided_of : (b : Basin) (m : MonthRecord) (helped : List (Option ℕ)) (undecided : List ℕ) (count links : ℕ) →
+pub all_decided_of : {b : Basin} {m : MonthRecord} {helped : List (Option ℕ)} {undecided : List ℕ} {count links : ℕ} →
     length b.links ≤ links → links ≤ length b.links → AreDecided b m helped undecided count links →
     AreUndecided b m helped undecided count
-all_decided_of b m helped undecided count links all most now = record {
+all_decided_of all most now = record {
   links = (omega (arith, now.bounded, now.for_list), now.listed);
   each = λ e l. now.decided e (omega arith);
 }
