@@ -99,11 +99,11 @@ decided_to b m position link None below none = record {
 decided_to b m position link (Some r) below now = now
 
 -- all undecided links were gone over for a right
-pub all_gone_over : (b : Basin) (m : MonthRecord) (position : ℕ) (helped : List (Option ℕ)) (undecided : List ℕ)
-    (count done : ℕ) → IsSeniorityOrder b.rights (seniors_first b) → position < length b.rights → count ≤ done →
+pub all_gone_over : {b : Basin} {m : MonthRecord} {position : ℕ} {helped : List (Option ℕ)} {undecided : List ℕ}
+    {count done : ℕ} → IsSeniorityOrder b.rights (seniors_first b) → position < length b.rights → count ≤ done →
     AreUndecided b m helped undecided count → AreBeingHelped b m position helped undecided done →
     AreHelpedTo b m (position + 1) helped
-all_gone_over b m position helped undecided count done o l all lists now = record {
+all_gone_over {b = b} {m = m} {position = position} {helped = helped} o l all lists now = record {
   count = now.each.count;
   each = λ e k. elim (lists.each e k) [
     | inl decided ↦ decided_to b m (position + 1) e (slice_index_or helped e None)
@@ -114,12 +114,12 @@ all_gone_over b m position helped undecided count done o l all lists now = recor
 }
 
 -- before the first of them
-pub none_gone_over : (b : Basin) (m : MonthRecord) (position : ℕ) (helped : List (Option ℕ)) (undecided : List ℕ) →
+pub none_gone_over : {b : Basin} {m : MonthRecord} {position : ℕ} {helped : List (Option ℕ)} {undecided : List ℕ} →
     AreHelpedTo b m position helped → AreBeingHelped b m position helped undecided 0
-none_gone_over b m position helped undecided now = record { each = now; gone_over = λ j l. absurd (omega arith) }
+none_gone_over now = record { each = now; gone_over = λ j l. absurd (omega arith) }
 
 -- one of them more
-module _ (b : Basin) (m : MonthRecord) (position : ℕ) (helped : List (Option ℕ)) (undecided : List ℕ) (count j : ℕ)
+module _ {b : Basin} {m : MonthRecord} {helped : List (Option ℕ)} {undecided : List ℕ} {count j : ℕ}
     (answer : Option ℕ) (listed : j < count) (lists : AreUndecided b m helped undecided count)
     (counted : length helped ≡ length b.links) where
   abbrev link : ℕ
@@ -135,9 +135,10 @@ module _ (b : Basin) (m : MonthRecord) (position : ℕ) (helped : List (Option �
         below (λ k. inr (j, listed, refl)) (λ e other. lists.each e);
   }
 
-  pub one_gone_over : AreBeingHelped b m position helped undecided j → IsHelpedTo b m (position + 1) link answer →
+  pub one_gone_over : {position : ℕ} → AreBeingHelped b m position helped undecided j →
+      IsHelpedTo b m (position + 1) link answer →
       AreBeingHelped b m position (slice_set helped link answer) undecided (j + 1)
-  one_gone_over now here = record {
+  one_gone_over {position = position} now here = record {
     each = record {
       count = length-set helped link answer ∙ now.each.count;
       each = set_each (λ e o. e < length b.links → IsHelpedTo b m position e o) helped link answer None below
@@ -156,11 +157,11 @@ module _ (b : Basin) (m : MonthRecord) (position : ℕ) (helped : List (Option �
       ]
 
 -- a right that none of them would help is helped by no link
-pub no_more : (b : Basin) (m : MonthRecord) (position : ℕ) (helped : List (Option ℕ)) (undecided : List ℕ) (count : ℕ) →
-    IsSeniorityOrder b.rights (seniors_first b) → position < length b.rights →
+pub no_more : {b : Basin} {m : MonthRecord} {position : ℕ} {helped : List (Option ℕ)} {undecided : List ℕ}
+    {count : ℕ} → IsSeniorityOrder b.rights (seniors_first b) → position < length b.rights →
     HelpNot b m undecided count (right_at b position) → AreUndecided b m helped undecided count →
     AreHelpedTo b m position helped → AreHelpedTo b m (position + 1) helped
-no_more b m position helped undecided count o l none lists now = record {
+no_more {b = b} {m = m} {position = position} {helped = helped} o l none lists now = record {
   count = now.count;
   each = λ e k. elim (lists.each e k) [
     | inl decided ↦ decided_to b m (position + 1) e (slice_index_or helped e None)
@@ -171,20 +172,20 @@ no_more b m position helped undecided count o l none lists now = record {
 }
 
 -- a diversion or zone is helped by no link for which no right was known at first
-pub none_instream : (b : Basin) (m : MonthRecord) (position : ℕ) (helped : List (Option ℕ)) →
+pub none_instream : {b : Basin} {m : MonthRecord} {position : ℕ} {helped : List (Option ℕ)} →
     instream_link b (right_at b position) ≡ None → right_at b position < length b.rights →
     AreHelpedTo b m position helped → AreHelpedTo b m (position + 1) helped
-none_instream b m position helped none l now = record {
+none_instream {b = b} {m = m} {position = position} {helped = helped} none l now = record {
   count = now.count;
   each = λ e k. still_helped b m position e (slice_index_or helped e None)
       (λ so_far. so_far.instream (right_at b position) l none) (now.each e k);
 }
 
 -- all rights were gone over
-pub all_helped : (b : Basin) (m : MonthRecord) (indices : ℕ) (helped : List (Option ℕ)) →
+pub all_helped : {b : Basin} {m : MonthRecord} {indices : ℕ} {helped : List (Option ℕ)} →
     IsSeniorityOrder b.rights (seniors_first b) → length b.rights ≤ indices → AreHelpedTo b m indices helped →
     AreHelped b m helped
-all_helped b m indices helped o all now = record {
+all_helped {b = b} {m = m} {indices = indices} {helped = helped} o all now = record {
   count = now.count;
   each = λ e l. of_answer e (slice_index_or helped e None) (now.each e l);
 }
