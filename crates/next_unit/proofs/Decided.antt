@@ -265,7 +265,8 @@ module _ {b : Basin} {m : MonthRecord} {helped : List (Option ℕ)} {undecided :
         (λ j other k. now.listed j (omega arith));
     each = at_first here;
     decided = set_each
-        (λ e o. e < link + 1 → IsHelped b m e o ⊎ IsListed (slice_set undecided count link) (count + 1) e) helped link answer None below (λ k. inr (count, omega arith, get_or-set_same undecided count link 0 room))
+        (λ e o. e < link + 1 → IsHelped b m e o ⊎ IsListed (slice_set undecided count link) (count + 1) e) helped link
+        answer None below (λ k. inr (count, omega arith, get_or-set_same undecided count link 0 room))
         (λ e other k. elim (now.decided e (omega arith)) [
           | inl is ↦ inl is
           | inr is ↦ inr (

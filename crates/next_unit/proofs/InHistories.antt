@@ -35,7 +35,7 @@ use Rattle.next_unit.specs.Laws.{FirstChangedIsNext, NextUnitShowsInHistories, C
 use Rattle.next_unit.proofs.Exact.{supply_helps_exactly_in_core, carry_helps_exactly_into_core}
 use Rattle.next_unit.proofs.Helps.{supply_in_core_helps}
 use Rattle.next_unit.proofs.Room.{small_supply_leaves_room, rivers_can_rise}
-use Rattle.next_unit.proofs.Down.{sent_down}
+use Rattle.next_unit.proofs.Changed.{sent_down}
 use Rattle.next_unit.proofs.Least.{core_within}
 use Rattle.next_unit.proofs.Next.{HaveTightCuts, goes_to_one, goes_to_nobody, got_nothing, decided, called}
 

@@ -34,7 +34,7 @@ use Rattle.next_unit.specs.Next.{GivesOneMore, IsCurtailedFor}
 use Rattle.next_unit.specs.Laws.{HelpsRight, NextUnitIsDecided, ShortTakersAreCurtailedOrNext}
 use Rattle.next_unit.proofs.Least.{core_is_least_tight_cut, nothing_outside_tight_cuts_helps}
 use Rattle.next_unit.proofs.Exact.{rights_have_cores}
-use Rattle.next_unit.proofs.Down.{ServesAll}
+use Rattle.next_unit.proofs.Changed.{ServesAll}
 
 -- each short right has a tight cut
 abbrev pub HaveTightCuts : Basin → MonthRecord → Type 0
@@ -327,9 +327,6 @@ short_takers_are_curtailed_or_next b m right node given l short at = elim (decid
         of_kind (Instream link) h = cc
         of_kind (Zone reservoir level) h = refl
 
-    same_some : (j k : ℕ) → Some j ≡ Some k → j ≡ k
-    same_some j k h = cc
-
     own_use : (core : List Bool) × IsCore b m right core → CouldUseAt b m node right
     own_use core = record {
       in_range = l;
@@ -337,7 +334,7 @@ short_takers_are_curtailed_or_next b m right node given l short at = elim (decid
       core = core.0;
       is_core = core.1;
       here = subst (λ v. has core.0 v ≡ true)
-          (same_some core.1.node node (sym core.1.at ∙ ap₂ (λ t o. node_by_link b t o) at no_link))
+          (cc (core.1.at, ap₂ (λ t o. node_by_link b t o) at no_link))
           core.1.upstream.holds;
     }
 
