@@ -1,4 +1,4 @@
--- Plans with one more unit for a right, by a unit that was moved.
+-- Plans with one more unit for a right, or with as much for all, by a unit that was moved.
 use Rattle.std.proofs.Common.{◌≡◌, ◌≢◌, ℕ, ◌+◌, ◌-◌, ◌<◌, ◌≤◌, min, Bool, true, false, refl, sym, ◌∙◌, ap, arith, subst}
 use Rattle.std.proofs.Common.{List, length, inl, inr}
 use Rattle.std.proofs.lemmas.Bool.{and_from, both_ways, eq-eqb}
@@ -8,7 +8,7 @@ use Rattle.std.specs.Prelude.{◌&&◌, ◌==◌, if◌then◌else◌, slice_ind
 use Rattle.finite_sums.specs.Sums.{when}
 use Rattle.finite_sums.proofs.Totals.{total_change, term_le_greatest}
 use Rattle.water_model.specs.Basin.{instream_link, taking_node, takes_at, is_on_link, is_at, is_senior, is_outlet}
-use Rattle.water_model.specs.Plans.{IsFeasible, delivery, delivery_by_link, taken_at}
+use Rattle.water_model.specs.Plans.{IsFeasible, delivery, delivery_by_link, taken_at, IsPlan, carry_of}
 use Rattle.water_model.specs.History.{IsShort}
 use Rattle.duality.specs.Laws.{ServesSeniors}
 use Rattle.water_model.specs.declared.types.Basin.{Basin}
@@ -18,7 +18,8 @@ use Rattle.duality.proofs.Duality.{delivery_by_take}
 use Rattle.water_model.proofs.Seniority.{not_senior_to_itself}
 use Rattle.plan_residual.specs.Residual.{HasPlan}
 use Rattle.next_unit.specs.Core.{one_more}
-use Rattle.next_unit.proofs.Pushes.{IsMoved, one_less, set_each}
+use Rattle.next_unit.proofs.Pushes.{IsMoved, one_less, set_each, not_moved}
+use Rattle.next_unit.proofs.Leads.{HasGoneOut, RiversCanRise, numbers_of, send_down}
 
 -- with these carries and supplies, a plan with one more unit for a right
 pub record HelpsBy (b : Basin) (m : MonthRecord) (carry : ℕ → ℕ) (supply : List ℕ) (r : ℕ) : Type 0 where
@@ -119,10 +120,10 @@ taken_there b m r carry supply take out own node to rank flow given l short no_l
     take_len = length-set take r (slice_index take r + 1) ∙ source.take_len;
     out_len = source.out_len;
     carries = now.carries;
-    wants = set_each (λ s x. s < length b.rights → x ≤ slice_index m.want s) take r (slice_index take r + 1)
+    wants = set_each (λ s x. s < length b.rights → x ≤ slice_index m.want s) take r (slice_index take r + 1) 0
         (omega (arith, l, source.take_len)) (λ k. omega (arith, short, got, source.own))
         (λ s ne k. omega (arith, given.plan.wants s k, source.takes s k));
-    instream = set_each (λ s x. s < length b.rights → taking_node b s ≡ None → x ≡ 0) take r (slice_index take r + 1)
+    instream = set_each (λ s x. s < length b.rights → taking_node b s ≡ None → x ≡ 0) take r (slice_index take r + 1) 0
         (omega (arith, l, source.take_len)) (λ k none. absurd (not_both (sym none ∙ at)))
         (λ s ne k none. omega (arith, given.plan.instream s k none, source.takes s k));
     outlets = λ n k no. omega (arith, given.plan.outlets n k no, source.outs n k);
@@ -231,3 +232,59 @@ went_round b m r e carry node rank flow given l short is now = record {
   where
     q : Plan
     q = record { flow = flow; take = m.plan.take; out = m.plan.out }
+
+-- a plan of the month with one more unit of supply that delivers at least the same to each right
+pub record ServesAll (b : Basin) (m : MonthRecord) (supply : List ℕ) : Type 0 where
+  pub plan : Plan
+  pub is_plan : IsPlan b m.month supply m.want plan
+  pub serves : (r : ℕ) → r < length b.rights → slice_index m.delivered r ≤ delivery b m.want plan r
+
+by_sent : (b : Basin) (m : MonthRecord) (node : ℕ) (rank : ℕ → ℕ) → HasPlan b m → node < length b.nodes →
+    HasGoneOut b m (slice_index m.plan.flow) (carry_of b m.month) (λ e. ⊥) 0 node rank →
+    ServesAll b m (one_more m.supply node)
+by_sent b m node rank given l out = record {
+  plan = q;
+  is_plan = record {
+    flow_len = out.moved.size;
+    take_len = given.plan.take_len;
+    out_len = length-set m.plan.out out.node (slice_index m.plan.out out.node + 1) ∙ given.plan.out_len;
+    carries = out.moved.carries;
+    wants = given.plan.wants;
+    instream = given.plan.instream;
+    outlets = λ n k no. omega (
+      arith,
+      get_or-set_other m.plan.out out.node n (slice_index m.plan.out out.node + 1) 0 (λ same.
+          both_ways _ (ap (is_outlet b) (sym same) ∙ no) out.outlet),
+      given.plan.outlets n k no,
+    );
+    balance = λ n k. omega (
+      arith,
+      given.plan.balance n k,
+      out.moved.moved n,
+      one_more_at m.supply node n (omega (arith, l, given.fits.supply)),
+      one_more_at m.plan.out out.node n (omega (arith, out.below, given.plan.out_len)),
+    );
+  };
+  serves = λ r k. omega (arith, given.delivered.each r k, of_link (instream_link b r) (slice_index m.want r) r);
+}
+  where
+    q : Plan
+    q = record { flow = out.flow; take = m.plan.take; out = one_more m.plan.out out.node }
+
+    of_link : (o : Option ℕ) (want r : ℕ) → delivery_by_link o want m.plan r ≤ delivery_by_link o want q r
+    of_link None want r = omega arith
+    of_link (Some e) want r = by_min want (slice_index m.plan.flow e) (slice_index out.flow e) (out.moved.kept e)
+      where
+        by_min : (w x y : ℕ) → x ≤ y → min w x ≤ min w y
+        by_min w x y h = omega arith
+
+pub sent_down : (b : Basin) (m : MonthRecord) (node : ℕ) → HasPlan b m → RiversCanRise b m → node < length b.nodes →
+    ServesAll b m (one_more m.supply node)
+sent_down b m node given room l =
+    let numbers = numbers_of b given.valid in
+    let rank : ℕ → ℕ = λ n. numbers.most - numbers.number n in
+    by_sent b m node rank given l
+    (send_down b m (slice_index m.plan.flow) (carry_of b m.month) (λ e. ⊥) 0 node rank given room (λ e. omega arith)
+    numbers (λ n. true) (λ e k rise h. refl) (λ n h. refl) (λ e own h. own) node m.plan.flow l refl
+    (not_moved b m (slice_index m.plan.flow) (carry_of b m.month) (λ e. ⊥) 0 node rank given (λ e. omega arith)
+    (λ e. omega arith) (λ e own. absurd own)))

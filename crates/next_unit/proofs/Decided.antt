@@ -1,9 +1,9 @@
 -- What is known of a link by whose the next unit at its head would be, before any search for a core.
 use Rattle.std.proofs.Common.{◌≡◌, ℕ, zero, suc, ◌<◌, Bool, true, false, refl, sym, ◌∙◌, ap, arith, List, [], ◌∷◌}
-use Rattle.std.proofs.Common.{◌+◌, ◌≤◌, length, subst, inl, inr}
+use Rattle.std.proofs.Common.{◌+◌, ◌≤◌, length, inl, inr}
 use Rattle.std.proofs.lemmas.Bool.{and_parts, and_from, both_ways, cases_eq, false_from_ne_true}
 use Rattle.std.proofs.lemmas.List.{get_or-set_same, get_or-set_other, length-set}
-use Rattle.std.specs.Prelude.{◌&&◌, ◌⊎◌, ◌≢◌, Option, Some, None, is_some, slice_index, slice_index_or, slice_set}
+use Rattle.std.specs.Prelude.{◌&&◌, ◌⊎◌, ◌≢◌, Option, Some, None, is_some, slice_index_or, slice_set}
 use Rattle.cut_cert.specs.Sets.{cut_at}
 use Rattle.water_model.specs.Lookups.{has}
 use Rattle.water_model.specs.Basin.{head_of, tail_of, taking_node, instream_link, is_senior}
@@ -21,12 +21,13 @@ use Rattle.plan_residual.proofs.Closed.{in_others, not_in_set, tight_cuts_hold_n
 use Rattle.plan_residual.proofs.Closed.{closed_sets_leave_tight_cuts}
 use Rattle.plan_residual.proofs.Sweeping.{closed_for_junior}
 use Rattle.plan_residual.proofs.Terms.{length-others}
-use Rattle.next_unit.specs.Helped.{AreHelpedTo, AreDecided, AreUndecided, HelpsNoneTo, IsFirstHelped}
+use Rattle.next_unit.specs.Helped.{AreHelpedTo, AreDecided, AreUndecided, HelpsNoneTo, IsFirstHelped, IsListed}
 use Rattle.next_unit.specs.Helped.{IsHelped, IsHelpedTo, TakesOneMore}
 use Rattle.next_unit.specs.Laws.{CarryHelpsRight}
 use Rattle.next_unit.proofs.Exact.{rights_have_cores, carry_helps_exactly_into_core}
 use Rattle.next_unit.proofs.Helping.{helped_is_short, short_has_reach}
 use Rattle.next_unit.proofs.Least.{core_within}
+use Rattle.next_unit.proofs.Pushes.{set_each}
 
 -- the nodes that two sets have in common
 abbrev common : List Bool → List Bool → List Bool
@@ -139,7 +140,7 @@ record LeadsTo (b : Basin) (m : MonthRecord) (link s : ℕ) : Type 0 where
   uses : CouldUseAt b m (head_of b link) s
 
 -- a link of a month whose sets are the reaches
-module _ (b : Basin) (m : MonthRecord) (link : ℕ) (month : TakesOneMore b m) (below : link < length b.links) where
+module _ {b : Basin} {m : MonthRecord} {link : ℕ} (month : TakesOneMore b m) (below : link < length b.links) where
   leads : (s : ℕ) → s < length b.rights → CarryHelpsRight b m link s → LeadsTo b m link s
   leads s l helps =
       let short = helped_is_short b m link s l helps in
@@ -218,9 +219,9 @@ decided_none b m link None h none = none
 decided_none b m link (Some r) h none = cc
 
 -- before the first link
-pub none_decided_yet : (b : Basin) (m : MonthRecord) (helped : List (Option ℕ)) (undecided : List ℕ) →
+pub none_decided_yet : {b : Basin} {m : MonthRecord} {helped : List (Option ℕ)} {undecided : List ℕ} →
     length helped ≡ length b.links → length undecided ≡ length b.links → AreDecided b m helped undecided 0 0
-none_decided_yet b m helped undecided one other = record {
+none_decided_yet one other = record {
   for_helped = one;
   for_list = other;
   bounded = omega arith;
@@ -230,24 +231,15 @@ none_decided_yet b m helped undecided one other = record {
 }
 
 -- one more link
-module _ (b : Basin) (m : MonthRecord) (helped : List (Option ℕ)) (undecided : List ℕ) (count link : ℕ)
+module _ {b : Basin} {m : MonthRecord} {helped : List (Option ℕ)} {undecided : List ℕ} {count link : ℕ}
     (answer : Option ℕ) (l : link < length b.links) (now : AreDecided b m helped undecided count link) where
-  at : (e : ℕ) → e ≡ link → slice_index_or (slice_set helped link answer) e None ≡ answer
-  at e same =
-      ap (λ i. slice_index_or (slice_set helped link answer) i None) same
-      ∙ get_or-set_same helped link answer None (omega (arith, now.for_helped, l))
-
-  elsewhere : (e : ℕ) → (e ≡ link → ⊥) →
-      slice_index_or helped e None ≡ slice_index_or (slice_set helped link answer) e None
-  elsewhere e other = sym (get_or-set_other helped link e answer None other)
+  below : link < length helped
+  below = omega (arith, now.for_helped, l)
 
   at_first : IsHelpedTo b m 0 link answer → (e : ℕ) → e < link + 1 →
       IsHelpedTo b m 0 e (slice_index_or (slice_set helped link answer) e None)
-  at_first here e k = elim (cases_eq e link) [
-    | inl same ↦ subst (λ (o : Option ℕ). IsHelpedTo b m 0 e o) (sym (at e same))
-        (subst (λ f. IsHelpedTo b m 0 f answer) (sym same) here)
-    | inr other ↦ subst (λ (o : Option ℕ). IsHelpedTo b m 0 e o) (elsewhere e other) (now.each e (omega arith))
-  ]
+  at_first here = set_each (λ e o. e < link + 1 → IsHelpedTo b m 0 e o) helped link answer None below (λ k. here)
+      (λ e other k. now.each e (omega arith))
 
   -- which is decided
   pub one_decided : IsHelpedTo b m 0 link answer → IsHelped b m link answer →
@@ -258,14 +250,8 @@ module _ (b : Basin) (m : MonthRecord) (helped : List (Option ℕ)) (undecided :
     bounded = let bounded = now.bounded in omega arith;
     listed = now.listed;
     each = at_first here;
-    decided = λ e k. elim (cases_eq e link) [
-      | inl same ↦ inl (subst (λ (o : Option ℕ). IsHelped b m e o) (sym (at e same))
-          (subst (λ f. IsHelped b m f answer) (sym same) is))
-      | inr other ↦ elim (now.decided e (omega arith)) [
-        | inl before ↦ inl (subst (λ (o : Option ℕ). IsHelped b m e o) (elsewhere e other) before)
-        | inr before ↦ inr before
-      ]
-    ];
+    decided = set_each (λ e o. e < link + 1 → IsHelped b m e o ⊎ IsListed undecided count e) helped link answer None
+        below (λ k. inl is) (λ e other k. now.decided e (omega arith));
   }
 
   -- which is listed
@@ -275,50 +261,38 @@ module _ (b : Basin) (m : MonthRecord) (helped : List (Option ℕ)) (undecided :
     for_helped = length-set helped link answer ∙ now.for_helped;
     for_list = length-set undecided count link ∙ now.for_list;
     bounded = let bounded = now.bounded in omega arith;
-    listed = λ j k. elim (cases_eq j count) [
-      | inl same ↦ subst (λ (f : ℕ). f < length b.links) (sym (ap (slice_index (slice_set undecided count link)) same
-          ∙ last)) l
-      | inr other ↦ subst (λ (f : ℕ). f < length b.links) (sym (before j other)) (now.listed j (omega arith))
-    ];
+    listed = set_each (λ j f. j < count + 1 → f < length b.links) undecided count link 0 room (λ k. l)
+        (λ j other k. now.listed j (omega arith));
     each = at_first here;
-    decided = λ e k. elim (cases_eq e link) [
-      | inl same ↦ inr (count, omega arith, last ∙ sym same)
-      | inr other ↦ elim (now.decided e (omega arith)) [
-        | inl is ↦ inl (subst (λ (o : Option ℕ). IsHelped b m e o) (elsewhere e other) is)
-        | inr is ↦ inr (
-          is.0,
-          (let k = is.1 in omega arith),
-          before is.0 (let k = is.1 in λ same. absurd (omega arith)) ∙ is.2,
-        )
-      ]
-    ];
+    decided = set_each
+        (λ e o. e < link + 1 → IsHelped b m e o ⊎ IsListed (slice_set undecided count link) (count + 1) e) helped link
+        answer None below (λ k. inr (count, omega arith, get_or-set_same undecided count link 0 room))
+        (λ e other k. elim (now.decided e (omega arith)) [
+          | inl is ↦ inl is
+          | inr is ↦ inr (
+            is.0,
+            (let k = is.1 in omega arith),
+            get_or-set_other undecided count is.0 link 0 (let k = is.1 in λ same. absurd (omega arith)) ∙ is.2,
+          )
+        ]);
   }
     where
-      last : slice_index (slice_set undecided count link) count ≡ link
-      last = get_or-set_same undecided count link 0 (omega (arith, now.bounded, now.for_list, l))
-
-      before : (j : ℕ) → (j ≡ count → ⊥) → slice_index (slice_set undecided count link) j ≡ slice_index undecided j
-      before j other = get_or-set_other undecided count j link 0 other
-
--- the same list and count
-pub decided_as : (b : Basin) (m : MonthRecord) (helped : List (Option ℕ)) (undecided list : List ℕ)
-    (count number links : ℕ) → list ≡ undecided → number ≡ count → AreDecided b m helped undecided count links →
-    AreDecided b m helped list number links
-decided_as b m helped undecided list count number links same equal now = rw (same, equal) now
+      room : count < length undecided
+      room = omega (arith, now.bounded, now.for_list, l)
 
 -- all links are decided
-pub all_helped_to : (b : Basin) (m : MonthRecord) (helped : List (Option ℕ)) (undecided : List ℕ) (count links : ℕ) →
+pub all_helped_to : {b : Basin} {m : MonthRecord} {helped : List (Option ℕ)} {undecided : List ℕ} {count links : ℕ} →
     length b.links ≤ links → AreDecided b m helped undecided count links → AreHelpedTo b m 0 helped
-all_helped_to b m helped undecided count links all now = record {
+all_helped_to all now = record {
   count = now.for_helped;
   each = λ e l. now.each e (omega arith);
 }
 
 -- or are listed as undecided
-pub all_decided_of : (b : Basin) (m : MonthRecord) (helped : List (Option ℕ)) (undecided : List ℕ) (count links : ℕ) →
+pub all_decided_of : {b : Basin} {m : MonthRecord} {helped : List (Option ℕ)} {undecided : List ℕ} {count links : ℕ} →
     length b.links ≤ links → links ≤ length b.links → AreDecided b m helped undecided count links →
     AreUndecided b m helped undecided count
-all_decided_of b m helped undecided count links all most now = record {
+all_decided_of all most now = record {
   links = (omega (arith, now.bounded, now.for_list), now.listed);
   each = λ e l. now.decided e (omega arith);
 }

@@ -1,16 +1,22 @@
 -- Where one more unit helps, exactly; and that each right has a core.
-use Rattle.std.proofs.Common.{◌≡◌, ℕ, ◌+◌, ◌<◌, ◌≤◌, Bool, true, refl, arith, List, length, false}
+use Rattle.std.proofs.Common.{◌≡◌, ℕ, ◌+◌, ◌<◌, ◌≤◌, Bool, true, refl, arith, List, length, false, ◌∙◌, ap, inl, inr}
 use Rattle.std.proofs.lemmas.Bool.{both_ways, and_parts, not-true, true_from_ne_false}
 use Rattle.std.specs.Prelude.{◌↔◌}
 use Rattle.water_model.specs.Cuts.{enters, IsTight}
 use Rattle.water_model.specs.declared.types.Basin.{Basin}
 use Rattle.water_model.specs.declared.types.MonthRecord.{MonthRecord}
 use Rattle.next_unit.specs.Laws.{SupplyHelpsExactlyInCore, CarryHelpsExactlyIntoCore, RightsHaveCores, CarryHelpsRight}
+use Rattle.next_unit.specs.Laws.{NoCarryPastTightCutsHelps}
 use Rattle.next_unit.proofs.Least.{core_is_least_tight_cut, nothing_outside_tight_cuts_helps}
-use Rattle.next_unit.proofs.Carries.{no_carry_past_tight_cuts_helps}
 use Rattle.next_unit.proofs.Helps.{supply_in_core_helps}
 use Rattle.next_unit.proofs.Raises.{carry_into_core_helps}
 use Rattle.plan_residual.proofs.Cores.{core_of}
+use Rattle.std.proofs.lemmas.Bool.Decides.{eqb_tells}
+use Rattle.finite_sums.specs.Sums.{total_where, when}
+use Rattle.water_model.specs.Plans.{carry_of}
+use Rattle.duality.proofs.Duality.{cut_slack}
+use Rattle.finite_sums.proofs.Terms.{same_where}
+use Rattle.next_unit.specs.Core.{raised_carry}
 
 more_than : (x d : ℕ) → x ≡ d + 1 → x ≤ d → ⊥
 more_than x d e l = omega (arith, e, l)
@@ -22,6 +28,28 @@ supply_helps_exactly_in_core b m r core cut node given l short tight room is_cor
       (core_is_least_tight_cut b m r core cut given l short tight is_core).is_tight out h.is_plan h.serves)),
   λ here. supply_in_core_helps b m r core cut node given l short tight room is_core here,
 )
+
+-- more carry on a link that does not enter a tight cut does not help
+pub no_carry_past_tight_cuts_helps : NoCarryPastTightCutsHelps
+no_carry_past_tight_cuts_helps b month supply delivered r cut link want q l tight past plan serves =
+    omega (
+      arith,
+      tight.tight,
+      cut_slack b (raised_carry b month link) supply delivered r cut supply want q l tight.is_cut plan
+          (λ n k h. refl) serves.each,
+      same_capacity,
+    )
+  where
+    not_raised : (e : ℕ) → enters b cut e ≡ true → raised_carry b month link e ≡ carry_of b month e
+    not_raised e h = elim (eqb_tells link e) [
+      | inl same ↦ absurd (both_ways _ past (ap (enters b cut) same.1 ∙ h))
+      | inr other ↦ omega (arith, ap (λ t. when t 1) other.0)
+    ]
+
+    same_capacity : total_where (length b.links) (λ e. enters b cut e) (raised_carry b month link)
+        ≡ total_where (length b.links) (λ e. enters b cut e) (carry_of b month)
+    same_capacity = same_where (length b.links) (λ e. enters b cut e) (raised_carry b month link)
+        (carry_of b month) (λ e k h. not_raised e h)
 
 -- with more carry a link that helps enters each tight cut
 pub must_enter : (b : Basin) (m : MonthRecord) (r link : ℕ) (cut : List Bool) → r < length b.rights →

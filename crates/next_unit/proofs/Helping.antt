@@ -1,9 +1,9 @@
 -- The most senior right that one more unit of carry on a link would help, seniors first.
-use Rattle.std.proofs.Common.{◌≡◌, ℕ, ◌+◌, ◌<◌, ◌≤◌, true, false, sym, ◌∙◌, ap, subst, arith, Bool, List, []}
+use Rattle.std.proofs.Common.{◌≡◌, ℕ, ◌+◌, ◌<◌, ◌≤◌, true, false, sym, ◌∙◌, ap, subst, arith, Bool, List, [], refl}
 use Rattle.std.proofs.Common.{length, inl, inr}
-use Rattle.std.proofs.lemmas.Bool.{cases_eq, cases_lt, ltb-true}
-use Rattle.std.proofs.lemmas.List.{get_or-set_same, get_or-set_other, length-set}
-use Rattle.std.specs.Prelude.{Option, Some, None, slice_index, slice_index_or, slice_set, unwrap_or, is_some}
+use Rattle.std.proofs.lemmas.Bool.{cases_lt, ltb-true}
+use Rattle.std.proofs.lemmas.List.{length-set}
+use Rattle.std.specs.Prelude.{Option, Some, None, slice_index, slice_index_or, slice_set, unwrap_or, is_some, ◌⊎◌}
 use Rattle.water_model.specs.Basin.{instream_link}
 use Rattle.water_model.specs.Cuts.{IsReach}
 use Rattle.water_model.specs.History.{HasReaches, IsShort}
@@ -17,9 +17,10 @@ use Rattle.plan_residual.specs.Core.{IsCore}
 use Rattle.plan_residual.specs.Reaches.{HasReach}
 use Rattle.plan_residual.specs.Sweep.{right_at}
 use Rattle.next_unit.specs.Core.{raised_carry}
-use Rattle.next_unit.specs.Helped.{IsFirstHelped, IsHelped, AreHelped, HelpsNoneTo, IsHelpedTo, AreHelpedTo}
+use Rattle.next_unit.specs.Helped.{IsFirstHelped, IsHelped, AreHelped, HelpsNoneTo, IsHelpedTo, AreHelpedTo, IsListed}
 use Rattle.next_unit.specs.Helped.{AreBeingHelped, AreUndecided, HelpNot, IsCandidate, TakesOneMore}
 use Rattle.next_unit.specs.Laws.{CarryHelpsRight}
+use Rattle.next_unit.proofs.Pushes.{set_each}
 
 -- a right that could get more is short
 pub helped_is_short : (b : Basin) (m : MonthRecord) (link r : ℕ) → r < length b.rights → CarryHelpsRight b m link r →
@@ -98,11 +99,11 @@ decided_to b m position link None below none = record {
 decided_to b m position link (Some r) below now = now
 
 -- all undecided links were gone over for a right
-pub all_gone_over : (b : Basin) (m : MonthRecord) (position : ℕ) (helped : List (Option ℕ)) (undecided : List ℕ)
-    (count done : ℕ) → IsSeniorityOrder b.rights (seniors_first b) → position < length b.rights → count ≤ done →
+pub all_gone_over : {b : Basin} {m : MonthRecord} {position : ℕ} {helped : List (Option ℕ)} {undecided : List ℕ}
+    {count done : ℕ} → IsSeniorityOrder b.rights (seniors_first b) → position < length b.rights → count ≤ done →
     AreUndecided b m helped undecided count → AreBeingHelped b m position helped undecided done →
     AreHelpedTo b m (position + 1) helped
-all_gone_over b m position helped undecided count done o l all lists now = record {
+all_gone_over {b = b} {m = m} {position = position} {helped = helped} o l all lists now = record {
   count = now.each.count;
   each = λ e k. elim (lists.each e k) [
     | inl decided ↦ decided_to b m (position + 1) e (slice_index_or helped e None)
@@ -113,57 +114,40 @@ all_gone_over b m position helped undecided count done o l all lists now = recor
 }
 
 -- before the first of them
-pub none_gone_over : (b : Basin) (m : MonthRecord) (position : ℕ) (helped : List (Option ℕ)) (undecided : List ℕ) →
+pub none_gone_over : {b : Basin} {m : MonthRecord} {position : ℕ} {helped : List (Option ℕ)} {undecided : List ℕ} →
     AreHelpedTo b m position helped → AreBeingHelped b m position helped undecided 0
-none_gone_over b m position helped undecided now = record { each = now; gone_over = λ j l. absurd (omega arith) }
+none_gone_over now = record { each = now; gone_over = λ j l. absurd (omega arith) }
 
 -- one of them more
-module _ (b : Basin) (m : MonthRecord) (position : ℕ) (helped : List (Option ℕ)) (undecided : List ℕ) (count j : ℕ)
+module _ {b : Basin} {m : MonthRecord} {helped : List (Option ℕ)} {undecided : List ℕ} {count j : ℕ}
     (answer : Option ℕ) (listed : j < count) (lists : AreUndecided b m helped undecided count)
     (counted : length helped ≡ length b.links) where
   abbrev link : ℕ
   link = slice_index undecided j
 
-  at : (e : ℕ) → e ≡ link → slice_index_or (slice_set helped link answer) e None ≡ answer
-  at e same =
-      ap (λ i. slice_index_or (slice_set helped link answer) i None) same
-      ∙ get_or-set_same helped link answer None (let l = lists.links.1 j listed in omega (arith, l, counted))
-
-  elsewhere : (e : ℕ) → (e ≡ link → ⊥) →
-      slice_index_or (slice_set helped link answer) e None ≡ slice_index_or helped e None
-  elsewhere e other = get_or-set_other helped link e answer None other
+  below : link < length helped
+  below = let l = lists.links.1 j listed in omega (arith, l, counted)
 
   pub still_undecided : AreUndecided b m (slice_set helped link answer) undecided count
   still_undecided = record {
     links = lists.links;
-    each = λ e k. elim (cases_eq e link) [
-      | inl same ↦ inr (j, listed, sym same)
-      | inr other ↦ elim (lists.each e k) [
-        | inl decided ↦ inl (subst (λ (o : Option ℕ). IsHelped b m e o) (sym (elsewhere e other)) decided)
-        | inr at ↦ inr at
-      ]
-    ];
+    each = set_each (λ e o. e < length b.links → IsHelped b m e o ⊎ IsListed undecided count e) helped link answer None
+        below (λ k. inr (j, listed, refl)) (λ e other. lists.each e);
   }
 
-  pub one_gone_over : AreBeingHelped b m position helped undecided j → IsHelpedTo b m (position + 1) link answer →
+  pub one_gone_over : {position : ℕ} → AreBeingHelped b m position helped undecided j →
+      IsHelpedTo b m (position + 1) link answer →
       AreBeingHelped b m position (slice_set helped link answer) undecided (j + 1)
-  one_gone_over now here = record {
+  one_gone_over {position = position} now here = record {
     each = record {
       count = length-set helped link answer ∙ now.each.count;
-      each = λ e k. elim (cases_eq e link) [
-        | inl same ↦ subst (λ (o : Option ℕ). IsHelpedTo b m position e o) (sym (at e same))
-            (earlier b m position e answer (subst (λ f. IsHelpedTo b m (position + 1) f answer) (sym same) here))
-        | inr other ↦ subst (λ (o : Option ℕ). IsHelpedTo b m position e o) (sym (elsewhere e other))
-            (now.each.each e k)
-      ];
+      each = set_each (λ e o. e < length b.links → IsHelpedTo b m position e o) helped link answer None below
+          (λ k. earlier b m position link answer here) (λ e other. now.each.each e);
     };
-    gone_over = λ i k. elim (cases_eq (slice_index undecided i) link) [
-      | inl same ↦ subst (λ (o : Option ℕ). IsHelpedTo b m (position + 1) (slice_index undecided i) o)
-          (sym (at (slice_index undecided i) same))
-          (subst (λ f. IsHelpedTo b m (position + 1) f answer) (sym same) here)
-      | inr other ↦ subst (λ (o : Option ℕ). IsHelpedTo b m (position + 1) (slice_index undecided i) o)
-          (sym (elsewhere (slice_index undecided i) other)) (now.gone_over i (before i k other))
-    ];
+    gone_over = λ i k. set_each (λ e o. slice_index undecided i ≡ e → IsHelpedTo b m (position + 1) e o) helped link
+        answer None below (λ same. here)
+        (λ e other same. subst (λ f. IsHelpedTo b m (position + 1) f (slice_index_or helped f None)) same
+        (now.gone_over i (before i k (λ at. other (sym same ∙ at))))) (slice_index undecided i) refl;
   }
     where
       before : (i : ℕ) → i < j + 1 → (slice_index undecided i ≡ link → ⊥) → i < j
@@ -173,11 +157,11 @@ module _ (b : Basin) (m : MonthRecord) (position : ℕ) (helped : List (Option �
       ]
 
 -- a right that none of them would help is helped by no link
-pub no_more : (b : Basin) (m : MonthRecord) (position : ℕ) (helped : List (Option ℕ)) (undecided : List ℕ) (count : ℕ) →
-    IsSeniorityOrder b.rights (seniors_first b) → position < length b.rights →
+pub no_more : {b : Basin} {m : MonthRecord} {position : ℕ} {helped : List (Option ℕ)} {undecided : List ℕ}
+    {count : ℕ} → IsSeniorityOrder b.rights (seniors_first b) → position < length b.rights →
     HelpNot b m undecided count (right_at b position) → AreUndecided b m helped undecided count →
     AreHelpedTo b m position helped → AreHelpedTo b m (position + 1) helped
-no_more b m position helped undecided count o l none lists now = record {
+no_more {b = b} {m = m} {position = position} {helped = helped} o l none lists now = record {
   count = now.count;
   each = λ e k. elim (lists.each e k) [
     | inl decided ↦ decided_to b m (position + 1) e (slice_index_or helped e None)
@@ -188,20 +172,20 @@ no_more b m position helped undecided count o l none lists now = record {
 }
 
 -- a diversion or zone is helped by no link for which no right was known at first
-pub none_instream : (b : Basin) (m : MonthRecord) (position : ℕ) (helped : List (Option ℕ)) →
+pub none_instream : {b : Basin} {m : MonthRecord} {position : ℕ} {helped : List (Option ℕ)} →
     instream_link b (right_at b position) ≡ None → right_at b position < length b.rights →
     AreHelpedTo b m position helped → AreHelpedTo b m (position + 1) helped
-none_instream b m position helped none l now = record {
+none_instream {b = b} {m = m} {position = position} {helped = helped} none l now = record {
   count = now.count;
   each = λ e k. still_helped b m position e (slice_index_or helped e None)
       (λ so_far. so_far.instream (right_at b position) l none) (now.each e k);
 }
 
 -- all rights were gone over
-pub all_helped : (b : Basin) (m : MonthRecord) (indices : ℕ) (helped : List (Option ℕ)) →
+pub all_helped : {b : Basin} {m : MonthRecord} {indices : ℕ} {helped : List (Option ℕ)} →
     IsSeniorityOrder b.rights (seniors_first b) → length b.rights ≤ indices → AreHelpedTo b m indices helped →
     AreHelped b m helped
-all_helped b m indices helped o all now = record {
+all_helped {b = b} {m = m} {indices = indices} {helped = helped} o all now = record {
   count = now.count;
   each = λ e l. of_answer e (slice_index_or helped e None) (now.each e l);
 }

@@ -23,30 +23,22 @@ use Rattle.next_unit.proofs.Leads.{HasGone, go_to, go_down, numbers_of, own_is, 
 use Rattle.next_unit.proofs.Changed.{HelpsBy, IsSource, one_more_at, taken_there, let_out_there}
 
 -- ranks along a way from some nodes to those of a set, from these over the right's link, and down rivers
-pub rank_by : List Bool → (ℕ → Bool) → (ℕ → ℕ) → (ℕ → ℕ) → (ℕ → ℕ) → ℕ → ℕ → ℕ → ℕ
-rank_by set high low_rank high_rank forward most top n =
-    if has set n then most + 1 + low_rank n else (if high n then most + 1 + top + high_rank n else most - forward n)
+module _ (set : List Bool) (high : ℕ → Bool) (low_rank high_rank forward : ℕ → ℕ) (most top n : ℕ) where
+  pub rank_by : ℕ
+  rank_by =
+      if has set n then most + 1 + low_rank n else (if high n then most + 1 + top + high_rank n else most - forward n)
 
-pub rank_low : (set : List Bool) (high : ℕ → Bool) (low_rank high_rank forward : ℕ → ℕ) (most top n : ℕ) →
-    has set n ≡ true → rank_by set high low_rank high_rank forward most top n ≡ most + 1 + low_rank n
-unfolding rank_by
-rank_low set high low_rank high_rank forward most top n h =
-    ap (λ t. if t then most + 1 + low_rank n else (if high n then most + 1 + top + high_rank n else most - forward n)) h
+  pub rank_low : has set n ≡ true → rank_by ≡ most + 1 + low_rank n
+  unfolding rank_by
+  rank_low h = rw h refl
 
-pub rank_rest : (set : List Bool) (high : ℕ → Bool) (low_rank high_rank forward : ℕ → ℕ) (most top n : ℕ) →
-    has set n ≡ false → high n ≡ false → rank_by set high low_rank high_rank forward most top n ≡ most - forward n
-unfolding rank_by
-rank_rest set high low_rank high_rank forward most top n h i =
-    ap (λ t. if t then most + 1 + low_rank n else (if high n then most + 1 + top + high_rank n else most - forward n)) h
-    ∙ ap (λ t. if t then most + 1 + top + high_rank n else most - forward n) i
+  pub rank_rest : has set n ≡ false → high n ≡ false → rank_by ≡ most - forward n
+  unfolding rank_by
+  rank_rest h i = rw (h, i) refl
 
-pub rank_high : (set : List Bool) (high : ℕ → Bool) (low_rank high_rank forward : ℕ → ℕ) (most top n : ℕ) →
-    has set n ≡ false → high n ≡ true →
-    rank_by set high low_rank high_rank forward most top n ≡ most + 1 + top + high_rank n
-unfolding rank_by
-rank_high set high low_rank high_rank forward most top n h i =
-    ap (λ t. if t then most + 1 + low_rank n else (if high n then most + 1 + top + high_rank n else most - forward n)) h
-    ∙ ap (λ t. if t then most + 1 + top + high_rank n else most - forward n) i
+  pub rank_high : has set n ≡ false → high n ≡ true → rank_by ≡ most + 1 + top + high_rank n
+  unfolding rank_by
+  rank_high h i = rw (h, i) refl
 
 -- what a tight cut says of the link of an instream right
 pub record IsCrossing (b : Basin) (r e : ℕ) (cut : List Bool) : Type 0 where

@@ -35,38 +35,9 @@ use Rattle.next_unit.specs.Laws.{FirstChangedIsNext, NextUnitShowsInHistories, C
 use Rattle.next_unit.proofs.Exact.{supply_helps_exactly_in_core, carry_helps_exactly_into_core}
 use Rattle.next_unit.proofs.Helps.{supply_in_core_helps}
 use Rattle.next_unit.proofs.Room.{small_supply_leaves_room, rivers_can_rise}
-use Rattle.next_unit.proofs.Down.{sent_down}
+use Rattle.next_unit.proofs.Changed.{sent_down}
 use Rattle.next_unit.proofs.Least.{core_within}
 use Rattle.next_unit.proofs.Next.{HaveTightCuts, goes_to_one, goes_to_nobody, got_nothing, decided, called}
-
--- what a month of a history is
-pub record IsMonthOf (b : Basin) (series : Inflows) (records : List MonthRecord) (i : ℕ) (m : MonthRecord) : Type 0
-  where
-    pub follows : Follows b series (take i records) m
-    pub partial : IsPartialHistory b series (take i records)
-    pub index : m.index < b.months
-
-pub month_of : (b : Basin) (series : Inflows) (records : List MonthRecord) (i : ℕ) (m : MonthRecord) →
-    IsPartialHistory b series records → slice_get records i ≡ Some m → IsMonthOf b series records i m
-month_of b series records i m partial at =
-    let follows = partial.each i m at in
-    let below = slice_get_within records i m at in
-    record {
-      follows = follows;
-      partial = prefix_partial b series records i partial;
-      index = omega (arith, follows.after.index, length-take i records, below, partial.within);
-    }
-
--- it has a plan
-pub has_plan : (b : Basin) (series : Inflows) (records : List MonthRecord) (i : ℕ) (m : MonthRecord) → IsValidBasin b →
-    IsMonthOf b series records i m → HasPlan b m
-has_plan b series records i m valid month = record {
-  valid = valid;
-  month = subst IsMonth (sym month.follows.after.month) (IsMonth-run_month b m.index valid.run month.index);
-  fits = month.follows.after.fits;
-  plan = month.follows.after.plan;
-  delivered = record { each = month.follows.after.delivered };
-}
 
 -- an instream right wants no more than its link carries
 want_carried : (b : Basin) (series : Inflows) (before : List MonthRecord) (m : MonthRecord) (r e : ℕ) →
@@ -92,37 +63,66 @@ want_carried b series before m r e after l is =
         capped : (x c : ℕ) → min x c ≤ c
         capped x c = omega arith
 
--- the whole supply is less than a river carries
-small_supply : (b : Basin) (series : Inflows) (records : List MonthRecord) (i : ℕ) (m : MonthRecord) →
-    IsValidBasin b → IsSeriesOf b series → IsMonthOf b series records i m →
-    total (length b.nodes) (λ n. slice_index m.supply n) < 10 ^ 15
-small_supply b series records i m valid fits month =
-    omega (
-      arith,
-      total_same (length b.nodes) (λ n. slice_index m.supply n)
-          (λ n. inflow_at b series n m.index + returned_at b (map (λ k. k.delivered) (take i records)) n m.index
-          + stored_at b (opening_after b (take i records)) m.evaporated n) same,
-      supply_small b series (take i records) m.evaporated m.index valid fits month.partial,
-    )
-  where
-    same : (n : ℕ) → n < length b.nodes → slice_index m.supply n
-        ≡ inflow_at b series n m.index + returned_at b (map (λ k. k.delivered) (take i records)) n m.index
-        + stored_at b (opening_after b (take i records)) m.evaporated n
-    same n k = omega (
-      arith,
-      month.follows.after.supply n k,
-      month.follows.after.returned n k,
-      ap (λ (o : List ℕ). stored_at b o m.evaporated n) month.follows.opening,
-    )
+-- a month of a history
+module _ (b : Basin) (series : Inflows) (records : List MonthRecord) (i : ℕ) (m : MonthRecord) where
+  -- what a month of a history is
+  pub record IsMonthOf : Type 0 where
+    pub follows : Follows b series (take i records) m
+    pub partial : IsPartialHistory b series (take i records)
+    pub index : m.index < b.months
 
--- and there is room down
-pub has_room_down : (b : Basin) (series : Inflows) (records : List MonthRecord) (i : ℕ) (m : MonthRecord) (r : ℕ) →
-    IsValidBasin b → IsSeriesOf b series → IsMonthOf b series records i m → r < length b.rights → IsShort m r →
-    HasRoomDown b m r
-has_room_down b series records i m r valid fits month l short =
-    small_supply_leaves_room b m r (has_plan b series records i m valid month) l short
-    (small_supply b series records i m valid fits month)
-    (λ e is. want_carried b series (take i records) m r e month.follows.after l is)
+  pub month_of : IsPartialHistory b series records → slice_get records i ≡ Some m → IsMonthOf
+  month_of partial at =
+      let follows = partial.each i m at in
+      let below = slice_get_within records i m at in
+      record {
+        follows = follows;
+        partial = prefix_partial b series records i partial;
+        index = omega (arith, follows.after.index, length-take i records, below, partial.within);
+      }
+
+  -- it has a plan
+  pub has_plan : IsValidBasin b → IsMonthOf → HasPlan b m
+  has_plan valid month = record {
+    valid = valid;
+    month = subst IsMonth (sym month.follows.after.month) (IsMonth-run_month b m.index valid.run month.index);
+    fits = month.follows.after.fits;
+    plan = month.follows.after.plan;
+    delivered = record { each = month.follows.after.delivered };
+  }
+
+  -- the whole supply is less than a river carries
+  small_supply : IsValidBasin b → IsSeriesOf b series → IsMonthOf →
+      total (length b.nodes) (λ n. slice_index m.supply n) < 10 ^ 15
+  small_supply valid fits month =
+      omega (
+        arith,
+        total_same (length b.nodes) (λ n. slice_index m.supply n)
+            (λ n. inflow_at b series n m.index + returned_at b (map (λ k. k.delivered) (take i records)) n m.index
+            + stored_at b (opening_after b (take i records)) m.evaporated n) same,
+        supply_small b series (take i records) m.evaporated m.index valid fits month.partial,
+      )
+    where
+      same : (n : ℕ) → n < length b.nodes → slice_index m.supply n
+          ≡ inflow_at b series n m.index + returned_at b (map (λ k. k.delivered) (take i records)) n m.index
+          + stored_at b (opening_after b (take i records)) m.evaporated n
+      same n k = omega (
+        arith,
+        month.follows.after.supply n k,
+        month.follows.after.returned n k,
+        ap (λ (o : List ℕ). stored_at b o m.evaporated n) month.follows.opening,
+      )
+
+  -- and there is room down
+  pub has_room_down : (r : ℕ) → IsValidBasin b → IsSeriesOf b series → IsMonthOf → r < length b.rights → IsShort m r →
+      HasRoomDown b m r
+  has_room_down r valid fits month l short =
+      small_supply_leaves_room b m r (has_plan valid month) l short (small_supply valid fits month)
+      (λ e is. want_carried b series (take i records) m r e month.follows.after l is)
+
+  -- each short right has a tight cut
+  have_cuts : IsMonthOf → HaveTightCuts b m
+  have_cuts month r l short = let cut = month.follows.short r l short in (cut.0, cut.2)
 
 -- so a short right, which has a tight cut, is helped exactly there
 pub histories_show_where_supply_helps : HistoriesShowWhereSupplyHelps
@@ -138,11 +138,6 @@ histories_show_where_carry_helps b series records i m r core reach link valid fi
     let month = month_of b series records i m partial at in
     carry_helps_exactly_into_core b m r core reach link (has_plan b series records i m valid month) l short is_reach
     (has_room_down b series records i m r valid fits month l short) is_core below
-
--- each short right has a tight cut
-have_cuts : (b : Basin) (series : Inflows) (records : List MonthRecord) (i : ℕ) (m : MonthRecord) →
-    IsMonthOf b series records i m → HaveTightCuts b m
-have_cuts b series records i m month r l short = let cut = month.follows.short r l short in (cut.0, cut.2)
 
 pub next_unit_goes_to_one : NextUnitGoesToOne
 next_unit_goes_to_one b series records i m node right q valid fits partial at next gq =

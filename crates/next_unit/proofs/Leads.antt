@@ -42,16 +42,10 @@ numbers_of b valid =
 
 -- the right's own link is one alone
 pub own_is : (b : Basin) (r e k : ℕ) → instream_link b r ≡ Some e → instream_link b r ≡ Some k → e ≡ k
-own_is b r e k is h = same_some e k (sym is ∙ h)
-  where
-    same_some : (j k : ℕ) → Some j ≡ Some k → j ≡ k
-    same_some j k h = cc
+own_is b r e k is h = cc
 
 pub own_none : {A : Type 0} (b : Basin) (r k : ℕ) → instream_link b r ≡ None → instream_link b r ≡ Some k → A
-own_none b r k none h = absurd (not_both (sym none ∙ h))
-  where
-    not_both : None ≡ Some k → ⊥
-    not_both h = cc
+own_none b r k none h = cc
 
 -- the unit was moved to a node
 pub record HasGone (b : Basin) (m : MonthRecord) (r : ℕ) (carry : ℕ → ℕ) (own from to : ℕ) (rank : ℕ → ℕ) : Type 0

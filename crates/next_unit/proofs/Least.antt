@@ -6,9 +6,9 @@ use Rattle.std.proofs.lemmas.Int.{ints}
 use Rattle.std.proofs.lemmas.List.{get_or-set_other}
 use Rattle.std.specs.Prelude.{slice_index, not, Option, Some, None}
 use Rattle.water_model.specs.Lookups.{has}
-use Rattle.water_model.specs.Basin.{head_of, tail_of, taking_node, instream_link}
+use Rattle.water_model.specs.Basin.{head_of, tail_of, taking_node, instream_link, is_senior}
 use Rattle.water_model.specs.Plans.{delivery}
-use Rattle.water_model.specs.Cuts.{node_within, IsCut, IsTight, separates, cut_capacity, cut_kept}
+use Rattle.water_model.specs.Cuts.{node_within, IsCut, IsTight, separates, cut_capacity, cut_kept, takes_within}
 use Rattle.water_model.specs.History.{IsShort}
 use Rattle.duality.specs.Laws.{AgreesOn}
 use Rattle.water_model.specs.declared.types.Basin.{Basin}
@@ -82,30 +82,40 @@ core_within b m r core cut given l short tight is_core =
     is_core.upstream.least cut (tight_closed b m r cut given l short tight)
     (cut_has_node b r is_core.node cut tight.is_cut is_core.at)
 
--- a set within a tight cut that is closed backward leaves a closed set
-left_closed : (b : Basin) (m : MonthRecord) (r : ℕ) (set cut : List Bool) → HasPlan b m → r < length b.rights →
-    IsShort m r → IsTight b m.month m.supply m.delivered r cut → length set ≡ length b.nodes →
-    IsClosedBackward b m r set → ((n : ℕ) → has set n ≡ true → has cut n ≡ true) → IsClosed b m r (others set)
-left_closed b m r set cut given l short tight len back within = record {
-  outlets = λ n k some. wider n k (closed.outlets n k some);
-  juniors = λ s k senior takes. of_node (taking_node b s) (closed.juniors s k senior takes);
-  own = λ e k is. wider (head_of b e) (ends b given.valid e k).1 (closed.own e k is);
+-- a set without a source that is closed backward leaves a closed set
+pub no_source_closed : (b : Basin) (m : MonthRecord) (r : ℕ) (set : List Bool) → HasPlan b m →
+    length set ≡ length b.nodes → IsClosedBackward b m r set →
+    ((n : ℕ) → n < length b.nodes → 0 < slice_index m.plan.out n → has set n ≡ true → ⊥) →
+    ((s : ℕ) → s < length b.rights → is_senior b r s ≡ true → 0 < slice_index m.plan.take s →
+    takes_within b (others set) s ≡ true) →
+    ((e : ℕ) → e < length b.links → instream_link b r ≡ Some e → has set (head_of b e) ≡ true → ⊥) →
+    IsClosed b m r (others set)
+no_source_closed b m r set given len back outlets juniors own = record {
+  outlets = λ n k some. outside set n (omega (arith, len, k)) (outlets n k some);
+  juniors = juniors;
+  own = λ e k is. outside set (head_of b e) (omega (arith, len, (ends b given.valid e k).1)) (own e k is);
   forward = λ e k room from. outside set (head_of b e) (omega (arith, len, (ends b given.valid e k).1))
       (λ to. apart set (tail_of b e) (back.forward e k room to) from);
   backward = λ e k room from. outside set (tail_of b e) (omega (arith, len, (ends b given.valid e k).0))
       (λ to. apart set (head_of b e) (back.backward e k room to) from);
 }
+
+-- a set within a tight cut that is closed backward leaves a closed set
+left_closed : (b : Basin) (m : MonthRecord) (r : ℕ) (set cut : List Bool) → HasPlan b m → r < length b.rights →
+    IsShort m r → IsTight b m.month m.supply m.delivered r cut → length set ≡ length b.nodes →
+    IsClosedBackward b m r set → ((n : ℕ) → has set n ≡ true → has cut n ≡ true) → IsClosed b m r (others set)
+left_closed b m r set cut given l short tight len back within =
+    no_source_closed b m r set given len back (λ n k some h. apart cut n (within n h) (closed.outlets n k some))
+    (λ s k senior takes. of_node (taking_node b s) (closed.juniors s k senior takes))
+    (λ e k is h. apart cut (head_of b e) (within (head_of b e) h) (closed.own e k is))
   where
     closed : IsClosed b m r (others cut)
     closed = tight_cuts_hold_none_reached b m r cut given l short tight
 
-    wider : (n : ℕ) → n < length b.nodes → has (others cut) n ≡ true → has (others set) n ≡ true
-    wider n k out = outside set n (omega (arith, len)) (λ h. apart cut n (within n h) out)
-
     of_node : (o : Option ℕ) → node_within o (others cut) ≡ true → node_within o (others set) ≡ true
     of_node None h = h
-    of_node (Some n) h = wider n (let below = has_below (others cut) n h in let same = length-others cut in
-        let one = tight.is_cut.one_each in omega arith) h
+    of_node (Some n) h = outside set n (let below = has_below (others cut) n h in let same = length-others cut in
+        let one = tight.is_cut.one_each in omega arith) (λ i. apart cut n (within n i) h)
 
 pub core_is_least_tight_cut : CoreIsLeastTightCut
 core_is_least_tight_cut b m r core cut given l short tight is_core = record {

@@ -1,6 +1,5 @@
 pub mod Least
 pub mod Pushes
-pub mod Carries
 pub mod Leads
 pub mod Changed
 pub mod Helps
@@ -8,7 +7,6 @@ pub mod Sources
 pub mod Raises
 pub mod Exact
 pub mod Room
-pub mod Down
 pub mod Next
 pub mod InHistories
 pub mod Helping

@@ -34,7 +34,7 @@ use Rattle.next_unit.specs.Next.{GivesOneMore, IsCurtailedFor}
 use Rattle.next_unit.specs.Laws.{HelpsRight, NextUnitIsDecided, ShortTakersAreCurtailedOrNext}
 use Rattle.next_unit.proofs.Least.{core_is_least_tight_cut, nothing_outside_tight_cuts_helps}
 use Rattle.next_unit.proofs.Exact.{rights_have_cores}
-use Rattle.next_unit.proofs.Down.{ServesAll}
+use Rattle.next_unit.proofs.Changed.{ServesAll}
 
 -- each short right has a tight cut
 abbrev pub HaveTightCuts : Basin → MonthRecord → Type 0
@@ -260,10 +260,7 @@ same_core : (b : Basin) (m : MonthRecord) (r : ℕ) (core other : List Bool) →
     (n : ℕ) → has core n ≡ true → has other n ≡ true
 same_core b m r core other one two n h =
     one.upstream.least other two.upstream.closed
-    (subst (λ v. has other v ≡ true) (same_some two.node one.node (sym two.at ∙ one.at)) two.upstream.holds) n h
-  where
-    same_some : (j k : ℕ) → Some j ≡ Some k → j ≡ k
-    same_some j k h = cc
+    (subst (λ v. has other v ≡ true) (cc (two.at, one.at)) two.upstream.holds) n h
 
 -- so it can be tested which rights could use a unit
 module _ (b : Basin) (m : MonthRecord) (node : ℕ) (given : HasPlan b m) where
@@ -330,9 +327,6 @@ short_takers_are_curtailed_or_next b m right node given l short at = elim (decid
         of_kind (Instream link) h = cc
         of_kind (Zone reservoir level) h = refl
 
-    same_some : (j k : ℕ) → Some j ≡ Some k → j ≡ k
-    same_some j k h = cc
-
     own_use : (core : List Bool) × IsCore b m right core → CouldUseAt b m node right
     own_use core = record {
       in_range = l;
@@ -340,7 +334,7 @@ short_takers_are_curtailed_or_next b m right node given l short at = elim (decid
       core = core.0;
       is_core = core.1;
       here = subst (λ v. has core.0 v ≡ true)
-          (same_some core.1.node node (sym core.1.at ∙ ap₂ (λ t o. node_by_link b t o) at no_link))
+          (cc (core.1.at, ap₂ (λ t o. node_by_link b t o) at no_link))
           core.1.upstream.holds;
     }
 

@@ -4,7 +4,7 @@ use Rattle.std.proofs.Common.{◌≡◌, ◌≢◌, ℕ, ◌+◌, ◌-◌, ◌<�
 use Rattle.std.proofs.Common.{subst, List, length, inl, inr, min}
 use Rattle.std.proofs.lemmas.Bool.{both_ways, cases_eq, eq-eqb}
 use Rattle.std.proofs.lemmas.List.{get_or-set_same, get_or-set_other, length-set}
-use Rattle.std.specs.Prelude.{◌==◌, if◌then◌else◌, slice_index, slice_set, Some, ◌↔◌}
+use Rattle.std.specs.Prelude.{◌==◌, if◌then◌else◌, slice_index, slice_index_or, slice_set, Some, ◌↔◌}
 use Rattle.finite_sums.specs.Sums.{total, when}
 use Rattle.finite_sums.proofs.Totals.{total_change}
 use Rattle.water_model.specs.Basin.{head_of, tail_of, instream_link, is_on_link, is_at}
@@ -25,12 +25,12 @@ pub off_link : (b : Basin) (r e k : ℕ) → is_on_link b r e ≡ false → inst
 off_link b r e k off is same = both_ways _ off (ap (λ o. is_at o e) is ∙ eq-eqb k e same)
 
 -- what holds of the new number at its index, and of the others at theirs, holds of each
-pub set_each : (P : ℕ → ℕ → Type 0) (xs : List ℕ) (e y : ℕ) → e < length xs → P e y →
-    ((k : ℕ) → k ≢ e → P k (slice_index xs k)) → (k : ℕ) → P k (slice_index (slice_set xs e y) k)
-set_each P xs e y l here other k = elim (cases_eq k e) [
-  | inl same ↦ subst (λ j. P j (slice_index (slice_set xs e y) j)) (sym same)
-      (subst (P e) (sym (get_or-set_same xs e y 0 l)) here)
-  | inr ne ↦ subst (P k) (sym (get_or-set_other xs e k y 0 ne)) (other k ne)
+pub set_each : {A : Type 0} (P : ℕ → A → Type 0) (xs : List A) (e : ℕ) (y d : A) → e < length xs → P e y →
+    ((k : ℕ) → k ≢ e → P k (slice_index_or xs k d)) → (k : ℕ) → P k (slice_index_or (slice_set xs e y) k d)
+set_each P xs e y d l here other k = elim (cases_eq k e) [
+  | inl same ↦ subst (λ j. P j (slice_index_or (slice_set xs e y) j d)) (sym same)
+      (subst (P e) (sym (get_or-set_same xs e y d l)) here)
+  | inr ne ↦ subst (P k) (sym (get_or-set_other xs e k y d ne)) (other k ne)
 ]
 
 -- the sums at a node, by whether it is the tail and whether it is the head of the link
@@ -95,8 +95,8 @@ module _ (b : Basin) (m : MonthRecord) (least carry : ℕ → ℕ) (is_own : ℕ
         IsMovedBy after from next rank (slice_set flow e y)
     over_link after next y most some own moved apart = record {
       size = length-set flow e y ∙ now.size;
-      carries = set_each (λ k x. k < length b.links → x ≤ carry k) flow e y below (λ c. most) (λ k ne. now.carries k);
-      kept = set_each (λ k x. least k ≤ x) flow e y below some (λ k ne. now.kept k);
+      carries = set_each (λ k x. k < length b.links → x ≤ carry k) flow e y 0 below (λ c. most) (λ k ne. now.carries k);
+      kept = set_each (λ k x. least k ≤ x) flow e y 0 below some (λ k ne. now.kept k);
       own = own;
       moved = moved;
       old = λ k c off h. (let other = apart k c off h in get_or-set_other flow e k y 0 other.0 ∙ other.1);

@@ -43,12 +43,6 @@ raised_there b month link = ap (λ t. carry_of b month link + when t 1) (eq-eqb 
 abbrev beyond : List Bool → List Bool → ℕ → Bool
 beyond up reach n = has up n && not (has reach n)
 
--- ranks along a way to the link's tail outside the reach, and from its head to the right's node
-abbrev rank_in : (b : Basin) (m : MonthRecord) (r target link : ℕ) → List Bool → HasRanks b m r target →
-    HasRanks b m r (tail_of b link) → HasNumbers b → ℕ → ℕ
-rank_in b m r target link reach core up numbers =
-    rank_by core.set (beyond up.set reach) core.ranked.rank up.ranked.rank numbers.number numbers.most core.ranked.top
-
 -- the link leads from outside the reach into the core, which is within the reach
 record IsInto (b : Basin) (m : MonthRecord) (r target link : ℕ) (reach : List Bool) (core : HasRanks b m r target)
     (up : HasRanks b m r (tail_of b link)) : Type 0 where
@@ -59,73 +53,6 @@ record IsInto (b : Basin) (m : MonthRecord) (r target link : ℕ) (reach : List 
   left : IsClosed b m r (others reach)
   one_each : length reach ≡ length b.nodes
   own : (e : ℕ) → instream_link b r ≡ Some e → tail_of b e ≡ target
-
--- a unit outside the reach goes over the link to the right's node
-go_in : (b : Basin) (m : MonthRecord) (r target link : ℕ) (reach : List Bool) (core : HasRanks b m r target)
-    (up : HasRanks b m r (tail_of b link)) (numbers : HasNumbers b) (own from node : ℕ) (flow : List ℕ) → HasPlan b m →
-    IsInto b m r target link reach core up → beyond up.set reach node ≡ true →
-    IsMoved b m r (raised_carry b m.month link) own from node (rank_in b m r target link reach core up numbers) flow →
-    HasGone b m r (raised_carry b m.month link) own from target (rank_in b m r target link reach core up numbers)
-go_in b m r target link reach core up numbers own from node flow given into here now =
-    let carry : ℕ → ℕ = raised_carry b m.month link in
-    let high : ℕ → Bool = beyond up.set reach in
-    let most : ℕ = numbers.most in
-    let top : ℕ = core.ranked.top in
-    let rank : ℕ → ℕ = rank_in b m r target link reach core up numbers in
-    let low = rank_low core.set high core.ranked.rank up.ranked.rank numbers.number most top in
-    let first : HasGone b m r carry own from (tail_of b link) rank =
-    go_to b m r (tail_of b link) up.set up.ranked high rank (most + 1 + top) carry own from
-    (λ n h. (and_parts (has up.set n) _ h).0) stays at_high own_tail (wide b m.month link) node flow
-    here now in
-    let lower : rank (head_of b link) < rank (tail_of b link) = omega (
-      arith,
-      low (head_of b link) into.head,
-      at_high (tail_of b link) tail_high,
-      core.ranked.below (head_of b link) into.head,
-    ) in
-    let mine : ℕ → Type 0 = λ e. instream_link b r ≡ Some e in
-    let least : ℕ → ℕ = kept_on b m.delivered r in
-    let old = first.moved.old link into.below off (omega (arith, lower)) in
-    let next = move_forward b m least carry mine own from link rank first.flow into.below own first.moved
-    (omega (arith, old, raised_there b m.month link, given.plan.carries link into.below)) lower
-    (own_stays b m least carry mine own from (tail_of b link) link rank first.flow into.below first.moved
-    (slice_index first.flow link + 1) off) in
-    go_to b m r target core.set core.ranked (has core.set) rank (most + 1) carry own from (λ n h. h)
-    (λ back e k room from to. to) low (λ e is h. into.own e is) (wide b m.month link) (head_of b link)
-    (one_more first.flow link) into.head next
-  where
-    not_core : (n : ℕ) → has reach n ≡ false → has core.set n ≡ false
-    not_core n h = false_from_ne_true _ (λ i. both_ways _ h (into.within n i))
-
-    at_high : (n : ℕ) → beyond up.set reach n ≡ true →
-        rank_in b m r target link reach core up numbers n ≡ numbers.most + 1 + core.ranked.top + up.ranked.rank n
-    at_high n h = rank_high core.set (beyond up.set reach) core.ranked.rank up.ranked.rank numbers.number numbers.most
-        core.ranked.top n (not_core n (not-true (has reach n) (and_parts (has up.set n) _ h).1)) h
-
-    tail_high : beyond up.set reach (tail_of b link) ≡ true
-    tail_high = and_from _ _ up.ranked.node (not_from_false _ into.tail)
-
-    off : instream_link b r ≡ Some link → ⊥
-    off is = both_ways _ into.tail (into.within (tail_of b link)
-        (ap (has core.set) (into.own link is) ∙ core.ranked.node))
-
-    own_tail : (e : ℕ) → instream_link b r ≡ Some e → beyond up.set reach (tail_of b e) ≡ true →
-        tail_of b e ≡ tail_of b link
-    own_tail e is h = absurd (both_ways _ (not-true _ (and_parts (has up.set (tail_of b e)) _ h).1)
-        (into.within (tail_of b e) (ap (has core.set) (into.own e is) ∙ core.ranked.node)))
-
-    leaves_reach : (back : Bool) (e : ℕ) → e < length b.links → room_by b m r back e ≡ true →
-        has reach (start_by b back e) ≡ false → has reach (end_by b back e) ≡ false
-    leaves_reach true e l room h = not_in_set reach (tail_of b e) (into.left.backward e l room
-        (in_others reach (head_of b e) (omega (arith, into.one_each, (ends b given.valid e l).1)) h))
-    leaves_reach false e l room h = not_in_set reach (head_of b e) (into.left.forward e l room
-        (in_others reach (tail_of b e) (omega (arith, into.one_each, (ends b given.valid e l).0)) h))
-
-    stays : (back : Bool) (e : ℕ) → e < length b.links → room_by b m r back e ≡ true →
-        beyond up.set reach (start_by b back e) ≡ true → has up.set (end_by b back e) ≡ true →
-        beyond up.set reach (end_by b back e) ≡ true
-    stays back e l room h to = and_from _ _ to (not_from_false _ (leaves_reach back e l room (not-true _
-        (and_parts (has up.set (start_by b back e)) _ h).1)))
 
 -- a source outside the reach from which the link's tail is reached
 record StartsAt (b : Basin) (m : MonthRecord) (r : ℕ) (up reach : List Bool) : Type 0 where
@@ -221,19 +148,89 @@ junior_starts b m r up reach given left j =
               (omega (arith, j.below, given.plan.take_len)),
         )) (taken_change b m.plan.take (one_less m.plan.take j.right) j.right node n j.below at other)
 
--- a right that takes
-taking_raised : (b : Basin) (m : MonthRecord) (r target link : ℕ) (reach : List Bool) (core : HasRanks b m r target)
-    (up : HasRanks b m r (tail_of b link)) (numbers : HasNumbers b) → HasPlan b m → r < length b.rights → IsShort m r →
-    IsInto b m r target link reach core up → StartsAt b m r up.set reach → instream_link b r ≡ None →
-    taking_node b r ≡ Some target → HelpsBy b m (raised_carry b m.month link) m.supply r
-taking_raised b m r target link reach core up numbers given l short into start none at =
-    let carry : ℕ → ℕ = raised_carry b m.month link in
-    let rank : ℕ → ℕ = rank_in b m r target link reach core up numbers in
-    let gone : HasGone b m r carry 0 start.node target rank =
-    go_in b m r target link reach core up numbers 0 start.node start.node m.plan.flow given into start.here
-    (unmoved b m r carry 0 start.node rank given (wide b m.month link) (λ e is. own_none b r e none is)) in
-    taken_there b m r carry m.supply start.take start.out 0 start.node target rank gone.flow given l short none at
-    start.source gone.moved
+module _ (b : Basin) (m : MonthRecord) (r target link : ℕ) (reach : List Bool) (core : HasRanks b m r target)
+    (up : HasRanks b m r (tail_of b link)) (numbers : HasNumbers b) where
+  -- ranks along a way to the link's tail outside the reach, and from its head to the right's node
+  abbrev rank_in : ℕ → ℕ
+  rank_in =
+      rank_by core.set (beyond up.set reach) core.ranked.rank up.ranked.rank numbers.number numbers.most core.ranked.top
+
+  -- a unit outside the reach goes over the link to the right's node
+  go_in : (own from node : ℕ) (flow : List ℕ) → HasPlan b m →
+      IsInto b m r target link reach core up → beyond up.set reach node ≡ true →
+      IsMoved b m r (raised_carry b m.month link) own from node rank_in flow →
+      HasGone b m r (raised_carry b m.month link) own from target rank_in
+  go_in own from node flow given into here now =
+      let carry : ℕ → ℕ = raised_carry b m.month link in
+      let high : ℕ → Bool = beyond up.set reach in
+      let most : ℕ = numbers.most in
+      let top : ℕ = core.ranked.top in
+      let low = rank_low core.set high core.ranked.rank up.ranked.rank numbers.number most top in
+      let first : HasGone b m r carry own from (tail_of b link) rank_in =
+      go_to b m r (tail_of b link) up.set up.ranked high rank_in (most + 1 + top) carry own from
+      (λ n h. (and_parts (has up.set n) _ h).0) stays at_high own_tail (wide b m.month link) node flow
+      here now in
+      let lower : rank_in (head_of b link) < rank_in (tail_of b link) = omega (
+        arith,
+        low (head_of b link) into.head,
+        at_high (tail_of b link) tail_high,
+        core.ranked.below (head_of b link) into.head,
+      ) in
+      let mine : ℕ → Type 0 = λ e. instream_link b r ≡ Some e in
+      let least : ℕ → ℕ = kept_on b m.delivered r in
+      let old = first.moved.old link into.below off (omega (arith, lower)) in
+      let next = move_forward b m least carry mine own from link rank_in first.flow into.below own first.moved
+      (omega (arith, old, raised_there b m.month link, given.plan.carries link into.below)) lower
+      (own_stays b m least carry mine own from (tail_of b link) link rank_in first.flow into.below first.moved
+      (slice_index first.flow link + 1) off) in
+      go_to b m r target core.set core.ranked (has core.set) rank_in (most + 1) carry own from (λ n h. h)
+      (λ back e k room from to. to) low (λ e is h. into.own e is) (wide b m.month link) (head_of b link)
+      (one_more first.flow link) into.head next
+    where
+      not_core : (n : ℕ) → has reach n ≡ false → has core.set n ≡ false
+      not_core n h = false_from_ne_true _ (λ i. both_ways _ h (into.within n i))
+
+      at_high : (n : ℕ) → beyond up.set reach n ≡ true →
+          rank_in n ≡ numbers.most + 1 + core.ranked.top + up.ranked.rank n
+      at_high n h = rank_high core.set (beyond up.set reach) core.ranked.rank up.ranked.rank numbers.number numbers.most
+          core.ranked.top n (not_core n (not-true (has reach n) (and_parts (has up.set n) _ h).1)) h
+
+      tail_high : beyond up.set reach (tail_of b link) ≡ true
+      tail_high = and_from _ _ up.ranked.node (not_from_false _ into.tail)
+
+      off : instream_link b r ≡ Some link → ⊥
+      off is = both_ways _ into.tail (into.within (tail_of b link)
+          (ap (has core.set) (into.own link is) ∙ core.ranked.node))
+
+      own_tail : (e : ℕ) → instream_link b r ≡ Some e → beyond up.set reach (tail_of b e) ≡ true →
+          tail_of b e ≡ tail_of b link
+      own_tail e is h = absurd (both_ways _ (not-true _ (and_parts (has up.set (tail_of b e)) _ h).1)
+          (into.within (tail_of b e) (ap (has core.set) (into.own e is) ∙ core.ranked.node)))
+
+      leaves_reach : (back : Bool) (e : ℕ) → e < length b.links → room_by b m r back e ≡ true →
+          has reach (start_by b back e) ≡ false → has reach (end_by b back e) ≡ false
+      leaves_reach true e l room h = not_in_set reach (tail_of b e) (into.left.backward e l room
+          (in_others reach (head_of b e) (omega (arith, into.one_each, (ends b given.valid e l).1)) h))
+      leaves_reach false e l room h = not_in_set reach (head_of b e) (into.left.forward e l room
+          (in_others reach (tail_of b e) (omega (arith, into.one_each, (ends b given.valid e l).0)) h))
+
+      stays : (back : Bool) (e : ℕ) → e < length b.links → room_by b m r back e ≡ true →
+          beyond up.set reach (start_by b back e) ≡ true → has up.set (end_by b back e) ≡ true →
+          beyond up.set reach (end_by b back e) ≡ true
+      stays back e l room h to = and_from _ _ to (not_from_false _ (leaves_reach back e l room (not-true _
+          (and_parts (has up.set (start_by b back e)) _ h).1)))
+
+  -- a right that takes
+  taking_raised : HasPlan b m → r < length b.rights → IsShort m r →
+      IsInto b m r target link reach core up → StartsAt b m r up.set reach → instream_link b r ≡ None →
+      taking_node b r ≡ Some target → HelpsBy b m (raised_carry b m.month link) m.supply r
+  taking_raised given l short into start none at =
+      let carry : ℕ → ℕ = raised_carry b m.month link in
+      let gone : HasGone b m r carry 0 start.node target rank_in =
+      go_in 0 start.node start.node m.plan.flow given into start.here
+      (unmoved b m r carry 0 start.node rank_in given (wide b m.month link) (λ e is. own_none b r e none is)) in
+      taken_there b m r carry m.supply start.take start.out 0 start.node target rank_in gone.flow given l short none at
+      start.source gone.moved
 
 -- an instream right whose link's head does not reach the other link's tail
 instream_raised : (b : Basin) (m : MonthRecord) (r e link : ℕ) (reach : List Bool)
@@ -298,9 +295,6 @@ round_raised b m r e link reach core up numbers given l short room into is below
     (wide b m.month link)) in
     went_round b m r e carry (tail_of b e) rank gone.flow given l short is gone.moved
 
-same_some : (j k : ℕ) → Some j ≡ Some k → j ≡ k
-same_some j k h = cc
-
 by_carry : (b : Basin) (m : MonthRecord) (link r : ℕ) → HelpsBy b m (raised_carry b m.month link) m.supply r →
     CarryHelpsRight b m link r
 by_carry b m link r h = record { plan = h.plan; is_plan = h.is_plan; serves = h.serves; more = h.more }
@@ -323,9 +317,15 @@ carry_into_core_helps b m r core reach link given l short is_reach room is_core 
     numbers : HasNumbers b
     numbers = numbers_of b given.valid
 
-    source : OwnIn b r up.set ⊎ (OutletIn m up.set (length b.nodes) ⊎ JuniorIn b m r up.set)
-    source = source_in b m r (tail_of b link) reach up.set given l short is_reach up.ranked.one_each up.closed
-        up.ranked.node tail
+    source : OwnIn b r up.set ⊎ StartsAt b m r up.set reach
+    source = elim (source_in b m r (tail_of b link) reach up.set given l short is_reach up.ranked.one_each up.closed
+        up.ranked.node tail) [
+          | inl own ↦ inl own
+          | inr other ↦ inr (elim other [
+            | inl outlet ↦ outlet_starts b m r up.set reach given left outlet
+            | inr junior ↦ junior_starts b m r up.set reach given left junior
+          ])
+        ]
 
     into : (target : ℕ) (ranks : HasRanks b m r target) → has ranks.set (head_of b link) ≡ true →
         node_by_link b (taking_node b r) (instream_link b r) ≡ Some target →
@@ -351,16 +351,12 @@ carry_into_core_helps b m r core reach link given l short is_reach room is_core 
         let way = into target ranks (at_head ranks) at (λ e h. own_none b r e none h) in
         elim source [
           | inl own ↦ own_none b r own.link none own.is
-          | inr other ↦ elim other [
-            | inl outlet ↦ taking_raised b m r target link reach ranks up numbers given l short way
-                (outlet_starts b m r up.set reach given left outlet) none takes
-            | inr junior ↦ taking_raised b m r target link reach ranks up numbers given l short way
-                (junior_starts b m r up.set reach given left junior) none takes
-          ]
+          | inr start ↦ taking_raised b m r target link reach ranks up numbers given l short way start none takes
         ]
     by_kind (Some e) t is at_taking target at inside at_head =
-        let same : tail_of b e ≡ target = same_some (tail_of b e) target
-        (sym (ap (node_by_link b (taking_node b r)) is) ∙ at) in
+        let of_link : node_by_link b (taking_node b r) (instream_link b r) ≡ Some (tail_of b e) =
+        ap (node_by_link b (taking_node b r)) is in
+        let same : tail_of b e ≡ target = cc in
         let ranks = ranks_to b m r (tail_of b e) given.valid (omega (arith, same, inside)) in
         let head_in : has ranks.set (head_of b link) ≡ true =
         subst (λ n. (x : HasRanks b m r n) → has x.set (head_of b link) ≡ true) (sym same) at_head ranks in
@@ -374,11 +370,7 @@ carry_into_core_helps b m r core reach link given l short is_reach room is_core 
           | inr not_up ↦ elim source [
             | inl own ↦ absurd (both_ways _ not_up
                 (subst (λ k. has up.set (head_of b k) ≡ true) (sym (own_is b r e own.link is own.is)) own.inside))
-            | inr other ↦ elim other [
-              | inl outlet ↦ instream_raised b m r e link reach ranks up numbers given l short room way
-                  (outlet_starts b m r up.set reach given left outlet) is cross.below cross.head not_up
-              | inr junior ↦ instream_raised b m r e link reach ranks up numbers given l short room way
-                  (junior_starts b m r up.set reach given left junior) is cross.below cross.head not_up
-            ]
+            | inr start ↦ instream_raised b m r e link reach ranks up numbers given l short room way start is
+                cross.below cross.head not_up
           ]
         ]

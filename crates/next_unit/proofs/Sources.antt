@@ -19,7 +19,8 @@ use Rattle.plan_residual.proofs.Terms.{length-others}
 use Rattle.plan_residual.proofs.Closed.{in_others, not_in_set, tight_cuts_hold_none_reached}
 use Rattle.plan_residual.proofs.Closed.{closed_sets_leave_tight_cuts}
 use Rattle.plan_residual.specs.Core.{IsClosedBackward}
-use Rattle.next_unit.proofs.Least.{tight_closed, others_twice, outside, apart}
+use Rattle.next_unit.proofs.Leads.{own_is, own_none}
+use Rattle.next_unit.proofs.Least.{no_source_closed, tight_closed, others_twice}
 use Rattle.plan_residual.proofs.Upstream.{find_below}
 
 -- the nodes of two sets
@@ -80,24 +81,6 @@ pub record OwnIn (b : Basin) (r : ℕ) (set : List Bool) : Type 0 where
   pub is : instream_link b r ≡ Some link
   pub inside : has set (head_of b link) ≡ true
 
--- a set without a source that is closed backward leaves a closed set
-no_source_closed : (b : Basin) (m : MonthRecord) (r : ℕ) (set : List Bool) → HasPlan b m →
-    length set ≡ length b.nodes → IsClosedBackward b m r set →
-    ((n : ℕ) → n < length b.nodes → 0 < slice_index m.plan.out n → has set n ≡ true → ⊥) →
-    ((s : ℕ) → s < length b.rights → is_senior b r s ≡ true → 0 < slice_index m.plan.take s →
-    takes_within b (others set) s ≡ true) →
-    ((e : ℕ) → e < length b.links → instream_link b r ≡ Some e → has set (head_of b e) ≡ true → ⊥) →
-    IsClosed b m r (others set)
-no_source_closed b m r set given len back outlets juniors own = record {
-  outlets = λ n k some. outside set n (omega (arith, len, k)) (outlets n k some);
-  juniors = juniors;
-  own = λ e k is. outside set (head_of b e) (omega (arith, len, (ends b given.valid e k).1)) (own e k is);
-  forward = λ e k room from. outside set (head_of b e) (omega (arith, len, (ends b given.valid e k).1))
-      (λ to. apart set (tail_of b e) (back.forward e k room to) from);
-  backward = λ e k room from. outside set (tail_of b e) (omega (arith, len, (ends b given.valid e k).0))
-      (λ to. apart set (head_of b e) (back.backward e k room to) from);
-}
-
 -- a set that is closed backward and goes beyond the reach has a source
 pub source_in : (b : Basin) (m : MonthRecord) (r node : ℕ) (reach set : List Bool) → HasPlan b m →
     r < length b.rights → IsShort m r → IsReach b m.month m.supply m.delivered r reach → length set ≡ length b.nodes →
@@ -150,17 +133,11 @@ source_in b m r node reach set given l short is_reach len back here beyond =
 
     own_in : (o : Option ℕ) → instream_link b r ≡ o →
         OwnIn b r set ⊎ ((e : ℕ) → instream_link b r ≡ Some e → has set (head_of b e) ≡ false)
-    own_in None is = inr (λ e h. absurd (not_both e (sym is ∙ h)))
-      where
-        not_both : (e : ℕ) → None ≡ Some e → ⊥
-        not_both e h = cc
+    own_in None is = inr (λ e h. own_none b r e is h)
     own_in (Some link) is = elim (cases_Bool (has set (head_of b link))) [
       | inl h ↦ inl record { link = link; is = is; inside = h }
-      | inr h ↦ inr (λ e i. subst (λ k. has set (head_of b k) ≡ false) (same_some link e (sym is ∙ i)) h)
+      | inr h ↦ inr (λ e i. subst (λ k. has set (head_of b k) ≡ false) (own_is b r link e is i) h)
     ]
-      where
-        same_some : (j k : ℕ) → Some j ≡ Some k → j ≡ k
-        same_some j k h = cc
 
     -- what is outside the reach and not in the set is in neither
     neither : (n : ℕ) → has (others reach) n ≡ true → has set n ≡ false → has both n ≡ false

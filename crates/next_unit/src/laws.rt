@@ -26,7 +26,7 @@ pub fn supply_in_core_helps()
 {}
 
 /// One more unit of carry on a link that does not enter a tight cut does not help.
-#[tactic(auto, using(crate::proofs::Carries::no_carry_past_tight_cuts_helps))]
+#[tactic(auto, using(crate::proofs::Exact::no_carry_past_tight_cuts_helps))]
 pub fn no_carry_past_tight_cuts_helps()
     ensures { NoCarryPastTightCutsHelps }
 {}

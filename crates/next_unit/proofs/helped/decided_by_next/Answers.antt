@@ -15,7 +15,7 @@ decided_by_right-requires-clause-next c =
 pub returns-in-None : goal.returns-in-None
 returns-in-None c =
     let b = c.args.basin.now in
-    free_head b c.args.month.now c.args.link c.requires.month c.requires.link
+    free_head c.requires.month c.requires.link
     (subst (λ (o : Option ℕ). IsNextOrFree b c.args.month.now (head_of b c.args.link) o)
     (sym c.at_head.ensures ∙ c.in-None.is)
     (c.requires.next.each (head_of b c.args.link) (ends b c.requires.month.plan.valid c.args.link c.requires.link).1))

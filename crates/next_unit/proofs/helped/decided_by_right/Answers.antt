@@ -22,14 +22,12 @@ holds-requires-clause-node c =
 
 pub returns-then-holds : goal.returns-then-holds
 returns-then-holds c =
-    within_reach c.args.basin.now c.args.month.now c.args.link c.requires.month
-    c.requires.link c.args.right c.requires.next
+    within_reach c.requires.month c.requires.link c.args.right c.requires.next
     (ap (λ (o : Option Link). has (cut_at c.args.month.now.cuts c.args.right)
     (unwrap_or (option_map (λ x. x.from) o) 0)) c.index-ends.ensures ∙ (sym c.holds.ensures ∙ c.if-holds.true))
 
 pub returns-else-holds : goal.returns-else-holds
 returns-else-holds c =
-    outside_reach c.args.basin.now c.args.month.now c.args.link c.requires.month
-    c.requires.link c.args.right c.requires.next
+    outside_reach c.requires.month c.requires.link c.args.right c.requires.next
     (ap (λ (o : Option Link). has (cut_at c.args.month.now.cuts c.args.right)
     (unwrap_or (option_map (λ x. x.from) o) 0)) c.index-ends.ensures ∙ (sym c.holds.ensures ∙ c.if-holds.false))

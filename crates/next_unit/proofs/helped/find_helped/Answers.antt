@@ -5,6 +5,5 @@ use Rattle.next_unit.proofs.helped.find_helped.Goals as goal
 
 pub returns-clause-helped : goal.returns-clause-helped
 returns-clause-helped c =
-    all_helped c.args.basin.now c.args.month.now c.loop-position.position c.loop-position.helped
-    (by_seniority_order c.args.basin.now.rights c.requires.plan.valid.roll.strict) (omega arith)
+    all_helped (by_seniority_order c.args.basin.now.rights c.requires.plan.valid.roll.strict) (omega arith)
     c.loop-position.invariant.helped

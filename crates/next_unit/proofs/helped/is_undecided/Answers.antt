@@ -10,16 +10,14 @@ use Rattle.next_unit.proofs.helped.is_undecided.Goals as goal
 
 pub returns-then-is_some : goal.returns-then-is_some
 returns-then-is_some c =
-    decided_some c.args.basin.now c.args.month.now c.args.link c.args.answer (sym c.is_some.ensures ∙ c.if-is_some.true)
+    decided_some _ _ _ c.args.answer (sym c.is_some.ensures ∙ c.if-is_some.true)
     c.requires.answer
 
 pub returns-in-Some : goal.returns-in-Some
 returns-in-Some c =
     OnFalse_from (not c.can_rise.result) (IsHelped c.args.basin.now c.args.month.now c.args.link c.args.answer)
-    (λ rises. decided_none c.args.basin.now c.args.month.now c.args.link c.args.answer
-    (sym c.is_some.ensures ∙ c.if-is_some.false)
-    (not_full c.args.basin.now c.args.month.now c.args.link c.requires.month
-    c.requires.link (sym c.can_rise.ensures ∙ not-false c.can_rise.result rises)))
+    (λ rises. decided_none _ _ _ c.args.answer (sym c.is_some.ensures ∙ c.if-is_some.false)
+    (not_full c.requires.month c.requires.link (sym c.can_rise.ensures ∙ not-false c.can_rise.result rises)))
   where
     not-false : (b : Bool) → not b ≡ false → b ≡ true
     not-false true e = refl
@@ -28,8 +26,8 @@ returns-in-Some c =
 pub returns-in-None : goal.returns-in-None
 returns-in-None c =
     let b = c.args.basin.now in
-    decided_none b c.args.month.now c.args.link c.args.answer (sym c.is_some.ensures ∙ c.if-is_some.false)
-    (free_link b c.args.month.now c.args.link c.requires.month c.requires.link
+    decided_none _ _ _ c.args.answer (sym c.is_some.ensures ∙ c.if-is_some.false)
+    (free_link c.requires.month c.requires.link
     (subst (λ (o : Option ℕ). IsNextOrFree b c.args.month.now (head_of b c.args.link) o)
     (sym c.at_head.ensures ∙ c.in-None.is)
     (c.requires.next.each (head_of b c.args.link) (ends b c.requires.month.plan.valid c.args.link c.requires.link).1)))

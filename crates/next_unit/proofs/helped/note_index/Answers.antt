@@ -18,8 +18,7 @@ pub returns-then-not-is_instream-clause-helped : goal.returns-then-not-is_instre
 returns-then-not-is_instream-clause-helped c =
     let none : instream_link c.args.basin.now c.right_at-right.result ≡ None =
     OnFalse_at c.if-not-is_instream.true c.is_instream.ensures in
-    none_instream c.args.basin.now c.args.month.now c.args.position c.args.helped.now
-    (rw c.right_at-right.ensures.value at none)
+    none_instream (rw c.right_at-right.ensures.value at none)
     (rw c.right_at-right.ensures.value at c.right_at-right.ensures.within) c.requires.helped
 
 pub returns-else-could_be_helped-clause-helped : goal.returns-else-could_be_helped-clause-helped
@@ -27,7 +26,6 @@ returns-else-could_be_helped-clause-helped c =
     let b = c.args.basin.now in
     let not : HelpNot b c.args.month.now c.args.undecided.now c.args.count c.right_at-right.result =
     OnFalse_at c.if-could_be_helped.false c.could_be_helped.ensures.no in
-    no_more b c.args.month.now c.args.position c.args.helped.now c.args.undecided.now c.args.count
-    (by_seniority_order b.rights c.requires.month.plan.valid.roll.strict) c.requires.position
+    no_more (by_seniority_order b.rights c.requires.month.plan.valid.roll.strict) c.requires.position
     (rw c.right_at-right.ensures.value at not)
     c.requires.undecided c.requires.helped
