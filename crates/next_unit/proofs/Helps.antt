@@ -77,21 +77,7 @@ supply_source b m r node given l = record {
 
 by_supply : (b : Basin) (m : MonthRecord) (r : ℕ) (supply : List ℕ) → HelpsBy b m (carry_of b m.month) supply r →
     HelpsRight b m supply r
-by_supply b m r supply h = record {
-  plan = h.plan;
-  is_plan = record {
-    flow_len = h.is_plan.flow_len;
-    take_len = h.is_plan.take_len;
-    out_len = h.is_plan.out_len;
-    carries = h.is_plan.carries;
-    wants = h.is_plan.wants;
-    instream = h.is_plan.instream;
-    outlets = h.is_plan.outlets;
-    balance = h.is_plan.balance;
-  };
-  serves = h.serves;
-  more = h.more;
-}
+by_supply b m r supply h = record { plan = h.plan; is_plan = h.is_plan; serves = h.serves; more = h.more }
 
 -- a right that takes
 taking_helped : (b : Basin) (m : MonthRecord) (r node target : ℕ) (core : List Bool) → HasPlan b m →

@@ -333,8 +333,7 @@ short_takers_are_curtailed_or_next b m right node given l short at = elim (decid
       short = short;
       core = core.0;
       is_core = core.1;
-      here = subst (λ v. has core.0 v ≡ true)
-          (cc (core.1.at, ap₂ (λ t o. node_by_link b t o) at no_link))
+      here = subst (λ v. has core.0 v ≡ true) (cc (core.1.at, ap₂ (λ t o. node_by_link b t o) at no_link))
           core.1.upstream.holds;
     }
 

@@ -192,8 +192,7 @@ module _ (b : Basin) (m : MonthRecord) (r target link : ℕ) (reach : List Bool)
 
       at_high : (n : ℕ) → beyond up.set reach n ≡ true →
           rank_in n ≡ numbers.most + 1 + core.ranked.top + up.ranked.rank n
-      at_high n h = rank_high core.set (beyond up.set reach) core.ranked.rank up.ranked.rank numbers.number numbers.most
-          core.ranked.top n (not_core n (not-true (has reach n) (and_parts (has up.set n) _ h).1)) h
+      at_high n h = rank_high _ _ _ _ _ _ _ n (not_core n (not-true (has reach n) (and_parts (has up.set n) _ h).1)) h
 
       tail_high : beyond up.set reach (tail_of b link) ≡ true
       tail_high = and_from _ _ up.ranked.node (not_from_false _ into.tail)
@@ -251,8 +250,7 @@ instream_raised b m r e link reach core up numbers given l short room into start
     let out =
     go_down b m r e (λ n. not (has core.set n) && not (has up.set n)) rank numbers carry
     start.node gone.flow given room stays (λ n h. (let parts = and_parts _ _ h in
-    rank_rest core.set high core.ranked.rank up.ranked.rank numbers.number numbers.most core.ranked.top n
-    (not-true _ parts.0) (and_left _ _ (not-true _ parts.1)))) (wide b m.month link) is below
+    rank_rest _ _ _ _ _ _ _ n (not-true _ parts.0) (and_left _ _ (not-true _ parts.1)))) (wide b m.month link) is below
     (and_left _ _ (ap not core.ranked.node)) (both_out (head_of b e) not_core not_up)
     (omega (
       arith,
