@@ -15,15 +15,11 @@ abbrev pub with_want : Inflows → ℕ → ℕ → ℕ → Inflows
 with_want series index place amount =
     record series { want = slice_set series.want (index * length series.wanted + place) amount }
 
--- the series after one line of a script, and after some in order
+-- the series after one line of a script
 abbrev pub edited_by : Inflows → Edit → Inflows
 edited_by series (Inflow index gauge amount) = with_inflow series index gauge amount
 edited_by series (Want index place amount) = with_want series index place amount
 edited_by series (Show index) = series
-
-abbrev pub edited : Inflows → List Edit → Inflows
-edited series [] = series
-edited series (e ∷ edits) = edited (edited_by series e) edits
 
 -- a line speaks of a month of the run and of an index in the series, and of an amount of at most 10^9
 abbrev pub IsValidEdit : Basin → Inflows → Edit → Type 0
