@@ -105,6 +105,14 @@ roll_fault-sound rights returns sound =
     parts = ap (λ (o : Option ℕ). option_map ReturnParts o) (find_none (has_many_parts returns) 0 (length rights)
         (λ r _ h. not_many_parts returns r (sound.parts r (omega arith))))
 
+-- a fault is its own refusal
+pub refusal_is : (e : RollRefused) (fault : Option RollRefused) → fault ≡ Some e → IsRefusal e fault
+refusal_is (BadDate a) fault h = h
+refusal_is (SameSeniority a b) fault h = h
+refusal_is (ZoneOrder a) fault h = h
+refusal_is (ReturnParts a) fault h = h
+refusal_is OutOfMemory fault h = tt
+
 -- a refusal of one part is a refusal of it and what follows
 pub some_or : (e : RollRefused) (part rest : Option RollRefused) → IsRefusal e part → IsRefusal e (option_or part rest)
 some_or (BadDate a) part rest h = ap (λ o. option_or o rest) h

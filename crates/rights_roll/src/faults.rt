@@ -1,5 +1,5 @@
 //! The faults of dates and of return rows, each by a function that finds the first.
-ghost use Rattle.std.specs.Prelude.{◌≡◌, ◌<◌, ◌≤◌, length, nat_lt, position, All, None, OnOk, IfOk, IfErr};
+ghost use Rattle.std.specs.Prelude.{◌≡◌, ◌<◌, ◌≤◌, length, nat_lt, position, All, None, Some, OnOk, IfOk, IfErr};
 ghost use Rattle.water_model.specs.Rights.{has_bad_date};
 ghost use Rattle.rights_roll.specs.RollFaults.{date_fault, parts_fault, IsRefusal};
 ghost use Rattle.rights_roll.specs.Tables.{AreParts};
@@ -19,7 +19,7 @@ fn first_bad_date(rights: &[Right]) -> Option<usize>
 pub fn check_dates(rights: &[Right]) -> Result<(), RollRefused>
     requires { length rights.now ≤ 2000 }
     ensures none { OnOk result (date_fault rights.now ≡ None) }
-    ensures refused { IfErr result (λ e. IsRefusal e (date_fault rights.now)) }
+    ensures refused { IfErr result (λ e. date_fault rights.now ≡ Some e) }
 {
     match first_bad_date(rights) {
         Some(right) => Err(RollRefused::BadDate(right as u32)),

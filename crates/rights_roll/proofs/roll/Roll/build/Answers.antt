@@ -1,13 +1,14 @@
 use Rattle.std.proofs.lemmas.Result.{err_from_is_err_and}
 use Rattle.rights_roll.specs.RollFaults.{roll_fault}
-use Rattle.rights_roll.proofs.Soundness.{sound-from_faultless, some_or}
+use Rattle.rights_roll.proofs.Soundness.{sound-from_faultless, refusal_is, some_or}
 use Rattle.rights_roll.proofs.roll.Roll.build.Goals as goal
 
 pub returns-in_err-check_dates-clause-refused : goal.returns-in_err-check_dates-clause-refused
 unfolding roll_fault
 returns-in_err-check_dates-clause-refused c =
     let p = err_from_is_err_and c.from_residual.result c.from_residual.ensures.1 in
-    rw (p.1, p.2) (some_or c.in_err-check_dates.field-0.0 _ _ c.in_err-check_dates.ensures.refused)
+    let e = c.in_err-check_dates.field-0.0 in
+    rw (p.1, p.2) (some_or e _ _ (refusal_is e _ c.in_err-check_dates.ensures.refused))
 
 pub returns-in_err-order-clause-refused : goal.returns-in_err-order-clause-refused
 unfolding roll_fault
