@@ -76,4 +76,4 @@ link_next {keys} {first} {next} {a} {k} some within is inside sizes l =
 -- how many turns there are
 pub turns_are : (pairs : List ℕ) → length (keys_of pairs) ≡ 2 * length pairs
 turns_are pairs =
-    omega (arith, length-append (tails_of pairs) (heads_of pairs), length-map pairs tail_of, length-map pairs head_of)
+    omega (arith, length-append (heads_of pairs) (tails_of pairs), length-map pairs tail_of, length-map pairs head_of)

@@ -8,29 +8,29 @@ use Rattle.circulation.specs.Residual.{arc_of, is_backward, by_direction, start_
 use Rattle.circulation.specs.Rows.{Rows, over, Leads, IsInRow, IsRow, AreRows}
 use Rattle.circulation.specs.Chains.{IsNext, turn_of, IsPartRow, AreApart, AreSameBelow, AreSmall, tails_of, heads_of}
 use Rattle.circulation.specs.Chains.{keys_of}
-use Rattle.circulation.specs.Places.{tail_of}
+use Rattle.circulation.specs.Places.{tail_of, head_of}
 use Rattle.circulation.proofs.Links.{turns_are}
 use Rattle.circulation.proofs.Apart.{room_for_one}
 
 -- what the number of a step says of its turn
 record IsForward (arcs s : ℕ) : Type 0 where
   number : s ≡ 2 * arc_of s
-  turn : turn_of arcs s ≡ arc_of s
+  turn : turn_of arcs s ≡ arcs + arc_of s
 
 record IsBackward (arcs s : ℕ) : Type 0 where
   number : s ≡ 2 * arc_of s + 1
-  turn : turn_of arcs s ≡ arcs + arc_of s
+  turn : turn_of arcs s ≡ arc_of s
 
 forward_from : (arcs s : ℕ) → is_backward s ≡ false → IsForward arcs s
 forward_from arcs s e = record {
   number = let ne = eqb-false (s % 2) 1 e in omega (arith, ne);
-  turn = ap (λ (b : Bool). by_direction b (arc_of s) (arcs + arc_of s)) e;
+  turn = ap (λ (b : Bool). by_direction b (arcs + arc_of s) (arc_of s)) e;
 }
 
 backward_from : (arcs s : ℕ) → is_backward s ≡ true → IsBackward arcs s
 backward_from arcs s e = record {
   number = let odd = eqb-true (s % 2) 1 e in omega (arith, odd);
-  turn = ap (λ (b : Bool). by_direction b (arc_of s) (arcs + arc_of s)) e;
+  turn = ap (λ (b : Bool). by_direction b (arcs + arc_of s) (arc_of s)) e;
 }
 
 -- the turn of a step is below the end of all turns
@@ -54,13 +54,16 @@ turn_apart arcs s t b c same = elim (cases_Bool (is_backward s)) [
 ]
 
 -- the key of a turn is the node that its step leaves
-key_of_turn : (from to : List ℕ) (s : ℕ) → arc_of s < length from →
-    slice_index (from ++ to) (turn_of (length from) s) ≡ start_of (over from to) s
-key_of_turn from to s b = elim (cases_Bool (is_backward s)) [
-  | inl e ↦ ap (slice_index (from ++ to)) (backward_from (length from) s e).turn ∙ get_or-append-add from to (arc_of s)
-      0 ∙ sym (ap (λ (t : Bool). by_direction t (slice_index from (arc_of s)) (slice_index to (arc_of s))) e)
-  | inr e ↦ ap (slice_index (from ++ to)) (forward_from (length from) s e).turn ∙ get_or_append_left from to 0
-      (arc_of s) b ∙ sym (ap (λ (t : Bool). by_direction t (slice_index from (arc_of s)) (slice_index to (arc_of s))) e)
+key_of_turn : (from to : List ℕ) (s : ℕ) → length to ≡ length from → arc_of s < length from →
+    slice_index (to ++ from) (turn_of (length from) s) ≡ start_of (over from to) s
+key_of_turn from to s sizes b = elim (cases_Bool (is_backward s)) [
+  | inl e ↦ ap (slice_index (to ++ from)) (backward_from (length from) s e).turn
+      ∙ get_or_append_left to from 0 (arc_of s) (omega (arith, sizes, b))
+      ∙ sym (ap (λ (t : Bool). by_direction t (slice_index from (arc_of s)) (slice_index to (arc_of s))) e)
+  | inr e ↦ ap (slice_index (to ++ from))
+      ((forward_from (length from) s e).turn ∙ ap (λ (n : ℕ). n + arc_of s) (sym sizes))
+      ∙ get_or-append-add to from (arc_of s) 0
+      ∙ sym (ap (λ (t : Bool). by_direction t (slice_index from (arc_of s)) (slice_index to (arc_of s))) e)
 ]
 
 -- a lesser number is another
@@ -87,8 +90,9 @@ part_start from to v first steps ends = record {
 
 -- a step that is next in its chain
 pub record IsNextStep (from to : List ℕ) (v upto at s : ℕ) : Type 0 where
-  pub next : IsNext (from ++ to) v upto at
-  pub short : at < length (from ++ to)
+  pub sizes : length to ≡ length from
+  pub next : IsNext (to ++ from) v upto at
+  pub short : at < length (to ++ from)
   pub arc : arc_of s < length from
   pub turn : turn_of (length from) s ≡ at
 
@@ -98,6 +102,7 @@ pub next_step : (pairs : List ℕ) {v upto at : ℕ} (s : ℕ) → IsNext (keys_
 next_step pairs s next short arc turn =
     let count = length-map pairs tail_of in
     record {
+      sizes = length-map pairs head_of ∙ sym count;
       next = next;
       short = omega (arith, turns_are pairs, short);
       arc = omega (arith, count, arc);
@@ -108,7 +113,7 @@ next_step pairs s next short arc turn =
 pub next_start : {from to : List ℕ} {v upto turn s : ℕ} → IsNextStep from to v upto turn s →
     start_of (over from to) s ≡ v
 next_start {from} {to} {s} n =
-    sym (key_of_turn from to s n.arc) ∙ ap (slice_index (from ++ to)) n.turn ∙ n.next.here n.short
+    sym (key_of_turn from to s n.sizes n.arc) ∙ ap (slice_index (to ++ from)) n.turn ∙ n.next.here n.short
 
 -- and was not written before
 pub next_is_new : {from to : List ℕ} {v upto turn first last s : ℕ} {steps ends : List ℕ} →
@@ -181,17 +186,18 @@ part_next {from} {to} {v} {upto} {turn} {last} {s} {u} {steps} {ends} part n end
         | inr later ↦ elim (cases_eq (turn_of (length from) t) turn) [
           | inl same ↦
               (last, (order, (omega arith, w.here ∙ turn_apart (length from) s t n.arc b (is ∙ sym same))))
-          | inr ne ↦ absurd (n.next.skipped (turn_of (length from) t) later (omega arith) (key_of_turn from to t b ∙ f))
+          | inr ne ↦ absurd (n.next.skipped (turn_of (length from) t) later (omega arith)
+              (key_of_turn from to t n.sizes b ∙ f))
         ]
       ];
     }
 
 -- past the end of the chain all steps were written
 pub part_end : {from to : List ℕ} {v upto turn first last turns : ℕ} {steps ends : List ℕ} → length to ≡ length from →
-    turns ≡ 2 * length from → IsPartRow from to v upto first last steps ends → IsNext (from ++ to) v upto turn →
+    turns ≡ 2 * length from → IsPartRow from to v upto first last steps ends → IsNext (to ++ from) v upto turn →
     turns ≤ turn → IsPartRow from to v turns first last steps ends
 part_end {from} {to} {upto} {turns} {steps} sizes are part next past =
-    let all = length-append from to in
+    let all = length-append to from in
     let within = next.within in
     let after = next.after in
     record {
@@ -201,7 +207,8 @@ part_end {from} {to} {upto} {turns} {steps} sizes are part next past =
       once = part.once;
       all = λ s b e less. elim (cases_lt (turn_of (length from) s) upto) [
         | inl before ↦ part.all s b e before
-        | inr later ↦ absurd (next.skipped (turn_of (length from) s) later (omega arith) (key_of_turn from to s b ∙ e))
+        | inr later ↦ absurd (next.skipped (turn_of (length from) s) later (omega arith)
+            (key_of_turn from to s sizes b ∙ e))
       ];
     }
 

@@ -11,9 +11,9 @@ tails_of pairs = map tail_of pairs
 abbrev pub heads_of : List ℕ → List ℕ
 heads_of pairs = map head_of pairs
 
--- the nodes that steps leave, by their turns: the tails of arcs, and then the heads
+-- the nodes that steps leave, by their turns: the heads of arcs, and then the tails
 abbrev pub keys_of : List ℕ → List ℕ
-keys_of pairs = tails_of pairs ++ heads_of pairs
+keys_of pairs = heads_of pairs ++ tails_of pairs
 
 -- a is the least index from `start` on with the key v, or the number of keys where there is none
 pub record IsNext (keys : List ℕ) (v start a : ℕ) : Type 0 where
@@ -29,9 +29,9 @@ pub record AreChains (keys : List ℕ) (nodes : ℕ) (first next : List ℕ) : T
   pub starts : (v : ℕ) → v ≤ nodes → IsNext keys v 0 (slice_index first v)
   pub follows : (a : ℕ) → a < length keys → IsNext keys (slice_index keys a) (a + 1) (slice_index next a)
 
--- the turn of a step: those forward come first, by arc, and then those backward
+-- the turn of a step: those backward come first, by arc, and then those forward
 abbrev pub turn_of : ℕ → ℕ → ℕ
-turn_of arcs s = by_direction (is_backward s) (arc_of s) (arcs + arc_of s)
+turn_of arcs s = by_direction (is_backward s) (arcs + arc_of s) (arc_of s)
 
 -- the indices from `first` to below `last` have the steps that leave the node v and whose turns are below the bound
 -- `upto`, with the nodes that they enter

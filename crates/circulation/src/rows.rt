@@ -10,16 +10,16 @@ ghost use Rattle.circulation.specs.Chains.{AreApart, AreSameBelow, AreSmall};
 
 use crate::END;
 
-/// The node that the step of a turn leaves: the tails of arcs come first, and then the heads.
+/// The node that the step of a turn leaves: the heads of arcs come first, and then the tails.
 fn key(pairs: &[u64], turn: usize) -> usize
     requires { turn < 2 * length pairs.now }
     ensures { result ≡ slice_index (keys_of pairs.now) turn }
 {
     let arcs = pairs.len();
     if turn < arcs {
-        (pairs[turn] / END) as usize
+        (pairs[turn] % END) as usize
     } else {
-        (pairs[turn - arcs] % END) as usize
+        (pairs[turn - arcs] / END) as usize
     }
 }
 
@@ -49,9 +49,9 @@ fn step_in_turn(arcs: u64, turn: u64) -> u64
     ensures turn { turn_of arcs result ≡ turn }
 {
     if turn < arcs {
-        2 * turn
+        2 * turn + 1
     } else {
-        2 * (turn - arcs) + 1
+        2 * (turn - arcs)
     }
 }
 

@@ -289,3 +289,14 @@ lending {c} {labels} queue {labels'} {queue'} x {s} k t places b out unlabeled n
     let grows = lend_start queue (slice_index c.from x) (2 * x + 1) t places inner unlabeled (omega (arith, o.arc, b))
     o.enters (o.starts ∙ out) in
     record { artificial = is; labeled = omega (arith, own); grows = rw (is, one, way_is, queue_is) grows }
+
+-- where no node was freed, the tree is whole
+pub freed_none : {c : Contents} {labels freed : List ℕ} {at : ℕ} → IsFreeing c labels freed at at 0 0 →
+    IsResidualTree c labels
+freed_none {c} {labels} {freed} {at} f = artificial_none
+    (tree_map f.tree (λ u d m e o. occurs_nowhere c.scratch at at (label_of labels u - 1) o (omega arith))
+    (λ u s d e b g o. occurs_nowhere freed 0 0 (start_of (network c) s) o (omega arith))
+    (λ s b r m o. elim o [
+      | inl free ↦ absurd (occurs_nowhere freed 0 0 (end_of (network c) s) free (omega arith))
+      | inr unscanned ↦ absurd unscanned
+    ]))

@@ -14,8 +14,9 @@ use crate::labels::Labels;
 use circulation::CirculationMut;
 use circulation::residual::{opposite, start};
 
-/// The most steps by which the tree leads from the outside to a node that is near.
-const NEAR: u32 = 2;
+/// The most steps by which the tree leads from the outside to a node that is near. With fewer, more is freed; with twice
+/// as many, as much.
+const NEAR: u32 = 8;
 
 /// Whether the tree leads from the outside to a node by few steps, none of which leaves or enters the node `other`.
 fn is_near(circ: &CirculationMut<'_>, labels: &Labels<'_>, node: u32, other: u32) -> bool

@@ -42,6 +42,9 @@ pub fn regrow(
     let (freed, rest) = room.split_at_mut(nodes);
     let (queue, found) = rest.split_at_mut(nodes);
     let loose = adopt_or_free(circ, labels, freed, first, first + count);
+    if loose == 0 {
+        return;
+    }
     let free = free_below(circ, labels, freed, loose);
     grow(circ, labels, queue, freed, free, found);
 }
