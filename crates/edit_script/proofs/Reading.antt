@@ -21,7 +21,7 @@ abbrev pub after : List Edit → Reading → Reading
 after edits (Ok more) = Ok (edits ++ more)
 after edits (Err why) = Err why
 
-after_more : (edits : List Edit) (e : Edit) (r : Reading) →
+pub after_more : (edits : List Edit) (e : Edit) (r : Reading) →
     after edits (in_prefix (Ok e) r) ≡ after (edits ++ e ∷ []) r
 after_more edits e (Ok more) = ap (λ (es : List Edit). Ok es) (sym (append_assoc edits (e ∷ []) more))
 after_more edits e (Err why) = refl
@@ -42,26 +42,13 @@ last_line b series number line text done =
     let found = some_piece (λ byte. byte == 10) text in
     rw (found.2, done) refl
 
--- the whole reading, by what was read and what is to come
+-- the whole reading, by what was read, the answer to a line, and what is to come
 pub line_taken : (b : Basin) (series : Inflows) (whole : Reading) (edits : List Edit) (number : ℕ)
-    (rest line text : List ℕ) (e : Edit) →
+    (rest line text : List ℕ) (r : Result Edit ScriptRefused) →
     whole ≡ after edits (edits_from b series number (lines_of rest)) → lines_of rest ≡ line ∷ lines_of text →
-    bytes_eq line (codes "done") ≡ false →
-    Ok e ≡ numbered number (edit_of b series line) →
-    whole ≡ after (edits ++ e ∷ []) (edits_from b series (number + 1) (lines_of text))
-line_taken b series whole edits number rest line text e so_far at other is =
-    so_far
-    ∙ ap (λ ls. after edits (edits_from b series number ls)) at
-    ∙ ap (after edits) (one_line b series number line text other)
-    ∙ ap (λ r. after edits (in_prefix r (edits_from b series (number + 1) (lines_of text)))) (sym is)
-    ∙ after_more edits e (edits_from b series (number + 1) (lines_of text))
-
-pub line_refused : (b : Basin) (series : Inflows) (whole : Reading) (edits : List Edit) (number : ℕ)
-    (rest line text : List ℕ) (why : ScriptRefused) →
-    whole ≡ after edits (edits_from b series number (lines_of rest)) → lines_of rest ≡ line ∷ lines_of text →
-    bytes_eq line (codes "done") ≡ false →
-    Err why ≡ numbered number (edit_of b series line) → whole ≡ Err why
-line_refused b series whole edits number rest line text why so_far at other is =
+    bytes_eq line (codes "done") ≡ false → r ≡ numbered number (edit_of b series line) →
+    whole ≡ after edits (in_prefix r (edits_from b series (number + 1) (lines_of text)))
+line_taken b series whole edits number rest line text r so_far at other is =
     so_far
     ∙ ap (λ ls. after edits (edits_from b series number ls)) at
     ∙ ap (after edits) (one_line b series number line text other)

@@ -2,7 +2,6 @@
 #![tactic(auto)]
 
 pub mod edit;
-mod feeds;
 pub mod laws;
 mod lines;
 mod refused;

@@ -1,17 +1,37 @@
 //! A whole script.
-ghost use Rattle.std.specs.Prelude.{◌≡◌, All, Ok, Err, MatchResult, IfOk};
+ghost use Rattle.std.specs.Prelude.{◌≡◌, ◌<◌, ◌∷◌, [], length, All, Ok, Err, MatchResult, IfNone, IfOk, IfSome};
+ghost use Rattle.std.specs.List.{position};
+ghost use Rattle.water_text.specs.LinesIn.{is_feed};
 ghost use Rattle.water_model.specs.Valid.{IsValidBasin, IsSeriesOf};
 ghost use Rattle.edit_script.specs.Edits.{IsValidEdit};
 ghost use Rattle.edit_script.specs.Lines.{edit_of};
 ghost use Rattle.edit_script.specs.Scripts.{IsRefusalOf, edits_from, ended, lines_of, numbered, script_of};
 
 use crate::edit::Edit;
-use crate::feeds::first_line;
 use crate::lines::read_edit;
 use crate::refused::{ScriptFault, ScriptRefused};
 use basin_names::BothNames;
 use std::alloc::Global;
 use water_model::types::{Basin, Inflows};
+
+/// The index of the first line feed.
+fn first_feed(text: &[u8]) -> Option<usize>
+    ensures { result ≡ position is_feed text.now }
+{
+    text.iter().position(|byte| *byte == b'\n')
+}
+
+/// The first line of a text and what is after its line feed, if there is a line feed.
+fn first_line(text: &[u8]) -> Option<(&[u8], &[u8])>
+    ensures none { IfNone result (lines_of text.now ≡ text.now ∷ []) }
+    ensures some { IfSome result (λ cut. lines_of text.now ≡ cut.0.now ∷ lines_of cut.1.now) }
+    ensures less { IfSome result (λ cut. length cut.1.now < length text.now) }
+{
+    match first_feed(text) {
+        Some(at) => Some((&text[..at], &text[at + 1..])),
+        None => None,
+    }
+}
 
 /// What the line of this number asks for, or the refusal of the script.
 fn read_numbered(

@@ -2,7 +2,7 @@
 use Rattle.std.proofs.Common.{◌≡◌, ℕ, ◌+◌, ◌*◌, ◌^◌, ◌<◌, ◌≤◌, Bool, true, false, refl, sym, ap, ◌∙◌, arith, List}
 use Rattle.std.proofs.Common.{length, take, min, ◌≢◌, subst, suc}
 use Rattle.std.specs.Prelude.{if◌then◌else◌, slice_get, Option, Some, None, unwrap_or, option_map, slice_set}
-use Rattle.std.proofs.lemmas.List.{length-set, take_min, get_or-set_other, length-take}
+use Rattle.std.proofs.lemmas.List.{length-set, take-take, take_min, get_or-set_other, length-take}
 use Rattle.std.proofs.lemmas.List.Elements.{All-set}
 use Rattle.water_model.specs.Basin.{instream_link}
 use Rattle.water_model.specs.Lookups.{of_entry}
@@ -24,7 +24,7 @@ use Rattle.edit_script.specs.declared.edit.Edit.{Edit}
 use Rattle.edit_script.specs.declared.edit.Edit.TheVariants.{Inflow, Want, Show}
 use Rattle.std.proofs.lemmas.Option.{slice_get_within}
 use Rattle.water_model.proofs.Histories.{follows_alike}
-use Rattle.water_model.proofs.Lists.{get_prefix, take_prefix}
+use Rattle.water_model.proofs.Lists.{get_prefix}
 use Rattle.water_model.specs.History.{IsPartialHistory, Follows, HaveReaches}
 use Rattle.month_fold.proofs.Outcomes.{runs_have_one_outcome}
 use Rattle.edit_session.specs.Shown.{AgreesWithRuns}
@@ -39,7 +39,7 @@ prefix_partial b series other records month agree h = record {
   each = λ j m e.
       let r = get_prefix records month j m e in
       let within : j < length records = slice_get_within records j m r.1 in
-      subst (λ (xs : List MonthRecord). Follows b other xs m) (sym (take_prefix records month j (omega (arith, r.0))))
+      subst (λ (xs : List MonthRecord). Follows b other xs m) (sym (take-take j month records (omega (arith, r.0))))
       (let follows = h.each j m r.1 in
       let early : m.index < month = omega (arith, follows.after.index, length-take j records, r.0) in
       follows_alike b series other (take j records) m (λ n l. agree.inflows n m.index l early)

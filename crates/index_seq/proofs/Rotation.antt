@@ -78,14 +78,11 @@ begun_is b series years fits h = record {
 -- and is a series of the basin
 pub begun_fits : (b : Basin) (series : Inflows) (years : ℕ) → IsSeriesOf b series → years < years_of b →
     IsSeriesOf b (begun_after series years)
-begun_fits b series years fits h = record {
-  gauged = fits.gauged;
-  amounts = parted series.amount (12 * years * length series.gauged) ∙ fits.amounts;
-  small_amounts = all_parted (λ n. n ≤ 10 ^ 9) series.amount (12 * years * length series.gauged) fits.small_amounts;
-  wanted = fits.wanted;
-  wants = fits.wants;
-  small_wants = fits.small_wants;
-}
+begun_fits b series years fits h =
+    assumption (
+      parted series.amount (12 * years * length series.gauged) ∙ fits.amounts,
+      all_parted (λ n. n ≤ 10 ^ 9) series.amount (12 * years * length series.gauged) fits.small_amounts,
+    )
   where
     parted : (xs : List ℕ) (at : ℕ) → length (drop at xs ++ take at xs) ≡ length xs
     parted xs at = omega (arith, length-append (drop at xs) (take at xs), length-drop at xs, length-take at xs)

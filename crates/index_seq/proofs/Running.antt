@@ -10,7 +10,7 @@ use Rattle.std.proofs.lemmas.List.Sums.{sum_by-take-drop, sum_by_push}
 use Rattle.month_fold.specs.Runs.{RunView, RunStandsFor}
 use Rattle.month_fold.specs.Works.{Solves, WorkDone}
 use Rattle.month_fold.proofs.Works.{Solves-then, Solves-within}
-use Rattle.reports.proofs.Room.{delivered_small}
+use Rattle.month_terms.proofs.Amounts.{delivered_small}
 use Rattle.water_model.specs.History.{IsPartialHistory, IsHistory}
 use Rattle.water_model.specs.Indices.{numbers_from}
 use Rattle.water_model.specs.Valid.{IsValidBasin, IsSeriesOf}
@@ -20,7 +20,7 @@ use Rattle.water_model.specs.declared.types.MonthRecord.{MonthRecord}
 use Rattle.index_seq.specs.Sums.{IsEmptyYear, IsWithinTrace, HaveSums}
 use Rattle.index_seq.specs.Traces.{begun_after, delivered_in_year, yearly_deliveries, years_of, HasWholeYears}
 use Rattle.index_seq.specs.Traces.{AreTraces}
-use Rattle.water_model.proofs.Histories.{at_end}
+use Rattle.water_model.proofs.Histories.{at_end, last_follows}
 
 -- what a right was delivered in a year that is over does not change
 year_stays : (right year : ℕ) (records : List MonthRecord) (m : MonthRecord) → 12 * year + 12 ≤ length records →
@@ -58,11 +58,7 @@ pub month_fits : (b : Basin) (series : Inflows) (records : List MonthRecord) (m 
     length so_far ≡ length b.rights →
     IsPartialHistory b series (records ++ m ∷ []) → length so_far ≡ length m.delivered
 month_fits b series records m so_far count partial =
-    count ∙ sym (partial.each (length records) m (at_end records)).after.fits.delivered
-  where
-    at_end : (xs : List MonthRecord) → slice_get (xs ++ m ∷ []) (length xs) ≡ Some m
-    at_end [] = refl
-    at_end (x ∷ xs) = at_end xs
+    count ∙ sym (last_follows b series records m partial).after.fits.delivered
 
 -- there is room for it
 pub month_room : (b : Basin) (series : Inflows) (trace years months : ℕ) (run : RunView) (all : List (List ℕ))

@@ -40,7 +40,6 @@ use Rattle.inflow_file.proofs.DueLaws.{IsSplit, column_there, due_at, given_at, 
 use Rattle.inflow_file.proofs.DueLaws.{some_column}
 use Rattle.inflow_file.proofs.TableLaws.{refusal_of}
 use Rattle.inflow_file.specs.declared.refused.SeriesFault.TheVariants as fault
-use Rattle.inflow_file.specs.declared.refused.SeriesRefused.TheVariants as refused
 
 -- the first element that passes a test, by its index
 find_first : {X : Type 0} (p : X → Bool) (xs : List X) (k : ℕ) (d : X) → k < length xs →

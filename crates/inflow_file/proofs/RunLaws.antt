@@ -1,5 +1,5 @@
 -- The months of a run.
-use Rattle.std.proofs.Common.{◌≡◌, ℕ, ◌<◌, true, false, refl, ap, arith, length, get_or, inl, inr, Some, None}
+use Rattle.std.proofs.Common.{◌≡◌, ℕ, ◌<◌, true, false, refl, ap, arith, length, get_or, inl, inr, None}
 use Rattle.std.specs.Prelude.{◌==◌}
 use Rattle.std.proofs.lemmas.Bool.{cases_Bool, and_parts, eqb-true, eq-eqb, and_from}
 use Rattle.std.proofs.lemmas.List.Folds.{list_any_none, list_any_at}
@@ -51,8 +51,3 @@ month_outside b m valid month none = list_any_none (λ n. is_same_month m n) (mo
           let found = (months_have_their_index b m i valid month).1 (l, same_month_is m (run_month b i) same) in cc
       | inr other ↦ other
     ]
-
--- and the month of an index is one of the run
-pub month_inside : (b : Basin) (m : Month) (i : ℕ) → IsValidBasin b → IsMonth m → index_in_run b m ≡ Some i →
-    (i < b.months) × (m ≡ run_month b i)
-month_inside b m i valid month found = (months_have_their_index b m i valid month).0 found

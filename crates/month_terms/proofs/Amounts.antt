@@ -1,10 +1,11 @@
 -- How large the amounts of a partial history's months can be.
 use Rattle.std.proofs.Common.{◌≡◌, ℕ, ◌+◌, ◌-◌, ◌*◌, ◌^◌, ◌<◌, ◌≤◌, refl, ◌∙◌, ap, arith, List, length, map, take}
-use Rattle.std.proofs.Common.{inl, inr}
-use Rattle.std.specs.Prelude.{slice_index, slice_get, Option, Some, None, unwrap_or, option_map}
+use Rattle.std.proofs.Common.{inl, inr, get_or}
+use Rattle.std.specs.Prelude.{slice_index, slice_get, Option, Some, None, unwrap_or, option_map, All, sum_by}
 use Rattle.std.proofs.lemmas.Bool.{cases_lt}
 use Rattle.std.proofs.lemmas.List.{get_or_past}
-use Rattle.std.proofs.lemmas.Option.{slice_get-map, get_or_from_slice_get}
+use Rattle.std.proofs.lemmas.List.Sums.{sum_by-le}
+use Rattle.std.proofs.lemmas.Option.{slice_get-get_or, slice_get-map, get_or_from_slice_get}
 use Rattle.finite_sums.specs.Sums.{total}
 use Rattle.finite_sums.proofs.Totals.{total_add}
 use Rattle.water_model.specs.Basin.{instream_link}
@@ -15,6 +16,7 @@ use Rattle.water_model.specs.Valid.{IsValidBasin, IsValidReservoir, IsSeriesOf}
 use Rattle.water_model.specs.declared.types.Basin.{Basin}
 use Rattle.water_model.specs.declared.types.Inflows.{Inflows}
 use Rattle.water_model.specs.declared.types.MonthRecord.{MonthRecord}
+use Rattle.water_model.proofs.Lists.{prefix_partial}
 use Rattle.water_model.proofs.Valid.{entry_holds}
 use Rattle.water_model.proofs.Wants.{want_most}
 use Rattle.month_terms.proofs.Bounds.{inflows_small, returns_small, first_stored, later_stored}
@@ -46,6 +48,24 @@ follows_small b series before m valid fits follows = record { takes = takes; del
           (by_link (instream_link b r) r (slice_index m.want r) (wanted r within) (takes r within))
       | inr past ↦ rw (get_or_past m.delivered r 0 (omega (arith, follows.after.fits.delivered))) (omega arith)
     ]
+
+-- what holds of each month that follows a partial history holds of all months of one
+pub each_month : (P : MonthRecord → Type 0) (b : Basin) (series : Inflows) (records : List MonthRecord) →
+    IsPartialHistory b series records →
+    ((before : List MonthRecord) (m : MonthRecord) → IsPartialHistory b series before → Follows b series before m →
+    P m) → All P records
+each_month P b series records partial h =
+    λ k d l. h (take k records) (get_or records k d) (prefix_partial b series records k partial)
+    (partial.each k (get_or records k d) (slice_get-get_or records k d l))
+
+-- what a right was delivered in all months
+pub delivered_small : (b : Basin) (series : Inflows) (records : List MonthRecord) (r : ℕ) → IsValidBasin b →
+    IsSeriesOf b series → IsPartialHistory b series records →
+    sum_by (λ m. slice_index m.delivered r) records ≤ length records * 10 ^ 9
+delivered_small b series records r valid fits partial =
+    sum_by-le (λ m. slice_index m.delivered r) (10 ^ 9) records
+    (each_month _ b series records partial
+    (λ before m prefix follows. (follows_small b series before m valid fits follows).delivered r))
 
 pub deliveries_small : (b : Basin) (series : Inflows) (records : List MonthRecord) → IsValidBasin b →
     IsSeriesOf b series →

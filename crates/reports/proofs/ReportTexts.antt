@@ -31,7 +31,8 @@ use Rattle.reports.specs.declared.tally.Tally.{Tally}
 use Rattle.reports.specs.declared.totals.Totals.{Totals}
 use Rattle.reports.specs.declared.waters.Waters.{Waters}
 use Rattle.reports.proofs.Rights.{entry_is, entry_at, entries_count}
-use Rattle.reports.proofs.Room.{wanted_small, delivered_small}
+use Rattle.month_terms.proofs.Amounts.{delivered_small}
+use Rattle.reports.proofs.Room.{wanted_small}
 
 -- The lines of a right, and of all rights, seniors first.
 

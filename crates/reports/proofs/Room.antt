@@ -1,12 +1,10 @@
 -- The sums of a run are small.
 use Rattle.std.proofs.Common.{◌≡◌, ℕ, ◌+◌, ◌*◌, ◌^◌, ◌<◌, ◌≤◌, ◌∙◌, ap, arith, List, []}
-use Rattle.std.proofs.Common.{◌∷◌, ◌++◌, length, map, take, get_or, length-append}
-use Rattle.std.specs.Prelude.{is_some, sum, sum_by, All, slice_index, nat_lt}
+use Rattle.std.proofs.Common.{◌∷◌, ◌++◌, length, map, get_or, length-append}
+use Rattle.std.specs.Prelude.{is_some, sum, sum_by, slice_index, nat_lt}
 use Rattle.std.proofs.lemmas.List.Sums.{sum_by-le, sum_by_push, sum-map, count_by-le-length}
-use Rattle.std.proofs.lemmas.Option.{slice_get-get_or}
 use Rattle.finite_sums.specs.Sums.{total}
 use Rattle.finite_sums.proofs.Totals.{total_same}
-use Rattle.water_model.proofs.Lists.{prefix_partial}
 use Rattle.duality.specs.Balance.{IsBalanced, total_inflow, diverted}
 use Rattle.water_model.specs.History.{IsPartialHistory, Follows, calling_right}
 use Rattle.water_model.specs.Hydrology.{returned_at}
@@ -20,23 +18,13 @@ use Rattle.water_model.proofs.Sets.{sum_total}
 use Rattle.water_model.proofs.Order.{length-numbers_from}
 use Rattle.water_model.proofs.Histories.{opens_with_last}
 use Rattle.water_model.proofs.Wants.{want_most}
-use Rattle.month_terms.proofs.Amounts.{follows_small, deliveries_small}
+use Rattle.month_terms.proofs.Amounts.{each_month, delivered_small, deliveries_small}
 use Rattle.month_terms.proofs.Bounds.{inflows_small, returns_small}
 use Rattle.reports.specs.Figures.{waters_of, wanted, delivered, called_in, called_count}
 use Rattle.reports.specs.Tallies.{figures_of, HasRoom, HasRoomForMonth}
 use Rattle.reports.specs.declared.figures.RightFigures.{RightFigures}
 use Rattle.reports.specs.declared.waters.Waters.{Waters}
 use Rattle.reports.proofs.Sums.{openings_small}
-
--- the last of some months follows those before it
--- what holds of each month that follows a partial history holds of all months of one
-each_month : (P : MonthRecord → Type 0) (b : Basin) (series : Inflows) (records : List MonthRecord) →
-    IsPartialHistory b series records →
-    ((before : List MonthRecord) (m : MonthRecord) → IsPartialHistory b series before → Follows b series before m →
-    P m) → All P records
-each_month P b series records partial h =
-    λ k d l. h (take k records) (get_or records k d) (prefix_partial b series records k partial)
-    (partial.each k (get_or records k d) (slice_get-get_or records k d l))
 
 -- the figures of a right
 pub wanted_small : (b : Basin) (series : Inflows) (records : List MonthRecord) (r : ℕ) → IsValidBasin b →
@@ -49,14 +37,6 @@ wanted_small b series records r valid fits partial l =
         Follows b series before m → slice_index m.want r ≤ 10 ^ 9
     most before m prefix follows =
         rw (follows.after.want r l) (want_most b series r m.index (slice_index m.used r) valid fits l)
-
-pub delivered_small : (b : Basin) (series : Inflows) (records : List MonthRecord) (r : ℕ) → IsValidBasin b →
-    IsSeriesOf b series →
-    IsPartialHistory b series records → delivered records r ≤ length records * 10 ^ 9
-delivered_small b series records r valid fits partial =
-    sum_by-le (λ m. slice_index m.delivered r) (10 ^ 9) records
-    (each_month _ b series records partial
-    (λ before m prefix follows. (follows_small b series before m valid fits follows).delivered r))
 
 -- there is room for one month more
 pub right_room : (b : Basin) (series : Inflows) (records : List MonthRecord) (m : MonthRecord) (r : ℕ)

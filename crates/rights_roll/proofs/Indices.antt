@@ -9,7 +9,8 @@ use Rattle.std.proofs.lemmas.Slice.Eq.{bytes_eq-Decides}
 use Rattle.std.specs.List.{position, position_from, position_or_len}
 use Rattle.std.specs.Option.{option_or}
 use Rattle.std.specs.Str.{bytes_eq}
-use Rattle.std.proofs.lemmas.Bool.{lt-ltb, cases_Bool, false_from_ne_true}
+use Rattle.std.proofs.lemmas.Bool.{cases_Bool}
+use Rattle.water_text.proofs.Splits.{none_passes}
 
 pub same_bytes : (xs ys : List ℕ) → xs ≡ ys → bytes_eq xs ys ≡ true
 same_bytes xs ys e = (bytes_eq-Decides xs ys).1 e
@@ -61,14 +62,6 @@ position_or_len-at_least p (x ∷ xs) (suc k) d h all =
     position_or_len-at_least p xs k d (omega arith) (λ j l. all (suc j) (omega arith)) in
     rw first (omega arith)
 
--- where none of a prefix passes
-position-fails : {X : Type 0} (p : X → Bool) (xs : List X) (k : ℕ) (d : X) → position p xs ≡ None → k < length xs →
-    p (get_or xs k d) ≡ false
-position-fails p xs k d none below = false_from_ne_true _ (λ e.
-    let at_most = position_or_len-at_most p xs k d below e in
-    let found : Some (position_or_len p xs) ≡ None =
-    rw (lt-ltb (position_or_len p xs) (length xs) (omega (arith, at_most))) at none in cc)
-
 -- what is found in a prefix is the first index of the whole list
 pub position_or_len-found : {X : Type 0} (p : X → Bool) (xs : List X) (i first : ℕ) (d : X) → i ≤ length xs →
     position p (take i xs) ≡ Some first → (first < i) × (position_or_len p xs ≡ first)
@@ -86,4 +79,4 @@ pub position_or_len-past : {X : Type 0} (p : X → Bool) (xs : List X) (i : ℕ)
     position p (take i xs) ≡ None → i ≤ position_or_len p xs
 position_or_len-past p xs i d h none =
     position_or_len-at_least p xs i d h (λ j l. ap p (sym (get_or-take i xs j d l))
-    ∙ position-fails p (take i xs) j d none (omega (arith, length-take-le i xs h)))
+    ∙ none_passes p (take i xs) none j d (omega (arith, length-take-le i xs h)))

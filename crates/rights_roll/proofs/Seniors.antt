@@ -3,13 +3,13 @@ use Rattle.std.proofs.Common.{◌≡◌, ℕ, zero, suc, ◌<◌, ◌≤◌, tru
 use Rattle.std.proofs.Common.{ap, ◌∙◌, inl, inr, arith}
 use Rattle.std.proofs.lemmas.Bool.{cases_order, false_from_ne_true, eq-eqb, eqb-true, ne_eqb, false≢true}
 use Rattle.std.proofs.lemmas.List.Sums.{passes_at_first, position_or_len_is}
-use Rattle.std.specs.List.{position_or_len}
-use Rattle.rights_roll.proofs.Indices.{position_or_len-at_most}
 use Rattle.std.proofs.lemmas.Bool.Decides.{nat_tests}
 use Rattle.std.specs.Prelude.{◌==◌, nat_lt, ◌≢◌}
+use Rattle.water_model.specs.Hydrology.{index_in}
 use Rattle.water_model.specs.Rights.{is_senior_in, priority_in, AreStrict}
 use Rattle.water_model.specs.Indices.{by_seniority}
 use Rattle.water_model.specs.declared.types.Right.{Right}
+use Rattle.water_model.proofs.Gauges.{has_index}
 use Rattle.water_model.proofs.Seniority.{not_lower, senior_trans}
 use Rattle.water_model.proofs.Order.{Has, IsOrdered, length-by_seniority, seniors_have, seniors_below, seniors_ordered}
 use Rattle.rights_roll.specs.SeniorityOrder.{IsSeniorityOrder}
@@ -72,26 +72,9 @@ by_seniority-below rights i h =
     seniors_below rights (get_or (by_seniority rights) i 0)
     (has-get_or (by_seniority rights) i (omega (arith, length-by_seniority rights)))
 
--- an index at which a number stands
-has-index : (xs : List ℕ) (r : ℕ) → Has xs r → (i : ℕ) × (i < length xs) × (get_or xs i 0 ≡ r)
-has-index [] r h = absurd h
-has-index (x ∷ xs) r (inl is) = (0, omega arith, sym is)
-has-index (x ∷ xs) r (inr h) = let at = has-index xs r h in (suc at.0, (let l = at.1 in omega arith), at.2)
-
--- the first index at which a number stands, or the length
-index_in : List ℕ → ℕ → ℕ
-index_in xs r = position_or_len (λ x. x == r) xs
-
-index_in-below : (xs : List ℕ) (r : ℕ) → Has xs r → index_in xs r < length xs
-unfolding index_in
-index_in-below xs r h =
-    let at = has-index xs r h in let below = at.1 in
-    omega (arith, position_or_len-at_most (λ x. x == r) xs at.0 0 below (eq-eqb (get_or xs at.0 0) r at.2))
-
 get_or-index_in : (xs : List ℕ) (r : ℕ) → Has xs r → get_or xs (index_in xs r) 0 ≡ r
-unfolding index_in
-get_or-index_in xs r h = eqb-true (get_or xs (position_or_len (λ x. x == r) xs) 0) r
-    (passes_at_first (λ x. x == r) xs 0 (index_in-below xs r h))
+get_or-index_in xs r h =
+    eqb-true (get_or xs (index_in xs r) 0) r (passes_at_first (λ x. x == r) xs 0 (has_index xs r h))
 
 -- of two entries the one at the lower index is senior
 pub senior_by_index : (rights : List Right) (xs : List ℕ) (i j : ℕ) → IsOrdered rights xs → i < j → j < length xs →
@@ -104,7 +87,6 @@ senior_by_index rights (x ∷ xs) (suc i) (suc j) order h k =
 
 index_in-get_or : (rights : List Right) (xs : List ℕ) (i : ℕ) → IsOrdered rights xs → i < length xs →
     index_in xs (get_or xs i 0) ≡ i
-unfolding index_in
 index_in-get_or rights xs i order h = position_or_len_is (λ x. x == get_or xs i 0) xs i 0 (omega arith)
     (λ k l. ne_eqb (get_or xs k 0) (get_or xs i 0) (λ same. false≢true
     (sym (not_senior_to_same rights (get_or xs k 0) (get_or xs i 0) same) ∙ senior_by_index rights xs k i order l h)))
@@ -138,7 +120,7 @@ by_seniority_order rights strict = record {
   placed = λ i h. index_in-get_or rights (by_seniority rights) i (seniors_ordered rights strict)
       (omega (arith, length-by_seniority rights));
   in_range =
-      λ r h. (let b = index_in-below (by_seniority rights) r (seniors_have rights r h) in
+      λ r h. (let b = has_index (by_seniority rights) r (seniors_have rights r h) in
       omega (arith, length-by_seniority rights));
   each = λ r h. get_or-index_in (by_seniority rights) r (seniors_have rights r h);
   senior = λ r s h k. senior r s h k;
@@ -154,4 +136,4 @@ by_seniority_order rights strict = record {
         (sym (get_or-index_in (by_seniority rights) s second))
         ∙ senior-indices rights (by_seniority rights) (index_in (by_seniority rights) r)
         (index_in (by_seniority rights) s) (seniors_ordered rights strict)
-        (index_in-below (by_seniority rights) r first) (index_in-below (by_seniority rights) s second))
+        (has_index (by_seniority rights) r first) (has_index (by_seniority rights) s second))

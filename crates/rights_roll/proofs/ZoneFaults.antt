@@ -1,5 +1,5 @@
 -- Zones at fault.
-use Rattle.std.proofs.Common.{◌≡◌, ℕ, zero, suc, ◌+◌, ◌-◌, ◌<◌, ◌≤◌, Bool, true, false, cond, List, [], ◌∷◌, length}
+use Rattle.std.proofs.Common.{◌≡◌, ℕ, ◌+◌, ◌-◌, ◌<◌, ◌≤◌, Bool, true, false, cond, List, length}
 use Rattle.std.proofs.Common.{take, get_or, Option, Some, None, refl, sym, ap, ◌∙◌, arith, below_more}
 use Rattle.std.proofs.lemmas.List.Folds.{list_any_more}
 use Rattle.std.specs.Prelude.{nat_lt, not, ◌&&◌, ◌||◌, option_map}
@@ -7,7 +7,6 @@ use Rattle.std.specs.HashSet.{HashSet, contains, Updates}
 use Rattle.std.specs.List.{list_any}
 use Rattle.std.specs.declared.hash.FoldHasher.{FoldHasher}
 use Rattle.std.specs.declared.hash.BuildHasherDefault.{BuildHasherDefault}
-use Rattle.water_model.specs.Lookups.{of_entry}
 use Rattle.water_model.specs.Rights.{priority, is_zone_kind, is_senior_zone, is_zone_fault, has_zone_fault}
 use Rattle.water_model.specs.declared.types.Right.{Right}
 use Rattle.water_model.specs.declared.types.RightKind.{RightKind}
@@ -16,6 +15,7 @@ use Rattle.rights_roll.specs.RollFaults.{zone_fault}
 use Rattle.rights_roll.specs.Zones.{ZoneTable, same_zone, has_senior, AreSeniorZones}
 use Rattle.rights_roll.specs.declared.RollRefused.TheVariants.{ZoneOrder}
 use Rattle.water_model.proofs.Finds.{find_first, find_none}
+use Rattle.water_model.proofs.Lists.{entry_is}
 use Rattle.rights_roll.proofs.ZoneTables.{other_kind}
 
 -- a set of reservoirs and levels
@@ -28,13 +28,6 @@ pub record AreClear (rights : List Right) (seen : ZoneSet) (i : ℕ) : Type 0 wh
       contains same_zone seen (reservoir, level) ≡ list_any (λ r. is_zone_kind reservoir level r.kind) (take i rights)
   pub clear : (k : ℕ) → k < i → has_zone_fault rights k ≡ false
 
--- the entry at an index within the list
-pub of_entry-within : {X Y : Type 0} (xs : List X) (k : ℕ) (f : X → Y) (default : Y) (x : X) → k < length xs →
-    x ≡ get_or xs k x → of_entry xs k f default ≡ f x
-of_entry-within [] k f default x below is = absurd (omega arith)
-of_entry-within (y ∷ ys) zero f default x below is = ap f (sym is)
-of_entry-within (y ∷ ys) (suc k) f default x below is = of_entry-within ys k f default x (omega arith) is
-
 -- what decides whether a zone is at fault: its level is not new, or it lacks a senior zone
 pub has_zone_fault-is : {rights : List Right} {i : ℕ} {r : Right} {at its : ℕ} (zones : ZoneTable) {seen : ZoneSet}
     {key : List ℕ} {is_new lacks : Bool} → i < length rights →
@@ -42,7 +35,7 @@ pub has_zone_fault-is : {rights : List Right} {i : ℕ} {r : Right} {at its : �
     key ≡ priority r → is_new ≡ not (contains same_zone seen (at, its)) →
     lacks ≡ nat_lt 1 its && not (has_senior zones at (its - 1) key) → has_zone_fault rights i ≡ not is_new || lacks
 has_zone_fault-is {rights} {i} {r} {at} {its} zones {seen} below is kind seniors so_far same_key added known =
-    of_entry-within rights i (λ x. is_zone_fault rights (take i rights) (priority x) x.kind) false r below is
+    entry_is rights i r (λ x. is_zone_fault rights (take i rights) (priority x) x.kind) false below is
     ∙ (ap (is_zone_fault rights (take i rights) (priority r)) kind
     ∙ (ap (λ b. b || (nat_lt 1 its && not (list_any (is_senior_zone at (its - 1) (priority r)) rights)))
     (sym (so_far.levels at its))
@@ -111,5 +104,5 @@ clear-other {rights} {i} {r} below is apart so_far = record {
     no_fault (Zone at its) n = absurd (n at its refl)
 
     fine : has_zone_fault rights i ≡ false
-    fine = of_entry-within rights i (λ x. is_zone_fault rights (take i rights) (priority x) x.kind) false r below is
+    fine = entry_is rights i r (λ x. is_zone_fault rights (take i rights) (priority x) x.kind) false below is
         ∙ no_fault r.kind apart

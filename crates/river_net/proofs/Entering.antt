@@ -10,7 +10,7 @@ use Rattle.water_model.specs.Network.{head_in}
 use Rattle.water_model.specs.declared.types.Link.{Link}
 use Rattle.river_net.specs.GraphView.{GraphView}
 use Rattle.river_net.specs.Sorting.{AreEntering}
-use Rattle.river_net.proofs.Entries.{entry_is}
+use Rattle.water_model.proofs.Lists.{entry_is}
 
 -- before the first link all counts are 0
 pub entering_start : {g : GraphView} {counts : List ℕ} → counts ≡ replicate g.nodes 0 → AreEntering g 0 counts

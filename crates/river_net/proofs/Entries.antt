@@ -1,18 +1,10 @@
 -- What is read of the entries of a list.
-use Rattle.std.proofs.Common.{◌≡◌, ℕ, ◌<◌, List, length, refl, ap, get_or, arith}
-use Rattle.std.proofs.lemmas.Option.{slice_get_read}
+use Rattle.std.proofs.Common.{◌≡◌, ℕ, ◌<◌, List, length, ap, arith}
 use Rattle.std.specs.Prelude.{All, Some, slice_get, unwrap_or, option_map}
-use Rattle.water_model.specs.Lookups.{of_entry}
 use Rattle.water_model.specs.Network.{HasNodes, tail_in, head_in}
 use Rattle.water_model.specs.declared.types.Link.{Link}
 use Rattle.water_model.specs.declared.types.Node.{Node}
 use Rattle.water_model.proofs.Valid.{entry_holds}
-
--- what is said of an entry, where it was read
-pub entry_is : {X Y : Type 0} (xs : List X) (k : ℕ) (x : X) (f : X → Y) (default : Y) → k < length xs →
-    x ≡ get_or xs k x → of_entry xs k f default ≡ f x
-entry_is xs k x f default l read =
-    ap (λ o. unwrap_or (option_map f o) default) (slice_get_read xs (length xs) k x refl l read)
 
 -- what a link says where its entry is given
 pub tail_is : (links : List Link) (k : ℕ) (x : Link) → slice_get links k ≡ Some x → tail_in links k ≡ x.from

@@ -1,13 +1,15 @@
 -- A network is sound exactly where it has no fault.
 use Rattle.std.proofs.Common.{◌≡◌, ℕ, Bool, true, false, refl, sym, ◌∙◌, ap, subst, arith, List, length, inl, inr, cond}
 use Rattle.std.proofs.lemmas.Bool.{cases_Bool, and_parts, and_from, and_left, and_right, false_from_ne_true, false≢true}
-use Rattle.std.proofs.lemmas.Bool.{eqb-true, eq-eqb, ltb-true, ltb-false, not_from_true, not_from_false}
-use Rattle.std.proofs.lemmas.List.Sums.{fails_before_first, passes_at_first}
+use Rattle.std.proofs.lemmas.Bool.{eqb-true, eq-eqb, ltb-true, not_from_true, not_from_false}
+use Rattle.std.proofs.lemmas.List.Sums.{passes_at_first}
 use Rattle.std.proofs.lemmas.Option.{get_or_from_slice_get, slice_get_within}
 use Rattle.std.specs.Prelude.{◌==◌, ◌&&◌, not, nat_lt, Option, Some, None, All, option_map, unwrap_or, slice_get}
 use Rattle.std.specs.Prelude.{position}
 use Rattle.std.specs.List.{list_any, position_or_len}
 use Rattle.std.specs.Option.{option_or}
+use Rattle.water_text.proofs.Splits.{none_passes}
+use Rattle.water_model.proofs.Lists.{all_at}
 use Rattle.water_model.proofs.Valid.{entry_at}
 use Rattle.water_model.specs.Network.{walks, tail_in, head_in, is_river_in, is_river_kind, is_outlet_in, is_on_cycle}
 use Rattle.water_model.specs.Network.{HasNodes, HasRiverOut, IsSoundNetwork}
@@ -20,19 +22,6 @@ use Rattle.river_net.specs.declared.refused.NetRefused.TheVariants.{SelfLink, Li
 use Rattle.river_net.proofs.Entries.{ends_in, tail_is, head_is}
 use Rattle.water_model.proofs.Finds.{find_none, none_found}
 use Rattle.river_net.proofs.Walks.{any_index, index_any, walk_one, walk_within}
-
--- no entry passes where no index is found
-none_at : {X : Type 0} (p : X → Bool) (xs : List X) → position p xs ≡ None → (k : ℕ) (x : X) → slice_get xs k ≡ Some x →
-    p x ≡ false
-none_at {X} p xs none k x at = elim (cases_Bool (nat_lt (position_or_len p xs) (length xs))) [
-  | inl some ↦ absurd (found (sym (ap (λ t. cond t (Some (position_or_len p xs)) None) some) ∙ none))
-  | inr past ↦
-      (let within = slice_get_within xs k x at in let end = ltb-false (position_or_len p xs) (length xs) past in
-      ap p (sym (get_or_from_slice_get xs k x x at)) ∙ fails_before_first p xs k x (omega arith))
-]
-  where
-    found : {n : ℕ} → Some n ≡ None → ⊥
-    found h = cc
 
 -- where no entry passes, no index is found
 all_fail : {X : Type 0} (p : X → Bool) (xs : List X) → ((k : ℕ) (x : X) → slice_get xs k ≡ Some x → p x ≡ false) →
@@ -102,7 +91,9 @@ pub faultless_sound : (nodes : List Node) (links : List Link) → net_fault node
 unfolding net_fault first_without_river first_on_cycle
 faultless_sound nodes links h = record {
   outlets_end = λ e l. (let at = entry_at links e l in
-      ap (is_outlet_in nodes) (tail_is links e at.0 at.1) ∙ none_at (leaves_outlet nodes) links parts.1 e at.0 at.1);
+      ap (is_outlet_in nodes) (tail_is links e at.0 at.1)
+      ∙ all_at (λ l. leaves_outlet nodes l ≡ false) links e at.0
+      (none_passes (leaves_outlet nodes) links parts.1) at.1);
   rivers = λ v l inner. river_found links v (elim (cases_Bool (has_river links v)) [
     | inl some ↦ some
     | inr none ↦

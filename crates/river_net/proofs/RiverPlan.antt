@@ -4,22 +4,18 @@ use Rattle.std.proofs.Common.{length, inl, inr}
 use Rattle.std.proofs.lemmas.Bool.{cases_lt, cases_order, cases_Bool, false_from_ne_true, and_parts, and_from}
 use Rattle.std.proofs.lemmas.Bool.{eqb-true, eq-eqb, false≢true}
 use Rattle.std.proofs.lemmas.Bool.Decides.{nat_tests}
-use Rattle.std.specs.Prelude.{◌==◌, ◌&&◌, ◌^◌, nat_lt, nat_le, if◌then◌else◌, slice_index, slice_get, Option, Some}
-use Rattle.std.specs.Prelude.{None, unwrap_or, option_map}
+use Rattle.std.specs.Prelude.{◌==◌, ◌&&◌, nat_lt, nat_le, if◌then◌else◌, slice_index}
 use Rattle.finite_sums.specs.Sums.{total, total_where}
 use Rattle.finite_sums.proofs.Totals.{total_same, total_zero, total_add, total_at, total_pick, total_le}
 use Rattle.finite_sums.proofs.Totals.{count_less, index_counted}
-use Rattle.water_model.specs.Network.{tail_in, head_in, is_outlet_in, is_river_in, is_river_kind, IsForward}
+use Rattle.water_model.specs.Network.{tail_in, head_in, is_outlet_in, is_river_in, IsForward}
 use Rattle.water_model.specs.Network.{IsSoundNetwork, HasRiverOut}
 use Rattle.water_model.specs.RunOfRiver.{IsFirstRiver, RunsNaturally, water_at}
 use Rattle.water_model.specs.declared.types.Link.{Link}
 use Rattle.water_model.specs.declared.types.Node.{Node}
 use Rattle.water_model.specs.Basin.{takes_at}
-use Rattle.water_model.specs.Plans.{carry_of, carry_of_kind}
-use Rattle.water_text.specs.declared.month.Month.{Month}
-use Rattle.water_model.specs.declared.types.Basin.{Basin}
-use Rattle.water_model.specs.declared.types.Carry.{Carry}
-use Rattle.water_model.specs.declared.types.Carry.TheVariants.{River, Canal}
+use Rattle.water_model.specs.Plans.{carry_of}
+use Rattle.water_model.proofs.Carries.{river_carry}
 use Rattle.water_model.proofs.Valid.{ends}
 use Rattle.water_model.proofs.Sets.{grouped, total_where_add}
 use Rattle.river_net.specs.Firsts.{IsWithin}
@@ -178,19 +174,6 @@ river_small nodes links rank supply flow out within sound forward run e below =
         at_most true x = omega arith
         at_most false x = omega arith
 
--- a river carries 10^15
-river_carry : (b : Basin) (month : Month) (e : ℕ) → IsFirstRiver b.links e → carry_of b month e ≡ 10 ^ 15
-river_carry b month e first = of_carry (slice_get b.links e) first.river
-  where
-    of_kind : (c : Carry) → is_river_kind c ≡ true → carry_of_kind c month ≡ 10 ^ 15
-    of_kind River h = refl
-    of_kind (Canal per_day shut) h = absurd (false≢true h)
-
-    of_carry : (o : Option Link) → unwrap_or (option_map (λ (l : Link). is_river_kind l.carry) o) false ≡ true →
-        unwrap_or (option_map (λ (l : Link). carry_of_kind l.carry month) o) 0 ≡ 10 ^ 15
-    of_carry None h = absurd (false≢true h)
-    of_carry (Some l) h = of_kind l.carry h
-
 -- the run of the river keeps the balance, carries and wants of a plan
 pub river_is_plan : RunOfRiverIsPlan
 river_is_plan b month supply want p valid bounded natural = record {
@@ -216,5 +199,5 @@ river_is_plan b month supply want p valid bounded natural = record {
       | inl more ↦ (let some = dry (λ first. let numbers = forward_numbers b.nodes b.links within valid.network in
           let small = river_small b.nodes b.links numbers.rank supply p.flow p.out within valid.network numbers.forward
           natural.run e l in
-          let carry = river_carry b month e first in absurd (omega arith)) in absurd (omega arith))
+          let carry = river_carry b month e first.river in absurd (omega arith)) in absurd (omega arith))
     ]

@@ -1,35 +1,17 @@
 -- A plan whose water was sent down rivers.
-use Rattle.std.proofs.Common.{ℕ, ◌≡◌, ◌^◌, ◌<◌, ◌≤◌, Bool, true, false, List, length, slice_index, ap, arith, ◌∙◌}
+use Rattle.std.proofs.Common.{ℕ, ◌≡◌, ◌<◌, ◌≤◌, Bool, true, false, List, length, slice_index, arith, ◌∙◌}
 use Rattle.std.proofs.Common.{inl, inr, subst, sym, refl}
-use Rattle.std.specs.Prelude.{Option, Some, None, unwrap_or, option_map}
+use Rattle.std.specs.Prelude.{Option, Some, None}
 use Rattle.water_model.specs.Basin.{instream_link, is_river}
-use Rattle.water_model.specs.Network.{is_river_kind}
-use Rattle.water_model.specs.Plans.{IsPlan, IsGreatest, DeliversSame, carry_of, carry_of_kind, delivery}
+use Rattle.water_model.specs.Plans.{IsPlan, IsGreatest, DeliversSame, carry_of, delivery}
 use Rattle.water_model.specs.Plans.{delivery_by_link}
 use Rattle.water_text.specs.declared.month.Month.{Month}
 use Rattle.water_model.specs.declared.types.Basin.{Basin}
-use Rattle.water_model.specs.declared.types.Carry.{Carry}
-use Rattle.water_model.specs.declared.types.Carry.TheVariants.{River, Canal}
 use Rattle.water_model.specs.declared.types.Plan.{Plan}
 use Rattle.water_model.specs.Valid.{IsValidBasin}
-use Rattle.water_model.proofs.Valid.{entry_at}
+use Rattle.water_model.proofs.Carries.{river_carry}
 use Rattle.rivers_first.specs.Sent.{IsSent, KeepsInstream}
 use Rattle.rivers_first.proofs.Kept.{keeps_right, link_in}
-
--- what a river carries
-river_carry : (b : Basin) (month : Month) (e : ℕ) → e < length b.links → is_river b e ≡ true →
-    carry_of b month e ≡ 10 ^ 15
-river_carry b month e l river =
-    let entry = entry_at b.links e l in
-    let kind : is_river b e ≡ is_river_kind entry.0.carry =
-    ap (λ o. unwrap_or (option_map (λ x. is_river_kind x.carry) o) false) entry.1 in
-    let carry : carry_of b month e ≡ carry_of_kind entry.0.carry month =
-    ap (λ o. unwrap_or (option_map (λ x. carry_of_kind x.carry month) o) 0) entry.1 in
-    carry ∙ by_kind entry.0.carry (sym kind ∙ river)
-  where
-    by_kind : (c : Carry) → is_river_kind c ≡ true → carry_of_kind c month ≡ 10 ^ 15
-    by_kind River h = refl
-    by_kind (Canal per_day shut) h = let never : false ≡ true = h in cc
 
 abbrev pub with_flow : Plan → List ℕ → Plan
 with_flow p flow = record p { flow = flow }
@@ -49,7 +31,7 @@ sent_plan b month supply want kept flow p plan sent = record {
 }
   where
     carries : (e : ℕ) → e < length b.links → (t : Bool) → is_river b e ≡ t → slice_index flow e ≤ carry_of b month e
-    carries e l true river = omega (arith, sent.within.high e l, river_carry b month e l river)
+    carries e l true river = omega (arith, sent.within.high e l, river_carry b month e river)
     carries e l false canal = omega (arith, sent.canals e l canal, plan.carries e l)
 
 -- it delivers no less

@@ -75,7 +75,8 @@ searched_index xs x r up h = by_result r (searched xs x r h no_less)
       | inr after ↦ omega (arith, missing.2 k after l)
     ]) (λ l. absurd (omega arith))
 
-has_index : (xs : List ℕ) (x : ℕ) → Has xs x → index_in xs x < length xs
+-- a number that a list has stands within it
+pub has_index : (xs : List ℕ) (x : ℕ) → Has xs x → index_in xs x < length xs
 has_index [] x h = absurd h
 has_index (y ∷ ys) x h = elim (cases_Bool (y == x)) [
   | inl e ↦ rw e (omega arith)

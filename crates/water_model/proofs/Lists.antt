@@ -1,12 +1,13 @@
 -- Entries and prefixes of lists, and the prefix of a partial history.
-use Rattle.std.proofs.Common.{◌≡◌, ℕ, zero, suc, ◌+◌, ◌<◌, ◌≤◌, refl, sym, ap, subst, ◌∙◌, arith, List, [], ◌∷◌, ◌++◌}
-use Rattle.std.proofs.Common.{length, take, drop, replicate, inl, inr, Some}
-use Rattle.std.specs.Prelude.{◌≢◌, slice_get, slice_index, All}
+use Rattle.std.proofs.Common.{◌≡◌, ℕ, zero, suc, ◌+◌, ◌<◌, refl, sym, ap, subst, ◌∙◌, arith, List, [], ◌∷◌, ◌++◌}
+use Rattle.std.proofs.Common.{length, take, drop, replicate, get_or, inl, inr, Some}
+use Rattle.std.specs.Prelude.{◌≢◌, slice_get, slice_index, All, option_map, unwrap_or}
 use Rattle.std.proofs.lemmas.Bool.{cases_order}
-use Rattle.std.proofs.lemmas.List.{length-take, take_at}
-use Rattle.std.proofs.lemmas.Option.{get_or_from_slice_get, slice_get_within}
+use Rattle.std.proofs.lemmas.List.{length-take, take-take, take_at}
+use Rattle.std.proofs.lemmas.Option.{get_or_from_slice_get, slice_get_read, slice_get_within}
 use Rattle.water_model.specs.History.{Follows, IsPartialHistory}
 use Rattle.water_model.specs.Indices.{numbers_from}
+use Rattle.water_model.specs.Lookups.{of_entry}
 use Rattle.water_model.specs.declared.types.Basin.{Basin}
 use Rattle.water_model.specs.declared.types.Inflows.{Inflows}
 use Rattle.water_model.specs.declared.types.MonthRecord.{MonthRecord}
@@ -14,6 +15,12 @@ use Rattle.water_model.specs.declared.types.MonthRecord.{MonthRecord}
 -- what holds of all holds of the entry at an index
 pub all_at : {X : Type 0} (P : X → Type 0) (xs : List X) (k : ℕ) (x : X) → All P xs → slice_get xs k ≡ Some x → P x
 all_at P xs k x h e = subst P (get_or_from_slice_get xs k x x e) (h k x (slice_get_within xs k x e))
+
+-- what is said of an entry, where it was read
+pub entry_is : {X Y : Type 0} (xs : List X) (k : ℕ) (x : X) (f : X → Y) (default : Y) → k < length xs →
+    x ≡ get_or xs k x → of_entry xs k f default ≡ f x
+entry_is xs k x f default l read =
+    ap (λ o. unwrap_or (option_map f o) default) (slice_get_read xs (length xs) k x refl l read)
 
 -- an entry, where more stands after
 pub get_before : {X : Type 0} (xs ys : List X) (k : ℕ) (x : X) → slice_get xs k ≡ Some x →
@@ -35,16 +42,6 @@ get_prefix [] (suc i) j x h = cc
 get_prefix (y ∷ ys) zero j x h = cc
 get_prefix (y ∷ ys) (suc i) zero x h = (omega arith, h)
 get_prefix (y ∷ ys) (suc i) (suc j) x h = let r = get_prefix ys i j x h in (omega (arith, r.0), r.1)
-
--- the prefix of a prefix
-pub take_prefix : {X : Type 0} (xs : List X) (i j : ℕ) → j ≤ i → take j (take i xs) ≡ take j xs
-take_prefix [] zero zero l = refl
-take_prefix (y ∷ ys) zero zero l = refl
-take_prefix xs zero (suc j) l = absurd (omega arith)
-take_prefix [] (suc i) zero l = refl
-take_prefix [] (suc i) (suc j) l = refl
-take_prefix (y ∷ ys) (suc i) zero l = refl
-take_prefix (y ∷ ys) (suc i) (suc j) l = ap (λ zs. y ∷ zs) (take_prefix ys i j (omega arith))
 
 -- a list that is written over from end to end
 pub whole_rows : {X : Type 0} (old prefix : List X) → length prefix ≡ length old →
@@ -81,6 +78,6 @@ pub prefix_partial : (b : Basin) (series : Inflows) (records : List MonthRecord)
 prefix_partial b series records i h = record {
   within = omega (arith, length-take i records, h.within);
   each = λ j m e. (let r = get_prefix records i j m e in
-      subst (λ (xs : List MonthRecord). Follows b series xs m) (sym (take_prefix records i j (omega (arith, r.0))))
+      subst (λ (xs : List MonthRecord). Follows b series xs m) (sym (take-take j i records (omega (arith, r.0))))
       (h.each j m r.1));
 }

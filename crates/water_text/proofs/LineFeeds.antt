@@ -1,29 +1,14 @@
 -- The first line feed of a piece.
 use Rattle.std.proofs.Common.{◌≡◌, ℕ, ◌+◌, ◌-◌, ◌<◌, ◌≤◌, Bool, true, false, refl, sym, ap, ◌∙◌, arith, List, ◌∷◌, ◌++◌}
-use Rattle.std.proofs.Common.{length, get_or, take, drop, min, Some, None, cond, inr, get_or-take, length-append}
+use Rattle.std.proofs.Common.{length, get_or, take, drop, min, Some, None, inr, get_or-take, length-append}
 use Rattle.std.proofs.Common.{length-take, take-append-drop}
-use Rattle.std.specs.Prelude.{nat_eq, nat_lt}
-use Rattle.std.specs.List.{position, position_or_len}
+use Rattle.std.specs.Prelude.{nat_eq}
+use Rattle.std.specs.List.{position}
 use Rattle.std.proofs.lemmas.Bool.Decides.{nat_tests}
 use Rattle.std.proofs.lemmas.List.{drop_more, length-take-le, take-take, take_all}
 use Rattle.std.proofs.lemmas.List.Quantifiers.{position-Some}
-use Rattle.std.proofs.lemmas.List.Sums.{fails_before_first}
-use Rattle.water_text.specs.LinesIn.{HasNoFeed, Takes, TakesToFeed, is_feed}
-
--- where none is found, there is none
-pub no_feed : (xs : List ℕ) → position is_feed xs ≡ None → HasNoFeed xs
-no_feed xs h = by_test (nat_lt first (length xs)) refl h
-  where
-    first : ℕ
-    first = position_or_len is_feed xs
-
-    past : (x y : ℕ) → nat_lt x y ≡ false → y ≤ x
-    past x y e = grind (arith, nat_tests)
-
-    by_test : (t : Bool) → nat_lt first (length xs) ≡ t → cond t (Some first) None ≡ None → HasNoFeed xs
-    by_test true e k = cc
-    by_test false e k = λ i d l.
-        let all : length xs ≤ first = past first (length xs) e in fails_before_first is_feed xs i d (omega arith)
+use Rattle.water_text.specs.LinesIn.{Takes, TakesToFeed, is_feed}
+use Rattle.water_text.proofs.Splits.{none_passes}
 
 -- where one is found in the prefix of a piece, the bytes before it are taken, and it
 pub takes_to_feed : (old new piece : List ℕ) (most at : ℕ) → position is_feed (take most piece) ≡ Some at →
@@ -86,7 +71,7 @@ takes_prefix old new piece len most h len_is room most_is held =
     by_room : (t : Bool) → nat_eq (len + length (take most piece)) 129 ≡ t →
         Takes t old new piece (length (take most piece))
     by_room true e = inr (record {
-      no_feed = rw counted (no_feed (take most piece) h);
+      no_feed = rw counted (none_passes is_feed (take most piece) h);
       held = rw counted held;
       full = length_is ∙ same (len + length (take most piece)) 129 e;
     })
@@ -97,7 +82,7 @@ takes_prefix old new piece len most h len_is room most_is held =
         let whole : take most piece ≡ piece = take_all most piece (omega arith) in
         record {
           all = counted ∙ all;
-          no_feed = rw whole at (no_feed (take most piece) h);
+          no_feed = rw whole at (none_passes is_feed (take most piece) h);
           held = held ∙ ap (λ xs. old ++ xs) whole;
           short = omega (arith, length_is, counted, not_full);
         }

@@ -1,11 +1,12 @@
 -- Lists that are cut where an element passes a test.
-use Rattle.std.proofs.Common.{◌≡◌, ℕ, ◌+◌, ◌-◌, ◌≤◌, Bool, true, false, refl, sym, ap, ◌∙◌, arith, List, [], ◌∷◌}
-use Rattle.std.proofs.Common.{length, take, drop, Some, None, cond}
+use Rattle.std.proofs.Common.{◌≡◌, ℕ, ◌+◌, ◌-◌, Bool, true, false, refl, sym, ap, ◌∙◌, arith, List, [], ◌∷◌}
+use Rattle.std.proofs.Common.{length, take, drop, All, Some, None, cond}
 use Rattle.std.specs.Prelude.{nat_lt}
 use Rattle.std.specs.List.{slice_split, onto_first, position, position_or_len}
 use Rattle.std.proofs.lemmas.Bool.{ltb-false, ltb-true}
 use Rattle.std.proofs.lemmas.List.{take_rest}
-use Rattle.std.proofs.lemmas.List.Splits.{slice_split_first}
+use Rattle.std.proofs.lemmas.List.Splits.{slice_split_first, slice_split_none}
+use Rattle.std.proofs.lemmas.List.Sums.{fails_before_first}
 
 -- a list has a piece
 pub some_piece : (p : ℕ → Bool) (bytes : List ℕ) → (piece : List ℕ) × (pieces : List (List ℕ)) ×
@@ -19,27 +20,21 @@ some_piece p (c ∷ cs) = by_test (p c) (slice_split p cs)
     by_test false [] = (c ∷ [], [], refl)
     by_test false (part ∷ parts) = (c ∷ part, parts, refl)
 
+-- no element passes where no index is found
+pub none_passes : {X : Type 0} (p : X → Bool) (xs : List X) → position p xs ≡ None → All (λ x. p x ≡ false) xs
+none_passes p xs h = by_test (nat_lt first (length xs)) refl h
+  where
+    first : ℕ
+    first = position_or_len p xs
+
+    by_test : (t : Bool) → nat_lt first (length xs) ≡ t → cond t (Some first) None ≡ None → All (λ x. p x ≡ false) xs
+    by_test true e k = cc
+    by_test false e k = λ i d l.
+        let all = ltb-false first (length xs) e in fails_before_first p xs i d (omega arith)
+
 -- without an element at which it is cut, a list is the one piece
-uncut : {X : Type 0} (p : X → Bool) (xs : List X) → length xs ≤ position_or_len p xs → slice_split p xs ≡ xs ∷ []
-uncut p [] h = refl
-uncut p (x ∷ xs) h = by_test (p x) refl (uncut p xs)
-  where
-    by_test : (t : Bool) → p x ≡ t → (length xs ≤ position_or_len p xs → slice_split p xs ≡ xs ∷ []) →
-        slice_split p (x ∷ xs) ≡ (x ∷ xs) ∷ []
-    by_test true e further = let here : position_or_len p (x ∷ xs) ≡ 0 = rw e refl in absurd (omega arith)
-    by_test false e further =
-        let here : position_or_len p (x ∷ xs) ≡ 1 + position_or_len p xs = rw e refl in
-        rw (e, further (omega arith)) refl
-
 pub split-whole : {X : Type 0} (p : X → Bool) (xs : List X) → position p xs ≡ None → slice_split p xs ≡ xs ∷ []
-split-whole p xs h = uncut p xs (by_test (nat_lt at (length xs)) refl h)
-  where
-    at : ℕ
-    at = position_or_len p xs
-
-    by_test : (t : Bool) → nat_lt at (length xs) ≡ t → cond t (Some at) None ≡ None → length xs ≤ at
-    by_test true e h = cc
-    by_test false e h = ltb-false at (length xs) e
+split-whole p xs h = slice_split_none p xs (none_passes p xs h)
 
 -- with one, the first piece ends there
 pub split-cut : (p : ℕ → Bool) (xs : List ℕ) (at : ℕ) → position p xs ≡ Some at →

@@ -38,7 +38,7 @@ impl Model for LineIn {
 }
 
 /// The index of the first line feed.
-fn first_feed(piece: &[u8]) -> Option<usize>
+pub fn first_feed(piece: &[u8]) -> Option<usize>
     ensures { result ≡ position is_feed piece.now }
 {
     piece.iter().position(|byte| *byte == b'\n')

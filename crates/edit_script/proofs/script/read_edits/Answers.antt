@@ -5,7 +5,7 @@ use Rattle.std.proofs.lemmas.Result.{err_from_is_err_and}
 use Rattle.std.specs.Str.{bytes_eq}
 use Rattle.edit_script.specs.Edits.{IsValidEdit}
 use Rattle.edit_script.specs.declared.edit.Edit.{Edit}
-use Rattle.edit_script.proofs.Reading.{answered, early_end, end_taken, line_refused, line_taken, refusal_of}
+use Rattle.edit_script.proofs.Reading.{after_more, answered, early_end, end_taken, line_taken, refusal_of}
 use Rattle.edit_script.proofs.script.read_edits.Goals as goal
 
 pub returns-then-eq-clause-reads : goal.returns-then-eq-clause-reads
@@ -21,7 +21,7 @@ returns-in_err-edit-clause-reads c =
     let p = err_from_is_err_and c.from_residual.result c.from_residual.ensures.1 in
     rw (p.1, p.2)
     (refusal_of _ _
-    (line_refused _ _ _ c.loop-line.edits.items _ c.loop-line.rest.now _ c.in-Some.after.now _
+    (line_taken _ _ _ c.loop-line.edits.items _ c.loop-line.rest.now _ c.in-Some.after.now _
     c.loop-line.invariant.so_far c.in-Some.ensures.some
     (sym (ap (bytes_eq c.in-Some.line.now) c.as_slice.ensures) ∙ (sym c.eq.ensures ∙ c.if-eq.false))
     c.in_err-edit.ensures.reads))
@@ -34,7 +34,7 @@ loop-line-preserved c =
           (line_taken _ _ _ c.loop-line.edits.items _ c.loop-line.rest.now _ c.in-Some.after.now _
           c.loop-line.invariant.so_far c.in-Some.ensures.some
           (sym (ap (bytes_eq c.in-Some.line.now) c.as_slice.ensures) ∙ (sym c.eq.ensures ∙ c.if-eq.false))
-          c.in_ok-edit.ensures.reads);
+          c.in_ok-edit.ensures.reads ∙ after_more c.loop-line.edits.items c.in_ok-edit.edit _);
       placed = subst (λ (es : List Edit). All (IsValidEdit c.args.names.now.basin.now c.args.series.now) es) (sym items)
           (All-push (IsValidEdit c.args.names.now.basin.now c.args.series.now) c.loop-line.edits.items c.in_ok-edit.edit
           c.loop-line.invariant.placed c.in_ok-edit.ensures.placed);

@@ -1,5 +1,6 @@
 use Rattle.std.proofs.Common.{◌≡◌, ℕ, ◌∙◌, ◌+◌, ◌-◌, ◌≤◌, sym, ap, arith, length, subst, take, List}
 use Rattle.std.proofs.Math.Seq.{take-length}
+use Rattle.std.proofs.lemmas.List.{take-take}
 use Rattle.water_model.specs.declared.types.Basin.{Basin}
 use Rattle.water_model.specs.declared.types.Inflows.{Inflows}
 use Rattle.water_model.specs.declared.types.MonthRecord.{MonthRecord}
@@ -8,7 +9,6 @@ use Rattle.month_fold.specs.Works.{Solves, WorkDone}
 use Rattle.month_fold.proofs.Works.{Solves-none, Solves-then, Solves-within}
 use Rattle.month_fold.proofs.Resuming.{have_deliveries, stored_count, state_use}
 use Rattle.edit_session.specs.Sessions.{HasKeptMonths, records_of}
-use Rattle.water_model.proofs.Lists.{take_prefix}
 use Rattle.edit_session.proofs.solving.solve_months.Goals as goal
 
 -- one month more
@@ -82,7 +82,7 @@ loop-index-preserved g c = record {
   stands = c.in_ok-add_month.ensures.stands;
   count = c.in_ok-add_month.ensures.count ∙ ap (λ n. n + 1) c.loop-index.invariant.count;
   stay =
-      sym (take_prefix c.add_month.new.kept.items c.loop-index.kept.len c.args.kept.now.len (omega arith))
+      sym (take-take c.args.kept.now.len c.loop-index.kept.len c.add_month.new.kept.items (omega arith))
       ∙ ap (take c.args.kept.now.len) c.in_ok-add_month.ensures.stay ∙ c.loop-index.invariant.stay;
   work =
       solves_more c.args.engine.now.basin c.args.work.now c.loop-index.work c.add_month.new.work c.loop-index.index

@@ -1,7 +1,8 @@
 use Rattle.std.proofs.Common.{◌∙◌, refl, sym, ap, get_or, None, is_some}
 use Rattle.std.specs.Prelude.{slice_set, Some}
+use Rattle.water_model.proofs.RunMonths.{months_have_their_index}
 use Rattle.inflow_file.proofs.DueLaws.{outside_is, repeated_is, entered_is}
-use Rattle.inflow_file.proofs.RunLaws.{month_inside, month_outside}
+use Rattle.inflow_file.proofs.RunLaws.{month_outside}
 use Rattle.inflow_file.proofs.cells.enter.Goals as goal
 
 pub returns-in_default : goal.returns-in_default
@@ -11,7 +12,8 @@ returns-in_default c =
 
 pub returns-then-is_some : goal.returns-then-is_some
 returns-then-is_some c = λ earlier is.
-    let inside = month_inside _ _ _ c.requires.basin c.requires.entry.month (sym c.in-Some.ensures.value) in (
+    let inside = (months_have_their_index _ _ _ c.requires.basin c.requires.entry.month).0
+    (sym c.in-Some.ensures.value) in (
       refl,
       sym (repeated_is _ _ _ _ _ c.requires.entry inside.0 inside.1 is)
           ∙ (ap (λ k. is_some (get_or c.args.amounts.now k None)) (sym c.cell_of-cell.ensures.cell)
@@ -20,7 +22,8 @@ returns-then-is_some c = λ earlier is.
 
 pub returns : goal.returns
 returns c = λ earlier is.
-    let inside = month_inside _ _ _ c.requires.basin c.requires.entry.month (sym c.in-Some.ensures.value) in
+    let inside = (months_have_their_index _ _ _ c.requires.basin c.requires.entry.month).0
+    (sym c.in-Some.ensures.value) in
     let h = entered_is _ _ _ _ _ c.requires.basin.run.first c.requires.entry inside.0 inside.1 is
     (ap (λ k. is_some (get_or c.args.amounts.now k None)) (sym c.cell_of-cell.ensures.cell)
     ∙ sym c.if-is_some.ensures) in

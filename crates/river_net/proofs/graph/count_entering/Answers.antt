@@ -1,7 +1,7 @@
 use Rattle.std.proofs.Common.{ℕ, List, ◌≡◌, ◌<◌, arith, length, get_or}
 use Rattle.water_model.specs.declared.types.Link.{Link}
 use Rattle.river_net.specs.Firsts.{IsWithin}
-use Rattle.river_net.proofs.Entries.{entry_is}
+use Rattle.water_model.proofs.Lists.{entry_is}
 use Rattle.river_net.proofs.Entering.{entering_start, entering_next, entering_small}
 use Rattle.river_net.proofs.graph.count_entering.Goals as goal
 

@@ -34,13 +34,7 @@ returns-in_err-check_parts-clause-refused c =
     c.in_err-check_parts.ensures.refused
 
 pub returns-clause-ok : goal.returns-clause-ok
-returns-clause-ok c = record {
-  order = c.in_ok-order.ensures.order;
-  wants = c.in_ok-wants.ensures;
-  firsts = c.in_ok-first_on.ensures.firsts;
-  nexts = c.in_ok-first_on.ensures.nexts;
-  others = c.in_ok-first_on.ensures.others;
-}
+returns-clause-ok c = assumption (c.in_ok-order.ensures, c.in_ok-wants.ensures, c.in_ok-first_on.ensures)
 
 pub returns-clause-faultless : goal.returns-clause-faultless
 unfolding roll_fault

@@ -3,7 +3,8 @@ use Rattle.std.proofs.lemmas.List.{get_or_default}
 use Rattle.std.specs.Prelude.{None}
 use Rattle.water_model.specs.declared.types.Link.{Link}
 use Rattle.river_net.specs.Firsts.{IsWithin}
-use Rattle.river_net.proofs.Entries.{entry_is, ends_in}
+use Rattle.water_model.proofs.Lists.{entry_is}
+use Rattle.river_net.proofs.Entries.{ends_in}
 use Rattle.river_net.proofs.FirstLinks.{leaving_next}
 use Rattle.river_net.proofs.graph.Graph.build.Goals as goal
 

@@ -1,7 +1,7 @@
 use Rattle.std.proofs.Common.{sym, ◌∙◌}
 use Rattle.std.specs.Prelude.{◌==◌}
 use Rattle.water_text.proofs.Splits.{split-cut, split-whole}
-use Rattle.edit_script.proofs.feeds.first_line.Goals as goal
+use Rattle.edit_script.proofs.script.first_line.Goals as goal
 
 pub returns-in-Some-clause-some : goal.returns-in-Some-clause-some
 returns-in-Some-clause-some c =
