@@ -2,14 +2,12 @@
 use Rattle.std.proofs.Common.{◌≤◌, ◌-◌, ℕ, Bool, ◌≡◌, ◌+◌, ◌*◌, ◌<◌, slice_index, arith}
 use Rattle.std.proofs.Common.{inl, inr, IsTrue, ◌↔◌, false}
 use Rattle.std.proofs.lemmas.Bool.{cases_eq, both_ways}
-use Rattle.circulation.specs.Network.{IsFlow}
-use Rattle.circulation.specs.Contents.{Contents, network, flow_of, arcs, IsCirculation}
-use Rattle.circulation.specs.Residual.{IsPushed}
-use Rattle.augment.specs.Search.{IsClosed, HasTree, SameButScratch}
-use Rattle.augment.specs.Raised.{IsReached, open_arcs, HasPathOut, IsGreatestCut, position_of, SameButFlow, not_reached}
-use Rattle.augment.proofs.Trees.{tight_cut, greatest_cut}
+use Rattle.circulation.specs.Network.{IsFlow, IsGreatestCut}
+use Rattle.circulation.specs.Contents.{Contents, network, flow_of, arcs, IsCirculation, SameButScratch, SameButFlow}
+use Rattle.augment.specs.Search.{IsClosed, HasTree}
+use Rattle.augment.specs.Raised.{IsReached, open_arcs, HasPathOut, position_of, not_reached}
+use Rattle.augment.proofs.Trees.{greatest_cut}
 use Rattle.augment.proofs.Rises.{remaining_rise}
-use Rattle.augment.proofs.Visits.{arc-forward, way-forward}
 
 -- the answer that the tail was not reached
 pub missed : (c : Contents) {d : Contents} (r : ℕ) {tail : ℕ} {answer : Bool} → SameButScratch c d →
@@ -25,32 +23,16 @@ pub stopped_cut : (c : Contents) {d : Contents} {r size : ℕ} → r < arcs c �
     HasPathOut (network c) r → IsCirculation d → HasTree d r 1 size → position_of d (slice_index c.from r) ≡ 0 →
     IsClosed (network c) (flow_of c) r 1 (position_of d) → IsGreatestCut (network c) (flow_of c) r (not_reached d)
 stopped_cut c b rest way kept t none closed =
-    let ends = rw rest at kept.ends in
-    let flow = rw rest at kept.flow in
-    let tree = rw rest at t in
-    rw rest record {
-      tight = tight_cut b ends flow way tree closed none;
-      greatest = greatest_cut b ends flow tree;
-    }
-
--- the first step of the walk goes over the arc itself
-pub pushed_first : (old new step : ℕ → ℕ) (first last amount r : ℕ) → IsPushed old new step first last amount →
-    first < last → step first ≡ 2 * r → new r ≡ old r + amount
-pushed_first old new step first last amount r p b is =
-    let arc = arc-forward r (step first) is in
-    let way = way-forward r (step first) is in
-    let on = p.on first (omega arith) b in
-    let done = rw (arc, way) at on in
-    omega (arith, done)
+    rw rest (greatest_cut b (rw rest at kept.ends) (rw rest at kept.flow) way (rw rest at t) closed none)
 
 -- a flow within the bounds of before
 pub flow_over : (c : Contents) {d : Contents} → SameButFlow c d → IsCirculation d → IsFlow (network c) (flow_of d)
 flow_over c rest kept = rw rest at kept.flow
 
 -- a search that misses the tail bounds how much the flow can still rise
-pub stopped_rise : (c : Contents) {d : Contents} {r least size : ℕ} → r < arcs c → 0 < least → SameButScratch c d →
+pub stopped_rise : (c : Contents) {d : Contents} {r least size : ℕ} → r < arcs c → SameButScratch c d →
     IsCirculation d → HasTree d r least size → position_of d (slice_index c.from r) ≡ 0 →
     IsClosed (network c) (flow_of c) r least (position_of d) → (h : ℕ → ℕ) → IsFlow (network c) h →
     h r ≤ flow_of c r + open_arcs (network c) * (least - 1)
-stopped_rise c b some rest kept t none closed h fh =
-    remaining_rise b some (rw rest at kept.ends) (rw rest at kept.flow) fh (rw rest at t) closed none
+stopped_rise c b rest kept t none closed h fh =
+    remaining_rise b (rw rest at kept.ends) (rw rest at kept.flow) fh (rw rest at t) closed none

@@ -1,17 +1,18 @@
 -- How much a flow can still rise when a search over rooms of at least `least` is done.
 use Rattle.std.proofs.Common.{ℕ, min, ◌^◌, ◌/◌, zero, suc, Bool, true, false, not, nat_lt, ◌==◌, ◌&&◌, ◌≡◌, ◌≢◌, ◌+◌}
-use Rattle.std.proofs.Common.{◌-◌, ◌*◌, ◌<◌, ◌≤◌, refl, arith, ap, inl, inr, ◌∙◌, add-one}
+use Rattle.std.proofs.Common.{◌⊎◌, ◌-◌, ◌*◌, ◌<◌, ◌≤◌, refl, arith, ap, inl, inr, ◌∙◌, add-one}
 use Rattle.std.proofs.Math.Nat.{mul-le-mul_left, mul-le-mul_right, pow-suc}
 use Rattle.std.proofs.Math.Pow.{pow_mono}
-use Rattle.std.proofs.lemmas.Bool.{eqb-false, lt-ltb, le-ltb, ltb-true, not-true, cases_lt, cases_eq}
-use Rattle.std.proofs.lemmas.Bool.{and_from, and_parts, and_right, and_left, both_ways}
+use Rattle.std.proofs.lemmas.Bool.{eqb-false, lt-ltb, not-true, cases_lt, cases_eq, and_from, and_parts, both_ways}
+use Rattle.std.proofs.lemmas.Bool.Decides.{nat_tests}
 use Rattle.finite_sums.specs.Sums.{total, when}
 use Rattle.circulation.specs.Network.{Network, IsFlow, HasEnds, enters, leaves}
 use Rattle.finite_sums.proofs.Totals.{total_le, total_add, term_le_total}
 use Rattle.augment.specs.Raised.{open_arcs}
 use Rattle.augment.specs.Search.{IsTree, IsClosed}
-use Rattle.augment.proofs.Cuts.{crossing, without}
-use Rattle.augment.proofs.Trees.{head_reached, in_basin, crosses, nearly_full, nearly_empty, nearly_tight}
+use Rattle.circulation.proofs.Cuts.{crossing, without}
+use Rattle.circulation.proofs.Unmarked.{unmarked, in_basin, crosses, nearly_tight}
+use Rattle.augment.proofs.Trees.{shut_from}
 
 -- a number for each index that passes
 total-counted : (n d : ℕ) (p : ℕ → Bool) → total n (λ k. when (p k) d) ≡ total n (λ k. when (p k) 1) * d
@@ -93,51 +94,52 @@ rise_over w r d along against g h inner outer b own fg fh apart cross_g cross_h 
       total-counted w.arcs d (λ a. nat_lt 0 (w.upper a)),
     )
 
--- a node that is not a reached basin node was not reached
-inside_not : (nodes : ℕ) (position : ℕ → ℕ) (v : ℕ) → v ≤ nodes → position nodes ≡ 0 →
+-- the test of a reached basin node
+inside_is : (v n x : ℕ) → (nat_lt v n && nat_lt 0 x) ≡ true → 0 < x
+inside_is v n x e = grind (arith, nat_tests)
+
+inside_from : (v n x : ℕ) → v < n → 0 < x → (nat_lt v n && nat_lt 0 x) ≡ true
+inside_from v n x b some = grind (arith, nat_tests)
+
+inside_not : (v n x : ℕ) → (n ≤ v) ⊎ (x ≡ 0) → (nat_lt v n && nat_lt 0 x) ≡ false
+inside_not v n x either = grind (arith, nat_tests)
+
+-- a node that fails it was not reached, where the outside was not
+not_inside : (nodes : ℕ) (position : ℕ → ℕ) (v : ℕ) → v ≤ nodes → position nodes ≡ 0 →
     (nat_lt v nodes && nat_lt 0 (position v)) ≡ false → position v ≡ 0
-inside_not nodes position v b outside e = elim (cases_lt v nodes) [
-  | inl c ↦ elim (cases_eq (position v) 0) [
-    | inl f ↦ f
-    | inr ne ↦ absurd (both_ways (nat_lt v nodes && nat_lt 0 (position v)) e
-        (and_from (nat_lt v nodes) (nat_lt 0 (position v)) (lt-ltb v nodes c) (lt-ltb 0 (position v) (omega arith))))
-  ]
-  | inr c ↦ let at_end : v ≡ nodes = omega arith in ap position at_end ∙ outside
+not_inside nodes position v b outside e = elim (cases_eq (position v) 0) [
+  | inl none ↦ none
+  | inr some ↦ absurd (both_ways _ e (inside_from v nodes (position v)
+      (in_basin nodes position v b (omega (arith, outside))) (omega arith)))
 ]
 
 -- when nothing more is reached over rooms of at least `least`, the flow of r can rise by less than that for each arc
 pub remaining_rise : {w : Network} {g h : ℕ → ℕ} {r least : ℕ} {position node step : ℕ → ℕ} {size : ℕ} →
-    r < w.arcs → 0 < least → HasEnds w → IsFlow w g → IsFlow w h → IsTree w g r least position node step size →
+    r < w.arcs → HasEnds w → IsFlow w g → IsFlow w h → IsTree w g r least position node step size →
     IsClosed w g r least position → position (w.from r) ≡ 0 → h r ≤ g r + open_arcs w * (least - 1)
-remaining_rise {w = w} {g = g} {h = h} {r = r} {least = least} {position = position} b some ends fg fh t closed none =
-    let head = head_reached t in
+remaining_rise {w} {g} {h} {r} {least} {position} b ends fg fh t closed none =
+    let shut = shut_from ends t closed none in
     elim (cases_eq (position w.nodes) 0) [
       | inl outside ↦
           let y : ℕ → Bool = λ v. nat_lt v w.nodes && nat_lt 0 (position v) in
-          let basin = λ (v : ℕ) (c : w.nodes ≤ v). and_left (nat_lt v w.nodes) (nat_lt 0 (position v))
-          (le-ltb v w.nodes c) in
-          let inner = in_basin w.nodes position (w.to r) (ends.to_in r b) (omega arith) in
+          let basin = λ (v : ℕ) (c : w.nodes ≤ v). inside_not v w.nodes (position v) (inl c) in
+          let inner = in_basin w.nodes position (w.to r) (ends.to_in r b) (omega (arith, outside, shut.head)) in
           rise_over w r (least - 1) (enters w y) (leaves w y) g h 0 (total w.nodes (λ v. when (y v) (w.supply v))) b
-          (and_from (y (w.to r)) (not (y (w.from r)))
-          (and_from (nat_lt (w.to r) w.nodes) (nat_lt 0 (position (w.to r))) (lt-ltb (w.to r) w.nodes inner)
-          (lt-ltb 0 (position (w.to r)) head))
-          (ap not (and_right (nat_lt (w.from r) w.nodes) (nat_lt 0 (position (w.from r)))
-          (le-ltb 0 (position (w.from r)) (omega arith)))))
+          (and_from _ _ (inside_from (w.to r) w.nodes _ inner shut.head)
+          (ap not (inside_not (w.from r) w.nodes _ (inr none))))
           fg fh (λ a x. apart_way (y (w.from a)) (y (w.to a)) (not (a == r)) x)
           (omega (arith, crossing w y g basin fg)) (omega (arith, crossing w y h basin fh))
           (λ a c e.
           let across = crosses _ _ e in
-          nearly_full w g r least position a ends closed head c
-          (ltb-true 0 (position (w.from a)) (and_parts (nat_lt (w.from a) w.nodes) _ across.0).1)
-          (inside_not w.nodes position (w.to a) (ends.to_in a c) outside across.1))
+          shut.full a c (inside_is _ w.nodes _ across.0)
+          (not_inside w.nodes position _ (ends.to_in a c) outside across.1))
           (λ a c e ne.
           let across = crosses _ _ e in
-          nearly_empty w g r least position a ends closed c ne
-          (ltb-true 0 (position (w.to a)) (and_parts (nat_lt (w.to a) w.nodes) _ across.0).1)
-          (inside_not w.nodes position (w.from a) (ends.from_in a c) outside across.1))
+          shut.empty a c ne (inside_is _ w.nodes _ across.0)
+          (not_inside w.nodes position _ (ends.from_in a c) outside across.1))
       | inr reached ↦
-          let y : ℕ → Bool = λ v. nat_lt v w.nodes && (position v == 0) in
-          let near = nearly_tight w g r least position b ends closed (omega arith) head none in
+          let y = unmarked w.nodes position in
+          let near = nearly_tight b ends (omega arith) shut in
           rise_over w r (least - 1) (leaves w y) (enters w y) g h (total w.nodes (λ v. when (y v) (w.supply v))) 0 b
           (and_from (y (w.from r)) (not (y (w.to r))) near.cut.tail (ap not near.cut.head)) fg fh
           (λ a x. apart_way (y (w.to a)) (y (w.from a)) (not (a == r)) x)

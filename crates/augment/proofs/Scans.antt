@@ -1,14 +1,15 @@
 -- The steps of a node's row, tried one after another.
-use Rattle.std.proofs.Common.{ℕ, false, true, ◌≡◌, ◌+◌, ◌*◌, ◌<◌, ◌≤◌, length, slice_index, refl, arith, ap, sym}
+use Rattle.std.proofs.Common.{ℕ, ◌≡◌, ◌+◌, ◌*◌, ◌<◌, ◌≤◌, length, slice_index, arith, ap, sym}
 use Rattle.std.proofs.Common.{◌∙◌}
 use Rattle.circulation.specs.Network.{Network}
 use Rattle.circulation.specs.Residual.{arc_of, start_of, end_of}
 use Rattle.circulation.specs.Contents.{Contents, network, flow_of, arcs, IsCirculation}
 use Rattle.augment.specs.Search.{HasTree, IsTried, IsExpanded, IsVisitedBy}
 use Rattle.augment.specs.Raised.{position_of}
-use Rattle.circulation.proofs.Scans.{IsScan, scan_start, scan_at, scan_inside, scan_next, scan_end, end_within}
+use Rattle.circulation.proofs.Scans.{IsScan, scan_start, scan_at, scan_inside, scan_next, scan_end}
+use Rattle.circulation.proofs.Overs.{over_forward, over_backward, end_within}
 use Rattle.augment.proofs.Trees.{grows_more}
-use Rattle.augment.proofs.Visits.{not_visited, step_over, way-forward, way-back}
+use Rattle.augment.proofs.Visits.{not_visited}
 
 -- visits one after another
 pub visited_more : {c d e : Contents} {r least size more most : ℕ} → IsVisitedBy c d r least size more →
@@ -25,15 +26,15 @@ expanded_from : (w : Network) (g : ℕ → ℕ) (r least : ℕ) (position : ℕ 
     IsExpanded w g r least position v
 expanded_from w g r least position v tried = record {
   out = λ a b is ne room.
-      let f = step_over w g false a (2 * a) (omega arith) (way-forward a (2 * a) refl) in
-      let s = tried (2 * a) (omega (arith, f.arc)) (f.start ∙ is) (λ e. ne (sym f.arc ∙ e))
+      let f = over_forward w g a in
+      let s = tried (2 * a) (omega (arith, f.arc)) (f.starts ∙ is) (λ e. ne (sym f.arc ∙ e))
       (omega (arith, f.room, room)) in
-      rw f.end at s;
+      rw f.enters at s;
   into = λ a b is ne room.
-      let f = step_over w g true a (2 * a + 1) (omega arith) (way-back a (2 * a + 1) refl) in
-      let s = tried (2 * a + 1) (omega (arith, f.arc)) (f.start ∙ is) (λ e. ne (sym f.arc ∙ e))
+      let f = over_backward w g a in
+      let s = tried (2 * a + 1) (omega (arith, f.arc)) (f.starts ∙ is) (λ e. ne (sym f.arc ∙ e))
       (omega (arith, f.room, room)) in
-      rw f.end at s;
+      rw f.enters at s;
 }
 
 -- the step was tried, if it goes over an arc

@@ -2,8 +2,8 @@
 use Rattle.std.proofs.Common.{ℕ, ◌≡◌, ◌+◌, ◌-◌, ◌<◌, ◌≤◌, slice_index, arith, ap, inl, inr}
 use Rattle.std.proofs.lemmas.Bool.{cases_eq, cases_lt}
 use Rattle.circulation.specs.Network.{Network, HasEnds}
-use Rattle.circulation.specs.Contents.{Contents, network, flow_of, arcs, IsCirculation}
-use Rattle.augment.specs.Search.{node_at, with_node, IsExpanded, HasTree, IsVisitedBy, SameButScratch}
+use Rattle.circulation.specs.Contents.{Contents, network, flow_of, arcs, IsCirculation, SameButScratch}
+use Rattle.augment.specs.Search.{node_at, with_node, IsExpanded, HasTree, IsVisitedBy}
 use Rattle.augment.specs.Raised.{position_of}
 use Rattle.augment.proofs.Trees.{tree_start}
 use Rattle.augment.proofs.Visits.{node_added}

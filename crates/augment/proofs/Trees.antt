@@ -1,17 +1,16 @@
 -- The tree of the nodes that a search reached, and the cut that it leaves.
-use Rattle.std.proofs.Common.{ℕ, zero, suc, Bool, true, false, not, nat_lt, ◌==◌, ◌&&◌, ◌≡◌, ◌≢◌, ◌+◌, ◌-◌, ◌<◌, ◌≤◌}
-use Rattle.std.proofs.Common.{List, [], ◌∷◌, refl, arith, ap, sym, subst, inl, inr, ◌∙◌}
-use Rattle.std.proofs.lemmas.Bool.{eq-eqb, ne_eqb, eqb-true, eqb-false, lt-ltb, le-ltb, ltb-true, ltb-false, not-true}
-use Rattle.std.proofs.lemmas.Bool.{cases_lt, cases_eq, cases_Bool, and_from, and_parts, and_cases, and_left, and_right}
-use Rattle.std.proofs.lemmas.Bool.{both_ways}
+use Rattle.std.proofs.Common.{ℕ, zero, suc, Bool, true, false, nat_lt, ◌≡◌, ◌≢◌, ◌+◌, ◌-◌, ◌<◌, ◌≤◌, List, [], ◌∷◌}
+use Rattle.std.proofs.Common.{refl, arith, ap, sym, subst, inl, inr, ◌∙◌}
+use Rattle.std.proofs.lemmas.Bool.{lt-ltb, cases_eq, cases_lt}
 use Rattle.finite_sums.specs.Sums.{total, when}
-use Rattle.circulation.specs.Network.{Network, IsFlow, HasEnds, IsCut, IsTight, LeadsOut, enters, leaves}
-use Rattle.circulation.specs.Residual.{arc_of, is_backward, by_direction, start_of}
 use Rattle.finite_sums.proofs.Totals.{total_change, total_most, total_pick}
-use Rattle.circulation.proofs.Scans.{by_direction_both}
+use Rattle.circulation.specs.Network.{Network, IsFlow, HasEnds, IsGreatestCut, LeadsOut}
+use Rattle.circulation.specs.Residual.{start_of}
+use Rattle.circulation.proofs.Overs.{start_within}
+use Rattle.circulation.proofs.Trails.{IsWayBack}
+use Rattle.circulation.proofs.Unmarked.{AreShut, unmarked, greatest_unmarked}
 use Rattle.augment.specs.Search.{IsBranch, IsTree, IsClosed, Grows}
 use Rattle.augment.specs.Raised.{HasPathOut}
-use Rattle.augment.proofs.Cuts.{IsSaturated, tight-from_closed, saturated-from_tight}
 
 -- a test counts at most 1
 when_one : (b : Bool) → when b 1 ≤ 1
@@ -79,11 +78,6 @@ tree_start {w = w} {position = position} {node' = node'} {v = v} a none is = rec
   ];
   grown = λ k c d. absurd (omega arith);
 }
-
--- a step starts at a node
-pub start_within : (w : Network) (s : ℕ) → HasEnds w → arc_of s < w.arcs → start_of w s ≤ w.nodes
-start_within w s ends b = by_direction_both (is_backward s) (w.from (arc_of s)) (w.to (arc_of s)) w.nodes
-    (ends.from_in (arc_of s) b) (ends.to_in (arc_of s) b)
 
 -- a branch stays when more nodes are reached
 branch-kept : {w : Network} {g : ℕ → ℕ} {r least : ℕ} {old new : ℕ → ℕ} {k s v : ℕ} → HasEnds w →
@@ -191,137 +185,52 @@ reached_along w g r position v (a ∷ path) ends flow closed b m leads =
     reached_along w g r position (w.to a) path ends flow closed (ends.to_in a leads.0)
     ((closed v b m).out a leads.0 leads.1 leads.2 (omega (arith, leads.3 g flow))) leads.4
 
--- what the test of an unreached basin node says
-pub in_set : (nodes : ℕ) (position : ℕ → ℕ) (v : ℕ) → (nat_lt v nodes && (position v == 0)) ≡ true →
-    (v < nodes) × (position v ≡ 0)
-in_set nodes position v e =
-    let p = and_parts (nat_lt v nodes) (position v == 0) e in (ltb-true v nodes p.0, eqb-true (position v) 0 p.1)
+-- a node but the head was reached by a step from one that was reached before it
+pub way_back : {w : Network} {g : ℕ → ℕ} {r least : ℕ} {position node_of step_of : ℕ → ℕ} {size node : ℕ} → HasEnds w →
+    IsTree w g r least position node_of step_of size → node ≤ w.nodes → 0 < position node → node ≢ w.to r →
+    IsWayBack w g r least position node (step_of (position node - 1))
+way_back {w = w} {position = position} {node_of = node_of} {step_of = step_of} {node = node} ends t inside marked ne =
+    let there = t.marked node inside marked in
+    let not_first : position node - 1 ≢ 0 = λ e. ne (sym there.1 ∙ ap node_of e ∙ t.root) in
+    let branch = t.grown (position node - 1) (omega (arith, not_first)) (omega (arith, there.0)) in
+    record {
+      arc = branch.arc;
+      other = branch.other;
+      enters = branch.enters ∙ there.1;
+      inside = start_within w (step_of (position node - 1)) ends branch.arc;
+      marked = branch.marked;
+      before = omega (arith, branch.before);
+      room = branch.room;
+    }
 
--- the test of an unreached basin node holds
-pub set_from : (nodes : ℕ) (position : ℕ → ℕ) (v : ℕ) → v < nodes → position v ≡ 0 →
-    (nat_lt v nodes && (position v == 0)) ≡ true
-set_from nodes position v b z = and_from (nat_lt v nodes) (position v == 0) (lt-ltb v nodes b) (eq-eqb (position v) 0 z)
-
--- where the outside is reached, so is each node that fails the test
-pub not_in_set : (nodes : ℕ) (position : ℕ → ℕ) (v : ℕ) → v ≤ nodes → 0 < position nodes →
-    (nat_lt v nodes && (position v == 0)) ≡ false → 0 < position v
-not_in_set nodes position v b out e = elim (and_cases (nat_lt v nodes) (position v == 0) e) [
-  | inl f ↦
-      let at_end : v ≡ nodes = omega (arith, ltb-false v nodes f) in
-      subst (λ (u : ℕ). 0 < position u) (sym at_end) out
-  | inr f ↦ let ne = eqb-false (position v) 0 f in omega (arith, ne)
-]
-
--- an arc that leads from a node that was reached to one that was not is nearly full
-pub nearly_full : (w : Network) (g : ℕ → ℕ) (r least : ℕ) (position : ℕ → ℕ) (a : ℕ) → HasEnds w →
-    IsClosed w g r least position → 0 < position (w.to r) → a < w.arcs → 0 < position (w.from a) →
-    position (w.to a) ≡ 0 → w.upper a ≤ g a + (least - 1)
-nearly_full w g r least position a ends closed head b from to = elim (cases_lt (g a + (least - 1)) (w.upper a)) [
-  | inl room ↦
-      let ne : a ≢ r = λ is. omega (arith, head, to, ap (λ (x : ℕ). position (w.to x)) is) in
-      absurd (omega (arith, (closed (w.from a) (ends.from_in a b) from).out a b refl ne (omega arith), to))
-  | inr full ↦ full
-]
-
--- another arc, from a node that was not reached to one that was, carries little more than it must
-pub nearly_empty : (w : Network) (g : ℕ → ℕ) (r least : ℕ) (position : ℕ → ℕ) (a : ℕ) → HasEnds w →
-    IsClosed w g r least position → a < w.arcs → a ≢ r → 0 < position (w.to a) → position (w.from a) ≡ 0 →
-    g a ≤ w.lower a + (least - 1)
-nearly_empty w g r least position a ends closed b ne to from = elim (cases_lt (w.lower a + (least - 1)) (g a)) [
-  | inl room ↦ absurd (omega (arith, (closed (w.to a) (ends.to_in a b) to).into a b refl ne (omega arith), from))
-  | inr empty ↦ empty
-]
-
--- a node with another place than the outside is in the basin
-pub in_basin : (nodes : ℕ) (position : ℕ → ℕ) (v : ℕ) → v ≤ nodes → position v ≢ position nodes → v < nodes
-in_basin nodes position v b ne = elim (cases_eq v nodes)
-    [ inl e ↦ absurd (ne (ap position e)) | inr other ↦ omega arith ]
-
--- the first test holds and the second fails
-pub crosses : (p q : Bool) → (p && not q) ≡ true → (p ≡ true) × (q ≡ false)
-crosses p q e = let parts = and_parts p (not q) e in (parts.0, not-true q parts.1)
-
--- the flow of r can rise only by what the arcs across the cut have left, which is at most d for each
-pub record IsNearlyTight (w : Network) (g : ℕ → ℕ) (r d : ℕ) (y : ℕ → Bool) : Type 0 where
-  pub cut : IsCut w r y
-  pub full : (a : ℕ) → a < w.arcs → enters w y a ≡ true → w.upper a ≤ g a + d
-  pub empty : (a : ℕ) → a < w.arcs → leaves w y a ≡ true → a ≢ r → g a ≤ w.lower a + d
-
--- where the search came to the outside and not to the tail, the nodes that it did not reach are such a cut
-pub nearly_tight : (w : Network) (g : ℕ → ℕ) (r least : ℕ) (position : ℕ → ℕ) → r < w.arcs → HasEnds w →
-    IsClosed w g r least position → 0 < position w.nodes → 0 < position (w.to r) → position (w.from r) ≡ 0 →
-    IsNearlyTight w g r (least - 1) (λ v. nat_lt v w.nodes && (position v == 0))
-nearly_tight w g r least position b ends closed out head none = record {
-  cut = record {
-    basin = λ v c. and_left (nat_lt v w.nodes) (position v == 0) (le-ltb v w.nodes c);
-    tail = set_from w.nodes position (w.from r)
-        (in_basin w.nodes position (w.from r) (ends.from_in r b) (omega arith)) none;
-    head = and_right (nat_lt (w.to r) w.nodes) (position (w.to r) == 0) (ne_eqb (position (w.to r)) 0 (omega arith));
-  };
-  full = λ a c e.
-      let across = crosses _ _ e in
-      nearly_full w g r least position a ends closed head c
-      (not_in_set w.nodes position (w.from a) (ends.from_in a c) out across.1)
-      (in_set w.nodes position (w.to a) across.0).1;
-  empty = λ a c e ne.
-      let across = crosses _ _ e in
-      nearly_empty w g r least position a ends closed c ne
-      (not_in_set w.nodes position (w.to a) (ends.to_in a c) out across.1)
-      (in_set w.nodes position (w.from a) across.0).1;
+-- where it did not come to the tail, little is left on the arcs that lead out of what it reached
+pub shut_from : {w : Network} {g : ℕ → ℕ} {r least : ℕ} {position node step : ℕ → ℕ} {size : ℕ} → HasEnds w →
+    IsTree w g r least position node step size → IsClosed w g r least position → position (w.from r) ≡ 0 →
+    AreShut w g r (least - 1) position
+shut_from {w} {g} {r} {least} {position} ends t closed none = record {
+  head = head_reached t;
+  tail = none;
+  full = λ a b from to. elim (cases_lt (g a + (least - 1)) (w.upper a)) [
+    | inl room ↦
+        let ne : a ≢ r = λ is. omega (arith, none, from, ap (λ (x : ℕ). position (w.from x)) is) in
+        absurd (omega (arith, (closed (w.from a) (ends.from_in a b) from).out a b refl ne (omega arith), to))
+    | inr full ↦ full
+  ];
+  empty = λ a b ne to from. elim (cases_lt (w.lower a + (least - 1)) (g a)) [
+    | inl room ↦ absurd (omega (arith, (closed (w.to a) (ends.to_in a b) to).into a b refl ne (omega arith), from))
+    | inr empty ↦ empty
+  ];
 }
 
--- where the search reached all that it could and not the tail, the nodes that it did not reach are a tight cut
-pub tight_cut : {w : Network} {g : ℕ → ℕ} {r : ℕ} {position node step : ℕ → ℕ} {size : ℕ} → r < w.arcs → HasEnds w →
-    IsFlow w g → HasPathOut w r → IsTree w g r 1 position node step size → IsClosed w g r 1 position →
-    position (w.from r) ≡ 0 → IsTight w g r (λ v. nat_lt v w.nodes && (position v == 0))
-tight_cut {w = w} {g = g} {r = r} {position = position} b ends flow way t closed none =
-    let head = head_reached t in
-    let out = reached_along w g r position (w.to r) way.path ends flow closed (ends.to_in r b) head way.leads in
-    let near = nearly_tight w g r 1 position b ends closed out head none in
-    tight-from_closed w r _ g b near.cut flow (λ a c e. omega (arith, near.full a c e, flow.high a c))
-    (λ a c e ne. omega (arith, near.empty a c e ne, flow.low a c))
-
--- no step with room leads into a set whose arcs have none
-blocked : (back : Bool) (w : Network) (g : ℕ → ℕ) (r least a : ℕ) (z : ℕ → Bool) → IsSaturated w g r z → a < w.arcs →
-    a ≢ r → 0 < least → z (by_direction back (w.from a) (w.to a)) ≡ false →
-    least ≤ by_direction back (w.upper a - g a) (g a - w.lower a) → z (by_direction back (w.to a) (w.from a)) ≡ false
-blocked false w g r least a z s b ne p out room = elim (cases_Bool (z (w.to a))) [
-  | inl e ↦ absurd (omega (arith, s.full a b (and_from (z (w.to a)) (not (z (w.from a))) e (ap not out))))
-  | inr e ↦ e
-]
-blocked true w g r least a z s b ne p out room = elim (cases_Bool (z (w.from a))) [
-  | inl e ↦ absurd (omega (arith, s.empty a b (and_from (z (w.from a)) (not (z (w.to a))) e (ap not out)) ne))
-  | inr e ↦ e
-]
-
--- no node of a tight cut was reached
-reached_outside : (n : ℕ) {w : Network} {g : ℕ → ℕ} {r : ℕ} {position node step : ℕ → ℕ} {size : ℕ} (z : ℕ → Bool) →
-    HasEnds w → IsTree w g r 1 position node step size → IsSaturated w g r z → z (w.to r) ≡ false → (k : ℕ) → k < n →
-    k < size → z (node k) ≡ false
-reached_outside zero z ends t s head k b c = absurd (omega arith)
-reached_outside (suc n) {w} {g} {r} {position} {node} {step} z ends t s head k b c = elim (cases_eq k 0) [
-  | inl e ↦ ap z (ap node e ∙ t.root) ∙ head
-  | inr ne ↦
-      let branch = t.grown k (omega arith) c in
-      let there = t.marked (start_of w (step k)) (start_within w (step k) ends branch.arc) branch.marked in
-      let earlier = reached_outside n z ends t s head (position (start_of w (step k)) - 1)
-      (omega (arith, branch.marked, branch.before)) (omega (arith, branch.marked, there.0)) in
-      sym (ap z branch.enters) ∙ blocked (is_backward (step k)) w g r 1 (arc_of (step k)) z s branch.arc branch.other
-      (omega arith) (sym (ap z there.1) ∙ earlier) branch.room
-]
-
--- the nodes that were not reached contain every tight cut
-pub greatest_cut : {w : Network} {g : ℕ → ℕ} {r : ℕ} {position node step : ℕ → ℕ} {size : ℕ} → r < w.arcs → HasEnds w →
-    IsFlow w g → IsTree w g r 1 position node step size → (z : ℕ → Bool) → IsTight w g r z → (v : ℕ) → z v ≡ true →
-    (nat_lt v w.nodes && (position v == 0)) ≡ true
-greatest_cut {w = w} {g = g} {r = r} {position = position} {size = size} b ends flow t z tight v e =
-    let basin : v < w.nodes = elim (cases_lt v w.nodes)
-    [ inl c ↦ c | inr c ↦ absurd (both_ways (z v) (tight.cut.basin v c) e) ] in
-    elim (cases_eq (position v) 0) [
-      | inl none ↦ set_from w.nodes position v basin none
-      | inr ne ↦
-          let there = t.marked v (omega arith) (omega arith) in
-          let outside = reached_outside size z ends t (saturated-from_tight w r z g b flow tight) tight.cut.head
-          (position v - 1) (omega (arith, there.0, ne)) (omega (arith, there.0, ne)) in
-          absurd (both_ways (z v) (sym (ap z there.1) ∙ outside) e)
-    ]
+-- and over rooms of 1, the nodes that it did not reach are the greatest tight cut
+pub greatest_cut : {w : Network} {g : ℕ → ℕ} {r : ℕ} {position node step : ℕ → ℕ} {size : ℕ} → r < w.arcs →
+    HasEnds w → IsFlow w g → HasPathOut w r → IsTree w g r 1 position node step size → IsClosed w g r 1 position →
+    position (w.from r) ≡ 0 → IsGreatestCut w g r (unmarked w.nodes position)
+greatest_cut {w} {g} {r} {position} {step = step} b ends flow way t closed none = greatest_unmarked b ends flow record {
+  outside = reached_along w g r position (w.to r) way.path ends flow closed (ends.to_in r b) (head_reached t) way.leads;
+  shut = shut_from ends t closed none;
+  rank = position;
+  way = λ v inner some ne.
+      let back = way_back ends t (omega (arith, inner)) some ne in
+      (step (position v - 1), assumption (back));
+}

@@ -1,11 +1,9 @@
 -- What a visit does to the tree.
-use Rattle.std.proofs.Common.{ℕ, Bool, true, false, ◌%◌, ◌≡◌, ◌+◌, ◌-◌, ◌*◌, ◌<◌, ◌≤◌, refl, arith, inl, inr}
-use Rattle.std.proofs.lemmas.Bool.{cases_eq, eq-eqb, ne_eqb}
+use Rattle.std.proofs.Common.{ℕ, ◌≡◌, ◌+◌, ◌<◌, ◌≤◌, refl, arith, inl, inr}
+use Rattle.std.proofs.lemmas.Bool.{cases_eq}
 use Rattle.std.proofs.lemmas.List.{get_or-set_other, length-set}
 use Rattle.std.proofs.lemmas.Grind.{get_or-set_at}
 use Rattle.circulation.specs.Contents.{Contents, network, flow_of, IsCirculation}
-use Rattle.circulation.specs.Network.{Network}
-use Rattle.circulation.specs.Residual.{arc_of, is_backward, by_direction, start_of, end_of, room_of}
 use Rattle.augment.specs.Search.{node_at, step_at, with_node, IsBranch, HasTree, IsVisitedBy}
 use Rattle.augment.specs.Raised.{position_of}
 use Rattle.augment.proofs.Trees.{IsAdded, tree_next, grows_next, grows_none}
@@ -45,31 +43,3 @@ visited {c = c} {size = size} {s = s} {node = node} k t b branch room seen fresh
           rw (f.1, f.0) record { rest = refl; tree = tree_next k.ends t added branch; grows = grows_next added }
       | inr ne ↦ let f = seen (omega arith) in rw (f.1, f.0) (not_visited t)
     ]
-
--- the arc of a forward step
-pub arc-forward : (a s : ℕ) → s ≡ 2 * a → arc_of s ≡ a
-arc-forward a s e = omega arith
-
--- a forward step is forward
-pub way-forward : (a s : ℕ) → s ≡ 2 * a → is_backward s ≡ false
-way-forward a s e = ne_eqb (s % 2) 1 (λ f. absurd (omega arith))
-
--- a backward step is backward
-pub way-back : (a s : ℕ) → s ≡ 2 * a + 1 → is_backward s ≡ true
-way-back a s e = eq-eqb (s % 2) 1 (omega arith)
-
--- what a step does over its arc
-pub record IsStepOver (w : Network) (g : ℕ → ℕ) (back : Bool) (a s : ℕ) : Type 0 where
-  pub arc : arc_of s ≡ a
-  pub start : start_of w s ≡ by_direction back (w.from a) (w.to a)
-  pub end : end_of w s ≡ by_direction back (w.to a) (w.from a)
-  pub room : room_of w g s ≡ by_direction back (w.upper a - g a) (g a - w.lower a)
-
-pub step_over : (w : Network) (g : ℕ → ℕ) (back : Bool) (a s : ℕ) → arc_of s ≡ a → is_backward s ≡ back →
-    IsStepOver w g back a s
-step_over w g back a s arc way = record {
-  arc = arc;
-  start = rw (way, arc) refl;
-  end = rw (way, arc) refl;
-  room = rw (way, arc) refl;
-}

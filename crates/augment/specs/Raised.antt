@@ -1,7 +1,7 @@
 -- What a raise answers and leaves.
-use Rattle.std.specs.Prelude.{ℕ, ◌≡◌, ◌<◌, ◌≤◌, nat_lt, ◌==◌, ◌&&◌, true, Bool, List, slice_index}
+use Rattle.std.specs.Prelude.{ℕ, ◌≡◌, ◌<◌, ◌≤◌, nat_lt, ◌==◌, ◌&&◌, Bool, List, slice_index}
 use Rattle.finite_sums.specs.Sums.{total, when}
-use Rattle.circulation.specs.Network.{Network, IsFlow, IsTight, LeadsOut}
+use Rattle.circulation.specs.Network.{Network, IsFlow, LeadsOut}
 use Rattle.circulation.specs.Contents.{Contents}
 
 -- the head of the arc r is the outside node, or a path leads from it there that has forward room in every flow
@@ -21,10 +21,6 @@ CanCarry w r x = (g : ℕ → ℕ) × (IsFlow w g × (g r ≡ x))
 abbrev pub CarriesAtMost : Network → ℕ → ℕ → Type 0
 CarriesAtMost w r x = (g : ℕ → ℕ) → IsFlow w g → g r ≤ x
 
--- only the flow and scratch words changed
-abbrev pub SameButFlow : Contents → Contents → Type 0
-SameButFlow old new = new ≡ record old { flow = new.flow; scratch = new.scratch }
-
 -- the position of a node among those that the last search reached, from 1 on, or 0 where it was not reached
 abbrev pub position_of : Contents → ℕ → ℕ
 position_of c v = slice_index c.scratch v
@@ -36,8 +32,3 @@ IsReached c v = 0 < position_of c v
 -- the basin nodes that the last search did not reach
 abbrev pub not_reached : Contents → ℕ → Bool
 not_reached c v = nat_lt v c.nodes && (position_of c v == 0)
-
--- a tight cut of the arc r that contains every tight cut of it
-pub record IsGreatestCut (w : Network) (g : ℕ → ℕ) (r : ℕ) (y : ℕ → Bool) : Type 0 where
-  pub tight : IsTight w g r y
-  pub greatest : (z : ℕ → Bool) → IsTight w g r z → (v : ℕ) → z v ≡ true → y v ≡ true

@@ -2,7 +2,7 @@
 use Rattle.std.specs.Prelude.{ℕ, ◌≡◌, ◌≢◌, ◌+◌, ◌-◌, ◌*◌, ◌<◌, ◌≤◌, nat_lt, slice_index, slice_set}
 use Rattle.finite_sums.specs.Sums.{total, when}
 use Rattle.circulation.specs.Network.{Network}
-use Rattle.circulation.specs.Contents.{Contents, network, flow_of}
+use Rattle.circulation.specs.Contents.{Contents, network, flow_of, SameButScratch}
 use Rattle.circulation.specs.Residual.{arc_of, start_of, end_of, room_of}
 use Rattle.augment.specs.Raised.{position_of}
 
@@ -62,10 +62,6 @@ pub record Grows (nodes : ℕ) (old new : ℕ → ℕ) (size more : ℕ) : Type 
 -- the scratch words hold such a tree
 abbrev pub HasTree : Contents → ℕ → ℕ → ℕ → Type 0
 HasTree c r least size = IsTree (network c) (flow_of c) r least (position_of c) (node_at c) (step_at c) size
-
--- only scratch words changed
-abbrev pub SameButScratch : Contents → Contents → Type 0
-SameButScratch old new = new ≡ record old { scratch = new.scratch }
 
 -- nodes may have been added to the tree, and nothing else changed
 pub record IsVisitedBy (old new : Contents) (r least size more : ℕ) : Type 0 where

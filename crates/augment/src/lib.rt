@@ -11,9 +11,10 @@
 #![tactic(auto)]
 
 ghost use Rattle.std.specs.Prelude.{◌≡◌, ◌+◌, ◌*◌, ◌<◌, ◌≤◌, slice_index, IsTrue, ◌↔◌};
-ghost use Rattle.circulation.specs.Contents.{arcs, flow_of, network, IsCirculation};
-ghost use Rattle.augment.specs.Raised.{HasPathOut, open_arcs, CanCarry, CarriesAtMost, IsGreatestCut, IsReached};
-ghost use Rattle.augment.specs.Raised.{SameButFlow, not_reached};
+ghost use Rattle.circulation.specs.Contents.{arcs, flow_of, network, IsCirculation, SameButFlow};
+ghost use Rattle.circulation.specs.Network.{IsGreatestCut};
+ghost use Rattle.augment.specs.Raised.{HasPathOut, open_arcs, CanCarry, CarriesAtMost, IsReached};
+ghost use Rattle.augment.specs.Raised.{not_reached};
 
 mod raising;
 mod scratch;

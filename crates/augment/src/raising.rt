@@ -1,9 +1,8 @@
 //! The phases of a raise, each over half the room of the one before.
 ghost use Rattle.std.specs.Prelude.{min, ◌≡◌, true, false, ℕ, ◌+◌, ◌-◌, ◌*◌, ◌^◌, ◌<◌, ◌≤◌, slice_index};
-ghost use Rattle.circulation.specs.Contents.{arcs, flow_of, network, IsCirculation};
-ghost use Rattle.circulation.specs.Network.{IsFlow};
-ghost use Rattle.augment.specs.Search.{SameButScratch};
-ghost use Rattle.augment.specs.Raised.{HasPathOut, open_arcs, CarriesAtMost, IsGreatestCut, SameButFlow, not_reached};
+ghost use Rattle.circulation.specs.Contents.{arcs, flow_of, network, IsCirculation, SameButFlow, SameButScratch};
+ghost use Rattle.circulation.specs.Network.{IsFlow, IsGreatestCut};
+ghost use Rattle.augment.specs.Raised.{HasPathOut, open_arcs, CarriesAtMost, not_reached};
 
 use crate::reached;
 use crate::searching::search;

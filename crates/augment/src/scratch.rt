@@ -1,7 +1,7 @@
 //! The scratch words in which a search keeps what it reached.
 ghost use Rattle.std.specs.Prelude.{◌≡◌, ℕ, ◌+◌, ◌*◌, ◌<◌, ◌≤◌, slice_set};
-ghost use Rattle.circulation.specs.Contents.{step_of, IsCirculation};
-ghost use Rattle.augment.specs.Search.{with_node, SameButScratch};
+ghost use Rattle.circulation.specs.Contents.{step_of, IsCirculation, SameButScratch};
+ghost use Rattle.augment.specs.Search.{with_node};
 ghost use Rattle.augment.specs.Raised.{position_of};
 
 use circulation::CirculationMut;

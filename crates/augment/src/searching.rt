@@ -1,8 +1,8 @@
 //! The search over the residual network, from the head of an arc.
 ghost use Rattle.std.specs.Prelude.{◌≡◌, ℕ, ◌<◌, ◌≤◌, slice_index};
-ghost use Rattle.circulation.specs.Contents.{arcs, flow_of, network, IsCirculation};
+ghost use Rattle.circulation.specs.Contents.{arcs, flow_of, network, IsCirculation, SameButScratch};
 ghost use Rattle.circulation.specs.Residual.{arc_of, start_of, end_of};
-ghost use Rattle.augment.specs.Search.{IsTried, IsExpanded, IsClosed, HasTree, IsVisitedBy, SameButScratch};
+ghost use Rattle.augment.specs.Search.{IsTried, IsExpanded, IsClosed, HasTree, IsVisitedBy};
 ghost use Rattle.augment.specs.Raised.{position_of, IsReached};
 
 use crate::scratch::{clear, position, visit, word};

@@ -1,8 +1,8 @@
 //! The steps that a search goes over, and the closed walk along its tree.
 ghost use Rattle.std.specs.Prelude.{min, ◌≡◌, ℕ, ◌+◌, ◌*◌, ◌<◌, ◌≤◌, slice_index};
-ghost use Rattle.circulation.specs.Contents.{arcs, flow_of, network, step_of, IsCirculation};
+ghost use Rattle.circulation.specs.Contents.{arcs, flow_of, network, step_of, IsCirculation, SameButScratch};
 ghost use Rattle.circulation.specs.Residual.{IsClosedWalk};
-ghost use Rattle.augment.specs.Search.{HasTree, SameButScratch};
+ghost use Rattle.augment.specs.Search.{HasTree};
 ghost use Rattle.augment.specs.Raised.{IsReached};
 
 use crate::scratch::{position, set_word, word};

@@ -10,3 +10,7 @@ pub mod RowLists
 pub mod RowSums
 pub mod Scans
 pub mod Starts
+pub mod Overs
+pub mod Cuts
+pub mod Unmarked
+pub mod Trails

@@ -1,6 +1,7 @@
 -- A push along a closed walk keeps the flow: what holds when the steps before `at` are done.
-use Rattle.std.proofs.Common.{ℕ, Bool, true, false, not, ◌==◌, ◌≡◌, ◌≢◌, ◌+◌, ◌-◌, ◌^◌, ◌<◌, ◌≤◌, length}
+use Rattle.std.proofs.Common.{ℕ, Bool, true, false, not, ◌==◌, ◌≡◌, ◌≢◌, ◌+◌, ◌-◌, ◌*◌, ◌^◌, ◌<◌, ◌≤◌, length}
 use Rattle.std.proofs.Common.{slice_index, slice_set, refl, arith, ap, sym, subst, inl, inr, ◌∙◌}
+use Rattle.std.proofs.lemmas.Bool.{ne_eqb}
 use Rattle.std.proofs.lemmas.Bool.Decides.{eqb_tells}
 use Rattle.std.proofs.lemmas.List.{get_or-set_same, get_or-set_other, length-set}
 use Rattle.finite_sums.specs.Sums.{when}
@@ -225,3 +226,12 @@ pub push_done : {x y : Contents} {first last at amount : ℕ} → IsPushState x 
     IsPushed (flow_of x) (flow_of y) (step_of x) first last amount
 push_done {x} {y} {first} {amount} p end =
     subst (λ (n : ℕ). IsPushed (flow_of x) (flow_of y) (step_of x) first n amount) end p.pushing.pushed
+
+-- the first step of the walk goes over the arc r forward
+pub pushed_first : {old new step : ℕ → ℕ} {first last amount : ℕ} (r : ℕ) → IsPushed old new step first last amount →
+    first < last → step first ≡ 2 * r → new r ≡ old r + amount
+pushed_first {step = step} {first} r p b is =
+    let arc : arc_of (step first) ≡ r = omega arith in
+    let way : is_backward (step first) ≡ false = ne_eqb _ 1 (λ f. absurd (omega arith)) in
+    let done = rw (arc, way) at (p.on first (omega arith) b) in
+    omega (arith, done)

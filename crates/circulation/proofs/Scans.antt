@@ -1,10 +1,11 @@
 -- A scan over the row of a node.
-use Rattle.std.proofs.Common.{ℕ, Bool, true, false, ◌≡◌, ◌+◌, ◌<◌, ◌≤◌, length, slice_index, arith, ap, subst, inl}
+use Rattle.std.proofs.Common.{ℕ, ◌≡◌, ◌+◌, ◌<◌, ◌≤◌, length, slice_index, arith, ap, subst, inl}
 use Rattle.std.proofs.Common.{inr, ◌∙◌}
 use Rattle.std.proofs.lemmas.Bool.{cases_lt}
 use Rattle.circulation.specs.Contents.{Contents, network, arcs, IsCirculation}
-use Rattle.circulation.specs.Residual.{arc_of, is_backward, by_direction, start_of, end_of}
+use Rattle.circulation.specs.Residual.{arc_of, start_of, end_of}
 use Rattle.circulation.specs.Rows.{IsInRow}
+use Rattle.circulation.proofs.Overs.{end_within}
 
 -- of the row of the node v, the steps before an index are done
 pub record IsScan (c : Contents) (v place : ℕ) (Done : ℕ → Type 0) : Type 0 where
@@ -26,16 +27,6 @@ pub record IsAt (c : Contents) (v s u : ℕ) : Type 0 where
   pub start : start_of (network c) s ≡ v
   pub end : end_of (network c) s ≡ u
   pub inside : u ≤ c.nodes
-
--- a bound of two numbers is a bound of the chosen one
-pub by_direction_both : (back : Bool) (x y n : ℕ) → x ≤ n → y ≤ n → by_direction back x y ≤ n
-by_direction_both back x y n a b = elim back as (λ t. by_direction t x y ≤ n) [ true ↦ b | false ↦ a ]
-
--- a step enters a node
-pub end_within : (c : Contents) (s : ℕ) → IsCirculation c → arc_of s < arcs c → end_of (network c) s ≤ c.nodes
-end_within c s k b =
-    by_direction_both (is_backward s) (slice_index c.to (arc_of s)) (slice_index c.from (arc_of s)) c.nodes
-    (k.ends.to_in (arc_of s) b) (k.ends.from_in (arc_of s) b)
 
 -- the step of a scan
 pub scan_at : (c : Contents) (v place s u : ℕ) → IsCirculation c → v ≤ c.nodes → slice_index c.rows.first v ≤ place →

@@ -59,6 +59,14 @@ pub record IsCirculation (c : Contents) : Type 0 where
 abbrev pub step_of : Contents → ℕ → ℕ
 step_of c i = slice_index c.scratch i
 
+-- only scratch words changed
+abbrev pub SameButScratch : Contents → Contents → Type 0
+SameButScratch old new = new ≡ record old { scratch = new.scratch }
+
+-- only the flow and scratch words changed
+abbrev pub SameButFlow : Contents → Contents → Type 0
+SameButFlow old new = new ≡ record old { flow = new.flow; scratch = new.scratch }
+
 -- no supply, no room and no flow
 abbrev pub empty_contents : ℕ → List ℕ → List ℕ → Rows → Contents
 empty_contents nodes from to rows = record {

@@ -64,6 +64,11 @@ pub record IsTight (w : Network) (g : ℕ → ℕ) (r : ℕ) (y : ℕ → Bool) 
   pub cut : IsCut w r y
   pub equal : cut_in w y ≡ g r + cut_out w r y
 
+-- a tight cut of the arc r that contains every tight cut of it
+pub record IsGreatestCut (w : Network) (g : ℕ → ℕ) (r : ℕ) (y : ℕ → Bool) : Type 0 where
+  pub tight : IsTight w g r y
+  pub greatest : (z : ℕ → Bool) → IsTight w g r z → (v : ℕ) → z v ≡ true → y v ≡ true
+
 -- a path of arcs other than r from the node v to the outside, each below its upper in every flow
 abbrev pub LeadsOut : Network → ℕ → ℕ → List ℕ → Type 0
 LeadsOut w r v [] = v ≡ outside w

@@ -1,11 +1,10 @@
 -- A node is adopted over another step: the tree stays a tree, and what is below the node stays in it.
-use Rattle.std.proofs.Common.{ℕ, Bool, true, false, ◌≡◌, ◌≢◌, ◌==◌, ◌||◌, ◌+◌, ◌-◌, ◌<◌, ◌≤◌, ◌⊎◌, List, length}
-use Rattle.std.proofs.Common.{arith, ap, if◌then◌else◌, slice_index, slice_set, subst, sym, inl, inr, refl, ◌∙◌}
+use Rattle.std.proofs.Common.{ℕ, Bool, true, false, ◌≡◌, ◌≢◌, ◌==◌, ◌||◌, ◌+◌, ◌-◌, ◌<◌, ◌⊎◌, List, length}
+use Rattle.std.proofs.Common.{arith, ap, if◌then◌else◌, slice_set, subst, sym, inl, inr, refl, ◌∙◌}
 use Rattle.std.proofs.lemmas.Bool.{cases_Bool, cases_eq, eq-eqb, ne_eqb, eqb-true}
 use Rattle.std.proofs.lemmas.List.{get_or-set_other, get_or-set_same, length-set}
-use Rattle.circulation.specs.Contents.{Contents, network, flow_of, arcs, IsCirculation}
-use Rattle.circulation.specs.Residual.{arc_of, start_of, end_of, room_of}
-use Rattle.circulation.proofs.Scans.{by_direction_both}
+use Rattle.circulation.specs.Contents.{Contents, network, flow_of}
+use Rattle.circulation.specs.Residual.{start_of, end_of, room_of}
 use Rattle.residual_tree.specs.Tree.{label_of, IsLabeled}
 use Rattle.residual_tree.specs.Repair.{IsLooseBranch, IsTreeBut, IsWayIn}
 use Rattle.residual_tree.specs.Adopting.{IsClear}
@@ -142,8 +141,3 @@ tree_adopt {c} {labels} {saturated} {orphan} {v} {s} t b labeled in_s clear = re
 
     rank : ℕ → ℕ
     rank = adopted_rank t.rank clear.on k
-
--- a step leaves a node
-pub start_within : (c : Contents) (s : ℕ) → IsCirculation c → arc_of s < arcs c → start_of (network c) s ≤ c.nodes
-start_within c s k b = by_direction_both _ (slice_index c.from (arc_of s)) (slice_index c.to (arc_of s)) c.nodes
-    (k.ends.from_in (arc_of s) b) (k.ends.to_in (arc_of s) b)

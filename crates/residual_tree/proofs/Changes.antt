@@ -10,13 +10,6 @@ use Rattle.circulation.specs.Residual.{arc_of, start_of, end_of, room_of}
 use Rattle.residual_tree.specs.Tree.{label_of, IsLabeled}
 use Rattle.residual_tree.specs.Repair.{OccursIn, labeled_count, IsTreeBut}
 
--- a node that has another word than the outside is a basin node
-pub other_word : (labels : List ℕ) (v nodes : ℕ) → v ≤ nodes → label_of labels v ≢ label_of labels nodes → v < nodes
-other_word labels v nodes within other = elim (cases_eq v nodes) [
-  | inl e ↦ absurd (other (ap (label_of labels) e))
-  | inr ne ↦ omega arith
-]
-
 -- no more basin nodes are labeled than there are
 pub count_most : (nodes : ℕ) (labels : List ℕ) → labeled_count nodes labels ≤ nodes
 count_most nodes labels = count_at_most nodes (λ v. nat_lt 0 (label_of labels v))

@@ -11,16 +11,17 @@ use Rattle.residual_tree.specs.declared.TheConstants.{ROOT}
 use Rattle.residual_tree.specs.Tree.{label_of, IsLabeled}
 use Rattle.residual_tree.specs.Repair.{IsFreeing, IsSaturatedTree, IsWayIn}
 use Rattle.residual_tree.specs.Adopting.{IsClear, IsAdopted, IsFreedNode}
-use Rattle.circulation.proofs.Scans.{end_within}
+use Rattle.circulation.proofs.Overs.{end_within}
+use Rattle.circulation.proofs.Unmarked.{in_basin}
 use Rattle.residual_tree.proofs.Adopts.{tree_adopt}
 use Rattle.residual_tree.proofs.Changes.{count_most, count_freed, count_kept, occurs_more, occurs_here, occurs_or}
-use Rattle.residual_tree.proofs.Changes.{other_word, freed_word, tree_free, tree_map}
+use Rattle.residual_tree.proofs.Changes.{freed_word, tree_free, tree_map}
 
 -- a node with a step is a basin node
 pub basin_end : {c : Contents} (labels : List ℕ) (s v : ℕ) → IsCirculation c → arc_of s < arcs c → v ≤ c.nodes →
     label_of labels c.nodes ≡ ROOT → label_of labels v ≡ s + 1 → v < c.nodes
 basin_end {c} labels s v k b within root is =
-    other_word labels v c.nodes within (λ e. omega (arith, k.shape.bounded_arcs, b, e, root, is))
+    in_basin c.nodes (label_of labels) v within (λ e. omega (arith, k.shape.bounded_arcs, b, e, root, is))
 
 -- what may be done by a step into the node v: it is freed, if it is labeled by the step
 pub record FreesEnd (labels freed labels' freed' : List ℕ) (size size' s v : ℕ) : Type 0 where

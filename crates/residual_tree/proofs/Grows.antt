@@ -9,9 +9,9 @@ use Rattle.residual_tree.specs.declared.TheConstants.{ROOT}
 use Rattle.residual_tree.specs.Tree.{label_of, IsLabeled, IsResidualTree}
 use Rattle.residual_tree.specs.Repair.{none, only, no_step, IsFreeing, IsGrowing, HasArtificialStep}
 use Rattle.residual_tree.proofs.Changes.{count_most, count_attached, occurs_more, occurs_here, occurs_or}
-use Rattle.residual_tree.proofs.Changes.{occurs_nowhere, other_word, IsLooseWay, labeled_still, tree_attach, tree_map}
-use Rattle.circulation.proofs.Scans.{end_within}
-use Rattle.residual_tree.proofs.Overs.{over_backward}
+use Rattle.residual_tree.proofs.Changes.{occurs_nowhere, IsLooseWay, labeled_still, tree_attach, tree_map}
+use Rattle.circulation.proofs.Overs.{over_backward, end_within}
+use Rattle.circulation.proofs.Unmarked.{in_basin}
 
 -- nothing is in none
 pub no_none : (u : ℕ) → none u → ⊥
@@ -86,7 +86,7 @@ IsTried c labels s = 0 < room_of (network c) (flow_of c) s → IsLabeled labels 
 pub inner_end : {c : Contents} (labels : List ℕ) (s : ℕ) → IsCirculation c → arc_of s < arcs c →
     label_of labels c.nodes ≡ ROOT → label_of labels (end_of (network c) s) ≡ 0 → end_of (network c) s < c.nodes
 inner_end {c} labels s k b root unlabeled =
-    other_word labels (end_of (network c) s) c.nodes (end_within c s k b) (λ e. omega (arith, e, unlabeled, root))
+    in_basin c.nodes (label_of labels) _ (end_within c s k b) (λ e. omega (arith, e, unlabeled, root))
 
 -- what may be done by a step: its end is labeled and put into the queue, if it is unlabeled and the step has room
 pub record LabelsEnd (c : Contents) (labels queue labels' queue' : List ℕ) (size size' s : ℕ) : Type 0 where

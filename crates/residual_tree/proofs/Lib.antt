@@ -1,5 +1,4 @@
 pub mod Marked
-pub mod Overs
 pub mod Opposites
 pub mod Changes
 pub mod Adopts

@@ -4,7 +4,7 @@ use Rattle.circulation.specs.Contents.{Contents, IsCirculation}
 use Rattle.circulation.specs.Network.{Network}
 use Rattle.circulation.specs.Residual.{arc_of, by_direction, start_of, end_of, opposite}
 use Rattle.circulation.proofs.Scans.{IsAt, scan_at}
-use Rattle.residual_tree.proofs.Overs.{over_forward, over_backward, over_either}
+use Rattle.circulation.proofs.Overs.{over_forward, over_backward, over_either}
 
 -- what is known of the step over the same arc the other way
 pub record IsOpposite (w : Network) (s t : ℕ) : Type 0 where
@@ -18,24 +18,24 @@ pub opposite_is : (w : Network) (s : ℕ) → IsOpposite w s (opposite s)
 opposite_is w s = elim (over_either w (λ x. 0) s) [
   | inl f ↦
       let o = over_backward w (λ x. 0) (arc_of s) in
-      let t : opposite s ≡ 2 * arc_of s + 1 = ap (λ (b : Bool). by_direction b (s + 1) (s - 1)) f.1.labels
+      let t : opposite s ≡ 2 * arc_of s + 1 = ap (λ (b : Bool). by_direction b (s + 1) (s - 1)) f.1.way
       ∙ omega (arith, f.0) in
       subst (IsOpposite w s) (sym t) record {
         arc = o.arc;
         starts = o.starts ∙ sym f.1.enters;
         enters = o.enters ∙ sym f.1.starts;
-        back = ap (λ (b : Bool). by_direction b (2 * arc_of s + 1 + 1) (2 * arc_of s + 1 - 1)) o.labels
+        back = ap (λ (b : Bool). by_direction b (2 * arc_of s + 1 + 1) (2 * arc_of s + 1 - 1)) o.way
             ∙ omega (arith, f.0);
       }
   | inr f ↦
       let o = over_forward w (λ x. 0) (arc_of s) in
-      let t : opposite s ≡ 2 * arc_of s = ap (λ (b : Bool). by_direction b (s + 1) (s - 1)) f.1.labels
+      let t : opposite s ≡ 2 * arc_of s = ap (λ (b : Bool). by_direction b (s + 1) (s - 1)) f.1.way
       ∙ omega (arith, f.0) in
       subst (IsOpposite w s) (sym t) record {
         arc = o.arc;
         starts = o.starts ∙ sym f.1.enters;
         enters = o.enters ∙ sym f.1.starts;
-        back = ap (λ (b : Bool). by_direction b (2 * arc_of s + 1) (2 * arc_of s - 1)) o.labels ∙ omega (arith, f.0);
+        back = ap (λ (b : Bool). by_direction b (2 * arc_of s + 1) (2 * arc_of s - 1)) o.way ∙ omega (arith, f.0);
       }
 ]
 

@@ -8,13 +8,13 @@ use Rattle.std.proofs.lemmas.List.{get_or-set_other, get_or-set_same}
 use Rattle.circulation.specs.Contents.{Contents, network, flow_of, arcs, step_of, held_contents, IsCirculation}
 use Rattle.circulation.specs.Residual.{arc_of, is_backward, by_direction, start_of, end_of, room_of, IsClosedWalk}
 use Rattle.circulation.specs.Residual.{IsPushed}
-use Rattle.augment.specs.Search.{SameButScratch}
+use Rattle.circulation.specs.Contents.{SameButScratch}
 use Rattle.residual_tree.specs.Tree.{label_of, IsLabeled, IsResidualTree}
 use Rattle.residual_tree.specs.Repair.{OccursIn, none, IsTreeBut, IsSaturatedTree, HasArtificialStep}
 use Rattle.residual_tree.specs.Repair.{no_step, HasSomeArtificial}
 use Rattle.residual_tree.proofs.Changes.{tree_map}
 use Rattle.residual_tree.proofs.Grows.{artificial_none, artificial_some, artificial_closed}
-use Rattle.residual_tree.proofs.Overs.{IsOver, over, over_forward, over_either}
+use Rattle.circulation.proofs.Overs.{IsOver, over, over_forward, over_either, end_is_either}
 
 -- a step of a walk that goes over the arc a
 record IsOn (step : ℕ → ℕ) (first last a : ℕ) : Type 0 where
@@ -66,16 +66,7 @@ walk_starts {w} {step} {first} {last} labels walk ends i b c = elim (cases_eq i 
 -- a step over an arc of the walk ends where the step of the walk ends or starts
 walk_end : (w : Network) (s t : ℕ) (labels : List ℕ) → arc_of s ≡ arc_of t → IsLabeled labels (start_of w t) →
     IsLabeled labels (end_of w t) → IsLabeled labels (end_of w s)
-walk_end w s t labels e start end = elim (over_either w (λ x. 0) s) [
-  | inl f ↦ elim (over_either w (λ x. 0) t) [
-    | inl h ↦ subst (λ (u : ℕ). IsLabeled labels u) (h.1.enters ∙ ap w.to (sym e) ∙ sym f.1.enters) end
-    | inr h ↦ subst (λ (u : ℕ). IsLabeled labels u) (h.1.starts ∙ ap w.to (sym e) ∙ sym f.1.enters) start
-  ]
-  | inr f ↦ elim (over_either w (λ x. 0) t) [
-    | inl h ↦ subst (λ (u : ℕ). IsLabeled labels u) (h.1.starts ∙ ap w.from (sym e) ∙ sym f.1.enters) start
-    | inr h ↦ subst (λ (u : ℕ). IsLabeled labels u) (h.1.enters ∙ ap w.from (sym e) ∙ sym f.1.enters) end
-  ]
-]
+walk_end w s t labels e start end = elim (end_is_either w s t e) [ inl f ↦ rw f end | inr f ↦ rw f start ]
 
 -- the room of a step over an arc whose flow and lower bound stay
 same_room : (c : Contents) (lower flow : List ℕ) (s : ℕ) → slice_index flow (arc_of s) ≡ flow_of c (arc_of s) →
@@ -103,13 +94,13 @@ gains c lower flow s t amount e ne positive l low high room on =
         | inl h ↦ absurd (ne (f.0 ∙ ap (λ (a : ℕ). 2 * a) e ∙ sym h.0))
         | inr h ↦
             let moved = subst (λ (b : Bool). slice_index flow (arc_of t) + when b amount
-            ≡ flow_of c (arc_of t) + when (not b) amount) h.1.labels on in
+            ≡ flow_of c (arc_of t) + when (not b) amount) h.1.way on in
             omega (arith, f.1.room, h.1.room, room, moved, flow_at, old_at, upper_at, lower_at, l, low, high, positive)
       ]
       | inr f ↦ elim (over_either (network c) (flow_of c) t) [
         | inl h ↦
             let moved = subst (λ (b : Bool). slice_index flow (arc_of t) + when b amount
-            ≡ flow_of c (arc_of t) + when (not b) amount) h.1.labels on in
+            ≡ flow_of c (arc_of t) + when (not b) amount) h.1.way on in
             omega (arith, f.1.room, h.1.room, room, moved, flow_at, old_at, upper_at, lower_at, l, low, high, positive)
         | inr h ↦ absurd (ne (f.0 ∙ ap (λ (a : ℕ). 2 * a + 1) e ∙ sym h.0))
       ]
@@ -196,7 +187,7 @@ held_saturated {c} {labels} lower r at t is lowers more = record {
       let was = t.branch v b m in
       let s = label_of labels v - 1 in
       elim (over_either (network c) (flow_of c) s) [
-        | inl f ↦ inl (omega (arith, f.1.room, (now s false f.1.labels).room, was.room))
+        | inl f ↦ inl (omega (arith, f.1.room, (now s false f.1.way).room, was.room))
         | inr f ↦ elim (cases_eq (arc_of s) r) [
           | inl own ↦ inr record {
             place = at;
@@ -209,9 +200,9 @@ held_saturated {c} {labels} lower r at t is lowers more = record {
       ];
   closed = λ s b room m. inl (t.closed s b (elim (cases_eq (arc_of s) r) [
     | inl own ↦ elim (over_either (network c) (flow_of c) s) [
-      | inl f ↦ omega (arith, f.1.room, (now s false f.1.labels).room, room)
+      | inl f ↦ omega (arith, f.1.room, (now s false f.1.way).room, room)
       | inr f ↦
-          let after = (now s true f.1.labels).room in
+          let after = (now s true f.1.way).room in
           omega (arith, f.1.room, after, room, ap (slice_index lower) own, ap (slice_index c.lower) own, more)
     ]
     | inr other ↦ omega (arith, same_room c lower c.flow s refl (lowers (arc_of s) other), room)

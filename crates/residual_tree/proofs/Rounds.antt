@@ -4,10 +4,9 @@ use Rattle.std.proofs.Common.{ap, sym, subst, inl, inr, ◌∙◌}
 use Rattle.std.proofs.lemmas.Bool.{cases_eq}
 use Rattle.std.proofs.lemmas.List.{get_or-set_other, get_or-set_same, length-set}
 use Rattle.std.proofs.lemmas.Grind.{same_number_lists}
-use Rattle.circulation.specs.Contents.{Contents, flow_of, arcs, step_of, held_contents, IsCirculation}
+use Rattle.circulation.specs.Contents.{Contents, flow_of, arcs, step_of, held_contents, IsCirculation, SameButScratch}
 use Rattle.circulation.specs.Residual.{arc_of, IsPushed}
-use Rattle.augment.specs.Search.{SameButScratch}
-use Rattle.augment.proofs.Raises.{pushed_first}
+use Rattle.circulation.proofs.Pushing.{pushed_first}
 use Rattle.residual_tree.specs.Repair.{IsSaturatedTree, HasSomeArtificial}
 use Rattle.residual_tree.specs.Raised.{IsTraced, IsRaisedOver}
 use Rattle.residual_tree.proofs.Pushes.{but_over, pushed_saturated, saturated_written}
@@ -106,8 +105,7 @@ round_is {c} {d} {e} {r} {first} {last} {amount} {flow} k b held traced positive
     let more = max (slice_index c.lower r) flow in
     let kept = subst IsCirculation rest k in
     let long : r < length c.lower = omega (arith, kept.shape.lower, b) in
-    let own = pushed_first (flow_of d) (flow_of e) (step_of d) first last amount r p (omega (arith, traced.some, is))
-    traced.forward in
+    let own = pushed_first r p (omega (arith, traced.some, is)) traced.forward in
     let before = ap (λ (x : Contents). flow_of x r) rest in
     let here = get_or-set_same c.lower r more 0 long in
     subst (λ (x : Contents). IsRound c x r amount) (sym now) record {
@@ -155,7 +153,3 @@ hold_still {c} {d} r {amount} k b is held made =
           ∙ omega (arith, is, held) ∙ sym (ap (slice_index c.lower) e)
       | inr ne ↦ get_or-set_other c.lower r a more 0 ne
     ]))
-
--- two changes of scratch words
-pub scratch_more : (c d e : Contents) → SameButScratch c d → SameButScratch d e → SameButScratch c e
-scratch_more c d e first second = second ∙ ap (λ (x : Contents). record x { scratch = e.scratch }) first

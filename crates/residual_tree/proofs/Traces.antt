@@ -1,17 +1,15 @@
 -- The walk is written down from its end.
 use Rattle.std.proofs.Common.{ℕ, min, ◌≡◌, ◌≢◌, ◌+◌, ◌-◌, ◌*◌, ◌<◌, ◌≤◌, List, length, slice_index, slice_set, refl}
-use Rattle.std.proofs.Common.{arith, ap, sym, subst, inl, inr, ◌∙◌}
-use Rattle.std.proofs.lemmas.Bool.{cases_eq, cases_lt}
-use Rattle.std.proofs.lemmas.List.{get_or-set_other, get_or-set_same}
-use Rattle.circulation.specs.Contents.{Contents, network, flow_of, arcs, step_of, IsCirculation}
+use Rattle.std.proofs.Common.{arith, ap, sym, ◌∙◌}
+use Rattle.circulation.specs.Contents.{Contents, network, flow_of, arcs, step_of, IsCirculation, SameButScratch}
 use Rattle.circulation.specs.Residual.{start_of, end_of, room_of}
-use Rattle.augment.specs.Search.{SameButScratch}
-use Rattle.augment.proofs.Trails.{IsTrail, IsWayBack, trail_start, trail_next, trail_closed}
+use Rattle.circulation.proofs.Trails.{IsBefore, wrote, each_from, IsTrail, IsWayBack, trail_start, trail_next}
+use Rattle.circulation.proofs.Trails.{trail_closed}
 use Rattle.residual_tree.specs.Tree.{label_of, IsLabeled}
 use Rattle.residual_tree.specs.Raised.{IsExit, IsTraced}
 use Rattle.residual_tree.specs.Repair.{HasSomeArtificial}
 use Rattle.residual_tree.proofs.Grows.{artificial_closed, artificial_marked}
-use Rattle.residual_tree.proofs.Overs.{over_forward}
+use Rattle.circulation.proofs.Overs.{over_forward}
 use Rattle.residual_tree.proofs.Ranks.{place_of, place_positive, place_most}
 use Rattle.residual_tree.proofs.Walks.{way_back, trail_exit}
 
@@ -46,31 +44,17 @@ tracing_start {c} labels r most k b positive m =
     }
 
 -- a word was written before the others
-pub record IsWritten (d e : Contents) (first first' s : ℕ) : Type 0 where
-  pub at : step_of e first' ≡ s
-  pub others : (i : ℕ) → first ≤ i → step_of e i ≡ step_of d i
-
-pub wrote : (d : Contents) {e : Contents} (first first' s : ℕ) →
+put_before : (d : Contents) {e : Contents} (first first' s : ℕ) →
     e ≡ record d { scratch = slice_set d.scratch (first - 1) s } →
-    first' + 1 ≡ first → first ≤ length d.scratch → IsWritten d e first first' s
-wrote d {e} first first' s is before long =
-    let scratch = ap (λ (x : Contents). x.scratch) is in
-    let place : first' ≡ first - 1 = omega arith in
-    record {
-      at = ap (λ (xs : List ℕ). slice_index xs first') scratch
-          ∙ ap (slice_index (slice_set d.scratch (first - 1) s)) place
-          ∙ get_or-set_same d.scratch (first - 1) s 0 (omega arith);
-      others = λ i h. ap (λ (xs : List ℕ). slice_index xs i) scratch
-          ∙ get_or-set_other d.scratch (first - 1) i s 0 (λ e. absurd (omega arith));
-    }
+    first' + 1 ≡ first → first ≤ length d.scratch → IsBefore (step_of d) (step_of e) first first' s
+put_before d first first' s is index long =
+    let place : first - 1 ≡ first' = omega arith in
+    rw (is, place) (wrote d.scratch first first' s index long)
 
 -- only the scratch words were written
 pub rest_more : (c d : Contents) {e : Contents} (scratch : List ℕ) → SameButScratch c d →
     e ≡ record d { scratch = scratch } → SameButScratch c e
-rest_more c d scratch rest is =
-    let own = ap (λ (x : Contents). x.scratch) is in
-    is ∙ ap (λ (x : Contents). record x { scratch = scratch }) rest
-    ∙ ap (λ (xs : List ℕ). record c { scratch = xs }) (sym own)
+rest_more c d scratch rest is = rw (is, rest) refl
 
 -- there are as many scratch words as before
 pub long_as : (c : Contents) {d : Contents} → SameButScratch c d → IsCirculation d → length d.scratch ≡ 4 * c.nodes + 8
@@ -92,11 +76,11 @@ pub tracing_next : {c d e : Contents} {labels : List ℕ} {r most first : ℕ} (
     next ≡ start_of (network d) s → more ≡ min amount (room_of (network d) (flow_of d) s) → first' + 1 ≡ first →
     e ≡ record d { scratch = slice_set d.scratch (first - 1) s } → IsCirculation e →
     IsTracing c e labels r most first' next more
-tracing_next {c} {d} {e} {labels} {r} {most} {first} first' {node} {amount} {s} k p t held ne basin is is_next
-    is_more before written kept =
+tracing_next {c} {d} {labels = labels} {r} {first = first} first' {node} {amount = amount} {s} k p t held ne basin is
+    is_next is_more before written kept =
     let back = tracing_back k p t held ne basin is in
     let trail = p.trail t in
-    let wr = wrote d first first' s written before (omega (arith, long_as c p.rest p.kept, trail.within)) in
+    let wr = put_before d first first' s written before (omega (arith, long_as c p.rest p.kept, trail.way.within)) in
     let start = is_next ∙ ap (λ (x : Contents). start_of (network x) s) p.rest in
     let room = is_more ∙ ap (λ (x : Contents). min amount (room_of (network x) (flow_of x) s)) p.rest in
     let inside = (p.trail t).inside in
@@ -104,58 +88,41 @@ tracing_next {c} {d} {e} {labels} {r} {most} {first} first' {node} {amount} {s} 
       rest = rest_more c d (slice_set d.scratch (first - 1) s) p.rest written;
       kept = kept;
       labeled = rw (start, is) (artificial_marked node t.tree (omega (arith, inside, basin)) p.labeled);
-      trail = λ t'.
-          let back' = tracing_back k p t' held ne basin is in
-          let moved = trail_next (network c) (flow_of c) r most (place_of c.nodes t'.tree.rank) (step_of d) (step_of e)
-          first first' (4 * c.nodes + 8) node amount s (sym before) (p.trail t') back' wr.at wr.others in
-          rw (start, room) moved;
-      passed = λ i h j. elim (cases_eq i first') [
-        | inl f ↦ subst (λ (x : ℕ). IsPassed c labels r x) (sym (ap (step_of e) f ∙ wr.at)) record {
-          labeled = subst (λ (u : ℕ). IsLabeled labels u) (sym back.enters) p.labeled;
-          head = λ g. ne (sym back.enters ∙ g);
-          basin = λ g. basin (sym back.enters ∙ g);
-        }
-        | inr other ↦ subst (λ (x : ℕ). IsPassed c labels r x) (sym (wr.others i (omega arith)))
-            (p.passed i (omega arith) j)
-      ];
+      trail = λ t'. rw (start, room) (trail_next wr (p.trail t') (tracing_back k p t' held ne basin is));
+      passed = each_from (IsPassed c labels r) wr record {
+        labeled = rw back.enters p.labeled;
+        head = λ g. ne (sym back.enters ∙ g);
+        basin = λ g. basin (sym back.enters ∙ g);
+      } p.passed;
     }
 
 -- the head of an arc with room is labeled where its tail is
 pub head_labeled : {c : Contents} {labels : List ℕ} {r : ℕ} (most : ℕ) → HasSomeArtificial c labels r → r < arcs c →
     0 < most → flow_of c r + most ≤ slice_index c.upper r → IsLabeled labels (slice_index c.from r) →
     IsLabeled labels (slice_index c.to r)
-head_labeled {c} {labels} {r} most t b positive room m =
+head_labeled {c} {r = r} most t b positive room m =
     let o = over_forward (network c) (flow_of c) r in
-    subst (λ (u : ℕ). IsLabeled labels u) o.enters
-    (artificial_closed (2 * r) t.tree (omega (arith, o.arc, b)) (omega (arith, o.room, positive, room))
-    (subst (λ (u : ℕ). IsLabeled labels u) (sym o.starts) m))
+    let step = rw (o.way, o.arc) at (artificial_closed (2 * r) t.tree) in
+    step b (omega (arith, positive, room)) m
 
 -- the tree leads to the tail through the head of the arc
 pub tracing_head : {c d e : Contents} {labels : List ℕ} {r most first : ℕ} (first' : ℕ) {node amount s : ℕ} →
     IsCirculation c → r < arcs c → IsTracing c d labels r most first node amount → HasSomeArtificial c labels r →
     flow_of c r + most ≤ slice_index c.upper r → node ≡ slice_index c.to r → s ≡ 2 * r → first' + 1 ≡ first →
     e ≡ record d { scratch = slice_set d.scratch (first - 1) s } → IsTraced c e labels r most first' amount
-tracing_head {c} {d} {e} {labels} {r} {most} {first} first' {amount} {s} k b p t room is step before written =
+tracing_head {c} {d} {labels = labels} {r} {first = first} first' {s = s} k b p t room is step before written =
     let trail = p.trail t in
-    let wr = wrote d first first' s written before (omega (arith, long_as c p.rest p.kept, trail.within)) in
-    let home = subst (λ (u : ℕ). IsTrail (network c) (flow_of c) r most (place_of c.nodes t.tree.rank) (step_of d) first
-    (4 * c.nodes + 8) u amount) is trail in
+    let wr = rw step at (put_before d first first' s written before
+    (omega (arith, long_as c p.rest p.kept, trail.way.within))) in
     record {
       rest = rest_more c d (slice_set d.scratch (first - 1) s) p.rest written;
-      some = omega (arith, before, trail.within);
+      some = omega (arith, before, trail.way.within);
       prefix = omega (arith, before, trail.space);
-      walk = λ positive. trail_closed (network c) (flow_of c) r most (place_of c.nodes t.tree.rank) (step_of d)
-          (step_of e) first first' (4 * c.nodes + 8) amount s k.ends b (sym before) home (omega (arith, room)) step
-          wr.at wr.others;
-      limit = trail.limit;
-      forward = wr.at ∙ step;
-      ends = λ i h j. elim (cases_eq i first') [
-        | inl f ↦ subst (λ (u : ℕ). IsLabeled labels u)
-            (is ∙ sym (ap (λ (x : ℕ). end_of (network c) (step_of e x)) f ∙ ap (end_of (network c)) (wr.at ∙ step)
-            ∙ (over_forward (network c) (flow_of c) r).enters)) p.labeled
-        | inr other ↦ subst (λ (x : ℕ). IsLabeled labels (end_of (network c) x)) (sym (wr.others i (omega arith)))
-            (p.passed i (omega arith) j).labeled
-      ];
+      walk = λ positive. trail_closed k.ends b wr (rw is at trail.way) (omega (arith, room));
+      limit = trail.way.limit;
+      forward = wr.at;
+      ends = each_from (λ x. IsLabeled labels (end_of (network c) x)) wr
+          (rw ((over_forward (network c) (flow_of c) r).enters, ← is) p.labeled) (λ i h j. (p.passed i h j).labeled);
     }
 
 -- the tree came from the outside, and the walk goes out by the exit
@@ -168,50 +135,31 @@ pub tracing_exit : {c d d' e : Contents} {labels : List ℕ} {r : ℕ} (x : ℕ)
     more ≡ min amount (room_of (network d) (flow_of d) s) → first' + 1 ≡ first → first'' + 1 ≡ first' →
     d' ≡ record d { scratch = slice_set d.scratch (first - 1) s } → IsCirculation d' →
     e ≡ record d' { scratch = slice_set d'.scratch (first' - 1) s' } → IsTraced c e labels r most first'' more
-tracing_exit {c} {d} {d'} {e} {labels} {r} x {most} {first} first' first'' {amount} {more} {s} {s'} k b some p t room m
+tracing_exit {c} {d} {d'} {labels = labels} {r} x {most} {first} first' first'' {s = s} {s'} k b some p t room m
     exit ne is step_x step_r is_more before before' written kept' written' =
     let trail = p.trail t in
     let apart : slice_index c.to r ≢ c.nodes = λ f. ne (is ∙ sym f) in
     let ex = exit apart in
     let head = head_labeled most t b some room m in
     let rest' = rest_more c d (slice_set d.scratch (first - 1) s) p.rest written in
-    let wr = wrote d first first' s written before (omega (arith, long_as c p.rest p.kept, trail.within)) in
-    let wr' = wrote d' first' first'' s' written' before'
-    (omega (arith, long_as c rest' kept', trail.within, before)) in
-    let home = subst (λ (u : ℕ). IsTrail (network c) (flow_of c) r most (place_of c.nodes t.tree.rank) (step_of d) first
-    (4 * c.nodes + 8) u amount) is trail in
-    let second : step_of e (first'' + 1) ≡ 2 * x = ap (step_of e) before' ∙ wr'.others first' (omega arith) ∙ wr.at
-    ∙ step_x in
-    let others = λ (i : ℕ) (h : first ≤ i). let same : step_of e i ≡ step_of d i =
-    wr'.others i (omega (arith, h, before)) ∙ wr.others i h in same in
-    let over_exit = over_forward (network c) (flow_of c) x in
-    let room_exit : room_of (network d) (flow_of d) s ≡ slice_index c.upper x - flow_of c x =
-    ap (λ (y : Contents). room_of (network y) (flow_of y) s) p.rest ∙ ap (room_of (network c) (flow_of c)) step_x
-    ∙ over_exit.room in
+    let wr = rw step_x at (put_before d first first' s written before
+    (omega (arith, long_as c p.rest p.kept, trail.way.within))) in
+    let wr' = rw step_r at (put_before d' first' first'' s' written' before'
+    (omega (arith, long_as c rest' kept', trail.way.within, before))) in
+    let least = rw (p.rest, step_x) at is_more in
     record {
       rest = rest_more c d' (slice_set d'.scratch (first' - 1) s') rest' written';
-      some = omega (arith, before, before', trail.within);
+      some = omega (arith, before, before', trail.way.within);
       prefix = omega (arith, before, before', trail.space);
-      walk = λ positive. trail_exit x (step_of e) first'' more k.ends b ex.0 (omega (arith, before, before')) home
-          (omega (arith, room)) (wr'.at ∙ step_r) second others ex.1 ex.2 apart
-          (λ i h j. ((p.passed i h j).head, (p.passed i h j).basin)) positive (omega (arith, is_more))
-          (omega (arith, is_more, room_exit));
-      limit = omega (arith, is_more, trail.limit);
-      forward = wr'.at ∙ step_r;
-      ends = λ i h j. elim (cases_lt i first) [
-        | inl near ↦ elim (cases_eq i first'') [
-          | inl f ↦ subst (λ (u : ℕ). IsLabeled labels u)
-              (sym (ap (λ (y : ℕ). end_of (network c) (step_of e y)) f ∙ ap (end_of (network c)) (wr'.at ∙ step_r)
-              ∙ (over_forward (network c) (flow_of c) r).enters)) head
-          | inr other ↦
-              let here : i ≡ first'' + 1 = omega (arith, h, near, before, before', other) in
-              subst (λ (u : ℕ). IsLabeled labels u)
-              (is ∙ sym (ap (λ (y : ℕ). end_of (network c) (step_of e y)) here ∙ ap (end_of (network c)) second
-              ∙ over_exit.enters ∙ ex.2)) p.labeled
-        ]
-        | inr far ↦ subst (λ (y : ℕ). IsLabeled labels (end_of (network c) y)) (sym (others i far))
-            (p.passed i far j).labeled
-      ];
+      walk = λ positive. rw least (trail_exit k.ends b ex.0 wr wr' (rw is at trail.way) (omega (arith, room)) ex.1 ex.2
+          apart (λ i h j. ((p.passed i h j).head, (p.passed i h j).basin)) (rw least at positive));
+      limit = omega (arith, is_more, trail.way.limit);
+      forward = wr'.at;
+      ends = each_from (λ y. IsLabeled labels (end_of (network c) y)) wr'
+          (rw (over_forward (network c) (flow_of c) r).enters head)
+          (each_from (λ y. IsLabeled labels (end_of (network c) y)) wr
+          (rw ((over_forward (network c) (flow_of c) x).enters, ex.2, ← is) p.labeled)
+          (λ i h j. (p.passed i h j).labeled));
     }
 
 -- there is room for two more words before them
@@ -221,5 +169,5 @@ pub tracing_space : {c d : Contents} {labels : List ℕ} {r most first node amou
 tracing_space p t =
     let trail = p.trail t in (
       omega (arith, trail.space),
-      omega (arith, trail.within, ap (λ (x : Contents). 4 * x.nodes + 8) p.rest),
+      omega (arith, trail.way.within, ap (λ (x : Contents). 4 * x.nodes + 8) p.rest),
     )

@@ -2,7 +2,7 @@
 use Rattle.std.specs.Prelude.{ℕ, ◌≡◌, ◌<◌, ◌≤◌, ◌↔◌, Bool, List, [], ◌∷◌, slice_index}
 use Rattle.circulation.specs.Contents.{Contents, network, flow_of, arcs, IsCirculation}
 use Rattle.circulation.specs.Residual.{arc_of, start_of, end_of, room_of}
-use Rattle.augment.specs.Raised.{IsGreatestCut}
+use Rattle.circulation.specs.Network.{IsGreatestCut}
 use Rattle.residual_tree.specs.Tree.{label_of, IsLabeled, IsResidualTree, unlabeled}
 use Rattle.residual_tree.specs.Raised.{IsRaisedOver}
 

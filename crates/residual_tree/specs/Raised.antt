@@ -1,8 +1,7 @@
 -- What a raise by the tree leaves.
 use Rattle.std.specs.Prelude.{ℕ, ◌≡◌, ◌≢◌, ◌+◌, ◌*◌, ◌<◌, ◌≤◌, List, slice_index}
-use Rattle.circulation.specs.Contents.{Contents, arcs, network, flow_of, step_of}
+use Rattle.circulation.specs.Contents.{Contents, arcs, network, flow_of, step_of, SameButScratch}
 use Rattle.circulation.specs.Residual.{end_of, room_of, IsClosedWalk}
-use Rattle.augment.specs.Search.{SameButScratch}
 use Rattle.residual_tree.specs.Tree.{IsLabeled}
 
 -- only the flow, scratch words and the lower bound of the arc r changed

@@ -9,9 +9,8 @@
 #![tactic(auto)]
 
 ghost use Rattle.std.specs.Prelude.{◌≡◌, ℕ, ◌+◌, ◌-◌, ◌*◌, ◌<◌, ◌≤◌, ◌==◌, length, slice_index, IsTrue, ◌↔◌};
-ghost use Rattle.circulation.specs.Contents.{arcs, flow_of, step_of, held_contents, IsCirculation};
+ghost use Rattle.circulation.specs.Contents.{arcs, flow_of, step_of, held_contents, IsCirculation, SameButScratch};
 ghost use Rattle.circulation.specs.Residual.{arc_of};
-ghost use Rattle.augment.specs.Search.{SameButScratch};
 ghost use Rattle.bit_words.specs.Marks.{words_for, is_marked};
 ghost use Rattle.residual_tree.specs.Tree.{label_of, IsLabeled, IsResidualTree, unlabeled};
 ghost use Rattle.residual_tree.specs.Repair.{IsSaturatedTree, HasArtificialStep};

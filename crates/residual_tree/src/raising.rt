@@ -1,9 +1,8 @@
 //! Raises the flow on an arc by pushes along the tree.
 ghost use Rattle.std.specs.Prelude.{◌≡◌, true, false, ◌+◌, ◌-◌, ◌*◌, ◌<◌, ◌≤◌, ◌≢◌, ◌⊎◌, slice_index, ◌↔◌};
-ghost use Rattle.circulation.specs.Contents.{arcs, flow_of, network, IsCirculation};
+ghost use Rattle.circulation.specs.Contents.{arcs, flow_of, network, IsCirculation, SameButScratch};
 ghost use Rattle.circulation.specs.Residual.{arc_of, end_of};
-ghost use Rattle.augment.specs.Raised.{IsGreatestCut};
-ghost use Rattle.augment.specs.Search.{SameButScratch};
+ghost use Rattle.circulation.specs.Network.{IsGreatestCut};
 ghost use Rattle.residual_tree.specs.Tree.{label_of, IsLabeled, IsResidualTree, unlabeled};
 ghost use Rattle.residual_tree.specs.Repair.{HasArtificialStep};
 ghost use Rattle.residual_tree.specs.Raised.{IsExit, IsFull, IsRaisedOver};

@@ -16,9 +16,8 @@ use Rattle.water_text.specs.declared.month.Month.{Month}
 use Rattle.water_model.specs.declared.types.Basin.{Basin}
 use Rattle.water_model.proofs.Sets.{has_below, total_where_same}
 use Rattle.water_model.proofs.Seniority.{not_senior_to_itself}
-use Rattle.circulation.specs.Network.{Network, cut_in, cut_out}
+use Rattle.circulation.specs.Network.{Network, cut_in, cut_out, IsGreatestCut}
 use Rattle.circulation.specs.Network as arc
-use Rattle.augment.specs.Raised.{IsGreatestCut}
 use Rattle.senior_hold.specs.MonthNetwork.{takes, take_arc, out_arc, right_arc, arc_by_link, IsMonthNetwork}
 use Rattle.senior_hold.specs.MonthNetwork.{KeepsForSeniors, list_of}
 use Rattle.senior_hold.proofs.MonthArcs.{arcs_total, take_arc_apart, IsKind, on_link, at_node}

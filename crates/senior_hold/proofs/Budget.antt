@@ -9,7 +9,7 @@ use Rattle.water_text.specs.declared.month.Month.{Month}
 use Rattle.water_model.specs.declared.types.Basin.{Basin}
 use Rattle.river_net.specs.Net.{total_of}
 use Rattle.circulation.specs.Contents.{Contents, network, flow_of}
-use Rattle.residual_tree.proofs.Overs.{over_forward}
+use Rattle.circulation.proofs.Overs.{over_forward}
 use Rattle.senior_hold.specs.MonthNetwork.{out_arc, spill_arc, IsMonthNetwork}
 use Rattle.senior_hold.specs.Serving.{FillsExit}
 use Rattle.senior_hold.specs.Solved.{AreSupplies}

@@ -18,7 +18,7 @@ use Rattle.river_net.proofs.Ranks.{forward_numbers}
 use Rattle.circulation.specs.Network.{Network, IsFlow, LeadsOut}
 use Rattle.circulation.specs.Network as arc
 use Rattle.augment.specs.Raised.{HasPathOut}
-use Rattle.augment.proofs.Cuts.{crossing}
+use Rattle.circulation.proofs.Cuts.{crossing}
 use Rattle.senior_hold.specs.MonthNetwork.{out_arc, spill_arc, right_arc, arc_by_link, arc_count, IsMonthNetwork}
 use Rattle.senior_hold.specs.Spilled.{spilled}
 use Rattle.senior_hold.proofs.SpilledArcs.{spilled_count, spilled_outlet, spill_is}

@@ -5,8 +5,9 @@ use Rattle.std.specs.Prelude.{slice_index, slice_set, max, min, nat_lt, ◌==◌
 use Rattle.std.proofs.lemmas.Bool.Decides.{nat_tests}
 use mathlib.Core.Path.{fun_ext}
 use Rattle.water_model.specs.CutSets.{CutSets, with_set}
-use Rattle.circulation.specs.Contents.{Contents, network, flow_of}
-use Rattle.augment.specs.Raised.{IsGreatestCut, SameButFlow, not_reached, position_of}
+use Rattle.circulation.specs.Network.{IsGreatestCut}
+use Rattle.circulation.specs.Contents.{Contents, network, flow_of, SameButFlow}
+use Rattle.augment.specs.Raised.{not_reached, position_of}
 use Rattle.senior_hold.specs.MonthNetwork.{list_of}
 use Rattle.senior_hold.proofs.Bridge.{has_list}
 use Rattle.senior_hold.proofs.Marks.{with_twice, list_size}

@@ -12,8 +12,7 @@ use Rattle.water_model.specs.CutSets.{CutSets, set_of, with_set}
 use Rattle.water_text.specs.declared.month.Month.{Month}
 use Rattle.water_model.specs.declared.types.Basin.{Basin}
 use Rattle.circulation.specs.Contents.{Contents, network, flow_of, IsCirculation}
-use Rattle.circulation.specs.Network.{Network, IsFlow}
-use Rattle.augment.specs.Raised.{IsGreatestCut}
+use Rattle.circulation.specs.Network.{Network, IsFlow, IsGreatestCut}
 use Rattle.senior_hold.specs.MonthNetwork.{take_arc, out_arc, right_arc, arc_count, IsMonthNetwork, KeepsForSeniors}
 use Rattle.senior_hold.proofs.MonthArcs.{AreKinds, take_arc_below, out_arc_below}
 use Rattle.senior_hold.proofs.Bridge.{greatest_reach}

@@ -1,21 +1,19 @@
 -- What a turn by the residual tree leaves.
-use Rattle.std.proofs.Common.{◌≡◌, ◌≢◌, ℕ, ◌+◌, ◌<◌, ◌≤◌, Bool, false, refl, sym, ◌∙◌, ap, subst, arith, List, length}
+use Rattle.std.proofs.Common.{◌≡◌, ◌≢◌, ℕ, ◌<◌, ◌≤◌, Bool, false, refl, sym, ◌∙◌, ap, subst, arith, List, length}
 use Rattle.std.proofs.Common.{inl, inr, get_or-set_same, get_or-set_other}
 use Rattle.std.proofs.lemmas.Bool.{cases_eq}
 use Rattle.std.proofs.lemmas.Bool.Decides.{nat_tests}
 use Rattle.std.proofs.lemmas.List.{length-set}
 use Rattle.std.proofs.lemmas.Grind.{same_number_lists}
-use Rattle.std.specs.Prelude.{slice_index, slice_set, max, min, nat_lt, ◌==◌, ◌&&◌, not, if◌then◌else◌, Some}
+use Rattle.std.specs.Prelude.{slice_index, slice_set, max, min, nat_lt, ◌==◌, ◌&&◌, Some}
 use mathlib.Core.Path.{fun_ext}
-use Rattle.finite_sums.proofs.Totals.{total_same}
 use Rattle.water_model.specs.CutSets.{CutSets, with_set}
 use Rattle.water_model.specs.Lookups.{has}
-use Rattle.circulation.specs.Contents.{Contents, network, flow_of, arcs, IsCirculation}
-use Rattle.circulation.specs.Network.{Network, IsTight, cut_out, leaves}
-use Rattle.augment.specs.Raised.{IsGreatestCut}
-use Rattle.augment.specs.Search.{SameButScratch}
+use Rattle.circulation.specs.Contents.{Contents, network, flow_of, arcs, IsCirculation, SameButScratch}
+use Rattle.circulation.specs.Network.{IsGreatestCut}
 use Rattle.residual_tree.specs.Raised.{IsRaisedOver}
 use Rattle.residual_tree.specs.Tree.{label_of, unlabeled}
+use Rattle.residual_tree.proofs.Reaches.{cut_stays_when_held_lem}
 use Rattle.senior_hold.specs.MonthNetwork.{list_of, IsMonthNetwork}
 use Rattle.senior_hold.specs.Serving.{IsServed}
 use Rattle.senior_hold.proofs.Bridge.{has_list}
@@ -24,52 +22,7 @@ use Rattle.senior_hold.proofs.Solves.{changed, net_kept}
 use Rattle.water_model.specs.declared.types.Basin.{Basin}
 use Rattle.water_text.specs.declared.month.Month.{Month}
 
-abbrev with_lower : Network → (ℕ → ℕ) → Network
-with_lower w lower = record w { lower = lower }
-
--- the lower bound of an arc says nothing of its cuts
-cut_out_moved : (w : Network) (lower : ℕ → ℕ) (r : ℕ) (y : ℕ → Bool) → ((a : ℕ) → a ≢ r → lower a ≡ w.lower a) →
-    cut_out (with_lower w lower) r y ≡ cut_out w r y
-cut_out_moved w lower r y same =
-    total_same w.arcs (λ a. if leaves w y a && not (a == r) then lower a else 0)
-    (λ a. if leaves w y a && not (a == r) then w.lower a else 0)
-    (λ a l. elim (cases_eq a r) [
-      | inl e ↦ own (leaves w y a) a r (lower a) (w.lower a) e
-      | inr ne ↦ ap (λ x. if leaves w y a && not (a == r) then x else 0) (same a ne)
-    ])
-  where
-    own : (t : Bool) (a r x z : ℕ) → a ≡ r → (if t && not (a == r) then x else 0) ≡ (if t && not (a == r) then z else 0)
-    own t a r x z e = grind (arith, nat_tests)
-
-tight_moved : (w : Network) (lower : ℕ → ℕ) (g : ℕ → ℕ) (r : ℕ) (y : ℕ → Bool) →
-    ((a : ℕ) → a ≢ r → lower a ≡ w.lower a) → IsTight (with_lower w lower) g r y → IsTight w g r y
-tight_moved w lower g r y same tight = record {
-  cut = record { basin = tight.cut.basin; tail = tight.cut.tail; head = tight.cut.head };
-  equal = (let e = tight.equal in e ∙ ap (λ x. g r + x) (cut_out_moved w lower r y same));
-}
-
-tight_back : (w : Network) (lower : ℕ → ℕ) (g : ℕ → ℕ) (r : ℕ) (y : ℕ → Bool) →
-    ((a : ℕ) → a ≢ r → lower a ≡ w.lower a) → IsTight w g r y → IsTight (with_lower w lower) g r y
-tight_back w lower g r y same tight = record {
-  cut = record { basin = tight.cut.basin; tail = tight.cut.tail; head = tight.cut.head };
-  equal = (let e = tight.equal in e ∙ sym (ap (λ x. g r + x) (cut_out_moved w lower r y same)));
-}
-
-cut_moved : (w : Network) (lower : ℕ → ℕ) (g : ℕ → ℕ) (r : ℕ) (y : ℕ → Bool) → ((a : ℕ) → a ≢ r → lower a ≡ w.lower a) →
-    IsGreatestCut (with_lower w lower) g r y → IsGreatestCut w g r y
-cut_moved w lower g r y same greatest = record {
-  tight = tight_moved w lower g r y same greatest.tight;
-  greatest = λ z tight v h. greatest.greatest z (tight_back w lower g r z same tight) v h;
-}
-
--- a raise leaves the cuts of its arc as they are
-pub raised_cut : (old mid : Contents) (g : ℕ → ℕ) (r : ℕ) (y : ℕ → Bool) → IsRaisedOver old mid r →
-    IsGreatestCut (network mid) g r y → IsGreatestCut (network old) g r y
-raised_cut old mid g r y raised greatest =
-    cut_moved (network old) (λ a. slice_index mid.lower a) g r y raised.lowers
-    (subst (λ (x : Contents). IsGreatestCut (network x) g r y) raised.rest greatest)
-
--- and the network of a month one of the month
+-- a raise leaves the network of a month one of the month
 pub raised_net : {b : Basin} {month : Month} {supply want : List ℕ} {old new : Contents} {r : ℕ} →
     IsRaisedOver old new r → IsMonthNetwork b month supply want (network old) →
     IsMonthNetwork b month supply want (network new)
@@ -157,7 +110,7 @@ served_unlabeled old mid new labels arc want cuts after right kept_old kept_mid 
                   (sym flow)
                   (subst (λ (y : ℕ → Bool). IsGreatestCut (network old) (flow_of mid) arc y)
                   (sym (unlabeled_list mid labels))
-                  (raised_cut old mid (flow_of mid) arc (unlabeled mid labels) raised greatest)),
+                  (cut_stays_when_held_lem old mid arc (unlabeled mid labels) raised greatest)),
             ),
           ),
         ),

@@ -3,7 +3,7 @@ use Rattle.std.specs.Prelude.{◌≡◌, ◌⊎◌, ℕ, ◌<◌, ◌≤◌, Boo
 use Rattle.water_model.specs.Lookups.{has}
 use Rattle.water_model.specs.CutSets.{CutSets, with_set}
 use Rattle.circulation.specs.Contents.{Contents, network, flow_of, IsCirculation}
-use Rattle.augment.specs.Raised.{IsGreatestCut}
+use Rattle.circulation.specs.Network.{IsGreatestCut}
 use Rattle.residual_tree.specs.Raised.{IsRaisedOver, IsFull}
 
 -- the arc is held at what it has of the want; and where that is less, the right has the greatest tight cut of the arc

@@ -2,7 +2,7 @@
 ghost use Rattle.std.specs.Prelude.{◌≡◌, ◌≢◌, ◌↔◌, ◌⊎◌, ◌+◌, ◌*◌, ◌<◌, ◌≤◌, length, slice_index, None};
 ghost use Rattle.water_model.specs.CutSets.{set_of};
 ghost use Rattle.circulation.specs.Contents.{network, flow_of, arcs, IsCirculation};
-ghost use Rattle.augment.specs.Raised.{IsGreatestCut};
+ghost use Rattle.circulation.specs.Network.{IsGreatestCut};
 ghost use Rattle.residual_tree.specs.Tree.{IsResidualTree, unlabeled};
 ghost use Rattle.residual_tree.specs.Repair.{HasArtificialStep};
 ghost use Rattle.residual_tree.specs.Raised.{IsExit, IsFull, IsRaisedOver};

@@ -1,6 +1,6 @@
 use Rattle.std.proofs.Common.{arith, refl}
 use Rattle.circulation.specs.Contents.{network, flow_of}
-use Rattle.augment.proofs.Cuts.{tight-greatest}
+use Rattle.circulation.proofs.Cuts.{tight-greatest}
 use Rattle.augment.proofs.Raises.{flow_over}
 use Rattle.augment.proofs.raise.Goals as goal
 

@@ -1,6 +1,6 @@
 use Rattle.std.proofs.Common.{◌+◌, ◌-◌, ◌*◌, ◌<◌, ◌≤◌}
-use Rattle.circulation.specs.Contents.{flow_of, network}
-use Rattle.augment.specs.Raised.{open_arcs, SameButFlow}
+use Rattle.circulation.specs.Contents.{flow_of, network, SameButFlow}
+use Rattle.augment.specs.Raised.{open_arcs}
 use Rattle.augment.proofs.raising.phase.Given as goal
 
 abbrev pub invariant-loop-circ : goal.invariant-loop-circ

@@ -1,7 +1,8 @@
 use Rattle.std.proofs.Common.{◌≡◌, ◌+◌, ◌-◌, ◌*◌, arith, ap}
 use Rattle.circulation.specs.Contents.{Contents, flow_of}
-use Rattle.augment.proofs.Trails.{tree_weak}
-use Rattle.augment.proofs.Raises.{missed, stopped_cut, stopped_rise, pushed_first}
+use Rattle.circulation.proofs.Pushing.{pushed_first}
+use Rattle.augment.proofs.Traces.{tree_weak}
+use Rattle.augment.proofs.Raises.{missed, stopped_cut, stopped_rise}
 use Rattle.augment.proofs.raising.round.Goals as goal
 
 pub trace-walk-requires-clause-tree : goal.trace-walk-requires-clause-tree
@@ -11,7 +12,7 @@ pub returns-then-not-reached-clause-rise : goal.returns-then-not-reached-clause-
 returns-then-not-reached-clause-rise g c = λ _.
     let none = missed c.args.circ.now c.args.arc c.search.ensures.rest c.ends-ends.ensures.from c.reached.ensures
     c.if-not-reached.true in
-    stopped_rise c.args.circ.now c.requires.arc c.requires.least c.search.ensures.rest c.ends-ends.ensures.kept
+    stopped_rise c.args.circ.now c.requires.arc c.search.ensures.rest c.ends-ends.ensures.kept
     c.search.ensures.tree none (c.search.ensures.closed none)
 
 pub returns-then-not-reached-clause-cut : goal.returns-then-not-reached-clause-cut
@@ -36,7 +37,7 @@ returns-clause-pushed g c = λ _.
     let some = t.walk.some in
     let positive = t.walk.positive in
     let limit = t.limit in
-    let first = pushed_first _ _ _ _ _ _ c.args.arc c.push.ensures.pushed
+    let first = pushed_first c.args.arc c.push.ensures.pushed
     (omega (arith, nodes, c.nodes.ensures.number, some)) t.forward in
     let before = ap (λ (x : Contents). flow_of x c.args.arc) t.rest in
     let start = ap (λ (x : Contents). flow_of x c.args.arc) c.search.ensures.rest in
@@ -51,7 +52,7 @@ pub returns-clause-wide : goal.returns-clause-wide
 returns-clause-wide g c = λ _.
     let t = c.trace-walk.ensures in
     let nodes = ap (λ (x : Contents). x.nodes) t.rest in
-    let first = pushed_first _ _ _ _ _ _ c.args.arc c.push.ensures.pushed
+    let first = pushed_first c.args.arc c.push.ensures.pushed
     (omega (arith, nodes, c.nodes.ensures.number, t.walk.some)) t.forward in
     let before = ap (λ (x : Contents). flow_of x c.args.arc) t.rest in
     let start = ap (λ (x : Contents). flow_of x c.args.arc) c.search.ensures.rest in

@@ -1,7 +1,7 @@
 use Rattle.std.proofs.Common.{ℕ, ◌≡◌, ◌+◌, ◌-◌, ◌*◌, ◌^◌, ◌<◌, ◌≤◌}
-use Rattle.circulation.specs.Network.{IsFlow}
-use Rattle.circulation.specs.Contents.{flow_of, network, IsCirculation}
-use Rattle.augment.specs.Raised.{open_arcs, IsGreatestCut, SameButFlow, not_reached}
+use Rattle.circulation.specs.Network.{IsFlow, IsGreatestCut}
+use Rattle.circulation.specs.Contents.{flow_of, network, IsCirculation, SameButFlow}
+use Rattle.augment.specs.Raised.{open_arcs, not_reached}
 use Rattle.augment.proofs.raising.run_phases.Given as goal
 
 abbrev pub invariant-loop-left : goal.invariant-loop-left

@@ -1,6 +1,5 @@
 use Rattle.std.proofs.Common.{ℕ, ◌≡◌, ◌<◌}
-use Rattle.circulation.specs.Contents.{IsCirculation}
-use Rattle.augment.specs.Search.{SameButScratch}
+use Rattle.circulation.specs.Contents.{IsCirculation, SameButScratch}
 use Rattle.augment.specs.Raised.{position_of}
 use Rattle.augment.proofs.scratch.clear.Given as goal
 

@@ -1,6 +1,6 @@
 use Rattle.std.proofs.Common.{◌≡◌, ◌≤◌, ◌+◌, ◌-◌, slice_index}
-use Rattle.circulation.specs.Contents.{IsCirculation}
-use Rattle.augment.specs.Search.{HasTree, SameButScratch}
+use Rattle.circulation.specs.Contents.{IsCirculation, SameButScratch}
+use Rattle.augment.specs.Search.{HasTree}
 use Rattle.augment.specs.Raised.{position_of}
 use Rattle.augment.proofs.Searches.{AreDone}
 use Rattle.augment.proofs.searching.search.Given as goal

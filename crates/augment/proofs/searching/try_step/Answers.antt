@@ -1,9 +1,9 @@
 use Rattle.std.proofs.Common.{◌≤◌, arith, ◌∙◌}
 use Rattle.circulation.specs.Contents.{network}
 use Rattle.circulation.specs.Residual.{start_of}
-use Rattle.augment.proofs.Trees.{start_within, tree_room}
+use Rattle.augment.proofs.Trees.{tree_room}
 use Rattle.augment.proofs.Visits.{visited}
-use Rattle.circulation.proofs.Scans.{end_within}
+use Rattle.circulation.proofs.Overs.{start_within, end_within}
 use Rattle.augment.proofs.searching.try_step.Goals as goal
 
 pub visit-requires-clause-room : goal.visit-requires-clause-room

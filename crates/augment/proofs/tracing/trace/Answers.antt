@@ -1,6 +1,6 @@
 use Rattle.std.proofs.Common.{ℕ, ◌*◌, arith, ap}
 use Rattle.circulation.specs.Contents.{Contents}
-use Rattle.augment.proofs.Trails.{tracing_start, tracing_back, tracing_next, tracing_end}
+use Rattle.augment.proofs.Traces.{tracing_start, tracing_back, tracing_next, tracing_end}
 use Rattle.augment.proofs.tracing.trace.Goals as goal
 
 pub loop-node-init : goal.loop-node-init

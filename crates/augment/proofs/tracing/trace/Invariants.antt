@@ -1,5 +1,5 @@
 use Rattle.circulation.specs.Contents.{IsCirculation}
-use Rattle.augment.proofs.Trails.{IsTracing}
+use Rattle.augment.proofs.Traces.{IsTracing}
 use Rattle.augment.proofs.tracing.trace.Given as goal
 
 abbrev pub invariant-loop-node : goal.invariant-loop-node

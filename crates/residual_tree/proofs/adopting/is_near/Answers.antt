@@ -4,7 +4,8 @@ use Rattle.circulation.specs.Contents.{network}
 use Rattle.circulation.specs.Residual.{start_of}
 use Rattle.residual_tree.specs.Tree.{label_of}
 use Rattle.residual_tree.specs.Adopting.{IsClear}
-use Rattle.residual_tree.proofs.Adopts.{clear_arrived, clear_step, start_within}
+use Rattle.circulation.proofs.Overs.{start_within}
+use Rattle.residual_tree.proofs.Adopts.{clear_arrived, clear_step}
 use Rattle.residual_tree.proofs.adopting.is_near.Goals as goal
 
 pub returns-then-at-outside : goal.returns-then-at-outside
@@ -22,7 +23,8 @@ loop-steps-preserved c =
     omega (arith, c.loop-steps.invariant.within, c.if-at-outside.false, c.nodes-outside.ensures.number) in
     let arc = c.requires.steps c.loop-steps.at inner (omega (arith, c.get-word.ensures, c.if-word-eq0.false)) in
     record {
-      within = omega (arith, starts, start_within b (label_of labels c.loop-steps.at - 1) c.requires.kept arc);
+      within = omega
+          (arith, starts, start_within (network b) (label_of labels c.loop-steps.at - 1) c.requires.kept.ends arc);
       clear = λ h. c.loop-steps.invariant.clear (clear_step c.loop-steps.at c.if-at-other.false
           (subst (λ (u : ℕ). IsClear b labels c.args.other u) starts h));
     }

@@ -3,7 +3,8 @@ use Rattle.circulation.specs.Contents.{Contents}
 use Rattle.residual_tree.specs.Tree.{label_of, IsLabeled}
 use Rattle.residual_tree.proofs.UnlabeledCut.{unlabeled_cut}
 use Rattle.residual_tree.proofs.Pushes.{residual_artificial}
-use Rattle.residual_tree.proofs.Rounds.{hold_is, hold_still, raised_more, scratch_more}
+use Rattle.residual_tree.proofs.Rounds.{hold_is, hold_still, raised_more}
+use Rattle.residual_tree.proofs.Traces.{rest_more}
 use Rattle.residual_tree.proofs.raising.raise_by_tree.Goals as goal
 
 pub returns-then-word-eq0-clause-cut : goal.returns-then-word-eq0-clause-cut
@@ -29,6 +30,6 @@ returns-else-word-eq0-clause-rest g c =
 
 pub returns-else-word-eq0-clause-still : goal.returns-else-word-eq0-clause-still
 returns-else-word-eq0-clause-still g c = λ none held.
-    scratch_more c.args.circ.now c.hold.new.circ c.raise_labeled.new.circ
+    rest_more c.args.circ.now c.hold.new.circ c.raise_labeled.new.circ.scratch
     (hold_still c.args.arc c.flow-start.ensures.kept c.requires.arc
     c.flow-start.ensures.amount held c.hold.ensures.held) (c.raise_labeled.ensures.still none)

@@ -1,6 +1,5 @@
 use Rattle.std.proofs.Common.{◌≡◌, ◌+◌, ◌≤◌, slice_index}
-use Rattle.circulation.specs.Contents.{flow_of, IsCirculation}
-use Rattle.augment.specs.Search.{SameButScratch}
+use Rattle.circulation.specs.Contents.{flow_of, IsCirculation, SameButScratch}
 use Rattle.residual_tree.specs.Tree.{IsResidualTree}
 use Rattle.residual_tree.specs.Raised.{IsRaisedOver}
 use Rattle.residual_tree.proofs.raising.raise_labeled.Given as goal

@@ -2,7 +2,7 @@ use Rattle.std.proofs.Common.{ℕ, length, slice_index, ◌+◌, ◌*◌, arith,
 use Rattle.circulation.specs.Contents.{Contents, network, flow_of}
 use Rattle.residual_tree.specs.Tree.{label_of, IsLabeled}
 use Rattle.residual_tree.proofs.UnlabeledCut.{unlabeled_cut}
-use Rattle.residual_tree.proofs.Overs.{over_backward}
+use Rattle.circulation.proofs.Overs.{over_backward}
 use Rattle.residual_tree.proofs.Pushes.{stopped_artificial}
 use Rattle.residual_tree.proofs.Rounds.{raised_more, raised_scratch}
 use Rattle.residual_tree.proofs.raising.raise_within_unlabeled.Goals as goal

@@ -70,7 +70,7 @@ room-requires-in-loop-node-clause-arc c =
 
 pub returns-then-node-nodes-clause-blocked : goal.returns-then-node-nodes-clause-blocked
 returns-then-node-nodes-clause-blocked c = λ empty.
-    let positive = (c.loop-node.invariant.tracing.trail c.requires.tree).positive in
+    let positive = (c.loop-node.invariant.tracing.trail c.requires.tree).way.positive in
     let is = c.room.ensures ∙ ap (λ (x : Contents). room_of (network x) (flow_of x) (2 * c.from-out.result))
     c.loop-node.invariant.tracing.rest
     ∙ ap (λ (a : ℕ). room_of (network c.args.circ.now) (flow_of c.args.circ.now) (2 * a)) c.from-out.ensures in (
@@ -81,4 +81,4 @@ returns-then-node-nodes-clause-blocked c = λ empty.
 
 pub returns-clause-blocked : goal.returns-clause-blocked
 returns-clause-blocked c =
-    λ empty. absurd (omega (arith, (c.loop-node.invariant.tracing.trail c.requires.tree).positive, empty))
+    λ empty. absurd (omega (arith, (c.loop-node.invariant.tracing.trail c.requires.tree).way.positive, empty))
