@@ -1,5 +1,5 @@
 -- What an audit answers at the end of a text.
-use Rattle.std.proofs.Common.{◌≡◌, ℕ, ◌<◌, Bool, true, false, refl, sym, ap, subst, ◌∙◌, arith, inl, inr, List, [], ◌∷◌}
+use Rattle.std.proofs.Common.{◌≡◌, ℕ, ◌<◌, Bool, refl, sym, ap, subst, ◌∙◌, arith, inl, inr, List, [], ◌∷◌}
 use Rattle.std.proofs.Common.{take, zero, suc, ◌++◌, map}
 use Rattle.std.specs.Prelude.{Option, Some, Ok, Err, IsOk, is_ok, slice_get, unwrap_or, None, Result, IfSome}
 use Rattle.std.proofs.lemmas.Bool.{cases_eq, cases_lt}
@@ -20,6 +20,7 @@ use Rattle.cert_check.specs.declared.refuted.Refuted.{Refuted}
 use Rattle.cert_check.proofs.Amounts.{history_texts}
 use Rattle.cert_check.proofs.ByteLaws.{yes_exactly_for_histories, ok_of, spelled_text}
 use Rattle.cert_check.proofs.CallLines.{one_call_line}
+use Rattle.cert_check.proofs.Fitting.{clash}
 use Rattle.result_lines.specs.Spelling.{line_of}
 use Rattle.result_lines.specs.declared.item.Item.{Item}
 use Rattle.result_reader.specs.ReadSoFar.{read_so_far}
@@ -63,8 +64,7 @@ accepted_answer b series text lines rest items a valid fits pieces accepts audit
 
 not_refused : (o : Option Refuted) (r : Result ℕ Refuted) (months : ℕ) → r ≡ Ok months → IfSome o (λ e. r ≡ Err e) →
     o ≡ None
-not_refused None r months is h = refl
-not_refused (Some e) r months is h = let never : Ok months ≡ Err e = sym is ∙ h in cc
+not_refused o r months is h = grind arith
 
 -- a checker that accepts, and audits
 pub audited_answer : (c : CheckerView) (lines : List (List ℕ)) (text rest : List ℕ) (months : ℕ)
@@ -97,9 +97,6 @@ audited_answer c lines text rest months finished a valid fits is stays answer ha
         (subst (IsAuditIfAny c.basin (read_so_far c.basin c.series progress.items) progress.items) has progress.audit)
 
 -- An audit says yes exactly for reaches, and has one answer.
-
-clash : {X : Type 0} → false ≡ true → X
-clash e = cc
 
 never_ok : {X : Type 0} (e : Refuted) → IsOk {T = ℕ} {E = Refuted} (Err e) → X
 never_ok e h = clash h

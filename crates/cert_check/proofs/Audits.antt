@@ -15,7 +15,6 @@ use Rattle.result_lines.specs.OfBasin.{IsOfBasin}
 use Rattle.result_lines.specs.declared.item.Item.{Item}
 use Rattle.result_lines.specs.declared.item.Item.TheVariants as line
 use Rattle.result_lines.specs.declared.quantity.Quantity.{Quantity}
-use Rattle.result_lines.specs.declared.quantity.Quantity.TheVariants as quantity
 use Rattle.water_model.specs.declared.types.Basin.{Basin}
 use Rattle.water_model.specs.declared.types.Inflows.{Inflows}
 use Rattle.water_model.specs.declared.types.MonthRecord.{MonthRecord}
@@ -93,8 +92,7 @@ kept_free {b} {series} {a} {t} k {r} none = record {
 -- where none becomes none, some was some before
 some_before : (now : Option (List Bool)) {later : Option (List Bool)} → (now ≡ None → later ≡ None) → IsSome later →
     IsSome now
-some_before None {later} h some = never_some later (h refl) some
-some_before (Some set) h some = refl
+some_before now h some = grind arith
 
 -- a line that is no `call`, and begins and ends no month
 record IsCalm (t u : ReadSoFar) (item : Item) : Type 0 where
@@ -235,18 +233,11 @@ end_more {b} {series} {t} {items} {old} {new} index follows asks h = record {
 
 calm_amount : (b : Basin) (series : Inflows) (t : ReadSoFar) (q : Quantity) (entry amount : ℕ) →
     (read_item b series t (line.Amount q entry amount)).now.index ≡ t.now.index
-calm_amount b series t quantity.Opening entry amount = refl
-calm_amount b series t quantity.Evaporated entry amount = refl
-calm_amount b series t quantity.Returned entry amount = refl
-calm_amount b series t quantity.Used entry amount = refl
-calm_amount b series t quantity.Flow entry amount = refl
-calm_amount b series t quantity.Outflow entry amount = refl
-calm_amount b series t quantity.Closing entry amount = refl
+calm_amount b series t q entry amount = grind arith
 
 member_calm : (t : ReadSoFar) (o : Option ℕ) (n : ℕ) → ((with_member t o n).months ≡ t.months) ×
     ((with_member t o n).now.index ≡ t.now.index)
-member_calm t None n = (refl, refl)
-member_calm t (Some right) n = (refl, refl)
+member_calm t o n = grind arith
 
 pub audit_more : {b : Basin} {series : Inflows} {a : CheckState} {t : ReadSoFar} {items : List Item} (item : Item)
     {old new : Audit} → IsOfBasin b item → Keeps b series a t → MayCome b series t item → IsAuditOf b t items old →

@@ -1,23 +1,19 @@
 -- What a checker begins with.
 use Rattle.std.proofs.Math.Bool.{and-true}
-use Rattle.std.proofs.Common.{◌≡◌, ℕ, ◌+◌, ◌≤◌, Bool, true, false, refl, ap, ◌∙◌, arith, [], ◌∷◌, filter}
+use Rattle.std.proofs.Common.{◌≡◌, ℕ, ◌+◌, ◌≤◌, Bool, true, false, ap, ◌∙◌, arith, [], ◌∷◌, filter}
 use Rattle.std.proofs.Common.{add-one, zero-add}
 use Rattle.std.specs.Prelude.{◌&&◌, nat_le, if◌then◌else◌}
 use Rattle.std.specs.List.{list_all}
 use Rattle.std.proofs.lemmas.Bool.Decides.{nat_tests}
 use Rattle.std.proofs.lemmas.List.Folds.{list_all-append}
 use Rattle.std.proofs.lemmas.List.Elements.{filter-append}
-use Rattle.month_terms.proofs.BlankRecords.{blank_fits}
 use Rattle.water_model.proofs.Lists.{numbers_more}
-use Rattle.water_model.specs.Blank.{blank_month}
 use Rattle.water_model.specs.Indices.{numbers_from}
-use Rattle.water_model.specs.Valid.{IsValidBasin}
 use Rattle.water_model.specs.declared.types.Basin.{Basin}
 use Rattle.water_model.specs.declared.types.Inflows.{Inflows}
 use Rattle.result_reader.specs.Standing as reader
 use Rattle.result_reader.specs.ReadSoFar.{nothing_read}
 use Rattle.cert_check.specs.Auditing.{IsAuditIfAny}
-use Rattle.cert_check.specs.Beginning.{IsBlank}
 use Rattle.cert_check.specs.Keeping.{Keeps}
 use Rattle.cert_check.specs.Standing.{IsProgressOf}
 use Rattle.cert_check.specs.declared.progress.CheckProgress.{CheckProgress}
@@ -52,15 +48,6 @@ last_more p {k} {last} n most h =
 pub most_more : (t : Bool) {k last : ℕ} → last ≤ k → (if t then k else last) ≤ k + 1
 most_more true l = omega arith
 most_more false l = omega arith
-
--- A check state of nothing.
-
-pub blank_is : {b : Basin} → IsValidBasin b → IsBlank b (blank_month b 0 b.first)
-blank_is {b} valid = record {
-  fits = blank_fits b 0 b.first;
-  calendar = valid.run.first;
-  shows = assumption (refl);
-}
 
 -- check progress of no line
 pub first_book : {b : Basin} {series : Inflows} {k : CheckProgress} → k.reader.basin ≡ b →

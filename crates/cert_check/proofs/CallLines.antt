@@ -18,27 +18,16 @@ use Rattle.water_model.specs.declared.types.MonthRecord.{MonthRecord}
 use Rattle.cert_check.specs.Audit.{ended_months, is_end, IsCallLine}
 use Rattle.cert_check.specs.Checking.{callers_due}
 use Rattle.cert_check.proofs.Audits.{ended-append}
+use Rattle.cert_check.proofs.Fitting.{clash}
 use Rattle.cert_check.proofs.Prefixes.{last_amid, stands_amid}
 use Rattle.cert_check.proofs.Passages.{stands_in}
 use Rattle.cert_check.proofs.RunGood.{items_are}
 use Rattle.cert_check.proofs.Sheets.{Sheet, sheet_lines}
 use Rattle.cert_check.proofs.UnderWay.{is_amid, no_call}
 
-clash : {X : Type 0} → false ≡ true → X
-clash e = cc
-
 -- no month ends within one
 amid_no_end : (i : Item) → is_amid i ≡ true → is_end i ≡ false
-amid_no_end line.Title h = refl
-amid_no_end (line.Run first months) h = refl
-amid_no_end (line.Month month) h = refl
-amid_no_end (line.Amount q entry amount) h = refl
-amid_no_end (line.Deliver r amount want) h = refl
-amid_no_end (line.Call r) h = refl
-amid_no_end (line.Member n) h = refl
-amid_no_end (line.Called r caller) h = refl
-amid_no_end line.End h = clash h
-amid_no_end (line.Done months) h = refl
+amid_no_end i h = grind arith
 
 none_ended : (xs : List Item) → list_all is_amid xs ≡ true → ended_months xs ≡ 0
 none_ended [] h = refl

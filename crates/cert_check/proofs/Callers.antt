@@ -18,10 +18,7 @@ use Rattle.result_reader.specs.ReadSoFar.{ReadSoFar, read_item}
 use Rattle.cut_cert.specs.Callers.{is_short}
 use Rattle.cert_check.specs.Checking.{rows, caller_due, callers_due, is_due}
 use Rattle.cert_check.proofs.Rows.{NoneHolds, AreGood, Section, is_same, same_is}
-use Rattle.cert_check.proofs.Calls.{IsSettled, loose_fails, settled, missing_fails, none_missing}
-
-clash : {X : Type 0} → true ≡ false → X
-clash h = cc
+use Rattle.cert_check.proofs.Calls.{clash, IsSettled, loose_fails, settled, missing_fails, none_missing}
 
 -- callers follow from deliveries, wants and sets
 pub same_callers : (b : Basin) (m k : MonthRecord) → m.delivered ≡ k.delivered → m.want ≡ k.want →
@@ -35,14 +32,7 @@ called_line due = line.Called due.0 due.1
 pub called_lines : (f : ℕ → Option ℕ) (xs : List ℕ) →
     flat_map (λ r. called_items r (f r)) xs ≡ map called_line (flat_map (λ r. caller_due r (f r)) xs)
 called_lines f [] = refl
-called_lines f (x ∷ xs) = by_caller (f x) (called_lines f xs)
-  where
-    by_caller : (o : Option ℕ) →
-        flat_map (λ r. called_items r (f r)) xs ≡ map called_line (flat_map (λ r. caller_due r (f r)) xs) →
-        called_items x o ++ flat_map (λ r. called_items r (f r)) xs ≡ map called_line
-        (caller_due x o ++ flat_map (λ r. caller_due r (f r)) xs)
-    by_caller None h = h
-    by_caller (Some c) h = ap (λ is. line.Called x c ∷ is) h
+called_lines f (x ∷ xs) = grind (arith, called_lines f xs)
 
 -- each short right has its set, and the open one is settled
 pub record AllCalled (b : Basin) (series : Inflows) (t : ReadSoFar) : Type 0 where
@@ -74,7 +64,7 @@ called_good {b} {series} {dues} [] {before} c is =
     (tt, record { all = c.all; due = c.due; count = c.count ∙ ap length (sym (append-nil before) ∙ sym is) })
 called_good {b} {series} {dues} (x ∷ xs) {before} {t} c is =
     let rest = called_good xs (record {
-      all = record { settled = λ r e. never r e; none_left = c.all.none_left };
+      all = record { settled = λ r e. (let never : None ≡ Some r = e in cc); none_left = c.all.none_left };
       due = c.due;
       count = rw (c.count, length-append before (x ∷ [])) refl;
     }) (is ∙ sym (append_assoc before (x ∷ []) xs)) in (
@@ -93,9 +83,6 @@ called_good {b} {series} {dues} (x ∷ xs) {before} {t} c is =
       ),
       rest.1,
     )
-  where
-    never : {X : Type 0} (r : ℕ) → None ≡ Some r → X
-    never r e = cc
 
 -- The lines after the calls.
 
@@ -112,28 +99,12 @@ pub closings : (b : Basin) (series : Inflows) (dues : List (ℕ × ℕ)) (take :
     (λ x. a x ≡ total_where (length b.rights) (λ r. is_zone_of b r x) (λ r. slice_index take r))
     (λ x. line.Amount quantity.Closing x (a x))
 closings b series dues take a = record {
-  makes = λ x t p g. (
-    loose_fails b series t (line.Amount quantity.Closing x (a x)) p.callers.all.settled,
-    (
-      missing_fails b t (line.Amount quantity.Closing x (a x)) (λ r l s f q. p.callers.all.none_left r l s f),
-      (
-        refl,
-        (
-          rw (p.callers.due, p.callers.count) (not_less (length dues)),
-          (
-            same_is
-                (rw p.take_is g),
-            tt,
-          ),
-        ),
-      ),
-    ),
-  );
+  makes = λ x t p g. grind (arith, nat_tests, loose_fails, missing_fails, not_less, same_is);
   reads = λ x t p n. is_same n.1.1.1.1.0
       ∙ ap (λ ts. total_where (length b.rights) (λ r. is_zone_of b r x) (λ r. slice_index ts r)) p.take_is;
   keeps = λ x t p. record {
     callers = record {
-      all = record { settled = λ r e. never r e; none_left = p.callers.all.none_left };
+      all = record { settled = λ r e. (let never : None ≡ Some r = e in cc); none_left = p.callers.all.none_left };
       due = same_callers b (read_item b series t (line.Amount quantity.Closing x (a x))).now t.now refl refl refl
           ∙ p.callers.due;
       count = p.callers.count;
@@ -141,9 +112,6 @@ closings b series dues take a = record {
     take_is = p.take_is;
   };
 }
-  where
-    never : {X : Type 0} (r : ℕ) → None ≡ Some r → X
-    never r e = cc
 
 pub end_good : {b : Basin} {series : Inflows} {dues : List (ℕ × ℕ)} {t : ReadSoFar} → Callers b series dues dues t →
     NoneHolds (rows b series t line.End)

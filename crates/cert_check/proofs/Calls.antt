@@ -4,7 +4,7 @@ use Rattle.std.proofs.Common.{inr, List, [], ◌∷◌, ◌++◌, length, fold}
 use Rattle.std.specs.Prelude.{Option, Some, None, ◌&&◌, not, is_none}
 use Rattle.std.specs.List.{flat_map}
 use Rattle.std.specs.Option.{option_map_or}
-use Rattle.std.proofs.lemmas.Bool.{cases_eq, not-false, and_parts, false_from_ne_true}
+use Rattle.std.proofs.lemmas.Bool.{cases_eq, not-false}
 use Rattle.std.proofs.Math.ListN.{length-set}
 use Rattle.water_model.specs.Basin.{is_senior}
 use Rattle.water_model.specs.History.{cut_of}
@@ -25,7 +25,7 @@ use Rattle.cut_cert.specs.Callers.{is_short}
 use Rattle.cert_check.specs.Checking.{rows, has_tight, is_tight, passes, cut_missing}
 use Rattle.cert_check.proofs.Rows.{none_holds, each_fails, NoneHolds, AreGood, members_good, good_both, good_rest}
 
-clash : {X : Type 0} → true ≡ false → X
+pub clash : {X : Type 0} → true ≡ false → X
 clash h = cc
 
 -- what does not change by `call`, `in` and `called` lines
@@ -51,13 +51,7 @@ IsSettled b series t = (r : ℕ) → t.calling ≡ Some r → has_tight b (with_
 
 pub loose_fails : (b : Basin) (series : Inflows) (t : ReadSoFar) (i : Item) → IsSettled b series t →
     not (is_member i) && option_map_or (λ r. not (has_tight b (with_supply b series t.now) r)) t.calling false ≡ false
-loose_fails b series t i h = by_call (not (is_member i)) t.calling refl
-  where
-    by_call : (p : Bool) (o : Option ℕ) → t.calling ≡ o →
-        p && option_map_or (λ r. not (has_tight b (with_supply b series t.now) r)) o false ≡ false
-    by_call false o e = refl
-    by_call true None e = refl
-    by_call true (Some r) e = ap not (h r e)
+loose_fails b series t i h = grind arith
 
 pub settled : (b : Basin) (series : Inflows) (t : ReadSoFar) (i : Item) → is_member i ≡ false →
     not (is_member i) && option_map_or (λ r. not (has_tight b (with_supply b series t.now) r)) t.calling false ≡ false →
@@ -68,36 +62,14 @@ settled b series t i other h r e = not-false (has_tight b (with_supply b series 
 pub missing_fails : (b : Basin) (t : ReadSoFar) (i : Item) →
     ((r : ℕ) → r < length b.rights → is_short t.now r ≡ true → cut_of t.now r ≡ None → passes b i r ≡ true → ⊥) →
     cut_missing b t i ≡ false
-missing_fails b t i h = none_holds (indices_of b.rights)
-    (λ r m. by_right r (numbers_from-below 0 (length b.rights) r m).1)
-  where
-    none : (p q s : Bool) → (p ≡ true → q ≡ true → s ≡ true → ⊥) → p && q && s ≡ false
-    none p q s k = false_from_ne_true (p && q && s)
-        (λ e. (let parts = and_parts (p && q) s e in let two = and_parts p q parts.0 in k two.0 two.1 parts.1))
-
-    no_set : (o : Option (List Bool)) → is_none o ≡ true → o ≡ None
-    no_set None e = refl
-    no_set (Some x) e = cc
-
-    by_right : (r : ℕ) → r < 0 + length b.rights → is_short t.now r && is_none (cut_of t.now r) && passes b i r ≡ false
-    by_right r l = none (is_short t.now r) (is_none (cut_of t.now r)) (passes b i r)
-        (λ short free passed. h r (omega arith) short (no_set (cut_of t.now r) free) passed)
+missing_fails b t i h = none_holds (indices_of b.rights) (λ r m.
+    (let l = (numbers_from-below 0 (length b.rights) r m).1 in let k = h r (omega arith) in grind arith))
 
 pub none_missing : (b : Basin) (t : ReadSoFar) (i : Item) → cut_missing b t i ≡ false → {r : ℕ} → r < length b.rights →
     is_short t.now r ≡ true → passes b i r ≡ true → (set : List Bool) × (cut_of t.now r ≡ Some set)
-none_missing b t i h {r} l short passed = by_set (cut_of t.now r) refl
-    (each_fails (λ r. is_short t.now r && is_none (cut_of t.now r) && passes b i r) (indices_of b.rights) h
-    (numbers_from-has 0 (length b.rights) r r l (omega arith)))
-  where
-    all : (p q s : Bool) → p ≡ true → q ≡ true → s ≡ true → p && q && s ≡ false → ⊥
-    all p q s e f g k = clash (rw (e, f, g) at k)
-
-    by_set : (o : Option (List Bool)) → cut_of t.now r ≡ o →
-        is_short t.now r && is_none (cut_of t.now r) && passes b i r ≡ false → (set : List Bool) ×
-        (cut_of t.now r ≡ Some set)
-    by_set None e k =
-        absurd (all (is_short t.now r) (is_none (cut_of t.now r)) (passes b i r) short (ap is_none e) passed k)
-    by_set (Some set) e k = (set, e)
+none_missing b t i h {r} l short passed = (let fails =
+    each_fails (λ r. is_short t.now r && is_none (cut_of t.now r) && passes b i r) (indices_of b.rights) h
+    (numbers_from-has 0 (length b.rights) r r l (omega arith)) in grind arith)
 
 -- A right's call.
 

@@ -1,8 +1,8 @@
 -- A check state keeps what was read with one more line.
-use Rattle.std.proofs.Common.{◌≡◌, ℕ, zero, suc, ◌+◌, Bool, true, false, refl, sym, ap, ◌∙◌, arith, List, [], ◌∷◌}
-use Rattle.std.proofs.Common.{◌++◌, length, map, replicate, take, length-append}
+use Rattle.std.proofs.Common.{◌≡◌, ℕ, ◌+◌, false, refl, sym, ap, ◌∙◌, arith, List, [], ◌∷◌}
+use Rattle.std.proofs.Common.{◌++◌, length, map, take, length-append}
 use Rattle.std.specs.Prelude.{Option, Some, None, ◌&&◌, not, is_some, slice_set, slice_get, if◌then◌else◌}
-use Rattle.std.proofs.lemmas.List.{length-map, length-replicate, map-append}
+use Rattle.std.proofs.lemmas.List.{map-append}
 use Rattle.std.proofs.lemmas.Option.{slice_get_past}
 use Rattle.water_model.proofs.Order.{length-by_seniority}
 use Rattle.water_text.specs.Months.{IsMonth}
@@ -11,7 +11,7 @@ use Rattle.lag_returns.specs.Lags as lag
 use Rattle.lag_returns.specs.Lags.{InTransit, HasReturned}
 use Rattle.month_terms.specs.Terms.{HasUsed}
 use Rattle.water_model.specs.Basin.{taking_node}
-use Rattle.water_model.specs.CutSets.{without_sets}
+use Rattle.water_model.specs.Blank.{blank_month}
 use Rattle.water_model.specs.Indices.{seniors_first}
 use Rattle.result_lines.specs.declared.item.Item.{Item}
 use Rattle.result_lines.specs.declared.item.Item.TheVariants as line
@@ -24,13 +24,11 @@ use Rattle.cert_check.specs.Keeping.{AreAnswered, AreLeft, Keeps, callers_of, is
 use Rattle.cert_check.specs.Walks.{IsDueFrom, after}
 use Rattle.cert_check.specs.declared.state.CheckState.{CheckState}
 use Rattle.cert_check.specs.declared.answering.Due.{Due}
-use Rattle.cert_check.proofs.Fitting.{Stays, answered_stay, callers_same, callers_stay, none_answered, none_settled}
-use Rattle.cert_check.proofs.Fitting.{nobody, put_both, record_with, settled_stay, stays, supply_stays, with_amount}
+use Rattle.cert_check.proofs.Fitting.{Stays, blank_is, clash, answered_stay, callers_same, callers_stay, none_answered}
+use Rattle.cert_check.proofs.Fitting.{none_settled, nobody, put_both, record_with, settled_stay, stays, supply_stays}
+use Rattle.cert_check.proofs.Fitting.{with_amount}
 use Rattle.cert_check.proofs.Rows.{good_row}
 use Rattle.water_model.proofs.Histories.{opens_with_last}
-
-clash : {X : Type 0} → false ≡ true → X
-clash e = cc
 
 -- the line of an amount
 pub keeps_amount : {b : Basin} {series : Inflows} {a : CheckState} {t : ReadSoFar} (q : Quantity) (x amount : ℕ) →
@@ -90,69 +88,21 @@ keeps_delivery {b} {series} {a} x amount want none k = record {
     taken : ℕ
     taken = if is_some (taking_node b x) then amount else 0
 
--- a list of which nothing was read keeps its length, and is the one of a month of which nothing was read
-
-zeros : (xs : List ℕ) {n : ℕ} → length xs ≡ n →
-    (length (replicate {A = ℕ} (length xs) 0) ≡ n) × (replicate {A = ℕ} (length xs) 0 ≡ replicate n 0)
-zeros xs e = (length-replicate (length xs) 0 ∙ e, ap (λ k. replicate {A = ℕ} k 0) e)
-
-no_sets : (sets : List (Option (List Bool))) (n : ℕ) → length sets ≡ n →
-    map {A = Option (List Bool)} {B = Option (List Bool)} (λ _. None) sets ≡ replicate n None
-no_sets [] zero e = refl
-no_sets [] (suc n) e = absurd (omega (arith, e))
-no_sets (x ∷ sets) zero e = absurd (omega (arith, e))
-no_sets (x ∷ sets) (suc n) e = ap (λ ys. None ∷ ys) (no_sets sets n (omega (arith, e)))
-
 -- a `month` line
 pub keeps_month : {b : Basin} {series : Inflows} {a : CheckState} {t : ReadSoFar} {month : Month} → IsMonth month →
     Keeps b series a t → Keeps b series (record a {
-      month = record a.month {
-        index = a.done;
-        month = month;
-        opening = replicate (length a.month.opening) 0;
-        evaporated = replicate
-            (length a.month.evaporated) 0;
-        returned = replicate (length a.month.returned) 0;
-        used = replicate
-            (length a.month.used) 0;
-        want = replicate (length a.month.want) 0;
-        plan = record {
-          flow = replicate (length a.month.plan.flow) 0;
-          take = replicate (length a.month.plan.take) 0;
-          out = replicate
-              (length a.month.plan.out) 0;
-        };
-        delivered = replicate (length a.month.delivered) 0;
-        cuts = without_sets
-            a.month.cuts;
-        closing = replicate (length a.month.closing) 0;
-      };
+      month = blank_month b a.done month;
       calling = None;
       has_supply = false;
-      has_closes =
-          false;
+      has_closes = false;
       has_callers = false;
       passed = 0;
       answered = 0;
     }) (read_item b series t (line.Month month))
-keeps_month {b} {series} {a} {t} {month} calendar k = record {
+keeps_month {b} calendar k = record {
   left = k.left;
-  month = assumption (
-    k.left.done,
-    zeros a.month.opening k.month.fits.fits.opening,
-    zeros a.month.evaporated k.month.fits.fits.evaporated,
-    zeros a.month.returned k.month.fits.fits.returned,
-    zeros a.month.used k.month.fits.fits.used,
-    zeros a.month.want k.month.fits.fits.want,
-    zeros a.month.plan.flow k.month.fits.flow,
-    zeros a.month.plan.take k.month.fits.take,
-    zeros a.month.plan.out k.month.fits.out,
-    zeros a.month.delivered k.month.fits.fits.delivered,
-    length-map {B = Option (List Bool)} a.month.cuts.sets (λ _. None) ∙ k.month.fits.fits.cuts,
-    no_sets a.month.cuts.sets (length b.rights) k.month.fits.fits.cuts,
-    zeros a.month.closing k.month.fits.fits.closing,
-  );
-  calling = nobody b (without_sets a.month.cuts);
+  month = blank_is calendar k.left.done;
+  calling = nobody b _;
   supply = λ e. clash e;
   closes = λ e. clash e;
   callers = λ e. clash e;
@@ -205,18 +155,15 @@ pub keeps_next : {b : Basin} {series : Inflows} {a : CheckState} {t : ReadSoFar}
     Keeps b series a t → first_row b series t (line.Called x caller) ≡ None → IsDueFrom b a.month a.answered due →
     Keeps b series (record a { calling = None; answered = after a.answered due })
     (read_item b series t (line.Called x caller))
-keeps_next {b} {series} {a} {t} x caller None k good all = clash (sym (ap (λ o. not (is_due x caller o))
+keeps_next {b} {series} {a} {t} x caller None k good all = clash
+    (sym (good_row b series t (line.Called x caller) good).1.1.1.0 ∙ ap (λ o. not (is_due x caller o))
     (past (callers_due b t.now) t.called (omega (arith, k.answered.called, ap length same))))
-    ∙ (good_row b series t (line.Called x caller) good).1.1.1.0)
   where
     same : callers_due b t.now ≡ callers_of b t.now (take a.answered (seniors_first b))
     same = sym (callers_read k (seniors_first b)) ∙ (all ∙ callers_read k (take a.answered (seniors_first b)))
 
     past : (xs : List (ℕ × ℕ)) (n : ℕ) → n ≡ length xs → slice_get xs n ≡ None
     past xs n e = slice_get_past xs n (omega arith)
-
-    clash : {X : Type 0} → true ≡ false → X
-    clash e = cc
 keeps_next {b} {series} {a} {t} x caller (Some due) k good next =
     keeps_called x caller (record {
       within = omega (arith, next.within, length-by_seniority b.rights);

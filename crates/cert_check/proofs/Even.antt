@@ -1,5 +1,5 @@
 -- The tests of sums, by what a check state keeps.
-use Rattle.std.proofs.Common.{◌≡◌, ℕ, ◌+◌, ◌<◌, ◌≤◌, Bool, true, false, refl, sym, ap, ◌∙◌, arith, inl, inr, List, []}
+use Rattle.std.proofs.Common.{◌≡◌, ℕ, ◌<◌, ◌≤◌, Bool, true, false, refl, sym, ap, ◌∙◌, arith, inl, inr, List, []}
 use Rattle.std.proofs.Common.{◌∷◌, length}
 use Rattle.std.specs.Prelude.{◌&&◌, not, nat_le}
 use Rattle.std.specs.List.{list_all, list_any}
@@ -12,6 +12,7 @@ use Rattle.result_reader.specs.ReadSoFar.{ReadSoFar, with_supply}
 use Rattle.cert_check.specs.Checking.{balances}
 use Rattle.cert_check.specs.Keeping.{Keeps, with_outflow}
 use Rattle.cert_check.specs.declared.state.CheckState.{CheckState}
+use Rattle.cert_check.proofs.Rows.{none_holds}
 
 -- Balances.
 
@@ -23,14 +24,8 @@ read_balances n amount v k has = rw (k.supply has, k.month.shows.flow, k.month.s
 pub all_even : {b : Basin} {series : Inflows} {a : CheckState} {t : ReadSoFar} (n amount : ℕ) → Keeps b series a t →
     a.has_supply ≡ true → ((v : ℕ) → v < length b.nodes → balances b (with_outflow a.month n amount) v ≡ true) →
     list_any (λ v. not (balances b (with_supply b series (with_outflow t.now n amount)) v)) (indices_of b.nodes) ≡ false
-all_even {b} {series} {a} {t} n amount k has even =
-    over (indices_of b.nodes) (λ v h. (numbers_from-below 0 (length b.nodes) v h).1)
-  where
-    over : (xs : List ℕ) → ((v : ℕ) → Has xs v → v < 0 + length b.nodes) →
-        list_any (λ v. not (balances b (with_supply b series (with_outflow t.now n amount)) v)) xs ≡ false
-    over [] h = refl
-    over (x ∷ xs) h = rw (sym (read_balances n amount x k has) ∙ even x (let l = h x (inl refl) in omega arith))
-        (over xs (λ v m. h v (inr m)))
+all_even {b} n amount k has even = none_holds (indices_of b.nodes) (λ v h. ap not (sym (read_balances n amount v k has)
+    ∙ even v (let l = (numbers_from-below 0 (length b.nodes) v h).1 in omega arith)))
 
 pub some_uneven : {b : Basin} {series : Inflows} {a : CheckState} {t : ReadSoFar} (n amount : ℕ) → Keeps b series a t →
     a.has_supply ≡ true → (v : ℕ) × (v < length b.nodes) × (balances b (with_outflow a.month n amount) v ≡ false) →

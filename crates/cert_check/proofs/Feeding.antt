@@ -98,11 +98,8 @@ long_refusal items = record {
 
 long_judged : (b : Basin) (series : Inflows) (items : List Item) (bytes : List ℕ) → 128 < length bytes →
     judge b series items bytes ≡ Err (long_refusal items)
-long_judged b series items bytes long = by_end (is_whole items) refl
-  where
-    by_end : (t : Bool) → is_whole items ≡ t → judge b series items bytes ≡ Err (long_refusal items)
-    by_end true e = rw e (judged_ended b series items bytes e)
-    by_end false e = rw e (judged_bad b series items bytes e (long_read b items bytes long))
+long_judged b series items bytes long =
+    (let read = long_read b items bytes long in grind (arith, judged_ended, judged_bad))
 
 long_verdict : (b : Basin) (series : Inflows) (lines : List (List ℕ)) (bytes : List ℕ) {items : List Item} →
     verdict_from b series [] lines ≡ Ok items → 128 < length bytes →

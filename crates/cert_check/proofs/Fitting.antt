@@ -3,14 +3,17 @@ use Rattle.std.proofs.Common.{◌≡◌, ℕ, Bool, true, false, refl, ap, ◌�
 use Rattle.std.specs.Prelude.{Option, Some, None, ◌&&◌, not, slice_set}
 use Rattle.std.proofs.Math.ListN.{length-set}
 use Rattle.cut_cert.specs.Callers.{AreCallers}
+use Rattle.month_terms.proofs.BlankRecords.{blank_fits}
 use Rattle.month_terms.specs.Terms.{FitsRecord}
+use Rattle.water_text.specs.Months.{IsMonth}
+use Rattle.water_text.specs.declared.month.Month.{Month}
+use Rattle.water_model.specs.Blank.{blank_month}
 use Rattle.water_model.specs.CutSets.{CutSets}
 use Rattle.water_model.specs.Entries.{count_in}
 use Rattle.result_lines.specs.Quantities.{amounts_of, space_of, with_amounts}
 use Rattle.water_model.specs.History.{calls, calling_right}
 use Rattle.water_model.specs.Indices.{seniors_first}
 use Rattle.result_lines.specs.declared.quantity.Quantity.{Quantity}
-use Rattle.result_lines.specs.declared.quantity.Quantity.TheVariants as quantity
 use Rattle.water_model.specs.declared.types.Basin.{Basin}
 use Rattle.water_model.specs.declared.types.Inflows.{Inflows}
 use Rattle.water_model.specs.declared.types.MonthRecord.{MonthRecord}
@@ -18,15 +21,12 @@ use Rattle.result_reader.specs.ReadSoFar.{with_supply}
 use Rattle.cert_check.specs.Keeping.{AreAnswered, AreSettled, IsCalling, callers_of, is_supplied}
 use Rattle.cert_check.specs.Shows.{IsRecordOf}
 
-clash : {X : Type 0} → false ≡ true → X
+pub clash : {X : Type 0} → false ≡ true → X
 clash e = cc
 
 -- no right's nodes come
 pub nobody : (b : Basin) (cuts : CutSets) → IsCalling b cuts None None
-nobody b cuts = record { so_far = refl; held = λ r e. never r e }
-  where
-    never : {X : Type 0} (r : ℕ) → None ≡ Some r → X
-    never r e = cc
+nobody b cuts = record { so_far = refl; held = λ r e. (let never : None ≡ Some r = e in cc) }
 
 -- no right is passed, or answered
 
@@ -36,16 +36,16 @@ none_settled b m = record { within = omega arith; each = refl }
 pub none_answered : (b : Basin) (m : MonthRecord) {lines : ℕ} → lines ≡ 0 → AreAnswered b m 0 lines
 none_answered b m e = record { within = omega arith; called = e }
 
+-- nothing was read of a month but its index and its calendar month
+pub blank_is : {b : Basin} {index other : ℕ} {month : Month} → IsMonth month → index ≡ other →
+    IsRecordOf b (blank_month b index month) (blank_month b other month)
+blank_is {b} {index} {other} {month} calendar same =
+    record { fits = blank_fits b index month; calendar = calendar; shows = assumption (same, refl) }
+
 -- each list of amounts has one for each entry
 pub amounts_sized : {b : Basin} {m : MonthRecord} → FitsRecord b m → (q : Quantity) →
     length (amounts_of q m) ≡ count_in (space_of q) b
-amounts_sized k quantity.Opening = k.fits.opening
-amounts_sized k quantity.Evaporated = k.fits.evaporated
-amounts_sized k quantity.Returned = k.fits.returned
-amounts_sized k quantity.Used = k.fits.used
-amounts_sized k quantity.Flow = k.flow
-amounts_sized k quantity.Outflow = k.out
-amounts_sized k quantity.Closing = k.fits.closing
+amounts_sized k q = grind arith
 
 -- One amount changes.
 
@@ -59,14 +59,7 @@ put_both {xs = xs} position x l e = (length-set xs position x ∙ l, ap (λ ys. 
 
 pub record_with : {b : Basin} (q : Quantity) (entry amount : ℕ) {m now : MonthRecord} → IsRecordOf b m now →
     IsRecordOf b (with_amount q entry amount m) (with_amount q entry amount now)
-record_with quantity.Opening entry amount k = assumption (put_both entry amount k.fits.fits.opening k.shows.opening)
-record_with quantity.Evaporated entry amount k =
-    assumption (put_both entry amount k.fits.fits.evaporated k.shows.evaporated)
-record_with quantity.Returned entry amount k = assumption (put_both entry amount k.fits.fits.returned k.shows.returned)
-record_with quantity.Used entry amount k = assumption (put_both entry amount k.fits.fits.used k.shows.used)
-record_with quantity.Flow entry amount k = assumption (put_both entry amount k.fits.flow k.shows.flow)
-record_with quantity.Outflow entry amount k = assumption (put_both entry amount k.fits.out k.shows.out)
-record_with quantity.Closing entry amount k = assumption (put_both entry amount k.fits.fits.closing k.shows.closing)
+record_with q entry amount k = grind (arith, put_both)
 
 -- what no amount of an entry touches
 pub record Stays (m n : MonthRecord) : Type 0 where
@@ -77,13 +70,7 @@ pub record Stays (m n : MonthRecord) : Type 0 where
   pub cuts : n.cuts ≡ m.cuts
 
 pub stays : (q : Quantity) (entry amount : ℕ) (m : MonthRecord) → Stays m (with_amount q entry amount m)
-stays quantity.Opening entry amount m = assumption
-stays quantity.Evaporated entry amount m = assumption
-stays quantity.Returned entry amount m = assumption
-stays quantity.Used entry amount m = assumption
-stays quantity.Flow entry amount m = assumption
-stays quantity.Outflow entry amount m = assumption
-stays quantity.Closing entry amount m = assumption
+stays q entry amount m = grind arith
 
 -- callers follow from deliveries, wants and sets
 pub callers_same : (b : Basin) (m n : MonthRecord) → m.delivered ≡ n.delivered → m.want ≡ n.want →
@@ -109,11 +96,4 @@ answered_stay {b} {m} {n} {count} s k = grind (arith, callers_same, take, senior
 pub supply_stays : (b : Basin) (series : Inflows) (q : Quantity) (entry amount : ℕ) (m now : MonthRecord)
     (made : Bool) → (made ≡ true → m.supply ≡ (with_supply b series now).supply) → made && not (is_supplied q) ≡ true →
     (with_amount q entry amount m).supply ≡ (with_supply b series (with_amount q entry amount now)).supply
-supply_stays b series q entry amount m now false h e = clash e
-supply_stays b series quantity.Opening entry amount m now true h e = clash e
-supply_stays b series quantity.Evaporated entry amount m now true h e = clash e
-supply_stays b series quantity.Returned entry amount m now true h e = clash e
-supply_stays b series quantity.Used entry amount m now true h e = h refl
-supply_stays b series quantity.Flow entry amount m now true h e = h refl
-supply_stays b series quantity.Outflow entry amount m now true h e = h refl
-supply_stays b series quantity.Closing entry amount m now true h e = h refl
+supply_stays b series q entry amount m now made h e = grind arith

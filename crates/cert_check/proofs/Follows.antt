@@ -1,10 +1,11 @@
 -- A month that follows others is good.
 use Rattle.std.proofs.Common.{◌≡◌, ℕ, ◌+◌, ◌≤◌, Bool, true, false, refl, ap, arith, List, length, zero, suc, ◌<◌, sym}
 use Rattle.std.proofs.Common.{◌∙◌, inl, inr, map, replicate}
-use Rattle.std.specs.Prelude.{Option, Some, None, ◌&&◌, ◌==◌, slice_index, ◌⊎◌, is_some, filter, if◌then◌else◌}
-use Rattle.std.proofs.lemmas.Bool.{eq-eqb, eqb-true, le-ltb, ltb-false, ltb-true, and_parts, cases_Bool, lt-ltb}
+use Rattle.std.specs.Prelude.{Option, None, slice_index, ◌⊎◌, is_some, filter, if◌then◌else◌}
+use Rattle.std.proofs.lemmas.Bool.Decides.{nat_tests}
+use Rattle.std.proofs.lemmas.Bool.{eq-eqb, eqb-true, le-ltb, ltb-false, ltb-true, lt-ltb}
 use Rattle.water_model.specs.Basin.{taking_node, instream_link, taking_node_of_kind, link_of_kind}
-use Rattle.water_model.specs.Cuts.{separates, IsTight, cut_capacity, cut_kept}
+use Rattle.water_model.specs.Cuts.{IsTight}
 use Rattle.water_model.specs.History.{Follows, cut_of, opening_after}
 use Rattle.water_model.specs.Plans.{carry_of, delivery_by_link, inflow_to, outflow_from, taken_at}
 use Rattle.result_lines.specs.declared.quantity.Quantity.TheVariants as quantity
@@ -18,7 +19,6 @@ use Rattle.result_reader.proofs.AllRead.{has_set, nothing_returns, nothing_used}
 use Rattle.cert_check.specs.Checking.{is_tight, amount_wrong}
 use Rattle.cert_check.proofs.Calls.{HasRightSets}
 use Rattle.cert_check.proofs.Month.{IsGoodMonth}
-use Rattle.cert_check.proofs.Rows.{same_is, is_same}
 use Rattle.std.proofs.lemmas.Grind.{same_number_lists}
 use Rattle.std.proofs.lemmas.List.{length-replicate, length-map}
 use Rattle.water_model.specs.Hydrology.{run_month, inflow_at, stored_at}
@@ -41,30 +41,11 @@ use Rattle.water_model.proofs.Lists.{no_numbers}
 
 pub tight_is : {b : Basin} (m : MonthRecord) {r : ℕ} {cut : List Bool} → IsTight b m.month m.supply m.delivered r cut →
     is_tight b m r cut ≡ true
-tight_is {b} m {r} {cut} h = all (length cut == length b.nodes) (separates b (taking_node b r) (instream_link b r) cut)
-    (cut_capacity b m.month m.supply cut == slice_index m.delivered r + cut_kept b m.delivered r cut)
-    (eq-eqb (length cut) (length b.nodes) h.is_cut.one_each) h.is_cut.separates (eq-eqb _ _ h.tight)
-  where
-    all : (p q s : Bool) → p ≡ true → q ≡ true → s ≡ true → p && q && s ≡ true
-    all p q s e f g = rw (e, f, g) refl
+tight_is m h = grind (arith, nat_tests)
 
 pub is_tight_is : {b : Basin} (m : MonthRecord) {r : ℕ} {cut : List Bool} → is_tight b m r cut ≡ true →
     IsTight b m.month m.supply m.delivered r cut
-is_tight_is {b} m {r} {cut} h =
-    let three =
-    parts (length cut == length b.nodes) (separates b (taking_node b r) (instream_link b r) cut)
-    (cut_capacity b m.month m.supply cut == slice_index m.delivered r + cut_kept b m.delivered r cut) h in
-    record {
-      is_cut = record {
-        one_each = eqb-true (length cut) (length b.nodes) three.0;
-        separates = three.1;
-      };
-      tight = eqb-true (cut_capacity b m.month m.supply cut) (slice_index m.delivered r + cut_kept b m.delivered r cut)
-          three.2;
-    }
-  where
-    parts : (p q s : Bool) → p && q && s ≡ true → (p ≡ true) × (q ≡ true) × (s ≡ true)
-    parts p q s e = let two = and_parts (p && q) s e in let first = and_parts p q two.0 in (first.0, first.1, two.1)
+is_tight_is m h = grind (arith, nat_tests)
 
 right_sets : {b : Basin} {series : Inflows} {before : List MonthRecord} {m : MonthRecord} → Follows b series before m →
     IsTextMonth b series before m → HasRightSets b m
@@ -79,8 +60,7 @@ amount_right : (b : Basin) (m : MonthRecord) (r : ℕ) (link : Option ℕ) →
     slice_index m.plan.take r ≤ slice_index m.want r →
     slice_index m.delivered r ≡ delivery_by_link link (slice_index m.want r) m.plan r →
     amount_wrong link m.plan.flow (slice_index m.delivered r) (slice_index m.want r) ≡ false
-amount_right b m r None most e = le-ltb (slice_index m.want r) (slice_index m.delivered r) (omega (arith, e))
-amount_right b m r (Some link) most e = same_is e
+amount_right b m r link most e = grind (arith, nat_tests)
 
 pub follows_good : {b : Basin} {series : Inflows} {before : List MonthRecord} {m : MonthRecord} →
     Follows b series before m → IsTextMonth b series before m → IsGoodMonth b series before m
@@ -127,11 +107,7 @@ map_at f from (suc n) (suc k) l = let e : suc from + k ≡ from + suc k = omega 
 -- a number at an index that passes a test, or that was read to be 0
 by_filter : (p : ℕ → Bool) (xs : List ℕ) {k x y : ℕ} → Has xs k → (Has (filter p xs) k → x ≡ y) →
     ((Has (filter p xs) k → ⊥) → x ≡ 0) → (p k ≡ false → y ≡ 0) → x ≡ y
-by_filter p xs {k} has so_far none zero_there = elim (cases_Bool (p k)) [
-  | inl passes ↦ so_far (has-filter p xs k has passes)
-  | inr fails ↦ none (λ h. (let both : false ≡ true = sym fails ∙ (filter-has p xs k h).1 in cc))
-      ∙ sym (zero_there fails)
-]
+by_filter p xs has so_far none zero_there = grind (arith, has-filter, filter-has)
 
 -- A right takes at a node, or is on a link.
 
@@ -163,21 +139,7 @@ served : {b : Basin} {m : MonthRecord} {r : ℕ} (taking link : Option ℕ) → 
     slice_index m.plan.take r ≡ (if is_some taking then slice_index m.delivered r else 0) →
     amount_wrong link m.plan.flow (slice_index m.delivered r) (slice_index m.want r) ≡ false → IsServed b m r
 unfolding TakesOrStays
-served {b} {m} {r} (Some node) None t l s take right = record {
-  most = omega (arith, take, ltb-false (slice_index m.want r) (slice_index m.delivered r) right);
-  instream = λ e. (let never : Some node ≡ None = sym t ∙ e in cc);
-  delivered = rw l (sym take);
-}
-served {b} {m} {r} None (Some link) t l s take right = record {
-  most = omega (arith, take);
-  instream = λ e. take;
-  delivered =
-      rw l (is_same right);
-}
-served None None t l (inl (e, f)) take right = cc
-served None None t l (inr (e, f)) take right = cc
-served (Some node) (Some link) t l (inl (e, f)) take right = cc
-served (Some node) (Some link) t l (inr (e, f)) take right = cc
+served taking link t l s take right = grind (arith, nat_tests)
 
 pub good_follows : {b : Basin} {series : Inflows} {before : List MonthRecord} {m : MonthRecord} → IsValidBasin b →
     IsAllRead b series m → IsGoodMonth b series before m → m.index ≡ length before → m.month ≡ run_month b m.index →

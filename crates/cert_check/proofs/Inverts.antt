@@ -3,7 +3,7 @@ use Rattle.std.proofs.Common.{◌≡◌, ℕ, Bool, true, false, refl, sym, ap, 
 use Rattle.std.proofs.Common.{◌++◌, length, map, append_assoc}
 use Rattle.std.specs.Prelude.{Option, Some, None, ◌==◌, if◌then◌else◌}
 use Rattle.std.specs.List.{flat_map}
-use Rattle.std.proofs.lemmas.Bool.{cases_eq, eqb-true}
+use Rattle.std.proofs.lemmas.Bool.{cases_eq}
 use Rattle.std.proofs.lemmas.Bool.Decides.{nat_tests}
 use Rattle.water_text.specs.declared.month.Month.{Month}
 use Rattle.water_model.specs.Indices.{members_from}
@@ -50,16 +50,7 @@ with_fields shape.End f = line.End
 with_fields (shape.Done n) f = line.Done n
 
 rebuilt : (i : Item) → i ≡ with_fields (shape_of i) (fields_in i)
-rebuilt line.Title = refl
-rebuilt (line.Run first months) = refl
-rebuilt (line.Month month) = refl
-rebuilt (line.Amount q v n) = refl
-rebuilt (line.Deliver v n w) = refl
-rebuilt (line.Call v) = refl
-rebuilt (line.Member v) = refl
-rebuilt (line.Called v n) = refl
-rebuilt line.End = refl
-rebuilt (line.Done n) = refl
+rebuilt i = grind arith
 
 fitting : (b : Basin) (d : Shape) {i : Item} → fits b d i ≡ true → i ≡ with_fields d (fields_in i)
 fitting b d {i} h = rebuilt i ∙ ap (λ s. with_fields s (fields_in i)) (sym (fits_shape b d i h))
@@ -94,17 +85,10 @@ abbrev with_index : {Y : Type 0} → (ℕ → Y) → ℕ → Y → ℕ → Y
 with_index f x y k = if k == x then y else f k
 
 here : {Y : Type 0} (f : ℕ → Y) (x : ℕ) (y : Y) → with_index f x y x ≡ y
-here f x y = rw (itself x) refl
-  where
-    itself : (x : ℕ) → x == x ≡ true
-    itself x = grind (arith, nat_tests)
+here f x y = grind (arith, nat_tests)
 
 elsewhere : {Y : Type 0} (f : ℕ → Y) (x : ℕ) (y : Y) (k : ℕ) → (k ≡ x → ⊥) → with_index f x y k ≡ f k
-elsewhere f x y k h = by_test (k == x) refl
-  where
-    by_test : (t : Bool) → k == x ≡ t → with_index f x y k ≡ f k
-    by_test true e = absurd (h (eqb-true k x e))
-    by_test false e = rw e refl
+elsewhere f x y k h = grind (arith, nat_tests)
 
 -- the lines of a section that has one for each index
 pub record Lines (b : Basin) (line_at : ℕ → Shape) (xs : List ℕ) (ds : List Shape) (items : List Item) : Type 0 where

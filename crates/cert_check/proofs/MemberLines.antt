@@ -1,5 +1,5 @@
 -- No row holds of an `in` line, and its tests look at nothing.
-use Rattle.std.proofs.Common.{◌≡◌, ℕ, true, false, refl, ◌∙◌}
+use Rattle.std.proofs.Common.{◌≡◌, ℕ, true, false, arith}
 use Rattle.std.specs.Prelude.{None, ◌&&◌, is_none}
 use Rattle.water_model.specs.History.{cut_of}
 use Rattle.water_model.specs.Indices.{indices_of}
@@ -23,25 +23,7 @@ none_missing b t n =
 
 pub no_row : (b : Basin) (series : Inflows) (t : ReadSoFar) (i : Item) → is_member i ≡ true →
     first_row b series t i ≡ None
-no_row b series t line.Title h = cc
-no_row b series t (line.Run first months) h = cc
-no_row b series t (line.Month month) h = cc
-no_row b series t (line.Amount q entry amount) h = cc
-no_row b series t (line.Deliver right amount want) h = cc
-no_row b series t (line.Call right) h = cc
-no_row b series t (line.Member node) h = first_is b series t (line.Member node) ∙ rw (none_missing b t node) refl
-no_row b series t (line.Called right by') h = cc
-no_row b series t line.End h = cc
-no_row b series t (line.Done months) h = cc
+no_row b series t i h = grind (arith, first_is, none_missing)
 
 pub ready : (m : Context) (a : CheckState) (i : Item) → is_member i ≡ true → IsReadyForLine m a i
-ready m a line.Title h = cc
-ready m a (line.Run first months) h = cc
-ready m a (line.Month month) h = cc
-ready m a (line.Amount q entry amount) h = cc
-ready m a (line.Deliver right amount want) h = cc
-ready m a (line.Call right) h = cc
-ready m a (line.Member node) h = record { set = λ e. cc; callers = λ e. cc; own = tt }
-ready m a (line.Called right by') h = cc
-ready m a line.End h = cc
-ready m a (line.Done months) h = cc
+ready m a i h = grind arith

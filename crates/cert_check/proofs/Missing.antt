@@ -4,13 +4,12 @@ use Rattle.std.proofs.Common.{◌≡◌, ℕ, zero, suc, ◌<◌, Bool, true, fa
 use Rattle.std.proofs.Common.{◌∷◌, length, take, drop}
 use Rattle.std.specs.Prelude.{None, ◌⊎◌, ◌||◌, is_none, slice_index}
 use Rattle.std.specs.List.{list_any}
-use Rattle.std.proofs.lemmas.Bool.{cases_Bool, and_parts, or_parts}
+use Rattle.std.proofs.lemmas.Bool.{cases_Bool, and_parts}
 use Rattle.water_model.specs.Basin.{is_senior}
 use Rattle.water_model.specs.History.{cut_of}
 use Rattle.water_model.specs.Indices.{seniors_first}
 use Rattle.water_model.specs.Valid.{IsValidBasin}
 use Rattle.result_lines.specs.declared.item.Item.{Item}
-use Rattle.result_lines.specs.declared.item.Item.TheVariants as line
 use Rattle.water_model.specs.declared.types.Basin.{Basin}
 use Rattle.water_model.specs.declared.types.Inflows.{Inflows}
 use Rattle.water_model.proofs.Order.{Has, IsOrdered, seniors_have, seniors_below, seniors_ordered}
@@ -21,11 +20,9 @@ use Rattle.cert_check.specs.Checking.{passes, cut_missing}
 use Rattle.cert_check.specs.Keeping.{Keeps, lacks_call}
 use Rattle.cert_check.specs.Walks.{ArePassed, IsMissed}
 use Rattle.cert_check.specs.declared.state.CheckState.{CheckState}
-use Rattle.cert_check.proofs.Calls.{missing_fails, none_missing}
+use Rattle.cert_check.proofs.Calls.{clash, missing_fails, none_missing}
+use Rattle.cert_check.proofs.Rows.{each_fails}
 use Rattle.rights_roll.proofs.Seniors.{has-get_or}
-
-clash : {X : Type 0} → true ≡ false → X
-clash e = cc
 
 -- an element stands before an index or from it on
 by_index : (xs : List ℕ) (k y : ℕ) → Has xs y → Has (take k xs) y ⊎ Has (drop k xs) y
@@ -33,12 +30,6 @@ by_index xs zero y h = inr h
 by_index [] (suc k) y h = absurd h
 by_index (x ∷ xs) (suc k) y (inl e) = inl (inl e)
 by_index (x ∷ xs) (suc k) y (inr h) = elim (by_index xs k y h) [ inl prefix ↦ inl (inr prefix) | inr after ↦ inr after ]
-
--- nothing in a list passes a test that nothing in it passes
-none_in : (p : ℕ → Bool) (xs : List ℕ) {y : ℕ} → list_any p xs ≡ false → Has xs y → p y ≡ false
-none_in p [] h m = absurd m
-none_in p (x ∷ xs) h (inl e) = ap p e ∙ (or_parts (p x) (list_any p xs) h).0
-none_in p (x ∷ xs) {y} h (inr m) = none_in p xs (or_parts (p x) (list_any p xs) h).1 m
 
 -- from an index on each right is the one there, or junior to it
 after_index : (b : Basin) (xs : List ℕ) (k : ℕ) {y : ℕ} → IsOrdered b.rights xs → Has (drop k xs) y →
@@ -52,20 +43,7 @@ after_index b (x ∷ xs) (suc k) {y} o m = (let f = after_index b xs k o.1 m in 
 -- a line passes over no right after one that it doesn't pass over
 not_passed : (b : Basin) (item : Item) {x y : ℕ} → passes b item x ≡ false → (y ≡ x) ⊎ (is_senior b x y ≡ true) →
     passes b item y ≡ false
-not_passed b item h (inl e) = ap (passes b item) e ∙ h
-not_passed b (line.Call r) {x} {y} h (inr senior) = elim (cases_Bool (is_senior b y r)) [
-  | inl yes' ↦ clash (sym (senior_trans b.rights x y r senior yes') ∙ h)
-  | inr no' ↦ no'
-]
-not_passed b line.Title h (inr senior) = h
-not_passed b (line.Run first months) h (inr senior) = h
-not_passed b (line.Month month) h (inr senior) = h
-not_passed b (line.Amount q entry amount) h (inr senior) = h
-not_passed b (line.Deliver r amount want) h (inr senior) = h
-not_passed b (line.Member n) h (inr senior) = h
-not_passed b (line.Called r caller) h (inr senior) = h
-not_passed b line.End h (inr senior) = h
-not_passed b (line.Done months) h (inr senior) = h
+not_passed b item h e = grind (arith, senior_trans)
 
 -- rights that lack their calls by what was read do so by the check state's record
 pub lacks_read : {b : Basin} {series : Inflows} {a : CheckState} {t : ReadSoFar} → Keeps b series a t → (xs : List ℕ) →
@@ -84,7 +62,7 @@ none_missed {b} {series} {a} {t} {item} {count} valid k p = missing_fails b t it
     missed : (r : ℕ) → is_short t.now r ≡ true → cut_of t.now r ≡ None → passes b item r ≡ true →
         Has (take count (seniors_first b)) r ⊎ Has (drop count (seniors_first b)) r → ⊥
     missed r short free passed (inl prefix) = clash (sym (lacks r short free)
-        ∙ none_in (lacks_call t.now) (take count (seniors_first b))
+        ∙ each_fails (lacks_call t.now) (take count (seniors_first b))
         (sym (lacks_read k (take count (seniors_first b))) ∙ p.settled) prefix)
     missed r short free passed (inr after) =
         let position = after_index b (seniors_first b) count (seniors_ordered b.rights valid.roll.strict) after in

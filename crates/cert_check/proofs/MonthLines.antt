@@ -49,9 +49,6 @@ record SectionLines (b : Basin) (k : Section) (ds : List Shape) (items : List It
   are : items ≡ content_lines b k content ++ others
   rest : Fills b ds others
 
-no_set : {X : Type 0} (set : List Bool) → None ≡ Some set → X
-no_set set e = cc
-
 section_filled : {b : Basin} → IsValidBasin b → (k : Section) {ds : List Shape} {items : List Item} →
     Fills b (shapes_in k b ++ ds) items → SectionLines b k ds items
 section_filled {b} valid (section.Amounts q) {ds} {items} h =
@@ -61,7 +58,7 @@ section_filled {b} valid (section.Amounts q) {ds} {items} h =
     (flat_map_if (λ x. has_line b q x) (λ x. shape.Amount q x) (in_order (space_of q) b)) h) in
     record {
       content = record { fields = l.fields; cut = λ r. None; dues = [] };
-      sized = λ r set e. no_set set e;
+      sized = λ r set e. (let never : None ≡ Some set = e in cc);
       others = l.others;
       are = l.are;
       rest = l.rest;
@@ -72,7 +69,7 @@ section_filled {b} valid section.Deliveries {ds} {items} h =
     (subst (λ (xs : List Shape). Fills b (xs ++ ds) items) (flat_map_one (λ r. shape.Deliver r) (seniors_first b)) h) in
     record {
       content = record { fields = l.fields; cut = λ r. None; dues = [] };
-      sized = λ r set e. no_set set e;
+      sized = λ r set e. (let never : None ≡ Some set = e in cc);
       others = l.others;
       are = l.are;
       rest = l.rest;
@@ -93,7 +90,7 @@ section_filled {b} valid section.Called {ds} {items} h =
     (flat_map_if (λ r. is_some (taking_node b r)) (λ r. shape.Called r) (seniors_first b)) h) in
     record {
       content = record { fields = λ x. no_fields; cut = λ r. None; dues = l.dues };
-      sized = λ r set e. no_set set e;
+      sized = λ r set e. (let never : None ≡ Some set = e in cc);
       others = l.others;
       are = l.are;
       rest = l.rest;

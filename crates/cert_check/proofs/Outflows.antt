@@ -29,11 +29,7 @@ numbers_rise from (suc n) = (λ y h. omega (arith, (numbers_from-below (suc from
 
 filter_rises : (p : ℕ → Bool) (xs : List ℕ) → Rises xs → Rises (filter p xs)
 filter_rises p [] h = tt
-filter_rises p (x ∷ xs) h = by_test (p x) refl (filter_rises p xs h.1)
-  where
-    by_test : (t : Bool) → p x ≡ t → Rises (filter p xs) → Rises (filter p (x ∷ xs))
-    by_test true e further = rw e (λ y m. h.0 y (filter-has p xs y m).0, further)
-    by_test false e further = rw e further
+filter_rises p (x ∷ xs) h = grind (arith, filter-has, filter_rises p xs h.1)
 
 pub outlets_rise : (b : Basin) → Rises (outlets b)
 outlets_rise b = filter_rises (λ n. is_outlet b n) (indices_of b.nodes) (numbers_rise 0 (length b.nodes))

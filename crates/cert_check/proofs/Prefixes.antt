@@ -29,6 +29,7 @@ use Rattle.result_reader.proofs.Telling.{fold-both}
 use Rattle.cert_check.specs.Checking.{is_closing}
 use Rattle.cert_check.specs.Coming.{MayCome, is_within, is_before_called}
 use Rattle.cert_check.proofs.Callers.{called_line}
+use Rattle.cert_check.proofs.Fitting.{clash}
 use Rattle.cert_check.proofs.Inverts.{AreApart, one_line}
 use Rattle.cert_check.proofs.Passages.{stands_in, all_both, all_first, all_at, all_each, all_calls, all_weaker}
 use Rattle.cert_check.proofs.Rows.{AreGood, good_first, good_rest}
@@ -117,9 +118,6 @@ calls_once cut (k ∷ rs) apart xs r ys e = by_set (cut k) refl (λ zs ws h. cal
         all_at is_member xs ys
         (ap (list_all is_member) (sym h) ∙ all_each is_member (λ n. line.Member n) (λ n. refl) (members_from 0 set))
         in clash never
-      where
-        clash : false ≡ true → ⊥
-        clash e = cc
 
     in_own : (set : List Bool) (xs zs : List Item) →
         line.Call k ∷ map (λ n. line.Member n) (members_from 0 set) ≡ xs ++ line.Call r ∷ zs →
@@ -157,22 +155,19 @@ called_once {b} valid s xs r ys e = elim (stands_in (amounts b s) xs e) [
     no_calls (line.Call s) = false
     no_calls other = true
 
-    clash : false ≡ true → ⊥
-    clash e = cc
-
 -- A line within a month.
 
 amid_is_within : (i : Item) → is_amid i ≡ true → is_within i ≡ true
-amid_is_within line.Title h = h
-amid_is_within (line.Run first months) h = h
-amid_is_within (line.Month month) h = h
-amid_is_within (line.Amount q entry amount) h = refl
-amid_is_within (line.Deliver r amount want) h = refl
-amid_is_within (line.Call r) h = refl
-amid_is_within (line.Member n) h = refl
-amid_is_within (line.Called r caller) h = refl
-amid_is_within line.End h = refl
-amid_is_within (line.Done months) h = h
+amid_is_within i h = grind arith
+
+-- a line after the `call` lines of a month, but not its last
+abbrev is_after : Item → Bool
+is_after (line.Called r c) = true
+is_after (line.Amount q v n) = is_closing q
+is_after other = false
+
+after_amid : (i : Item) → is_after i ≡ true → (is_amid i ≡ true) × (is_before_called i ≡ false)
+after_amid i h = grind arith
 
 -- where a line of a month stands
 pub record IsAmid (b : Basin) (s : Sheet) (xs : List Item) (item : Item) : Type 0 where
@@ -180,9 +175,6 @@ pub record IsAmid (b : Basin) (s : Sheet) (xs : List Item) (item : Item) : Type 
   pub within : is_within item ≡ true
   pub prefix : is_before_called item ≡ true → list_all is_before_called xs ≡ true
   pub once : (r : ℕ) → item ≡ line.Call r → list_all (no_call r) xs ≡ true
-
-clash : {X : Type 0} → false ≡ true → X
-clash e = cc
 
 pub stands_amid : {b : Basin} → IsValidBasin b →
     (s : Sheet) (dues : List (ℕ × ℕ)) (xs : List Item) (item : Item) (ys : List Item) →
@@ -199,23 +191,6 @@ stands_amid {b} valid s dues xs item ys e = elim (stands_in (amounts b s ++ call
       | inr after ↦ in_second after.0 after.1 (stands_in (after_calls b s dues) after.0 after.2)
     ]
   where
-    is_after : Item → Bool
-    is_after (line.Called r c) = true
-    is_after (line.Amount q v n) = is_closing q
-    is_after other = false
-
-    after_amid : (i : Item) → is_after i ≡ true → (is_amid i ≡ true) × (is_before_called i ≡ false)
-    after_amid (line.Called r c) h = (refl, refl)
-    after_amid (line.Amount q v n) h = (refl, ap not h)
-    after_amid line.Title h = clash h
-    after_amid (line.Run first months) h = clash h
-    after_amid (line.Month month) h = clash h
-    after_amid (line.Deliver r amount want) h = clash h
-    after_amid (line.Call r) h = clash h
-    after_amid (line.Member n) h = clash h
-    after_amid line.End h = clash h
-    after_amid (line.Done months) h = clash h
-
     all_are : list_all is_after (after_calls b s dues) ≡ true
     all_are = all_after is_after (λ r c. refl) (λ v n. refl) b s dues
 

@@ -1,6 +1,6 @@
 -- Lines that no row holds of.
 use Rattle.std.proofs.Common.{◌≡◌, ℕ, Bool, true, false, refl, sym, arith, inl, inr, List, [], ◌∷◌, ◌++◌, map, fold}
-use Rattle.std.specs.Prelude.{Some, None, ◌&&◌, ◌==◌, not, find, option_map, is_none, if◌then◌else◌}
+use Rattle.std.specs.Prelude.{Some, None, ◌&&◌, ◌==◌, not, find, option_map, is_none}
 use Rattle.std.specs.List.{list_any}
 use Rattle.std.proofs.lemmas.Bool.Decides.{nat_tests}
 use Rattle.std.proofs.lemmas.Bool.{or_parts}
@@ -27,14 +27,8 @@ NoneHolds (row ∷ others) = (row.1 ≡ false) × NoneHolds others
 pub none_found : (xs : List Row) → option_map (λ (row : Row). row.0) (find (λ (row : Row). row.1) xs) ≡ None →
     NoneHolds xs
 none_found [] h = tt
-none_found ((kind, holds) ∷ xs) h = by_test holds refl (none_found xs) h
-  where
-    by_test : (t : Bool) → holds ≡ t →
-        (option_map (λ (row : Row). row.0) (find (λ (row : Row). row.1) xs) ≡ None → NoneHolds xs) →
-        option_map (λ (row : Row). row.0) (find (λ (row : Row). row.1) ((kind, t) ∷ xs)) ≡ None → (holds ≡ false) ×
-        NoneHolds xs
-    by_test true e further g = let never : Some kind ≡ None = g in cc
-    by_test false e further g = (e, further g)
+none_found ((kind, true) ∷ xs) h = cc
+none_found ((kind, false) ∷ xs) h = (refl, none_found xs h)
 
 pub found_none : (xs : List Row) → NoneHolds xs →
     option_map (λ (row : Row). row.0) (find (λ (row : Row). row.1) xs) ≡ None
@@ -152,13 +146,8 @@ members_good b series (x ∷ xs) t =
 
 found : (xs : List Row) → option_map (λ (row : Row). row.0) (find (λ (row : Row). row.1) xs) ≡ first_of xs
 found [] = refl
-found ((kind, holds) ∷ xs) = by_test holds (found xs)
-  where
-    by_test : (t : Bool) → option_map (λ (row : Row). row.0) (find (λ (row : Row). row.1) xs) ≡ first_of xs →
-        option_map (λ (row : Row). row.0)
-        (find (λ (row : Row). row.1) ((kind, t) ∷ xs)) ≡ (if t then Some kind else first_of xs)
-    by_test true h = refl
-    by_test false h = h
+found ((kind, true) ∷ xs) = refl
+found ((kind, false) ∷ xs) = found xs
 
 pub first_is : (b : Basin) (series : Inflows) (t : ReadSoFar) (i : Item) →
     first_row b series t i ≡ first_of (rows b series t i)

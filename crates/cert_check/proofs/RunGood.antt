@@ -1,8 +1,8 @@
 -- The lines of a history are not refuted.
 use Rattle.std.proofs.Math.Bool.{or-true}
-use Rattle.std.proofs.Common.{◌≡◌, ℕ, Bool, true, false, refl, sym, ap, subst, ◌∙◌, List, [], ◌∷◌, ◌++◌, length, map}
-use Rattle.std.proofs.Common.{fold, take, append_assoc, length-append}
-use Rattle.std.specs.Prelude.{Option, Some, None, Ok, slice_get, slice_index}
+use Rattle.std.proofs.Common.{◌≡◌, ℕ, true, false, refl, sym, ap, subst, ◌∙◌, List, [], ◌∷◌, ◌++◌, length, map}
+use Rattle.std.proofs.Common.{fold, take, append_assoc, length-append, arith}
+use Rattle.std.specs.Prelude.{None, Ok, slice_get, slice_index}
 use Rattle.std.specs.List.{flat_map}
 use Rattle.std.proofs.lemmas.List.Folds.{list_any-append}
 use Rattle.std.proofs.Math.Seq.{take-append_seam}
@@ -10,7 +10,7 @@ use Rattle.std.proofs.lemmas.Bool.{or_from, or_parts}
 use Rattle.water_model.proofs.Lists.{get_after}
 use Rattle.water_model.specs.Blank.{blank_month}
 use Rattle.water_model.specs.History.{IsPartialHistory, IsHistory, Follows, cut_of, calling_right}
-use Rattle.water_model.specs.Indices.{members_from, seniors_first}
+use Rattle.water_model.specs.Indices.{seniors_first}
 use Rattle.result_lines.specs.Quantities.{amounts_of, entries_with_line}
 use Rattle.result_lines.specs.Spelling.{line_of}
 use Rattle.result_lines.specs.Text.{call_items, items_of_month, items_of_head, items_of}
@@ -145,14 +145,9 @@ open_each item h (x ∷ xs) = rw (h x) (open_each item h xs)
 
 open_calls : (m : MonthRecord) (xs : List ℕ) → is_whole (flat_map (λ r. call_items r (cut_of m r)) xs) ≡ false
 open_calls m [] = refl
-open_calls m (x ∷ xs) = by_set (cut_of m x) (open_calls m xs)
-  where
-    by_set : (o : Option (List Bool)) → is_whole (flat_map (λ r. call_items r (cut_of m r)) xs) ≡ false →
-        is_whole (call_items x o ++ flat_map (λ r. call_items r (cut_of m r)) xs) ≡ false
-    by_set None h = h
-    by_set (Some set) h =
-        open_both (map (λ n. line.Member n) (members_from 0 set)) (flat_map (λ r. call_items r (cut_of m r)) xs)
-        (open_each (λ n. line.Member n) (λ n. refl) (members_from 0 set)) h
+open_calls m (x ∷ xs) =
+    (let members = open_each {X = ℕ} (λ n. line.Member n) (λ n. refl) in
+    grind (arith, members, open_both, open_calls m xs))
 
 open_section : (b : Basin) (m : MonthRecord) (dues : List (ℕ × ℕ)) (k : Section) →
     is_whole (section_lines b m dues k) ≡ false

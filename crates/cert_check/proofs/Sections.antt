@@ -1,9 +1,8 @@
 -- What the rows say of the lines of a month before its `out` lines.
-use Rattle.std.proofs.Common.{◌≡◌, ℕ, Bool, true, false, refl, sym, ap, ◌∙◌, arith, List, map}
+use Rattle.std.proofs.Common.{◌≡◌, ℕ, false, refl, sym, ap, ◌∙◌, arith, List, map}
 use Rattle.std.specs.Prelude.{None, ◌&&◌, not, ◌==◌, nat_lt, slice_index}
 use Rattle.std.proofs.lemmas.Bool.Decides.{nat_tests}
-use Rattle.std.proofs.lemmas.Bool.{eqb-true, and_parts, not-false, or_from, or_parts}
-use Rattle.water_text.specs.Months.{is_same_month}
+use Rattle.std.proofs.lemmas.Bool.{or_from, or_parts}
 use Rattle.water_text.specs.declared.month.Month.{Month}
 use Rattle.water_model.specs.Basin.{instream_link}
 use Rattle.water_model.specs.History.{opening_after}
@@ -142,15 +141,4 @@ run_good b series t h = early_good b series t (line.Run b.first b.months) h (λ 
 
 pub head_is : (b : Basin) (series : Inflows) (t : ReadSoFar) {first : Month} {months : ℕ} →
     NoneHolds (rows b series t (line.Run first months)) → (first ≡ b.first) × (months ≡ b.months)
-head_is b series t {first} {months} n = by_parts first b.first n.1.1.1.1.0
-  where
-    three : (p q r : Bool) → not ((p && q) && r) ≡ false → (p ≡ true) × (q ≡ true) × (r ≡ true)
-    three p q r h =
-        let parts = and_parts (p && q) r (not-false ((p && q) && r) h) in
-        let two = and_parts p q parts.0 in (two.0, two.1, parts.1)
-
-    by_parts : (x y : Month) → not (is_same_month x y && months == b.months) ≡ false → (x ≡ y) × (months ≡ b.months)
-    by_parts x y h =
-        let parts = three (x.year == y.year) (x.month == y.month) (months == b.months) h in
-        let year = eqb-true x.year y.year parts.0 in
-        (same_month x y year (eqb-true x.month y.month parts.1), eqb-true months b.months parts.2)
+head_is b series t n = (let h = n.1.1.1.1.0 in grind (arith, nat_tests, same_month))

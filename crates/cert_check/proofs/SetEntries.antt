@@ -1,10 +1,9 @@
 -- A check state keeps the sets that were read, with one more line.
-use Rattle.std.proofs.Math.Bool.{and-false}
 use Rattle.std.proofs.Common.{◌≡◌, ℕ, ◌<◌, Bool, true, false, refl, sym, ap, subst, ◌∙◌, arith, inl, inr, List, []}
 use Rattle.std.proofs.Common.{◌∷◌, length, replicate, take}
-use Rattle.std.specs.Prelude.{Option, Some, None, IsSome, ◌&&◌, is_none, slice_set, option_map}
+use Rattle.std.specs.Prelude.{Option, Some, None, IsSome, slice_set, option_map}
 use Rattle.std.specs.List.{list_any}
-use Rattle.std.proofs.lemmas.Bool.{cases_eq, or_parts}
+use Rattle.std.proofs.lemmas.Bool.{cases_eq}
 use Rattle.water_model.specs.CutSets.{CutSets, set_of, with_set}
 use Rattle.water_model.specs.History.{cut_of}
 use Rattle.water_model.specs.Indices.{seniors_first}
@@ -13,33 +12,18 @@ use Rattle.water_model.specs.declared.types.Basin.{Basin}
 use Rattle.water_model.specs.declared.types.Inflows.{Inflows}
 use Rattle.water_model.specs.declared.types.MonthRecord.{MonthRecord}
 use Rattle.result_reader.specs.ReadSoFar.{ReadSoFar, read_item, with_member}
-use Rattle.cut_cert.specs.Callers.{AreCallers, is_short}
+use Rattle.cut_cert.specs.Callers.{AreCallers}
 use Rattle.cert_check.specs.Keeping.{IsCalling, Keeps, lacks_call}
 use Rattle.cert_check.specs.declared.state.CheckState.{CheckState}
 use Rattle.water_model.proofs.SetEntries.{set_of_with, set_of_other}
-use Rattle.cert_check.proofs.Fitting.{none_answered, put_both}
-
-clash : {X : Type 0} → false ≡ true → X
-clash e = cc
-
-no_right : {X : Type 0} (r : ℕ) → None ≡ Some r → X
-no_right r e = cc
+use Rattle.cert_check.proofs.Fitting.{clash, none_answered, put_both}
 
 -- rights that have their calls have them with one more set
 settled_with : (b : Basin) (m : MonthRecord) {r : ℕ} (set : List Bool) → r < length m.cuts.sets → (xs : List ℕ) →
     list_any (lacks_call m) xs ≡ false →
     list_any (lacks_call (record m { cuts = with_set m.cuts r (Some set) })) xs ≡ false
 settled_with b m set l [] h = refl
-settled_with b m {r} set l (x ∷ xs) h =
-    let two = or_parts (is_short m x && is_none (cut_of m x)) (list_any (lacks_call m) xs) h in
-    rw (here (is_short m x) two.0) (settled_with b m set l xs two.1)
-  where
-    here : (p : Bool) → p && is_none (cut_of m x) ≡ false →
-        p && is_none (set_of (with_set m.cuts r (Some set)) x) ≡ false
-    here p e = elim (cases_eq x r) [
-      | inl same ↦ rw (same, set_of_with m.cuts r (Some set) l) (and-false p)
-      | inr other ↦ rw (set_of_other m.cuts r x (Some set) other) e
-    ]
+settled_with b m set l (x ∷ xs) h = grind (arith, set_of_with, set_of_other, settled_with b m set l xs)
 
 -- the right has the set that it was given
 has_set : (cuts : CutSets) {r : ℕ} (set : List Bool) → r < length cuts.sets →
@@ -107,7 +91,7 @@ keeps_stray {b} {series} {a} {t} node none stray k = by_call t.calling (sym k.ca
     by_call : (o : Option ℕ) → o ≡ None →
         Keeps b series (record a { has_callers = false; answered = 0 }) (with_member t o node)
     by_call None e = assumption (unknown, none_answered b t.now none)
-    by_call (Some r) e = no_right r (sym e)
+    by_call (Some r) e = cc
 
 -- an `in` line of the right whose nodes come
 pub keeps_member : {b : Basin} {series : Inflows} {a : CheckState} {t : ReadSoFar} (node : ℕ) {right : ℕ}
@@ -141,7 +125,7 @@ keeps_member {b} {series} {a} {t} node {right} {set} none own is k = by_call t.c
     }) k
 
     by_call : (o : Option ℕ) → o ≡ Some right → Keeps b series (with_own a right more a.calling) (with_member t o node)
-    by_call None e = no_right right e
+    by_call None e = cc
     by_call (Some r) e = let same : r ≡ right = cc in
         rw same (subst (λ o. Keeps b series (with_own a right more a.calling)
         (read_own t right (option_map (λ old. slice_set old node true) o) t.calling)) (sym so_far) kept)

@@ -1,5 +1,5 @@
 -- The lines of a month, from its form, are those of a record.
-use Rattle.std.proofs.Common.{◌≡◌, ℕ, zero, suc, ◌+◌, ◌<◌, Bool, true, false, refl, sym, ap, ◌∙◌, arith, inl, inr, List}
+use Rattle.std.proofs.Common.{◌≡◌, ℕ, zero, suc, ◌+◌, ◌<◌, Bool, refl, sym, ap, ◌∙◌, arith, inl, inr, List}
 use Rattle.std.proofs.Common.{[], ◌∷◌, length, map, replicate, filter}
 use Rattle.std.specs.Prelude.{Option, Some, None, option_map, unwrap_or, slice_index, is_some, if◌then◌else◌}
 use Rattle.std.specs.List.{flat_map}
@@ -22,7 +22,6 @@ use Rattle.result_lines.specs.declared.item.TheConstants.{SECTIONS}
 use Rattle.result_lines.specs.declared.quantity.Quantity.{Quantity}
 use Rattle.result_lines.specs.declared.quantity.Quantity.TheVariants as quantity
 use Rattle.water_model.specs.declared.space.Space.{Space}
-use Rattle.water_model.specs.declared.space.Space.TheVariants as space
 use Rattle.water_model.specs.declared.types.Basin.{Basin}
 use Rattle.water_model.specs.declared.types.Inflows.{Inflows}
 use Rattle.water_model.specs.declared.types.MonthRecord.{MonthRecord}
@@ -51,11 +50,7 @@ indices_apart from (suc n) = (
 
 pub filter_apart : (p : ℕ → Bool) (xs : List ℕ) → AreApart xs → AreApart (filter p xs)
 filter_apart p [] h = tt
-filter_apart p (x ∷ xs) h = by_test (p x) refl (filter_apart p xs h.1)
-  where
-    by_test : (t : Bool) → p x ≡ t → AreApart (filter p xs) → AreApart (filter p (x ∷ xs))
-    by_test true e further = rw e (λ m. h.0 (filter-has p xs x m).0, further)
-    by_test false e further = rw e further
+filter_apart p (x ∷ xs) h = grind (arith, filter-has, filter_apart p xs h.1)
 
 ordered_apart : (b : Basin) (xs : List ℕ) → IsOrdered b.rights xs → AreApart xs
 ordered_apart b [] h = tt
@@ -65,10 +60,7 @@ pub seniors_apart : {b : Basin} → IsValidBasin b → AreApart (seniors_first b
 seniors_apart {b} valid = ordered_apart b (seniors_first b) (seniors_ordered b.rights valid.roll.strict)
 
 pub in_order_apart : {b : Basin} → IsValidBasin b → (s : Space) → AreApart (in_order s b)
-in_order_apart {b} valid space.Nodes = indices_apart 0 (length b.nodes)
-in_order_apart {b} valid space.Links = indices_apart 0 (length b.links)
-in_order_apart {b} valid space.Reservoirs = indices_apart 0 (length b.reservoirs)
-in_order_apart valid space.Rights = seniors_apart valid
+in_order_apart valid s = grind (arith, indices_apart, seniors_apart)
 
 -- what a month's lines give
 pub record Sheet : Type 0 where

@@ -24,7 +24,7 @@ use Rattle.result_reader.proofs.LinesLeft.{step-fewer, most_of_run, bounded_due}
 use Rattle.cert_check.specs.Auditing.{MonthFollows}
 use Rattle.cert_check.specs.Checking.{first_row, is_whole, judge, judge_row, ok_then, rows, verdict_from}
 use Rattle.cert_check.specs.Coming.{MayCome}
-use Rattle.cert_check.specs.Standing.{CheckerView, IsProgressOf, Stands, CheckerStandsFor}
+use Rattle.cert_check.specs.Standing.{CheckerView, IsProgressOf, CheckerStandsFor}
 use Rattle.cert_check.specs.Taking.{TakesItem, TakesLine}
 use Rattle.cert_check.specs.declared.progress.CheckProgress.{CheckProgress}
 use Rattle.cert_check.specs.declared.refuted.Refuted.{Refuted}
@@ -78,16 +78,7 @@ one_more : (b : Basin) (series : Inflows) (before : List Item) (lines : List (Li
     (verdict_from b series before lines)
 one_more b series before [] bytes = refl
 one_more b series before (line ∷ lines) bytes =
-    by_line (λ item. one_more b series (before ++ item ∷ []) lines bytes) (judge b series before line)
-  where
-    by_line : ((item : Item) → verdict_from b series (before ++ item ∷ []) (lines ++ bytes ∷ [])
-        ≡ ok_then (λ items. ok_then (λ item. Ok (items ++ item ∷ [])) (judge b series items bytes))
-        (verdict_from b series (before ++ item ∷ []) lines)) → (r : Result Item Refuted) →
-        ok_then (λ item. verdict_from b series (before ++ item ∷ []) (lines ++ bytes ∷ [])) r
-        ≡ ok_then (λ items. ok_then (λ item. Ok (items ++ item ∷ [])) (judge b series items bytes))
-        (ok_then (λ item. verdict_from b series (before ++ item ∷ []) lines) r)
-    by_line further (Ok item) = further item
-    by_line further (Err e) = refl
+    (let further = λ (item : Item). one_more b series (before ++ item ∷ []) lines bytes in grind arith)
 
 pub still_refused : (b : Basin) (series : Inflows) (lines : List (List ℕ)) (bytes : List ℕ) {e : Refuted} →
     verdict_from b series [] lines ≡ Err e → verdict_from b series [] (lines ++ bytes ∷ []) ≡ Err e
@@ -198,32 +189,16 @@ took {b} series k lines bytes item (Err e) good judged basin stands refuted =
 
 pub refusal_is : (c : CheckerView) (lines : List (List ℕ)) {e : Refuted} → c.refused ≡ Some e →
     CheckerStandsFor c lines → verdict_from c.basin c.series [] lines ≡ Err e
-refusal_is c lines {e} is stands = by_refused c.refused is stands
-  where
-    by_refused : (o : Option Refuted) → o ≡ Some e → Stands o c lines → verdict_from c.basin c.series [] lines ≡ Err e
-    by_refused None is h = cc
-    by_refused (Some other) is h = let same : other ≡ e = cc in h ∙ ap Err same
+refusal_is c lines is stands = rw is at stands
 
 pub refusal_stands : (c : CheckerView) (lines : List (List ℕ)) {e : Refuted} → c.refused ≡ Some e →
     verdict_from c.basin c.series [] lines ≡ Err e → CheckerStandsFor c lines
-refusal_stands c lines {e} is h = by_refused c.refused is
-  where
-    by_refused : (o : Option Refuted) → o ≡ Some e → Stands o c lines
-    by_refused None is = cc
-    by_refused (Some other) is = let same : other ≡ e = cc in h ∙ ap Err (sym same)
+refusal_stands c lines is h = rw is h
 
 pub good_is : {c : CheckerView} {lines : List (List ℕ)} → c.refused ≡ None → CheckerStandsFor c lines →
     IsProgressOf c.basin c.series c.progress lines
-good_is {c} {lines} is stands = by_refused c.refused is stands
-  where
-    by_refused : (o : Option Refuted) → o ≡ None → Stands o c lines → IsProgressOf c.basin c.series c.progress lines
-    by_refused None is h = h
-    by_refused (Some e) is h = cc
+good_is is stands = rw is at stands
 
 pub good_stands : {c : CheckerView} {lines : List (List ℕ)} → c.refused ≡ None →
     IsProgressOf c.basin c.series c.progress lines → CheckerStandsFor c lines
-good_stands {c} {lines} is h = by_refused c.refused is
-  where
-    by_refused : (o : Option Refuted) → o ≡ None → Stands o c lines
-    by_refused None is = h
-    by_refused (Some e) is = cc
+good_stands is h = rw is h

@@ -1,13 +1,13 @@
 -- The verdict on the pieces of a text, one after the other.
 use Rattle.std.proofs.Common.{◌≡◌, ℕ, ◌+◌, ◌-◌, ◌<◌, ◌≤◌, Bool, true, false, refl, ap, ◌∙◌, arith, List, [], ◌∷◌, ◌++◌}
 use Rattle.std.proofs.Common.{length, take, length-append}
-use Rattle.std.specs.Prelude.{Result, Ok, Err, nat_lt, slice_index_or, if◌then◌else◌}
+use Rattle.std.specs.Prelude.{Ok, Err, nat_lt, slice_index_or, if◌then◌else◌}
 use Rattle.std.proofs.Math.Seq.{take-append_seam, take-append-add}
 use Rattle.std.proofs.lemmas.Bool.Decides.{nat_tests}
 use Rattle.result_lines.specs.declared.item.Item.{Item}
 use Rattle.water_model.specs.declared.types.Basin.{Basin}
 use Rattle.water_model.specs.declared.types.Inflows.{Inflows}
-use Rattle.cert_check.specs.Checking.{judge, ok_then, verdict, verdict_at_end, verdict_from}
+use Rattle.cert_check.specs.Checking.{ok_then, verdict, verdict_at_end, verdict_from}
 use Rattle.cert_check.specs.Whole.{pieces_of, after_last, is_line, lines_of_pieces, rest_of_pieces, text_verdict}
 use Rattle.cert_check.specs.declared.refuted.Refuted.{Refuted}
 
@@ -17,14 +17,7 @@ refused : (b : Basin) (series : Inflows) (before : List Item) (xs ys : List (Lis
     verdict_from b series before xs ≡ Err e → verdict_from b series before (xs ++ ys) ≡ Err e
 refused b series before [] ys {e} h = let never : Ok before ≡ Err e = h in cc
 refused b series before (x ∷ xs) ys {e} h =
-    by_line (judge b series before x) h (λ i k. refused b series (before ++ i ∷ []) xs ys k)
-  where
-    by_line : (r : Result Item Refuted) → ok_then (λ item. verdict_from b series (before ++ item ∷ []) xs) r ≡ Err e →
-        ((i : Item) → verdict_from b series (before ++ i ∷ []) xs ≡ Err e →
-        verdict_from b series (before ++ i ∷ []) (xs ++ ys) ≡ Err e) →
-        ok_then (λ item. verdict_from b series (before ++ item ∷ []) (xs ++ ys)) r ≡ Err e
-    by_line (Ok i) k further = further i k
-    by_line (Err why) k further = k
+    (let further = λ (i : Item). refused b series (before ++ i ∷ []) xs ys {e = e} in grind arith)
 
 pub refused_text : (b : Basin) (series : Inflows) (xs ys : List (List ℕ)) (rest : List ℕ) {e : Refuted} →
     verdict_from b series [] xs ≡ Err e → verdict b series (xs ++ ys) rest ≡ Err e

@@ -1,8 +1,8 @@
 -- What the lines of a month say stays within bounds.
-use Rattle.std.proofs.Common.{◌≡◌, ℕ, zero, suc, ◌^◌, ◌<◌, ◌≤◌, Bool, true, false, refl, sym, ap, ◌∙◌, arith, inl, inr}
-use Rattle.std.proofs.Common.{List, [], ◌∷◌, length, map, fold, replicate}
-use Rattle.std.specs.Prelude.{Option, Some, None, ◌||◌, ◌==◌, not, is_some, slice_index, slice_get}
-use Rattle.std.specs.Prelude.{slice_set, unwrap_or, option_map, if◌then◌else◌}
+use Rattle.std.proofs.Common.{◌≡◌, ℕ, zero, suc, ◌^◌, ◌<◌, ◌≤◌, Bool, true, false, refl, ap, ◌∙◌, arith, inl, inr}
+use Rattle.std.proofs.Common.{List, [], ◌∷◌, length, map, fold}
+use Rattle.std.specs.Prelude.{Option, Some, None, ◌||◌, ◌==◌, not, is_some, slice_index}
+use Rattle.std.specs.Prelude.{slice_set, if◌then◌else◌}
 use Rattle.std.specs.List.{list_all}
 use Rattle.std.proofs.lemmas.Bool.{cases_lt, and_parts, eqb-true, ltb-false, or_parts, not-false}
 use Rattle.std.proofs.lemmas.Bool.Decides.{nat_tests}
@@ -12,8 +12,6 @@ use Rattle.water_model.specs.History.{opening_after, cut_of}
 use Rattle.water_model.specs.Hydrology.{run_month, in_year, evaporation, returned_at, want_of}
 use Rattle.water_model.specs.Lookups.{of_entry}
 use Rattle.water_model.specs.Plans.{carry_of}
-use Rattle.water_model.specs.CutSets.{set_of}
-use Rattle.result_lines.specs.Quantities.{amounts_of}
 use Rattle.water_model.specs.Valid.{IsValidBasin, IsSeriesOf}
 use Rattle.result_lines.proofs.Quantities.{cuts_with}
 use Rattle.result_lines.specs.declared.item.Item.{Item}
@@ -22,7 +20,6 @@ use Rattle.result_lines.specs.declared.quantity.Quantity.TheVariants as quantity
 use Rattle.water_model.specs.declared.types.Basin.{Basin}
 use Rattle.water_model.specs.declared.types.Inflows.{Inflows}
 use Rattle.water_model.specs.declared.types.MonthRecord.{MonthRecord}
-use Rattle.water_model.specs.declared.types.Reservoir.{Reservoir}
 use Rattle.water_model.proofs.Histories.{IsMonth-run_month}
 use Rattle.result_reader.specs.ReadSoFar.{ReadSoFar, read_item, with_member}
 use Rattle.water_model.proofs.Wants.{want_most}
@@ -40,16 +37,7 @@ is_amid (line.Amount q entry amount) = true
 is_amid other = is_before_called other
 
 pub before_is_amid : (i : Item) → is_before_called i ≡ true → is_amid i ≡ true
-before_is_amid (line.Called r caller) h = refl
-before_is_amid (line.Amount q entry amount) h = refl
-before_is_amid line.Title h = h
-before_is_amid (line.Run first months) h = h
-before_is_amid (line.Month month) h = h
-before_is_amid (line.Deliver r amount want) h = h
-before_is_amid (line.Call r) h = h
-before_is_amid (line.Member n) h = h
-before_is_amid line.End h = h
-before_is_amid (line.Done months) h = h
+before_is_amid i h = grind arith
 
 -- what was read within a month
 pub record InMonth (b : Basin) (before : List MonthRecord) (i : ℕ) (t : ReadSoFar) : Type 0 where
@@ -80,12 +68,7 @@ set_above (x ∷ xs) (suc i) v least h l (suc k) = set_above xs i v (λ j. least
 
 evaporated_most : (b : Basin) (v storage position : ℕ) →
     of_entry b.reservoirs v (λ r. evaporation r.area storage (slice_index r.rate position)) 0 ≤ storage
-evaporated_most b v storage position = by_entry (slice_get b.reservoirs v)
-  where
-    by_entry : (o : Option Reservoir) →
-        unwrap_or (option_map (λ r. evaporation r.area storage (slice_index r.rate position)) o) 0 ≤ storage
-    by_entry None = omega arith
-    by_entry (Some r) = omega arith
+evaporated_most b v storage position = grind arith
 
 carried_most : {b : Basin} → IsValidBasin b → {i : ℕ} (e : ℕ) → i < b.months → carry_of b (run_month b i) e ≤ 10 ^ 15
 carried_most {b} valid {i} e l = elim (cases_lt e (length b.links)) [
@@ -102,8 +85,7 @@ wanted_most {b} valid {series} fits i r used = elim (cases_lt r (length b.rights
 
 amount_most : (link : Option ℕ) (flow : List ℕ) {amount want : ℕ} → amount_wrong link flow amount want ≡ false →
     amount ≤ want
-amount_most None flow {amount} {want} h = ltb-false want amount h
-amount_most (Some link) flow h = (let e = is_same h in omega arith)
+amount_most link flow h = grind (arith, nat_tests)
 
 taken_most : (p : Bool) {amount most : ℕ} → amount ≤ most → (if p then amount else 0) ≤ most
 taken_most true h = h
@@ -195,20 +177,7 @@ month_begins b series t at months = grind (arith, nat_tests, no_numbers)
 
 uncalled_more : (b : Basin) (series : Inflows) (t : ReadSoFar) (item : Item) → is_before_called item ≡ true →
     (read_item b series t item).called ≡ t.called
-uncalled_more b series t line.Title h = refl
-uncalled_more b series t (line.Run first months) h = refl
-uncalled_more b series t (line.Month month) h = (let never : false ≡ true = h in cc)
-uncalled_more b series t (line.Amount q entry amount) h = refl
-uncalled_more b series t (line.Deliver r amount want) h = refl
-uncalled_more b series t (line.Call r) h = refl
-uncalled_more b series t (line.Member n) h = by_call t.calling
-  where
-    by_call : (o : Option ℕ) → (with_member t o n).called ≡ t.called
-    by_call None = refl
-    by_call (Some right) = refl
-uncalled_more b series t (line.Called r caller) h = (let never : false ≡ true = h in cc)
-uncalled_more b series t line.End h = refl
-uncalled_more b series t (line.Done months) h = refl
+uncalled_more b series t item h = grind arith
 
 pub uncalled : (b : Basin) (series : Inflows) (xs : List Item) (t : ReadSoFar) → list_all is_before_called xs ≡ true →
     (fold (read_item b series) t xs).called ≡ t.called
@@ -229,36 +198,7 @@ pub record IsFree (r : ℕ) (t : ReadSoFar) : Type 0 where
 
 free_more : (b : Basin) (series : Inflows) {r : ℕ} {t : ReadSoFar} (item : Item) → no_call r item ≡ true → IsFree r t →
     IsFree r (read_item b series t item)
-free_more b series line.Title h f = f
-free_more b series (line.Run first months) h f = f
-free_more b series {r} (line.Month month) h f =
-    record { none = no_sets (length b.rights) r; other = λ e. (let never : None ≡ Some r = e in cc) }
-free_more b series {r} {t} (line.Amount q entry amount) h f = record {
-  none = ap (λ cuts. set_of cuts r) (cuts_with q t.now (slice_set (amounts_of q t.now) entry amount)) ∙ f.none;
-  other = λ e. (let never : None ≡ Some r = e in cc);
-}
-free_more b series {r} (line.Deliver s amount want) h f =
-    record { none = f.none; other = λ e. (let never : None ≡ Some r = e in cc) }
-free_more b series {r} {t} (line.Call s) h f = record {
-  none = set_of_other t.now.cuts s r (Some (replicate (length b.nodes) false)) (λ e. apart s r h (sym e)) ∙ f.none;
-  other = λ e. (let same : Some s ≡ Some r = e in let is : s ≡ r = cc in apart s r h is);
-}
-  where
-    apart : (s r : ℕ) → not (s == r) ≡ true → s ≡ r → ⊥
-    apart s r h e = grind (arith, nat_tests)
-free_more b series {r} {t} (line.Member n) h f = by_call t.calling refl
-  where
-    by_call : (o : Option ℕ) → t.calling ≡ o → IsFree r (with_member t o n)
-    by_call None e = f
-    by_call (Some right) e = record {
-      none = set_of_other t.now.cuts right r (option_map (λ set. slice_set set n true) (cut_of t.now right))
-          (λ is. f.other (e ∙ ap (λ (x : ℕ). Some x) (sym is))) ∙ f.none;
-      other = f.other;
-    }
-free_more b series {r} (line.Called s caller) h f =
-    record { none = f.none; other = λ e. (let never : None ≡ Some r = e in cc) }
-free_more b series {r} line.End h f = record { none = f.none; other = λ e. (let never : None ≡ Some r = e in cc) }
-free_more b series (line.Done months) h f = f
+free_more b series item h f = grind (arith, nat_tests, no_sets, set_of_other, cuts_with)
 
 pub free : (b : Basin) (series : Inflows) {r : ℕ} (xs : List Item) {t : ReadSoFar} → list_all (no_call r) xs ≡ true →
     IsFree r t → IsFree r (fold (read_item b series) t xs)

@@ -1,7 +1,7 @@
 -- What the verdict on lines says of the lines.
-use Rattle.std.proofs.Common.{◌≡◌, ℕ, ◌+◌, Bool, true, false, refl, sym, ap, subst, ◌∙◌, inl, inr, List, [], ◌∷◌, ◌++◌}
-use Rattle.std.proofs.Common.{length, map, append_assoc, append-nil}
-use Rattle.std.specs.Prelude.{Option, Some, None, Result, Ok, Err, ◌⊎◌, if◌then◌else◌}
+use Rattle.std.proofs.Common.{◌≡◌, ℕ, ◌+◌, true, false, refl, sym, ap, subst, ◌∙◌, inl, inr, List, [], ◌∷◌, ◌++◌}
+use Rattle.std.proofs.Common.{map, append_assoc, append-nil, arith}
+use Rattle.std.specs.Prelude.{None, Result, Ok, Err, ◌⊎◌}
 use Rattle.result_lines.specs.Spelling.{line_of}
 use Rattle.water_model.specs.Valid.{IsValidBasin}
 use Rattle.result_lines.specs.declared.item.Item.{Item}
@@ -10,13 +10,10 @@ use Rattle.water_model.specs.declared.types.Inflows.{Inflows}
 use Rattle.result_reader.specs.Form.{IsPrefix}
 use Rattle.result_reader.specs.Reading.{read_line}
 use Rattle.result_reader.specs.ReadSoFar.{ReadSoFar, read_item, read_so_far, nothing_read}
-use Rattle.result_reader.specs.declared.bad_line.BadLine.{BadLine}
 use Rattle.result_reader.proofs.Accepting.{prefixes_are_accepted}
 use Rattle.result_reader.proofs.Telling.{fold-both}
-use Rattle.cert_check.specs.Checking.{first_row, judge, judge_row, judge_read, ok_then, verdict_from, verdict_at_end}
+use Rattle.cert_check.specs.Checking.{first_row, judge, ok_then, verdict_from}
 use Rattle.cert_check.specs.Checking.{verdict, is_whole}
-use Rattle.cert_check.specs.declared.refuted.RefutedKind.{RefutedKind}
-use Rattle.cert_check.specs.declared.refuted.RefutedKind.TheVariants as kind
 use Rattle.cert_check.specs.declared.refuted.Refuted.{Refuted}
 use Rattle.cert_check.proofs.Rows.{AreGood, good_row, row_good}
 
@@ -54,29 +51,7 @@ pub record IsJudged (b : Basin) (series : Inflows) (before : List Item) (bytes :
 judged : {b : Basin} {series : Inflows} {before : List Item} {bytes : List ℕ} {i : Item} →
     judge b series before bytes ≡ Ok i → IsJudged b series before bytes i
 unfolding judge
-judged {b} {series} {before} {bytes} {i} h = by_end (is_whole before) refl h
-  where
-    by_row : (item : Item) (o : Option RefutedKind) → judge_row before item o ≡ Ok i → (item ≡ i) × (o ≡ None)
-    by_row item None e = let same : Ok item ≡ Ok i = e in (cc, refl)
-    by_row item (Some kind) e = cc
-
-    by_read : is_whole before ≡ false → (r : Result Item BadLine) → read_line b before bytes ≡ r →
-        judge_read b series before r ≡ Ok i → IsJudged b series before bytes i
-    by_read open_yet (Ok item) read e =
-        let k = by_row item (first_row b series (read_so_far b series before) item) e in
-        record {
-          open_yet = open_yet;
-          read = read ∙ ap Ok k.0;
-          none =
-              ap (first_row b series (read_so_far b series before)) (sym k.0) ∙ k.1;
-        }
-    by_read open_yet (Err why) read e = cc
-
-    by_end : (t : Bool) → is_whole before ≡ t →
-        if◌then◌else◌ {A = Result Item Refuted} t (Err (record { line = length before + 1; kind = kind.AfterEnd }))
-        (judge_read b series before (read_line b before bytes)) ≡ Ok i → IsJudged b series before bytes i
-    by_end true e k = cc
-    by_end false e k = by_read e (read_line b before bytes) refl k
+judged h = grind arith
 
 -- what a good verdict says of lines after others
 pub record AreJudged (b : Basin) (series : Inflows) (before items : List Item) (lines : List (List ℕ)) : Type 0 where
@@ -133,21 +108,7 @@ pub record IsYes (b : Basin) (series : Inflows) (lines : List (List ℕ)) (rest 
 
 pub yes_says : {b : Basin} {series : Inflows} {lines : List (List ℕ)} {rest : List ℕ} {items : List Item} →
     verdict b series lines rest ≡ Ok items → IsYes b series lines rest items
-yes_says {b} {series} {lines} {rest} {items} h =
-    let t = through (verdict_at_end rest) (verdict_from b series [] lines) items h in
-    by_rest rest t.0 t.1 t.2
-  where
-    by_whole : (xs : List Item) (p : Bool) → is_whole xs ≡ p → if◌then◌else◌ {A = Result (List Item) Refuted} p (Ok xs)
-        (Err (record { line = length xs + 1; kind = kind.EarlyEnd })) ≡ Ok items → (xs ≡ items) × (is_whole xs ≡ true)
-    by_whole xs true e k = let same : Ok xs ≡ Ok items = k in (cc, e)
-    by_whole xs false e k = cc
-
-    by_rest : (rest : List ℕ) (xs : List Item) → verdict_from b series [] lines ≡ Ok xs →
-        verdict_at_end rest xs ≡ Ok items → IsYes b series lines rest items
-    by_rest [] xs good k =
-        let w = by_whole xs (is_whole xs) refl k in
-        record { lines_good = good ∙ ap Ok w.0; whole = ap is_whole (sym w.0) ∙ w.1; no_rest = refl }
-    by_rest (x ∷ rest) xs good k = cc
+yes_says h = grind arith
 
 pub says_yes : (b : Basin) (series : Inflows) (lines : List (List ℕ)) {items : List Item} →
     verdict_from b series [] lines ≡ Ok items → is_whole items ≡ true → verdict b series lines [] ≡ Ok items

@@ -1,6 +1,5 @@
 pub mod Audit
 pub mod Auditing
-pub mod Beginning
 pub mod CheckerInside
 pub mod Checking
 pub mod Coming

@@ -5,9 +5,10 @@ ghost use Rattle.std.specs.Prelude.{slice_set, is_some, if◌then◌else◌};
 ghost use Rattle.cut_cert.specs.Callers.{AreCallers};
 ghost use Rattle.lag_returns.specs.Lags.{HasReturned, return_rows};
 ghost use Rattle.lag_returns.specs.Lags as lag;
-ghost use Rattle.month_terms.specs.Terms.{HasUsed};
+ghost use Rattle.month_terms.specs.Terms.{FitsRecord, HasUsed};
+ghost use Rattle.water_model.specs.Blank.{blank_month};
 ghost use Rattle.water_model.specs.Basin.{taking_node};
-ghost use Rattle.water_model.specs.CutSets.{set_of, with_set, without_sets};
+ghost use Rattle.water_model.specs.CutSets.{set_of, with_set};
 ghost use Rattle.result_lines.specs.Quantities.{amounts_of, with_amounts};
 ghost use Rattle.water_model.specs.Valid.{IsValidBasin};
 ghost use Rattle.result_lines.specs.OfBasin.{IsOfBasin};
@@ -40,25 +41,10 @@ fn clear(list: &mut Rows<u64>)
     list.as_mut_slice().fill(0);
 }
 
-/// Makes a record one of which only its index and month were read. Its supply stays.
-fn blank(month: &mut MonthRecord, index: u32, calendar: Month)
-    ensures { month.new ≡ record month.old {
-      index = index;
-      month = calendar;
-      opening = replicate (length month.old.opening) 0;
-      evaporated = replicate (length month.old.evaporated) 0;
-      returned = replicate (length month.old.returned) 0;
-      used = replicate (length month.old.used) 0;
-      want = replicate (length month.old.want) 0;
-      plan = record {
-        flow = replicate (length month.old.plan.flow) 0;
-        take = replicate (length month.old.plan.take) 0;
-        out = replicate (length month.old.plan.out) 0;
-      };
-      delivered = replicate (length month.old.delivered) 0;
-      cuts = without_sets month.old.cuts;
-      closing = replicate (length month.old.closing) 0;
-    } }
+/// Makes a record one of which only its index and month were read.
+fn blank(basin: &Basin, month: &mut MonthRecord, index: u32, calendar: Month)
+    requires { FitsRecord basin.now month.old }
+    ensures { month.new ≡ blank_month basin.now index calendar }
 {
     month.index = index;
     month.month = calendar;
@@ -66,6 +52,7 @@ fn blank(month: &mut MonthRecord, index: u32, calendar: Month)
     clear(&mut month.evaporated);
     clear(&mut month.returned);
     clear(&mut month.used);
+    clear(&mut month.supply);
     clear(&mut month.want);
     clear(&mut month.plan.flow);
     clear(&mut month.plan.take);
@@ -77,9 +64,10 @@ fn blank(month: &mut MonthRecord, index: u32, calendar: Month)
 
 /// Enters a `month` line.
 #[inline(never)]
-pub fn enter_month(state: &mut CheckState, calendar: Month)
-    ensures rest { state.new ≡ record state.old {
-      month = state.new.month;
+pub fn enter_month(basin: &Basin, state: &mut CheckState, calendar: Month)
+    requires { FitsRecord basin.now state.old.month }
+    ensures { state.new ≡ record state.old {
+      month = blank_month basin.now state.old.done calendar;
       calling = None;
       has_supply = false;
       has_closes = false;
@@ -87,25 +75,8 @@ pub fn enter_month(state: &mut CheckState, calendar: Month)
       passed = 0;
       answered = 0;
     } }
-    ensures month { state.new.month ≡ record state.old.month {
-      index = state.old.done;
-      month = calendar;
-      opening = replicate (length state.old.month.opening) 0;
-      evaporated = replicate (length state.old.month.evaporated) 0;
-      returned = replicate (length state.old.month.returned) 0;
-      used = replicate (length state.old.month.used) 0;
-      want = replicate (length state.old.month.want) 0;
-      plan = record {
-        flow = replicate (length state.old.month.plan.flow) 0;
-        take = replicate (length state.old.month.plan.take) 0;
-        out = replicate (length state.old.month.plan.out) 0;
-      };
-      delivered = replicate (length state.old.month.delivered) 0;
-      cuts = without_sets state.old.month.cuts;
-      closing = replicate (length state.old.month.closing) 0;
-    } }
 {
-    blank(&mut state.month, state.done, calendar);
+    blank(basin, &mut state.month, state.done, calendar);
     state.calling = None;
     state.has_supply = false;
     state.has_closes = false;
@@ -289,7 +260,7 @@ pub fn enter(context: &Context, state: &mut CheckState, item: &Item)
     match *item {
         Item::Title => {}
         Item::Run { .. } => {}
-        Item::Month { month } => enter_month(state, month),
+        Item::Month { month } => enter_month(context.basin, state, month),
         Item::Amount {
             quantity,
             entry,

@@ -3,11 +3,6 @@ ghost use Rattle.std.specs.Prelude.{◌≡◌, ◌<◌, length, slice_set, is_so
 ghost use Rattle.water_model.specs.Basin.{taking_node};
 ghost use Rattle.result_lines.specs.Quantities.{amounts_of, with_amounts};
 ghost use Rattle.water_model.specs.Valid.{IsValidBasin};
-ghost use Rattle.result_reader.specs.ReadSoFar.{ReadSoFar, read_item};
-ghost use Rattle.result_lines.specs.declared.item.Item.TheVariants as line;
-ghost use Rattle.water_model.specs.declared.types.Basin.{Basin};
-ghost use Rattle.water_model.specs.declared.types.Inflows.{Inflows};
-ghost use Rattle.cert_check.specs.Shows.{Shows};
 
 use result_lines::quantity::Quantity;
 use water_model::types::{Basin, MonthRecord, RightKind};
@@ -23,10 +18,7 @@ fn put(list: &mut [u64], position: u32, amount: u64)
 /// Notes an amount of an entry.
 pub fn note_amount(month: &mut MonthRecord, quantity: Quantity, entry: u32, amount: u64)
     requires { entry < length (amounts_of quantity month.old) }
-    ensures exact { month.new
-        ≡ with_amounts quantity month.old (slice_set (amounts_of quantity month.old) entry amount) }
-    ensures shows { (b : Basin) (series : Inflows) (t : ReadSoFar) → Shows month.old t.now →
-        Shows month.new (read_item b series t (line.Amount quantity entry amount)).now }
+    ensures { month.new ≡ with_amounts quantity month.old (slice_set (amounts_of quantity month.old) entry amount) }
 {
     match quantity {
         Quantity::Opening => put(month.opening.as_mut_slice(), entry, amount),
@@ -59,15 +51,13 @@ pub fn note_delivery(basin: &Basin, month: &mut MonthRecord, right: u32, amount:
     requires delivered { right < length month.old.delivered }
     requires want { right < length month.old.want }
     requires take { right < length month.old.plan.take }
-    ensures exact { month.new ≡ record month.old {
+    ensures { month.new ≡ record month.old {
       delivered = slice_set month.old.delivered right amount;
       want = slice_set month.old.want right want;
       plan = record month.old.plan {
         take = slice_set month.old.plan.take right (if is_some (taking_node basin.now right) then amount else 0);
       };
     } }
-    ensures shows { (series : Inflows) (t : ReadSoFar) → Shows month.old t.now →
-        Shows month.new (read_item basin.now series t (line.Deliver right amount want)).now }
 {
     let take = take_of(basin, right, amount);
     put(month.delivered.as_mut_slice(), right, amount);

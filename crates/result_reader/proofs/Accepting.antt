@@ -1,16 +1,15 @@
 -- Which lines are accepted.
-use Rattle.std.proofs.Common.{arith, ◌≡◌, ℕ, refl, sym, ap, subst, ◌∙◌, List, [], ◌∷◌, ◌++◌}
-use Rattle.std.specs.Prelude.{Option, Some, None, Ok, Err, is_some, if◌then◌else◌}
+use Rattle.std.proofs.Common.{arith, ◌≡◌, ℕ, refl, sym, ap, ◌∙◌, List, [], ◌∷◌, ◌++◌}
+use Rattle.std.specs.Prelude.{Ok, Err}
 use Rattle.water_model.specs.Valid.{IsValidBasin}
 use Rattle.result_lines.specs.declared.item.Item.{Item}
 use Rattle.water_model.specs.declared.types.Basin.{Basin}
-use Rattle.result_reader.specs.Due.{Due, all_due, due_after}
 use Rattle.result_reader.specs.Form.{IsPrefix}
 use Rattle.result_reader.specs.Laws.{LineSaysItsItem, PrefixesAreDue, PrefixesAreAccepted, OthersAreOutOfPlace}
 use Rattle.result_reader.specs.Reading.{item_of, read_line}
 use Rattle.result_reader.specs.declared.bad_line.BadLine.TheVariants as bad
 use Rattle.result_reader.proofs.Prefixes.{prefix_due, due_prefix}
-use Rattle.result_reader.proofs.Sayings.{item_is_said, through}
+use Rattle.result_reader.proofs.Sayings.{item_is_said}
 use Rattle.result_reader.proofs.Spelled.{item-line}
 
 pub line_says_its_item : LineSaysItsItem
@@ -37,22 +36,7 @@ may_come b before bytes item said prefix =
 has_come : (b : Basin) → IsValidBasin b → (before : List Item) (bytes : List ℕ) (item : Item) →
     read_line b before bytes ≡ Ok item → (item_of b bytes ≡ Ok item) × IsPrefix b (before ++ item ∷ [])
 unfolding read_line
-has_come b valid before bytes item h =
-    let t = through (item_of b bytes)
-    (λ i. if is_some (due_after b (all_due b) (before ++ i ∷ [])) then Ok i else Err bad.OutOfPlace) item h in
-    by_due t.0 (due_after b (all_due b) (before ++ t.0 ∷ [])) refl t.1 t.2
-  where
-    by_due : (i : Item) (o : Option Due) → due_after b (all_due b) (before ++ i ∷ []) ≡ o → item_of b bytes ≡ Ok i →
-        (if is_some o then Ok i else Err bad.OutOfPlace) ≡ Ok item → (item_of b bytes ≡ Ok item) ×
-        IsPrefix b (before ++ item ∷ [])
-    by_due i None d said e = let never : Err bad.OutOfPlace ≡ Ok item = e in cc
-    by_due i (Some t) d said e =
-        let both : Ok i ≡ Ok item = e in
-        let is : i ≡ item = cc in (
-          said ∙ ap (λ x. Ok x) is,
-          subst (λ (x : Item). IsPrefix b (before ++ x ∷ [])) is
-              (due_prefix b valid.bounded.some_node (before ++ i ∷ []) t d),
-        )
+has_come b valid before bytes item h = grind (arith, due_prefix)
 
 pub prefixes_are_accepted : PrefixesAreAccepted
 prefixes_are_accepted b before bytes item valid = (

@@ -22,7 +22,6 @@ use Rattle.water_model.specs.Indices.{numbers_from, seniors_first}
 use Rattle.result_lines.specs.Quantities.{amounts_of, entries_with_line, has_line, space_of}
 use Rattle.water_model.specs.Plans.{delivery_by_link}
 use Rattle.result_lines.specs.declared.quantity.Quantity.{Quantity}
-use Rattle.result_lines.specs.declared.quantity.Quantity.TheVariants as quantity
 use Rattle.water_model.specs.declared.types.Basin.{Basin}
 use Rattle.water_model.specs.declared.types.Inflows.{Inflows}
 use Rattle.water_model.specs.declared.types.MonthRecord.{MonthRecord}
@@ -123,25 +122,13 @@ has_set b series before m t r set e = by_range (cases_lt r (length b.rights))
 -- each list has a number for each entry
 pub amounts_sized : (b : Basin) (series : Inflows) (before : List MonthRecord) (m : MonthRecord) →
     IsNextMonth b series before m → (q : Quantity) → length (amounts_of q m) ≡ count_in (space_of q) b
-amounts_sized b series before m t quantity.Opening = t.fits.opening
-amounts_sized b series before m t quantity.Evaporated = t.fits.evaporated
-amounts_sized b series before m t quantity.Returned = t.fits.returned
-amounts_sized b series before m t quantity.Used = t.fits.used
-amounts_sized b series before m t quantity.Flow = t.plan.flow_len
-amounts_sized b series before m t quantity.Outflow = t.plan.out_len
-amounts_sized b series before m t quantity.Closing = t.fits.closing
+amounts_sized b series before m t q = grind arith
 
 -- where a month has no line, the amount is 0
 none_unlisted : (b : Basin) (series : Inflows) (before : List MonthRecord) (m : MonthRecord) →
     IsNextMonth b series before m → (q : Quantity) (k : ℕ) → k < count_in (space_of q) b → has_line b q k ≡ false →
     slice_index (amounts_of q m) k ≡ 0
-none_unlisted b series before m t quantity.Opening k l h = cc
-none_unlisted b series before m t quantity.Evaporated k l h = cc
-none_unlisted b series before m t quantity.Returned k l h = grind (arith, nothing_returns)
-none_unlisted b series before m t quantity.Used k l h = grind (arith, nothing_used)
-none_unlisted b series before m t quantity.Flow k l h = cc
-none_unlisted b series before m t quantity.Outflow k l h = t.plan.outlets k l h
-none_unlisted b series before m t quantity.Closing k l h = cc
+none_unlisted b series before m t q k l h = grind (arith, nothing_returns, nothing_used)
 
 all_read : (b : Basin) (series : Inflows) (before : List MonthRecord) (m : MonthRecord) →
     IsTextMonth b series before m → IsAllRead b series m

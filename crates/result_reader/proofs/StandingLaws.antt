@@ -8,7 +8,7 @@ use Rattle.result_lines.specs.declared.item.Item.{Item}
 use Rattle.water_model.specs.declared.types.Basin.{Basin}
 use Rattle.result_reader.specs.Due.{Due, is_call, step, all_due, due_after}
 use Rattle.result_reader.specs.Form.{due, due_in_month}
-use Rattle.result_reader.specs.Progress.{dues_of, due_of, IsNextProgress}
+use Rattle.result_reader.specs.Progress.{dues_of, due_of, IsNextProgress, IsProgress}
 use Rattle.result_reader.specs.OfText.{IsOfText}
 use Rattle.result_reader.specs.Reading.{item_of, read_line}
 use Rattle.result_reader.specs.Standing.{ReaderView, ReaderStandsFor, max_lines, IsReader}
@@ -32,70 +32,57 @@ unfolding due
 all_due_first b dues = grind arith
 
 -- what is due after one more line
-due_later : (b : Basin) (dues : List Shape) (p : Progress) (items : List Item) (i : Item) (s : Option (List Shape)) →
-    due_after b (all_due b) items ≡ Some (due_of b dues p) → step b p.must (dues_of b dues p) i ≡ s →
-    due_after b (all_due b) (items ++ i ∷ []) ≡ option_and_then (λ ds. Some (record { must = is_call i; dues = ds })) s
-due_later b dues p items i s stands e =
-    due_more b (all_due b) (due_of b dues p) items i stands
-    ∙ ap (λ o. option_and_then (λ ds. Some (record { must = is_call i; dues = ds })) o) e
+due_later : {b : Basin} (dues : List Shape) (p : Progress) {left : ℕ} {r : ReaderView} → reader_view b dues p left ≡ r →
+    (items : List Item) (i : Item) (s : Option (List Shape)) → ReaderStandsFor r items →
+    step b p.must (dues_of b dues p) i ≡ s → due_after r.basin (all_due r.basin) (items ++ i ∷ [])
+    ≡ option_and_then (λ ds. Some (record { must = is_call i; dues = ds })) s
+due_later dues p {r = r} is items i s stands e =
+    due_more r.basin (all_due r.basin) r.due items i stands
+    ∙ ap (λ o. option_and_then (λ ds. Some (record { must = is_call i; dues = ds })) o) (rw (← is) e)
 
 -- A line that says nothing is refused.
-pub line_refused : (b : Basin) (dues : List Shape) (p : Progress) (left : ℕ) (r : ReaderView) (bytes : List ℕ)
-    (why : BadLine) →
-    reader_view b dues p left ≡ r → item_of b bytes ≡ Err why → (items : List Item) → ReaderStandsFor r items →
-    Err why ≡ read_line r.basin items bytes
+pub line_refused : (b : Basin) (bytes : List ℕ) {why : BadLine} → item_of b bytes ≡ Err why → (items : List Item) →
+    Err why ≡ read_line b items bytes
 unfolding read_line
-line_refused b dues p left r bytes why is h items stands = grind arith
+line_refused b bytes said items = rw said refl
 
 -- A line whose item may not come is out of place.
-pub line_blocked : (b : Basin) (dues : List Shape) (p : Progress) (left : ℕ) (r : ReaderView) (bytes : List ℕ)
-    (i : Item) → reader_view b dues p left ≡ r → item_of b bytes ≡ Ok i → IsNextProgress b dues p i None →
+pub line_blocked : {b : Basin} (dues : List Shape) (p : Progress) {left : ℕ} {r : ReaderView} (bytes : List ℕ)
+    {i : Item} → reader_view b dues p left ≡ r → item_of r.basin bytes ≡ Ok i → IsNextProgress b dues p i None →
     (items : List Item) → ReaderStandsFor r items → Err bad.OutOfPlace ≡ read_line r.basin items bytes
 unfolding read_line
-line_blocked b dues p left r bytes i is h next items =
-    subst (λ (s : ReaderView). ReaderStandsFor s items → Err bad.OutOfPlace ≡ read_line s.basin items bytes) is here
-  where
-    here : due_after b (all_due b) items ≡ Some (due_of b dues p) → Err bad.OutOfPlace ≡ read_line b items bytes
-    here stands = rw (h, due_later b dues p items i None stands next) refl
+line_blocked dues p bytes {i} is said next items stands = rw (said, due_later dues p is items i None stands next) refl
 
--- what is said of a line that is accepted
-pub record IsTaken (b : Basin) (r : ReaderView) (bytes : List ℕ) (i : Item) (later_due : Due) (items : List Item) : Type
-    0
-  where
-    pub answer : Ok i ≡ read_line r.basin items bytes
-    pub after : due_after b (all_due b) (items ++ i ∷ []) ≡ Some later_due
+-- A line whose item may come is accepted: it is spelled as it says, and then at least one line fewer is left.
+pub record IsTaken (b : Basin) (dues : List Shape) (next : Progress) (left : ℕ) (r : ReaderView) (bytes : List ℕ)
+    (i : Item) : Type 0 where
+  pub answer : (items : List Item) → ReaderStandsFor r items → Ok i ≡ read_line r.basin items bytes
+  pub after : (items : List Item) → ReaderStandsFor r items →
+      due_after b (all_due b) (items ++ i ∷ []) ≡ Some (due_of b dues next)
+  pub spelled : (bytes ≡ line_of r.basin i) × IsOfText r.basin i
+  pub fewer : max_lines b (dues_of b dues next) + 1 ≤ left
+  pub progress : IsProgress b dues next
 
--- A line whose item may come is accepted.
-pub line_taken : (b : Basin) (dues : List Shape) (p next : Progress) (left : ℕ) (r : ReaderView) (bytes : List ℕ)
-    (i : Item) → reader_view b dues p left ≡ r → item_of b bytes ≡ Ok i → IsNextProgress b dues p i (Some next) →
-    (items : List Item) → ReaderStandsFor r items → IsTaken b r bytes i (due_of b dues next) items
+pub line_taken : {b : Basin} {dues : List Shape} {p : Progress} (next : Progress) {left : ℕ} {r : ReaderView}
+    (bytes : List ℕ) {i : Item} → reader_view b dues p left ≡ r → item_of r.basin bytes ≡ Ok i →
+    IsReader b dues p left → IsNextProgress b dues p i (Some next) → IsTaken b dues next left r bytes i
 unfolding read_line
-line_taken b dues p next left r bytes i is h step items =
-    subst (λ (s : ReaderView). ReaderStandsFor s items → IsTaken b s bytes i (due_of b dues next) items) is here
+line_taken {b} {dues} {p} next {left} {r} bytes {i} is said reads step = record {
+  answer = λ items stands. rw (said, later items stands) refl;
+  after = λ items stands. rw (← is) at (later items stands);
+  spelled = (let s = item_is_said r.basin bytes i said in (s.spelled, s.of_text));
+  fewer = omega (
+    arith,
+    reads.left_is,
+    step-fewer b p.must (dues_of b dues p) i (dues_of b dues next) step.0,
+  );
+  progress = step.2;
+}
   where
-    here : due_after b (all_due b) items ≡ Some (due_of b dues p) →
-        IsTaken b (reader_view b dues p left) bytes i (due_of b dues next) items
-    here stands =
-        let after : due_after b (all_due b) (items ++ i ∷ []) ≡ Some
-        (record { must = is_call i; dues = dues_of b dues next }) =
-        due_later b dues p items i (Some (dues_of b dues next)) stands step.0 in
-        record {
-          answer = rw (h, after) refl;
-          after = after ∙ ap (λ m. let d : Due = record { must = m; dues = dues_of b dues next } in
-              Some d) (sym step.1);
-        }
-
--- a progress is that of the reader's own list
-pub next_along : (b : Basin) (ds dues : List Shape) (p : Progress) (i : Item) (o : Option Progress) → ds ≡ dues →
-    IsNextProgress b ds p i o → IsNextProgress b dues p i o
-next_along b ds dues p i o is h = subst (λ (xs : List Shape). IsNextProgress b xs p i o) is h
-
--- after a line that is accepted at least one line fewer is left
-pub next_left : (b : Basin) (dues : List Shape) (p next : Progress) (i : Item) (left : ℕ) →
-    max_lines b (dues_of b dues p) ≤ left →
-    IsNextProgress b dues p i (Some next) → max_lines b (dues_of b dues next) + 1 ≤ left
-next_left b dues p next i left h step =
-    omega (arith, step-fewer b p.must (dues_of b dues p) i (dues_of b dues next) step.0)
+    later : (items : List Item) → ReaderStandsFor r items →
+        due_after r.basin (all_due r.basin) (items ++ i ∷ []) ≡ Some (due_of b dues next)
+    later items stands = due_later dues p is items i (Some (dues_of b dues next)) stands step.0
+        ∙ ap (λ m. let d : Due = record { must = m; dues = dues_of b dues next } in Some d) (sym step.1)
 
 -- a reader that accepted nothing
 pub reader_first : (b c : Basin) (dues : List Shape) (left : ℕ) → c ≡ b → IsValidBasin b → dues ≡ due_in_month b →
@@ -109,11 +96,3 @@ reader_first b c dues left is valid are most =
       progress = record { position = tt; member = tt; must = λ no. cc };
       left_is = rw (← ap (λ (d : Due). d.dues) (all_due_first b dues)) most;
     })
-
--- what is said is spelled
-pub said_along : (b : Basin) (dues : List Shape) (p : Progress) (left : ℕ) (r : ReaderView) (bytes : List ℕ)
-    (i : Item) → reader_view b dues p left ≡ r →
-    item_of b bytes ≡ Ok i → (bytes ≡ line_of r.basin i) × IsOfText r.basin i
-said_along b dues p left r bytes i is h =
-    let s = item_is_said b bytes i h in
-    subst (λ (x : ReaderView). (bytes ≡ line_of x.basin i) × IsOfText x.basin i) is (s.spelled, s.of_text)

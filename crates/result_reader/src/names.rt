@@ -2,10 +2,10 @@
 ghost use Rattle.std.specs.Prelude.{◌≡◌, ◌<◌, true, IfOk};
 ghost use Rattle.water_model.specs.Entries.{count_in, name_in};
 ghost use Rattle.water_model.specs.Valid.{IsValidBasin};
-ghost use Rattle.water_model.specs.declared.space.Space.TheVariants.{Nodes, Links, Reservoirs, Rights};
+ghost use Rattle.water_model.specs.declared.space.Space.TheVariants.{Links, Reservoirs};
 ghost use Rattle.basin_names.specs.Named.{named};
 
-use basin_names::SpaceNames;
+use basin_names::{BothNames, SpaceNames};
 use std::alloc::{AllocError, Global};
 use water_model::space::{Space, count_in, name_in};
 use water_model::types::Basin;
@@ -14,14 +14,12 @@ use water_model::types::Basin;
 #[derive(Drop)]
 pub struct Names<'b> {
     pub basin: &'b Basin,
-    nodes: SpaceNames<'b>,
+    both: BothNames<'b>,
     links: SpaceNames<'b>,
     reservoirs: SpaceNames<'b>,
-    rights: SpaceNames<'b>,
-    ghost of_nodes: { (nodes.basin.now ≡ basin.now) × (nodes.space ≡ Nodes) },
+    ghost of_both: { both.basin.now ≡ basin.now },
     ghost of_links: { (links.basin.now ≡ basin.now) × (links.space ≡ Links) },
     ghost of_reservoirs: { (reservoirs.basin.now ≡ basin.now) × (reservoirs.space ≡ Reservoirs) },
-    ghost of_rights: { (rights.basin.now ≡ basin.now) × (rights.space ≡ Rights) },
 }
 
 impl<'b> Names<'b> {
@@ -30,16 +28,14 @@ impl<'b> Names<'b> {
         requires { IsValidBasin basin.now }
         ensures { IfOk result (λ names. names.basin.now ≡ basin.now) }
     {
-        let nodes = SpaceNames::of(alloc, Space::Nodes, basin)?;
+        let both = BothNames::of(alloc, basin)?;
         let links = SpaceNames::of(alloc, Space::Links, basin)?;
         let reservoirs = SpaceNames::of(alloc, Space::Reservoirs, basin)?;
-        let rights = SpaceNames::of(alloc, Space::Rights, basin)?;
         Ok(Names {
             basin,
-            nodes,
+            both,
             links,
             reservoirs,
-            rights,
         })
     }
 
@@ -57,10 +53,10 @@ impl<'b> Names<'b> {
         ensures { result ≡ named self.now.basin.now space name.now }
     {
         match space {
-            Space::Nodes => self.nodes.named(name),
+            Space::Nodes => self.both.node_named(name),
             Space::Links => self.links.named(name),
             Space::Reservoirs => self.reservoirs.named(name),
-            Space::Rights => self.rights.named(name),
+            Space::Rights => self.both.right_named(name),
         }
     }
 

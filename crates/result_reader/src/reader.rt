@@ -95,30 +95,18 @@ impl<'b> ResultReader<'b> {
         })
     }
 
-    /// Takes what the next line says, if it may come. It is inlined, so that the other kinds cost nothing where the
-    /// item is known to be that of an `in` line, as of most lines.
+    /// What a line says, whatever stands before it. It is inlined, so that the other kinds cost nothing where the item
+    /// is known to be that of an `in` line, as of most lines.
     #[inline(always)]
-    fn accept(&mut self, text: &[u8], item: Item) -> Result<Item, BadLine>
-        requires { item_of self.old.basin text.now ≡ Ok item }
-        ensures answer { (items : List Item) → ReaderStandsFor self.old items →
-            result ≡ read_line self.old.basin items text.now }
-        ensures accepted { IfOk result (λ item. (items : List Item) → ReaderStandsFor self.old items →
-            ReaderStandsFor self.new (items ++ item ∷ [])) }
-        ensures spelled { IfOk result (λ item. (text.now ≡ line_of self.old.basin item) ×
-            IsOfText self.old.basin item) }
-        ensures refused { OnErr result (self.new ≡ self.old) }
-        ensures basin { self.new.basin ≡ self.old.basin }
-        ensures left { OnOk result (self.new.left + 1 ≡ self.old.left) }
+    fn item(&self, text: &[u8]) -> Result<Item, BadLine>
+        ensures { result ≡ item_of self.now.basin text.now }
     {
-        match next_progress(self.names.basin, &self.dues, self.progress, &item) {
-            Some(progress) => {
-                follow(self.followers.as_mut_slice(), self.progress, &item);
-                self.progress = progress;
-                self.left -= 1;
-                Ok(item)
-            }
-            None => Err(BadLine::OutOfPlace),
+        let member = likely_member(&self.followers, &self.progress);
+        if is_member_line(&self.names, member, text) {
+            return Ok(Item::Member { node: member });
         }
+        let entry = likely_entry(&self.dues, &self.progress);
+        item_by_fields(&self.names, Likely { member, entry }, text)
     }
 
     /// Takes the next line, without its line feed, and answers what it says by the numbers of the basin. Amounts are in
@@ -143,13 +131,16 @@ impl<'b> ResultReader<'b> {
         ensures basin { self.new.basin ≡ self.old.basin }
         ensures left { OnOk result (self.new.left + 1 ≡ self.old.left) }
     {
-        let member = likely_member(&self.followers, &self.progress);
-        if is_member_line(&self.names, member, text) {
-            return self.accept(text, Item::Member { node: member });
+        let item = self.item(text)?;
+        match next_progress(self.names.basin, &self.dues, self.progress, &item) {
+            Some(progress) => {
+                follow(self.followers.as_mut_slice(), self.progress, &item);
+                self.progress = progress;
+                self.left -= 1;
+                Ok(item)
+            }
+            None => Err(BadLine::OutOfPlace),
         }
-        let entry = likely_entry(&self.dues, &self.progress);
-        let item = item_by_fields(&self.names, Likely { member, entry }, text)?;
-        self.accept(text, item)
     }
 
     /// An upper bound on the lines that may still be accepted: for each line that is due one, and for a `call` line one

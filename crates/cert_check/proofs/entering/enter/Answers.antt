@@ -1,4 +1,4 @@
-use Rattle.std.proofs.Common.{◌≡◌, ℕ, ◌^◌, ◌<◌, length, refl, sym, ap, subst, ◌∙◌, Some, None, List, Bool, false, map}
+use Rattle.std.proofs.Common.{◌≡◌, ℕ, ◌^◌, length, refl, sym, ap, subst, ◌∙◌, Some, None, List, Bool, map}
 use Rattle.std.proofs.Common.{arith}
 use Rattle.std.specs.Prelude.{Option, IsSome}
 use Rattle.std.proofs.lemmas.List.{length-map}
@@ -26,18 +26,8 @@ returns-in-Amount c = λ t k m good. along t c.in-Amount.is c.enter_amount.ensur
     c.in-Amount.entry c.in-Amount.amount k)
 
 pub returns-in-Month : goal.returns-in-Month
-returns-in-Month c = λ t k m good. along t c.in-Month.is (c.enter_month.ensures.rest
-    ∙ ap (λ n. record c.args.state.now {
-      month = n;
-      calling = None;
-      has_supply = false;
-      has_closes =
-          false;
-      has_callers = false;
-      passed = 0;
-      answered = 0;
-    }) c.enter_month.ensures.month) (keeps_month
-    (subst (λ i. IsOfBasin c.args.context.now.basin.now i) c.in-Month.is c.requires.item) k)
+returns-in-Month c = λ t k m good. along t c.in-Month.is c.enter_month.ensures
+    (keeps_month (rw c.in-Month.is at c.requires.item) k)
 
 pub returns-in-Deliver : goal.returns-in-Deliver
 returns-in-Deliver c = λ t k m good. along t c.in-Deliver.is c.enter_delivery.ensures (keeps_delivery c.in-Deliver.right

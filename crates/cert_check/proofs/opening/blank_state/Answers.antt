@@ -1,19 +1,14 @@
-use Rattle.std.proofs.Common.{◌≡◌, sym, refl, ap, subst, ◌∙◌, [], List, ℕ, false, length, true}
+use Rattle.std.proofs.Common.{sym, refl, ap, subst, ◌∙◌, [], List, ℕ, length}
 use Rattle.std.specs.Prelude.{slice_index}
 use Rattle.std.proofs.lemmas.List.{length-map, length-replicate}
 use Rattle.lag_returns.specs.Lags as lag
 use Rattle.month_terms.proofs.WaterYears.{nothing_used}
 use Rattle.result_reader.specs.ReadSoFar.{nothing_read}
-use Rattle.cert_check.specs.Beginning.{IsBlank}
-use Rattle.cert_check.proofs.Beginnings.{blank_is}
 use Rattle.cert_check.specs.Keeping.{Keeps}
 use Rattle.cert_check.specs.declared.state.CheckState.{CheckState}
-use Rattle.cert_check.proofs.Fitting.{nobody, none_answered, none_settled}
+use Rattle.cert_check.proofs.Fitting.{blank_is, clash, nobody, none_answered, none_settled}
 use Rattle.water_model.proofs.Lists.{no_numbers}
 use Rattle.cert_check.proofs.opening.blank_state.Goals as goal
-
-clash : {X : Type 0} → false ≡ true → X
-clash e = cc
 
 pub returns : goal.returns
 returns c = λ series. subst (λ (a : CheckState). Keeps c.args.basin.now series a (nothing_read c.args.basin.now))
@@ -28,8 +23,7 @@ returns c = λ series. subst (λ (a : CheckState). Keeps c.args.basin.now series
             (ap length c.in_ok-used.ensures ∙ (length-replicate c.len.result 0 ∙ c.len.ensures))
             (λ r. ap (λ (xs : List ℕ). slice_index xs r) c.in_ok-used.ensures ∙ no_numbers c.len.result r);
       };
-      month = subst (IsBlank c.args.basin.now) (sym (c.into_inner.ensures ∙ c.in_ok-month.ensures.blank))
-          (blank_is c.requires);
+      month = rw (c.into_inner.ensures, c.in_ok-month.ensures.blank) (blank_is c.requires.run.first refl);
       calling = nobody c.args.basin.now _;
       supply = λ e. clash e;
       closes = λ e. clash e;
