@@ -8,7 +8,7 @@ use Rattle.std.specs.Option.{option_or}
 use Rattle.std.specs.Str.{bytes_eq}
 use Rattle.toml.specs.Data.{Members}
 use Rattle.water_model.specs.Rights.{has_bad_date, has_zone_fault, priority}
-use Rattle.water_model.specs.Valid.{IsAreaTable, IsValidBasin}
+use Rattle.water_model.specs.Valid.{IsAreaTable, IsValidBasin, IsValidReservoir}
 use Rattle.water_model.specs.declared.types.AreaPoint.{AreaPoint}
 use Rattle.water_model.specs.declared.types.Basin.{Basin}
 use Rattle.water_model.specs.declared.types.Reservoir.{Reservoir}
@@ -120,28 +120,10 @@ roll_reported rights returns =
 -- a sound basin without a fault is valid
 pub valid_of : (b : Basin) → IsSoundBasin b → basin_fault b ≡ None → IsValidBasin b
 unfolding basin_fault
-valid_of b sound e = record {
-  format = sound.format;
-  run = sound.run;
-  bounded = sound.bounded;
-  nodes = sound.nodes;
-  links = sound.links;
-  reservoirs = λ k d h. (let v = sound.reservoirs k d h in record {
-    node = v.node;
-    inner = v.inner;
-    opening = v.opening;
-    points = v.points;
-    bounded_points = v.bounded_points;
-    table = all_tables 0 b.reservoirs rights.1 k d h;
-    rate = v.rate;
-  });
-  rights = sound.rights;
-  ranked = sound.ranked;
-  returns = sound.returns;
-  names = sound.names;
-  network = faultless_sound b.nodes b.links (net_reported b.nodes b.links net.0);
-  roll = sound-from_faultless b.rights b.returns (roll_reported b.rights b.returns rights.0);
-}
+valid_of b sound e =
+    let network = faultless_sound b.nodes b.links (net_reported b.nodes b.links net.0) in
+    let roll = sound-from_faultless b.rights b.returns (roll_reported b.rights b.returns rights.0) in
+    assumption (reservoirs, sound, network, roll)
   where
     net : (option_and_then net_finding (net_fault b.nodes b.links) ≡ None) × (option_or (option_and_then
         (roll_finding b.rights) (roll_fault b.rights b.returns)) (areas_fault 0 b.reservoirs) ≡ None)
@@ -150,6 +132,10 @@ valid_of b sound e = record {
     rights : (option_and_then (roll_finding b.rights) (roll_fault b.rights b.returns) ≡ None) ×
         (areas_fault 0 b.reservoirs ≡ None)
     rights = or_none _ _ net.1
+
+    reservoirs : All (λ v. IsValidReservoir b v) b.reservoirs
+    reservoirs k d h =
+        let v = sound.reservoirs k d h in let table = all_tables 0 b.reservoirs rights.1 k d h in assumption
 
 -- the basin of a document without a fault by itself is sound
 pub sound_at : (tree : Members) (b : Basin) → b ≡ basin_of tree → tree_fault tree ≡ None → IsSoundBasin b

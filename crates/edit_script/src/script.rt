@@ -1,7 +1,5 @@
 //! A whole script.
 ghost use Rattle.std.specs.Prelude.{◌≡◌, ◌<◌, ◌∷◌, [], length, All, Ok, Err, MatchResult, IfNone, IfOk, IfSome};
-ghost use Rattle.std.specs.List.{position};
-ghost use Rattle.water_text.specs.LinesIn.{is_feed};
 ghost use Rattle.water_model.specs.Valid.{IsValidBasin, IsSeriesOf};
 ghost use Rattle.edit_script.specs.Edits.{IsValidEdit};
 ghost use Rattle.edit_script.specs.Lines.{edit_of};
@@ -13,13 +11,7 @@ use crate::refused::{ScriptFault, ScriptRefused};
 use basin_names::BothNames;
 use std::alloc::Global;
 use water_model::types::{Basin, Inflows};
-
-/// The index of the first line feed.
-fn first_feed(text: &[u8]) -> Option<usize>
-    ensures { result ≡ position is_feed text.now }
-{
-    text.iter().position(|byte| *byte == b'\n')
-}
+use water_text::line_in::first_feed;
 
 /// The first line of a text and what is after its line feed, if there is a line feed.
 fn first_line(text: &[u8]) -> Option<(&[u8], &[u8])>
