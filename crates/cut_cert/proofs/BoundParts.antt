@@ -6,7 +6,6 @@ use Rattle.std.specs.Prelude.{not, ◌&&◌, ◌==◌, if◌then◌else◌}
 use Rattle.std.proofs.lemmas.Bool.{eq-eqb, ne_eqb}
 use Rattle.finite_sums.specs.Sums.{total, total_where, when}
 use Rattle.finite_sums.proofs.Totals.{total_same, total_zero, total_add, total_exchange, total_pick, total_where_most}
-use Rattle.finite_sums.proofs.Totals.{term_le_total}
 use Rattle.water_text.specs.Months.{IsMonth}
 use Rattle.water_text.specs.declared.month.Month.{Month}
 use Rattle.water_model.specs.Basin.{is_at, is_on_link, is_senior, tail_of, head_of, taking_node}
@@ -199,7 +198,7 @@ all_held b roll delivered right cut node is =
         (kept_on b delivered right e) (keeps_none e none)
     by_first e (Some holder) some = refl
 
--- The terms of these sums are small, and so are the parts of a node.
+-- The terms of these sums are small.
 
 pub carry_in_most : (b : Basin) (month : Month) (cut : List Bool) (e : ℕ) → IsValidBasin b → IsMonth month →
     e < length b.links → carry_in b month cut e ≤ 10 ^ 15
@@ -211,34 +210,3 @@ pub kept_out_most : (b : Basin) (delivered : List ℕ) (right : ℕ) (cut : List
 kept_out_most b delivered right cut e most =
     when_most (not (has cut (head_of b e)) && not (is_on_link b right e)) (kept_on b delivered right e) (10 ^ 9)
     (kept_most b delivered right e (10 ^ 9) most)
-
-pub senior_take_most : (b : Basin) (delivered : List ℕ) (right s : ℕ) → All (λ d. d ≤ 10 ^ 9) delivered →
-    senior_take b delivered right s ≤ 10 ^ 9
-senior_take_most b delivered right s most =
-    when_most (is_senior b s right) (slice_index delivered s) (10 ^ 9) (entry_most delivered (10 ^ 9) s most)
-
-pub node_capacity_small : (b : Basin) (month : Month) (supply delivered : List ℕ) (cut : List Bool) (node : ℕ) →
-    IsValidBasin b → IsMonth month → AreAmounts b supply delivered → node < length b.nodes →
-    node_capacity b month supply cut node < 4001 * 10 ^ 15
-node_capacity_small b month supply delivered cut node valid is amounts l =
-    omega (
-      arith,
-      valid.bounded.links,
-      amounts.small,
-      term_le_total (length b.nodes) (λ n. slice_index supply n) node l,
-      total_where_most (length b.links) (10 ^ 15) (λ e. is_at (ends_at b e) node) (carry_in b month cut)
-          (λ e l. carry_in_most b month cut e valid is l),
-    )
-
-pub node_kept_small : (b : Basin) (delivered : List ℕ) (right : ℕ) (cut : List Bool) (node : ℕ) → IsValidBasin b →
-    All (λ d. d ≤ 10 ^ 9) delivered → node_kept b delivered right cut node ≤ 6000 * 10 ^ 9
-node_kept_small b delivered right cut node valid most =
-    omega (
-      arith,
-      valid.bounded.links,
-      valid.bounded.rights,
-      total_where_most (length b.links) (10 ^ 9) (λ e. is_at (begins_at b e) node) (kept_out b delivered right cut)
-          (λ e l. kept_out_most b delivered right cut e most),
-      total_where_most (length b.rights) (10 ^ 9) (λ s. is_at (taking_node b s) node) (senior_take b delivered right)
-          (λ s l. senior_take_most b delivered right s most),
-    )

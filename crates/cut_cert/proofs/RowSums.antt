@@ -1,16 +1,16 @@
 -- Sums over the indices that pass a test, from one that passes to the next.
 use Rattle.std.proofs.Common.{◌≡◌, ℕ, ◌+◌, ◌-◌, ◌<◌, ◌≤◌, Bool, true, false, refl, sym, ap, ◌∙◌, arith}
-use Rattle.std.proofs.Common.{List, subst, zero, suc, inl, inr}
+use Rattle.std.proofs.Common.{◌*◌, ◌^◌, List, length, subst, zero, suc, inl, inr}
 use Rattle.std.specs.Prelude.{Option, Some, None, IfSome, IfNone, ◌==◌, ◌≢◌, ◌&&◌, if◌then◌else◌, unwrap_or}
 use Rattle.std.specs.Prelude.{slice_index_or, ◌⊎◌}
 use Rattle.std.proofs.lemmas.Bool.Decides.{nat_tests}
 use Rattle.bit_words.specs.Marks.{in_both, is_marked, marks, IsNextInBoth}
 use Rattle.bit_words.proofs.Marks.{get_or-marks}
 use Rattle.finite_sums.specs.Sums.{total, total_where, when}
-use Rattle.finite_sums.proofs.Totals.{total_grows, total_where_start, total_where_more}
+use Rattle.finite_sums.proofs.Totals.{total_grows, total_where_start, total_where_more, total_where_most}
 use Rattle.water_model.specs.Basin.{is_at}
 use Rattle.water_model.specs.Lookups.{has}
-use Rattle.cut_cert.specs.Rows.{AreAllChains, IsNextOf}
+use Rattle.cut_cert.specs.Rows.{AreAllChains, BelongBy, IsNextOf}
 use Rattle.cut_cert.specs.declared.rows.Chains.{Chains}
 
 -- indices that don't pass may be left out of a sum
@@ -185,3 +185,72 @@ pub chain_smaller : (node_of : ℕ → Option ℕ) (count nodes node : ℕ) (cha
 chain_smaller node_of count nodes node chains f sum at next are so is =
     fewer_left (λ s. is_at (node_of s) node) count at next so.at.1
     (chain_goes_on node_of count nodes node chains f sum at next are so is)
+
+-- how far the sum of a node's terms has come: for each way to say to which nodes the indices belong and what their terms
+-- are, and, as no term is more than 10^15, for one way with that term
+pub record IsRowSum (chains : Chains) (node : ℕ) (is_term : ℕ → ℕ → Type 0) (sum : ℕ) (next : Option ℕ) : Type 0 where
+  pub node_of : ℕ → Option ℕ
+  pub all : BelongBy node_of chains
+  pub most : ℕ
+  pub within : sum ≤ most
+  pub so_far : IsSummedSoFar (λ s. is_at (node_of s) node) (length chains.next.items) (λ s. 10 ^ 15) most next
+  pub sums : (belongs : ℕ → Option ℕ) (count nodes : ℕ) (f : ℕ → ℕ) → AreAllChains belongs count nodes chains →
+      ((index one : ℕ) → index < count → is_term index one → one ≡ f index) →
+      IsSummedSoFar (λ s. is_at (belongs s) node) count f sum next
+
+pub row_start : (chains : Chains) (node : ℕ) (is_term : ℕ → ℕ → Type 0) (next : Option ℕ) →
+    ((node_of : ℕ → Option ℕ) × BelongBy node_of chains) → node < length chains.first.items →
+    next ≡ slice_index_or chains.first.items node None → IsRowSum chains node is_term 0 next
+row_start chains node is_term next are inside is = record {
+  node_of = are.0;
+  all = are.1;
+  most = 0;
+  within = omega arith;
+  so_far = chain_begins are.0 (length chains.next.items) (length chains.first.items) node chains (λ s. 10 ^ 15) next
+      are.1 inside is;
+  sums = λ belongs count nodes f all terms. chain_begins belongs count nodes node chains f next all
+      (let sized = all.one_first in omega arith) is;
+}
+
+pub row_more : (chains : Chains) (node : ℕ) (is_term : ℕ → ℕ → Type 0) (sum at one : ℕ) (next : Option ℕ) →
+    IsRowSum chains node is_term sum (Some at) → is_term at one → one ≤ 10 ^ 15 →
+    next ≡ slice_index_or chains.next.items at None → IsRowSum chains node is_term (sum + one) next
+row_more chains node is_term sum at one next so is small after = record {
+  node_of = so.node_of;
+  all = so.all;
+  most = so.most + 10 ^ 15;
+  within = omega (arith, so.within);
+  so_far = more so.node_of (length chains.next.items) (length chains.first.items) (λ s. 10 ^ 15) so.most (10 ^ 15)
+      so.all so.so_far refl;
+  sums = λ belongs count nodes f all terms. let before = so.sums belongs count nodes f all terms in
+      more belongs count nodes f sum one all before (terms at one before.at.1 is);
+}
+  where
+    more : (belongs : ℕ → Option ℕ) (count nodes : ℕ) (f : ℕ → ℕ) (sum one : ℕ) →
+        AreAllChains belongs count nodes chains → IsSummedSoFar (λ s. is_at (belongs s) node) count f sum (Some at) →
+        one ≡ f at → IsSummedSoFar (λ s. is_at (belongs s) node) count f (sum + one) next
+    more belongs count nodes f sum one all so is =
+        sum_more (λ s. is_at (belongs s) node) count f sum at one next so is
+        (chain_goes_on belongs count nodes node chains f sum at next all so after)
+
+pub row_fits : (chains : Chains) (node : ℕ) (is_term : ℕ → ℕ → Type 0) (sum at : ℕ) →
+    IsRowSum chains node is_term sum (Some at) → length chains.next.items ≤ 4000 → sum + 10 ^ 15 ≤ 4000 * 10 ^ 15
+row_fits chains node is_term sum at so few =
+    omega (
+      arith,
+      so.within,
+      sum_fits (λ s. is_at (so.node_of s) node) (length chains.next.items) (λ s. 10 ^ 15) so.most at so.so_far,
+      total_where_most (length chains.next.items) (10 ^ 15) (λ s. is_at (so.node_of s) node) (λ s. 10 ^ 15)
+          (λ s l. omega arith),
+    )
+
+pub row_all : (chains : Chains) (node : ℕ) (is_term : ℕ → ℕ → Type 0) (sum : ℕ) →
+    IsRowSum chains node is_term sum None → length chains.next.items ≤ 4000 → sum ≤ 4000 * 10 ^ 15
+row_all chains node is_term sum so few =
+    omega (
+      arith,
+      so.within,
+      sum_all (λ s. is_at (so.node_of s) node) (length chains.next.items) (λ s. 10 ^ 15) so.most so.so_far,
+      total_where_most (length chains.next.items) (10 ^ 15) (λ s. is_at (so.node_of s) node) (λ s. 10 ^ 15)
+          (λ s l. omega arith),
+    )

@@ -33,6 +33,16 @@ pub record AreChains (node_of : ℕ → Option ℕ) (count nodes : ℕ) (first n
 abbrev pub AreAllChains : (ℕ → Option ℕ) → ℕ → ℕ → Chains → Type 0
 AreAllChains node_of count nodes chains = AreChains node_of count nodes chains.first.items chains.next.items 0
 
+-- of as many indices and nodes as there is room for
+abbrev pub BelongBy : (ℕ → Option ℕ) → Chains → Type 0
+BelongBy node_of chains = AreAllChains node_of (length chains.next.items) (length chains.first.items) chains
+
+-- the sum of the terms of the indices that belong to a node, whichever do and whatever the terms are
+abbrev pub IsSumOfRow : Chains → ℕ → (ℕ → ℕ → Type 0) → ℕ → Type 0
+IsSumOfRow chains node is_term sum = (node_of : ℕ → Option ℕ) (count nodes : ℕ) (f : ℕ → ℕ) →
+    AreAllChains node_of count nodes chains → ((index one : ℕ) → index < count → is_term index one → one ≡ f index) →
+    sum ≡ total_where count (λ s. is_at (node_of s) node) f
+
 -- the nodes at which a link ends and begins, and the latter if the roll has an instream right on the link
 abbrev pub ends_at : Basin → ℕ → Option ℕ
 ends_at b link = Some (head_of b link)

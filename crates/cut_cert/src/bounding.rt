@@ -1,15 +1,14 @@
 //! The bound of a set, summed over the rows of its nodes.
-ghost use Rattle.std.specs.Prelude.{◌≡◌, ◌*◌, ◌<◌, ◌≤◌, ◌^◌, All, length};
+ghost use Rattle.std.specs.Prelude.{◌≡◌, ℕ, ◌*◌, ◌<◌, ◌≤◌, ◌^◌, Option, length};
 ghost use Rattle.bit_words.specs.Marks.{words_for};
 ghost use Rattle.water_text.specs.Months.{IsMonth, days_of};
-ghost use Rattle.water_model.specs.Basin.{taking_node};
 ghost use Rattle.water_model.specs.Plans.{carry_of_kind};
 ghost use Rattle.water_model.specs.Cuts.{cut_capacity, cut_kept};
 ghost use Rattle.water_model.specs.Valid.{IsValidBasin, IsValidCarry};
 ghost use Rattle.rights_roll.specs.Rolls.{IsRollOf};
 ghost use Rattle.cut_cert.specs.Sets.{marked_nodes, AreAmounts};
-ghost use Rattle.cut_cert.specs.Rows.{AreAllChains, AreNodeRows, brought_to, carry_in, ends_at, held_at, kept_from};
-ghost use Rattle.cut_cert.specs.Rows.{kept_out, node_capacity, node_kept, senior_take, taken_at};
+ghost use Rattle.cut_cert.specs.Rows.{AreNodeRows, BelongBy, IsSumOfRow, carry_in, kept_out, node_capacity, node_kept};
+ghost use Rattle.cut_cert.specs.Rows.{senior_take};
 
 use crate::marked::is_in;
 use crate::rows::{Chains, NodeRows};
@@ -63,34 +62,6 @@ fn carry_in(basin: &Basin, month: Month, days: u64, words: &[u64], link: u32) ->
     }
 }
 
-/// What the links that end at a node bring in from outside the set.
-fn brought_to(
-    basin: &Basin,
-    rows: &Chains,
-    month: Month,
-    days: u64,
-    words: &[u64],
-    node: u32,
-) -> u64
-    requires basin { IsValidBasin basin.now }
-    requires rows { AreAllChains (ends_at basin.now) (length basin.now.links) (length basin.now.nodes)
-        rows.now }
-    requires month { IsMonth month }
-    requires days { days ≡ days_of month }
-    requires words { length words.now ≡ words_for (length basin.now.nodes) }
-    requires node { node < length basin.now.nodes }
-    ensures { result ≡ brought_to basin.now month (marked_nodes basin.now words.now) node }
-{
-    let mut sum = 0;
-    let mut next = rows.first_of(node);
-    while let Some(link) = next {
-        let one = carry_in(basin, month, days, words, link);
-        sum += one;
-        next = rows.next_of(link);
-    }
-    sum
-}
-
 /// What seniors keep on a link to outside the set, or 0 where it is the right's own.
 fn kept_out(
     basin: &Basin,
@@ -115,37 +86,6 @@ fn kept_out(
     }
 }
 
-/// What seniors keep on the links from a node to outside the set, other than the right's own.
-fn kept_from(
-    basin: &Basin,
-    roll: &Roll,
-    rows: &Chains,
-    delivered: &[u64],
-    right: u32,
-    words: &[u64],
-    node: u32,
-) -> u64
-    requires basin { IsValidBasin basin.now }
-    requires roll { IsRollOf basin.now.rights roll.now }
-    requires rows { AreAllChains (held_at basin.now roll.now) (length basin.now.links) (length basin.now.nodes)
-        rows.now }
-    requires delivered { length delivered.now ≡ length basin.now.rights }
-    requires most { All (λ d. d ≤ 10 ^ 9) delivered.now }
-    requires right { right < length basin.now.rights }
-    requires words { length words.now ≡ words_for (length basin.now.nodes) }
-    requires node { node < length basin.now.nodes }
-    ensures { result ≡ kept_from basin.now delivered.now right (marked_nodes basin.now words.now) node }
-{
-    let mut sum = 0;
-    let mut next = rows.first_of(node);
-    while let Some(link) = next {
-        let one = kept_out(basin, roll, delivered, right, words, link);
-        sum += one;
-        next = rows.next_of(link);
-    }
-    sum
-}
-
 /// What a right that is senior to another is delivered, or 0.
 fn senior_take(basin: &Basin, delivered: &[u64], right: u32, taker: u32) -> u64
     requires delivered { length delivered.now ≡ length basin.now.rights }
@@ -160,23 +100,21 @@ fn senior_take(basin: &Basin, delivered: &[u64], right: u32, taker: u32) -> u64
     }
 }
 
-/// What seniors take at a node.
-fn taken_at(basin: &Basin, rows: &Chains, delivered: &[u64], right: u32, node: u32) -> u64
-    requires basin { IsValidBasin basin.now }
-    requires rows { AreAllChains (taking_node basin.now) (length basin.now.rights) (length basin.now.nodes)
-        rows.now }
-    requires delivered { length delivered.now ≡ length basin.now.rights }
-    requires most { All (λ d. d ≤ 10 ^ 9) delivered.now }
-    requires right { right < length basin.now.rights }
-    requires node { node < length basin.now.nodes }
-    ensures { result ≡ taken_at basin.now delivered.now right node }
+/// The sum of the terms of the indices that belong to a node. Each is at most 10^15.
+fn sum_at<F: Fn(u32) -> u64>(rows: &Chains, node: u32, term: F) -> u64
+    requires rows { (node_of : ℕ → Option ℕ) × BelongBy node_of rows.now }
+    requires node { node < length rows.now.first.items }
+    requires few { length rows.now.next.items ≤ 4000 }
+    requires terms { (index : ℕ) → index < length rows.now.next.items → F.pre term index }
+    requires most { (index one : ℕ) → index < length rows.now.next.items → F.post term index one → one ≤ 10 ^ 15 }
+    ensures sum { IsSumOfRow rows.now node (F.post term) result }
+    ensures most { result ≤ 4000 * 10 ^ 15 }
 {
     let mut sum = 0;
     let mut next = rows.first_of(node);
-    while let Some(taker) = next {
-        let one = senior_take(basin, delivered, right, taker);
-        sum += one;
-        next = rows.next_of(taker);
+    while let Some(index) = next {
+        sum += term(index);
+        next = rows.next_of(index);
     }
     sum
 }
@@ -207,9 +145,21 @@ fn sides_at(
         ≡ node_capacity basin.now month supply.now (marked_nodes basin.now words.now) node }
     ensures kept { result.kept ≡ node_kept basin.now delivered.now right (marked_nodes basin.now words.now) node }
 {
-    let brought = brought_to(basin, &rows.enter, month, days, words, node);
-    let kept = kept_from(basin, roll, &rows.held, delivered, right, words, node);
-    let taken = taken_at(basin, &rows.takers, delivered, right, node);
+    let brought = sum_at(
+        &rows.enter,
+        node,
+        |link| carry_in(basin, month, days, words, link),
+    );
+    let kept = sum_at(
+        &rows.held,
+        node,
+        |link| kept_out(basin, roll, delivered, right, words, link),
+    );
+    let taken = sum_at(
+        &rows.takers,
+        node,
+        |taker| senior_take(basin, delivered, right, taker),
+    );
     let here = supply[node as usize];
     Sides {
         capacity: here + brought,

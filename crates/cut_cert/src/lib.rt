@@ -21,7 +21,7 @@ mod marked;
 pub mod rows;
 
 use crate::bounding::sides_of;
-use crate::marked::{is_in, words_of};
+use crate::marked::words_of;
 use crate::rows::NodeRows;
 use rights_roll::priority::is_senior_to;
 use rights_roll::roll::Roll;
@@ -149,10 +149,9 @@ fn separates(basin: &Basin, right: u32, words: &[u64]) -> bool
         (marked_nodes basin.now words.now) }
 {
     match basin.rights[right as usize].kind {
-        RightKind::Diversion { node } => is_in(words, node),
         RightKind::Instream { link } => marked::leaves(basin, words, link),
-        RightKind::Zone { reservoir, .. } => {
-            is_in(words, basin.reservoirs[reservoir as usize].node)
+        RightKind::Diversion { .. } | RightKind::Zone { .. } => {
+            marked::takes_within(basin, words, right)
         }
     }
 }

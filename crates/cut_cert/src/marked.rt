@@ -7,8 +7,9 @@ ghost use Rattle.water_model.specs.Lookups.{has};
 ghost use Rattle.water_model.specs.Valid.{IsValidBasin};
 ghost use Rattle.cut_cert.specs.Sets.{cut_at, marked_nodes};
 
+use water_model::calls::taking_node;
 use water_model::cut_list::CutList;
-use water_model::types::{Basin, RightKind};
+use water_model::types::Basin;
 
 /// The words of a right's set.
 pub fn words_of(cuts: &CutList, right: u32) -> &[u64]
@@ -61,11 +62,8 @@ pub fn takes_within(basin: &Basin, words: &[u64], taker: u32) -> bool
     requires taker { taker < length basin.now.rights }
     ensures { result ≡ takes_within basin.now (marked_nodes basin.now words.now) taker }
 {
-    match basin.rights[taker as usize].kind {
-        RightKind::Diversion { node } => is_in(words, node),
-        RightKind::Instream { .. } => false,
-        RightKind::Zone { reservoir, .. } => {
-            is_in(words, basin.reservoirs[reservoir as usize].node)
-        }
+    match taking_node(basin, taker) {
+        Some(node) => is_in(words, node),
+        None => false,
     }
 }

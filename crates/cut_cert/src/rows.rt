@@ -1,8 +1,7 @@
 //! For each node what a set that holds it is bounded by: links and rights, in chains.
-ghost use Rattle.std.specs.Prelude.{◌≡◌, ℕ, ◌+◌, ◌<◌, ◌≤◌, length, slice_index_or, Some, None, Option, IfOk, IfSome};
-ghost use Rattle.water_model.specs.Basin.{head_of, taking_node};
+ghost use Rattle.std.specs.Prelude.{◌≡◌, ℕ, ◌^◌, ◌<◌, ◌≤◌, length, slice_index_or, None, Option, IfOk, IfSome};
 ghost use Rattle.water_model.specs.Valid.{IsValidBasin};
-ghost use Rattle.cut_cert.specs.Rows.{AreAllChains, AreChains, AreNodeRows, ends_at, held_at};
+ghost use Rattle.cut_cert.specs.Rows.{AreAllChains, AreNodeRows, held_at};
 
 use rights_roll::roll::Roll;
 use std::alloc::{AllocError, Global};
@@ -45,51 +44,31 @@ pub struct NodeRows {
     pub takers: Chains,
 }
 
-/// Chains of no index yet.
-fn no_chains(alloc: Global, nodes: usize, count: usize) -> Result<Chains, AllocError>
-    ensures { IfOk result (λ chains. (node_of : ℕ → Option ℕ) →
-        AreChains node_of count nodes chains.first.items chains.next.items count) }
+/// The indices below a count in chains, each in that of the node to which it belongs, if to any. They are put in from the
+/// last one back, so each finds the one after it.
+pub fn chains_by<F: Fn(usize) -> Option<u32>>(
+    alloc: Global,
+    nodes: usize,
+    count: usize,
+    node_of: F,
+) -> Result<Chains, AllocError>
+    requires few { count ≤ 2 ^ 32 }
+    requires indices { (index : ℕ) → index < count → F.pre node_of index }
+    requires within { (index : ℕ) (node : Option ℕ) → index < count → F.post node_of index node →
+        IfSome node (λ v. v < nodes) }
+    ensures { (belongs : ℕ → Option ℕ) →
+        ((index : ℕ) (node : Option ℕ) → index < count → F.post node_of index node → node ≡ belongs index) →
+        IfOk result (AreAllChains belongs count nodes) }
 {
-    let first = vec![in alloc; None; nodes]?;
-    let next = vec![in alloc; None; count]?;
-    Ok(Chains { first, next })
-}
-
-/// Puts an index before those that belong to its node.
-fn put(chains: &mut Chains, node: u32, index: usize)
-    requires node { node < length chains.old.first.items }
-    requires index { index < length chains.old.next.items }
-    requires small { length chains.old.next.items ≤ 4000 }
-    ensures { (node_of : ℕ → Option ℕ) (count nodes : ℕ) → node_of index ≡ Some node →
-        AreChains node_of count nodes chains.old.first.items chains.old.next.items (index + 1) →
-        AreChains node_of count nodes chains.new.first.items chains.new.next.items index }
-{
-    chains.next[index] = chains.first[node as usize];
-    chains.first[node as usize] = Some(index as u32);
-}
-
-/// The node at which a link ends.
-fn head_of(basin: &Basin, link: usize) -> u32
-    requires basin { IsValidBasin basin.now }
-    requires link { link < length basin.now.links }
-    ensures value { result ≡ head_of basin.now link }
-    ensures within { result < length basin.now.nodes }
-{
-    basin.links[link].to
-}
-
-/// The links that end at each node.
-fn enter_chains(alloc: Global, basin: &Basin) -> Result<Chains, AllocError>
-    requires { IsValidBasin basin.now }
-    ensures { IfOk result (λ chains. AreAllChains (ends_at basin.now) (length basin.now.links)
-        (length basin.now.nodes) chains) }
-{
-    let mut chains = no_chains(alloc, basin.nodes.len(), basin.links.len())?;
-    for link in (0..basin.links.len()).rev() {
-        let node = head_of(basin, link);
-        put(&mut chains, node, link);
+    let mut first = vec![in alloc; None; nodes]?;
+    let mut next = vec![in alloc; None; count]?;
+    for index in (0..count).rev() {
+        if let Some(node) = node_of(index) {
+            next[index] = first[node as usize];
+            first[node as usize] = Some(index as u32);
+        }
     }
-    Ok(chains)
+    Ok(Chains { first, next })
 }
 
 /// The node at which a link begins, if an instream right is on the link.
@@ -106,45 +85,23 @@ fn held_at(basin: &Basin, roll: &Roll, link: usize) -> Option<u32>
     }
 }
 
-/// The links that begin at each node and have an instream right.
-fn held_chains(alloc: Global, basin: &Basin, roll: &Roll) -> Result<Chains, AllocError>
-    requires { IsValidBasin basin.now }
-    ensures { IfOk result (λ chains. AreAllChains (held_at basin.now roll.now) (length basin.now.links)
-        (length basin.now.nodes) chains) }
-{
-    let mut chains = no_chains(alloc, basin.nodes.len(), basin.links.len())?;
-    for link in (0..basin.links.len()).rev() {
-        if let Some(node) = held_at(basin, roll, link) {
-            put(&mut chains, node, link);
-        }
-    }
-    Ok(chains)
-}
-
-/// The diversions and zones that take at each node.
-fn taker_chains(alloc: Global, basin: &Basin) -> Result<Chains, AllocError>
-    requires { IsValidBasin basin.now }
-    ensures { IfOk result (λ chains. AreAllChains (taking_node basin.now) (length basin.now.rights)
-        (length basin.now.nodes) chains) }
-{
-    let mut chains = no_chains(alloc, basin.nodes.len(), basin.rights.len())?;
-    for right in (0..basin.rights.len()).rev() {
-        if let Some(node) = taking_node(basin, right as u32) {
-            put(&mut chains, node, right);
-        }
-    }
-    Ok(chains)
-}
-
 impl NodeRows {
     /// The rows of a basin. AllocError comes where memory is lacking.
     pub fn of(alloc: Global, basin: &Basin, roll: &Roll) -> Result<NodeRows, AllocError>
         requires { IsValidBasin basin.now }
         ensures { IfOk result (AreNodeRows basin.now roll.now) }
     {
-        let enter = enter_chains(alloc, basin)?;
-        let held = held_chains(alloc, basin, roll)?;
-        let takers = taker_chains(alloc, basin)?;
+        let nodes = basin.nodes.len();
+        let links = basin.links.len();
+        let rights = basin.rights.len();
+        let enter = chains_by(alloc, nodes, links, |link| Some(basin.links[link].to))?;
+        let held = chains_by(alloc, nodes, links, |link| held_at(basin, roll, link))?;
+        let takers = chains_by(
+            alloc,
+            nodes,
+            rights,
+            |right| taking_node(basin, right as u32),
+        )?;
         Ok(NodeRows {
             enter,
             held,

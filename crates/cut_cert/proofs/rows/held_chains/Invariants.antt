@@ -1,8 +1,0 @@
-use Rattle.std.proofs.Common.{length}
-use Rattle.cut_cert.specs.Rows.{AreChains, held_at}
-use Rattle.cut_cert.proofs.rows.held_chains.Given as goal
-
-abbrev pub invariant-loop-link : goal.invariant-loop-link
-invariant-loop-link l =
-    AreChains (held_at l.basin l.roll) (length l.basin.links) (length l.basin.nodes) l.chains.first.items
-    l.chains.next.items l.link
