@@ -4,6 +4,7 @@ use Rattle.std.proofs.Common.{arith}
 use Rattle.std.proofs.lemmas.Bool.{cases_Bool, false≢true}
 use Rattle.std.proofs.lemmas.List.Elements.{Contains-append_cases, Contains-append_left, Contains-append_right}
 use Rattle.std.proofs.lemmas.List.Elements.{Contains-push, Contains-push_cases}
+use Rattle.std.proofs.lemmas.Option.{IfSome_then}
 use Rattle.std.proofs.lemmas.Slice.Eq.{bytes_eq-Decides}
 use Rattle.std.specs.Prelude.{Contains, IfSome, bytes_eq}
 use Rattle.water_edge.specs.Edge.{AsksFor, next_count}
@@ -18,15 +19,11 @@ use Rattle.basin_cli.specs.declared.ending.File.TheVariants as file
 use Rattle.basin_cli.specs.declared.ending.SecondFinding.TheVariants as of_second
 use Rattle.basin_cli.specs.Actions.{EndsAsking, EndsChecking}
 use Rattle.basin_cli.specs.Bytes.{KnownFiles}
-use Rattle.basin_cli.specs.Command.{Files, check, edit}
+use Rattle.basin_cli.specs.Command.{Files, check}
 use Rattle.basin_cli.specs.Edited.{EndsEditing}
-use Rattle.basin_cli.specs.Ending.{status_of}
-use Rattle.basin_cli.specs.Failed.{AskedCounts, AskForEach, AskUpTo, IsAskedFor, files_to, inputs_to}
-use Rattle.basin_cli.specs.Out.{IsRefusal}
+use Rattle.basin_cli.specs.Failed.{AskedCounts, AskForEach, AskUpTo, IsAskedFor, IsAt, file_at, files_to, inputs_to}
 use Rattle.basin_cli.specs.Outcome.{HasTrialCause}
-use Rattle.basin_cli.specs.Pairs.{BothSeriesReadEnd, IsOtherRun, SecondReadEnds}
 use Rattle.basin_cli.specs.Reading.{StopsReading}
-use Rattle.basin_cli.specs.Series.{BasinReadEnds, FileEnds, SeriesReadEnds, YearsReadEnds}
 
 -- a count that rose twice rose
 twice : (old mid new : Option ℕ) → IsAskedFor old mid → IsAskedFor mid new → IsAskedFor old new
@@ -122,59 +119,12 @@ asks_again old mid new name before asks = elim before [
       }
 ]
 
--- The ways in which a reading ends are each at one file. `names` gives the files up to one.
+-- `names` gives the files up to one.
 module _ (names : File → List (List ℕ)) (old new : AskedCounts) where
-  pub file_stops : (at : File) (known : Option (List ℕ)) (read : Type 0) (how : Ending) →
-      FileEnds at known read how → AskForEach (names at) old new → AskUpTo names how old new
-  file_stops at known read (ending.ReadFault named) h asks =
-      subst (λ f. AskForEach (names f) old new) (sym h.0) asks
-  file_stops at known read (ending.InputTooLong named) h asks =
-      subst (λ f. AskForEach (names f) old new) (sym h.0) asks
-  file_stops at known read ending.OutOfMemory h asks = tt
-  file_stops at known read how h asks = absurd h
-
-  pub basin_stops : (known : Option (List ℕ)) (read : Type 0) (how : Ending) → BasinReadEnds known read how →
-      AskForEach (names file.Basin) old new → AskUpTo names how old new
-  basin_stops known read (ending.BasinRefused finding) h asks = asks
-  basin_stops known read (ending.ReadFault file.Basin) h asks = asks
-  basin_stops known read (ending.InputTooLong file.Basin) h asks = asks
-  basin_stops known read ending.OutOfMemory h asks = tt
-  basin_stops known read how h asks = absurd h
-
-  pub years_stop : (known : Option (List ℕ)) (read : Type 0) (how : Ending) → YearsReadEnds known read how →
-      AskForEach (names file.Basin) old new → AskUpTo names how old new
-  years_stop known read ending.PartYear h asks = asks
-  years_stop known read how h asks = basin_stops known read how h asks
-
-  pub series_stops : (b : Basin) (name known : Option (List ℕ)) (read : Type 0) (how : Ending) →
-      SeriesReadEnds b name known read how → AskForEach (names file.Series) old new → AskUpTo names how old new
-  series_stops b name known read (ending.SeriesRefused finding) h asks = asks
-  series_stops b name known read (ending.ReadFault file.Series) h asks = asks
-  series_stops b name known read (ending.InputTooLong file.Series) h asks = asks
-  series_stops b name known read ending.OutOfMemory h asks = tt
-  series_stops b name known read how h asks = absurd h
-
-  pub second_stops : (known : Option (List ℕ)) (read : Type 0) (how : Ending) → SecondReadEnds known read how →
-      AskForEach (names file.SecondBasin) old new → AskUpTo names how old new
-  second_stops known read (ending.SecondRefused (of_second.Basin finding)) h asks = asks
-  second_stops known read (ending.ReadFault file.SecondBasin) h asks = asks
-  second_stops known read (ending.InputTooLong file.SecondBasin) h asks = asks
-  second_stops known read ending.OutOfMemory h asks = tt
-  second_stops known read how h asks = absurd h
-
-  pub other_run_stops : (first second : Basin) (how : Ending) → IsOtherRun first second how →
-      AskForEach (names file.SecondBasin) old new → AskUpTo names how old new
-  other_run_stops first second how is asks = subst (λ e. AskUpTo names e old new) (sym is.0) asks
-
-  pub both_stop : (first second : Basin) (name known : Option (List ℕ)) (read : Type 0) (how : Ending) →
-      BothSeriesReadEnd first second name known read how → AskForEach (names file.Series) old new →
-      AskUpTo names how old new
-  both_stop first second name known read (ending.SeriesRefused finding) h asks = asks
-  both_stop first second name known read (ending.SecondRefused (of_second.Series finding)) h asks = asks
-  both_stop first second name known read (ending.ReadFault file.Series) h asks = asks
-  both_stop first second name known read (ending.InputTooLong file.Series) h asks = asks
-  both_stop first second name known read ending.OutOfMemory h asks = tt
-  both_stop first second name known read how h asks = absurd h
+  -- the ways in which a reading ends are each at one file
+  pub stops_at : (at : File) (how : Ending) → IsAt at how → AskForEach (names at) old new → AskUpTo names how old new
+  stops_at at how is asks =
+      IfSome_then (file_at how) is (λ f same. subst (λ g. AskForEach (names g) old new) (sym same) asks)
 
   -- the files of a basin and its series come first in each command that has both
   pub inputs_stop : (files : Files) (known : KnownFiles) (read : Type 0) (how : Ending) →
@@ -214,17 +164,8 @@ module _ (names : File → List (List ℕ)) (old new : AskedCounts) where
   editing_stops b series script ending.OutOfMemory write h = tt
   editing_stops b series script how write h = absurd h
 
-  pub comparing_stops : (how : Ending) → (IsRefusal (status_of how) → ⊥) → AskUpTo names how old new
-  comparing_stops ending.Done h = tt
-  comparing_stops (ending.Refuted refuted) h = tt
-  comparing_stops ending.Injured h = tt
-  comparing_stops ending.Met h = tt
-  comparing_stops ending.WriteFault h = tt
-  comparing_stops ending.OutOfMemory h = tt
-  comparing_stops (ending.SecondRefused (of_second.Basin finding)) h = absurd (h tt)
-  comparing_stops (ending.SecondRefused of_second.OtherRun) h = absurd (h tt)
-  comparing_stops (ending.SecondRefused (of_second.Series finding)) h = absurd (h tt)
-  comparing_stops how h = absurd (h tt)
+  pub stops_at_none : (how : Ending) → file_at how ≡ None → AskUpTo names how old new
+  stops_at_none how none = subst (λ o. IfSome o (λ file. AskForEach (names file) old new)) (sym none) tt
 
 -- a result is asked for after both inputs
 pub checking_asks : (asked : Question) (files : Files) (result : List ℕ) (b : Basin) (series : Inflows)
@@ -239,12 +180,3 @@ checking_asks asked files result b series known (ending.ReadFault file.Result) r
 checking_asks asked files result b series known ending.WriteFault read write old mid new h inputs reads = tt
 checking_asks asked files result b series known ending.OutOfMemory read write old mid new h inputs reads = tt
 checking_asks asked files result b series known how read write old mid new h inputs reads = absurd h
-
--- and so is a script
-pub script_asks : (files : Files) (script : List ℕ) (known : Option (List ℕ)) (read : Type 0) (how : Ending)
-    (old mid new : AskedCounts) → FileEnds file.Script known read how →
-    AskForEach (inputs_to files file.Series) old mid → AsksFor mid new script →
-    AskUpTo (files_to (edit files script)) how old new
-script_asks files script known read how old mid new h inputs asks =
-    file_stops (files_to (edit files script)) old new file.Script known read how h
-    (asks_then (inputs_to files file.Series) (script ∷ []) old mid new inputs (asks_one mid new script asks))

@@ -16,15 +16,13 @@ use Rattle.injury.proofs.Listed.{injuries_are_all_listed}
 use Rattle.injury.proofs.OneText.{one_list}
 use Rattle.basin_cli.specs.declared.ending.Ending.{Ending}
 use Rattle.basin_cli.specs.declared.ending.Ending.TheVariants as ending
-use Rattle.basin_cli.specs.declared.ending.SecondFinding.{SecondFinding}
-use Rattle.basin_cli.specs.declared.ending.SecondFinding.TheVariants as of_second
 use Rattle.basin_cli.specs.declared.pairs.BasinPair.{BasinPair}
 use Rattle.basin_cli.specs.Bytes.{AreSpelled, KnownFiles, known_series}
 use Rattle.basin_cli.specs.Command.{Files}
-use Rattle.basin_cli.specs.Compared.{Compares, ending_with}
+use Rattle.basin_cli.specs.Compared.{Compares, IsComparedEnd, ending_with}
 use Rattle.basin_cli.specs.Comparison.{AfterBoth, ComparisonWork, ComparisonWrites, HasComparingCause, IsGoodForBoth}
 use Rattle.basin_cli.specs.Comparison.{OfThree, SomebodyIsInjured}
-use Rattle.basin_cli.specs.Ending.{status_of, status_of_second}
+use Rattle.basin_cli.specs.Ending.{status_of}
 use Rattle.basin_cli.specs.Out.{MayWrite}
 use Rattle.basin_cli.specs.Pairs.{ArePaired}
 use Rattle.basin_cli.proofs.Known.{both_known, good_second, good_series, spelled_by, spelled_history}
@@ -100,18 +98,6 @@ ends_injured : (all : List Injury) → ending.Injured ≡ ending_with (length al
 ends_injured [] e = absurd (cc)
 ends_injured (i ∷ all) e = (i, (all, refl))
 
-ends_not : (how : Ending) (n : ℕ) → how ≡ ending_with n → (how ≡ ending.Done → ⊥) → (how ≡ ending.Injured → ⊥) → ⊥
-ends_not how n e not_done not_injured = by_test (n == 0) e
-  where
-    by_test : (t : Bool) → how ≡ (if t then ending.Done else ending.Injured) → ⊥
-    by_test true f = not_done f
-    by_test false f = not_injured f
-
-second_silent : (finding : SecondFinding) → MayWrite (status_of_second finding) → ⊥
-second_silent (of_second.Basin finding) may = may
-second_silent of_second.OtherRun may = may
-second_silent (of_second.Series finding) may = may
-
 -- what holds of what is known of the files
 module _ (known : KnownFiles) (files : Files) (second : List ℕ) (pair : BasinPair)
     (paired : ArePaired known files second pair) where
@@ -146,15 +132,15 @@ module _ (known : KnownFiles) (files : Files) (second : List ℕ) (pair : BasinP
   pub cause : (how : Ending) (read write : Type 0) (old new : Output) →
       (MayWrite (status_of how) →
       Compares pair.first.basin pair.second.basin pair.first.series pair.second.series how write old new) →
-      ((MayWrite (status_of how) → ⊥) → how ≡ ending.OutOfMemory) → HasComparingCause files second how known read write
-  cause ending.Done read write old new compares memory = let all = compares tt in
+      IsComparedEnd how → HasComparingCause files second how known read write
+  cause ending.Done read write old new compares is = let all = compares tt in
       after_both _ (λ x y z good spelled second_spelled. (
         good,
         nobody x y z pair.first.basin pair.second.basin pair.first.series pair.second.series all.records all.others
             paired.valid paired.second_valid spelled second_spelled all.first_keeps.history all.second_keeps.history
             (ends_done (injuries pair.first.basin pair.second.basin all.records all.others) all.ends),
       ))
-  cause ending.Injured read write old new compares memory = let all = compares tt in
+  cause ending.Injured read write old new compares is = let all = compares tt in
       let found = ends_injured (injuries pair.first.basin pair.second.basin all.records all.others) all.ends in
       after_both _ (λ x y z good spelled second_spelled. (
         good,
@@ -162,18 +148,10 @@ module _ (known : KnownFiles) (files : Files) (second : List ℕ) (pair : BasinP
             paired.valid paired.second_valid spelled second_spelled all.first_keeps.history all.second_keeps.history
             found.1.0 found.0 found.1.1,
       ))
-  cause ending.WriteFault read write old new compares memory =
+  cause ending.WriteFault read write old new compares is =
       ((compares tt).ends, after_both IsGoodForBoth (λ _ _ _ good _ _. good))
-  cause ending.OutOfMemory read write old new compares memory = tt
-  cause (ending.Refuted refuted) read write old new compares memory = let all = compares tt in
-      absurd (ends_not (ending.Refuted refuted)
-      (length (injuries pair.first.basin pair.second.basin all.records all.others)) all.ends (λ e. cc) (λ e. cc))
-  cause ending.Met read write old new compares memory = let all = compares tt in
-      absurd (ends_not ending.Met (length (injuries pair.first.basin pair.second.basin all.records all.others)) all.ends
-      (λ e. cc) (λ e. cc))
-  cause (ending.SecondRefused finding) read write old new compares memory =
-      absurd (let e = memory (second_silent finding) in cc)
-  cause other read write old new compares memory = absurd (let e = memory (λ may. may) in cc)
+  cause ending.OutOfMemory read write old new compares is = tt
+  cause other read write old new compares is = absurd is
 
   -- what a comparison leaves on out
   pub writes : (how : Ending) (write : Type 0) (old new : Output) →

@@ -32,7 +32,7 @@ use Rattle.basin_cli.specs.Outcome.{IsHistoryText, IsReachesText, IsRefuted, IsY
 use Rattle.basin_cli.specs.Reading.{OfBoth}
 use Rattle.basin_cli.specs.Series.{AreLoaded}
 use Rattle.basin_cli.specs.declared.status.Status.{Status}
-use Rattle.basin_cli.proofs.Known.{accepted, after, of_both, spelled_history}
+use Rattle.basin_cli.proofs.Known.{accepted, after, of_any, of_both, spelled_history}
 use Rattle.basin_cli.proofs.OneSeries.{one_basin}
 
 -- the text of a history of what bytes spell
@@ -140,33 +140,21 @@ answer_ends asked b series known answer other read write is h =
     by_answer (Ok months) is = (months, is)
     by_answer (Err refuted) is = is
 
--- it may write
-pub answer_writes : (answer : Result ℕ Refuted) (how : Ending) (write : Type 0) → EndsAnswer answer how write →
-    MayWrite (status_of how)
-answer_writes answer ending.WriteFault write h = tt
-answer_writes answer other write h = subst (λ how. MayWrite (status_of how)) (sym h) (by_answer answer)
-  where
-    by_answer : (a : Result ℕ Refuted) → MayWrite (status_of (ending_of a))
-    by_answer (Ok months) = tt
-    by_answer (Err refuted) = tt
-
 -- and what it leaves, as far as the bytes are known
 pub answer_leaves : (asked : Question) (b : Basin) (series : Inflows) (known : Option (List ℕ))
     (answer : Result ℕ Refuted) (how : Ending) (old new : Output) →
     IsAnswerTo asked b series known answer → Leaves (status_of how) (answered asked answer) old new →
     IfSome known (λ text. MayWrite (status_of how) → LeavesAnswer asked b series text (status_of how) old new)
-answer_leaves asked b series None answer how old new is left = tt
-answer_leaves asked b series (Some text) answer how old new is left = λ may.
-    record { answer = answer; is = is; written = left }
+answer_leaves asked b series known answer how old new is left =
+    IfSome_then known is (λ text answers may. record { answer = answer; is = answers; written = left })
 
 -- where a part could not be read, no answer is put
 pub unread_leaves : (asked : Question) (b : Basin) (series : Inflows) (known : Option (List ℕ)) (how : Ending)
     (old new : Output) →
     how ≡ ending.ReadFault file.Result →
     IfSome known (λ text. MayWrite (status_of how) → LeavesAnswer asked b series text (status_of how) old new)
-unread_leaves asked b series None how old new is = tt
-unread_leaves asked b series (Some text) how old new is = λ may.
-    absurd (subst (λ how. MayWrite (status_of how)) is may)
+unread_leaves asked b series known how old new is =
+    of_any known (λ text may. absurd (subst (λ how. MayWrite (status_of how)) is may))
 
 -- a failure that came later
 pub ends_later : (asked : Question) (b : Basin) (series : Inflows) (known : Option (List ℕ)) (how : Ending)

@@ -1,21 +1,23 @@
 -- How the reading of a comparison's files ends.
-use Rattle.std.proofs.Common.{◌≡◌, refl, sym, subst, ℕ, ◌≤◌, List, Option, Some, None, arith}
+use Rattle.std.proofs.Common.{◌≡◌, refl, sym, subst, ℕ, ◌≤◌, List, length, Option, Some, None, arith}
 use Rattle.std.proofs.lemmas.Option.{IfSome_then}
-use Rattle.std.specs.Prelude.{IfSome}
+use Rattle.std.specs.Prelude.{IfSome, IsSome}
+use Rattle.inflow_file.specs.SeriesFaults.{series_fault}
 use Rattle.water_edge.specs.Edge.{Output, Rose}
 use Rattle.water_model.specs.declared.types.Basin.{Basin}
+use Rattle.water_model.specs.declared.types.Inflows.{Inflows}
 use Rattle.basin_cli.specs.declared.ending.Ending.{Ending}
 use Rattle.basin_cli.specs.declared.ending.Ending.TheVariants as ending
 use Rattle.basin_cli.specs.declared.ending.File.TheVariants as file
 use Rattle.basin_cli.specs.declared.ending.SecondFinding.TheVariants as of_second
-use Rattle.basin_cli.specs.Bytes.{IsTooLong, KnownFiles, known_series}
+use Rattle.basin_cli.specs.Bytes.{IsGoodSeries, IsSeriesRefusedFor, IsTooLong, KnownFiles, file_limit, known_series}
 use Rattle.basin_cli.specs.Command.{Files}
 use Rattle.basin_cli.specs.Comparison.{HaveSameMonths, StopsComparing, AfterFirst, AfterBoth}
 use Rattle.basin_cli.specs.Comparison.{ComparisonWrites}
-use Rattle.basin_cli.specs.Ending.{status_of}
+use Rattle.basin_cli.specs.Ending.{second_of, status_of}
 use Rattle.basin_cli.specs.Out.{MayWrite}
-use Rattle.basin_cli.specs.Pairs.{BothSeriesReadEnd, IsOtherRun}
-use Rattle.basin_cli.specs.Series.{IsBasinText}
+use Rattle.basin_cli.specs.Pairs.{IsOtherRun}
+use Rattle.basin_cli.specs.Series.{FileEnds, IsBasinText, IsSeriesText, SeriesEnds}
 use Rattle.basin_cli.proofs.Known.{good_second, of_any}
 
 -- of a later shelf the same is known, and a count that rose since then rose since the beginning
@@ -24,14 +26,14 @@ same_series : (known later : KnownFiles) (name : Option (List ℕ)) → ((n : Li
 same_series known later None same = refl
 same_series known later (Some name) same = same name
 
-both_since : (first second : Basin) (name o : Option (List ℕ)) (read since : Type 0) (how : Ending) → (read → since) →
-    BothSeriesReadEnd first second name o read how → BothSeriesReadEnd first second name o since how
-both_since first second name o read since (ending.SeriesRefused finding) rose h = h
-both_since first second name o read since (ending.SecondRefused (of_second.Series finding)) rose h = h
-both_since first second name o read since (ending.ReadFault file.Series) rose h = (rose h.0, h.1)
-both_since first second name o read since (ending.InputTooLong file.Series) rose h = h
-both_since first second name o read since ending.OutOfMemory rose h = tt
-both_since first second name o read since how rose h = absurd h
+-- what was read of a series on a later shelf is so of its known bytes
+pub series_known : (known later : KnownFiles) (name : Option (List ℕ)) (text : List ℕ) (b : Basin)
+    (series : Inflows) → ((n : List ℕ) → later n ≡ known n) →
+    IfSome (known_series later name) (λ bytes. text ≡ bytes) → IsSeriesText b series text →
+    IfSome (known_series known name) (IsSeriesText b series)
+series_known known later name text b series same is h =
+    subst (λ (o : Option (List ℕ)). IfSome o (IsSeriesText b series)) (same_series known later name same)
+    (IfSome_then (known_series later name) is (λ bytes e. subst (IsSeriesText b series) e h))
 
 pub rose_since : (start mid now : ℕ) → start ≤ mid → Rose mid now → Rose start now
 rose_since start mid now l rose = omega arith
@@ -70,38 +72,45 @@ module _ (files : Files) (second : List ℕ) (known : KnownFiles) (read : Type 0
           IfSome_then (known_series known files.series) h (λ series is. f bytes other series text other_text is),
         ))
 
-    series_stops : (how : Ending) → HaveSameMonths b c →
-        BothSeriesReadEnd b c files.series (known_series known files.series) read how →
-        StopsComparing files second how known read
-    series_stops (ending.SeriesRefused finding) same h =
-        after_both _ _ same h
-        (λ bytes other series text other_text is. record {
-          basin = b;
-          spelled = text.spelled;
-          within = is.0;
-          first =
-              is.1;
-        })
-    series_stops (ending.SecondRefused (of_second.Series finding)) same h =
-        after_both _ _ same h (λ bytes other series text other_text is. (
-          record { basin = b; spelled = text.spelled; within = is.0; sound = is.1.0 },
-          record { basin = c; spelled = other_text.spelled; within = is.0; first = is.1.1 },
-        ))
-    series_stops (ending.ReadFault file.Series) same h =
-        (h.0, h.1, both_known _ (λ bytes other. good_second bytes other b c same))
-    series_stops (ending.InputTooLong file.Series) same h = after_both _ IsTooLong same h (λ _ _ _ _ _ is. is)
-    series_stops ending.OutOfMemory same h = tt
-    series_stops how same h = absurd h
+    -- the same is known of a later shelf
+    moved : (later : KnownFiles) (P : List ℕ → Type 0) → ((n : List ℕ) → later n ≡ known n) →
+        IfSome (known_series later files.series) P → IfSome (known_series known files.series) P
+    moved later P same h = subst (λ o. IfSome o P) (same_series known later files.series same) h
 
-    pub series_stops_later : (later : KnownFiles) (since : Type 0) (how : Ending) → ((n : List ℕ) → later n ≡ known n) →
-        (since → read) → HaveSameMonths b c →
-        BothSeriesReadEnd b c files.series (known_series later files.series) since how →
-        StopsComparing files second how known read
-    series_stops_later later since how same_known rose same h =
-        series_stops how same
-        (both_since b c files.series (known_series known files.series) since read how rose
-        (subst (λ (o : Option (List ℕ)). BothSeriesReadEnd b c files.series o since how)
-        (same_series known later files.series same_known) h))
+    -- how the reading of the series, or what it is for the first basin or the second, ends a call
+    pub table_stops : (later : KnownFiles) (since : Type 0) (how : Ending) → ((n : List ℕ) → later n ≡ known n) →
+        (since → read) → HaveSameMonths b c → IsSome files.series →
+        FileEnds file.Series (known_series later files.series) since how → StopsComparing files second how known read
+    table_stops later since (ending.ReadFault named) same rose months is h =
+        subst (λ f. StopsComparing files second (ending.ReadFault f) known read) (sym h.0)
+        (rose h.1, is, both_known _ (λ bytes other. good_second bytes other b c months))
+    table_stops later since (ending.InputTooLong named) same rose months is h =
+        subst (λ f. StopsComparing files second (ending.InputTooLong f) known read) (sym h.0)
+        (after_both _ IsTooLong months (moved later IsTooLong same h.1) (λ _ _ _ _ _ long. long))
+    table_stops later since ending.OutOfMemory same rose months is h = tt
+    table_stops later since how same rose months is h = absurd h
+
+    module _ (later : KnownFiles) (text : List ℕ) (same : (n : List ℕ) → later n ≡ known n)
+        (months : HaveSameMonths b c) (is : IfSome (known_series later files.series) (λ bytes. text ≡ bytes))
+        (within : length text ≤ file_limit) where
+      pub first_stops : (how : Ending) → SeriesEnds b text how → StopsComparing files second how known read
+      first_stops (ending.SeriesRefused finding) h =
+          after_both _ _ months (moved later _ same is) (λ bytes other series first_is _ e.
+          subst (IsSeriesRefusedFor finding bytes) e
+          (record { basin = b; spelled = first_is.spelled; within = within; first = h }))
+      first_stops ending.OutOfMemory h = tt
+      first_stops how h = absurd h
+
+      pub second_stops : (how : Ending) → series_fault b text ≡ None → SeriesEnds c text how →
+          StopsComparing files second (second_of how) known read
+      second_stops (ending.SeriesRefused finding) sound h =
+          after_both _ _ months (moved later _ same is) (λ bytes other series first_is second_is e.
+          subst (λ (s : List ℕ). IsGoodSeries bytes s × IsSeriesRefusedFor finding other s) e (
+            record { basin = b; spelled = first_is.spelled; within = within; sound = sound },
+            record { basin = c; spelled = second_is.spelled; within = within; first = h },
+          ))
+      second_stops ending.OutOfMemory sound h = tt
+      second_stops how sound h = absurd h
 
 -- where a file is refused, nothing may be written
 never_writes : (known : KnownFiles) (files : Files) (second : List ℕ) (how : Ending) (read : Type 0) →

@@ -4,12 +4,17 @@ use Rattle.water_edge.specs.Edge.{Output}
 use Rattle.edit_script.specs.declared.refused.ScriptFault.TheVariants as script
 use Rattle.index_seq.specs.Text.{ensemble_text}
 use Rattle.index_seq.specs.Traces.{AreTraces}
+use Rattle.month_fold.specs.Works.{WorkDone}
+use Rattle.reports.specs.Ends.{IsRun}
+use Rattle.reports.specs.Reports.{report_text}
 use Rattle.water_model.specs.History.{IsShort}
 use Rattle.water_model.specs.Hydrology.{run_month}
 use Rattle.water_model.specs.declared.types.Basin.{Basin}
 use Rattle.water_model.specs.declared.types.Inflows.{Inflows}
 use Rattle.water_model.specs.declared.types.MonthRecord.{MonthRecord}
 use Rattle.water_text.specs.declared.month.Month.{Month}
+use Rattle.basin_cli.specs.declared.actions.RunText.{RunText}
+use Rattle.basin_cli.specs.declared.actions.RunText.TheVariants as text
 use Rattle.basin_cli.specs.declared.checking.Question.{Question}
 use Rattle.basin_cli.specs.declared.explaining.Account.{Account}
 use Rattle.basin_cli.specs.declared.ending.Ending.{Ending}
@@ -19,13 +24,16 @@ use Rattle.basin_cli.specs.declared.status.Status.{Status}
 use Rattle.basin_cli.specs.Answer.{IsAnswerTo}
 use Rattle.basin_cli.specs.Ending.{status_of}
 use Rattle.basin_cli.specs.Explained.{EndsExplaining, Explains, HasMonth, HasRight, IsAbout, IsRecordOf}
+use Rattle.basin_cli.specs.Listed.{LeavesList}
 use Rattle.basin_cli.specs.Out.{Leaves, MayWrite}
+use Rattle.basin_cli.specs.Written.{LeavesRun}
 
--- out was left with the text of some records of which this holds, or with a prefix of it
-abbrev pub LeavesRecords : (List MonthRecord → Type 0) → (List MonthRecord → List ℕ) → Ending → Output →
-    Output → Type 0
-LeavesRecords P text how old new =
-    MayWrite (status_of how) → (records : List MonthRecord) × P records × Leaves (status_of how) (text records) old new
+-- out was left with a text of a run, or with as much of it as was written
+abbrev pub LeavesText : RunText → Basin → Inflows → Status → Output → Output → WorkDone → WorkDone → Type 0
+LeavesText text.Result b series status old new before after = LeavesRun b series status old new before after
+LeavesText text.Calls b series status old new before after = LeavesList b series status old new before after
+LeavesText text.Report b series status old new before after =
+    (records : List MonthRecord) × IsRun b series records × Leaves status (report_text b series records) old new
 
 -- out was left with how often each yearly delivery came in some traces, or with a prefix of it
 abbrev pub LeavesTraces : Basin → Inflows → Ending → Output → Output → Type 0

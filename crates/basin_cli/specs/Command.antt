@@ -5,6 +5,8 @@ use Rattle.water_text.specs.Amounts.{read_amount}
 use Rattle.water_text.specs.Months.{IsMonth, read_month}
 use Rattle.water_text.specs.Names.{is_name}
 use Rattle.water_text.specs.declared.month.Month.{Month}
+use Rattle.basin_cli.specs.declared.actions.RunText.{RunText}
+use Rattle.basin_cli.specs.declared.actions.RunText.TheVariants as text
 use Rattle.basin_cli.specs.declared.checking.Question.{Question}
 use Rattle.basin_cli.specs.declared.checking.Question.TheVariants as question
 use Rattle.basin_cli.specs.declared.explaining.Account.{Account}
@@ -83,14 +85,18 @@ command_of _ = None
 abbrev pub named : input.Inputs → Files
 named inputs = record { basin = inputs.basin.now; series = option_map (λ name. name.now) inputs.series }
 
+-- the command that writes a text of a run
+abbrev pub text_command : RunText → Files → Command
+text_command text.Result files = run files
+text_command text.Calls files = calls files
+text_command text.Report files = report files
+
 abbrev pub command_named : Words → Command
-command_named (words.Run inputs) = run (named inputs)
+command_named (words.Text text inputs) = text_command text (named inputs)
 command_named (words.Check asked inputs result) = check asked (named inputs) result.now
-command_named (words.Report inputs) = report (named inputs)
 command_named (words.Trial number size) = trial number size
 command_named (words.Compare inputs second) = compare (named inputs) second.now
 command_named (words.Why asked inputs month right) = why asked (named inputs) month right.now
-command_named (words.Calls inputs) = calls (named inputs)
 command_named (words.Ensemble inputs) = ensemble (named inputs)
 command_named (words.Edit inputs script) = edit (named inputs) script.now
 command_named (words.Upgrade basin) = upgrade basin.now

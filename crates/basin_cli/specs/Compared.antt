@@ -1,5 +1,5 @@
 -- The runs of two basins, compared month by month.
-use Rattle.std.specs.Prelude.{◌≡◌, ℕ, List, length, flat_map, ◌==◌, if◌then◌else◌}
+use Rattle.std.specs.Prelude.{◌≡◌, ℕ, List, length, flat_map, ◌==◌, if◌then◌else◌, ⊤}
 use Rattle.water_edge.specs.Edge.{Output}
 use Rattle.month_fold.specs.Runs.{RunView, RunStandsFor}
 use Rattle.water_model.specs.declared.types.Basin.{Basin}
@@ -42,6 +42,14 @@ ending_with injured = if injured == 0 then ending.Done else ending.Injured
 abbrev pub EndsComparing : List Injury → Ending → Type 0 → Type 0
 EndsComparing all ending.WriteFault write = write
 EndsComparing all how write = how ≡ ending_with (length all)
+
+-- no comparison ends otherwise
+abbrev pub IsComparedEnd : Ending → Type 0
+IsComparedEnd ending.Done = ⊤
+IsComparedEnd ending.Injured = ⊤
+IsComparedEnd ending.WriteFault = ⊤
+IsComparedEnd ending.OutOfMemory = ⊤
+IsComparedEnd other = ⊥
 
 -- what `compare` leaves on out, and how it ends: the comparison of two lists of records that keep the priority of
 -- rights, and whether somebody is injured in it

@@ -1,12 +1,8 @@
 -- A text that grows in memory.
-use Rattle.std.specs.Prelude.{ℕ, List, Some}
+use Rattle.std.specs.Prelude.{Some}
 use Rattle.water_edge.specs.Edge.{Output}
-
--- the bytes of a text, and how often memory for more was lacking
-pub record DraftState : Type 0 where
-  pub bytes : List ℕ
-  pub faults : ℕ
+use Rattle.basin_cli.specs.declared.draft.Draft.{Draft}
 
 -- it keeps nothing back
-abbrev pub draft_output : DraftState → Output
-draft_output draft = record { taken = Some draft.bytes; flushed = Some draft.bytes }
+abbrev pub draft_output : Draft → Output
+draft_output draft = record { taken = Some draft.bytes.items; flushed = Some draft.bytes.items }

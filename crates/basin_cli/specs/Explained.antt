@@ -2,10 +2,16 @@
 -- answered.
 use Rattle.std.specs.Prelude.{◌≡◌, ℕ, ◌+◌, ◌<◌, ◌≤◌, pos, ◌-ℤ◌, Bool, List, [], ◌∷◌, ◌++◌, codes, length}
 use Rattle.std.specs.Prelude.{slice_index, sum_by}
+use Rattle.call_list.specs.Helpers.{HelpFinderSeen, IsHelpFinderOf}
 use Rattle.call_list.specs.Helping.{IsHelpingText}
 use Rattle.cut_book.specs.Book.{book_bytes, terms}
 use Rattle.cut_book.specs.Entries.{balance_of, brought, kept}
-use Rattle.water_model.specs.History.{HaveReaches, IsPartialHistory, IsShort}
+use Rattle.plan_residual.specs.Residual.{HasPlan}
+use Rattle.result_text.specs.Range.{FitsText}
+use Rattle.rights_roll.specs.RollView.{RollView}
+use Rattle.rights_roll.specs.Rolls.{IsRollOf}
+use Rattle.water_model.specs.History.{HasReaches, HaveReaches, IsPartialHistory, IsShort}
+use Rattle.water_model.specs.Valid.{IsValidBasin}
 use Rattle.month_fold.specs.Runs.{RunView, RunStandsFor}
 use Rattle.month_fold.specs.Works.{Solves, WorkDone}
 use Rattle.water_model.specs.Basin.{right_name}
@@ -77,6 +83,17 @@ ExplainsShort account.Core b m right text = IsHelpingText b m right text
 pub record Explains (asked : Account) (b : Basin) (m : MonthRecord) (right : ℕ) (text : List ℕ) : Type 0 where
   pub short : IsShort m right → ExplainsShort asked b m right text
   pub met : slice_index m.want right ≤ slice_index m.delivered right → text ≡ met_line m.month (right_name b right)
+
+-- what is had of a record, to answer for a right in it: its lines can be written, and its sets are the reaches
+pub record CanExplain (b : Basin) (finder : HelpFinderSeen) (roll : RollView) (m : MonthRecord) (right : ℕ) : Type 0
+  where
+    pub finds : IsHelpFinderOf b finder
+    pub valid : IsValidBasin b
+    pub ranks : IsRollOf b.rights roll
+    pub fits : FitsText b m
+    pub plan : HasPlan b m
+    pub reaches : HasReaches b m
+    pub within : right < length b.rights
 
 -- a run whose last record is of its last month
 pub record HasLast (run : RunView) : Type 0 where

@@ -34,6 +34,10 @@ file_at (ending.ReadFault file) = Some file
 file_at (ending.InputTooLong file) = Some file
 file_at other = None
 
+-- an ending at a file is at this one
+abbrev pub IsAt : File → Ending → Type 0
+IsAt file how = IfSome (file_at how) (λ at. at ≡ file)
+
 abbrev pub series_file : Option (List ℕ) → List (List ℕ)
 series_file None = []
 series_file (Some name) = name ∷ []

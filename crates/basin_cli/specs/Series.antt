@@ -12,7 +12,6 @@ use Rattle.basin_cli.specs.declared.ending.File.TheVariants as file
 use Rattle.basin_cli.specs.Command.{Files}
 use Rattle.basin_cli.specs.Ending.{finding_of}
 use Rattle.basin_cli.specs.Bytes.{IsTooLong, IsGoodBasin, IsRefusedFor, KnownFiles, file_limit, known_series}
-use Rattle.basin_cli.specs.Outcome.{IsPartYear}
 
 -- how the reading of a file may end without its bytes
 abbrev pub FileEnds : File → Option (List ℕ) → Type 0 → Ending → Type 0
@@ -34,11 +33,6 @@ BasinReadEnds known read (ending.ReadFault file.Basin) = read
 BasinReadEnds known read (ending.InputTooLong file.Basin) = IfSome known IsTooLong
 BasinReadEnds known read ending.OutOfMemory = ⊤
 BasinReadEnds known read other = ⊥
-
--- how the reading of a basin whose run is to be one of whole years may end
-abbrev pub YearsReadEnds : Option (List ℕ) → Type 0 → Ending → Type 0
-YearsReadEnds known read ending.PartYear = IfSome known IsPartYear
-YearsReadEnds known read other = BasinReadEnds known read other
 
 -- how the bytes of a basin's series may be refused
 abbrev pub SeriesEnds : Basin → List ℕ → Ending → Type 0

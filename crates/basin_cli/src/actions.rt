@@ -6,17 +6,13 @@ ghost use Rattle.cert_check.specs.KindNames.{kind_name};
 ghost use Rattle.cert_check.specs.Standing.{IsAnswer};
 ghost use Rattle.cert_check.specs.Whole.{text_verdict};
 ghost use Rattle.index_seq.specs.Traces.{HasWholeYears, years_of};
-ghost use Rattle.reports.specs.Ends.{IsRun};
-ghost use Rattle.reports.specs.Reports.{report_text};
 ghost use Rattle.water_edge.specs.Edge.{Rose};
 ghost use Rattle.water_model.specs.Valid.{IsValidBasin, IsSeriesOf};
-ghost use Rattle.basin_cli.specs.Actions.{LeavesRecords, LeavesTraces};
+ghost use Rattle.basin_cli.specs.Actions.{LeavesText, LeavesTraces};
 ghost use Rattle.basin_cli.specs.Answer.{answered, ending_of, yes_word, EndsAnswer};
 ghost use Rattle.basin_cli.specs.Ending.{status_of};
 ghost use Rattle.basin_cli.specs.Out.{IsRefusal, Leaves, MayWrite};
 ghost use Rattle.basin_cli.specs.Outcome.{HasTrialCause, IsQuiet, WritesTrial};
-ghost use Rattle.basin_cli.specs.Listed.{LeavesList};
-ghost use Rattle.basin_cli.specs.Written.{LeavesRun};
 ghost use Rattle.month_fold.specs.Works.{Solves, SolvesRun};
 
 use crate::checking::Question;
@@ -37,39 +33,19 @@ use water_edge::Sink;
 use water_model::types::{Basin, Inflows};
 use water_text::line::Line;
 
-/// Solves the months of a basin with a series and puts their text, each month's lines as soon as it is solved. Memory
-/// is taken before the first byte is put.
-pub fn run_basin<K: Sink, P: Ledger, M: Ledger>(
-    alloc: Global,
-    basin: &Basin,
-    series: &Inflows,
-    out: &mut K,
-    work: &mut Work<P, M>,
-) -> Ending
-    requires basin { IsValidBasin basin.now }
-    requires series { IsSeriesOf basin.now series.now }
-    ensures ends { HasTrialCause result (Rose (K.faults out.old) (K.faults out.new)) }
-    ensures leaves { LeavesRun basin.now series.now (status_of result) (K.output out.old) (K.output out.new)
-        work.old work.new }
-    ensures out_stays { (MayWrite (status_of result) → ⊥) → out.new ≡ out.old }
-    ensures idle { (MayWrite (status_of result) → ⊥) → work.new ≡ work.old }
-    ensures work { SolvesRun basin.now work.old work.new }
-    ensures flushed { IsQuiet (status_of result) → (K.output out.new).flushed ≡ (K.output out.new).taken }
-{
-    let mut run = match Run::open(alloc, basin, series) {
-        Ok(run) => run,
-        Err(_) => return Ending::OutOfMemory,
-    };
-    match write_run(out, &mut run, work) {
-        Ok(()) => Ending::Done,
-        Err(_) => Ending::WriteFault,
-    }
+/// What is written of a run: its result, the list of its calls, or a report on it.
+#[derive(Clone, Copy, Debug, PartialEq, Eq)]
+pub enum RunText {
+    Result,
+    Calls,
+    Report,
 }
 
-/// Solves the months of a basin with a series and puts the list of their calls, each month's lines as soon as it is
-/// solved. Memory is taken before the first byte is put.
-pub fn list_basin<K: Sink, P: Ledger, M: Ledger>(
+/// Solves the months of a basin with a series and puts a text of them, of a result and of a list of calls each month's
+/// lines as soon as it is solved. Memory is taken before the first byte is put.
+pub fn put_run_text<K: Sink, P: Ledger, M: Ledger>(
     alloc: Global,
+    text: RunText,
     basin: &Basin,
     series: &Inflows,
     out: &mut K,
@@ -78,52 +54,46 @@ pub fn list_basin<K: Sink, P: Ledger, M: Ledger>(
     requires basin { IsValidBasin basin.now }
     requires series { IsSeriesOf basin.now series.now }
     ensures ends { HasTrialCause result (Rose (K.faults out.old) (K.faults out.new)) }
-    ensures leaves { LeavesList basin.now series.now (status_of result) (K.output out.old) (K.output out.new)
-        work.old work.new }
+    ensures leaves { MayWrite (status_of result) → LeavesText text basin.now series.now (status_of result)
+        (K.output out.old) (K.output out.new) work.old work.new }
     ensures out_stays { (MayWrite (status_of result) → ⊥) → out.new ≡ out.old }
     ensures idle { (MayWrite (status_of result) → ⊥) → work.new ≡ work.old }
     ensures work { SolvesRun basin.now work.old work.new }
     ensures flushed { IsQuiet (status_of result) → (K.output out.new).flushed ≡ (K.output out.new).taken }
 {
-    let mut finder = match CallFinder::open(alloc, basin) {
-        Ok(finder) => finder,
-        Err(_) => return Ending::OutOfMemory,
-    };
-    let mut run = match Run::open(alloc, basin, series) {
-        Ok(run) => run,
-        Err(_) => return Ending::OutOfMemory,
-    };
-    match list_run(out, &mut finder, &mut run, work) {
-        Ok(()) => Ending::Done,
-        Err(_) => Ending::WriteFault,
-    }
-}
-
-/// Solves the months of a basin with a series and puts a report on them.
-pub fn report_basin<K: Sink, P: Ledger, M: Ledger>(
-    alloc: Global,
-    basin: &Basin,
-    series: &Inflows,
-    out: &mut K,
-    work: &mut Work<P, M>,
-) -> Ending
-    requires basin { IsValidBasin basin.now }
-    requires series { IsSeriesOf basin.now series.now }
-    ensures ends { HasTrialCause result (Rose (K.faults out.old) (K.faults out.new)) }
-    ensures leaves { LeavesRecords (IsRun basin.now series.now) (report_text basin.now series.now) result
-        (K.output out.old) (K.output out.new) }
-    ensures out_stays { (MayWrite (status_of result) → ⊥) → out.new ≡ out.old }
-    ensures idle { (MayWrite (status_of result) → ⊥) → work.new ≡ work.old }
-    ensures work { SolvesRun basin.now work.old work.new }
-    ensures flushed { IsQuiet (status_of result) → (K.output out.new).flushed ≡ (K.output out.new).taken }
-{
-    match period_report(alloc, basin, series, out, work) {
-        Ok(()) => match out.flush() {
-            Ok(()) => Ending::Done,
-            Err(_) => Ending::WriteFault,
+    match text {
+        RunText::Result => {
+            let mut run = match Run::open(alloc, basin, series) {
+                Ok(run) => run,
+                Err(_) => return Ending::OutOfMemory,
+            };
+            match write_run(out, &mut run, work) {
+                Ok(()) => Ending::Done,
+                Err(_) => Ending::WriteFault,
+            }
+        }
+        RunText::Calls => {
+            let mut finder = match CallFinder::open(alloc, basin) {
+                Ok(finder) => finder,
+                Err(_) => return Ending::OutOfMemory,
+            };
+            let mut run = match Run::open(alloc, basin, series) {
+                Ok(run) => run,
+                Err(_) => return Ending::OutOfMemory,
+            };
+            match list_run(out, &mut finder, &mut run, work) {
+                Ok(()) => Ending::Done,
+                Err(_) => Ending::WriteFault,
+            }
+        }
+        RunText::Report => match period_report(alloc, basin, series, out, work) {
+            Ok(()) => match out.flush() {
+                Ok(()) => Ending::Done,
+                Err(_) => Ending::WriteFault,
+            },
+            Err(ReportStop::SinkFailed) => Ending::WriteFault,
+            Err(ReportStop::OutOfMemory) => Ending::OutOfMemory,
         },
-        Err(ReportStop::SinkFailed) => Ending::WriteFault,
-        Err(ReportStop::OutOfMemory) => Ending::OutOfMemory,
     }
 }
 
@@ -235,7 +205,8 @@ fn put_answer(line: &mut Line, question: Question, answer: &Result<u32, Refuted>
 
 /// How a check ends that has this answer.
 fn judged(answer: &Result<u32, Refuted>) -> Ending
-    ensures { result ≡ ending_of answer.now }
+    ensures is { result ≡ ending_of answer.now }
+    ensures may { MayWrite (status_of result) }
 {
     match answer {
         Ok(_) => Ending::Done,
@@ -251,6 +222,7 @@ pub fn print_answer<K: Sink>(
 ) -> Ending
     ensures ends { EndsAnswer answer.now result (Rose (K.faults out.old) (K.faults out.new)) }
     ensures leaves { Leaves (status_of result) (answered question answer.now) (K.output out.old) (K.output out.new) }
+    ensures may { MayWrite (status_of result) }
     ensures flushed { IsQuiet (status_of result) → (K.output out.new).flushed ≡ (K.output out.new).taken }
 {
     let mut line = Line::new();

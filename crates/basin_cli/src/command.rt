@@ -4,6 +4,7 @@ ghost use Rattle.basin_cli.specs.Command.{IsInForm, command_named, command_of, n
 ghost use Rattle.water_text.specs.Amounts.{read_amount};
 ghost use Rattle.water_text.specs.Months.{read_month};
 
+use crate::actions::RunText;
 use crate::checking::Question;
 use crate::explaining::Account;
 use water_text::amount::read_amount;
@@ -20,18 +21,14 @@ pub struct Inputs<'a> {
 /// A command with what its words name.
 #[derive(Clone, Copy)]
 pub enum Words<'a> {
-    /// Solve the months and write their result.
-    Run(Inputs<'a>),
+    /// Solve the months and write a text of them.
+    Text(RunText, Inputs<'a>),
     /// Check or audit the result in a file.
     Check {
         question: Question,
         inputs: Inputs<'a>,
         result: &'a str,
     },
-    /// Solve the months and report on them.
-    Report(Inputs<'a>),
-    /// Solve the months and list their calls.
-    Calls(Inputs<'a>),
     /// Solve the record begun in each of its years, and sum the years up.
     Ensemble(Inputs<'a>),
     /// Make a basin from a number and a size, solve its months and sum them up.
@@ -128,10 +125,11 @@ pub fn command(words: &[String]) -> Option<Words<'_>>
     match words {
         [word, basin] => {
             if word.as_str() == "run" {
-                Some(Words::Run(Inputs {
+                let inputs = Inputs {
                     basin: basin.as_str(),
                     series: None,
-                }))
+                };
+                Some(Words::Text(RunText::Result, inputs))
             } else if word.as_str() == "upgrade" {
                 Some(Words::Upgrade(basin.as_str()))
             } else {
@@ -140,11 +138,11 @@ pub fn command(words: &[String]) -> Option<Words<'_>>
         }
         [word, one, other] => {
             if word.as_str() == "run" {
-                Some(Words::Run(files_named(one.as_str(), other.as_str())))
+                Some(Words::Text(RunText::Result, files_named(one.as_str(), other.as_str())))
             } else if word.as_str() == "report" {
-                Some(Words::Report(files_named(one.as_str(), other.as_str())))
+                Some(Words::Text(RunText::Report, files_named(one.as_str(), other.as_str())))
             } else if word.as_str() == "calls" {
-                Some(Words::Calls(files_named(one.as_str(), other.as_str())))
+                Some(Words::Text(RunText::Calls, files_named(one.as_str(), other.as_str())))
             } else if word.as_str() == "ensemble" {
                 Some(Words::Ensemble(files_named(one.as_str(), other.as_str())))
             } else if word.as_str() == "trial" {

@@ -7,11 +7,11 @@ ghost use Rattle.month_fold.specs.Works.{Solves, SolvesBoth};
 ghost use Rattle.injury.specs.Common.{common_rights, HaveDeliveries};
 ghost use Rattle.injury.specs.Injuries.{injuries_of, injured_row, compared_row};
 ghost use Rattle.water_edge.specs.Edge.{Rose};
-ghost use Rattle.basin_cli.specs.Compared.{AreCompared, IsTextOfComparison, Compares, ending_with};
+ghost use Rattle.basin_cli.specs.Compared.{AreCompared, IsTextOfComparison, Compares, IsComparedEnd, ending_with};
 ghost use Rattle.basin_cli.specs.Ending.{status_of};
+ghost use Rattle.basin_cli.specs.Failed.{file_at};
 ghost use Rattle.basin_cli.specs.Out.{IsRefusal, MayWrite};
 ghost use Rattle.basin_cli.specs.Outcome.{IsQuiet};
-ghost use Rattle.basin_cli.specs.declared.ending.Ending.TheVariants.{OutOfMemory};
 
 use crate::draft::Draft;
 use crate::ending::Ending;
@@ -38,7 +38,7 @@ fn draft_injuries(
     requires records { HaveDeliveries pairing.now first.now second.now }
     ensures number { IfOk result (λ count. count ≡ length (injuries_of pairing.now first.now second.now)) }
     ensures rows { OnOk result
-        (draft.new.bytes ≡ draft.old.bytes ++ flat_map (injured_row basin.now)
+        (draft.new.bytes.items ≡ draft.old.bytes.items ++ flat_map (injured_row basin.now)
         (injuries_of pairing.now first.now second.now)) }
 {
     match pairing.put_injured(draft, basin, first, second) {
@@ -65,12 +65,12 @@ fn compare_month<P: Ledger, M: Ledger>(
     requires months { other.now.months ≡ basin.now.months }
     requires left { first.old.done < basin.now.months }
     requires abreast { second.old.done ≡ first.old.done }
-    requires compared { AreCompared basin.now other.now first.old second.old draft.old.bytes injured }
+    requires compared { AreCompared basin.now other.now first.old second.old draft.old.bytes.items injured }
     ensures series { first.new.series ≡ first.old.series }
     ensures other_series { second.new.series ≡ second.old.series }
     ensures done { OnOk result (first.new.done ≡ first.old.done + 1) }
     ensures abreast { OnOk result (second.new.done ≡ first.new.done) }
-    ensures compared { IfOk result (AreCompared basin.now other.now first.new second.new draft.new.bytes) }
+    ensures compared { IfOk result (AreCompared basin.now other.now first.new second.new draft.new.bytes.items) }
     ensures work { SolvesBoth 1 basin.now other.now work.old work.new }
 {
     first.step(work);
@@ -95,12 +95,12 @@ fn compare_months<P: Ledger, M: Ledger>(
     requires months { other.now.months ≡ basin.now.months }
     requires fresh { first.old.done ≡ 0 }
     requires abreast { second.old.done ≡ first.old.done }
-    requires compared { AreCompared basin.now other.now first.old second.old draft.old.bytes 0 }
+    requires compared { AreCompared basin.now other.now first.old second.old draft.old.bytes.items 0 }
     ensures series { first.new.series ≡ first.old.series }
     ensures other_series { second.new.series ≡ second.old.series }
     ensures done { OnOk result (first.new.done ≡ basin.now.months) }
     ensures abreast { OnOk result (second.new.done ≡ first.new.done) }
-    ensures compared { IfOk result (AreCompared basin.now other.now first.new second.new draft.new.bytes) }
+    ensures compared { IfOk result (AreCompared basin.now other.now first.new second.new draft.new.bytes.items) }
     ensures work { SolvesBoth basin.now.months basin.now other.now work.old work.new }
 {
     let mut injured = 0;
@@ -112,41 +112,12 @@ fn compare_months<P: Ledger, M: Ledger>(
 
 /// Appends the row of the counts.
 fn draft_counts(draft: &mut Draft, pairing: &Pairing, injured: u32) -> Result<(), AllocError>
-    ensures { OnOk result (draft.new.bytes ≡ draft.old.bytes ++ compared_row (length pairing.now) injured) }
+    ensures { OnOk result (draft.new.bytes.items ≡ draft.old.bytes.items ++ compared_row (length pairing.now) injured) }
 {
     match put_compared(draft, pairing.common().len() as u32, injured) {
         Ok(()) => Ok(()),
         Err(_) => Err(AllocError),
     }
-}
-
-/// Solves all months of both runs and drafts their comparison. Answers how many injuries there are, too.
-fn compare_runs<P: Ledger, M: Ledger>(
-    alloc: Global,
-    pairing: &Pairing,
-    basin: &Basin,
-    other: &Basin,
-    first: &mut Run,
-    second: &mut Run,
-    work: &mut Work<P, M>,
-) -> Result<(Draft, u32), AllocError>
-    requires basin { IsValidBasin basin.now }
-    requires other { IsValidBasin other.now }
-    requires pairing { pairing.now ≡ common_rights basin.now other.now }
-    requires months { other.now.months ≡ basin.now.months }
-    requires run { first.old.basin ≡ basin.now }
-    requires other_run { second.old.basin ≡ other.now }
-    requires fresh { RunStandsFor first.old [] }
-    requires other_fresh { RunStandsFor second.old [] }
-    ensures text { IfOk result
-        (λ drafted. IsTextOfComparison basin.now other.now first.old.series second.old.series drafted.0.bytes
-        drafted.1) }
-    ensures work { SolvesBoth basin.now.months basin.now other.now work.old work.new }
-{
-    let mut draft = Draft::new(alloc);
-    let injured = compare_months(&mut draft, pairing, basin, other, first, second, work)?;
-    draft_counts(&mut draft, pairing, injured)?;
-    Ok((draft, injured))
 }
 
 /// The comparison of two runs, before any of it is written, and the number of injuries in it.
@@ -164,18 +135,35 @@ pub fn text_of_comparison<P: Ledger, M: Ledger>(
     requires series { IsSeriesOf basin.now series.now }
     requires other_series { IsSeriesOf other.now other_series.now }
     ensures text { IfOk result
-        (λ drafted. IsTextOfComparison basin.now other.now series.now other_series.now drafted.0.bytes drafted.1) }
+        (λ drafted. IsTextOfComparison basin.now other.now series.now other_series.now drafted.0.bytes.items
+        drafted.1) }
     ensures work { SolvesBoth basin.now.months basin.now other.now work.old work.new }
 {
     let pairing = Pairing::build(alloc, basin, other)?;
     let mut first = Run::open(alloc, basin, series)?;
     let mut second = Run::open(alloc, other, other_series)?;
-    compare_runs(alloc, &pairing, basin, other, &mut first, &mut second, work)
+    let mut draft = Draft {
+        bytes: Vec::new(alloc),
+        faults: 0,
+    };
+    let injured = compare_months(
+        &mut draft,
+        &pairing,
+        basin,
+        other,
+        &mut first,
+        &mut second,
+        work,
+    )?;
+    draft_counts(&mut draft, &pairing, injured)?;
+    Ok((draft, injured))
 }
 
 /// How a comparison with this many injuries ends.
 fn ending_with(injured: u32) -> Ending
     ensures is { result ≡ ending_with injured }
+    ensures ends { IsComparedEnd result }
+    ensures at { file_at result ≡ None }
     ensures idle { IsRefusal (status_of result) → ⊥ }
 {
     if injured == 0 {
@@ -204,7 +192,8 @@ pub fn compare_basins<K: Sink, P: Ledger, M: Ledger>(
         Compares basin.now other.now series.now other_series.now result (Rose (K.faults out.old) (K.faults out.new))
         (K.output out.old) (K.output out.new) }
     ensures out_stays { (MayWrite (status_of result) → ⊥) → out.new ≡ out.old }
-    ensures memory { (MayWrite (status_of result) → ⊥) → result ≡ OutOfMemory }
+    ensures ends { IsComparedEnd result }
+    ensures at { file_at result ≡ None }
     ensures idle { IsRefusal (status_of result) → ⊥ }
     ensures work { SolvesBoth basin.now.months basin.now other.now work.old work.new }
     ensures flushed { IsQuiet (status_of result) → (K.output out.new).flushed ≡ (K.output out.new).taken }
@@ -220,7 +209,7 @@ pub fn compare_basins<K: Sink, P: Ledger, M: Ledger>(
         Ok(drafted) => drafted,
         Err(_) => return Ending::OutOfMemory,
     };
-    match put_whole(out, text.bytes()) {
+    match put_whole(out, &text.bytes) {
         Ok(()) => ending_with(injured),
         Err(_) => Ending::WriteFault,
     }

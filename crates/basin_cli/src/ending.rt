@@ -7,6 +7,7 @@ ghost use Rattle.water_edge.specs.Edge.{Rose};
 ghost use Rattle.basin_cli.specs.Ending.{status_of, status_of_second, line_of, refusal_line, second_line, second_of};
 ghost use Rattle.basin_cli.specs.Ending.{series_line, file_name, script_fault_name, script_line, CanBePrinted};
 ghost use Rattle.basin_cli.specs.Ending.{CanBeSpelled, CanBeSpelledOfSecond};
+ghost use Rattle.basin_cli.specs.Failed.{IsAt};
 ghost use Rattle.basin_cli.specs.Outcome.{IsQuiet, WritesErrLine};
 
 use crate::flushing::put_whole;
@@ -135,7 +136,9 @@ impl Ending {
 
 /// The ending of a call that refused the second basin or its series, from how it refuses a basin or a series.
 pub fn of_second(ending: Ending) -> Ending
-    ensures { result ≡ second_of ending }
+    ensures is { result ≡ second_of ending }
+    ensures at { IsAt File.Series ending → IsAt File.Series result }
+    ensures printable { CanBePrinted ending → CanBePrinted result }
 {
     match ending {
         Ending::BasinRefused(finding) => Ending::SecondRefused(SecondFinding::Basin(finding)),

@@ -12,7 +12,7 @@ ghost use Rattle.water_edge.specs.Edge.{HasCause, Puts, Rose};
 ghost use Rattle.basin_cli.specs.Actions.{AnswersAt, EndsAsking, IsAnswered};
 ghost use Rattle.basin_cli.specs.Ending.{status_of};
 ghost use Rattle.basin_cli.specs.Explained.{EndsExplaining, Explains, HasLast, HasMonth, HasRight, IsMonthAt};
-ghost use Rattle.basin_cli.specs.Explained.{IsRightNamed, WorkUpTo, ExplainsShort, met_line};
+ghost use Rattle.basin_cli.specs.Explained.{CanExplain, IsRightNamed, WorkUpTo, ExplainsShort, met_line};
 ghost use Rattle.call_list.specs.Helpers.{IsHelpFinderOf};
 ghost use Rattle.plan_residual.specs.Residual.{HasPlan};
 ghost use Rattle.basin_cli.specs.Out.{IsRefusal, Leaves, MayWrite};
@@ -78,21 +78,6 @@ fn right_named(basin: &Basin, name: &[u8]) -> Option<u32>
     }
 }
 
-/// Solves the first `count` months of a run that had none yet.
-fn solve_months<P: Ledger, M: Ledger>(run: &mut Run, count: u32, work: &mut Work<P, M>)
-    requires first { RunStandsFor run.old [] }
-    requires within { count ≤ run.old.basin.months }
-    ensures basin { run.new.basin ≡ run.old.basin }
-    ensures series { run.new.series ≡ run.old.series }
-    ensures done { run.new.done ≡ count }
-    ensures months { HasMonths run.new }
-    ensures work { Solves count run.old.basin work.old work.new }
-{
-    for _month in 0..count {
-        run.step(work);
-    }
-}
-
 /// Solves the months of a run up to the one of this index, whose record `month` then gives.
 fn solve_up_to<P: Ledger, M: Ledger>(run: &mut Run, index: u32, work: &mut Work<P, M>)
     requires first { RunStandsFor run.old [] }
@@ -103,7 +88,9 @@ fn solve_up_to<P: Ledger, M: Ledger>(run: &mut Run, index: u32, work: &mut Work<
     ensures last { HasLast run.new }
     ensures work { Solves (index + 1) run.old.basin work.old work.new }
 {
-    solve_months(run, index, work);
+    for _month in 0..index {
+        run.step(work);
+    }
     run.step(work);
 }
 
@@ -141,13 +128,7 @@ fn put_account<K: Sink>(
     month: &MonthRecord,
     right: u32,
 ) -> Result<(), SinkFailed>
-    requires finder { IsHelpFinderOf basin.now finder.old }
-    requires basin { IsValidBasin basin.now }
-    requires roll { IsRollOf basin.now.rights roll.now }
-    requires month { FitsText basin.now month.now }
-    requires plan { HasPlan basin.now month.now }
-    requires reaches { HasReaches basin.now month.now }
-    requires right { right < length basin.now.rights }
+    requires can { CanExplain basin.now finder.old roll.now month.now right }
     requires short { IsShort month.now right }
     ensures text { (text : List ℕ) × ExplainsShort account basin.now month.now right text ×
         Puts (K.output sink.old) (K.output sink.new) result text }
@@ -170,13 +151,7 @@ fn put_answer<K: Sink>(
     month: &MonthRecord,
     right: u32,
 ) -> Result<(), SinkFailed>
-    requires finder { IsHelpFinderOf basin.now finder.old }
-    requires basin { IsValidBasin basin.now }
-    requires roll { IsRollOf basin.now.rights roll.now }
-    requires month { FitsText basin.now month.now }
-    requires plan { HasPlan basin.now month.now }
-    requires reaches { HasReaches basin.now month.now }
-    requires right { right < length basin.now.rights }
+    requires { CanExplain basin.now finder.old roll.now month.now right }
     ensures text { (text : List ℕ) × Explains account basin.now month.now right text ×
         Puts (K.output sink.old) (K.output sink.new) result text }
     ensures cause { HasCause (K.faults sink.old) (K.faults sink.new) (IsErr result) }
@@ -212,13 +187,7 @@ fn answer<K: Sink>(
     month: &MonthRecord,
     right: u32,
 ) -> Ending
-    requires finder { IsHelpFinderOf basin.now finder.old }
-    requires basin { IsValidBasin basin.now }
-    requires roll { IsRollOf basin.now.rights roll.now }
-    requires month { FitsText basin.now month.now }
-    requires plan { HasPlan basin.now month.now }
-    requires reaches { HasReaches basin.now month.now }
-    requires right { right < length basin.now.rights }
+    requires { CanExplain basin.now finder.old roll.now month.now right }
     ensures ends { EndsExplaining month.now right result (Rose (K.faults out.old) (K.faults out.new)) }
     ensures leaves { (text : List ℕ) × Explains account basin.now month.now right text ×
         Leaves (status_of result) text (K.output out.old) (K.output out.new) }
@@ -232,40 +201,6 @@ fn answer<K: Sink>(
         },
         Err(_) => Ending::WriteFault,
     }
-}
-
-/// Solves the months of a run up to the one of this index, and puts why a right got no more in it.
-fn explain_in<K: Sink, P: Ledger, M: Ledger>(
-    account: Account,
-    finder: &mut HelpFinder,
-    run: &mut Run,
-    index: u32,
-    right: u32,
-    out: &mut K,
-    work: &mut Work<P, M>,
-) -> Ending
-    requires finder { IsHelpFinderOf run.old.basin finder.old }
-    requires first { RunStandsFor run.old [] }
-    requires index { index < run.old.basin.months }
-    requires right { right < length run.old.basin.rights }
-    ensures answers { MayWrite (status_of result) → AnswersAt account run.old.basin run.old.series index right result
-        (Rose (K.faults out.old) (K.faults out.new)) (K.output out.old) (K.output out.new) }
-    ensures memory { (MayWrite (status_of result) → ⊥) → result ≡ OutOfMemory }
-    ensures out_stays { (MayWrite (status_of result) → ⊥) → out.new ≡ out.old }
-    ensures idle { (MayWrite (status_of result) → ⊥) → work.new ≡ work.old }
-    ensures work { Solves (index + 1) run.old.basin work.old work.new }
-    ensures flushed { IsQuiet (status_of result) → (K.output out.new).flushed ≡ (K.output out.new).taken }
-{
-    solve_up_to(run, index, work);
-    answer(
-        out,
-        account,
-        finder,
-        run.basin(),
-        run.roll(),
-        run.month(),
-        right,
-    )
 }
 
 /// Solves the months of a basin with its series up to the one of this index, and puts why a right got no more in it.
@@ -299,7 +234,16 @@ fn explain_at<K: Sink, P: Ledger, M: Ledger>(
         Ok(finder) => finder,
         Err(_) => return Ending::OutOfMemory,
     };
-    explain_in(account, &mut finder, &mut run, index, right, out, work)
+    solve_up_to(&mut run, index, work);
+    answer(
+        out,
+        account,
+        &mut finder,
+        run.basin(),
+        run.roll(),
+        run.month(),
+        right,
+    )
 }
 
 /// Puts why the right of this name got no more in a month: where it is short, the account book of its reach, or where

@@ -10,13 +10,13 @@ ghost use Rattle.water_model.specs.Basin.{node_name, right_name};
 ghost use Rattle.water_model.specs.Valid.{IsValidBasin, IsSeriesOf};
 ghost use Rattle.basin_cli.specs.Command.{ServesSeries, named};
 ghost use Rattle.basin_cli.specs.Ending.{CanBePrinted};
-ghost use Rattle.basin_cli.specs.Failed.{AskForEach, AskUpTo, inputs_to, series_file};
+ghost use Rattle.basin_cli.specs.Failed.{AskForEach, AskUpTo, IsAt, inputs_to, series_file};
 ghost use Rattle.basin_cli.specs.Header.{table_of};
 ghost use Rattle.basin_cli.specs.Bytes.{file_limit, known_series};
 ghost use Rattle.basin_cli.specs.Outcome.{StopsReadingYears};
 ghost use Rattle.basin_cli.specs.Reading.{StopsReading};
 ghost use Rattle.basin_cli.specs.Series.{AreLoaded, FileEnds, BasinEnds, BasinReadEnds, SeriesEnds, SeriesReadEnds};
-ghost use Rattle.basin_cli.specs.Series.{YearsReadEnds, IsBasinText, IsSeriesText};
+ghost use Rattle.basin_cli.specs.Series.{IsBasinText, IsSeriesText};
 
 use crate::command::Inputs;
 use crate::ending::{Ending, File, SeriesFinding};
@@ -46,6 +46,7 @@ pub fn read_file<S: Shelf>(
     ensures bytes { IfOk result (λ text. IfSome (S.known shelf.old name.now) (λ bytes. text.items ≡ bytes)) }
     ensures ends { IfErr result
         (λ e. FileEnds file (S.known shelf.old name.now) (Rose (S.faults shelf.old) (S.faults shelf.new)) e) }
+    ensures at { IfErr result (IsAt file) }
 {
     match shelf.read_whole(alloc, name, FILE_LIMIT) {
         Ok(text) => Ok(text),
@@ -61,6 +62,7 @@ pub fn accept_basin(alloc: Global, text: &[u8]) -> Result<Basin, Ending>
     ensures valid { IfOk result IsValidBasin }
     ensures sound { OnOk result (file_fault text.now ≡ None) }
     ensures ends { IfErr result (λ e. BasinEnds text.now e) }
+    ensures at { IfErr result (IsAt File.Basin) }
 {
     match read_basin(alloc, text) {
         Ok(basin) => Ok(basin),
@@ -89,6 +91,7 @@ pub fn read_basin_file<S: Shelf>(alloc: Global, shelf: &mut S, name: &str) -> Re
     ensures text { IfOk result (λ basin. IfSome (S.known shelf.old name.now) (IsBasinText basin)) }
     ensures ends { IfErr result
         (λ e. BasinReadEnds (S.known shelf.old name.now) (Rose (S.faults shelf.old) (S.faults shelf.new)) e) }
+    ensures at { IfErr result (IsAt File.Basin) }
 {
     let text = read_file(alloc, shelf, name, File::Basin)?;
     accept_basin(alloc, &text)
@@ -129,6 +132,7 @@ pub fn accept_series(alloc: Global, basin: &Basin, text: &[u8]) -> Result<Inflow
     ensures fits { IfOk result (λ series. IsSeriesOf basin.now series) }
     ensures sound { OnOk result (series_fault basin.now text.now ≡ None) }
     ensures ends { IfErr result (λ e. SeriesEnds basin.now text.now e) }
+    ensures at { IfErr result (IsAt File.Series) }
     ensures printable { IfErr result CanBePrinted }
 {
     match read_inflows(alloc, basin, text) {
@@ -163,6 +167,7 @@ pub fn read_table<S: Shelf>(
         (FileEnds File.Series (known_series (S.known shelf.old) (option_map (λ n. n.now) name.entry))
         (Rose (S.faults shelf.old) (S.faults shelf.new))) }
     ensures named { OnErr result (IsSome (option_map (λ n. n.now) name.entry)) }
+    ensures at { IfErr result (IsAt File.Series) }
 {
     match name {
         None => Ok(None),
@@ -208,6 +213,7 @@ fn read_series<S: Shelf>(
         (known_series (S.known shelf.old) (option_map (λ n. n.now) name.entry))
         (Rose (S.faults shelf.old) (S.faults shelf.new)) e) }
     ensures printable { IfErr result CanBePrinted }
+    ensures at { IfErr result (IsAt File.Series) }
 {
     let text = read_table(alloc, shelf, name)?;
     accept_series(alloc, basin, table(&text))
@@ -245,26 +251,6 @@ pub fn read_inputs<S: Shelf>(alloc: Global, shelf: &mut S, inputs: Inputs) -> Re
     Ok(Loaded { basin, series })
 }
 
-/// The basin of the file with this name, whose run is one of whole years, or how the call ends.
-fn read_years<S: Shelf>(alloc: Global, shelf: &mut S, name: &str) -> Result<Basin, Ending>
-    requires { S.serves shelf.old name.now }
-    ensures same { SameShelf (S.known shelf.old) (S.known shelf.new) (S.serves shelf.old) (S.serves shelf.new) }
-    ensures later { S.faults shelf.old ≤ S.faults shelf.new }
-    ensures asked { AsksFor (S.asked shelf.old) (S.asked shelf.new) name.now }
-    ensures valid { IfOk result IsValidBasin }
-    ensures whole { IfOk result HasWholeYears }
-    ensures text { IfOk result (λ basin. IfSome (S.known shelf.old name.now) (IsBasinText basin)) }
-    ensures ends { IfErr result
-        (λ e. YearsReadEnds (S.known shelf.old name.now) (Rose (S.faults shelf.old) (S.faults shelf.new)) e) }
-{
-    let basin = read_basin_file(alloc, shelf, name)?;
-    if basin.months % 12 == 0 {
-        Ok(basin)
-    } else {
-        Err(Ending::PartYear)
-    }
-}
-
 /// The basin, whose run is one of whole years, and the series of two files, or how the call ends.
 pub fn read_record<S: Shelf>(alloc: Global, shelf: &mut S, inputs: Inputs) -> Result<Loaded, Ending>
     requires basin { S.serves shelf.old inputs.basin.now }
@@ -283,7 +269,10 @@ pub fn read_record<S: Shelf>(alloc: Global, shelf: &mut S, inputs: Inputs) -> Re
         (Rose (S.faults shelf.old) (S.faults shelf.new))) }
     ensures printable { IfErr result CanBePrinted }
 {
-    let basin = read_years(alloc, shelf, inputs.basin)?;
+    let basin = read_basin_file(alloc, shelf, inputs.basin)?;
+    if basin.months % 12 != 0 {
+        return Err(Ending::PartYear);
+    }
     let series = read_series(alloc, shelf, inputs.series, &basin)?;
     Ok(Loaded { basin, series })
 }

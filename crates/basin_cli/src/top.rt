@@ -1,16 +1,16 @@
 //! All that the program does.
-ghost use Rattle.std.specs.Prelude.{◌≡◌, Some, map, string_bytes};
+ghost use Rattle.std.specs.Prelude.{◌≡◌, Some, map, option_map, string_bytes};
 ghost use Rattle.water_edge.specs.Edge.{Rose};
 ghost use Rattle.water_text.specs.Months.{IsMonth};
 ghost use Rattle.month_fold.specs.Works.{WorkDone};
-ghost use Rattle.basin_cli.specs.Command.{ServesFiles, calls, check, command_of, edit, ensemble, named, report, run};
-ghost use Rattle.basin_cli.specs.Command.{why};
+ghost use Rattle.basin_cli.specs.Command.{ServesFiles, ServesSeries, check, command_of, edit, ensemble, named};
+ghost use Rattle.basin_cli.specs.Command.{text_command, why};
 ghost use Rattle.basin_cli.specs.Ending.{line_of};
 ghost use Rattle.basin_cli.specs.Out.{IsIdle, IsUnread, IsUntouchedOrFlushed, KeepsShown, MayLeave};
 ghost use Rattle.basin_cli.specs.Outcome.{Completes, Ends, IsQuiet, WorkFor, WritesErrLine, WritesFor};
 ghost use Rattle.basin_cli.specs.Serving.{Serves};
 
-use crate::actions::{ensemble_basin, list_basin, report_basin, run_basin, trial_basin};
+use crate::actions::{RunText, ensemble_basin, put_run_text, trial_basin};
 use crate::checking::{Question, check_file};
 use crate::command::{Inputs, Words, command};
 use crate::compare::do_compare;
@@ -26,61 +26,26 @@ use std::sync::ledger::Ledger;
 use water_edge::{Shelf, Sink};
 use water_text::month::Month;
 
-/// `run`: solves the months of a basin with its series and puts their result.
-fn do_run<S: Shelf, K: Sink, P: Ledger, M: Ledger>(
+/// `run`, `calls` and `report`: solves the months of a basin with its series and puts their result, the list of their
+/// calls, or a report on them.
+fn do_text<S: Shelf, K: Sink, P: Ledger, M: Ledger>(
     alloc: Global,
+    text: RunText,
     inputs: Inputs,
     shelf: &mut S,
     out: &mut K,
     work: &mut Work<P, M>,
 ) -> Ending
-    requires { ServesFiles (S.serves shelf.old) (Some (run (named inputs))) }
-    ensures { Serves S.Shelf K.Sink (Some (run (named inputs.entry))) result shelf.old shelf.new out.old out.new
-        work.old work.new }
+    requires basin { S.serves shelf.old inputs.basin.now }
+    requires series { ServesSeries (S.serves shelf.old) (option_map (λ n. n.now) inputs.series) }
+    ensures { Serves S.Shelf K.Sink (Some (text_command text (named inputs.entry))) result shelf.old shelf.new
+        out.old out.new work.old work.new }
 {
     let files = match read_inputs(alloc, shelf, inputs) {
         Ok(files) => files,
         Err(ending) => return ending,
     };
-    run_basin(alloc, &files.basin, &files.series, out, work)
-}
-
-/// `calls`: solves the months of a basin with its series and puts the list of their calls.
-fn do_calls<S: Shelf, K: Sink, P: Ledger, M: Ledger>(
-    alloc: Global,
-    inputs: Inputs,
-    shelf: &mut S,
-    out: &mut K,
-    work: &mut Work<P, M>,
-) -> Ending
-    requires { ServesFiles (S.serves shelf.old) (Some (calls (named inputs))) }
-    ensures { Serves S.Shelf K.Sink (Some (calls (named inputs.entry))) result shelf.old shelf.new out.old out.new
-        work.old work.new }
-{
-    let files = match read_inputs(alloc, shelf, inputs) {
-        Ok(files) => files,
-        Err(ending) => return ending,
-    };
-    list_basin(alloc, &files.basin, &files.series, out, work)
-}
-
-/// `report`: solves the months of a basin with its series and puts a report on them.
-fn do_report<S: Shelf, K: Sink, P: Ledger, M: Ledger>(
-    alloc: Global,
-    inputs: Inputs,
-    shelf: &mut S,
-    out: &mut K,
-    work: &mut Work<P, M>,
-) -> Ending
-    requires { ServesFiles (S.serves shelf.old) (Some (report (named inputs))) }
-    ensures { Serves S.Shelf K.Sink (Some (report (named inputs.entry))) result shelf.old shelf.new out.old out.new
-        work.old work.new }
-{
-    let files = match read_inputs(alloc, shelf, inputs) {
-        Ok(files) => files,
-        Err(ending) => return ending,
-    };
-    report_basin(alloc, &files.basin, &files.series, out, work)
+    put_run_text(alloc, text, &files.basin, &files.series, out, work)
 }
 
 /// `check` and `audit`: reads a result, in parts, and puts whether it is the text of a history of a basin with its
@@ -203,9 +168,7 @@ fn decide<S: Shelf, K: Sink, P: Ledger, M: Ledger>(
 {
     match command(words) {
         None => Ending::Usage,
-        Some(Words::Run(inputs)) => do_run(alloc, inputs, shelf, out, work),
-        Some(Words::Calls(inputs)) => do_calls(alloc, inputs, shelf, out, work),
-        Some(Words::Report(inputs)) => do_report(alloc, inputs, shelf, out, work),
+        Some(Words::Text(text, inputs)) => do_text(alloc, text, inputs, shelf, out, work),
         Some(Words::Ensemble(inputs)) => do_ensemble(alloc, inputs, shelf, out, work),
         Some(
             Words::Check {

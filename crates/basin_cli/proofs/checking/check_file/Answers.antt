@@ -1,7 +1,4 @@
-use Rattle.std.proofs.Common.{subst}
-use Rattle.basin_cli.specs.Ending.{status_of}
-use Rattle.basin_cli.specs.Out.{MayWrite}
-use Rattle.basin_cli.proofs.Judged.{answer_ends, answer_leaves, answer_writes, unread_leaves}
+use Rattle.basin_cli.proofs.Judged.{answer_ends, answer_leaves, unread_leaves}
 use Rattle.basin_cli.proofs.checking.check_file.Goals as goal
 
 pub returns-in-Ok-answer_parts-clause-ends : goal.returns-in-Ok-answer_parts-clause-ends
@@ -16,17 +13,11 @@ returns-in-Ok-answer_parts-clause-leaves g c =
     answer_leaves c.args.question _ _ _ c.in-Ok-answer_parts.answer c.print_answer.result _ _
     (rw (opened.basin, opened.series) at c.in-Ok-answer_parts.ensures.answer) c.print_answer.ensures.leaves
 
-pub returns-in-Ok-answer_parts-clause-out_stays : goal.returns-in-Ok-answer_parts-clause-out_stays
-returns-in-Ok-answer_parts-clause-out_stays g c = λ silent.
-    absurd (silent (answer_writes c.in-Ok-answer_parts.answer c.print_answer.result _ c.print_answer.ensures.ends))
-
-pub returns-in-Ok-answer_parts-clause-unread : goal.returns-in-Ok-answer_parts-clause-unread
-returns-in-Ok-answer_parts-clause-unread g c = λ lacking.
-    absurd (subst (λ how. MayWrite (status_of how)) lacking
-    (answer_writes c.in-Ok-answer_parts.answer c.print_answer.result _ c.print_answer.ensures.ends))
-
 pub returns-clause-leaves : goal.returns-clause-leaves
 returns-clause-leaves g c =
     unread_leaves c.args.question c.args.basin.now c.args.series.now
     (g.S.Shelf.known c.args.shelf.now c.args.name.now) c.in-Err-answer_parts.ending _ _
     c.in-Err-answer_parts.ensures.fault.0
+
+pub returns-in-Ok-answer_parts-clause-out_stays : goal.returns-in-Ok-answer_parts-clause-out_stays
+returns-in-Ok-answer_parts-clause-out_stays g c = λ silent. absurd (silent c.print_answer.ensures.may)

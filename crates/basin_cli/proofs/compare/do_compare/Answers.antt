@@ -2,8 +2,8 @@ use Rattle.std.proofs.Common.{arith, refl, rules, Some}
 use Rattle.std.proofs.lemmas.Grind.{common_steps}
 use Rattle.basin_cli.specs.Command.{compare, named}
 use Rattle.basin_cli.specs.Failed.{files_to}
-use Rattle.basin_cli.proofs.Failing.{comparing_stops}
-use Rattle.basin_cli.proofs.Idle.{unsolved}
+use Rattle.basin_cli.proofs.Failing.{stops_at_none}
+use Rattle.basin_cli.proofs.Idle.{compares_none}
 use Rattle.basin_cli.proofs.Injured.{cause, work, writes}
 use Rattle.basin_cli.proofs.Stops.{refused_writes}
 use Rattle.basin_cli.proofs.compare.do_compare.Goals as goal
@@ -25,7 +25,7 @@ returns-in-Err g c =
       shown = tt;
       unread = tt;
       idle = λ _. refl;
-      work = unsolved (Some (compare files second)) known c.args.work.now;
+      work = compares_none known files second c.args.work.now;
     }
 
 pub returns : goal.returns
@@ -37,9 +37,9 @@ returns g c =
     record {
       cause =
           cause known files second c.in-Ok.pair c.in-Ok.ensures.paired how _ _ _ _ c.compare_basins.ensures.compares
-          c.compare_basins.ensures.memory;
+          c.compare_basins.ensures.ends;
       asked =
-          comparing_stops (files_to (compare files second)) _ _ how c.compare_basins.ensures.idle;
+          stops_at_none (files_to (compare files second)) _ _ how c.compare_basins.ensures.at;
       can_be_printed = search rules;
       writes =
           writes known files second c.in-Ok.pair c.in-Ok.ensures.paired how _ _ _ c.compare_basins.ensures.compares;

@@ -9,6 +9,6 @@ invariant-loop-month g l = record {
   other_series : l.second.series ≡ l.fn.second.series;
   done : l.first.done ≡ l._month;
   abreast : l.second.done ≡ l.first.done;
-  compared : AreCompared l.basin l.other l.first l.second l.draft.bytes l.injured;
+  compared : AreCompared l.basin l.other l.first l.second l.draft.bytes.items l.injured;
   work : SolvesBoth l._month l.basin l.other l.fn.work l.work;
 }

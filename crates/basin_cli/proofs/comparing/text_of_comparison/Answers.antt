@@ -1,13 +1,16 @@
-use Rattle.std.proofs.Common.{subst}
-use Rattle.std.specs.Prelude.{IfOk}
-use Rattle.water_model.specs.declared.types.Inflows.{Inflows}
-use Rattle.basin_cli.specs.Compared.{IsTextOfComparison}
+use Rattle.std.proofs.Common.{◌∙◌, sym}
+use Rattle.basin_cli.proofs.Compared.{none_compared, whole_comparison}
 use Rattle.basin_cli.proofs.comparing.text_of_comparison.Goals as goal
+
+pub compare_months-requires-clause-compared : goal.compare_months-requires-clause-compared
+compare_months-requires-clause-compared g c =
+    none_compared _ _ _ _ _ c.in_ok-first.ensures.basin c.in_ok-second.ensures.basin c.in_ok-first.ensures.stands
+    c.in_ok-second.ensures.stands c.new.ensures.items
 
 pub returns-clause-text : goal.returns-clause-text
 returns-clause-text g c =
-    subst (λ (s : Inflows). IfOk c.compare_runs.result (λ drafted. IsTextOfComparison c.args.basin.now c.args.other.now
-    c.args.series.now s drafted.0.bytes drafted.1)) c.in_ok-second.ensures.series
-    (subst (λ (s : Inflows). IfOk c.compare_runs.result (λ drafted. IsTextOfComparison c.args.basin.now
-    c.args.other.now s c.in_ok-second.second.series drafted.0.bytes drafted.1)) c.in_ok-first.ensures.series
-    c.compare_runs.ensures.text)
+    let months = c.in_ok-injured.ensures in
+    whole_comparison _ _ _ _ c.compare_months.new.first c.compare_months.new.second _ _ _
+    (months.series ∙ c.in_ok-first.ensures.series) (months.other_series ∙ c.in_ok-second.ensures.series) months.done
+    (months.abreast ∙ (months.done ∙ sym c.requires.months)) months.compared
+    (rw c.in_ok-pairing.ensures at c.in_ok-draft_counts.ensures)

@@ -4,9 +4,10 @@ use Rattle.std.specs.Prelude.{IfSome}
 use Rattle.basin_cli.specs.Command.{edit, named}
 use Rattle.basin_cli.specs.Ending.{status_of}
 use Rattle.basin_cli.specs.Failed.{files_to}
+use Rattle.basin_cli.specs.declared.ending.File.TheVariants as file
 use Rattle.basin_cli.proofs.Edited.{editing_cause, editing_solves, editing_writes, script_cause}
-use Rattle.basin_cli.proofs.Failing.{editing_stops, inputs_stop, script_asks}
-use Rattle.basin_cli.proofs.Idle.{unsolved}
+use Rattle.basin_cli.proofs.Failing.{asks_one, asks_then, editing_stops, inputs_stop, stops_at}
+use Rattle.basin_cli.proofs.Idle.{edits_none}
 use Rattle.basin_cli.proofs.Stops.{rose_since}
 use Rattle.basin_cli.proofs.Unread.{unread}
 use Rattle.basin_cli.proofs.top.do_edit.Goals as goal
@@ -57,8 +58,8 @@ returns-in-Err-read_file g c =
           (c.in-Ok.ensures.same.known script) (rose_since _ _ _ c.in-Ok.ensures.later)
           c.in-Err-read_file.ensures.ends;
       asked =
-          script_asks files script _ _ ending _ _ _ c.in-Err-read_file.ensures.ends c.in-Ok.ensures.reads
-          c.read_file.ensures.asked;
+          stops_at (files_to (edit files script)) _ _ file.Script ending c.in-Err-read_file.ensures.at
+          (asks_then _ _ _ _ _ c.in-Ok.ensures.reads (asks_one _ _ _ c.read_file.ensures.asked));
       can_be_printed = first_of (search rules, grind (arith, common_steps));
       writes = first_of (search rules, grind (arith, common_steps));
       out_stays = λ _. refl;
@@ -66,7 +67,7 @@ returns-in-Err-read_file g c =
       shown = unread _ ending (λ _ _. inl refl);
       unread = tt;
       idle = λ _. refl;
-      work = unsolved (Some (edit files script)) known c.args.work.now;
+      work = edits_none known files script c.args.work.now;
     }
 
 pub returns-in-Err : goal.returns-in-Err
@@ -87,5 +88,5 @@ returns-in-Err g c =
       shown = unread _ ending (λ _ _. inl refl);
       unread = tt;
       idle = λ _. refl;
-      work = unsolved (Some (edit files script)) known c.args.work.now;
+      work = edits_none known files script c.args.work.now;
     }

@@ -3,8 +3,9 @@ use Rattle.std.proofs.lemmas.Grind.{common_steps}
 use Rattle.std.specs.Prelude.{string_bytes}
 use Rattle.basin_cli.specs.Command.{upgrade}
 use Rattle.basin_cli.specs.Failed.{files_to}
+use Rattle.basin_cli.specs.declared.ending.File.TheVariants as file
 use Rattle.basin_cli.specs.declared.status.Status.TheVariants as its
-use Rattle.basin_cli.proofs.Failing.{asks_one, basin_stops}
+use Rattle.basin_cli.proofs.Failing.{asks_one, stops_at}
 use Rattle.basin_cli.proofs.Upgraded.{upgrade_writes}
 use Rattle.basin_cli.proofs.upgrading.do_upgrade.Goals as goal
 
@@ -14,7 +15,7 @@ returns-in-Err g c = λ done.
     record {
       cause = first_of (search rules, grind (arith, common_steps));
       asked =
-          basin_stops (files_to (upgrade name)) _ _ _ _ c.in-Err.ending c.in-Err.ensures.ends
+          stops_at (files_to (upgrade name)) _ _ file.Basin c.in-Err.ending c.in-Err.ensures.at
           (asks_one _ _ _ c.read_basin_file.ensures.asked);
       can_be_printed = first_of (search rules, grind (arith, common_steps));
       writes = first_of (search rules, grind (arith, common_steps));

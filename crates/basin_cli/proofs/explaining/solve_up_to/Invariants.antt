@@ -1,7 +1,7 @@
 use Rattle.std.proofs.Common.{◌≡◌}
 use Rattle.month_fold.specs.Runs.{HasMonths}
 use Rattle.month_fold.specs.Works.{Solves}
-use Rattle.basin_cli.proofs.explaining.solve_months.Given as goal
+use Rattle.basin_cli.proofs.explaining.solve_up_to.Given as goal
 
 abbrev pub invariant-loop-month : goal.invariant-loop-month
 invariant-loop-month g l = record {

@@ -1,0 +1,36 @@
+use Rattle.std.proofs.Common.{◌≡◌, ◌∙◌}
+use Rattle.basin_cli.proofs.Explained.{last_record, record_fits, record_plan, record_reaches}
+use Rattle.basin_cli.proofs.explaining.explain_at.Goals as goal
+
+pub answer-requires : goal.answer-requires
+answer-requires g c =
+    let solved = c.solve_up_to.ensures in
+    let same : c.solve_up_to.new.run.basin ≡ c.args.basin.now = solved.basin ∙ c.in-Ok.ensures.basin in
+    let is = last_record _ _ c.solve_up_to.new.run c.args.index same (solved.series ∙ c.in-Ok.ensures.series) solved.done
+    solved.last in
+    rw (c.basin.ensures.value, same, c.month.ensures)
+    (record {
+      finds = c.in-Ok-open.ensures;
+      valid = c.requires.basin;
+      ranks = rw same at c.roll.ensures;
+      fits = record_fits _ _ _ _ c.requires.basin is;
+      plan = record_plan _ _ _ _ c.requires.basin c.requires.series is;
+      reaches = record_reaches _ _ _ _ is;
+      within = c.requires.right;
+    })
+
+pub returns-clause-answers : goal.returns-clause-answers
+returns-clause-answers g c = λ may.
+    (let solved = c.solve_up_to.ensures in
+    let same : c.solve_up_to.new.run.basin ≡ c.args.basin.now = solved.basin ∙ c.in-Ok.ensures.basin in
+    let answered = rw (c.basin.ensures.value, same, c.month.ensures) at c.answer.ensures.leaves in
+    record {
+      last = c.solve_up_to.new.run.last;
+      of_month =
+          last_record _ _ c.solve_up_to.new.run c.args.index same (solved.series ∙ c.in-Ok.ensures.series) solved.done
+          solved.last;
+      ends = rw c.month.ensures at c.answer.ensures.ends;
+      text = answered.0;
+      explains = answered.1;
+      written = answered.2;
+    })
