@@ -10,6 +10,7 @@ pub mod UnlabeledCut
 pub mod Ranks
 pub mod Walks
 pub mod Pushes
+pub mod Gathers
 pub mod Traces
 pub mod Rounds
 pub mod Reaches

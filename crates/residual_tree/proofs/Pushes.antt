@@ -106,23 +106,68 @@ gains c lower flow s t amount e ne positive l low high room on =
       ]
     ]
 
--- a step that stands in the scratch words of a walk, or the artificial one
-abbrev pub IsSaturated : List ℕ → ℕ → ℕ → ℕ → ℕ → Type 0
-IsSaturated scratch first last artificial s = OccursIn scratch first last s ⊎ (s ≡ artificial)
+-- a step with more room than the amount keeps room
+keeps : (c : Contents) (lower flow : List ℕ) (s amount : ℕ) →
+    amount < room_of (network c) (flow_of c) s →
+    slice_index flow (arc_of s) + when (is_backward s) amount ≡ flow_of c (arc_of s) + when (not (is_backward s))
+    amount → (is_backward s ≡ true → slice_index lower (arc_of s) ≡ slice_index c.lower (arc_of s)) →
+    0 < room_of (network (record c { lower = lower; flow = flow })) (slice_index flow) s
+keeps c lower flow s amount more on l =
+    let after = network (record c { lower = lower; flow = flow }) in
+    elim (over_either (network c) (flow_of c) s) [
+      | inl f ↦
+          let moved = subst (λ (b : Bool). slice_index flow (arc_of s) + when b amount
+          ≡ flow_of c (arc_of s) + when (not b) amount) f.1.way on in
+          omega (arith, f.1.room, (over after (slice_index flow) s (arc_of s) false refl f.1.way).room, more, moved)
+      | inr f ↦
+          let moved = subst (λ (b : Bool). slice_index flow (arc_of s) + when b amount
+          ≡ flow_of c (arc_of s) + when (not b) amount) f.1.way on in
+          omega (
+            arith,
+            f.1.room,
+            (over after (slice_index flow) s (arc_of s) true refl f.1.way).room,
+            more,
+            moved,
+            l f.1.way,
+          )
+    ]
 
--- after a push along a closed walk of nodes that are labeled, only its steps and an artificial one may have no room
-pub pushed_saturated : {c : Contents} {labels : List ℕ} (lower flow : List ℕ) {r first last amount : ℕ} →
+-- a step that stands in the scratch words below `full`, or the artificial one
+abbrev pub IsSaturated : List ℕ → ℕ → ℕ → ℕ → Type 0
+IsSaturated scratch full artificial s = OccursIn scratch 0 full s ⊎ (s ≡ artificial)
+
+-- after a push along a closed walk of nodes that are labeled, only the steps that are listed, which are those of the
+-- walk without more room than the amount, and an artificial one may have no room
+pub pushed_saturated : {c : Contents} {labels : List ℕ} (lower flow : List ℕ) {r first last amount : ℕ} (full : ℕ) →
     IsCirculation c →
     (t : HasSomeArtificial c labels r) → IsClosedWalk (network c) (flow_of c) (step_of c) first last amount →
     IsPushed (flow_of c) (slice_index flow) (step_of c) first last amount → step_of c first ≡ 2 * r →
     ((i : ℕ) → first ≤ i → i < last → IsLabeled labels (end_of (network c) (step_of c i))) →
+    ((i : ℕ) → first ≤ i → i < last →
+    OccursIn c.scratch 0 full (step_of c i) ⊎ (amount < room_of (network c) (flow_of c) (step_of c i))) →
     flow_of c r ≤ slice_index c.lower r → ((a : ℕ) → a ≢ r → slice_index lower a ≡ slice_index c.lower a) →
-    IsTreeBut (record c { lower = lower; flow = flow }) labels (IsSaturated c.scratch first last t.step) none none none
-pushed_saturated {c} {labels} lower flow {r} {first} {last} {amount} k t walk pushed forward ends held lowers =
+    IsTreeBut (record c { lower = lower; flow = flow }) labels (IsSaturated c.scratch full t.step) none none none
+pushed_saturated {c} {labels} lower flow {r} {first} {last} {amount} full k t walk pushed forward ends all held lowers =
     let arc_first : arc_of (step_of c first) ≡ r = ap arc_of forward ∙ (over_forward (network c) (flow_of c) r).arc in
     let off_room = λ (s : ℕ) (off : (i : ℕ) → first ≤ i → i < last → arc_of (step_of c i) ≢ arc_of s).
     let ne : arc_of s ≢ r = λ e. off first (omega arith) walk.some (arc_first ∙ sym e) in
     same_room c lower flow s (pushed.off (arc_of s) off) (lowers (arc_of s) ne) in
+    let low = λ (s : ℕ) (here : 0 < room_of (network c) (flow_of c) s) (back : is_backward s ≡ true).
+    lowers (arc_of s) (λ e. absurd (omega (
+      arith,
+      here,
+      (over (network c) (flow_of c) s (arc_of s) true refl back).room,
+      ap (flow_of c) e,
+      ap (slice_index c.lower) e,
+      held,
+    ))) in
+    let walked = λ (i : ℕ) (h : first ≤ i) (j : i < last).
+    let now : (0 < room_of (network (record c { lower = lower; flow = flow })) (slice_index flow) (step_of c i))
+    ⊎ IsSaturated c.scratch full t.step (step_of c i) = elim (all i h j) [
+      | inl listed ↦ inr (inl listed)
+      | inr more ↦ inl (keeps c lower flow (step_of c i) amount more (pushed.on i h j)
+          (low (step_of c i) (omega (arith, more))))
+    ] in now in
     record {
       words = t.tree.words;
       root = t.tree.root;
@@ -133,30 +178,25 @@ pushed_saturated {c} {labels} lower flow {r} {first} {last} {amount} k t walk pu
       room = λ v b m.
           let was = t.tree.branch v b m in
           let s = label_of labels v - 1 in
+          let is_walked = λ (i : ℕ) (h : first ≤ i) (j : i < last) (e : step_of c i ≡ s).
+          subst (λ (x : ℕ). (0 < room_of (network (record c { lower = lower; flow = flow })) (slice_index flow) x)
+          ⊎ IsSaturated c.scratch full t.step x) e (walked i h j) in
           elim (t.tree.room v b m) [
             | inr artificial ↦ inr (inr artificial)
             | inl here ↦ elim (on_walk (step_of c) first last (arc_of s) walk.some) [
               | inl on ↦ elim (cases_eq (step_of c on.place) s) [
-                | inl same ↦ inr (inl record { place = on.place; from = on.from; below = on.below; is = same })
-                | inr ne ↦ elim (cases_eq (arc_of s) r) [
-                  | inl own ↦ elim (over_either (network c) (flow_of c) s) [
-                    | inl f ↦ inr (inl record {
-                      place = first;
-                      from = omega arith;
-                      below = walk.some;
-                      is = forward ∙ ap (λ (a : ℕ). 2 * a) (sym own) ∙ sym f.0;
-                    })
-                    | inr f ↦ absurd (omega (
-                      arith,
-                      here,
-                      f.1.room,
-                      ap (flow_of c) own,
-                      ap (slice_index c.lower) own,
-                      held,
-                    ))
+                | inl same ↦ is_walked on.place on.from on.below same
+                | inr ne ↦ elim (over_either (network c) (flow_of c) s) [
+                  | inl f ↦ elim (cases_eq (arc_of s) r) [
+                    | inl own ↦ is_walked first (omega arith) walk.some
+                        (forward ∙ ap (λ (a : ℕ). 2 * a) (sym own) ∙ sym f.0)
+                    | inr other ↦ inl (gains c lower flow s (step_of c on.place) amount (sym on.arc)
+                        (λ e. ne (sym e)) walk.positive (lowers (arc_of s) other) (k.flow.low (arc_of s) was.arc)
+                        (k.flow.high (arc_of s) was.arc) (walk.room on.place on.from on.below)
+                        (pushed.on on.place on.from on.below))
                   ]
-                  | inr other ↦ inl (gains c lower flow s (step_of c on.place) amount (sym on.arc) (λ e. ne (sym e))
-                      walk.positive (lowers (arc_of s) other) (k.flow.low (arc_of s) was.arc)
+                  | inr f ↦ inl (gains c lower flow s (step_of c on.place) amount (sym on.arc) (λ e. ne (sym e))
+                      walk.positive (low s here f.1.way) (k.flow.low (arc_of s) was.arc)
                       (k.flow.high (arc_of s) was.arc) (walk.room on.place on.from on.below)
                       (pushed.on on.place on.from on.below))
                 ]
@@ -257,26 +297,24 @@ residual_artificial {c} {labels} r t = record {
   tree = artificial_some c labels (2 * r) t;
 }
 
--- the artificial step was written before the walk
-pub saturated_written : {c : Contents} {labels : List ℕ} (first first' last artificial : ℕ) → first' + 1 ≡ first →
-    first ≤ length c.scratch → first ≤ last → IsTreeBut c labels (IsSaturated c.scratch first last artificial) none none
-    none → IsSaturatedTree (record c { scratch = slice_set c.scratch (first - 1) artificial }) labels first' last
-saturated_written {c} first first' last artificial before long order t =
-    let place : first - 1 ≡ first' = omega arith in
-    tree_map (but_over (slice_set c.scratch (first - 1) artificial) t) (λ u d m e o. elim o [
+-- the artificial step was listed after the others
+pub saturated_written : {c : Contents} {labels : List ℕ} (full artificial : ℕ) → full < length c.scratch →
+    IsTreeBut c labels (IsSaturated c.scratch full artificial) none none none →
+    IsSaturatedTree (record c { scratch = slice_set c.scratch full artificial }) labels 0 (full + 1)
+saturated_written {c} full artificial long t =
+    tree_map (but_over (slice_set c.scratch full artificial) t) (λ u d m e o. elim o [
       | inl occurs ↦ inr record {
         place = occurs.place;
-        from = omega (arith, occurs.from);
-        below = occurs.below;
-        is = get_or-set_other c.scratch (first - 1) occurs.place artificial 0
-            (λ f. absurd (omega (arith, occurs.from, f))) ∙ occurs.is;
+        from = occurs.from;
+        below = omega (arith, occurs.below);
+        is = get_or-set_other c.scratch full occurs.place artificial 0 (λ f. absurd (omega (arith, occurs.below, f)))
+            ∙ occurs.is;
       }
       | inr own ↦ inr record {
-        place = first';
+        place = full;
         from = omega arith;
         below = omega arith;
-        is = ap (slice_index (slice_set c.scratch (first - 1) artificial)) (sym place)
-            ∙ get_or-set_same c.scratch (first - 1) artificial 0 (omega arith) ∙ sym own;
+        is = get_or-set_same c.scratch full artificial 0 long ∙ sym own;
       }
     ])
     (λ u s d e b g o. o) (λ s b r m o. inr o)

@@ -1,5 +1,5 @@
 -- What a round and a hold leave.
-use Rattle.std.proofs.Common.{ℕ, max, ◌≡◌, ◌+◌, ◌-◌, ◌*◌, ◌<◌, ◌≤◌, List, length, slice_index, slice_set, refl, arith}
+use Rattle.std.proofs.Common.{ℕ, max, ◌≡◌, ◌+◌, ◌*◌, ◌<◌, ◌≤◌, List, length, slice_index, slice_set, refl, arith}
 use Rattle.std.proofs.Common.{ap, sym, subst, inl, inr, ◌∙◌}
 use Rattle.std.proofs.lemmas.Bool.{cases_eq}
 use Rattle.std.proofs.lemmas.List.{get_or-set_other, get_or-set_same, length-set}
@@ -8,7 +8,7 @@ use Rattle.circulation.specs.Contents.{Contents, flow_of, arcs, step_of, held_co
 use Rattle.circulation.specs.Residual.{arc_of, IsPushed}
 use Rattle.circulation.proofs.Pushing.{pushed_first}
 use Rattle.residual_tree.specs.Repair.{IsSaturatedTree, HasSomeArtificial}
-use Rattle.residual_tree.specs.Raised.{IsTraced, IsRaisedOver}
+use Rattle.residual_tree.specs.Raised.{IsGathered, IsTraced, IsRaisedOver}
 use Rattle.residual_tree.proofs.Pushes.{but_over, pushed_saturated, saturated_written}
 
 -- nothing changed but scratch words
@@ -37,57 +37,55 @@ raised_is c {e} r amount written pushed held =
     held ∙ ap (λ (x : Contents). held_contents x r amount) pushed
     ∙ ap (λ (x : Contents). held_contents (record x { flow = e.flow }) r amount) written
 
--- the tree after a walk was written, a push, a hold, and the artificial step before the walk
-pub record IsRoundTree (c g : Contents) (labels : List ℕ) (first last : ℕ) : Type 0 where
+-- the tree after a walk was written, a push, a hold, and the artificial step after those that are listed
+pub record IsRoundTree (c g : Contents) (labels : List ℕ) (last : ℕ) : Type 0 where
   pub fits : last ≤ 4 * g.nodes + 8
-  pub saturated : IsSaturatedTree g labels first last
-  pub arcs : (i : ℕ) → first ≤ i → i < last → arc_of (step_of g i) < arcs g
+  pub saturated : IsSaturatedTree g labels 0 last
+  pub arcs : (i : ℕ) → 0 ≤ i → i < last → arc_of (step_of g i) < arcs g
 
-pub round_saturated : {c d e f g : Contents} {labels : List ℕ} {r most first : ℕ} (first' : ℕ) {last last' amount : ℕ}
-    (flow : ℕ) → IsCirculation d → (t : HasSomeArtificial c labels r) → arc_of t.step < arcs c →
+pub round_saturated : {c d e f g : Contents} {labels : List ℕ} {r most first full last : ℕ} (last' : ℕ)
+    {amount : ℕ} (flow : ℕ) → IsCirculation d → (t : HasSomeArtificial c labels r) → arc_of t.step < arcs c →
     flow_of c r ≡ slice_index c.lower r →
-    IsTraced c d labels r most first amount → 0 < amount → e ≡ record d { flow = e.flow } → last ≡ 4 * c.nodes + 8 →
-    IsPushed (flow_of d) (flow_of e) (step_of d) first last amount → f ≡ held_contents e r flow → first' + 1 ≡ first →
-    g ≡ record f { scratch = slice_set f.scratch (first - 1) t.step } → last' ≡ last →
-    IsRoundTree c g labels first' last'
-round_saturated {c} {d} {e} {f} {labels} {r} {first} first' {last} {amount} flow k t b held traced positive
-    pushed is p made before written more =
+    IsTraced c d labels r most first amount full → 0 < amount → e ≡ record d { flow = e.flow } →
+    last ≡ 4 * c.nodes + 8 →
+    IsPushed (flow_of d) (flow_of e) (step_of d) first last amount → f ≡ held_contents e r flow →
+    g ≡ record f { scratch = slice_set f.scratch full t.step } → last' ≡ full + 1 →
+    IsRoundTree c g labels last'
+round_saturated {c} {d} {e} {f} {labels} {r} {first = first} {full = full} {last = last} last' {amount} flow k t b held
+    traced positive pushed is p made written more =
     let rest = traced.rest in
     let kept = subst IsCirculation rest k in
+    let gathered = subst (λ (x : Contents). IsGathered x first full amount) rest traced.gathered in
     let now = raised_is c r flow rest pushed made in
     let moved = subst (λ (x : Contents). IsPushed (flow_of x) (flow_of e) (step_of d) first last amount) rest p in
     let whole = subst (λ (n : ℕ). IsPushed (flow_of c) (flow_of e) (step_of d) first n amount) is moved in
-    let walk = traced.walk positive in
-    let here = raised_contents c d.scratch e.flow r flow in
-    let after = written ∙ ap (λ (x : Contents). record x { scratch = slice_set x.scratch (first - 1) t.step }) now in
+    let after = written ∙ ap (λ (x : Contents). record x { scratch = slice_set x.scratch full t.step }) now in
     let over : HasSomeArtificial (record c { scratch = d.scratch }) labels r = record {
       step = t.step;
       enters = t.enters;
       tree = but_over d.scratch t.tree;
     } in
-    let long : first ≤ length d.scratch = omega (arith, kept.shape.scratch, traced.some) in
-    rw after (subst (λ (n : ℕ). IsRoundTree c (record here { scratch = slice_set d.scratch (first - 1) t.step }) labels
-    first' n) (sym (more ∙ is))
-    record {
-      fits = omega arith;
-      saturated = saturated_written first first' (4 * c.nodes + 8) t.step before long (omega (arith, traced.some))
+    let long : full < length d.scratch = omega (arith, kept.shape.scratch, gathered.fits, traced.prefix) in
+    rw (more, after) record {
+      fits = omega (arith, gathered.fits, traced.prefix);
+      saturated = saturated_written full t.step long
           (pushed_saturated (slice_set c.lower r (max (slice_index c.lower r) flow))
-          e.flow kept over walk whole traced.forward traced.ends
+          e.flow full kept over (traced.walk positive) whole traced.forward traced.ends gathered.all
           (omega (arith, held)) (λ a ne. get_or-set_other c.lower r a (max (slice_index c.lower r) flow) 0 ne));
-      arcs = λ i h j. elim (cases_eq i (first - 1)) [
+      arcs = λ i h j. elim (cases_eq i full) [
         | inl f ↦ omega (
           arith,
-          ap (λ (n : ℕ). arc_of (slice_index (slice_set d.scratch (first - 1) t.step) n)) f,
-          ap arc_of (get_or-set_same d.scratch (first - 1) t.step 0 (omega (arith, before, long))),
+          ap (λ (n : ℕ). arc_of (slice_index (slice_set d.scratch full t.step) n)) f,
+          ap arc_of (get_or-set_same d.scratch full t.step 0 long),
           b,
         )
         | inr ne ↦ omega (
           arith,
-          ap arc_of (get_or-set_other d.scratch (first - 1) i t.step 0 ne),
-          walk.arc i (omega (arith, ne, h, before)) j,
+          ap arc_of (get_or-set_other d.scratch full i t.step 0 ne),
+          gathered.arc i (omega (arith, ne, j)),
         )
       ];
-    })
+    }
 
 -- what the round leaves of the contents
 pub record IsRound (c f : Contents) (r amount : ℕ) : Type 0 where
@@ -95,8 +93,8 @@ pub record IsRound (c f : Contents) (r amount : ℕ) : Type 0 where
   pub raised : flow_of f r ≡ flow_of c r + amount
   pub held : flow_of f r ≡ slice_index f.lower r
 
-pub round_is : {c d e f : Contents} {labels : List ℕ} {r most first last amount flow : ℕ} → IsCirculation d →
-    r < arcs c → flow_of c r ≡ slice_index c.lower r → IsTraced c d labels r most first amount → 0 < amount →
+pub round_is : {c d e f : Contents} {labels : List ℕ} {r most first last amount full flow : ℕ} → IsCirculation d →
+    r < arcs c → flow_of c r ≡ slice_index c.lower r → IsTraced c d labels r most first amount full → 0 < amount →
     e ≡ record d { flow = e.flow } → last ≡ 4 * c.nodes + 8 → IsPushed (flow_of d) (flow_of e)
     (step_of d) first last amount → flow ≡ flow_of e r → f ≡ held_contents e r flow → IsRound c f r amount
 round_is {c} {d} {e} {r} {first} {last} {amount} {flow} k b held traced positive pushed is p seen made =

@@ -8,7 +8,7 @@ ghost use Rattle.residual_tree.specs.Repair.{HasArtificialStep};
 ghost use Rattle.residual_tree.specs.Raised.{IsExit, IsFull, IsRaisedOver};
 
 use crate::ResidualTree;
-use crate::tracing::{trace, write_step};
+use crate::tracing::trace;
 use circulation::CirculationMut;
 use std::sync::ledger::Ledger;
 use steps::Steps;
@@ -54,8 +54,8 @@ fn round<L: Ledger>(
     circ.push(walk.first, count, walk.amount, searches);
     let flow = circ.flow(arc);
     circ.hold(arc, flow);
-    let first = write_step(circ, walk.first, artificial);
-    tree.repair(circ, first, count + 1);
+    circ.scratch_set(walk.full, artificial);
+    tree.repair(circ, 0, walk.full + 1);
     true
 }
 

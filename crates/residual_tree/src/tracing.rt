@@ -1,32 +1,52 @@
 //! The closed walk along which a raise pushes.
-ghost use Rattle.std.specs.Prelude.{◌≡◌, ◌≢◌, ◌+◌, ◌-◌, ◌*◌, ◌<◌, ◌≤◌, slice_index, slice_set};
-ghost use Rattle.circulation.specs.Contents.{arcs, flow_of, IsCirculation};
+ghost use Rattle.std.specs.Prelude.{◌≡◌, ◌≢◌, ◌+◌, ◌*◌, ◌<◌, ◌≤◌, min, slice_index};
+ghost use Rattle.circulation.specs.Contents.{arcs, flow_of, network, IsCirculation};
+ghost use Rattle.circulation.specs.Residual.{arc_of, room_of};
 ghost use Rattle.residual_tree.specs.Tree.{IsLabeled};
 ghost use Rattle.residual_tree.specs.Repair.{HasSomeArtificial};
-ghost use Rattle.residual_tree.specs.Raised.{IsExit, IsFull, IsTraced};
+ghost use Rattle.residual_tree.specs.Raised.{IsExit, IsFull, IsGathered, IsTaken, IsTraced};
 
 use crate::ResidualTree;
 use circulation::CirculationMut;
 use circulation::residual::{room, start};
 
-/// Where a walk begins in the scratch words, which it fills to their end, and how much it can carry.
+/// Where a walk begins in the scratch words, which it fills to their end, how much it can carry, and how many scratch
+/// words from the first on name the steps of it that have no room after a push of that amount.
 #[derive(Clone, Copy)]
 pub struct Walk {
     pub first: usize,
     pub amount: u64,
+    pub full: usize,
 }
 
-/// Writes a step before the scratch words from `first` on, and answers where they begin now.
-pub fn write_step(circ: &mut CirculationMut<'_>, first: usize, step: u64) -> usize
-    requires some { 0 < first }
-    requires fits { first ≤ 4 * circ.old.nodes + 8 }
+/// Takes a step into a walk, before its others.
+fn take_step(circ: &mut CirculationMut<'_>, walk: Walk, step: u64) -> Walk
+    requires arc { arc_of step < arcs circ.old }
+    requires apart { walk.full + 1 < walk.first }
+    requires gathered { IsGathered circ.old walk.first walk.full walk.amount }
     requires kept { IsCirculation circ.old }
     ensures kept { IsCirculation circ.new }
-    ensures first { result + 1 ≡ first }
-    ensures written { circ.new ≡ record circ.old { scratch = slice_set circ.old.scratch (first - 1) step } }
+    ensures taken { IsTaken circ.old circ.new walk.first result.first step }
+    ensures amount { result.amount ≡ min walk.amount (room_of (network circ.old) (flow_of circ.old) step) }
+    ensures gathered { IsGathered circ.new result.first result.full result.amount }
 {
-    circ.scratch_set(first - 1, step);
-    first - 1
+    let left = room(circ, step);
+    let first = walk.first - 1;
+    circ.scratch_set(first, step);
+    if walk.amount < left {
+        return Walk {
+            first,
+            amount: walk.amount,
+            full: walk.full,
+        };
+    }
+    let full = if left < walk.amount { 0 } else { walk.full };
+    circ.scratch_set(full, step);
+    Walk {
+        first,
+        amount: left,
+        full: full + 1,
+    }
 }
 
 /// Writes the closed walk that goes over the arc, then from its head over the exit to the outside, and then along the
@@ -48,27 +68,25 @@ pub fn trace(
     requires labeled { IsLabeled tree.now (slice_index circ.old.from arc) }
     requires kept { IsCirculation circ.old }
     ensures kept { IsCirculation circ.new }
-    ensures traced { IsTraced circ.old circ.new tree.now arc most result.first result.amount }
+    ensures traced { IsTraced circ.old circ.new tree.now arc most result.first result.amount result.full }
     ensures blocked { result.amount ≡ 0 → (slice_index circ.old.to arc ≢ circ.old.nodes) × IsFull circ.old exit }
 {
     let nodes = circ.nodes();
     let ends = circ.ends(arc);
-    let mut first = 4 * nodes as usize + 8;
-    let mut amount = most;
+    let mut walk = Walk {
+        first: 4 * nodes as usize + 8,
+        amount: most,
+        full: 0,
+    };
     let mut node = ends.from;
     while node != ends.to {
         if node == nodes {
-            let out = 2 * u64::from(exit);
-            amount = amount.min(room(circ, out));
-            first = write_step(circ, first, out);
-            first = write_step(circ, first, 2 * u64::from(arc));
-            return Walk { first, amount };
+            let out = take_step(circ, walk, 2 * u64::from(exit));
+            return take_step(circ, out, 2 * u64::from(arc));
         }
         let step = tree.word(node) - 1;
-        amount = amount.min(room(circ, step));
+        walk = take_step(circ, walk, step);
         node = start(circ, step);
-        first = write_step(circ, first, step);
     }
-    first = write_step(circ, first, 2 * u64::from(arc));
-    Walk { first, amount }
+    take_step(circ, walk, 2 * u64::from(arc))
 }

@@ -20,19 +20,15 @@ push-requires-clause-walk g c =
     subst (λ (n : ℕ). IsClosedWalk (network c.trace-walk.new.circ) (flow_of c.trace-walk.new.circ)
     (step_of c.trace-walk.new.circ) c.trace-walk.result.first n c.trace-walk.result.amount) last own
 
-pub write_step-first-requires-clause-some : goal.write_step-first-requires-clause-some
-write_step-first-requires-clause-some g c = c.trace-walk.ensures.traced.prefix
-
 pub repair-requires : goal.repair-requires
 repair-requires g c =
     let t = c.trace-walk.ensures.traced in
     let nodes = ap (λ (x : Contents). x.nodes) t.rest in
-    let r = round_saturated c.write_step-first.result c.flow-flow.result c.trace-walk.ensures.kept
+    let r = round_saturated (0 + (c.trace-walk.result.full + 1)) c.flow-flow.result c.trace-walk.ensures.kept
     record { step = c.args.artificial; enters = c.requires.artificial_end; tree = c.requires.tree }
     c.requires.artificial_arc c.requires.held t (omega (arith, c.if-walk-eq0.false)) c.push.ensures.rest
     (omega (arith, nodes, c.nodes.ensures.number, t.some)) c.push.ensures.pushed c.hold.ensures.held
-    c.write_step-first.ensures.first
-    c.write_step-first.ensures.written (omega (arith, c.write_step-first.ensures.first)) in
+    c.scratch_set.ensures.written (omega arith) in
     record { fits = r.fits; arcs = r.arcs; saturated = r.saturated }
 
 pub returns-clause-pushed : goal.returns-clause-pushed
@@ -43,7 +39,7 @@ returns-clause-pushed g c = λ _.
     c.requires.arc c.requires.held t (omega (arith, c.if-walk-eq0.false)) c.push.ensures.rest
     (omega (arith, nodes, c.nodes.ensures.number, t.some)) c.push.ensures.pushed c.flow-flow.ensures.amount
     c.hold.ensures.held in
-    let done = round_written _ round c.write_step-first.ensures.written in
+    let done = round_written _ round c.scratch_set.ensures.written in
     let limit = t.limit in (
       omega (arith, done.raised, c.if-walk-eq0.false),
       omega (arith, done.raised, limit),
