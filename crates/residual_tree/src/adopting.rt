@@ -14,8 +14,8 @@ use crate::labels::Labels;
 use circulation::CirculationMut;
 use circulation::residual::{opposite, start};
 
-/// The most steps by which the tree leads from the outside to a node that is near. With fewer, more is freed; with twice
-/// as many, as much.
+/// The most steps by which the tree leads from the outside to a node that is near. With fewer, more is freed; with
+/// twice as many, as much.
 const NEAR: u32 = 8;
 
 /// Whether the tree leads from the outside to a node by few steps, none of which leaves or enters the node `other`.
