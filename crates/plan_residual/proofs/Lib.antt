@@ -3,7 +3,6 @@ pub mod Slack
 pub mod Closed
 pub mod Overs
 pub mod Along
-pub mod RowLists
 pub mod Queues
 pub mod Reaching
 pub mod Spreading

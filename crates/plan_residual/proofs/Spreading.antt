@@ -70,15 +70,18 @@ pub record IsSpreading (b : Basin) (m : MonthRecord) (r : ℕ) (d : Direction) (
 next_leaves : (b : Basin) (v from : ℕ) (o : Option ℕ) → IsNextFrom b v from o →
     IfSome o (λ s. (s < step_count b) × (start_of b s ≡ v))
 next_leaves b v from None h = tt
-next_leaves b v from (Some s) h = (h.1, h.2)
+next_leaves b v from (Some s) h = (h.1, let at : Some (start_of b s) ≡ Some v = h.2 in cc)
 
 -- a step that leaves the node before the next one is before the number from which that was looked for
 passed : (b : Basin) (v from : ℕ) (o : Option ℕ) → IsNextFrom b v from o → (s : ℕ) → s < step_count b →
     start_of b s ≡ v → is_before o s ≡ true → s < from
-passed b v from None h s l e before = elim (cases_lt s from) [ inl less ↦ less | inr more ↦ absurd (h s more l e) ]
+passed b v from None h s l e before = elim (cases_lt s from) [
+  | inl less ↦ less
+  | inr more ↦ absurd (h s more l (ap Some e))
+]
 passed b v from (Some next) h s l e before = elim (cases_lt s from) [
   | inl less ↦ less
-  | inr more ↦ absurd (h.3 s more (ltb-true s next before) e)
+  | inr more ↦ absurd (h.3 s more (ltb-true s next before) (ap Some e))
 ]
 
 -- before the first step of the node

@@ -21,7 +21,6 @@ mod deciding;
 mod finding;
 pub mod laws;
 pub mod order;
-pub mod rows;
 pub mod scene;
 mod sources;
 mod spread;
@@ -32,10 +31,11 @@ pub mod visits;
 use crate::claims::find_next;
 use crate::deciding::search;
 use crate::finding::{find_upstream, node_of};
-use crate::rows::{StepRows, rows_of};
 use crate::scene::Scene;
+use crate::steps::start_of;
 use crate::sweep::sweep;
 use crate::visits::Queue;
+use cut_cert::rows::{Chains, chains_by};
 use rights_roll::roll::Roll;
 use std::alloc::{AllocError, Global};
 use std::marker::Model;
@@ -45,7 +45,7 @@ use water_model::types::{Basin, MonthRecord};
 /// is opened.
 #[derive(Drop)]
 pub struct ResidualSearch {
-    rows: StepRows,
+    rows: Chains,
     queue: Queue,
     core: Queue,
 }
@@ -57,7 +57,7 @@ impl Model for ResidualSearch {
 
     ghost Value = { SearchSeen };
 
-    ghost view = { λ s. record { first = s.rows.first.items; next = s.rows.next.items; core = s.core.seen } };
+    ghost view = { λ s. record { rows = s.rows; core = s.core.seen } };
 
     ghost invariant = { λ s. HasRoom s.rows.first.items s.queue s.core };
 }
@@ -68,7 +68,9 @@ impl ResidualSearch {
         requires { IsValidBasin basin.now }
         ensures { IfOk result (IsSearchOf basin.now) }
     {
-        let rows = rows_of(alloc, basin)?;
+        let rows = chains_by(alloc, basin.nodes.len(), 2 * basin.links.len(), |step| {
+            Some(start_of(basin, step as u32))
+        })?;
         let queue = Queue::open(alloc, basin.nodes.len())?;
         let core = Queue::open(alloc, basin.nodes.len())?;
         Ok(ResidualSearch { rows, queue, core })

@@ -6,7 +6,7 @@ ghost use Rattle.plan_residual.specs.Scene.{IsScene};
 ghost use Rattle.plan_residual.specs.Sweep.{right_at};
 
 use crate::order::right_at;
-use crate::rows::StepRows;
+use cut_cert::rows::Chains;
 use rights_roll::roll::Roll;
 use std::marker::Model;
 use water_model::types::{Basin, MonthRecord};
@@ -17,7 +17,7 @@ pub struct Scene<'a> {
     pub basin: &'a Basin,
     pub roll: &'a Roll,
     pub month: &'a MonthRecord,
-    pub rows: &'a StepRows,
+    pub rows: &'a Chains,
 }
 
 impl<'a> Model for Scene<'a> {
@@ -25,10 +25,9 @@ impl<'a> Model for Scene<'a> {
 
     ghost Value = { SceneView };
 
-    ghost view = { λ s. scene s.basin.now s.roll.now s.month.now s.rows.now.first.items s.rows.now.next.items };
+    ghost view = { λ s. scene s.basin.now s.roll.now s.month.now s.rows.now };
 
-    ghost invariant = { λ s. IsScene
-        (scene s.basin.now s.roll.now s.month.now s.rows.now.first.items s.rows.now.next.items) };
+    ghost invariant = { λ s. IsScene (scene s.basin.now s.roll.now s.month.now s.rows.now) };
 }
 
 impl<'a> Scene<'a> {
@@ -47,7 +46,7 @@ impl<'a> Scene<'a> {
         requires { node < length self.now.basin.nodes }
         ensures { IsNextFrom self.now.basin node 0 result }
     {
-        self.rows.first[node as usize]
+        self.rows.first_of(node)
     }
 
     /// The next step that leaves the same node as this one.
@@ -55,6 +54,6 @@ impl<'a> Scene<'a> {
         requires { step < step_count self.now.basin }
         ensures { let b = self.now.basin in IsNextFrom b (start_of b step) (step + 1) result }
     {
-        self.rows.next[step as usize]
+        self.rows.next_of(step)
     }
 }

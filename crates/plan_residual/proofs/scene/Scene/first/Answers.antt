@@ -1,12 +1,12 @@
-use Rattle.std.proofs.Common.{◌∙◌, arith}
-use Rattle.std.proofs.lemmas.List.{get_or_default}
-use Rattle.std.specs.Prelude.{None}
+use Rattle.std.proofs.Common.{arith}
 use Rattle.plan_residual.proofs.scene.Scene.first.Goals as goal
+
+pub first_of-requires : goal.first_of-requires
+first_of-requires c =
+    let below = rw (← c.self.view_is) at c.requires in
+    omega (arith, below, c.self.invariant.rows.one_first)
 
 pub returns : goal.returns
 returns c =
-    let rows = c.self.invariant.rows in
     let below = rw (← c.self.view_is) at c.requires in
-    let is = c.index.ensures ∙ get_or_default c.self.inside.rows.now.first.items c.args.node c.index.result.now None
-    (omega (arith, below, rows.nodes)) in
-    rw (← c.self.view_is) (rw is (rows.firsts c.args.node below))
+    rw (← c.self.view_is) (rw c.first_of.ensures (c.self.invariant.rows.firsts c.args.node below))
