@@ -2,10 +2,10 @@
 use Rattle.std.proofs.Common.{◌≡◌, ℕ, ◌<◌, ◌≤◌, Bool, true, false, refl, sym, ◌∙◌, ap, subst, arith, List, length}
 use Rattle.std.proofs.lemmas.List.{length-replicate, get_or-replicate}
 use Rattle.std.proofs.lemmas.Grind.{same_number_lists}
-use Rattle.std.specs.Prelude.{◌^◌, slice_index}
+use Rattle.std.specs.Prelude.{◌^◌, slice_index, None}
 use Rattle.finite_sums.specs.Sums.{when}
 use Rattle.water_model.specs.Basin.{is_outlet}
-use Rattle.water_model.specs.CutSets.{CutSets}
+use Rattle.water_model.specs.CutSets.{CutSets, set_of}
 use Rattle.water_model.specs.Plans.{IsPlan, carry_of}
 use Rattle.water_model.specs.declared.types.Basin.{Basin}
 use Rattle.water_model.specs.declared.types.Plan.{Plan}
@@ -17,7 +17,7 @@ use Rattle.circulation.specs.Contents.{Contents, network, month_contents, IsStar
 use Rattle.circulation.specs.Network.{IsFlow}
 use Rattle.senior_hold.specs.Arcs.{AreAmounts, AreBounds}
 use Rattle.senior_hold.specs.MonthNetwork.{out_arc, arc_count, HasBasinEnds, IsMonthNetwork, plan_of}
-use Rattle.senior_hold.specs.Solved.{AreSupplies, AreWants, IsGiven}
+use Rattle.senior_hold.specs.Solved.{AreSupplies, AreWants, FitsCuts}
 use Rattle.senior_hold.specs.Spilled.{spilled, spills_of, spill_most, IsBegun, IsSpilledStart}
 use Rattle.senior_hold.specs.declared.sweep.Method.{Method}
 use Rattle.senior_hold.proofs.MonthArcs.{IsArc, is_link, is_take, is_out, arc_is}
@@ -142,11 +142,11 @@ spilled_start {b} {supply} {start} {c} {p} size laid is still all = record {
 
 -- a month stands so before any right is served
 pub standing_begun : {b : Basin} {method : Method} {month : Month} {supply want order : List ℕ} {c : Contents}
-    {p : Plan} {cuts : CutSets} → IsBegun b method month supply want c → IsGiven b month supply want p cuts →
-    IsStanding (spilled b) month supply want order 0 c cuts
-standing_begun {b} {method} {month} {supply} {want} {order} {c} {p} {cuts} start given =
+    {cuts : CutSets} → IsBegun b method month supply want c → FitsCuts b cuts →
+    ((r : ℕ) → r < length b.rights → set_of cuts r ≡ None) → IsStanding (spilled b) month supply want order 0 c cuts
+standing_begun {b} {method} {month} {supply} {want} {order} {c} {cuts} start fits no_sets =
     standing_first (spilled b) month supply want order c cuts start.net start.is_flow start.size start.free
-    (record { nodes = given.fits_cuts.nodes ∙ sym (spilled_count b); rights = given.fits_cuts.rights }) given.no_sets
+    (record { nodes = fits.nodes ∙ sym (spilled_count b); rights = fits.rights }) no_sets
 
 -- bounds where the same may be spilled
 pub bounds_most : (b : Basin) (month : Month) (want : List ℕ) (upper most most' : ℕ → ℕ) →

@@ -12,6 +12,7 @@ use Rattle.circulation.specs.Contents.{Contents, network, flow_of}
 use Rattle.circulation.proofs.Overs.{over_forward}
 use Rattle.senior_hold.specs.MonthNetwork.{out_arc, spill_arc, IsMonthNetwork}
 use Rattle.senior_hold.specs.Serving.{FillsExit}
+use Rattle.senior_hold.specs.declared.serving.Claim.{Claim}
 use Rattle.senior_hold.specs.Solved.{AreSupplies}
 use Rattle.senior_hold.specs.declared.sweep.Method.{Method}
 use Rattle.senior_hold.specs.Spilled.{spilled, spills_of, SpillsAreOf}
@@ -34,22 +35,21 @@ spill_most b g n l =
     )
 
 -- no raise fills a spill, which may have more than all supply
-pub never_full : {b : Basin} {month : Month} {supply want : List ℕ} {c : Contents} {arc exit first : ℕ} →
-    FillsExit c arc exit → IsValidBasin b → AreSupplies b supply →
-    IsMonthNetwork (spilled b) month supply want (network c) → SpillsAreOf b Method.Tree c → first ≡ spill_arc b 0 →
-    first ≤ exit → exit < first + c.nodes → ⊥
-never_full {b} {month} {supply} {want} {c} {arc} {exit} {first} fills valid supplies net wide start above below =
+pub never_full : {b : Basin} {month : Month} {supply want : List ℕ} {c : Contents} {x : Claim} → FillsExit c x →
+    IsValidBasin b → AreSupplies b supply → IsMonthNetwork (spilled b) month supply want (network c) →
+    SpillsAreOf b Method.Tree c → spill_arc b 0 ≤ x.exit → x.exit < spill_arc b 0 + c.nodes → ⊥
+never_full {b} {month} {supply} {want} {c} {x} fills valid supplies net wide above below =
     let d = fills.then in
-    let node = exit - first in
+    let node = x.exit - spill_arc b 0 in
     let inside : node < length b.nodes = omega (arith, spilled_count b, net.ends.nodes) in
-    let is : spill_arc b node ≡ exit = omega arith in
+    let is : spill_arc b node ≡ x.exit = omega arith in
     let now = raised_net fills.rest net in
     let small : total (length b.nodes) (λ v. slice_index supply v) < 10 ^ 15 = let bounded = supplies.small in
     omega arith in
     let bounded = spills_bounded valid now fills.kept.flow small in
     let most = spill_most b (flow_of d) node inside in
-    let upper = ap (λ (x : Contents). slice_index x.upper exit) fills.rest.rest
+    let upper = ap (λ (d : Contents). slice_index d.upper x.exit) fills.rest.rest
     ∙ (ap (slice_index c.upper) (sym is) ∙ wide node inside) in
     let flow = ap (flow_of d) is in
-    let room = (over_forward (network d) (flow_of d) exit).room in
+    let room = (over_forward (network d) (flow_of d) x.exit).room in
     omega (arith, bounded, most, upper, flow, room, fills.full)

@@ -1,6 +1,6 @@
 -- The places of the circulation and the tree, and their words while they are lent.
 use Rattle.std.proofs.Common.{ℕ, ◌≡◌, ◌≢◌, ◌+◌, ◌-◌, ◌^◌, ◌<◌, ◌≤◌, List, ◌++◌, length, take, drop, refl, arith, ap}
-use Rattle.std.proofs.Common.{sym, subst, ◌∙◌, length-drop, length-take-le}
+use Rattle.std.proofs.Common.{sym, subst, ◌∙◌}
 use Rattle.std.specs.Prelude.{All}
 use Rattle.std.proofs.lemmas.List.{take_at, take_all, take-take, length-append}
 use Rattle.word_region.specs.Words.{Words, words_at, with_words, zeroed}
@@ -21,7 +21,7 @@ use Rattle.residual_tree.specs.TreeWords.{tree_words}
 use Rattle.senior_hold.specs.MonthNetwork.{arc_count, takes}
 use Rattle.senior_hold.specs.Arcs.{AreEnds}
 use Rattle.senior_hold.specs.Spilled.{spilled}
-use Rattle.senior_hold.specs.Places.{HasArcs, HasParts, HasPlaces}
+use Rattle.senior_hold.specs.Places.{HasPlaces}
 use Rattle.senior_hold.specs.declared.places.Places.{Places}
 use Rattle.senior_hold.proofs.Laid.{laid_ends, laid_fits, links_apart}
 use Rattle.senior_hold.proofs.MonthArcs.{right_kind}
@@ -63,68 +63,46 @@ places_opened b es r circ tree nodes rows laid count held fits at next =
       fits = omega (arith, fits, length-zeroed r.words r.used (tree_words nodes) fits);
     }
 
--- the words of both places, as they are lent
-pub record AreLent (r : Words) (p : Places) (fixed moving tree : List ℕ) : Type 0 where
-  pub held : List ℕ
-  pub words : List ℕ
-  pub is : words ≡ words_at r.words (both_of p)
-  pub count : length words ≡ p.circ.place.len + p.tree.len
-  pub prefix : held ≡ take p.circ.place.len words
-  pub back : length tree + p.circ.place.len ≡ length words
-  pub first : fixed ≡ take (fixed_count p.circ.nodes p.circ.arcs) held
-  pub rest : moving ≡ drop (fixed_count p.circ.nodes p.circ.arcs) held
-
--- they are the parts of both
-pub parts_lent : (b : Basin) (r : Words) (p : Places) (fixed moving tree : List ℕ) → HasPlaces b r p →
-    AreLent r p fixed moving tree → HasParts b p.circ fixed moving tree
-parts_lent b r p fixed moving tree h l =
-    let n = fixed_count p.circ.nodes p.circ.arcs in
-    let held : l.held ≡ words_at r.words p.circ.place = l.prefix ∙ ap (take p.circ.place.len) l.is
-    ∙ place_prefix r.words p.circ.place p.tree.len in
-    let long : length l.held ≡ p.circ.place.len = ap length l.prefix
-    ∙ length-take-le p.circ.place.len l.words (omega (arith, l.count)) in
-    record {
-      arcs = record {
-        contents = h.contents;
-        fixed = subst (λ (xs : List ℕ). AreFixedOf p.circ h.contents xs) (sym (l.first ∙ ap (take n) held))
-            h.held.fixed;
-        ends = h.ends;
-        count = ap length l.rest ∙ length-drop n l.held ∙ ap (λ (k : ℕ). k - n) (long ∙ h.held.size);
-      };
-      size = omega (arith, l.back, l.count, h.size);
-    }
+-- of the words of both places, those that never change are those of the same arcs
+pub fixed_lent : {b : Basin} {r : Words} {p : Places} {words held fixed : List ℕ} {mid : ℕ} (h : HasPlaces b r p) →
+    words ≡ words_at r.words (both_of p) → held ≡ take p.circ.place.len words → fixed ≡ take mid held →
+    mid ≡ fixed_count p.circ.nodes p.circ.arcs → AreFixedOf p.circ h.contents fixed
+fixed_lent {b} {r} {p} {words} {held} {fixed} {mid} h is front first at =
+    subst (λ (xs : List ℕ). AreFixedOf p.circ h.contents xs) (sym (first ∙ ap (λ (n : ℕ). take n held) at
+    ∙ ap (take (fixed_count p.circ.nodes p.circ.arcs)) (front ∙ ap (take p.circ.place.len) is
+    ∙ place_prefix r.words p.circ.place p.tree.len))) h.held.fixed
 
 -- the places hold the same when the words that change were written
-pub places_again : (b : Basin) (r : Words) (p : Places) (fixed moving new tree : List ℕ) → HasPlaces b r p →
-    HasArcs b p.circ fixed moving → length fixed ≡ fixed_count p.circ.nodes p.circ.arcs →
-    length fixed + length new ≡ p.circ.place.len → length tree ≡ p.tree.len →
+pub places_again : {b : Basin} {r : Words} {p : Places} {fixed : List ℕ} (new grown : List ℕ) (h : HasPlaces b r p) →
+    AreFixedOf p.circ h.contents fixed → length fixed ≡ fixed_count p.circ.nodes p.circ.arcs →
+    length fixed + length new ≡ p.circ.place.len → length grown ≡ p.tree.len →
     HasPlaces b (record {
-      words = take (length r.words) (with_words r.words (both_of p).from ((fixed ++ new) ++ tree));
+      words = take (length r.words) (with_words r.words (both_of p).from ((fixed ++ new) ++ grown));
       used = r.used;
     }) p
-places_again b r p fixed moving new tree h a prefix all size =
+places_again {b} {r} {p} {fixed} new grown h kept prefix all size =
     let n = fixed_count p.circ.nodes p.circ.arcs in
     let held = fixed ++ new in
     let long : length held ≡ p.circ.place.len = length-append fixed new ∙ all in
-    let whole : length (held ++ tree) ≡ (both_of p).len = omega (arith, length-append held tree, long, size) in
+    let whole : length (held ++ grown) ≡ (both_of p).len = omega (arith, length-append held grown, long, size) in
     let fits : (both_of p).from + (both_of p).len ≤ length r.words = omega (arith, h.next, h.used, h.fits) in
-    let words = take (length r.words) (with_words r.words (both_of p).from (held ++ tree)) in
+    let words = take (length r.words) (with_words r.words (both_of p).from (held ++ grown)) in
     let count : length words ≡ length r.words = ap length (take_all (length r.words)
-    (with_words r.words (both_of p).from (held ++ tree))
-    (omega (arith, length-with_words r.words (both_of p).from (held ++ tree) (omega (arith, whole, fits)))))
-    ∙ length-with_words r.words (both_of p).from (held ++ tree) (omega (arith, whole, fits)) in
+    (with_words r.words (both_of p).from (held ++ grown))
+    (omega (arith, length-with_words r.words (both_of p).from (held ++ grown) (omega (arith, whole, fits)))))
+    ∙ length-with_words r.words (both_of p).from (held ++ grown) (omega (arith, whole, fits)) in
     let place : words_at words p.circ.place ≡ held = sym (place_prefix words p.circ.place p.tree.len)
-    ∙ ap (take p.circ.place.len) (written_place r.words (held ++ tree) (both_of p) whole fits)
-    ∙ take_at held tree p.circ.place.len long in
+    ∙ ap (take p.circ.place.len) (written_place r.words (held ++ grown) (both_of p) whole fits)
+    ∙ take_at held grown p.circ.place.len long in
     let first : take n (words_at words p.circ.place) ≡ fixed = ap (take n) place ∙ take_at fixed new n prefix in
     record {
-      contents = a.contents;
+      contents = h.contents;
       held = record {
         used = h.held.used;
         size = h.held.size;
-        fixed = subst (λ (xs : List ℕ). AreFixedOf p.circ a.contents xs) (sym first) a.fixed;
+        fixed = subst (λ (xs : List ℕ). AreFixedOf p.circ h.contents xs) (sym first) kept;
       };
-      ends = a.ends;
+      ends = h.ends;
       next = h.next;
       size = h.size;
       used = h.used;

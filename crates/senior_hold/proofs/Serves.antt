@@ -13,6 +13,7 @@ use Rattle.senior_hold.proofs.Bridge.{has_list}
 use Rattle.senior_hold.proofs.Marks.{with_twice, list_size}
 use Rattle.water_model.specs.Lookups.{has}
 use Rattle.senior_hold.specs.Serving.{IsServed}
+use Rattle.senior_hold.specs.declared.serving.Claim.{Claim}
 
 abbrev changed : Contents → List ℕ → List ℕ → List ℕ → Contents
 changed old f s lower = record old { flow = f; scratch = s; lower = lower }
@@ -40,12 +41,12 @@ held_is old raised new arc want got rest held is =
 pub held_flow : (raised new : Contents) (arc got : ℕ) → new ≡ held_at raised arc got → flow_of new ≡ flow_of raised
 held_flow raised new arc got held = ap (λ (x : Contents). flow_of x) held
 
-pub served_met : (old raised new : Contents) (arc want got : ℕ) (cuts after : CutSets) (right : ℕ) →
-    SameButFlow old raised → new ≡ held_at raised arc got → got ≡ min want (flow_of raised arc) →
-    want ≤ flow_of raised arc → after ≡ cuts → IsServed old new arc want cuts after right
-served_met old raised new arc want got cuts after right rest held is met same = record {
-  held = held_is old raised new arc want got rest held is;
-  outcome = inl (let e = ap (λ (f : ℕ → ℕ). f arc) (held_flow raised new arc got held) in omega arith, same);
+pub served_met : (old raised new : Contents) (x : Claim) (got : ℕ) (cuts after : CutSets) → SameButFlow old raised →
+    new ≡ held_at raised x.arc got → got ≡ min x.want (flow_of raised x.arc) → x.want ≤ flow_of raised x.arc →
+    after ≡ cuts → IsServed old new x cuts after
+served_met old raised new x got cuts after rest held is met same = record {
+  held = held_is old raised new x.arc x.want got rest held is;
+  outcome = inl (let e = ap (λ (f : ℕ → ℕ). f x.arc) (held_flow raised new x.arc got held) in omega arith, same);
 }
 
 unreached_list : (c : Contents) → has (list_of c.nodes (not_reached c)) ≡ not_reached c
@@ -54,31 +55,33 @@ unreached_list c = fun_ext (has_list c.nodes (not_reached c) (λ v l. outside v 
     outside : (v n p : ℕ) → n ≤ v → nat_lt v n && (p == 0) ≡ false
     outside v n p l = grind (arith, nat_tests)
 
-pub served_short : (old raised new : Contents) (arc want got : ℕ) (cuts begun after : CutSets) (right : ℕ)
-    (empty : List Bool) → SameButFlow old raised → new ≡ held_at raised arc got → got ≡ min want (flow_of raised arc) →
-    flow_of raised arc < want → begun ≡ with_set cuts right (Some empty) →
-    after ≡ with_set begun right (Some (list_of raised.nodes (not_reached raised))) →
-    IsGreatestCut (network old) (flow_of raised) arc (not_reached raised) → IsServed old new arc want cuts after right
-served_short old raised new arc want got cuts begun after right empty rest held is less begin done greatest = record {
-  held = held_is old raised new arc want got rest held is;
-  outcome = inr (
-    let e = ap (λ (f : ℕ → ℕ). f arc) (held_flow raised new arc got held) in omega arith,
-    (
-      list_of raised.nodes (not_reached raised),
-      (
-        done ∙ (ap (λ (d : CutSets). with_set d right (Some (list_of raised.nodes (not_reached raised)))) begin
-            ∙ with_twice cuts right (Some empty) (Some (list_of raised.nodes (not_reached raised)))),
+pub served_short : (old raised new : Contents) (x : Claim) (got : ℕ) (cuts begun after : CutSets) (empty : List Bool) →
+    SameButFlow old raised → new ≡ held_at raised x.arc got → got ≡ min x.want (flow_of raised x.arc) →
+    flow_of raised x.arc < x.want → begun ≡ with_set cuts x.right (Some empty) →
+    after ≡ with_set begun x.right (Some (list_of raised.nodes (not_reached raised))) →
+    IsGreatestCut (network old) (flow_of raised) x.arc (not_reached raised) → IsServed old new x cuts after
+served_short old raised new x got cuts begun after empty rest held is less begin done greatest =
+    let cut = list_of raised.nodes (not_reached raised) in
+    let flow = held_flow raised new x.arc got held in
+    record {
+      held = held_is old raised new x.arc x.want got rest held is;
+      outcome = inr (
+        let e = ap (λ (f : ℕ → ℕ). f x.arc) flow in omega arith,
         (
-          list_size raised.nodes (not_reached raised) ∙ ap (λ (x : Contents). x.nodes) rest,
-          subst (λ (g : ℕ → ℕ). IsGreatestCut (network old) g arc (has (list_of raised.nodes (not_reached raised))))
-              (sym (held_flow raised new arc got held))
-              (subst (λ (y : ℕ → Bool). IsGreatestCut (network old) (flow_of raised) arc y)
-              (sym (unreached_list raised)) greatest),
+          cut,
+          (
+            done ∙ (ap (λ (d : CutSets). with_set d x.right (Some cut)) begin
+                ∙ with_twice cuts x.right (Some empty) (Some cut)),
+            (
+              list_size raised.nodes (not_reached raised) ∙ ap (λ (c : Contents). c.nodes) rest,
+              subst (λ (g : ℕ → ℕ). IsGreatestCut (network old) g x.arc (has cut)) (sym flow)
+                  (subst (λ (y : ℕ → Bool). IsGreatestCut (network old) (flow_of raised) x.arc y)
+                  (sym (unreached_list raised)) greatest),
+            ),
+          ),
         ),
-      ),
-    ),
-  );
-}
+      );
+    }
 
 -- where a raise did not stop, the arc has what is wanted
 pub raise_met : (before after want : ℕ) → (want ≤ before → after ≡ before) → (before < want → after ≡ want) →

@@ -4,11 +4,11 @@ use Rattle.std.proofs.Common.{inl, inr, get_or-set_same, get_or-set_other}
 use Rattle.std.proofs.lemmas.Bool.{cases_eq}
 use Rattle.std.proofs.lemmas.Bool.Decides.{nat_tests}
 use Rattle.std.proofs.lemmas.List.{length-set}
-use Rattle.std.specs.Prelude.{◌&&◌, slice_index, slice_set, max, min, nat_lt, Some, None, ◌⊎◌}
+use Rattle.std.specs.Prelude.{◌&&◌, slice_index, max, min, nat_lt, Some, None}
 use Rattle.finite_sums.specs.Sums.{when, greatest_where}
 use Rattle.finite_sums.proofs.Totals.{greatest_where_le, greatest_same_tests}
 use Rattle.water_model.specs.Basin.{is_senior, is_on_link}
-use Rattle.water_model.specs.CutSets.{CutSets, set_of, with_set}
+use Rattle.water_model.specs.CutSets.{CutSets, set_of}
 use Rattle.water_text.specs.declared.month.Month.{Month}
 use Rattle.water_model.specs.declared.types.Basin.{Basin}
 use Rattle.circulation.specs.Contents.{Contents, network, flow_of, IsCirculation}
@@ -21,7 +21,8 @@ use Rattle.senior_hold.proofs.Sweeps.{got, swept_same, swept_next}
 use Rattle.water_model.proofs.SetEntries.{set_of_with, set_of_other}
 use Rattle.water_model.specs.Lookups.{has}
 use Rattle.rights_roll.specs.SeniorityOrder.{IsSeniorityOrder}
-use Rattle.senior_hold.specs.Serving.{IsServed}
+use Rattle.senior_hold.specs.Serving.{IsServed, IsMetOrCut, held_lower}
+use Rattle.senior_hold.specs.declared.serving.Claim.{Claim}
 use Rattle.senior_hold.specs.Solved.{IsMetOrReached, FitsCuts}
 use Rattle.senior_hold.proofs.Swept.{delivered_by, deliveries_by, IsSwept}
 
@@ -84,15 +85,23 @@ net_kept b month supply want c f s lower net = record {
 }
 
 -- a flow over raised lowers is a flow over the old ones
-flow_kept : (c : Contents) (f s : List ℕ) (arc x : ℕ) → arc < length c.lower →
-    IsFlow (network (changed c f s (slice_set c.lower arc (max (slice_index c.lower arc) x)))) (λ a. slice_index f a) →
+flow_kept : (c : Contents) (f s : List ℕ) (x : Claim) → x.arc < length c.lower →
+    IsFlow (network (changed c f s (held_lower c x (slice_index f)))) (λ a. slice_index f a) →
     IsFlow (network c) (λ a. slice_index f a)
-flow_kept c f s arc x inside flow = record {
-  low = λ a l. (let low = flow.low a l in elim (cases_eq a arc) [
-    | inl e ↦ (let p = ap (slice_index (slice_set c.lower arc (max (slice_index c.lower arc) x))) e in
+flow_kept c f s x inside flow = record {
+  low = λ a l. (let low = flow.low a l in elim (cases_eq a x.arc) [
+    | inl e ↦ (let p = ap (slice_index (held_lower c x (slice_index f))) e in
         let q = ap (slice_index c.lower) e in
-        omega (arith, get_or-set_same c.lower arc (max (slice_index c.lower arc) x) 0 inside))
-    | inr ne ↦ omega (arith, get_or-set_other c.lower arc a (max (slice_index c.lower arc) x) 0 ne)
+        omega (
+          arith,
+          get_or-set_same c.lower x.arc (max (slice_index c.lower x.arc)
+              (min x.want (slice_index f x.arc))) 0 inside,
+        ))
+    | inr ne ↦ omega (
+      arith,
+      get_or-set_other c.lower x.arc a (max (slice_index c.lower x.arc)
+          (min x.want (slice_index f x.arc))) 0 ne,
+    )
   ]);
   high = flow.high;
   balanced = flow.balanced;
@@ -114,35 +123,35 @@ holds_seniors b order d o r k w l at held = record {
     test : (s : ℕ) → s < length b.rights → nat_lt (o.place s) k ≡ is_senior b s r
     test s n = sym (o.senior s r n l ∙ ap (nat_lt (o.place s)) at)
 
-served_next : (b : Basin) (month : Month) (supply want order : List ℕ) (k r arc amount : ℕ) (c : Contents)
-    (f s : List ℕ) (cuts after : CutSets) → AreKinds b → k < length b.rights → r ≡ slice_index order k →
-    IsSeniorityOrder b.rights order → IsStanding b month supply want order k c cuts → arc ≡ right_arc b r →
-    amount ≡ slice_index want r →
-    IsFlow (network (changed c f s
-    (slice_set c.lower arc (max (slice_index c.lower arc) (min amount (slice_index f arc))))))
-    (λ a. slice_index f a) →
-    (((amount ≤ slice_index f arc) × (after ≡ cuts))
-    ⊎ ((slice_index f arc < amount)
-    × ((cut : List Bool) × ((after ≡ with_set cuts r (Some cut))
-    × ((length cut ≡ c.nodes) × IsGreatestCut (network c) (λ a. slice_index f a) arc (has cut)))))) →
-    IsStanding b month supply want order (k + 1)
-    (changed c f s (slice_set c.lower arc (max (slice_index c.lower arc) (min amount (slice_index f arc))))) after
-served_next b month supply want order k r arc amount c f s cuts after kinds l at order_is now arc_is amount_is flow
-    outcome = record {
-      net = net_kept b month supply want c f s
-          (slice_set c.lower arc (max (slice_index c.lower arc) (min amount (slice_index f arc)))) now.net;
-      size = length-set c.lower arc (max (slice_index c.lower arc) (min amount (slice_index f arc))) ∙ now.size;
-      swept = λ o. swept_next b month supply want order o k r (min amount (slice_index f arc)) (network c)
-          (network (changed c f s (slice_set c.lower arc
-          (max (slice_index c.lower arc) (min amount (slice_index f arc))))))
-          (λ a. slice_index f a) cuts after kinds l at (before o) is_amount flow raised rest (others outcome)
-          (settled o outcome);
+served_next : (b : Basin) (month : Month) (supply want order : List ℕ) (k : ℕ) (x : Claim) (c : Contents)
+    (f s : List ℕ) (cuts after : CutSets) → AreKinds b → k < length b.rights → x.right ≡ slice_index order k →
+    IsSeniorityOrder b.rights order → IsStanding b month supply want order k c cuts → x.arc ≡ right_arc b x.right →
+    x.want ≡ slice_index want x.right →
+    IsFlow (network (changed c f s (held_lower c x (slice_index f)))) (λ a. slice_index f a) →
+    IsMetOrCut c (slice_index f) x cuts after →
+    IsStanding b month supply want order (k + 1) (changed c f s (held_lower c x (slice_index f))) after
+served_next b month supply want order k x c f s cuts after kinds l at order_is now arc_is amount_is flow outcome =
+    record {
+      net = net_kept b month supply want c f s (held_lower c x g) now.net;
+      size = length-set c.lower arc lower ∙ now.size;
+      swept = λ o. swept_next b month supply want order o k r (min x.want (g arc)) (network c)
+          (network (changed c f s (held_lower c x g))) g cuts after kinds l at (before o) is_amount flow raised rest
+          (others outcome) (settled o outcome);
       cut_nodes = nodes outcome;
       cut_rights = rights outcome;
     }
   where
+    r : ℕ
+    r = x.right
+
+    arc : ℕ
+    arc = x.arc
+
     g : ℕ → ℕ
     g a = slice_index f a
+
+    lower : ℕ
+    lower = max (slice_index c.lower x.arc) (min x.want (slice_index f x.arc))
 
     r_in : (o : IsSeniorityOrder b.rights order) → r < length b.rights
     r_in o = subst (λ r. r < length b.rights) (sym at) (o.below k l)
@@ -153,65 +162,43 @@ served_next b month supply want order k r arc amount c f s cuts after kinds l at
     inside : arc < length c.lower
     inside = let n = now.size in omega (arith, arc_is, right_arc_in b r (r_in order_is) (kinds r (r_in order_is)))
 
-    before : (o : IsSeniorityOrder b.rights order) → IsSwept b month supply want o.place k (network c)
-        (λ a. slice_index f a) cuts
-    before o = swept_same b month supply want order o k (network c) (flow_of c) (λ a. slice_index f a) cuts kinds
-        now.net (now.swept o) (flow_kept c f s arc (min amount (slice_index f arc)) inside flow)
+    before : (o : IsSeniorityOrder b.rights order) → IsSwept b month supply want o.place k (network c) g cuts
+    before o = swept_same b month supply want order o k (network c) (flow_of c) g cuts kinds now.net (now.swept o)
+        (flow_kept c f s x inside flow)
 
-    is_amount : min amount (slice_index f arc) ≡ delivered_by b want (λ a. slice_index f a) r
-    is_amount = ap (λ x. min x (slice_index f arc)) amount_is
-        ∙ ap (λ a. min (slice_index want r) (slice_index f a)) arc_is
+    is_amount : min x.want (g arc) ≡ delivered_by b want g r
+    is_amount = ap (λ y. min y (g arc)) amount_is ∙ ap (λ a. min (slice_index want r) (g a)) arc_is
 
-    raised : slice_index (slice_set c.lower arc (max (slice_index c.lower arc) (min amount (slice_index f arc))))
-        (right_arc b r) ≡ max (slice_index c.lower (right_arc b r)) (min amount (slice_index f arc))
-    raised = subst (λ a. slice_index
-        (slice_set c.lower arc (max (slice_index c.lower arc) (min amount (slice_index f arc)))) a
-        ≡ max (slice_index c.lower a) (min amount (slice_index f arc))) arc_is
-        (get_or-set_same c.lower arc (max (slice_index c.lower arc) (min amount (slice_index f arc))) 0 inside)
+    raised : slice_index (held_lower c x g) (right_arc b r)
+        ≡ max (slice_index c.lower (right_arc b r)) (min x.want (g arc))
+    raised = subst (λ a. slice_index (held_lower c x g) a ≡ max (slice_index c.lower a) (min x.want (g arc))) arc_is
+        (get_or-set_same c.lower arc lower 0 inside)
 
     rest : (a : ℕ) → a < arc_count b → a ≢ right_arc b r →
-        slice_index (slice_set c.lower arc (max (slice_index c.lower arc) (min amount (slice_index f arc)))) a
-        ≡ slice_index c.lower a
-    rest a m ne = get_or-set_other c.lower arc a (max (slice_index c.lower arc) (min amount (slice_index f arc))) 0
-        (λ e. ne (e ∙ arc_is))
+        slice_index (held_lower c x g) a ≡ slice_index c.lower a
+    rest a m ne = get_or-set_other c.lower arc a lower 0 (λ e. ne (e ∙ arc_is))
 
-    others : ((amount ≤ slice_index f arc) × (after ≡ cuts))
-        ⊎ ((slice_index f arc < amount)
-        × ((cut : List Bool) × ((after ≡ with_set cuts r (Some cut))
-        × ((length cut ≡ c.nodes) × IsGreatestCut (network c) (λ a. slice_index f a) arc (has cut))))) →
-        (q : ℕ) → q < length b.rights → q ≢ r → set_of after q ≡ set_of cuts q
+    others : IsMetOrCut c g x cuts after → (q : ℕ) → q < length b.rights → q ≢ r → set_of after q ≡ set_of cuts q
     others (inl met) q m ne = ap (λ (d : CutSets). set_of d q) met.1
     others (inr short) q m ne = ap (λ (d : CutSets). set_of d q) short.1.1.0 ∙ set_of_other cuts r q (Some short.1.0) ne
 
-    nodes : ((amount ≤ slice_index f arc) × (after ≡ cuts))
-        ⊎ ((slice_index f arc < amount)
-        × ((cut : List Bool) × ((after ≡ with_set cuts r (Some cut))
-        × ((length cut ≡ c.nodes) × IsGreatestCut (network c) (λ a. slice_index f a) arc (has cut))))) →
-        after.nodes ≡ length b.nodes
+    nodes : IsMetOrCut c g x cuts after → after.nodes ≡ length b.nodes
     nodes (inl met) = ap (λ (d : CutSets). d.nodes) met.1 ∙ now.cut_nodes
     nodes (inr short) = ap (λ (d : CutSets). d.nodes) short.1.1.0 ∙ now.cut_nodes
 
-    rights : ((amount ≤ slice_index f arc) × (after ≡ cuts))
-        ⊎ ((slice_index f arc < amount)
-        × ((cut : List Bool) × ((after ≡ with_set cuts r (Some cut))
-        × ((length cut ≡ c.nodes) × IsGreatestCut (network c) (λ a. slice_index f a) arc (has cut))))) →
-        length after.sets ≡ length b.rights
+    rights : IsMetOrCut c g x cuts after → length after.sets ≡ length b.rights
     rights (inl met) = ap (λ (d : CutSets). length d.sets) met.1 ∙ now.cut_rights
     rights (inr short) = ap (λ (d : CutSets). length d.sets) short.1.1.0
         ∙ (length-set cuts.sets r (Some short.1.0) ∙ now.cut_rights)
 
-    settled : (o : IsSeniorityOrder b.rights order) →
-        ((amount ≤ slice_index f arc) × (after ≡ cuts))
-        ⊎ ((slice_index f arc < amount)
-        × ((cut : List Bool) × ((after ≡ with_set cuts r (Some cut))
-        × ((length cut ≡ c.nodes) × IsGreatestCut (network c) (λ a. slice_index f a) arc (has cut))))) →
-        IsMetOrReached b month supply want (deliveries_by b want (λ a. slice_index f a)) after r
+    settled : (o : IsSeniorityOrder b.rights order) → IsMetOrCut c g x cuts after →
+        IsMetOrReached b month supply want (deliveries_by b want g) after r
     settled o (inl met) = inl (
       let d = got b want g r (r_in o) in let m = met.0 in omega (arith, d, is_amount, amount_is),
       ap (λ (d : CutSets). set_of d r) met.1 ∙ (before o).others r (r_in o) (omega (arith, place_is o)),
     )
     settled o (inr short) =
-        let d : slice_index (deliveries_by b want g) r ≡ slice_index f arc = got b want g r (r_in o)
+        let d : slice_index (deliveries_by b want g) r ≡ g arc = got b want g r (r_in o)
         ∙ (let m = short.0 in omega (arith, is_amount)) in
         inr (
           let m = short.0 in omega (arith, d, amount_is),
@@ -222,21 +209,20 @@ served_next b month supply want order k r arc amount c f s cuts after kinds l at
                   ∙ set_of_with cuts r (Some short.1.0) (let n = now.cut_rights in omega (arith, r_in o)),
               greatest_reach b month supply want (deliveries_by b want g) (network c) g r short.1.0 now.net
                   (holds_seniors b order (deliveries_by b want g) o r k (network c) (r_in o) (place_is o)
-                  (before o).held) (r_in o) (kinds r (r_in o))
-                  (ap (slice_index f) (sym arc_is) ∙ sym d) (short.1.1.1.0 ∙ now.net.ends.nodes)
+                  (before o).held) (r_in o) (kinds r (r_in o)) (ap g (sym arc_is) ∙ sym d)
+                  (short.1.1.1.0 ∙ now.net.ends.nodes)
                   (subst (λ a. IsGreatestCut (network c) g a (has short.1.0)) arc_is short.1.1.1.1),
             ),
           ),
         )
 
-pub standing_next : {b : Basin} {month : Month} {supply want order : List ℕ} {k r arc amount : ℕ} {c new : Contents}
-    {cuts after : CutSets} → AreKinds b → k < length b.rights → r ≡ slice_index order k →
-    IsSeniorityOrder b.rights order → IsStanding b month supply want order k c cuts → arc ≡ right_arc b r →
-    amount ≡ slice_index want r → IsServed c new arc amount cuts after r → IsCirculation new →
+pub standing_next : {b : Basin} {month : Month} {supply want order : List ℕ} {k : ℕ} {x : Claim} {c new : Contents}
+    {cuts after : CutSets} → AreKinds b → k < length b.rights → x.right ≡ slice_index order k →
+    IsSeniorityOrder b.rights order → IsStanding b month supply want order k c cuts → x.arc ≡ right_arc b x.right →
+    x.want ≡ slice_index want x.right → IsServed c new x cuts after → IsCirculation new →
     IsStanding b month supply want order (k + 1) new after
-standing_next {b} {month} {supply} {want} {order} {k} {r} {arc} {amount} {c} {new} {cuts} {after} kinds l at order_is
-    now arc_is amount_is served kept =
-    subst (λ (x : Contents). IsStanding b month supply want order (k + 1) x after) (sym served.held)
-    (served_next b month supply want order k r arc amount c new.flow new.scratch cuts after kinds l at order_is now
-    arc_is amount_is
-    (subst (λ (x : Contents). IsFlow (network x) (flow_of new)) served.held kept.flow) served.outcome)
+standing_next {b} {month} {supply} {want} {order} {k} {x} {c} {new} {cuts} {after} kinds l at order_is now arc_is
+    amount_is served kept =
+    subst (λ (d : Contents). IsStanding b month supply want order (k + 1) d after) (sym served.held)
+    (served_next b month supply want order k x c new.flow new.scratch cuts after kinds l at order_is now arc_is
+    amount_is (subst (λ (d : Contents). IsFlow (network d) (flow_of new)) served.held kept.flow) served.outcome)

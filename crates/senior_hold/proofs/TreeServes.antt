@@ -5,7 +5,7 @@ use Rattle.std.proofs.lemmas.Bool.{cases_eq}
 use Rattle.std.proofs.lemmas.Bool.Decides.{nat_tests}
 use Rattle.std.proofs.lemmas.List.{length-set}
 use Rattle.std.proofs.lemmas.Grind.{same_number_lists}
-use Rattle.std.specs.Prelude.{slice_index, slice_set, max, min, nat_lt, ◌==◌, ◌&&◌, Some}
+use Rattle.std.specs.Prelude.{slice_index, max, min, nat_lt, ◌==◌, ◌&&◌, Some}
 use mathlib.Core.Path.{fun_ext}
 use Rattle.water_model.specs.CutSets.{CutSets, with_set}
 use Rattle.water_model.specs.Lookups.{has}
@@ -15,7 +15,8 @@ use Rattle.residual_tree.specs.Raised.{IsRaisedOver}
 use Rattle.residual_tree.specs.Tree.{label_of, unlabeled}
 use Rattle.residual_tree.proofs.Reaches.{cut_stays_when_held_lem}
 use Rattle.senior_hold.specs.MonthNetwork.{list_of, IsMonthNetwork}
-use Rattle.senior_hold.specs.Serving.{IsServed}
+use Rattle.senior_hold.specs.Serving.{IsServed, IsTreeRaise, held_lower}
+use Rattle.senior_hold.specs.declared.serving.Claim.{Claim}
 use Rattle.senior_hold.proofs.Bridge.{has_list}
 use Rattle.senior_hold.proofs.Marks.{list_size}
 use Rattle.senior_hold.proofs.Solves.{changed, net_kept}
@@ -31,52 +32,44 @@ raised_net {b} {month} {supply} {want} {old} {new} {r} raised net =
     (net_kept b month supply want old new.flow new.scratch new.lower net)
 
 -- a raise holds what the arc has then
-pub raised_lower : (old mid : Contents) (arc want : ℕ) → IsCirculation old → IsCirculation mid →
-    IsRaisedOver old mid arc → arc < arcs old → flow_of mid arc ≡ slice_index mid.lower arc →
-    flow_of old arc ≤ flow_of mid arc → flow_of mid arc ≤ want →
-    mid.lower ≡ slice_set old.lower arc (max (slice_index old.lower arc) (min want (flow_of mid arc)))
-raised_lower old mid arc want kept_old kept_mid raised l held rises limit =
-    same_number_lists mid.lower (slice_set old.lower arc x) (size ∙ sym (length-set old.lower arc x))
-    (λ a m. elim (cases_eq a arc) [
+raised_lower : (old mid : Contents) (x : Claim) → IsCirculation old → IsTreeRaise old mid x → x.arc < arcs old →
+    mid.lower ≡ held_lower old x (flow_of mid)
+raised_lower old mid x kept raised l =
+    same_number_lists mid.lower (held_lower old x (flow_of mid)) (size ∙ sym (length-set old.lower x.arc y))
+    (λ a m. elim (cases_eq a x.arc) [
       | inl e ↦ ap (slice_index mid.lower) e
-          ∙ (here ∙ (sym (get_or-set_same old.lower arc x 0 inside)
-          ∙ sym (ap (slice_index (slice_set old.lower arc x)) e)))
-      | inr ne ↦ raised.lowers a ne ∙ sym (get_or-set_other old.lower arc a x 0 ne)
+          ∙ (here ∙ (sym (get_or-set_same old.lower x.arc y 0 inside)
+          ∙ sym (ap (slice_index (held_lower old x (flow_of mid))) e)))
+      | inr ne ↦ raised.rest.lowers a ne ∙ sym (get_or-set_other old.lower x.arc a y 0 ne)
     ])
   where
-    x : ℕ
-    x = max (slice_index old.lower arc) (min want (flow_of mid arc))
+    y : ℕ
+    y = max (slice_index old.lower x.arc) (min x.want (flow_of mid x.arc))
 
-    inside : arc < length old.lower
-    inside = let n = kept_old.shape.lower in omega arith
+    inside : x.arc < length old.lower
+    inside = let n = kept.shape.lower in omega arith
 
     size : length mid.lower ≡ length old.lower
-    size = kept_mid.shape.lower ∙ (ap (λ (x : Contents). length x.from) raised.rest ∙ sym kept_old.shape.lower)
+    size = raised.kept.shape.lower ∙ (ap (λ (c : Contents). length c.from) raised.rest.rest ∙ sym kept.shape.lower)
 
-    here : slice_index mid.lower arc ≡ x
-    here = let low = kept_old.flow.low arc l in omega arith
+    here : slice_index mid.lower x.arc ≡ y
+    here = let low = kept.flow.low x.arc l in omega (arith, raised.held, raised.rises, raised.limit)
 
 -- the contents after a raise, and after scratch words changed
-pub raised_held : (old mid new : Contents) (arc want : ℕ) → IsCirculation old → IsCirculation mid →
-    IsRaisedOver old mid arc → arc < arcs old → flow_of mid arc ≡ slice_index mid.lower arc →
-    flow_of old arc ≤ flow_of mid arc → flow_of mid arc ≤ want → SameButScratch mid new →
-    new ≡ changed old new.flow new.scratch
-    (slice_set old.lower arc (max (slice_index old.lower arc) (min want (flow_of new arc))))
-raised_held old mid new arc want kept_old kept_mid raised l held rises limit scratch =
-    scratch ∙ (ap (λ (x : Contents). let y : Contents = record x { scratch = new.scratch } in y) raised.rest
-    ∙ (ap (λ (xs : List ℕ). changed old mid.flow new.scratch xs)
-    (raised_lower old mid arc want kept_old kept_mid raised l held rises limit)
-    ∙ ap (λ (f : List ℕ). changed old f new.scratch
-    (slice_set old.lower arc (max (slice_index old.lower arc) (min want (slice_index f arc))))) flow))
+raised_held : (old mid new : Contents) (x : Claim) → IsCirculation old → IsTreeRaise old mid x → x.arc < arcs old →
+    SameButScratch mid new → new ≡ changed old new.flow new.scratch (held_lower old x (flow_of new))
+raised_held old mid new x kept raised l scratch =
+    scratch ∙ (ap (λ (c : Contents). let d : Contents = record c { scratch = new.scratch } in d) raised.rest.rest
+    ∙ (ap (λ (xs : List ℕ). changed old mid.flow new.scratch xs) (raised_lower old mid x kept raised l)
+    ∙ ap (λ (f : List ℕ). changed old f new.scratch (held_lower old x (slice_index f))) flow))
   where
     flow : mid.flow ≡ new.flow
-    flow = sym (ap (λ (x : Contents). x.flow) scratch)
+    flow = sym (ap (λ (c : Contents). c.flow) scratch)
 
-pub served_full : (old mid : Contents) (arc want : ℕ) (cuts : CutSets) (right : ℕ) → IsCirculation old →
-    IsCirculation mid → IsRaisedOver old mid arc → arc < arcs old → flow_of mid arc ≡ slice_index mid.lower arc →
-    flow_of old arc ≤ flow_of mid arc → flow_of mid arc ≡ want → IsServed old mid arc want cuts cuts right
-served_full old mid arc want cuts right kept_old kept_mid raised l held rises met = record {
-  held = raised_held old mid mid arc want kept_old kept_mid raised l held rises (omega arith) refl;
+pub served_full : {old mid : Contents} {x : Claim} {cuts : CutSets} → IsCirculation old → IsTreeRaise old mid x →
+    x.arc < arcs old → flow_of mid x.arc ≡ x.want → IsServed old mid x cuts cuts
+served_full {old} {mid} {x} {cuts} kept raised l met = record {
+  held = raised_held old mid mid x kept raised l refl;
   outcome = inl (omega arith, refl);
 }
 
@@ -87,35 +80,29 @@ unlabeled_list c labels = fun_ext
     outside : (v n p : ℕ) → n ≤ v → nat_lt v n && (p == 0) ≡ false
     outside v n p l = grind (arith, nat_tests)
 
-pub served_unlabeled : (old mid new : Contents) (labels : List ℕ) (arc want : ℕ) (cuts after : CutSets) (right : ℕ) →
-    IsCirculation old → IsCirculation mid → IsRaisedOver old mid arc → arc < arcs old →
-    flow_of mid arc ≡ slice_index mid.lower arc → flow_of old arc ≤ flow_of mid arc → flow_of mid arc ≤ want →
-    flow_of mid arc ≢ want → SameButScratch mid new → IsGreatestCut (network mid) (flow_of mid) arc
-    (unlabeled mid labels) →
-    after ≡ with_set cuts right (Some (list_of mid.nodes (unlabeled mid labels))) →
-    IsServed old new arc want cuts after right
-served_unlabeled old mid new labels arc want cuts after right kept_old kept_mid raised l held rises limit short scratch
-    greatest
-    done = record {
-      held = raised_held old mid new arc want kept_old kept_mid raised l held rises limit scratch;
+pub served_unlabeled : {old mid new : Contents} (labels : List ℕ) {x : Claim} {cuts after : CutSets} →
+    IsCirculation old → IsTreeRaise old mid x → x.arc < arcs old → flow_of mid x.arc ≢ x.want → SameButScratch mid new →
+    IsGreatestCut (network mid) (flow_of mid) x.arc (unlabeled mid labels) →
+    after ≡ with_set cuts x.right (Some (list_of mid.nodes (unlabeled mid labels))) → IsServed old new x cuts after
+served_unlabeled {old} {mid} {new} labels {x} {cuts} {after} kept raised l short scratch greatest done =
+    let cut = list_of mid.nodes (unlabeled mid labels) in
+    let flow : flow_of new ≡ flow_of mid = ap (λ (c : Contents). flow_of c) scratch in
+    record {
+      held = raised_held old mid new x kept raised l scratch;
       outcome = inr (
-        let e = ap (λ (f : ℕ → ℕ). f arc) flow in omega arith,
+        let e = ap (λ (f : ℕ → ℕ). f x.arc) flow in omega (arith, raised.limit),
         (
-          list_of mid.nodes (unlabeled mid labels),
+          cut,
           (
             done,
             (
-              list_size mid.nodes (unlabeled mid labels) ∙ ap (λ (x : Contents). x.nodes) raised.rest,
-              subst (λ (g : ℕ → ℕ). IsGreatestCut (network old) g arc (has (list_of mid.nodes (unlabeled mid labels))))
-                  (sym flow)
-                  (subst (λ (y : ℕ → Bool). IsGreatestCut (network old) (flow_of mid) arc y)
+              list_size mid.nodes (unlabeled mid labels) ∙ ap (λ (c : Contents). c.nodes) raised.rest.rest,
+              subst (λ (g : ℕ → ℕ). IsGreatestCut (network old) g x.arc (has cut)) (sym flow)
+                  (subst (λ (y : ℕ → Bool). IsGreatestCut (network old) (flow_of mid) x.arc y)
                   (sym (unlabeled_list mid labels))
-                  (cut_stays_when_held_lem old mid arc (unlabeled mid labels) raised greatest)),
+                  (cut_stays_when_held_lem old mid x.arc (unlabeled mid labels) raised.rest greatest)),
             ),
           ),
         ),
       );
     }
-  where
-    flow : flow_of new ≡ flow_of mid
-    flow = ap (λ (x : Contents). flow_of x) scratch

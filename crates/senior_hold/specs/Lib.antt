@@ -4,6 +4,7 @@ pub mod Solved
 pub mod Serving
 pub mod Spilled
 pub mod Layouts
+pub mod Givens
 pub mod Places
 pub mod Solver
 pub mod Laws

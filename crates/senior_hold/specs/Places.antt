@@ -21,11 +21,6 @@ pub record HasArcs (b : Basin) (circ : Circulation) (kept moved : List ℕ) : Ty
   pub ends : HasBasinEnds (spilled b) (network contents)
   pub count : length moved ≡ word_count circ.nodes circ.arcs - fixed_count circ.nodes circ.arcs
 
--- and there are the words of a tree
-pub record HasParts (b : Basin) (circ : Circulation) (fixed moving tree : List ℕ) : Type 0 where
-  pub arcs : HasArcs b circ fixed moving
-  pub size : length tree ≡ tree_words (length b.nodes)
-
 -- the region holds the basin's arcs, and after them lies the tree
 pub record HasPlaces (b : Basin) (r : Words) (p : Places) : Type 0 where
   pub contents : Contents

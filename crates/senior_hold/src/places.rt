@@ -1,25 +1,22 @@
 //! Where the circulation and the residual tree of a solver lie: in two places of one region of words, of which a month
 //! borrows both.
-ghost use Rattle.std.specs.Prelude.{◌≡◌, ◌+◌, ◌*◌, ◌<◌, ◌≤◌, length, replicate};
-ghost use Rattle.water_text.specs.Months.{IsMonth};
-ghost use Rattle.water_model.specs.Plans.{IsPlan};
+ghost use Rattle.std.specs.Prelude.{◌≡◌, length, replicate};
 ghost use Rattle.water_model.specs.Valid.{IsValidBasin};
 ghost use Rattle.senior_hold.specs.MonthNetwork.{arc_count};
 ghost use Rattle.senior_hold.specs.Arcs.{AreEnds};
-ghost use Rattle.senior_hold.specs.Solved.{FitsPlan, FitsCuts, IsGiven, IsSolved};
-ghost use Rattle.senior_hold.specs.Layouts.{IsLayout, FitsRoom};
 ghost use Rattle.senior_hold.specs.Spilled.{spilled};
+ghost use Rattle.senior_hold.specs.Givens.{IsGivens, CanBegin, IsSweep};
+ghost use Rattle.senior_hold.specs.Layouts.{FitsRoom};
 ghost use Rattle.senior_hold.specs.Places.{month_words, HasPlaces};
 
-use crate::solver::{Layout, Room};
-use crate::sweep::{Method, Sweep, sweep_month};
+use crate::solver::Room;
+use crate::sweep::{Givens, Sweep, sweep_month};
 use circulation::{Circulation, Ends, words};
 use residual_tree::tree_words;
 use std::sync::ledger::Ledger;
 use steps::Steps;
 use water_model::cut_list::CutList;
 use water_model::types::{Basin, Plan};
-use water_text::month::Month;
 use word_region::{Full, Place, Region};
 
 /// The circulation's place, and the tree's, which follows it.
@@ -62,38 +59,21 @@ pub fn open_places(basin: &Basin, ends: &[Ends], region: &mut Region) -> Places
 
 /// Sweeps a month in the words of a region.
 pub fn sweep<L: Ledger>(
-    method: Method,
-    basin: &Basin,
-    layout: &Layout,
+    givens: &Givens,
     room: &mut Room,
     region: &mut Region,
     places: &Places,
-    month: Month,
-    supply: &[u64],
-    want: &[u64],
     plan: &mut Plan,
     cuts: &mut CutList,
     searches: &mut Steps<L>,
 ) -> Sweep
-    requires valid { IsValidBasin basin.now }
-    requires layout { IsLayout basin.now layout.now }
-    requires room { FitsRoom basin.now room.old }
-    requires places { HasPlaces basin.now region.old places.now }
-    requires month { IsMonth month }
-    requires given { IsGiven basin.now month supply.now want.now plan.old cuts.old }
-    requires plan { method ≡ Method.Searches → IsPlan basin.now month supply.now want.now plan.old }
-    requires some { method ≡ Method.Searches → 0 < length basin.now.rights }
-    ensures room { FitsRoom basin.now room.new }
-    ensures places { HasPlaces basin.now region.new places.now }
-    ensures fits { FitsPlan basin.now plan.new }
-    ensures cuts { FitsCuts basin.now cuts.new }
-    ensures plan { IsPlan basin.now month supply.now want.now plan.new }
-    ensures solved { result ≡ Sweep.Solved → IsSolved basin.now month supply.now want.now plan.new cuts.new }
-    ensures pushes { method ≡ Method.Tree → searches.new ≤ searches.old + 30 * length basin.now.rights }
-    ensures gave_up { result ≡ Sweep.GaveUp → searches.old + 29 * length basin.now.rights < searches.new }
-    ensures searched { method ≡ Method.Searches → result ≡ Sweep.Solved }
-    ensures search_pushes { method ≡ Method.Searches →
-        searches.new ≤ searches.old + length basin.now.rights * (30 * (2 * arc_count basin.now + 1)) }
+    requires givens { IsGivens givens.now }
+    requires room { FitsRoom givens.now.basin.now room.old }
+    requires places { HasPlaces givens.now.basin.now region.old places.now }
+    requires begin { CanBegin givens.now plan.old cuts.old }
+    ensures room { FitsRoom givens.now.basin.now room.new }
+    ensures places { HasPlaces givens.now.basin.now region.new places.now }
+    ensures swept { IsSweep givens.now plan.new cuts.new searches.old searches.new result }
 {
     let circ = &places.circ;
     let both = Place {
@@ -104,7 +84,6 @@ pub fn sweep<L: Ledger>(
     let (held, tree) = words.split_at_mut(circ.place.len);
     let (fixed, moving) = held.split_at_mut(circ.fixed());
     sweep_month(
-        method, basin, layout, room, circ, fixed, moving, tree, month, supply, want, plan, cuts,
-        searches,
+        givens, room, circ, fixed, moving, tree, plan, cuts, searches,
     )
 }

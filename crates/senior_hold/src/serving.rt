@@ -1,16 +1,30 @@
 //! One right's turn.
-ghost use Rattle.std.specs.Prelude.{◌≡◌, ◌+◌, ◌*◌, ◌^◌, ◌<◌, ◌≤◌, length, slice_index, replicate, false, Some, None};
+ghost use Rattle.std.specs.Prelude.{◌≡◌, ◌⊎◌, ◌+◌, ◌*◌, ◌<◌, ◌≤◌, length, replicate, false, Some};
 ghost use Rattle.water_model.specs.CutSets.{set_of, with_set};
-ghost use Rattle.circulation.specs.Contents.{network, arcs, IsCirculation};
+ghost use Rattle.circulation.specs.Contents.{network, IsCirculation};
 ghost use Rattle.augment.specs.Raised.{HasPathOut, open_arcs, not_reached};
+ghost use Rattle.residual_tree.specs.Raised.{IsRaisedOver};
+ghost use Rattle.residual_tree.specs.Tree.{IsResidualTree};
 ghost use Rattle.senior_hold.specs.MonthNetwork.{list_of};
-ghost use Rattle.senior_hold.specs.Serving.{IsServed, KeepsShape};
+ghost use Rattle.senior_hold.specs.Serving.{IsClaim, IsServed, KeepsShape, FillsExit, CanHaveSet};
 
+use crate::sweep::Method;
+use crate::tree_raises::raise_fully;
 use augment::{Raised, raise, reached};
 use circulation::CirculationMut;
+use residual_tree::{ResidualTree, TreeRaised};
 use std::sync::ledger::Ledger;
 use steps::Steps;
 use water_model::cut_list::CutList;
+
+/// What a right wants on its arc, and an arc from the head of that to the outside, unless the head is the outside.
+#[derive(Clone, Copy)]
+pub struct Claim {
+    pub right: u32,
+    pub arc: u32,
+    pub exit: u32,
+    pub want: u64,
+}
 
 /// Adds to a right's empty set the nodes that the last search did not reach.
 fn mark(circ: &CirculationMut<'_>, right: u32, cuts: &mut CutList)
@@ -28,26 +42,26 @@ fn mark(circ: &CirculationMut<'_>, right: u32, cuts: &mut CutList)
 
 /// Raises a right's arc to its want, or as far as it can be; gives a right that stays short the greatest tight cut of
 /// its arc; and holds what the arc has of the want.
-pub fn serve<L: Ledger>(
+fn serve<L: Ledger>(
     circ: &mut CirculationMut<'_>,
-    arc: u32,
-    want: u64,
-    right: u32,
+    claim: Claim,
     cuts: &mut CutList,
     searches: &mut Steps<L>,
 )
-    requires arc { arc < arcs circ.old }
-    requires want { want ≤ slice_index circ.old.upper arc }
-    requires limit { want ≤ 10 ^ 9 }
-    requires path_out { HasPathOut (network circ.old) arc }
-    requires right { right < length cuts.old.sets }
-    requires nodes { cuts.old.nodes ≡ circ.old.nodes }
-    requires free { set_of cuts.old right ≡ None }
-    ensures served { IsServed circ.old circ.new arc want cuts.old cuts.new right }
+    requires claim { IsClaim circ.old claim }
+    requires set { CanHaveSet circ.old cuts.old claim }
+    requires path_out { HasPathOut (network circ.old) claim.arc }
+    ensures served { IsServed circ.old circ.new claim cuts.old cuts.new }
     ensures kept { IsCirculation circ.new }
     ensures shape { KeepsShape cuts.old cuts.new }
     ensures cost { searches.new ≤ searches.old + 30 * (2 * open_arcs (network circ.old) + 1) }
 {
+    let Claim {
+        right,
+        arc,
+        want,
+        ..
+    } = claim;
     let raised = raise(circ, arc, want, searches);
     if raised == Raised::Stopped {
         cuts.begin(right);
@@ -55,4 +69,66 @@ pub fn serve<L: Ledger>(
     }
     let got = want.min(circ.flow(arc));
     circ.hold(arc, got);
+}
+
+/// What a turn came to.
+#[derive(Clone, Copy, Debug, PartialEq, Eq)]
+pub enum Turn {
+    /// The right is served.
+    Served,
+    /// The pushes were used up.
+    GaveUp,
+}
+
+/// Serves a right as `serve` does, by a method. By the tree it makes at most `left` pushes, and takes from `left` what
+/// it used: at most one more than it pushed. It gives up after `left` pushes. Both hold unless the exit got full on the
+/// way. By searches it always ends.
+pub fn serve_by<L: Ledger>(
+    method: Method,
+    circ: &mut CirculationMut<'_>,
+    tree: &mut ResidualTree<'_>,
+    claim: Claim,
+    cuts: &mut CutList,
+    left: &mut u32,
+    searches: &mut Steps<L>,
+) -> Turn
+    requires claim { IsClaim circ.old claim }
+    requires set { CanHaveSet circ.old cuts.old claim }
+    requires tree { method ≡ Method.Tree → IsResidualTree circ.old tree.old }
+    requires path_out { method ≡ Method.Searches → HasPathOut (network circ.old) claim.arc }
+    ensures served { result ≡ Turn.Served → IsServed circ.old circ.new claim cuts.old cuts.new }
+    ensures tree { method ≡ Method.Tree → result ≡ Turn.Served → IsResidualTree circ.new tree.new }
+    ensures raised { result ≡ Turn.GaveUp → IsRaisedOver circ.old circ.new claim.arc }
+    ensures kept { IsCirculation circ.new }
+    ensures shape { KeepsShape cuts.old cuts.new }
+    ensures cost { method ≡ Method.Tree → searches.new + left.new ≤ searches.old + left.old }
+    ensures used { method ≡ Method.Tree →
+        (searches.old + left.old ≤ searches.new + left.new + 1) ⊎ FillsExit circ.old claim }
+    ensures gave_up { result ≡ Turn.GaveUp → (searches.old + left.old ≤ searches.new) ⊎ FillsExit circ.old claim }
+    ensures searched { method ≡ Method.Searches → result ≡ Turn.Served }
+    ensures search_cost { method ≡ Method.Searches →
+        searches.new ≤ searches.old + 30 * (2 * open_arcs (network circ.old) + 1) }
+{
+    match method {
+        Method::Searches => {
+            serve(circ, claim, cuts, searches);
+            Turn::Served
+        }
+        Method::Tree => {
+            if claim.want <= circ.flow(claim.arc) {
+                tree.hold(circ, claim.arc, claim.want);
+                return Turn::Served;
+            }
+            match raise_fully(circ, tree, claim, left, searches) {
+                TreeRaised::Met => Turn::Served,
+                TreeRaised::Unfinished => Turn::GaveUp,
+                TreeRaised::Stopped => {
+                    // The unlabeled nodes are the greatest tight cut of the arc.
+                    cuts.begin_with(claim.right, tree.unlabeled_marks());
+                    tree.drop_artificial(circ, claim.exit);
+                    Turn::Served
+                }
+            }
+        }
+    }
 }

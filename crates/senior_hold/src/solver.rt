@@ -16,7 +16,7 @@ ghost use Rattle.senior_hold.specs.Spilled.{spilled};
 
 use crate::arcs::{Arcs, arcs_of, ends_of_arcs};
 use crate::places::{Places, open_places, sweep, words_of};
-use crate::sweep::{Method, Sweep};
+use crate::sweep::{Givens, Method, Sweep};
 use rights_roll::roll::Roll;
 use river_net::Net;
 use rivers_first::Rounds;
@@ -132,12 +132,12 @@ impl<'b> Solver<'b> {
     /// Solves a month as `solve_month` does, by one method. By the tree it makes at most 30 pushes for each right on
     /// average, and GaveUp comes only after more than 29 for each: then the plan is one of the month, and the sets say
     /// nothing of it. By searches it begins with the plan, and always ends.
-    pub fn sweep<L: Ledger>(
+    pub fn sweep<'m, L: Ledger>(
         &mut self,
         method: Method,
         month: Month,
-        supply: &[u64],
-        want: &[u64],
+        supply: &'m [u64],
+        want: &'m [u64],
         plan: &mut Plan,
         cuts: &mut CutList,
         searches: &mut Steps<L>,
@@ -157,46 +157,28 @@ impl<'b> Solver<'b> {
         ensures search_pushes { method ≡ Method.Searches →
             searches.new ≤ searches.old + length self.old.rights * (30 * (2 * arc_count self.old + 1)) }
     {
-        sweep(
+        let givens = Givens {
             method,
-            self.basin,
-            &self.layout,
-            &mut self.room,
-            &mut self.region,
-            &self.places,
+            basin: self.basin,
+            layout: &self.layout,
             month,
             supply,
             want,
+        };
+        let swept = sweep(
+            &givens,
+            &mut self.room,
+            &mut self.region,
+            &self.places,
             plan,
             cuts,
             searches,
-        )
-    }
-
-    /// Finds a plan for a month as `solve_month` does, by the tree if its pushes last, and else by searches from where
-    /// the tree came.
-    fn find_plan<L: Ledger>(
-        &mut self,
-        month: Month,
-        supply: &[u64],
-        want: &[u64],
-        plan: &mut Plan,
-        cuts: &mut CutList,
-        searches: &mut Steps<L>,
-    )
-        requires month { IsMonth month }
-        requires given { IsGiven self.old month supply.now want.now plan.old cuts.old }
-        ensures same { self.new ≡ self.old }
-        ensures plan { FitsPlan self.old plan.new }
-        ensures cuts { FitsCuts self.old cuts.new }
-        ensures solved { IsSolved self.old month supply.now want.now plan.new cuts.new }
-        ensures pushes { searches.new ≤ searches.old + month_pushes self.old }
-    {
-        let swept = self.sweep(Method::Tree, month, supply, want, plan, cuts, searches);
-        if swept == Sweep::GaveUp {
-            cuts.clear();
-            self.sweep(Method::Searches, month, supply, want, plan, cuts, searches);
+        );
+        if swept == Sweep::GaveUp || self.basin.rights.len() == 0 {
+            return swept;
         }
+        self.rounds.prefer_rivers(want, plan);
+        swept
     }
 
     /// Writes the plan of a month that serves seniors first, and gives each right that is short its reach as its set.
@@ -220,9 +202,10 @@ impl<'b> Solver<'b> {
         ensures solved { IsSolved self.old month supply.now want.now plan.new cuts.new }
         ensures pushes { searches.new ≤ searches.old + month_pushes self.old }
     {
-        self.find_plan(month, supply, want, plan, cuts, searches);
-        if self.basin.rights.len() > 0 {
-            self.rounds.prefer_rivers(want, plan);
+        let swept = self.sweep(Method::Tree, month, supply, want, plan, cuts, searches);
+        if swept == Sweep::GaveUp {
+            cuts.clear();
+            self.sweep(Method::Searches, month, supply, want, plan, cuts, searches);
         }
     }
 }

@@ -3,32 +3,27 @@
 //! By the tree, water stays where it rises: a month begins with nothing on the links and each node's supply on its
 //! spill. By searches a month goes on from a plan, and only outlets let water out. What is left on the spills at the
 //! end runs down the rivers. No delivery changes by that, as a tight cut bounds every plan.
-ghost use Rattle.std.specs.Prelude.{◌≡◌, ◌⊎◌, ℕ, ◌+◌, ◌*◌, ◌^◌, ◌<◌, ◌≤◌, length, slice_index, None};
-ghost use Rattle.water_text.specs.Months.{IsMonth};
-ghost use Rattle.water_text.specs.declared.month.Month.{Month};
-ghost use Rattle.water_model.specs.CutSets.{set_of};
+ghost use Rattle.std.specs.Prelude.{◌≡◌, ℕ, ◌+◌, ◌*◌, ◌^◌, ◌<◌, ◌≤◌, length, slice_index};
 ghost use Rattle.water_model.specs.Plans.{IsPlan};
-ghost use Rattle.water_model.specs.Valid.{IsValidBasin};
-ghost use Rattle.circulation.specs.Contents.{network, flow_of, arcs, IsCirculation};
-ghost use Rattle.augment.specs.Raised.{HasPathOut, open_arcs};
-ghost use Rattle.residual_tree.specs.Raised.{IsExit, IsRaisedOver};
-ghost use Rattle.residual_tree.specs.Tree.{IsResidualTree};
+ghost use Rattle.circulation.specs.Contents.{network, flow_of, arcs};
+ghost use Rattle.residual_tree.specs.Raised.{IsExit};
+ghost use Rattle.residual_tree.specs.TreeWords.{tree_words};
 ghost use Rattle.river_net.specs.Net.{total_of};
-ghost use Rattle.senior_hold.specs.MonthNetwork.{HasBasinEnds, arc_count};
+ghost use Rattle.senior_hold.specs.MonthNetwork.{HasBasinEnds, IsMonthNetwork, right_arc, spill_arc};
 ghost use Rattle.senior_hold.specs.Arcs.{AreBounds};
-ghost use Rattle.senior_hold.specs.Serving.{IsServed, KeepsShape, FillsExit};
-ghost use Rattle.senior_hold.specs.Solved.{FitsPlan, FitsCuts, AreSupplies, AreWants, IsGiven, IsSolved};
-ghost use Rattle.senior_hold.specs.Layouts.{IsLayout, FitsRoom};
-ghost use Rattle.senior_hold.specs.Places.{HasArcs, HasParts};
+ghost use Rattle.senior_hold.specs.Serving.{IsClaim};
+ghost use Rattle.senior_hold.specs.Solved.{FitsPlan};
+ghost use Rattle.senior_hold.specs.Layouts.{FitsRoom};
+ghost use Rattle.senior_hold.specs.Givens.{IsGivens, CanBegin, IsSweep};
+ghost use Rattle.senior_hold.specs.Places.{HasArcs};
 ghost use Rattle.senior_hold.specs.Spilled.{spilled, spills_of, spill_most, HasSpills, IsBegun};
 ghost use Rattle.senior_hold.specs.Spilled.{IsSpilledStart, IsSettledPlan};
 
 use crate::amounts::{
     RIVER_CARRY, lay, read_links, read_spills, read_takes, write_bounds, write_outlets,
 };
-use crate::serving::serve;
+use crate::serving::{Claim, Turn, serve_by};
 use crate::solver::{Layout, Room};
-use crate::tree_raises::{Turn, serve_by_tree};
 use circulation::{Circulation, CirculationMut};
 use residual_tree::ResidualTree;
 use std::sync::ledger::Ledger;
@@ -49,6 +44,17 @@ pub enum Method {
     Searches,
 }
 
+/// What a month's plan is sought for, and by which method. Supplies are indexed by node, wants by right.
+#[derive(Drop)]
+pub struct Givens<'b, 's, 'm> {
+    pub method: Method,
+    pub basin: &'b Basin,
+    pub layout: &'s Layout,
+    pub month: Month,
+    pub supply: &'m [u64],
+    pub want: &'m [u64],
+}
+
 /// Writes the most that each node may spill.
 fn write_spills(method: Method, basin: &Basin, most: &mut [u64])
     requires { length most.old ≡ length basin.now.nodes }
@@ -61,29 +67,19 @@ fn write_spills(method: Method, basin: &Basin, most: &mut [u64])
 }
 
 /// Writes the bounds of a month.
-fn write_uppers(
-    method: Method,
-    basin: &Basin,
-    layout: &Layout,
-    room: &mut Room,
-    month: Month,
-    want: &[u64],
-)
-    requires valid { IsValidBasin basin.now }
-    requires layout { IsLayout basin.now layout.now }
-    requires room { FitsRoom basin.now room.old }
-    requires month { IsMonth month }
-    requires want { length want.now ≡ length basin.now.rights }
-    ensures room { FitsRoom basin.now room.new }
-    ensures bounds { AreBounds (spilled basin.now) month want.now (spill_most basin.now method)
-        (slice_index room.new.upper.items) }
+fn write_uppers(givens: &Givens, room: &mut Room)
+    requires givens { IsGivens givens.now }
+    requires room { FitsRoom givens.now.basin.now room.old }
+    ensures room { FitsRoom givens.now.basin.now room.new }
+    ensures bounds { let g = givens.now in AreBounds (spilled g.basin.now) g.month g.want.now
+        (spill_most g.basin.now g.method) (slice_index room.new.upper.items) }
 {
-    write_spills(method, basin, room.most.out.as_mut_slice());
+    write_spills(givens.method, givens.basin, room.most.out.as_mut_slice());
     write_bounds(
-        basin,
-        &layout.arcs,
-        month,
-        want,
+        givens.basin,
+        &givens.layout.arcs,
+        givens.month,
+        givens.want,
         room.most.out.as_slice(),
         &mut room.upper,
     );
@@ -92,36 +88,29 @@ fn write_uppers(
 /// Starts a month with no arc held: by the tree with all supply spilled where it comes in, by searches from the plan.
 /// The words that change may hold anything.
 fn begin<'r>(
-    method: Method,
-    basin: &Basin,
-    layout: &Layout,
+    givens: &Givens,
     room: &mut Room,
     held: &Circulation,
     fixed: &'r [u64],
     moving: &'r mut [u64],
-    month: Month,
-    supply: &[u64],
-    want: &[u64],
     plan: &Plan,
 ) -> CirculationMut<'r>
-    requires valid { IsValidBasin basin.now }
-    requires layout { IsLayout basin.now layout.now }
-    requires room { FitsRoom basin.now room.old }
-    requires arcs { HasArcs basin.now held.now fixed.now moving.old }
-    requires month { IsMonth month }
-    requires supply { AreSupplies basin.now supply.now }
-    requires want { AreWants basin.now month want.now }
-    requires plan { method ≡ Method.Searches → IsPlan basin.now month supply.now want.now plan.now }
-    ensures room { FitsRoom basin.now room.new }
-    ensures begun { IsBegun basin.now method month supply.now want.now result }
-    ensures start { method ≡ Method.Tree → IsSpilledStart basin.now supply.now result }
+    requires givens { IsGivens givens.now }
+    requires room { FitsRoom givens.now.basin.now room.old }
+    requires arcs { HasArcs givens.now.basin.now held.now fixed.now moving.old }
+    requires plan { let g = givens.now in
+        g.method ≡ Method.Searches → IsPlan g.basin.now g.month g.supply.now g.want.now plan.now }
+    ensures room { FitsRoom givens.now.basin.now room.new }
+    ensures begun { let g = givens.now in IsBegun g.basin.now g.method g.month g.supply.now g.want.now result }
+    ensures start { let g = givens.now in g.method ≡ Method.Tree → IsSpilledStart g.basin.now g.supply.now result }
 {
-    write_uppers(method, basin, layout, room, month, want);
-    match method {
+    write_uppers(givens, room);
+    let supply = givens.supply;
+    match givens.method {
         // The spills are the last arcs, in the order of the nodes.
         Method::Tree => held.lend_month(fixed, moving, supply, &room.upper, supply),
         Method::Searches => {
-            lay(basin, &layout.arcs, plan, &mut room.start);
+            lay(givens.basin, &givens.layout.arcs, plan, &mut room.start);
             held.lend_month(fixed, moving, supply, &room.upper, &room.start)
         }
     }
@@ -145,48 +134,28 @@ fn exit_of(circ: &CirculationMut<'_>, first: u32, arc: u32) -> u32
     }
 }
 
-/// Serves a right by a method: as `serve_by_tree` does, or as `serve` does, which always ends.
-fn serve_by<L: Ledger>(
-    method: Method,
-    circ: &mut CirculationMut<'_>,
-    tree: &mut ResidualTree<'_>,
-    arc: u32,
-    exit: u32,
-    want: u64,
-    right: u32,
-    cuts: &mut CutList,
-    left: &mut u32,
-    searches: &mut Steps<L>,
-) -> Turn
-    requires arc { arc < arcs circ.old }
-    requires want { want ≤ slice_index circ.old.upper arc }
-    requires limit { want ≤ 10 ^ 9 }
-    requires exit_arc { exit < arcs circ.old }
-    requires exit { IsExit circ.old arc exit }
-    requires tree { method ≡ Method.Tree → IsResidualTree circ.old tree.old }
-    requires path_out { method ≡ Method.Searches → HasPathOut (network circ.old) arc }
-    requires right { right < length cuts.old.sets }
-    requires nodes { cuts.old.nodes ≡ circ.old.nodes }
-    requires free { set_of cuts.old right ≡ None }
-    ensures served { result ≡ Turn.Served → IsServed circ.old circ.new arc want cuts.old cuts.new right }
-    ensures tree { method ≡ Method.Tree → result ≡ Turn.Served → IsResidualTree circ.new tree.new }
-    ensures raised { result ≡ Turn.GaveUp → IsRaisedOver circ.old circ.new arc }
-    ensures kept { IsCirculation circ.new }
-    ensures shape { KeepsShape cuts.old cuts.new }
-    ensures cost { method ≡ Method.Tree → searches.new + left.new ≤ searches.old + left.old }
-    ensures used { method ≡ Method.Tree →
-        (searches.old + left.old ≤ searches.new + left.new + 1) ⊎ FillsExit circ.old arc exit }
-    ensures gave_up { result ≡ Turn.GaveUp → (searches.old + left.old ≤ searches.new) ⊎ FillsExit circ.old arc exit }
-    ensures searched { method ≡ Method.Searches → result ≡ Turn.Served }
-    ensures search_cost { method ≡ Method.Searches →
-        searches.new ≤ searches.old + 30 * (2 * open_arcs (network circ.old) + 1) }
+/// What a right claims.
+fn claim_of(givens: &Givens, circ: &CirculationMut<'_>, right: u32) -> Claim
+    requires givens { IsGivens givens.now }
+    requires net { let g = givens.now in
+        IsMonthNetwork (spilled g.basin.now) g.month g.supply.now g.want.now (network circ.now) }
+    requires right { right < length givens.now.basin.now.rights }
+    ensures claim { IsClaim circ.now result }
+    ensures right { result.right ≡ right }
+    ensures arc { result.arc ≡ right_arc givens.now.basin.now right }
+    ensures want { result.want ≡ slice_index givens.now.want.now right }
+    ensures first { spill_arc givens.now.basin.now 0 ≤ result.exit }
+    ensures spill { result.exit < spill_arc givens.now.basin.now 0 + circ.now.nodes }
 {
-    match method {
-        Method::Tree => serve_by_tree(circ, tree, arc, exit, want, right, cuts, left, searches),
-        Method::Searches => {
-            serve(circ, arc, want, right, cuts, searches);
-            Turn::Served
-        }
+    let place = right as usize;
+    let arc = givens.layout.arcs.rights[place];
+    let exit = exit_of(circ, givens.layout.arcs.spill, arc);
+    let want = givens.want[place];
+    Claim {
+        right,
+        arc,
+        exit,
+        want,
     }
 }
 
@@ -202,23 +171,18 @@ fn add_run(run: &[u64], flow: &mut [u64])
 }
 
 /// Writes the plan of a flow: what is spilled runs down the rivers, and leaves the basin at outlets.
-fn settle_plan(
-    basin: &Basin,
-    layout: &Layout,
-    room: &mut Room,
-    circ: &CirculationMut<'_>,
-    plan: &mut Plan,
-)
-    requires valid { IsValidBasin basin.now }
-    requires layout { IsLayout basin.now layout.now }
-    requires room { FitsRoom basin.now room.old }
-    requires ends { HasBasinEnds (spilled basin.now) (network circ.now) }
-    requires plan { FitsPlan basin.now plan.old }
-    requires small { total_of (spills_of basin.now (flow_of circ.now)) < 10 ^ 15 }
-    ensures room { FitsRoom basin.now room.new }
-    ensures fits { FitsPlan basin.now plan.new }
-    ensures settled { IsSettledPlan basin.now (flow_of circ.now) plan.new }
+fn settle_plan(givens: &Givens, room: &mut Room, circ: &CirculationMut<'_>, plan: &mut Plan)
+    requires givens { IsGivens givens.now }
+    requires room { FitsRoom givens.now.basin.now room.old }
+    requires ends { HasBasinEnds (spilled givens.now.basin.now) (network circ.now) }
+    requires plan { FitsPlan givens.now.basin.now plan.old }
+    requires small { total_of (spills_of givens.now.basin.now (flow_of circ.now)) < 10 ^ 15 }
+    ensures room { FitsRoom givens.now.basin.now room.new }
+    ensures fits { FitsPlan givens.now.basin.now plan.new }
+    ensures settled { IsSettledPlan givens.now.basin.now (flow_of circ.now) plan.new }
 {
+    let basin = givens.basin;
+    let layout = givens.layout;
     // This call says that the circulation is kept.
     let _nodes = circ.nodes();
     read_spills(basin, circ, &layout.arcs, room.most.out.as_mut_slice());
@@ -245,68 +209,45 @@ pub enum Sweep {
 /// one push, its last, so that GaveUp comes only after more than 29 pushes for each right. By searches it begins with
 /// the plan that it is given, and never gives up.
 pub fn sweep_month<L: Ledger>(
-    method: Method,
-    basin: &Basin,
-    layout: &Layout,
+    givens: &Givens,
     room: &mut Room,
     held: &Circulation,
     fixed: &[u64],
     moving: &mut [u64],
     words: &mut [u64],
-    month: Month,
-    supply: &[u64],
-    want: &[u64],
     plan: &mut Plan,
     cuts: &mut CutList,
     searches: &mut Steps<L>,
 ) -> Sweep
-    requires valid { IsValidBasin basin.now }
-    requires layout { IsLayout basin.now layout.now }
-    requires room { FitsRoom basin.now room.old }
-    requires parts { HasParts basin.now held.now fixed.now moving.old words.old }
-    requires month { IsMonth month }
-    requires given { IsGiven basin.now month supply.now want.now plan.old cuts.old }
-    requires plan { method ≡ Method.Searches → IsPlan basin.now month supply.now want.now plan.old }
-    requires some { method ≡ Method.Searches → 0 < length basin.now.rights }
-    ensures fits_room { FitsRoom basin.now room.new }
-    ensures fits { FitsPlan basin.now plan.new }
-    ensures cuts { FitsCuts basin.now cuts.new }
-    ensures plan { IsPlan basin.now month supply.now want.now plan.new }
-    ensures solved { result ≡ Sweep.Solved → IsSolved basin.now month supply.now want.now plan.new cuts.new }
-    ensures pushes { method ≡ Method.Tree → searches.new ≤ searches.old + 30 * length basin.now.rights }
-    ensures gave_up { result ≡ Sweep.GaveUp → searches.old + 29 * length basin.now.rights < searches.new }
-    ensures searched { method ≡ Method.Searches → result ≡ Sweep.Solved }
-    ensures search_pushes { method ≡ Method.Searches →
-        searches.new ≤ searches.old + length basin.now.rights * (30 * (2 * arc_count basin.now + 1)) }
+    requires givens { IsGivens givens.now }
+    requires room { FitsRoom givens.now.basin.now room.old }
+    requires arcs { HasArcs givens.now.basin.now held.now fixed.now moving.old }
+    requires size { length words.old ≡ tree_words (length givens.now.basin.now.nodes) }
+    requires begin { CanBegin givens.now plan.old cuts.old }
+    ensures room { FitsRoom givens.now.basin.now room.new }
+    ensures swept { IsSweep givens.now plan.new cuts.new searches.old searches.new result }
 {
-    let mut circ = begin(
-        method, basin, layout, room, held, fixed, moving, month, supply, want, plan,
-    );
+    let mut circ = begin(givens, room, held, fixed, moving, plan);
     let mut tree = ResidualTree::plant(&circ, words);
-    let order = layout.roll.by_seniority();
+    let order = givens.layout.roll.by_seniority();
     let mut left = PUSHES_PER_RIGHT * order.len() as u32;
     for turn in 0..order.len() {
         let right = order[turn];
-        let place = right as usize;
-        let arc = layout.arcs.rights[place];
-        let exit = exit_of(&circ, layout.arcs.spill, arc);
+        let claim = claim_of(givens, &circ, right);
         let turn = serve_by(
-            method,
+            givens.method,
             &mut circ,
             &mut tree,
-            arc,
-            exit,
-            want[place],
-            right,
+            claim,
             cuts,
             &mut left,
             searches,
         );
         if turn == Turn::GaveUp {
-            settle_plan(basin, layout, room, &circ, plan);
+            settle_plan(givens, room, &circ, plan);
             return Sweep::GaveUp;
         }
     }
-    settle_plan(basin, layout, room, &circ, plan);
+    settle_plan(givens, room, &circ, plan);
     Sweep::Solved
 }

@@ -10,7 +10,7 @@ use Rattle.senior_hold.proofs.SpilledStarts.{spilled_begun}
 use Rattle.senior_hold.proofs.sweep.begin.Goals as goal
 
 pub lend_month-requires-clause-bounded : goal.lend_month-requires-clause-bounded
-lend_month-requires-clause-bounded c = supplies_bounded (held_arcs c.requires.arcs) c.requires.supply
+lend_month-requires-clause-bounded c = supplies_bounded (held_arcs c.requires.arcs) c.requires.givens.supplies
 
 pub lend_month-requires-clause-start : goal.lend_month-requires-clause-start
 lend_month-requires-clause-start c =
@@ -19,11 +19,11 @@ lend_month-requires-clause-start c =
       h.contents,
       (
         h.fixed,
-        begins h.contents c.requires.valid c.requires.month h.ends c.requires.supply c.requires.want
+        begins h.contents c.requires.givens.valid c.requires.givens.month h.ends c.requires.givens.supplies c.requires.givens.wants
             (ap length c.deref.ensures.value ∙ c.write_uppers.ensures.room.uppers)
-            (length-on_last _ _ (supplies_bounded arcs c.requires.supply) ∙ arcs)
+            (length-on_last _ _ (supplies_bounded arcs c.requires.givens.supplies) ∙ arcs)
             (bounds_over c.deref.ensures.value c.write_uppers.ensures.bounds)
-            (spilled_starts c.in-Tree.is arcs c.requires.supply),
+            (spilled_starts c.in-Tree.is arcs c.requires.givens.supplies),
       ),
     )
 
@@ -31,12 +31,12 @@ pub returns-in-Tree-clause-begun : goal.returns-in-Tree-clause-begun
 returns-in-Tree-clause-begun c =
     let h = c.requires.arcs in
     begun h.contents h.ends (bounds_over c.deref.ensures.value c.write_uppers.ensures.bounds)
-    (spilled_starts c.in-Tree.is (held_arcs h) c.requires.supply) (c.lend_month.ensures h.contents h.fixed)
+    (spilled_starts c.in-Tree.is (held_arcs h) c.requires.givens.supplies) (c.lend_month.ensures h.contents h.fixed)
 
 pub returns-in-Tree-clause-start : goal.returns-in-Tree-clause-start
 returns-in-Tree-clause-start c = λ _.
     let h = c.requires.arcs in
-    spilled_begun (held_arcs h) c.requires.supply
+    spilled_begun (held_arcs h) c.requires.givens.supplies
     (ap (λ (x : Contents). x.flow) (c.lend_month.ensures h.contents h.fixed))
 
 pub lend_month-requires-in-Searches-clause-start : goal.lend_month-requires-in-Searches-clause-start
@@ -48,16 +48,16 @@ lend_month-requires-in-Searches-clause-start c =
     ∙ ap length c.deref_mut.ensures.value in
     let is : start ≡ c.lay.new.into = c.deref-in-Searches-2.ensures.value
     ∙ with_items_is room.start c.lay.new.into (omega (arith, size, room.start.ok.0)) in
-    let long : length start ≡ arc_count (spilled c.args.basin.now) = ap length is
+    let long : length start ≡ arc_count (spilled c.args.givens.now.basin.now) = ap length is
     ∙ (size ∙ c.write_uppers.ensures.room.starts) in
     let all = last_all (long ∙ sym (held_arcs h)) in (
       h.contents,
       (
         h.fixed,
-        begins h.contents c.requires.valid c.requires.month h.ends c.requires.supply c.requires.want
+        begins h.contents c.requires.givens.valid c.requires.givens.month h.ends c.requires.givens.supplies c.requires.givens.wants
             (ap length c.deref-in-Searches.ensures.value ∙ c.write_uppers.ensures.room.uppers) (ap length all ∙ long)
             (bounds_over c.deref-in-Searches.ensures.value c.write_uppers.ensures.bounds)
-            (shut_starts c.in-Searches.is c.requires.valid c.requires.supply (c.requires.plan c.in-Searches.is)
+            (shut_starts c.in-Searches.is c.requires.givens.valid c.requires.givens.supplies (c.requires.plan c.in-Searches.is)
             (amounts_over (all ∙ is) c.lay.ensures)),
       ),
     )
@@ -72,5 +72,5 @@ returns-in-Searches-clause-begun c =
     ∙ with_items_is room.start c.lay.new.into (omega (arith, size, room.start.ok.0)) in
     let all = last_all (ap length is ∙ (size ∙ c.write_uppers.ensures.room.starts) ∙ sym (held_arcs h)) in
     begun h.contents h.ends (bounds_over c.deref-in-Searches.ensures.value c.write_uppers.ensures.bounds)
-    (shut_starts c.in-Searches.is c.requires.valid c.requires.supply (c.requires.plan c.in-Searches.is)
+    (shut_starts c.in-Searches.is c.requires.givens.valid c.requires.givens.supplies (c.requires.plan c.in-Searches.is)
     (amounts_over (all ∙ is) c.lay.ensures)) (c.lend_month-in-Searches.ensures h.contents h.fixed)

@@ -10,7 +10,7 @@ use Rattle.water_model.proofs.Lists.{whole_rows}
 use Rattle.senior_hold.proofs.sweep.settle_plan.Goals as goal
 
 pub read_spills-requires-clause-spills : goal.read_spills-requires-clause-spills
-read_spills-requires-clause-spills c = omega (arith, spilled_arcs c.args.basin.now, c.requires.ends.arcs)
+read_spills-requires-clause-spills c = omega (arith, spilled_arcs c.args.givens.now.basin.now, c.requires.ends.arcs)
 
 pub add_run-requires-clause-fits : goal.add_run-requires-clause-fits
 add_run-requires-clause-fits c = λ e l.
@@ -19,10 +19,10 @@ add_run-requires-clause-fits c = λ e l.
     ∙ whole_rows _ _ links_len in
     let run_is : c.as_slice-2.result.now ≡ c.natural.new.flow = c.as_slice-2.ensures
     ∙ whole_rows _ _ (c.natural.auto.flow ∙ ap length c.as_mut_slice-4.ensures.value) in
-    let spills_is : c.as_slice.result.now ≡ spills_of c.args.basin.now (flow_of c.args.circ.now) =
+    let spills_is : c.as_slice.result.now ≡ spills_of c.args.givens.now.basin.now (flow_of c.args.circ.now) =
     c.as_slice.ensures ∙ (whole_rows _ _ (c.read_spills.auto.into ∙ ap length c.as_mut_slice.ensures.value)
     ∙ c.read_spills.ensures) in
-    let e_in : e < length c.args.basin.now.links =
+    let e_in : e < length c.args.givens.now.basin.now.links =
     omega (arith, l, ap length links_is, links_len, c.requires.plan.flow) in
     let flow : slice_index c.as_mut_slice-6.result.now e ≡ flow_of c.args.circ.now e =
     ap (λ (xs : List ℕ). slice_index xs e) links_is ∙ (ap (λ (xs : List ℕ). slice_index xs e) c.read_links.ensures
@@ -56,20 +56,20 @@ returns-clause-settled c =
     ∙ whole_rows _ _ links_len in
     let run_is : c.as_slice-2.result.now ≡ c.natural.new.flow = c.as_slice-2.ensures
     ∙ whole_rows _ _ (c.natural.auto.flow ∙ ap length c.as_mut_slice-4.ensures.value) in
-    let spills_is : c.as_slice.result.now ≡ spills_of c.args.basin.now (flow_of c.args.circ.now) =
+    let spills_is : c.as_slice.result.now ≡ spills_of c.args.givens.now.basin.now (flow_of c.args.circ.now) =
     c.as_slice.ensures ∙ (whole_rows _ _ (c.read_spills.auto.into ∙ ap length c.as_mut_slice.ensures.value)
     ∙ c.read_spills.ensures) in
     let size = ap length links_is ∙ (links_len ∙ c.requires.plan.flow) in
-    subst (IsSettledPlan c.args.basin.now (flow_of c.args.circ.now))
+    subst (IsSettledPlan c.args.givens.now.basin.now (flow_of c.args.circ.now))
     (made_whole _ _ _ _ _ _ (c.add_run.auto.flow ∙ ap length c.as_mut_slice-6.ensures.value) (c.read_takes.auto.into
     ∙ ap length c.as_mut_slice-3.ensures.value)
     (c.natural.auto.out ∙ ap length c.as_mut_slice-5.ensures.value))
     (record {
       run = c.natural.new.flow;
       natural = subst (λ (xs : List ℕ).
-          RunsNaturally c.args.basin.now.nodes c.args.basin.now.links xs c.natural.new.flow c.natural.new.out) spills_is
-          (c.natural.ensures.run c.args.basin.now.nodes c.args.basin.now.links c.requires.layout.is_net
-          c.requires.valid.network);
+          RunsNaturally c.args.givens.now.basin.now.nodes c.args.givens.now.basin.now.links xs c.natural.new.flow c.natural.new.out) spills_is
+          (c.natural.ensures.run c.args.givens.now.basin.now.nodes c.args.givens.now.basin.now.links c.requires.givens.layout.is_net
+          c.requires.givens.valid.network);
       flow_len = c.add_run.auto.flow ∙ size;
       flow = λ e l. c.add_run.ensures e (omega (arith, l, size))
           ∙ ap₂ (λ (x z : ℕ). x + z)

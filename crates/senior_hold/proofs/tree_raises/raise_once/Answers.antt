@@ -31,19 +31,22 @@ arid t p both h = grind (arith, nat_tests)
 wet : (t : Bool) (p : ℕ) → (IsTrue t ↔ (p ≡ 0)) → t ≡ false → 0 < p
 wet t p both h = grind (arith, nat_tests)
 
-pub returns-else-eq-clause-artificial : goal.returns-else-eq-clause-artificial
-returns-else-eq-clause-artificial g c =
-    λ is. artificial_some c.raise_by_tree-pulled.new.circ c.raise_by_tree-pulled.new.tree (2 * c.args.exit + 1)
-    c.raise_by_tree-pulled.ensures.tree
-
-pub returns-else-eq-clause-cut : goal.returns-else-eq-clause-cut
-returns-else-eq-clause-cut g c = λ is. c.raise_by_tree-pulled.ensures.cut is (elim c.else-eq.branch [
-  | else-eq-via-then-eq+else-is_unlabeled-3 w ↦
-      subst (λ (v : ℕ). IsLabeled c.raise_by_tree-pulled.new.tree v) c.ends-ends.ensures.to
-      (wet w.is_unlabeled-then-eq.result (label_of c.raise_by_tree-pulled.new.tree c.ends-ends.result.to)
-      w.is_unlabeled-then-eq.ensures w.if-is_unlabeled-3.false)
-  | else-eq-via-else-eq w ↦ absurd (not_unlabeled c.raise_by_tree-pulled.result (sym c.eq.ensures ∙ w.if-eq.false) is)
-])
+pub returns-else-eq-clause-leaves : goal.returns-else-eq-clause-leaves
+returns-else-eq-clause-leaves g c =
+    let tree = c.raise_by_tree-pulled.new.tree in
+    record {
+      tree = λ _. c.raise_by_tree-pulled.ensures.tree;
+      artificial = λ is. artificial_some c.raise_by_tree-pulled.new.circ tree (2 * c.args.claim.exit + 1)
+          c.raise_by_tree-pulled.ensures.tree;
+      cut = λ is. c.raise_by_tree-pulled.ensures.cut is (elim c.else-eq.branch [
+        | else-eq-via-then-eq+else-is_unlabeled-3 w ↦
+            subst (λ (v : ℕ). IsLabeled tree v) c.ends-ends.ensures.to
+            (wet w.is_unlabeled-then-eq.result (label_of tree c.ends-ends.result.to) w.is_unlabeled-then-eq.ensures
+            w.if-is_unlabeled-3.false)
+        | else-eq-via-else-eq w ↦
+            absurd (not_unlabeled c.raise_by_tree-pulled.result (sym c.eq.ensures ∙ w.if-eq.false) is)
+      ]);
+    }
 
 -- without a push both ends are as they were, so that one of them is labeled
 pub returns-then-is_unlabeled-3-clause-unfinished : goal.returns-then-is_unlabeled-3-clause-unfinished
@@ -65,12 +68,12 @@ returns-then-is_unlabeled-3-clause-unfinished g c = λ _.
             | else-is_unlabeled-via-then-is_unlabeled+else-is_unlabeled-2 w ↦
                 let was = wet w.is_unlabeled-then-is_unlabeled.result (label_of c.args.tree.now ends.result.to)
                 w.is_unlabeled-then-is_unlabeled.ensures w.if-is_unlabeled-2.false in
-                let inside = kept.ends.to_in c.args.arc c.requires.arc in
+                let inside = kept.ends.to_in c.args.claim.arc c.requires.claim.arc in
                 omega (arith, stay ends.result.to (omega (arith, ends.ensures.to, inside)) was, head)
             | else-is_unlabeled-via-else-is_unlabeled w ↦
                 let was = wet c.is_unlabeled.result (label_of c.args.tree.now ends.result.from) c.is_unlabeled.ensures
                 w.if-is_unlabeled.false in
-                let inside = kept.ends.from_in c.args.arc c.requires.arc in
+                let inside = kept.ends.from_in c.args.claim.arc c.requires.claim.arc in
                 let now = stay ends.result.from (omega (arith, ends.ensures.from, inside)) was in
                 omega (arith, subst (λ (v : ℕ). IsLabeled r.new.tree v) ends.ensures.from now, tail)
           ])

@@ -1,33 +1,27 @@
-use Rattle.std.proofs.Common.{ℕ, ◌≡◌, ◌<◌, ◌≤◌, ◌^◌, length, slice_index, sym, subst, ◌∙◌, arith}
-use Rattle.water_model.specs.Plans.{IsGreatest, DeliversSame}
-use Rattle.water_model.specs.Valid.{IsValidBasin}
+use Rattle.std.proofs.Common.{◌≤◌, ◌+◌, ◌*◌, ℕ, refl, length, sym, subst, arith}
 use Rattle.water_model.specs.declared.types.Basin.{Basin}
-use Rattle.senior_hold.proofs.Preferred.{flows_small, solved_too}
+use Rattle.senior_hold.specs.MonthNetwork.{arc_count}
+use Rattle.senior_hold.specs.Solved.{IsGiven}
+use Rattle.senior_hold.proofs.Spilled.{given_again}
 use Rattle.senior_hold.proofs.solver.Solver.solve_month.Goals as goal
 
-pub prefer_rivers-requires-clause-small : goal.prefer_rivers-requires-clause-small
-prefer_rivers-requires-clause-small g c =
-    let view : c.self.inside.basin.now ≡ c.find_plan.new.self = c.self.view_is in
-    let its : c.self.inside.basin.now ≡ c.args.self.now = view ∙ c.find_plan.ensures.same in
-    subst (λ (b : Basin). (e : ℕ) → e < length b.links → slice_index c.find_plan.new.plan.flow e ≤ 10 ^ 15)
-    (sym (c.self.invariant.rounds ∙ its))
-    (flows_small c.args.self.now c.args.month c.args.supply.now c.args.want.now c.find_plan.new.plan
-    (subst IsValidBasin its c.self.invariant.valid) c.requires.month c.find_plan.ensures.solved.greatest.plan)
+-- the pushes of both ways together
+both : (rights arcs before between after : ℕ) → between ≤ before + 30 * rights →
+    after ≤ between + rights * (30 * (2 * arcs + 1)) → after ≤ before + rights * (30 * (2 * arcs + 2))
+both rights arcs before between after h i = grind arith
 
-pub returns-then-len-gt0-clause-solved : goal.returns-then-len-gt0-clause-solved
-returns-then-len-gt0-clause-solved g c =
-    let b = c.args.self.now in
-    let view : c.self.inside.basin.now ≡ c.find_plan.new.self = c.self.view_is in
-    let its : c.self.inside.basin.now ≡ b = view ∙ c.find_plan.ensures.same in
-    let is : c.self.inside.rounds.basin ≡ b = c.self.invariant.rounds ∙ its in
-    let best = c.find_plan.ensures.solved.greatest in
-    let some : 0 < length b.rights =
-    subst (λ (b : Basin). 0 < length b.rights) its (omega (arith, c.if-len-gt0.true, c.len.ensures)) in
-    solved_too b c.args.month c.args.supply.now c.args.want.now c.find_plan.new.plan c.prefer_rivers.new.plan
-    c.find_plan.new.cuts some c.find_plan.ensures.solved
-    (subst (λ (b : Basin). IsGreatest b c.args.month c.args.supply.now c.args.want.now c.find_plan.new.plan →
-    IsGreatest b c.args.month c.args.supply.now c.args.want.now c.prefer_rivers.new.plan) is
-    (c.prefer_rivers.ensures.greatest c.args.month c.args.supply.now) best)
-    (subst (λ (b : Basin). IsGreatest b c.args.month c.args.supply.now c.args.want.now c.find_plan.new.plan →
-    DeliversSame b c.args.want.now c.find_plan.new.plan c.prefer_rivers.new.plan) is
-    (c.prefer_rivers.ensures.deliveries c.args.month c.args.supply.now) best)
+pub sweep-requires-clause-given : goal.sweep-requires-clause-given
+sweep-requires-clause-given g c =
+    subst (λ (b : Basin). IsGiven b c.args.month c.args.supply.now c.args.want.now c.sweep-swept.new.plan
+    c.clear.new.self) (sym c.sweep-swept.ensures.same)
+    (given_again c.args.self.now c.args.month c.args.supply.now c.args.want.now c.args.plan.now c.sweep-swept.new.plan
+    c.args.cuts.now c.sweep-swept.new.cuts c.clear.new.self c.requires.given c.sweep-swept.ensures.fits
+    c.sweep-swept.ensures.cuts c.clear.ensures)
+
+pub returns-then-eq-clause-pushes : goal.returns-then-eq-clause-pushes
+returns-then-eq-clause-pushes g c =
+    both (length c.args.self.now.rights) (arc_count c.args.self.now) c.args.searches.now c.sweep-swept.new.searches
+    c.sweep.new.searches (c.sweep-swept.ensures.pushes refl)
+    (subst (λ (b : Basin). c.sweep.new.searches
+    ≤ c.sweep-swept.new.searches + length b.rights * (30 * (2 * arc_count b + 1))) c.sweep-swept.ensures.same
+    (c.sweep.ensures.search_pushes refl))

@@ -6,7 +6,7 @@ use Rattle.water_model.specs.CutSets.{with_set}
 use Rattle.residual_tree.specs.declared.raising.TreeRaised.{TreeRaised}
 use Rattle.senior_hold.proofs.Marks.{marks_are}
 use Rattle.senior_hold.proofs.TreeServes.{served_full, served_unlabeled}
-use Rattle.senior_hold.proofs.tree_raises.serve_by_tree.Goals as goal
+use Rattle.senior_hold.proofs.serving.serve_by.Goals as goal
 
 apart : (r : TreeRaised) → r ≡ TreeRaised.Stopped → r ≢ TreeRaised.Met
 apart r e = λ f. let both : TreeRaised.Stopped ≡ TreeRaised.Met = sym e ∙ f in cc (both)
@@ -18,34 +18,27 @@ ended_met : (r : TreeRaised) → r ≡ TreeRaised.Met → r ≢ TreeRaised.Unfin
 ended_met r e = λ f. let both : TreeRaised.Met ≡ TreeRaised.Unfinished = sym e ∙ f in cc (both)
 
 pub returns-in-Met-clause-served : goal.returns-in-Met-clause-served
-returns-in-Met-clause-served g c = λ _.
-    served_full c.args.circ.now c.raise_fully.new.circ c.args.arc c.args.want c.args.cuts.now c.args.right
-    c.flow.ensures.kept c.raise_fully.ensures.kept c.raise_fully.ensures.rest
-    c.requires.arc c.raise_fully.ensures.held c.raise_fully.ensures.rises
+returns-in-Met-clause-served g c = λ _. served_full c.flow.ensures.kept c.raise_fully.ensures.raised c.requires.claim.arc
     ((c.raise_fully.ensures.met (ended_met c.raise_fully.result c.in-Met.is)).0 c.in-Met.is)
 
 pub begin_with-requires-clause-words : goal.begin_with-requires-clause-words
 begin_with-requires-clause-words g c =
-    let tree = c.raise_fully.ensures.artificial c.in-Stopped.is in
+    let tree = c.raise_fully.ensures.leaves.artificial c.in-Stopped.is in
+    let same = ap (λ (x : Contents). x.nodes) c.raise_fully.ensures.raised.rest.rest in
     let nodes : length c.raise_fully.new.tree - 1 ≡ c.args.cuts.now.nodes =
-    omega (arith, tree.words, ap (λ (x : Contents). x.nodes) c.raise_fully.ensures.rest.rest, c.requires.nodes) in
+    omega (arith, tree.words, same, c.requires.set.nodes) in
     c.unlabeled_marks.ensures.count ∙ ap words_for nodes
 
 pub returns-in-Stopped-clause-served : goal.returns-in-Stopped-clause-served
 returns-in-Stopped-clause-served g c = λ _.
-    let mid = c.raise_fully.new.circ in
-    let labels = c.raise_fully.new.tree in
-    let tree = c.raise_fully.ensures.artificial c.in-Stopped.is in
-    let nodes : c.args.cuts.now.nodes ≡ mid.nodes =
-    c.requires.nodes ∙ sym (ap (λ (x : Contents). x.nodes) c.raise_fully.ensures.rest.rest) in
-    served_unlabeled c.args.circ.now mid c.drop_artificial.new.circ labels c.args.arc c.args.want c.args.cuts.now
-    c.begin_with.new.self
-    c.args.right c.flow.ensures.kept c.raise_fully.ensures.kept c.raise_fully.ensures.rest c.requires.arc
-    c.raise_fully.ensures.held
-    c.raise_fully.ensures.rises c.raise_fully.ensures.limit
+    let done = c.raise_fully.ensures in
+    let nodes : c.args.cuts.now.nodes ≡ c.raise_fully.new.circ.nodes =
+    c.requires.set.nodes ∙ sym (ap (λ (x : Contents). x.nodes) done.raised.rest.rest) in
+    served_unlabeled c.raise_fully.new.tree c.flow.ensures.kept done.raised c.requires.claim.arc
     (λ e. apart c.raise_fully.result c.in-Stopped.is
-    ((c.raise_fully.ensures.met (ended_unlabeled c.raise_fully.result c.in-Stopped.is)).1 e))
-    c.drop_artificial.ensures.rest (c.raise_fully.ensures.cut c.in-Stopped.is)
-    (c.begin_with.ensures ∙ ap (λ (xs : List Bool). with_set c.args.cuts.now c.args.right (Some xs))
+    ((done.met (ended_unlabeled c.raise_fully.result c.in-Stopped.is)).1 e))
+    c.drop_artificial.ensures.rest (done.leaves.cut c.in-Stopped.is)
+    (c.begin_with.ensures ∙ ap (λ (xs : List Bool). with_set c.args.cuts.now c.args.claim.right (Some xs))
     (ap (λ (n : ℕ). marks n c.unlabeled_marks.result.now) nodes
-    ∙ marks_are mid.nodes c.unlabeled_marks.result.now labels tree.words c.unlabeled_marks.ensures.marks))
+    ∙ marks_are c.raise_fully.new.circ.nodes c.unlabeled_marks.result.now c.raise_fully.new.tree
+    (done.leaves.artificial c.in-Stopped.is).words c.unlabeled_marks.ensures.marks))
