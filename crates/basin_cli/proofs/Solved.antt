@@ -60,42 +60,42 @@ module _ (known : KnownFiles) (files : Files) (b : Basin) (series : Inflows) (fi
 
 -- what a call that writes a text of a run promises, where its files are not read or refused, and after them
 module _ {S K : Type 0} (shelf : Shelf.Ghosts S) (sink : Sink.Ghosts K) (files : Files) (how : Ending) (old new : S)
-    where
-  pub text_stops : (kind : RunText) (out : K) (done : WorkDone) →
-      StopsReading files how (shelf.known old) (Rose (shelf.faults old) (shelf.faults new)) →
-      AskUpTo (inputs_to files) how (shelf.asked old) (shelf.asked new) → CanBePrinted how →
-      Serves shelf sink (Some (text_command kind files)) how old new out out done done
-  text_stops text.Result out done h asks prints = first_of (search rules, grind (arith, common_steps))
-  text_stops text.Calls out done h asks prints = first_of (search rules, grind (arith, common_steps))
-  text_stops text.Report out done h asks prints = first_of (search rules, grind (arith, common_steps))
+  where
+    pub text_stops : (kind : RunText) (out : K) (done : WorkDone) →
+        StopsReading files how (shelf.known old) (Rose (shelf.faults old) (shelf.faults new)) →
+        AskUpTo (inputs_to files) how (shelf.asked old) (shelf.asked new) → CanBePrinted how →
+        Serves shelf sink (Some (text_command kind files)) how old new out out done done
+    text_stops text.Result out done h asks prints = first_of (search rules, grind (arith, common_steps))
+    text_stops text.Calls out done h asks prints = first_of (search rules, grind (arith, common_steps))
+    text_stops text.Report out done h asks prints = first_of (search rules, grind (arith, common_steps))
 
-  pub text_served : (kind : RunText) (b : Basin) (series : Inflows) (before after : WorkDone) (out out' : K) →
-      IsSeriesOf b series → AreLoaded (shelf.known old) files b series →
-      HasTrialCause how (Rose (sink.faults out) (sink.faults out')) →
-      ((MayWrite (status_of how) → ⊥) → out' ≡ out) → ((MayWrite (status_of how) → ⊥) → after ≡ before) →
-      (IsQuiet (status_of how) → (sink.output out').flushed ≡ (sink.output out').taken) → SolvesRun b before after →
-      (MayWrite (status_of how) →
-      LeavesText kind b series (status_of how) (sink.output out) (sink.output out') before after) →
-      Serves shelf sink (Some (text_command kind files)) how old new out out' before after
-  text_served kind b series before after out out' fits loaded ends out_stays idle flushed solves leaves =
-      let known : KnownFiles = shelf.known old in
-      let read = Rose (shelf.faults old) (shelf.faults new) in
-      let write = Rose (sink.faults out) (sink.faults out') in
-      by_text kind (writes known files b series fits loaded
-      (λ d s. LeavesText kind d s (status_of how) (sink.output out) (sink.output out') before after)
-      (MayWrite (status_of how)) leaves) (solving_cause known files b series fits loaded how read write ends)
-      (solving_stops (inputs_to files) (shelf.asked old) (shelf.asked new) how write ends)
-      (solving_prints how write ends) (λ stopped. idle (stopped_writes (status_of how) stopped))
-      (of_basin (known files.basin) b (λ d. SolvesRun d before after) loaded.from_basin solves)
-    where
-      by_text : (kind : RunText) →
-          OfBoth (shelf.known old) files (λ bytes s. MayWrite (status_of how) → OfSpelled bytes s
-          (λ d t. LeavesText kind d t (status_of how) (sink.output out) (sink.output out') before after)) →
-          HasSolvingCause files how (shelf.known old) (Rose (shelf.faults old) (shelf.faults new))
-          (Rose (sink.faults out) (sink.faults out')) →
-          AskUpTo (inputs_to files) how (shelf.asked old) (shelf.asked new) → CanBePrinted how →
-          (IsStopped (status_of how) → after ≡ before) → WorkOf (shelf.known old) files before after →
-          Serves shelf sink (Some (text_command kind files)) how old new out out' before after
-      by_text text.Result put cause asks prints rests work = assumption
-      by_text text.Calls put cause asks prints rests work = assumption
-      by_text text.Report put cause asks prints rests work = assumption
+    pub text_served : (kind : RunText) (b : Basin) (series : Inflows) (before after : WorkDone) (out out' : K) →
+        IsSeriesOf b series → AreLoaded (shelf.known old) files b series →
+        HasTrialCause how (Rose (sink.faults out) (sink.faults out')) →
+        ((MayWrite (status_of how) → ⊥) → out' ≡ out) → ((MayWrite (status_of how) → ⊥) → after ≡ before) →
+        (IsQuiet (status_of how) → (sink.output out').flushed ≡ (sink.output out').taken) → SolvesRun b before after →
+        (MayWrite (status_of how) →
+        LeavesText kind b series (status_of how) (sink.output out) (sink.output out') before after) →
+        Serves shelf sink (Some (text_command kind files)) how old new out out' before after
+    text_served kind b series before after out out' fits loaded ends out_stays idle flushed solves leaves =
+        let known : KnownFiles = shelf.known old in
+        let read = Rose (shelf.faults old) (shelf.faults new) in
+        let write = Rose (sink.faults out) (sink.faults out') in
+        by_text kind (writes known files b series fits loaded
+        (λ d s. LeavesText kind d s (status_of how) (sink.output out) (sink.output out') before after)
+        (MayWrite (status_of how)) leaves) (solving_cause known files b series fits loaded how read write ends)
+        (solving_stops (inputs_to files) (shelf.asked old) (shelf.asked new) how write ends)
+        (solving_prints how write ends) (λ stopped. idle (stopped_writes (status_of how) stopped))
+        (of_basin (known files.basin) b (λ d. SolvesRun d before after) loaded.from_basin solves)
+      where
+        by_text : (kind : RunText) →
+            OfBoth (shelf.known old) files (λ bytes s. MayWrite (status_of how) → OfSpelled bytes s
+            (λ d t. LeavesText kind d t (status_of how) (sink.output out) (sink.output out') before after)) →
+            HasSolvingCause files how (shelf.known old) (Rose (shelf.faults old) (shelf.faults new))
+            (Rose (sink.faults out) (sink.faults out')) →
+            AskUpTo (inputs_to files) how (shelf.asked old) (shelf.asked new) → CanBePrinted how →
+            (IsStopped (status_of how) → after ≡ before) → WorkOf (shelf.known old) files before after →
+            Serves shelf sink (Some (text_command kind files)) how old new out out' before after
+        by_text text.Result put cause asks prints rests work = assumption
+        by_text text.Calls put cause asks prints rests work = assumption
+        by_text text.Report put cause asks prints rests work = assumption

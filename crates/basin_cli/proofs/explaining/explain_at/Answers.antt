@@ -6,7 +6,8 @@ pub answer-requires : goal.answer-requires
 answer-requires g c =
     let solved = c.solve_up_to.ensures in
     let same : c.solve_up_to.new.run.basin ≡ c.args.basin.now = solved.basin ∙ c.in-Ok.ensures.basin in
-    let is = last_record _ _ c.solve_up_to.new.run c.args.index same (solved.series ∙ c.in-Ok.ensures.series) solved.done
+    let is = last_record _ _ c.solve_up_to.new.run c.args.index same (solved.series ∙ c.in-Ok.ensures.series)
+    solved.done
     solved.last in
     rw (c.basin.ensures.value, same, c.month.ensures)
     (record {

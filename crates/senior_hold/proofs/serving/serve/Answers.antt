@@ -21,14 +21,17 @@ returns-clause-served g c = elim c.if-eq.branch [
   | then-eq w ↦ (let is = stopped c.raise-raised.result (sym c.eq.ensures ∙ w.if-eq.true) in
       served_short c.args.circ.now c.raise-raised.new.circ c.hold.new.self c.args.claim c.min-got.result c.args.cuts.now
       w.begin.new.self c.if-eq.cuts _
-      c.raise-raised.ensures.rest c.hold.ensures.held (c.min-got.ensures ∙ ap (min c.args.claim.want) c.flow.ensures.amount)
+      c.raise-raised.ensures.rest c.hold.ensures.held
+      (c.min-got.ensures ∙ ap (min c.args.claim.want) c.flow.ensures.amount)
       (c.raise-raised.ensures.less is)
       w.begin.ensures (w.cuts-is ∙ w.mark.ensures) (c.raise-raised.ensures.cut is))
   | else-eq w ↦ (let is = met c.raise-raised.result (sym c.eq.ensures ∙ w.if-eq.false) in
       served_met c.args.circ.now c.raise-raised.new.circ c.hold.new.self c.args.claim c.min-got.result c.args.cuts.now
       c.if-eq.cuts
-      c.raise-raised.ensures.rest c.hold.ensures.held (c.min-got.ensures ∙ ap (min c.args.claim.want) c.flow.ensures.amount)
-      (raise_met (flow_of c.args.circ.now c.args.claim.arc) (flow_of c.raise-raised.new.circ c.args.claim.arc) c.args.claim.want
+      c.raise-raised.ensures.rest c.hold.ensures.held
+      (c.min-got.ensures ∙ ap (min c.args.claim.want) c.flow.ensures.amount)
+      (raise_met (flow_of c.args.circ.now c.args.claim.arc) (flow_of c.raise-raised.new.circ c.args.claim.arc)
+      c.args.claim.want
       (λ h. ap (λ (x : Contents). flow_of x c.args.claim.arc) (c.raise-raised.ensures.idle h).1)
       (λ h. c.raise-raised.ensures.met h is)) w.cuts-is)
 ]

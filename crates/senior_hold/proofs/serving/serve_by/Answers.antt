@@ -18,7 +18,8 @@ ended_met : (r : TreeRaised) → r ≡ TreeRaised.Met → r ≢ TreeRaised.Unfin
 ended_met r e = λ f. let both : TreeRaised.Met ≡ TreeRaised.Unfinished = sym e ∙ f in cc (both)
 
 pub returns-in-Met-clause-served : goal.returns-in-Met-clause-served
-returns-in-Met-clause-served g c = λ _. served_full c.flow.ensures.kept c.raise_fully.ensures.raised c.requires.claim.arc
+returns-in-Met-clause-served g c = λ _. served_full c.flow.ensures.kept c.raise_fully.ensures.raised
+    c.requires.claim.arc
     ((c.raise_fully.ensures.met (ended_met c.raise_fully.result c.in-Met.is)).0 c.in-Met.is)
 
 pub begin_with-requires-clause-words : goal.begin_with-requires-clause-words

@@ -19,7 +19,8 @@ lend_month-requires-clause-start c =
       h.contents,
       (
         h.fixed,
-        begins h.contents c.requires.givens.valid c.requires.givens.month h.ends c.requires.givens.supplies c.requires.givens.wants
+        begins h.contents c.requires.givens.valid c.requires.givens.month h.ends c.requires.givens.supplies
+            c.requires.givens.wants
             (ap length c.deref.ensures.value ∙ c.write_uppers.ensures.room.uppers)
             (length-on_last _ _ (supplies_bounded arcs c.requires.givens.supplies) ∙ arcs)
             (bounds_over c.deref.ensures.value c.write_uppers.ensures.bounds)
@@ -54,10 +55,12 @@ lend_month-requires-in-Searches-clause-start c =
       h.contents,
       (
         h.fixed,
-        begins h.contents c.requires.givens.valid c.requires.givens.month h.ends c.requires.givens.supplies c.requires.givens.wants
+        begins h.contents c.requires.givens.valid c.requires.givens.month h.ends c.requires.givens.supplies
+            c.requires.givens.wants
             (ap length c.deref-in-Searches.ensures.value ∙ c.write_uppers.ensures.room.uppers) (ap length all ∙ long)
             (bounds_over c.deref-in-Searches.ensures.value c.write_uppers.ensures.bounds)
-            (shut_starts c.in-Searches.is c.requires.givens.valid c.requires.givens.supplies (c.requires.plan c.in-Searches.is)
+            (shut_starts c.in-Searches.is c.requires.givens.valid c.requires.givens.supplies
+            (c.requires.plan c.in-Searches.is)
             (amounts_over (all ∙ is) c.lay.ensures)),
       ),
     )

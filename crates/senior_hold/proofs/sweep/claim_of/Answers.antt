@@ -44,7 +44,8 @@ returns-clause-claim c =
     }
 
 pub returns-clause-arc : goal.returns-clause-arc
-returns-clause-arc c = (own_arc c.args.circ.now c.requires.givens c.requires.net c.requires.right c.index-arc.ensures).is
+returns-clause-arc c =
+    (own_arc c.args.circ.now c.requires.givens c.requires.net c.requires.right c.index-arc.ensures).is
 
 pub returns-clause-first : goal.returns-clause-first
 returns-clause-first c = omega (arith, c.exit_of-exit.ensures.first, c.requires.givens.layout.are_arcs.spill)

@@ -67,8 +67,10 @@ returns-clause-settled c =
     (record {
       run = c.natural.new.flow;
       natural = subst (λ (xs : List ℕ).
-          RunsNaturally c.args.givens.now.basin.now.nodes c.args.givens.now.basin.now.links xs c.natural.new.flow c.natural.new.out) spills_is
-          (c.natural.ensures.run c.args.givens.now.basin.now.nodes c.args.givens.now.basin.now.links c.requires.givens.layout.is_net
+          RunsNaturally c.args.givens.now.basin.now.nodes c.args.givens.now.basin.now.links xs c.natural.new.flow
+          c.natural.new.out) spills_is
+          (c.natural.ensures.run c.args.givens.now.basin.now.nodes c.args.givens.now.basin.now.links
+          c.requires.givens.layout.is_net
           c.requires.givens.valid.network);
       flow_len = c.add_run.auto.flow ∙ size;
       flow = λ e l. c.add_run.ensures e (omega (arith, l, size))

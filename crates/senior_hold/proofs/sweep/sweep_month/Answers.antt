@@ -49,7 +49,8 @@ pub loop-turn-init : goal.loop-turn-init
 loop-turn-init g c =
     let o = order_of c.requires.givens in
     record {
-      standing = standing_begun c.begin-circ.ensures.begun c.requires.begin.given.fits_cuts c.requires.begin.given.no_sets;
+      standing = standing_begun c.begin-circ.ensures.begun c.requires.begin.given.fits_cuts
+          c.requires.begin.given.no_sets;
       tree = λ h. c.plant-tree.ensures;
       first = λ e. refl;
       cost = λ h. omega (arith, ap length c.by_seniority-order.ensures, o.count);
@@ -62,13 +63,15 @@ loop-turn-init g c =
 
 pub claim_of-claim-requires-clause-right : goal.claim_of-claim-requires-clause-right
 claim_of-claim-requires-clause-right g c =
-    (at_turn c.requires.givens c.by_seniority-order.ensures c.loop-turn-test.true c.loop-turn.invariant.standing).in_range
+    (at_turn c.requires.givens c.by_seniority-order.ensures c.loop-turn-test.true
+    c.loop-turn.invariant.standing).in_range
 
 pub serve_by-turn-requires-clause-path_out : goal.serve_by-turn-requires-clause-path_out
 serve_by-turn-requires-clause-path_out g c = λ h.
     let t = at_turn c.requires.givens c.by_seniority-order.ensures c.loop-turn-test.true
     c.loop-turn.invariant.standing in
-    turn_path_out c.loop-turn.circ c.requires.givens t.in_range c.claim_of-claim.ensures.arc c.loop-turn.invariant.standing.net
+    turn_path_out c.loop-turn.circ c.requires.givens t.in_range c.claim_of-claim.ensures.arc
+    c.loop-turn.invariant.standing.net
     (subst (λ m. SpillsAreOf c.args.givens.now.basin.now m c.loop-turn.circ) h c.loop-turn.invariant.spills)
 
 pub serve_by-turn-requires-clause-set : goal.serve_by-turn-requires-clause-set
