@@ -1,19 +1,22 @@
 //! What the rights want in a month, and what a plan delivers to them.
 ghost use Rattle.std.specs.Prelude.{ℕ, ◌≡◌, ◌<◌, length, slice_index};
-ghost use Rattle.water_model.specs.Hydrology.{in_year, want_of};
+ghost use Rattle.water_text.specs.Months.{IsMonth};
+ghost use Rattle.water_model.specs.Hydrology.{in_year, run_month, want_of};
 ghost use Rattle.water_model.specs.Plans.{delivery};
 ghost use Rattle.water_model.specs.Valid.{IsValidBasin, IsSeriesOf};
 
-use water_model::calls::{month_at, want_of};
+use water_model::calls::{carry_of, month_at, want_of};
 use water_model::types::{Basin, Inflows, Plan, RightKind};
+use water_text::month::Month;
 
-/// The want of a right in the month with this index. `position` is that of its calendar month in a list of twelve: it
-/// is the same for all rights, and most of them want what stands there.
+/// The want of a right in the month with this index, which is `month`. `position` is that of its calendar month in a
+/// list of twelve. Both are the same for all rights, and most of them want what stands there.
 fn want_in_year(
     basin: &Basin,
     series: &Inflows,
     right: u32,
     index: u32,
+    month: Month,
     position: usize,
     used: u64,
 ) -> u64
@@ -21,6 +24,8 @@ fn want_in_year(
     requires series { IsSeriesOf basin.now series.now }
     requires right { right < length basin.now.rights }
     requires index { index < basin.now.months }
+    requires month { month ≡ run_month basin.now index }
+    requires valid { IsMonth month }
     requires position { position ≡ in_year basin.now index }
     ensures { result ≡ want_of basin.now series.now right index used }
 {
@@ -29,7 +34,7 @@ fn want_in_year(
         return want_of(basin, series, right, index, used);
     }
     match entry.kind {
-        RightKind::Instream { .. } => want_of(basin, series, right, index, used),
+        RightKind::Instream { link } => entry.want[position].min(carry_of(basin, link, month)),
         RightKind::Diversion { .. } => entry.want[position],
         RightKind::Zone { .. } => entry.want[position],
     }
@@ -47,9 +52,11 @@ pub fn read_wants(basin: &Basin, series: &Inflows, index: u32, used: &[u64], wan
     ensures each { (r : ℕ) → r < length basin.now.rights →
         slice_index want.new r ≡ want_of basin.now series.now r index (slice_index used.now r) }
 {
-    let position = month_at(basin, index).month as usize - 1;
+    let month = month_at(basin, index);
+    let position = month.month as usize - 1;
     for right in 0..basin.rights.len() {
-        want[right] = want_in_year(basin, series, right as u32, index, position, used[right]);
+        let used = used[right];
+        want[right] = want_in_year(basin, series, right as u32, index, month, position, used);
     }
 }
 

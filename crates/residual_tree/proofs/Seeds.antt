@@ -1,15 +1,15 @@
 -- Ways into freed nodes are found, and then taken.
 use Rattle.std.proofs.Common.{ℕ, ◌≡◌, ◌+◌, ◌-◌, ◌<◌, ◌⊎◌, List, [], length, slice_index, slice_set}
-use Rattle.std.proofs.Common.{arith, ap, sym, subst, inl, inr, ◌∙◌}
+use Rattle.std.proofs.Common.{refl, arith, ap, sym, subst, inl, inr, ◌∙◌}
 use Rattle.std.proofs.lemmas.Bool.{cases_eq}
 use Rattle.std.proofs.lemmas.List.{get_or-set_other, get_or-set_same}
-use Rattle.circulation.specs.Contents.{Contents, network, flow_of, arcs}
+use Rattle.circulation.specs.Contents.{Contents, network, flow_of, arcs, IsCirculation}
 use Rattle.circulation.specs.Residual.{arc_of, start_of, end_of, room_of, opposite}
-use Rattle.residual_tree.specs.Tree.{label_of, IsLabeled}
+use Rattle.residual_tree.specs.Tree.{label_of, IsLabeled, IsResidualTree}
 use Rattle.residual_tree.specs.Repair.{OccursIn, no_step, IsFoundLabel, IsShut, IsGrowing, IsWayIn}
 use Rattle.residual_tree.proofs.Changes.{occurs_more, occurs_here, occurs_or, occurs_nowhere, tree_map}
 use Rattle.residual_tree.proofs.Opposites.{opposite_is}
-use Rattle.residual_tree.proofs.Grows.{growing_attach, growing_room}
+use Rattle.residual_tree.proofs.Grows.{growing_attach, growing_room, artificial_none, inner_end}
 
 -- where none of the steps that leave a node is a way in when turned, there is none
 pub shut_end : {c : Contents} {labels : List ℕ} {v : ℕ} →
@@ -180,3 +180,39 @@ seeded {c} {freed} {count} g = record {
   marked = g.marked;
   bounded = g.bounded;
 }
+
+-- an unlabeled node gets its word, if a way into it was found
+pub word_given : {c : Contents} {labels queue labels' queue' : List ℕ} {word size size' : ℕ} (v : ℕ) → v < c.nodes →
+    label_of labels v ≡ 0 → ((s : ℕ) → word ≡ s + 1 → IsWayIn c labels v s) →
+    IsGrowing c (no_step c) labels [] queue 0 0 0 size →
+    (word ≡ 0 → (size' ≡ size) × (labels' ≡ labels) × (queue' ≡ queue)) →
+    (0 < word → label_of labels v ≡ 0 →
+    (size' ≡ size + 1) × (labels' ≡ slice_set labels v word) × (queue' ≡ slice_set queue size v)) →
+    IsGrowing c (no_step c) labels' [] queue' 0 0 0 size'
+word_given {labels = labels} {word = word} v b unlabeled ways g none fresh = elim (cases_eq word 0) [
+  | inl e ↦ let n = none e in rw (n.1, n.2, n.0) g
+  | inr some ↦
+      let f = fresh (omega arith) unlabeled in
+      let is : word ≡ word - 1 + 1 = omega arith in
+      let made = f.1 ∙ ap (slice_set labels v) is in
+      let way = ways (word - 1) is in
+      rw (made, f.2, f.0) (growing_attach v (word - 1) b g unlabeled record {
+        arc = way.arc;
+        enters = way.enters;
+        marked = way.marked;
+        room = inl way.room;
+      })
+]
+
+-- where no way leads into an unlabeled node, the tree is whole
+pub closed_tree : {c : Contents} {labels queue : List ℕ} {size : ℕ} → IsCirculation c →
+    IsGrowing c (no_step c) labels [] queue 0 0 0 size →
+    ((v : ℕ) → v < c.nodes → label_of labels v ≡ 0 → (s : ℕ) → IsWayIn c labels v s → ⊥) → IsResidualTree c labels
+closed_tree {c} {labels} k g shut =
+    artificial_none (tree_map g.tree (λ u d m e o. inr o) (λ u s d e b f o. o) (λ s b r m o.
+      let v = end_of (network c) s in
+      elim (cases_eq (label_of labels v) 0) [
+        | inl unlabeled ↦ absurd (shut v (inner_end labels s k b g.tree.root unlabeled) unlabeled s
+            record { arc = b; enters = refl; marked = m; room = r })
+        | inr ne ↦ inl (omega arith)
+      ]))

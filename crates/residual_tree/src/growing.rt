@@ -4,7 +4,8 @@ ghost use Rattle.std.specs.Prelude.{length, replicate, slice_index, slice_set};
 ghost use Rattle.circulation.specs.Contents.{arcs, flow_of, network, IsCirculation};
 ghost use Rattle.circulation.specs.Residual.{arc_of, room_of, end_of, opposite};
 ghost use Rattle.residual_tree.specs.Tree.{label_of, IsLabeled, IsResidualTree, unlabeled};
-ghost use Rattle.residual_tree.specs.Repair.{no_step, IsFoundLabel, IsShut, IsFreeing, IsGrowing, HasArtificialStep};
+ghost use Rattle.residual_tree.specs.Repair.{no_step, IsFoundLabel, IsShut, IsFreeing, IsGrowing, IsWayIn};
+ghost use Rattle.residual_tree.specs.Repair.{HasArtificialStep};
 
 use crate::ROOT;
 use crate::labels::Labels;
@@ -232,15 +233,119 @@ fn spread_out(circ: &CirculationMut<'_>, labels: &mut Labels<'_>, queue: &mut [u
     count
 }
 
-/// Labels all nodes to which steps lead from the outside, where none is labeled.
-pub fn grow_out(circ: &CirculationMut<'_>, labels: &mut Labels<'_>, queue: &mut [u64])
+/// Notes that no step leads on from the outside's own to the nodes in the queue: these are labeled from the outside.
+fn note_first(queue: &[u64], size: usize, depth: &mut [u64])
+    requires size { size ≤ length queue.now }
+    requires within { (k : ℕ) → k < size → slice_index queue.now k < length depth.old }
+    ensures { length depth.new ≡ length depth.old }
+{
+    for at in 0..size {
+        depth[queue[at] as usize] = 0;
+    }
+}
+
+/// One more than a way into a node from upstream, or 0 where none is found. `depth` has for each labeled node how many
+/// steps lead on to it, and gets the number for this one; of several ways the shortest is taken. No clause says so: any
+/// way will do, and a long one only costs time.
+fn nearest_way(
+    circ: &CirculationMut<'_>,
+    labels: &Labels<'_>,
+    depth: &mut [u64],
+    node: u32,
+) -> u64
+    requires node { node < circ.now.nodes }
+    requires depth { circ.now.nodes < length depth.old }
+    requires words { length labels.now ≡ circ.now.nodes + 1 }
+    requires kept { IsCirculation circ.now }
+    ensures way { (s : ℕ) → result ≡ s + 1 → IsWayIn circ.now labels.now node s }
+    ensures count { length depth.new ≡ length depth.old }
+{
+    let mut word = 0;
+    let mut least = u64::MAX;
+    for place in circ.row_first(node)..circ.row_last(node) {
+        let step = circ.step_at(place);
+        // The arcs that leave the node come last in its row.
+        if step % 2 == 0 {
+            break;
+        }
+        let end = circ.end_at(place);
+        if is_way_back(circ, labels, step, end) && depth[end as usize] < least {
+            least = depth[end as usize];
+            word = opposite(circ, step) + 1;
+        }
+    }
+    depth[node as usize] = least.saturating_add(1);
+    word
+}
+
+/// Labels, in the given order, each unlabeled node into which a way leads from upstream.
+fn label_in_order(
+    circ: &CirculationMut<'_>,
+    order: &[u32],
+    labels: &mut Labels<'_>,
+    queue: &mut [u64],
+    depth: &mut [u64],
+    size: usize,
+) -> usize
+    requires order { (i : ℕ) → i < length order.now → slice_index order.now i < circ.now.nodes }
+    requires depth { length depth.old ≡ 2 * circ.now.nodes }
+    requires tree { IsGrowing circ.now (no_step circ.now) labels.old [] queue.old 0 0 0 size }
+    requires kept { IsCirculation circ.now }
+    ensures { IsGrowing circ.now (no_step circ.now) labels.new [] queue.new 0 0 0 result }
+{
+    let mut count = size;
+    for place in 0..order.len() {
+        let node = order[place];
+        let own = labels.get(node);
+        if own == 0 {
+            let word = nearest_way(circ, labels, depth, node);
+            count = seed_node(labels, queue, node, word, count);
+        }
+    }
+    count
+}
+
+/// Whether no way leads into an unlabeled node.
+fn is_closed(circ: &CirculationMut<'_>, labels: &Labels<'_>) -> bool
+    requires words { length labels.now ≡ circ.now.nodes + 1 }
+    requires kept { IsCirculation circ.now }
+    ensures { result ≡ true → (v : ℕ) → v < circ.now.nodes → label_of labels.now v ≡ 0 →
+        (s : ℕ) → ¬ IsWayIn circ.now labels.now v s }
+{
+    for node in 0..circ.nodes() {
+        let own = labels.get(node);
+        if own == 0 {
+            if find_way(circ, labels, node) != 0 {
+                return false;
+            }
+        }
+    }
+    true
+}
+
+/// Labels all nodes to which steps lead from the outside, where none is labeled. Where each node of the order comes
+/// after those from which a way leads into it, no row of a labeled node is looked at.
+pub fn grow_out(
+    circ: &CirculationMut<'_>,
+    order: &[u32],
+    labels: &mut Labels<'_>,
+    queue: &mut [u64],
+    depth: &mut [u64],
+)
+    requires order { (i : ℕ) → i < length order.now → slice_index order.now i < circ.now.nodes }
     requires bare { labels.old ≡ replicate (circ.now.nodes + 1) 0 }
     requires places { length queue.old ≡ circ.now.nodes }
+    requires depth { length depth.old ≡ 2 * circ.now.nodes }
     requires kept { IsCirculation circ.now }
     ensures { IsResidualTree circ.now labels.new }
 {
     labels.set(circ.nodes(), ROOT);
-    let size = spread_out(circ, labels, queue);
+    let first = spread_out(circ, labels, queue);
+    note_first(queue, first, depth);
+    let size = label_in_order(circ, order, labels, queue, depth, first);
+    if is_closed(circ, labels) {
+        return;
+    }
     spread(circ, labels, queue, size);
 }
 

@@ -64,15 +64,22 @@ impl<'t> Model for ResidualTree<'t> {
 
 impl<'t> ResidualTree<'t> {
     /// The tree that grows from the outside alone, over all steps with room, in these words, which may hold anything.
-    pub fn plant(circ: &CirculationMut<'_>, words: &'t mut [u64]) -> ResidualTree<'t>
-        requires { length words.old ≡ tree_words circ.now.nodes }
+    /// The nodes are looked at in the given order. Any basin nodes will do; where each node is there after those from
+    /// which water can come to it, planting takes least time.
+    pub fn plant(
+        circ: &CirculationMut<'_>,
+        order: &[u32],
+        words: &'t mut [u64],
+    ) -> ResidualTree<'t>
+        requires order { (i : ℕ) → i < length order.now → slice_index order.now i < circ.now.nodes }
+        requires words { length words.old ≡ tree_words circ.now.nodes }
         ensures { IsResidualTree circ.now result }
     {
         let nodes = circ.nodes();
         let (labels, words) = words.split_at_mut(nodes as usize + 1);
         let (unlabeled, room) = words.split_at_mut(words_for(nodes));
         let mut labels = Labels::over(labels, unlabeled);
-        grow_all(circ, room, &mut labels);
+        grow_all(circ, order, room, &mut labels);
         ResidualTree { labels, room }
     }
 

@@ -12,15 +12,21 @@ use crate::labels::Labels;
 use circulation::CirculationMut;
 
 /// Grows the tree from the outside alone.
-pub fn grow_all(circ: &CirculationMut<'_>, room: &mut [u64], labels: &mut Labels<'_>)
+pub fn grow_all(
+    circ: &CirculationMut<'_>,
+    order: &[u32],
+    room: &mut [u64],
+    labels: &mut Labels<'_>,
+)
+    requires order { (i : ℕ) → i < length order.now → slice_index order.now i < circ.now.nodes }
     requires room { length room.old ≡ 3 * circ.now.nodes }
     requires bare { labels.old ≡ replicate (circ.now.nodes + 1) 0 }
     requires kept { IsCirculation circ.now }
     ensures { IsResidualTree circ.now labels.new }
 {
     let nodes = circ.nodes() as usize;
-    let (queue, _rest) = room.split_at_mut(nodes);
-    grow_out(circ, labels, queue);
+    let (queue, depth) = room.split_at_mut(nodes);
+    grow_out(circ, order, labels, queue, depth);
 }
 
 /// Repairs the tree after the steps in `count` scratch words from word `first` on may have lost their room.

@@ -1,16 +1,16 @@
 -- An amount that is sent over a round: what holds when the steps before `at` are done.
-use Rattle.std.proofs.Common.{ℕ, Bool, true, false, not, ◌≡◌, ◌≢◌, ◌+◌, ◌^◌, ◌<◌, ◌≤◌, List, length, slice_index}
+use Rattle.std.proofs.Common.{ℕ, Bool, true, false, not, ◌≡◌, ◌≢◌, ◌+◌, ◌^◌, ◌<◌, ◌≤◌, List, [], length, slice_index}
 use Rattle.std.proofs.Common.{◌==◌, ◌⊎◌, ◌-◌, All, min, get_or, slice_set, refl, arith, ap, sym, subst, inl, inr, ◌∙◌}
 use Rattle.std.proofs.lemmas.Bool.{cases_lt}
 use Rattle.std.proofs.lemmas.Bool.Decides.{eqb_tells}
-use Rattle.std.proofs.lemmas.List.{get_or-set_same, get_or-set_other, length-set}
+use Rattle.std.proofs.lemmas.List.{get_or-map, get_or-set_same, get_or-set_other, length-set}
 use Rattle.finite_sums.specs.Sums.{when}
 use Rattle.water_model.specs.Basin.{is_river}
 use Rattle.water_model.specs.declared.types.Basin.{Basin}
 use Rattle.circulation.specs.Network.{Network, IsFlow, inflow, outflow}
 use Rattle.circulation.specs.Residual.{arc_of, is_backward, by_direction, start_of, room_of, IsClosedWalk}
 use Rattle.circulation.proofs.Pushing.{IsPushing, pushing_start, pushing_next, change_fits}
-use Rattle.rivers_first.specs.Rounds.{links_above, IsRound, IsDown}
+use Rattle.rivers_first.specs.Rounds.{canal_of, links_above, HasRounds, IsRound, IsDown}
 use Rattle.rivers_first.specs.Sent.{IsWithin, IsSent, HasFullRiver, IsRoomOfOne, IsRelieved, IsRelievedIfDown}
 
 -- the links of the basin with what is kept on them
@@ -241,3 +241,11 @@ relieved_then b kept old now new rounds before are k d l down = elim (are k d l 
     full = fill.full;
   }
 ]
+
+-- the canal of a round is one of the links
+pub canal_inside : {b : Basin} {rounds : List (List ℕ)} {kept canals : List ℕ} → HasRounds b rounds kept canals →
+    (at d : ℕ) → at < length rounds → get_or canals at d < length b.links
+canal_inside {rounds = rounds} h at d l =
+    let round = h.are.each at [] l in
+    let is = ap (λ (xs : List ℕ). get_or xs at d) h.canals_are ∙ get_or-map canal_of rounds at [] d l in
+    omega (arith, is, (round.steps 0 round.canal.some).link)

@@ -1,5 +1,5 @@
 -- Rounds: closed walks of the residual network that take water off a canal, and give it to rivers.
-use Rattle.std.specs.Prelude.{◌≡◌, ◌≢◌, ℕ, ◌+◌, ◌<◌, ◌^◌, true, false, All, List, length, slice_index}
+use Rattle.std.specs.Prelude.{◌≡◌, ◌≢◌, ℕ, ◌+◌, ◌<◌, ◌^◌, true, false, All, List, length, map, slice_index}
 use Rattle.water_model.specs.Basin.{tail_of, head_of, is_river}
 use Rattle.water_model.specs.declared.types.Basin.{Basin}
 use Rattle.circulation.specs.Network.{Network}
@@ -55,3 +55,12 @@ pub record RoundsView : Type 0 where
 pub record AreRounds (v : RoundsView) : Type 0 where
   pub each : All (IsRound v.basin) v.rounds
   pub room : length v.kept ≡ length v.basin.links
+
+-- the canal that a round takes water off
+abbrev pub canal_of : List ℕ → ℕ
+canal_of round = arc_of (slice_index round 0)
+
+-- the canals are those of the rounds
+pub record HasRounds (b : Basin) (rounds : List (List ℕ)) (kept canals : List ℕ) : Type 0 where
+  pub are : AreRounds (record { basin = b; rounds = rounds; kept = kept })
+  pub canals_are : canals ≡ map canal_of rounds

@@ -1,13 +1,13 @@
 //! The rounds of a basin, and what is sent round.
 ghost use Rattle.std.specs.Prelude.{◌≡◌, ◌⊎◌, ℕ, ◌+◌, ◌*◌, ◌^◌, ◌<◌, ◌≤◌, true, false, not, All, List, length};
-ghost use Rattle.std.specs.Prelude.{slice_index, IfOk};
+ghost use Rattle.std.specs.Prelude.{[], slice_index, slice_index_or, map, IfOk};
 ghost use Rattle.water_text.specs.declared.month.Month.{Month};
 ghost use Rattle.water_model.specs.Basin.{is_river};
 ghost use Rattle.water_model.specs.Plans.{IsGreatest, DeliversSame};
 ghost use Rattle.water_model.specs.Valid.{IsValidBasin};
 ghost use Rattle.finite_sums.specs.Sums.{when};
 ghost use Rattle.circulation.specs.Residual.{arc_of, is_backward, room_of, IsPushed};
-ghost use Rattle.rivers_first.specs.Rounds.{links_above, IsRound, IsDown};
+ghost use Rattle.rivers_first.specs.Rounds.{canal_of, links_above, IsRound, IsDown};
 ghost use Rattle.rivers_first.specs.Sent.{IsWithin, IsSent, KeepsInstream, HasFullRiver, IsRelieved, IsRelievedIfDown};
 ghost use Rattle.rivers_first.specs.Sent.{IsRoomOfOne};
 
@@ -28,18 +28,20 @@ pub struct Rounds<'b> {
     basin: &'b Basin,
     /// Those of canals further down come first: what a lower canal gives up makes room for the others.
     rounds: Vec<Rows<u32>>,
+    /// The canal of each round: most rounds need no more than a look at it.
+    canals: Vec<u32>,
     /// Room: the least that each link must carry in a month.
     kept: Vec<u64>,
 }
 
 impl<'b> Model for Rounds<'b> {
-    ghost use Rattle.rivers_first.specs.Rounds.{RoundsView, AreRounds};
+    ghost use Rattle.rivers_first.specs.Rounds.{RoundsView, HasRounds};
 
     ghost Value = { RoundsView };
 
     ghost view = { λ r. record { basin = r.basin.now; rounds = r.rounds.items; kept = r.kept.items } };
 
-    ghost invariant = { λ r. AreRounds (record { basin = r.basin.now; rounds = r.rounds.items; kept = r.kept.items }) };
+    ghost invariant = { λ r. HasRounds r.basin.now r.rounds.items r.kept.items r.canals.items };
 }
 
 /// Notes for each link the most that an instream right on it has of its want.
@@ -76,6 +78,19 @@ fn stepped(flow: u64, step: u32, amount: u64) -> u64
     }
 }
 
+/// The canals of rounds.
+fn canals_of(alloc: Global, basin: &Basin, rounds: &[Rows<u32>]) -> Result<Vec<u32>, AllocError>
+    requires { All (IsRound basin.now) rounds.now }
+    ensures { IfOk result (λ canals. canals.items ≡ map canal_of rounds.now) }
+{
+    let _links = basin.links.len();
+    let mut canals = Vec::with_capacity(alloc, rounds.len())?;
+    for round in rounds {
+        canals.push(round[0] / 2)?;
+    }
+    Ok(canals)
+}
+
 impl<'b> Rounds<'b> {
     /// The rounds of a basin, whose nodes are given in an order in which each link runs forward. AllocError comes
     /// where memory is lacking. No other call takes memory.
@@ -88,10 +103,12 @@ impl<'b> Rounds<'b> {
         for place in (0..order.len()).rev() {
             search.add_rounds(alloc, basin, order[place], &mut rounds)?;
         }
+        let canals = canals_of(alloc, basin, &rounds)?;
         let kept = vec![in alloc; 0; basin.links.len()]?;
         Ok(Rounds {
             basin,
             rounds,
+            canals,
             kept,
         })
     }
@@ -161,6 +178,20 @@ impl<'b> Rounds<'b> {
         }
     }
 
+    /// Sends as much as can go over the round with this index: nothing where its canal carries no more than is kept.
+    fn send_over(&self, at: usize, flow: &mut [u64])
+        requires at { at < length self.now.rounds }
+        requires within { IsWithin self.now.basin self.now.kept flow.old }
+        ensures sent { IsSent self.now.basin self.now.kept flow.old flow.new }
+        ensures relieved { let round = slice_index_or self.now.rounds at [] in
+            IsDown round → IsRelieved self.now.kept flow.new round ⊎ HasFullRiver self.now.basin flow.new }
+    {
+        let canal = self.canals[at] as usize;
+        if flow[canal] > self.kept[canal] {
+            self.send(self.rounds[at].as_slice(), flow);
+        }
+    }
+
     /// Sends as much as can go over one round after the other.
     fn send_all(&self, flow: &mut [u64])
         requires within { IsWithin self.now.basin self.now.kept flow.old }
@@ -168,7 +199,7 @@ impl<'b> Rounds<'b> {
         ensures relieved { All (IsRelievedIfDown self.now.basin self.now.kept flow.old flow.new) self.now.rounds }
     {
         for at in 0..self.rounds.len() {
-            self.send(self.rounds[at].as_slice(), flow);
+            self.send_over(at, flow);
         }
     }
 

@@ -13,7 +13,7 @@ ghost use Rattle.senior_hold.specs.Spilled.{spilled, spills_of};
 
 use crate::arcs::Arcs;
 use circulation::CirculationMut;
-use water_model::calls::{carry_of, taking_node};
+use water_model::calls::carry_of;
 use water_model::types::{Basin, Plan};
 use water_text::month::Month;
 
@@ -31,6 +31,16 @@ fn lay_flows(basin: &Basin, flow: &[u64], into: &mut [u64])
     }
 }
 
+/// Whether a right's arc is that of its take, which comes after the links.
+fn is_taker(basin: &Basin, arcs: &Arcs, right: usize) -> bool
+    requires valid { IsValidBasin basin.now }
+    requires arcs { AreArcs basin.now arcs.now }
+    requires right { right < length basin.now.rights }
+    ensures { result ≡ takes basin.now right }
+{
+    arcs.rights[right] as usize >= basin.links.len()
+}
+
 /// Writes what rights take at the indices of their arcs.
 fn lay_takes(basin: &Basin, arcs: &Arcs, take: &[u64], into: &mut [u64])
     requires valid { IsValidBasin basin.now }
@@ -42,7 +52,7 @@ fn lay_takes(basin: &Basin, arcs: &Arcs, take: &[u64], into: &mut [u64])
         AreAmountsOf basin.now p (slice_index into.new) (length basin.now.links) (length basin.now.rights) 0 }
 {
     for right in 0..basin.rights.len() {
-        if taking_node(basin, right as u32).is_some() {
+        if is_taker(basin, arcs, right) {
             into[arcs.rights[right] as usize] = take[right];
         }
     }
@@ -147,9 +157,10 @@ pub fn read_takes(basin: &Basin, circ: &CirculationMut<'_>, arcs: &Arcs, into: &
         when (takes basin.now r) (flow_of circ.now (take_arc basin.now r))) }
 {
     for right in 0..basin.rights.len() {
-        into[right] = match taking_node(basin, right as u32) {
-            Some(_) => circ.flow(arcs.rights[right]),
-            None => 0,
+        into[right] = if is_taker(basin, arcs, right) {
+            circ.flow(arcs.rights[right])
+        } else {
+            0
         };
     }
 }

@@ -228,7 +228,7 @@ pub fn sweep_month<L: Ledger>(
     ensures swept { IsSweep givens.now plan.new cuts.new searches.old searches.new result }
 {
     let mut circ = begin(givens, room, held, fixed, moving, plan);
-    let mut tree = ResidualTree::plant(&circ, words);
+    let mut tree = ResidualTree::plant(&circ, givens.layout.net.order(), words);
     let order = givens.layout.roll.by_seniority();
     let mut left = PUSHES_PER_RIGHT * order.len() as u32;
     for turn in 0..order.len() {

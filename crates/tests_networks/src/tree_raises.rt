@@ -150,7 +150,8 @@ fn run<L: Ledger, R: Abort>(
     hold_all(rt, &mut circ, case);
     let nodes = circ.nodes();
     let mut words = vec![in alloc; 0; tree_words(nodes)]?;
-    let mut tree = ResidualTree::plant(&circ, &mut words);
+    // Months are planted in the order of the network; without an order all steps are looked at.
+    let mut tree = ResidualTree::plant(&circ, &[], &mut words);
     let mut searches: Steps<L> = Steps::new(blank);
     let raises = play_all(rt, &mut circ, &mut tree, case, max_pushes, &mut searches);
     compare_unlabeled(rt, &circ, &tree, case);

@@ -1,5 +1,4 @@
-use Rattle.std.proofs.Common.{◌≡◌, ◌∙◌, ◌<◌, ap, sym, arith, true, length}
-use Rattle.std.specs.Prelude.{is_some}
+use Rattle.std.proofs.Common.{◌≡◌, ◌∙◌, ◌<◌, sym, arith, true, length}
 use Rattle.senior_hold.specs.MonthNetwork.{takes}
 use Rattle.senior_hold.proofs.Numbers.{right_arc_read, list_is, takes_arc_in}
 use Rattle.senior_hold.proofs.amounts.read_takes.Goals as goal
@@ -8,8 +7,7 @@ pub flow-requires : goal.flow-requires
 flow-requires c =
     let inside : c.loop-right.right < length c.args.basin.now.rights =
     omega (arith, c.loop-right-test.true, c.len-right-end.ensures) in
-    let t : takes c.args.basin.now c.loop-right.right ≡ true =
-    ap is_some (sym c.taking_node.ensures.value ∙ c.in-Some.is) in
+    let t : takes c.args.basin.now c.loop-right.right ≡ true = sym c.is_taker.ensures ∙ c.if-is_taker.true in
     omega (
       arith,
       takes_arc_in c.args.basin.now c.loop-right.right _ c.requires.valid inside t
