@@ -3,11 +3,12 @@ use Rattle.std.proofs.Common.{ℕ, ◌≢◌, ◌≡◌, ◌+◌, ◌-◌, ◌*�
 use Rattle.std.proofs.Common.{arith, ap, sym, subst, inl, inr, ◌∙◌}
 use Rattle.std.proofs.lemmas.Bool.{cases_eq}
 use Rattle.std.proofs.lemmas.List.{get_or-set_other, get_or-set_same, length-set}
-use Rattle.circulation.specs.Contents.{Contents, network, flow_of, arcs, IsCirculation}
+use Rattle.circulation.specs.Contents.{Contents, network, flow_of, arcs, step_of, IsCirculation}
 use Rattle.circulation.specs.Residual.{arc_of, start_of, end_of, room_of}
 use Rattle.residual_tree.specs.declared.TheConstants.{ROOT}
 use Rattle.residual_tree.specs.Tree.{label_of, IsLabeled, IsResidualTree}
 use Rattle.residual_tree.specs.Repair.{none, only, no_step, IsFreeing, IsGrowing, HasArtificialStep}
+use Rattle.residual_tree.specs.Repair.{IsSaturatedTree}
 use Rattle.residual_tree.proofs.Changes.{count_most, count_attached, occurs_more, occurs_here, occurs_or}
 use Rattle.residual_tree.proofs.Changes.{occurs_nowhere, IsLooseWay, labeled_still, tree_attach, tree_map}
 use Rattle.circulation.proofs.Overs.{over_backward, end_within}
@@ -300,3 +301,21 @@ freed_none {c} {labels} {freed} {at} f = artificial_none
       | inl free ↦ absurd (occurs_nowhere freed 0 0 (end_of (network c) s) free (omega arith))
       | inr unscanned ↦ absurd unscanned
     ]))
+
+-- where the first of the steps that may have lost their room labels no node, the others are all that may
+pub saturated_next : {c : Contents} {labels : List ℕ} {at last s : ℕ} → step_of c at ≡ s →
+    (label_of labels (end_of (network c) s) ≡ s + 1 → ⊥) → IsSaturatedTree c labels at last →
+    IsSaturatedTree c labels (at + 1) last
+saturated_next {c} {labels} {s = s} is other t = tree_map t (λ u d m e o. elim (occurs_or o) [
+  | inl first ↦
+      let own : label_of labels u - 1 ≡ s = sym first ∙ is in
+      let here : u ≡ end_of (network c) s = sym e ∙ ap (end_of (network c)) own in
+      absurd (other (omega (arith, ap (label_of labels) here, own, m)))
+  | inr later ↦ inr later
+]) (λ u x d e b f o. o) (λ x b r m o. inr o)
+
+-- where no step may have lost its room, the tree is whole
+pub saturated_none : {c : Contents} {labels : List ℕ} {at : ℕ} → IsSaturatedTree c labels at at → IsResidualTree c labels
+saturated_none {c} {labels} {at} t =
+    artificial_none (tree_map t (λ u d m e o. occurs_nowhere c.scratch at at (label_of labels u - 1) o (omega arith))
+    (λ u s d e b f o. o) (λ s b r m o. inr o))

@@ -1,18 +1,14 @@
 -- What a round and a hold leave.
-use Rattle.std.proofs.Common.{ℕ, max, ◌≡◌, ◌+◌, ◌-◌, ◌*◌, ◌<◌, ◌≤◌, List, length, slice_index, slice_set, refl, arith}
+use Rattle.std.proofs.Common.{ℕ, max, ◌≡◌, ◌+◌, ◌*◌, ◌<◌, ◌≤◌, List, length, slice_index, slice_set, refl, arith}
 use Rattle.std.proofs.Common.{ap, sym, subst, inl, inr, ◌∙◌}
 use Rattle.std.proofs.lemmas.Bool.{cases_eq}
 use Rattle.std.proofs.lemmas.List.{get_or-set_other, get_or-set_same, length-set}
 use Rattle.std.proofs.lemmas.Grind.{same_number_lists}
-use Rattle.circulation.specs.Contents.{Contents, network, flow_of, arcs, step_of, held_contents, IsCirculation}
-use Rattle.circulation.specs.Contents.{SameButScratch}
-use Rattle.circulation.specs.Residual.{arc_of, end_of, IsPushed}
+use Rattle.circulation.specs.Contents.{Contents, flow_of, arcs, step_of, held_contents, IsCirculation, SameButScratch}
+use Rattle.circulation.specs.Residual.{arc_of, IsPushed}
 use Rattle.circulation.proofs.Pushing.{pushed_first}
-use Rattle.residual_tree.specs.Tree.{label_of, IsResidualTree}
 use Rattle.residual_tree.specs.Repair.{IsSaturatedTree, HasSomeArtificial}
 use Rattle.residual_tree.specs.Raised.{IsGathered, IsTraced, IsRaisedOver}
-use Rattle.residual_tree.proofs.Changes.{occurs_nowhere, tree_map}
-use Rattle.residual_tree.proofs.Grows.{artificial_none}
 use Rattle.residual_tree.proofs.Pushes.{but_over, pushed_saturated, saturated_written}
 
 -- nothing changed but scratch words
@@ -42,21 +38,21 @@ raised_is c {e} r amount written pushed held =
     ∙ ap (λ (x : Contents). held_contents (record x { flow = e.flow }) r amount) written
 
 -- the tree after a walk was written, a push, a hold, and the artificial step after those that are listed
-pub record IsRoundTree (g : Contents) (labels : List ℕ) (full artificial : ℕ) : Type 0 where
-  pub fits : full < 4 * g.nodes + 8
-  pub arcs : (i : ℕ) → 0 ≤ i → i < full + 1 → arc_of (step_of g i) < arcs g
-  pub last : step_of g full ≡ artificial
-  pub saturated : IsSaturatedTree g labels 0 (full + 1)
+pub record IsRoundTree (c g : Contents) (labels : List ℕ) (last : ℕ) : Type 0 where
+  pub fits : last ≤ 4 * g.nodes + 8
+  pub saturated : IsSaturatedTree g labels 0 last
+  pub arcs : (i : ℕ) → 0 ≤ i → i < last → arc_of (step_of g i) < arcs g
 
-pub round_saturated : {c d e f g : Contents} {labels : List ℕ} {r most first full last : ℕ}
+pub round_saturated : {c d e f g : Contents} {labels : List ℕ} {r most first full last : ℕ} (last' : ℕ)
     {amount : ℕ} (flow : ℕ) → IsCirculation d → (t : HasSomeArtificial c labels r) → arc_of t.step < arcs c →
     flow_of c r ≡ slice_index c.lower r →
     IsTraced c d labels r most first amount full → 0 < amount → e ≡ record d { flow = e.flow } →
     last ≡ 4 * c.nodes + 8 →
     IsPushed (flow_of d) (flow_of e) (step_of d) first last amount → f ≡ held_contents e r flow →
-    g ≡ record f { scratch = slice_set f.scratch full t.step } → IsRoundTree g labels full t.step
-round_saturated {c} {d} {e} {f} {labels} {r} {first = first} {full = full} {last = last} {amount} flow k t b held
-    traced positive pushed is p made written =
+    g ≡ record f { scratch = slice_set f.scratch full t.step } → last' ≡ full + 1 →
+    IsRoundTree c g labels last'
+round_saturated {c} {d} {e} {f} {labels} {r} {first = first} {full = full} {last = last} last' {amount} flow k t b held
+    traced positive pushed is p made written more =
     let rest = traced.rest in
     let kept = subst IsCirculation rest k in
     let gathered = subst (λ (x : Contents). IsGathered x first full amount) rest traced.gathered in
@@ -70,9 +66,8 @@ round_saturated {c} {d} {e} {f} {labels} {r} {first = first} {full = full} {last
       tree = but_over d.scratch t.tree;
     } in
     let long : full < length d.scratch = omega (arith, kept.shape.scratch, gathered.fits, traced.prefix) in
-    rw after record {
+    rw (more, after) record {
       fits = omega (arith, gathered.fits, traced.prefix);
-      last = get_or-set_same d.scratch full t.step 0 long;
       saturated = saturated_written full t.step long
           (pushed_saturated (slice_set c.lower r (max (slice_index c.lower r) flow))
           e.flow full kept over (traced.walk positive) whole traced.forward traced.ends gathered.all
@@ -156,22 +151,3 @@ hold_still {c} {d} r {amount} k b is held made =
           ∙ omega (arith, is, held) ∙ sym (ap (slice_index c.lower) e)
       | inr ne ↦ get_or-set_other c.lower r a more 0 ne
     ]))
-
--- where the last of the steps that may have lost their room labels no node, it needs no repair
-pub saturated_but_last : {c : Contents} {labels : List ℕ} {full : ℕ} (artificial : ℕ) → step_of c full ≡ artificial →
-    (label_of labels (end_of (network c) artificial) ≡ artificial + 1 → ⊥) → IsSaturatedTree c labels 0 (full + 1) →
-    IsSaturatedTree c labels 0 full
-saturated_but_last {c} {labels} {full} artificial last other t =
-    tree_map t (λ u d m e o. elim (cases_eq o.place full) [
-      | inl f ↦
-          let is : label_of labels u - 1 ≡ artificial = sym o.is ∙ ap (step_of c) f ∙ last in
-          let here : u ≡ end_of (network c) artificial = sym e ∙ ap (end_of (network c)) is in
-          absurd (other (omega (arith, ap (label_of labels) here, is, m)))
-      | inr ne ↦ inr record { place = o.place; from = o.from; below = omega (arith, o.below, ne); is = o.is }
-    ]) (λ u s d e b f o. o) (λ s b r m o. inr o)
-
--- where no step may have lost its room, the tree is whole
-pub saturated_none : {c : Contents} {labels : List ℕ} → IsSaturatedTree c labels 0 0 → IsResidualTree c labels
-saturated_none {c} {labels} t =
-    artificial_none (tree_map t (λ u d m e o. occurs_nowhere c.scratch 0 0 (label_of labels u - 1) o (omega arith))
-    (λ u s d e b f o. o) (λ s b r m o. inr o))

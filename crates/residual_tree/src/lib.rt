@@ -30,6 +30,7 @@ use crate::parts::{grow_all, label_back, regrow};
 pub use crate::raising::{TreeRaised, raise_by_tree, raise_within_unlabeled};
 use bit_words::words_for;
 use circulation::CirculationMut;
+use circulation::residual::end;
 use std::marker::Model;
 
 /// The word of the outside node, which no step has.
@@ -93,7 +94,15 @@ impl<'t> ResidualTree<'t> {
     {
         // This call says that the circulation is kept.
         let _nodes = circ.nodes();
-        regrow(circ, self.room, &mut self.labels, first, count);
+        let last = first + count;
+        for at in first..last {
+            let step = circ.scratch_get(at);
+            // Most steps that a push fills label no node.
+            if self.word(end(circ, step)) == step + 1 {
+                regrow(circ, self.room, &mut self.labels, at, last - at);
+                return;
+            }
+        }
     }
 
     /// The word of a node: 0 where it is unlabeled, else one more than the step by which it is labeled. The

@@ -1,57 +1,17 @@
 //! Raises the flow on an arc by pushes along the tree.
-ghost use Rattle.std.specs.Prelude.{◌≡◌, true, false, ℕ, ◌+◌, ◌-◌, ◌*◌, ◌<◌, ◌≤◌, ◌≢◌, ◌⊎◌, slice_index, ◌↔◌};
-ghost use Rattle.circulation.specs.Contents.{arcs, flow_of, step_of, network, IsCirculation, SameButScratch};
+ghost use Rattle.std.specs.Prelude.{◌≡◌, true, false, ◌+◌, ◌-◌, ◌*◌, ◌<◌, ◌≤◌, ◌≢◌, ◌⊎◌, slice_index, ◌↔◌};
+ghost use Rattle.circulation.specs.Contents.{arcs, flow_of, network, IsCirculation, SameButScratch};
 ghost use Rattle.circulation.specs.Residual.{arc_of, end_of};
 ghost use Rattle.circulation.specs.Network.{IsGreatestCut};
 ghost use Rattle.residual_tree.specs.Tree.{label_of, IsLabeled, IsResidualTree, unlabeled};
-ghost use Rattle.residual_tree.specs.Repair.{HasArtificialStep, IsSaturatedTree};
+ghost use Rattle.residual_tree.specs.Repair.{HasArtificialStep};
 ghost use Rattle.residual_tree.specs.Raised.{IsExit, IsFull, IsRaisedOver};
 
 use crate::ResidualTree;
 use crate::tracing::trace;
 use circulation::CirculationMut;
-use circulation::residual::end;
 use std::sync::ledger::Ledger;
 use steps::Steps;
-
-/// How many of the steps that a push listed may need a repair. Those that it filled stand in the first `full` scratch
-/// words, and after them the artificial one, which may have no room either: it counts where it labels a node.
-fn count_loose(
-    circ: &CirculationMut<'_>,
-    tree: &ResidualTree<'_>,
-    artificial: u64,
-    full: usize,
-) -> usize
-    requires arc { arc_of artificial < arcs circ.now }
-    requires fits { full < 4 * circ.now.nodes + 8 }
-    requires last { step_of circ.now full ≡ artificial }
-    requires saturated { IsSaturatedTree circ.now tree.now 0 (full + 1) }
-    requires kept { IsCirculation circ.now }
-    ensures most { result ≤ full + 1 }
-    ensures saturated { IsSaturatedTree circ.now tree.now 0 result }
-{
-    if tree.word(end(circ, artificial)) == artificial + 1 {
-        full + 1
-    } else {
-        full
-    }
-}
-
-/// Repairs the tree after a push whose listed steps are those of `count_loose`.
-fn mend(circ: &CirculationMut<'_>, tree: &mut ResidualTree<'_>, artificial: u64, full: usize)
-    requires fits { full < 4 * circ.now.nodes + 8 }
-    requires arcs { (i : ℕ) → 0 ≤ i → i < full + 1 → arc_of (step_of circ.now i) < arcs circ.now }
-    requires last { step_of circ.now full ≡ artificial }
-    requires saturated { IsSaturatedTree circ.now tree.old 0 (full + 1) }
-    ensures { IsResidualTree circ.now tree.new }
-{
-    // This call says that the circulation is kept.
-    let _nodes = circ.nodes();
-    let count = count_loose(circ, tree, artificial, full);
-    if count > 0 {
-        tree.repair(circ, 0, count);
-    }
-}
 
 /// One push along the walk over the arc, the exit and the tree, after which the flow of the arc is held and the tree
 /// repaired. The step `artificial` to the head of the arc may have no room. Answers whether there was room for the
@@ -95,7 +55,7 @@ fn round<L: Ledger>(
     let flow = circ.flow(arc);
     circ.hold(arc, flow);
     circ.scratch_set(walk.full, artificial);
-    mend(circ, tree, artificial, walk.full);
+    tree.repair(circ, 0, walk.full + 1);
     true
 }
 

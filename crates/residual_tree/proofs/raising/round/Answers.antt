@@ -20,16 +20,16 @@ push-requires-clause-walk g c =
     subst (λ (n : ℕ). IsClosedWalk (network c.trace-walk.new.circ) (flow_of c.trace-walk.new.circ)
     (step_of c.trace-walk.new.circ) c.trace-walk.result.first n c.trace-walk.result.amount) last own
 
-pub mend-requires : goal.mend-requires
-mend-requires g c =
+pub repair-requires : goal.repair-requires
+repair-requires g c =
     let t = c.trace-walk.ensures.traced in
     let nodes = ap (λ (x : Contents). x.nodes) t.rest in
-    let r = round_saturated c.flow-flow.result c.trace-walk.ensures.kept
+    let r = round_saturated (0 + (c.trace-walk.result.full + 1)) c.flow-flow.result c.trace-walk.ensures.kept
     record { step = c.args.artificial; enters = c.requires.artificial_end; tree = c.requires.tree }
     c.requires.artificial_arc c.requires.held t (omega (arith, c.if-walk-eq0.false)) c.push.ensures.rest
     (omega (arith, nodes, c.nodes.ensures.number, t.some)) c.push.ensures.pushed c.hold.ensures.held
-    c.scratch_set.ensures.written in
-    record { fits = r.fits; arcs = r.arcs; last = r.last; saturated = r.saturated }
+    c.scratch_set.ensures.written (omega arith) in
+    record { fits = r.fits; arcs = r.arcs; saturated = r.saturated }
 
 pub returns-clause-pushed : goal.returns-clause-pushed
 returns-clause-pushed g c = λ _.
