@@ -210,9 +210,9 @@ pub closed_tree : {c : Contents} {labels queue : List ℕ} {size : ℕ} → IsCi
     ((v : ℕ) → v < c.nodes → label_of labels v ≡ 0 → (s : ℕ) → IsWayIn c labels v s → ⊥) → IsResidualTree c labels
 closed_tree {c} {labels} k g shut =
     artificial_none (tree_map g.tree (λ u d m e o. inr o) (λ u s d e b f o. o) (λ s b r m o.
-      let v = end_of (network c) s in
-      elim (cases_eq (label_of labels v) 0) [
-        | inl unlabeled ↦ absurd (shut v (inner_end labels s k b g.tree.root unlabeled) unlabeled s
-            record { arc = b; enters = refl; marked = m; room = r })
-        | inr ne ↦ inl (omega arith)
-      ]))
+    let v = end_of (network c) s in
+    elim (cases_eq (label_of labels v) 0) [
+      | inl unlabeled ↦ absurd (shut v (inner_end labels s k b g.tree.root unlabeled) unlabeled s
+          record { arc = b; enters = refl; marked = m; room = r })
+      | inr ne ↦ inl (omega arith)
+    ]))

@@ -233,7 +233,7 @@ fn spread_out(circ: &CirculationMut<'_>, labels: &mut Labels<'_>, queue: &mut [u
     count
 }
 
-/// Notes that no step leads on from the outside's own to the nodes in the queue: these are labeled from the outside.
+/// Notes that no step leads on to the nodes in the queue: they are labeled from the outside.
 fn note_first(queue: &[u64], size: usize, depth: &mut [u64])
     requires size { size ≤ length queue.now }
     requires within { (k : ℕ) → k < size → slice_index queue.now k < length depth.old }
@@ -247,12 +247,7 @@ fn note_first(queue: &[u64], size: usize, depth: &mut [u64])
 /// One more than a way into a node from upstream, or 0 where none is found. `depth` has for each labeled node how many
 /// steps lead on to it, and gets the number for this one; of several ways the shortest is taken. No clause says so: any
 /// way will do, and a long one only costs time.
-fn nearest_way(
-    circ: &CirculationMut<'_>,
-    labels: &Labels<'_>,
-    depth: &mut [u64],
-    node: u32,
-) -> u64
+fn nearest_way(circ: &CirculationMut<'_>, labels: &Labels<'_>, depth: &mut [u64], node: u32) -> u64
     requires node { node < circ.now.nodes }
     requires depth { circ.now.nodes < length depth.old }
     requires words { length labels.now ≡ circ.now.nodes + 1 }

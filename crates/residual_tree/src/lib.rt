@@ -67,11 +67,7 @@ impl<'t> ResidualTree<'t> {
     /// The tree that grows from the outside alone, over all steps with room, in these words, which may hold anything.
     /// The nodes are looked at in the given order. Any basin nodes will do; where each node is there after those from
     /// which water can come to it, planting takes least time.
-    pub fn plant(
-        circ: &CirculationMut<'_>,
-        order: &[u32],
-        words: &'t mut [u64],
-    ) -> ResidualTree<'t>
+    pub fn plant(circ: &CirculationMut<'_>, order: &[u32], words: &'t mut [u64]) -> ResidualTree<'t>
         requires order { (i : ℕ) → i < length order.now → slice_index order.now i < circ.now.nodes }
         requires words { length words.old ≡ tree_words circ.now.nodes }
         ensures { IsResidualTree circ.now result }

@@ -12,12 +12,7 @@ use crate::labels::Labels;
 use circulation::CirculationMut;
 
 /// Grows the tree from the outside alone.
-pub fn grow_all(
-    circ: &CirculationMut<'_>,
-    order: &[u32],
-    room: &mut [u64],
-    labels: &mut Labels<'_>,
-)
+pub fn grow_all(circ: &CirculationMut<'_>, order: &[u32], room: &mut [u64], labels: &mut Labels<'_>)
     requires order { (i : ℕ) → i < length order.now → slice_index order.now i < circ.now.nodes }
     requires room { length room.old ≡ 3 * circ.now.nodes }
     requires bare { labels.old ≡ replicate (circ.now.nodes + 1) 0 }

@@ -83,7 +83,6 @@ fn canals_of(alloc: Global, basin: &Basin, rounds: &[Rows<u32>]) -> Result<Vec<u
     requires { All (IsRound basin.now) rounds.now }
     ensures { IfOk result (λ canals. canals.items ≡ map canal_of rounds.now) }
 {
-    let _links = basin.links.len();
     let mut canals = Vec::with_capacity(alloc, rounds.len())?;
     for round in rounds {
         canals.push(round[0] / 2)?;
