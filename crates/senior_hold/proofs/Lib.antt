@@ -23,3 +23,4 @@ pub mod Budget
 pub mod ShutStarts
 pub mod Placing
 pub mod Preferred
+pub mod Dailies

@@ -1,5 +1,6 @@
 pub mod MonthNetwork
 pub mod Arcs
+pub mod Carries
 pub mod Solved
 pub mod Serving
 pub mod Spilled

@@ -7,18 +7,17 @@ ghost use Rattle.water_model.specs.Plans.{carry_of};
 ghost use Rattle.water_model.specs.Valid.{IsValidBasin};
 ghost use Rattle.circulation.specs.Contents.{network, flow_of, arcs};
 ghost use Rattle.senior_hold.specs.MonthNetwork.{arc_count, taker_count, take_arc, spill_arc, takes, list_of};
+ghost use Rattle.senior_hold.specs.Carries.{AreDailies};
 ghost use Rattle.senior_hold.specs.Arcs.{AreArcs, AreAmounts, AreAmountsOf, AreBounds};
 ghost use Rattle.senior_hold.specs.Solved.{FitsPlan};
 ghost use Rattle.senior_hold.specs.Spilled.{spilled, spills_of};
 
 use crate::arcs::Arcs;
+use crate::carries::{RIVER_CARRY, lay_carries};
 use circulation::CirculationMut;
-use water_model::calls::carry_of;
+use water_model::rows::Rows;
 use water_model::types::{Basin, Plan};
 use water_text::month::Month;
-
-/// As much as a river carries in a month, in units of 1,000 cubic metres.
-pub const RIVER_CARRY: u64 = 1_000_000_000_000_000;
 
 /// Writes the flows of links at their indices.
 fn lay_flows(basin: &Basin, flow: &[u64], into: &mut [u64])
@@ -87,18 +86,6 @@ pub fn lay(basin: &Basin, arcs: &Arcs, plan: &Plan, into: &mut [u64])
     lay_spills(basin, arcs, plan.out.as_slice(), into);
 }
 
-/// Writes the most that each link carries in a month at the indices of links.
-fn lay_carries(basin: &Basin, month: Month, into: &mut [u64])
-    requires valid { IsValidBasin basin.now }
-    requires month { IsMonth month }
-    requires into { length basin.now.links ≤ length into.old }
-    ensures { (e : ℕ) → e < length basin.now.links → slice_index into.new e ≡ carry_of basin.now month e }
-{
-    for link in 0..basin.links.len() {
-        into[link] = carry_of(basin, link as u32, month);
-    }
-}
-
 /// As much as a river carries where a node is an outlet, and else nothing.
 pub fn write_outlets(basin: &Basin, into: &mut [u64])
     requires { length into.old ≡ length basin.now.nodes }
@@ -114,10 +101,11 @@ pub fn write_outlets(basin: &Basin, into: &mut [u64])
 }
 
 /// The most that each arc may have in a month: for a link its carry, for a take the want of its right, and for a spill
-/// its amount of `out`, which is indexed by node.
+/// its amount of `out`, which is indexed by node. `dailies` has what links carry in a day of each calendar month.
 pub fn write_bounds(
     basin: &Basin,
     arcs: &Arcs,
+    dailies: &[Rows<u64>],
     month: Month,
     want: &[u64],
     out: &[u64],
@@ -126,12 +114,13 @@ pub fn write_bounds(
     requires valid { IsValidBasin basin.now }
     requires month { IsMonth month }
     requires arcs { AreArcs basin.now arcs.now }
+    requires dailies { AreDailies basin.now dailies.now }
     requires want { length want.now ≡ length basin.now.rights }
     requires out { length out.now ≡ length basin.now.nodes }
     requires upper { length upper.old ≡ arc_count (spilled basin.now) }
     ensures { AreBounds (spilled basin.now) month want.now (slice_index out.now) (slice_index upper.new) }
 {
-    lay_carries(basin, month, upper);
+    lay_carries(basin, dailies, month, upper);
     lay_takes(basin, arcs, want, upper);
     lay_spills(basin, arcs, out, upper);
 }

@@ -8,6 +8,7 @@
 
 mod amounts;
 mod arcs;
+mod carries;
 pub mod laws;
 mod places;
 mod serving;

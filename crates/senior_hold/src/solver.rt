@@ -15,6 +15,7 @@ ghost use Rattle.senior_hold.specs.Layouts.{IsLayout, FitsRoom};
 ghost use Rattle.senior_hold.specs.Spilled.{spilled};
 
 use crate::arcs::{Arcs, arcs_of, ends_of_arcs};
+use crate::carries::dailies_of;
 use crate::places::{Places, open_places, sweep, words_of};
 use crate::sweep::{Givens, Method, Sweep};
 use rights_roll::roll::Roll;
@@ -26,6 +27,7 @@ use std::sync::ledger::Ledger;
 use steps::Steps;
 use water_model::blank::blank_plan;
 use water_model::cut_list::CutList;
+use water_model::rows::Rows;
 use water_model::types::{Basin, Plan};
 use water_text::month::Month;
 use word_region::Region;
@@ -36,6 +38,8 @@ pub struct Layout {
     pub net: Net,
     pub roll: Roll,
     pub arcs: Arcs,
+    /// What links carry in a day, by link, in a row for each calendar month.
+    pub dailies: Vec<Rows<u64>>,
 }
 
 /// Room for a month's bounds, and for the flow that it starts from.
@@ -84,7 +88,13 @@ fn layout_of(alloc: Global, basin: &Basin) -> Result<Layout, AllocError>
         return Err(AllocError);
     };
     let arcs = arcs_of(alloc, basin)?;
-    Ok(Layout { net, roll, arcs })
+    let dailies = dailies_of(alloc, basin)?;
+    Ok(Layout {
+        net,
+        roll,
+        arcs,
+        dailies,
+    })
 }
 
 /// Room for amounts by link, right and node of a basin, and by arc, of which there are `arcs`.

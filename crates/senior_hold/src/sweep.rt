@@ -19,9 +19,8 @@ ghost use Rattle.senior_hold.specs.Places.{HasArcs};
 ghost use Rattle.senior_hold.specs.Spilled.{spilled, spills_of, spill_most, HasSpills, IsBegun};
 ghost use Rattle.senior_hold.specs.Spilled.{IsSpilledStart, IsSettledPlan};
 
-use crate::amounts::{
-    RIVER_CARRY, lay, read_links, read_spills, read_takes, write_bounds, write_outlets,
-};
+use crate::amounts::{lay, read_links, read_spills, read_takes, write_bounds, write_outlets};
+use crate::carries::RIVER_CARRY;
 use crate::serving::{Claim, Turn, serve_by};
 use crate::solver::{Layout, Room};
 use circulation::{Circulation, CirculationMut};
@@ -78,6 +77,7 @@ fn write_uppers(givens: &Givens, room: &mut Room)
     write_bounds(
         givens.basin,
         &givens.layout.arcs,
+        &givens.layout.dailies,
         givens.month,
         givens.want,
         room.most.out.as_slice(),
