@@ -70,3 +70,40 @@ gathered_more c first first' full full' amount left s k b before apart g is_left
         ]
       ];
     }
+
+-- a step has more than the least room: it is written where it is not listed
+pub gathered_passed : (c : Contents) {d e : Contents} (first first' full amount left s : ℕ) → IsCirculation c →
+    first' + 1 ≡ first → full < first' → IsGathered c first full amount →
+    left ≡ room_of (network c) (flow_of c) s → amount < left →
+    d ≡ record c { scratch = slice_set c.scratch first' s } →
+    e ≡ record d { scratch = slice_set d.scratch full s } → IsGathered e first' full amount
+gathered_passed c first first' full amount left s k before apart g is_left less made made' =
+    let written = slice_set c.scratch first' s in
+    let at = get_or-set_other written full first' s 0 (λ e. absurd (omega (arith, e)))
+    ∙ get_or-set_same c.scratch first' s 0 (omega (arith, g.fits, k.shape.scratch)) in
+    let others = λ (i : ℕ) (h : first ≤ i). let same : slice_index (slice_set written full s) i ≡ step_of c i =
+    get_or-set_other written full i s 0 (λ e. absurd (omega (arith, e)))
+    ∙ get_or-set_other c.scratch first' i s 0 (λ e. absurd (omega arith)) in same in
+    let below = λ (i : ℕ) (h : i < full). let same : slice_index (slice_set written full s) i ≡ step_of c i =
+    get_or-set_other written full i s 0 (λ e. absurd (omega arith))
+    ∙ get_or-set_other c.scratch first' i s 0 (λ e. absurd (omega arith)) in same in
+    rw (made', made) record {
+      fits = omega (arith, g.fits);
+      arc = λ i h. rw (below i h) (g.arc i h);
+      least = λ i h j. elim (cases_eq i first') [
+        | inl e ↦ rw (e, at) (omega (arith, is_left))
+        | inr ne ↦ rw (others i (omega arith)) (g.least i (omega arith) j)
+      ];
+      all = λ i h j. elim (cases_eq i first') [
+        | inl e ↦ inr (rw (e, at) (omega (arith, is_left)))
+        | inr ne ↦ elim (g.all i (omega arith) j) [
+          | inl o ↦ inl record {
+            place = o.place;
+            from = omega arith;
+            below = o.below;
+            is = below o.place o.below ∙ o.is ∙ sym (others i (omega arith));
+          }
+          | inr more ↦ inr (rw (others i (omega arith)) more)
+        ]
+      ];
+    }

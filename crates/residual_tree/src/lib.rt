@@ -27,7 +27,7 @@ mod tracing;
 
 use crate::labels::Labels;
 use crate::parts::{grow_all, label_back, regrow};
-pub use crate::raising::{TreeRaised, raise_by_tree, raise_within_unlabeled};
+pub use crate::raising::{TreeRaised, raise_by_tree, raise_take, raise_within_unlabeled};
 use bit_words::words_for;
 use circulation::CirculationMut;
 use circulation::residual::end;

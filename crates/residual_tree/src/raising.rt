@@ -175,6 +175,71 @@ pub fn raise_by_tree<L: Ledger>(
     }
 }
 
+/// Raises the flow on an arc to the outside, which is held at its flow, towards `want`: as `raise_by_tree` does, by at
+/// most `left` pushes. Takes from `left` those that it made, and one where it made none.
+pub fn raise_take<L: Ledger>(
+    circ: &mut CirculationMut<'_>,
+    tree: &mut ResidualTree<'_>,
+    arc: u32,
+    want: u64,
+    left: &mut u32,
+    searches: &mut Steps<L>,
+) -> TreeRaised
+    requires arc { arc < arcs circ.old }
+    requires want { want ≤ slice_index circ.old.upper arc }
+    requires less { flow_of circ.old arc < want }
+    requires held { flow_of circ.old arc ≡ slice_index circ.old.lower arc }
+    requires out { slice_index circ.old.to arc ≡ circ.old.nodes }
+    requires tree { IsResidualTree circ.old tree.old }
+
+    ensures kept { IsCirculation circ.new }
+    ensures rest { IsRaisedOver circ.old circ.new arc }
+    ensures held { flow_of circ.new arc ≡ slice_index circ.new.lower arc }
+    ensures tree { IsResidualTree circ.new tree.new }
+    ensures rises { flow_of circ.old arc ≤ flow_of circ.new arc }
+    ensures limit { flow_of circ.new arc ≤ want }
+    ensures met { (result ≡ TreeRaised.Met) ↔ (flow_of circ.new arc ≡ want) }
+
+    // After Stopped the unlabeled nodes are the greatest tight cut of the arc.
+    ensures unlabeled { result ≡ TreeRaised.Stopped → label_of tree.new (slice_index circ.old.from arc) ≡ 0 }
+    ensures cut { result ≡ TreeRaised.Stopped →
+        IsGreatestCut (network circ.new) (flow_of circ.new) arc (unlabeled circ.new tree.new) }
+
+    // Each push raises the flow, and Unfinished comes only where all pushes were made.
+    ensures count { searches.old ≤ searches.new }
+    ensures each { flow_of circ.old arc + (searches.new - searches.old) ≤ flow_of circ.new arc }
+    ensures cost { searches.new + left.new ≤ searches.old + left.old }
+    ensures used { searches.old + left.old ≤ searches.new + left.new + 1 }
+    ensures pushed { searches.old < searches.new → searches.new + left.new ≡ searches.old + left.old }
+    ensures unfinished { result ≡ TreeRaised.Unfinished → searches.old + left.old ≤ searches.new }
+{
+    let tail = circ.ends(arc).from;
+    let most = *left;
+    if most == 0 {
+        return TreeRaised::Unfinished;
+    }
+    if tree.word(tail) == 0 {
+        *left = most - 1;
+        return TreeRaised::Stopped;
+    }
+    let mut got = circ.flow(arc);
+    for _pushes in 0..most {
+        let artificial = 2 * u64::from(arc);
+        let pushed = round(circ, tree, arc, arc, want - got, artificial, searches);
+        // There is room, as the head is the outside.
+        prove!(pushed);
+        *left -= 1;
+        got = circ.flow(arc);
+        if got == want {
+            return TreeRaised::Met;
+        }
+        if tree.word(tail) == 0 {
+            return TreeRaised::Stopped;
+        }
+    }
+    TreeRaised::Unfinished
+}
+
 /// Raises the flow on an arc within the unlabeled nodes, where its head is unlabeled too: by walks from the head to the
 /// tail, which need no water. After Stopped the tree has the artificial step back over the exit, so that
 /// `drop_artificial` has to follow; until then the unlabeled nodes are the greatest tight cut of the arc. The rest is

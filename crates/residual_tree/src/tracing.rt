@@ -33,19 +33,14 @@ fn take_step(circ: &mut CirculationMut<'_>, walk: Walk, step: u64) -> Walk
     let left = room(circ, step);
     let first = walk.first - 1;
     circ.scratch_set(first, step);
-    if walk.amount < left {
-        return Walk {
-            first,
-            amount: walk.amount,
-            full: walk.full,
-        };
-    }
-    let full = if left < walk.amount { 0 } else { walk.full };
-    circ.scratch_set(full, step);
+    // Written in any case, where it does no harm: whether a step has the least room is no jump that could be guessed
+    // wrong.
+    let from = if left < walk.amount { 0 } else { walk.full };
+    circ.scratch_set(from, step);
     Walk {
         first,
-        amount: left,
-        full: full + 1,
+        amount: walk.amount.min(left),
+        full: from + usize::from(left <= walk.amount),
     }
 }
 

@@ -7,7 +7,7 @@ ghost use Rattle.senior_hold.specs.Serving.{IsClaim, IsTreeRaise, LeavesTree, Fi
 
 use crate::serving::Claim;
 use circulation::CirculationMut;
-use residual_tree::{ResidualTree, TreeRaised, raise_by_tree, raise_within_unlabeled};
+use residual_tree::{ResidualTree, TreeRaised, raise_by_tree, raise_take, raise_within_unlabeled};
 use std::sync::ledger::Ledger;
 use steps::Steps;
 
@@ -73,6 +73,10 @@ pub fn raise_fully<L: Ledger>(
 {
     let flow = circ.flow(claim.arc);
     tree.hold(circ, claim.arc, flow);
+    // Where the head is the outside, one call makes all pushes.
+    if flow < claim.want && circ.ends(claim.arc).to == circ.nodes() {
+        return raise_take(circ, tree, claim.arc, claim.want, left, searches);
+    }
     let most = *left;
     for _pushes in 0..most {
         *left -= 1;
