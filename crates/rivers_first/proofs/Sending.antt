@@ -230,20 +230,9 @@ relieved_next b kept old now new rounds at d are within before sent one others k
   ]
 ]
 
--- two times over
-pub relieved_then : (b : Basin) (kept old now new : List ℕ) (rounds : List (List ℕ)) → IsSent b kept old now →
-    All (IsRelievedIfDown b kept now new) rounds → All (IsRelievedIfDown b kept old new) rounds
-relieved_then b kept old now new rounds before are k d l down = elim (are k d l down) [
-  | inl h ↦ inl h
-  | inr fill ↦ inr record {
-    flow = fill.flow;
-    sent = sent_then b kept old now fill.flow before fill.sent;
-    full = fill.full;
-  }
-]
-
 -- the canal of a round is one of the links
-pub canal_inside : {b : Basin} {rounds : List (List ℕ)} {kept canals : List ℕ} → HasRounds b rounds kept canals →
+pub canal_inside : {b : Basin} {rounds : List (List ℕ)} {kept canals again : List ℕ} →
+    HasRounds b rounds kept canals again →
     (at d : ℕ) → at < length rounds → get_or canals at d < length b.links
 canal_inside {rounds = rounds} h at d l =
     let round = h.are.each at [] l in

@@ -60,7 +60,8 @@ pub record AreRounds (v : RoundsView) : Type 0 where
 abbrev pub canal_of : List ℕ → ℕ
 canal_of round = arc_of (slice_index round 0)
 
--- the canals are those of the rounds
-pub record HasRounds (b : Basin) (rounds : List (List ℕ)) (kept canals : List ℕ) : Type 0 where
+-- the canals are those of the rounds, and there is room to note each round
+pub record HasRounds (b : Basin) (rounds : List (List ℕ)) (kept canals again : List ℕ) : Type 0 where
   pub are : AreRounds (record { basin = b; rounds = rounds; kept = kept })
   pub canals_are : canals ≡ map canal_of rounds
+  pub noted : length again ≡ length rounds

@@ -32,6 +32,8 @@ pub struct Rounds<'b> {
     canals: Vec<u32>,
     /// Room: the least that each link must carry in a month.
     kept: Vec<u64>,
+    /// Room: the rounds that were not passed over when all were looked at. Any numbers do.
+    again: Vec<usize>,
 }
 
 impl<'b> Model for Rounds<'b> {
@@ -41,7 +43,7 @@ impl<'b> Model for Rounds<'b> {
 
     ghost view = { λ r. record { basin = r.basin.now; rounds = r.rounds.items; kept = r.kept.items } };
 
-    ghost invariant = { λ r. HasRounds r.basin.now r.rounds.items r.kept.items r.canals.items };
+    ghost invariant = { λ r. HasRounds r.basin.now r.rounds.items r.kept.items r.canals.items r.again.items };
 }
 
 /// Notes for each link the most that an instream right on it has of its want.
@@ -104,11 +106,13 @@ impl<'b> Rounds<'b> {
         }
         let canals = canals_of(alloc, basin, &rounds)?;
         let kept = vec![in alloc; 0; basin.links.len()]?;
+        let again = vec![in alloc; 0; rounds.len()]?;
         Ok(Rounds {
             basin,
             rounds,
             canals,
             kept,
+            again,
         })
     }
 
@@ -178,7 +182,8 @@ impl<'b> Rounds<'b> {
     }
 
     /// Sends as much as can go over the round with this index: nothing where its canal carries no more than is kept.
-    fn send_over(&self, at: usize, flow: &mut [u64])
+    /// Answers whether it carried more. No clause says so, as no answer of a month depends on it.
+    fn send_over(&self, at: usize, flow: &mut [u64]) -> bool
         requires at { at < length self.now.rounds }
         requires within { IsWithin self.now.basin self.now.kept flow.old }
         ensures sent { IsSent self.now.basin self.now.kept flow.old flow.new }
@@ -186,23 +191,48 @@ impl<'b> Rounds<'b> {
             IsDown round → IsRelieved self.now.kept flow.new round ⊎ HasFullRiver self.now.basin flow.new }
     {
         let canal = self.canals[at] as usize;
-        if flow[canal] > self.kept[canal] {
+        let carried_more = flow[canal] > self.kept[canal];
+        if carried_more {
             self.send(self.rounds[at].as_slice(), flow);
         }
+        carried_more
     }
 
-    /// Sends as much as can go over one round after the other.
-    fn send_all(&self, flow: &mut [u64])
+    /// Sends as much as can go over one round after the other. Notes those that were not passed over, and answers how
+    /// many they are.
+    fn send_all(&mut self, flow: &mut [u64]) -> usize
+        requires within { IsWithin self.old.basin self.old.kept flow.old }
+        ensures same { self.new ≡ self.old }
+        ensures sent { IsSent self.old.basin self.old.kept flow.old flow.new }
+        ensures relieved { All (IsRelievedIfDown self.old.basin self.old.kept flow.old flow.new) self.old.rounds }
+        ensures count { result ≤ length self.old.rounds }
+    {
+        let mut count = 0;
+        for at in 0..self.rounds.len() {
+            if self.send_over(at, flow) {
+                self.again[count] = at;
+                count += 1;
+            }
+        }
+        count
+    }
+
+    /// Sends as much as can go over the rounds that were noted, of which there are `count`: one canal can make room for
+    /// another.
+    fn send_again(&self, count: usize, flow: &mut [u64])
+        requires count { count ≤ length self.now.rounds }
         requires within { IsWithin self.now.basin self.now.kept flow.old }
         ensures sent { IsSent self.now.basin self.now.kept flow.old flow.new }
-        ensures relieved { All (IsRelievedIfDown self.now.basin self.now.kept flow.old flow.new) self.now.rounds }
     {
-        for at in 0..self.rounds.len() {
-            self.send_over(at, flow);
+        for place in 0..count {
+            let at = self.again[place];
+            if at < self.rounds.len() {
+                self.send_over(at, flow);
+            }
         }
     }
 
-    /// Sends as much as can go over each round, and once more, as one canal can make room for another.
+    /// Sends as much as can go over each round, and once more where something could go or a canal was left.
     fn send_twice(&mut self, want: &[u64], flow: &mut [u64])
         requires valid { IsValidBasin self.old.basin }
         requires wants { length want.now ≡ length self.old.basin.rights }
@@ -215,8 +245,8 @@ impl<'b> Rounds<'b> {
         ensures relieved { All (IsRelievedIfDown self.old.basin self.new.kept flow.old flow.new) self.old.rounds }
     {
         note_kept(self.basin, want, flow, self.kept.as_mut_slice());
-        self.send_all(flow);
-        self.send_all(flow);
+        let count = self.send_all(flow);
+        self.send_again(count, flow);
     }
 
     /// Changes the flows of a month's plan so that water goes by rivers where it need not go through a canal: over each
