@@ -2,6 +2,7 @@
 use Rattle.std.specs.Prelude.{◌≡◌, length, map}
 use Rattle.lag_returns.specs.Lags.{return_rows}
 use Rattle.water_model.specs.Valid.{IsValidBasin}
+use Rattle.month_terms.specs.Calendars.{IsCalendar}
 use Rattle.month_terms.specs.Terms.{FitsRecord}
 use Rattle.month_fold.specs.Runs.{EngineView, RunView, HasRecords, run_with}
 use Rattle.month_fold.specs.declared.engine.Engine.TheInside.{Inside as EngineInside}
@@ -14,6 +15,7 @@ engine_of e = record { basin = e.basin.now; last = e.month.value; lags = e.lags;
 pub record IsFitted (e : EngineInside) : Type 0 where
   pub valid : IsValidBasin e.basin.now
   pub solver : e.solver.value ≡ e.basin.now
+  pub calendar : IsCalendar e.basin.now e.calendar
   pub tables : e.tables.items ≡ map (λ v. v.area) e.basin.now.reservoirs
   pub month : FitsRecord e.basin.now e.month.value
   pub rows : return_rows e.lags ≡ e.basin.now.returns

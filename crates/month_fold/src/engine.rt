@@ -13,6 +13,7 @@ use crate::next::{next_month, use_volumes};
 use crate::resume::{replay_returns, store_after, use_after};
 use crate::work::Work;
 use lag_returns::Lags;
+use month_terms::calendar::Calendar;
 use month_terms::evaporation::tables_of;
 use month_terms::opening::blank_month;
 use reservoirs::AreaTable;
@@ -25,15 +26,17 @@ use water_model::blank::zeros;
 use water_model::rows::Rows;
 use water_model::types::{Basin, Inflows, MonthRecord};
 
-/// What a run of a basin is made with, apart from its series: the solver and the area tables, and the memory for what
-/// is on its way, what was used of volumes and the record of the last month. One engine serves one run after another.
+/// What a run of a basin is made with, apart from its series: the solver, the calendar and the area tables, and the
+/// memory for what is on its way, what was used of volumes and the record of the last month. One engine serves one run
+/// after another.
 ///
-/// All memory is taken where an engine is opened. The network, the roll and the area tables are built there once: no
-/// run that it serves, and no writer of such a run's results, builds them again.
+/// All memory is taken where an engine is opened. The network, the roll, the calendar and the area tables are built
+/// there once: no run that it serves, and no writer of such a run's results, builds them again.
 #[derive(Drop)]
 pub struct Engine<'b> {
     basin: &'b Basin,
     solver: Box<Solver<'b>>,
+    calendar: Calendar,
     tables: Vec<AreaTable>,
     lags: Lags,
     used: Rows<u64>,
@@ -67,6 +70,7 @@ impl<'b> Engine<'b> {
         ensures { IfOk result (λ engine. engine.basin ≡ basin.now) }
     {
         let solver = solver_of(alloc, basin)?;
+        let calendar = Calendar::of(alloc, basin)?;
         let tables = tables_of(alloc, basin)?;
         let lags = Lags::open(alloc, basin.returns.as_slice())?;
         let used = zeros(alloc, basin.rights.len())?;
@@ -74,6 +78,7 @@ impl<'b> Engine<'b> {
         Ok(Engine {
             basin,
             solver,
+            calendar,
             tables,
             lags,
             used,
@@ -143,6 +148,7 @@ impl<'b> Engine<'b> {
         next_month(
             self.basin,
             series,
+            &self.calendar,
             &self.tables,
             &self.lags,
             self.used.as_slice(),

@@ -2,6 +2,7 @@
 ghost use Rattle.std.specs.Prelude.{ℕ, List, ◌≡◌, ◌+◌, ◌^◌, ◌<◌, ◌≤◌, ◌++◌, ◌∷◌, [], All, length, map, slice_index};
 ghost use Rattle.lag_returns.specs.Lags.{HasReturned, return_rows};
 ghost use Rattle.lag_returns.specs.Lags as lag;
+ghost use Rattle.month_terms.specs.Calendars.{IsCalendar};
 ghost use Rattle.month_terms.specs.Terms.{FitsRecord, HasUsed};
 ghost use Rattle.senior_hold.specs.MonthNetwork.{month_pushes};
 ghost use Rattle.water_model.specs.Valid.{IsValidBasin};
@@ -10,6 +11,7 @@ ghost use Rattle.month_fold.specs.Uses.{HasDeliveries};
 ghost use Rattle.month_fold.specs.Runs.{WentThrough, HasRecords, IsNext, run_with};
 
 use lag_returns::Lags;
+use month_terms::calendar::Calendar;
 use month_terms::month::{conclude, settle};
 use month_terms::used::use_month;
 use reservoirs::AreaTable;
@@ -54,12 +56,13 @@ pub fn use_volumes(basin: &Basin, index: u32, month: &MonthRecord, used: &mut Ro
     );
 }
 
-/// Solves the month with this index in a record that has the closing storage of the month before. `tables` has the area
-/// table of each reservoir, and `used` what each right used of its volume before in the water year. Each search that
-/// finds a walk ticks `searches` once. It takes no memory.
+/// Solves the month with this index in a record that has the closing storage of the month before. `calendar` is the
+/// basin's, `tables` has the area table of each reservoir, and `used` what each right used of its volume before in the
+/// water year. Each search that finds a walk ticks `searches` once. It takes no memory.
 pub fn next_month<L: Ledger>(
     basin: &Basin,
     series: &Inflows,
+    calendar: &Calendar,
     tables: &[AreaTable],
     lags: &Lags,
     used: &[u64],
@@ -68,6 +71,7 @@ pub fn next_month<L: Ledger>(
     month: &mut MonthRecord,
     searches: &mut Steps<L>,
 )
+    requires calendar { IsCalendar basin.now calendar.now }
     requires tables { tables.now ≡ map (λ v. v.area) basin.now.reservoirs }
     requires solver { solver.old ≡ basin.now }
     requires index { index < basin.now.months }
@@ -84,7 +88,7 @@ pub fn next_month<L: Ledger>(
     ensures pushes { searches.new ≤ searches.old + month_pushes basin.now }
 {
     write_returns(basin, lags, used, month);
-    settle(basin, series, tables, index, month);
+    settle(calendar, basin, series, tables, index, month);
     month.cuts.clear();
     solver.solve_month(
         month.month,
@@ -94,5 +98,5 @@ pub fn next_month<L: Ledger>(
         &mut month.cuts,
         searches,
     );
-    conclude(basin, month);
+    conclude(calendar, basin, month);
 }

@@ -2,4 +2,5 @@ pub mod Adds
 pub mod Amounts
 pub mod Bounds
 pub mod BlankRecords
+pub mod Calendars
 pub mod WaterYears

@@ -5,6 +5,7 @@
 #![tactic(auto)]
 
 pub mod add;
+pub mod calendar;
 pub mod closing;
 pub mod evaporation;
 pub mod month;

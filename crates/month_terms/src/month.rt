@@ -2,26 +2,30 @@
 ghost use Rattle.std.specs.Prelude.{ℕ, List, ◌≡◌, ◌+◌, ◌<◌, ◌≤◌, ◌^◌, length, slice_index, map};
 ghost use Rattle.water_model.specs.Hydrology.{inflow_at, stored_at};
 ghost use Rattle.water_model.specs.Valid.{IsValidBasin, IsSeriesOf};
+ghost use Rattle.month_terms.specs.Calendars.{IsCalendar};
 ghost use Rattle.month_terms.specs.Terms.{FitsRecord, IsSettled, IsConcluded};
 
+use crate::calendar::Calendar;
 use crate::closing::close_zones;
 use crate::evaporation::evaporate;
-use crate::supply::{add_stored, read_inflows};
-use crate::want::{read_deliveries, read_wants};
+use crate::supply::{add_stored, write_inflows};
+use crate::want::{write_deliveries, write_wants};
 use reservoirs::AreaTable;
 use water_model::calls::month_at;
 use water_model::types::{Basin, Inflows, MonthRecord};
 
 /// Settles in a record what is known of the month with this index before its plan: its opening, evaporation, supply and
 /// wants. The record still has the closing storage of the month before, and already what comes back to each node and
-/// what each right used of its volume. `tables` has the area table of each reservoir.
+/// what each right used of its volume. `calendar` is the basin's, and `tables` has the area table of each reservoir.
 pub fn settle(
+    calendar: &Calendar,
     basin: &Basin,
     series: &Inflows,
     tables: &[AreaTable],
     index: u32,
     month: &mut MonthRecord,
 )
+    requires calendar { IsCalendar basin.now calendar.now }
     requires basin { IsValidBasin basin.now }
     requires series { IsSeriesOf basin.now series.now }
     requires tables { tables.now ≡ map (λ v. v.area) basin.now.reservoirs }
@@ -32,9 +36,9 @@ pub fn settle(
         + stored_at basin.now month.old.closing evaporated n < 2 ^ 64 }
     ensures { IsSettled basin.now series.now index month.old month.new }
 {
-    let calendar = month_at(basin, index);
+    let date = month_at(basin, index);
     month.index = index;
-    month.month = calendar;
+    month.month = date;
     month
         .opening
         .as_mut_slice()
@@ -42,11 +46,12 @@ pub fn settle(
     evaporate(
         basin,
         tables,
-        calendar,
+        date,
         month.opening.as_slice(),
         month.evaporated.as_mut_slice(),
     );
-    read_inflows(
+    write_inflows(
+        calendar,
         basin,
         series,
         index,
@@ -59,7 +64,8 @@ pub fn settle(
         month.evaporated.as_slice(),
         month.supply.as_mut_slice(),
     );
-    read_wants(
+    write_wants(
+        calendar,
         basin,
         series,
         index,
@@ -69,13 +75,16 @@ pub fn settle(
 }
 
 /// Concludes a record whose plan is found: what the plan delivers to each right, and what each reservoir closes with.
-pub fn conclude(basin: &Basin, month: &mut MonthRecord)
+/// `calendar` is the basin's.
+pub fn conclude(calendar: &Calendar, basin: &Basin, month: &mut MonthRecord)
+    requires calendar { IsCalendar basin.now calendar.now }
     requires basin { IsValidBasin basin.now }
     requires month { FitsRecord basin.now month.old }
     requires small { (r : ℕ) → r < length basin.now.rights → slice_index month.old.plan.take r ≤ 10 ^ 9 }
     ensures { IsConcluded basin.now month.old month.new }
 {
-    read_deliveries(
+    write_deliveries(
+        calendar,
         basin,
         month.want.as_slice(),
         &month.plan,

@@ -1,9 +1,11 @@
 //! What a month supplies to each node.
-ghost use Rattle.std.specs.Prelude.{ℕ, ◌≡◌, ◌+◌, ◌-◌, ◌<◌, ◌≤◌, ◌^◌, length, slice_index};
+ghost use Rattle.std.specs.Prelude.{ℕ, ◌≡◌, ◌+◌, ◌-◌, ◌<◌, ◌≤◌, ◌^◌, length, slice_index, false};
 ghost use Rattle.water_model.specs.Hydrology.{in_year, inflow_at, stored_at};
-ghost use Rattle.water_model.specs.Valid.{IsValidBasin, IsSeriesOf};
+ghost use Rattle.water_model.specs.Valid.{IsValidBasin, IsSeriesOf, is_gauged};
+ghost use Rattle.month_terms.specs.Calendars.{IsCalendar};
 
 use crate::add::add_at;
+use crate::calendar::Calendar;
 use water_model::calls::{inflow_of, month_at};
 use water_model::types::{Basin, Inflow, Inflows};
 
@@ -52,6 +54,72 @@ pub fn read_inflows(
     for node in 0..basin.nodes.len() {
         supply[node] = inflow_in_year(basin, series, node, index, position) + returned[node];
     }
+}
+
+/// Writes the sum of what two lists have at each index.
+fn write_sums(first: &[u64], second: &[u64], sums: &mut [u64])
+    requires first { length first.now ≡ length sums.old }
+    requires second { length second.now ≡ length sums.old }
+    requires small { (n : ℕ) → n < length sums.old → slice_index first.now n + slice_index second.now n < 2 ^ 64 }
+    ensures length { length sums.new ≡ length sums.old }
+    ensures each { (n : ℕ) → n < length sums.old →
+        slice_index sums.new n ≡ slice_index first.now n + slice_index second.now n }
+{
+    for position in 0..sums.len() {
+        sums[position] = first[position] + second[position];
+    }
+}
+
+/// Writes what flows in and what comes back at each gauged node in the month with this index. All else stays: it has
+/// this already at the other nodes.
+fn write_gauged(basin: &Basin, series: &Inflows, index: u32, returned: &[u64], supply: &mut [u64])
+    requires basin { IsValidBasin basin.now }
+    requires series { IsSeriesOf basin.now series.now }
+    requires index { index < basin.now.months }
+    requires returned { length returned.now ≡ length basin.now.nodes }
+    requires supply { length supply.old ≡ length basin.now.nodes }
+    requires small { (n : ℕ) → n < length basin.now.nodes →
+        inflow_at basin.now series.now n index + slice_index returned.now n < 2 ^ 64 }
+    requires others { (n : ℕ) → n < length basin.now.nodes → is_gauged basin.now n ≡ false →
+        slice_index supply.old n ≡ inflow_at basin.now series.now n index + slice_index returned.now n }
+    ensures length { length supply.new ≡ length supply.old }
+    ensures each { (n : ℕ) → n < length basin.now.nodes →
+        slice_index supply.new n ≡ inflow_at basin.now series.now n index + slice_index returned.now n }
+{
+    let count = series.gauged.len();
+    let start = index as usize * count;
+    for gauge in 0..count {
+        let node = series.gauged[gauge] as usize;
+        supply[node] = series.amount[start + gauge] + returned[node];
+    }
+}
+
+/// Writes what flows in and what comes back at each node in the month with this index. It does what `read_inflows`
+/// does, for one who has the basin's calendar, and looks no node up.
+pub fn write_inflows(
+    calendar: &Calendar,
+    basin: &Basin,
+    series: &Inflows,
+    index: u32,
+    returned: &[u64],
+    supply: &mut [u64],
+)
+    requires calendar { IsCalendar basin.now calendar.now }
+    requires basin { IsValidBasin basin.now }
+    requires series { IsSeriesOf basin.now series.now }
+    requires index { index < basin.now.months }
+    requires returned { length returned.now ≡ length basin.now.nodes }
+    requires supply { length supply.old ≡ length basin.now.nodes }
+    requires small { (n : ℕ) → n < length basin.now.nodes →
+        inflow_at basin.now series.now n index + slice_index returned.now n < 2 ^ 64 }
+    ensures length { length supply.new ≡ length supply.old }
+    ensures each { (n : ℕ) → n < length basin.now.nodes →
+        slice_index supply.new n ≡ inflow_at basin.now series.now n index + slice_index returned.now n }
+{
+    let position = month_at(basin, index).month as usize - 1;
+    let month = &calendar.months[position];
+    write_sums(month.inflows.as_slice(), returned, supply);
+    write_gauged(basin, series, index, returned, supply);
 }
 
 /// Adds at each node what its reservoir holds after evaporation.

@@ -4,7 +4,9 @@ ghost use Rattle.water_text.specs.Months.{IsMonth};
 ghost use Rattle.water_model.specs.Hydrology.{in_year, run_month, want_of};
 ghost use Rattle.water_model.specs.Plans.{delivery};
 ghost use Rattle.water_model.specs.Valid.{IsValidBasin, IsSeriesOf};
+ghost use Rattle.month_terms.specs.Calendars.{IsCalendar};
 
+use crate::calendar::{Calendar, InstreamPlace};
 use water_model::calls::{carry_of, month_at, want_of};
 use water_model::types::{Basin, Inflows, Plan, RightKind};
 use water_text::month::Month;
@@ -42,7 +44,15 @@ fn want_in_year(
 
 /// Writes the want of each right in the month with this index. `used` is what each right used of its volume earlier in
 /// the water year.
-pub fn read_wants(basin: &Basin, series: &Inflows, index: u32, used: &[u64], want: &mut [u64])
+pub fn write_wants(
+    calendar: &Calendar,
+    basin: &Basin,
+    series: &Inflows,
+    index: u32,
+    used: &[u64],
+    want: &mut [u64],
+)
+    requires calendar { IsCalendar basin.now calendar.now }
     requires basin { IsValidBasin basin.now }
     requires series { IsSeriesOf basin.now series.now }
     requires index { index < basin.now.months }
@@ -54,31 +64,24 @@ pub fn read_wants(basin: &Basin, series: &Inflows, index: u32, used: &[u64], wan
 {
     let month = month_at(basin, index);
     let position = month.month as usize - 1;
-    for right in 0..basin.rights.len() {
-        let used = used[right];
-        want[right] = want_in_year(basin, series, right as u32, index, month, position, used);
+    want.copy_from_slice(calendar.months[position].wants.as_slice());
+    for other in 0..calendar.others.len() {
+        let right = calendar.others[other];
+        let used = used[right as usize];
+        want[right as usize] = want_in_year(basin, series, right, index, month, position, used);
     }
 }
 
-/// What a plan delivers to a right: its take, or of an instream right the flow on its link that is wanted.
-pub fn delivery(basin: &Basin, want: &[u64], plan: &Plan, right: u32) -> u64
-    requires basin { IsValidBasin basin.now }
-    requires right { right < length basin.now.rights }
-    requires want { length want.now ≡ length basin.now.rights }
-    requires flow { length plan.now.flow ≡ length basin.now.links }
-    requires take { length plan.now.take ≡ length basin.now.rights }
-    ensures { result ≡ delivery basin.now want.now plan.now right }
-{
-    let position = right as usize;
-    match basin.rights[position].kind {
-        RightKind::Instream { link } => want[position].min(plan.flow[link as usize]),
-        RightKind::Diversion { .. } => plan.take[position],
-        RightKind::Zone { .. } => plan.take[position],
-    }
-}
-
-/// Writes what a plan delivers to each right.
-pub fn read_deliveries(basin: &Basin, want: &[u64], plan: &Plan, delivered: &mut [u64])
+/// Writes what a plan of the basin delivers to each right: its take, or of an instream right the flow on its link that
+/// is wanted.
+pub fn write_deliveries(
+    calendar: &Calendar,
+    basin: &Basin,
+    want: &[u64],
+    plan: &Plan,
+    delivered: &mut [u64],
+)
+    requires calendar { IsCalendar basin.now calendar.now }
     requires basin { IsValidBasin basin.now }
     requires want { length want.now ≡ length basin.now.rights }
     requires flow { length plan.now.flow ≡ length basin.now.links }
@@ -88,7 +91,9 @@ pub fn read_deliveries(basin: &Basin, want: &[u64], plan: &Plan, delivered: &mut
     ensures each { (r : ℕ) → r < length basin.now.rights →
         slice_index delivered.new r ≡ delivery basin.now want.now plan.now r }
 {
-    for right in 0..basin.rights.len() {
-        delivered[right] = delivery(basin, want, plan, right as u32);
+    delivered.copy_from_slice(plan.take.as_slice());
+    for place in 0..calendar.instream.len() {
+        let InstreamPlace { right, link } = calendar.instream[place];
+        delivered[right as usize] = want[right as usize].min(plan.flow[link as usize]);
     }
 }

@@ -19,6 +19,7 @@ pub invariant_of-self : goal.invariant_of-self
 invariant_of-self c = record {
   valid = c.self.invariant.valid;
   solver = c.self.invariant.solver;
+  calendar = c.self.invariant.calendar;
   tables = c.self.invariant.tables;
   month = rw c.store_after.ensures (fits_with_closing c.self.inside.basin.now c.deref_mut.result.now
       (opening_after c.self.inside.basin.now (map (λ m. m.value) c.args.months.now))

@@ -21,6 +21,7 @@ invariant_of-self g c =
     record {
       valid = c.self.invariant.valid;
       solver = c.next_month.ensures.solver ∙ (c.deref_mut.ensures.value ∙ c.self.invariant.solver);
+      calendar = c.self.invariant.calendar;
       tables = c.self.invariant.tables;
       month = c.next_month.ensures.fits;
       rows = c.month_done.ensures.rows ∙ c.self.invariant.rows;

@@ -1,0 +1,6 @@
+use Rattle.std.proofs.Common.{◌≡◌, map, take, slice_index}
+use Rattle.month_terms.proofs.calendar.wants_in.Given as goal
+
+abbrev pub invariant-loop-right : goal.invariant-loop-right
+invariant-loop-right l =
+    l.wants.items ≡ map (λ r. slice_index r.want l.position) (take l.right-index l.right-items)
