@@ -1,5 +1,5 @@
 -- A verdict refutes no text for a set that isn't a reach.
-use Rattle.std.proofs.Common.{◌≡◌, ◌≢◌, ℕ, ◌+◌, true, false, arith, ◌∙◌, inl, inr, List, []}
+use Rattle.std.proofs.Common.{◌≡◌, ◌≢◌, ℕ, true, false, arith, ◌∙◌, inl, inr, List, []}
 use Rattle.std.proofs.Common.{◌∷◌, ◌++◌}
 use Rattle.std.specs.Prelude.{Some, Err, find, option_map}
 use Rattle.result_lines.specs.declared.item.Item.{Item}

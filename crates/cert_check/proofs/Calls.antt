@@ -1,5 +1,5 @@
 -- What the rows say of `call` lines and of the nodes of their sets.
-use Rattle.std.proofs.Common.{◌≡◌, ℕ, ◌+◌, ◌<◌, Bool, true, false, refl, sym, ap, subst, ◌∙◌, arith, inl}
+use Rattle.std.proofs.Common.{◌≡◌, ℕ, ◌<◌, Bool, true, false, refl, sym, ap, subst, ◌∙◌, arith, inl}
 use Rattle.std.proofs.Common.{inr, List, [], ◌∷◌, ◌++◌, length, fold}
 use Rattle.std.specs.Prelude.{Option, Some, None, ◌&&◌, not, is_none}
 use Rattle.std.specs.List.{flat_map}

@@ -1,6 +1,6 @@
 -- A text that comes in pieces: its lines with one more piece, and what is refused whatever follows.
-use Rattle.std.proofs.Common.{◌≡◌, ℕ, ◌+◌, ◌<◌, Bool, true, false, refl, sym, ap, ◌∙◌, arith, inl, inr, List, [], ◌∷◌}
-use Rattle.std.proofs.Common.{◌++◌, length, take, drop, length-append, append_assoc, take-append-drop, subst}
+use Rattle.std.proofs.Common.{◌≡◌, ℕ, ◌+◌, ◌<◌, ◌≤◌, Bool, true, false, refl, sym, ap, ◌∙◌, arith, inl, inr, List, []}
+use Rattle.std.proofs.Common.{◌∷◌, ◌++◌, length, take, drop, length-append, append_assoc, take-append-drop, subst}
 use Rattle.std.specs.Prelude.{Option, Some, None, Result, Ok, Err, IsOk, nat_lt, not, slice_range, if◌then◌else◌}
 use Rattle.std.specs.List.{onto_first}
 use Rattle.std.proofs.Math.Seq.{take-add, take-append-add}
@@ -153,6 +153,11 @@ to_feed : (old new piece : List ℕ) (taken : ℕ) (t : TakesToFeed old new piec
     take taken piece ≡ t.before ++ 10 ∷ []
 to_feed old new piece taken t = ap (take taken) t.ended ∙ (ap (λ n. take n (t.before ++ 10 ∷ drop taken piece)) t.count
     ∙ take-append-add t.before (10 ∷ drop taken piece) 1)
+
+-- no more than there is
+pub to_feed_within : {old new piece : List ℕ} {taken : ℕ} → TakesToFeed old new piece taken → taken ≤ length piece
+to_feed_within {piece = piece} {taken} t =
+    omega (arith, t.count, ap length t.ended, length-append t.before (10 ∷ drop taken piece))
 
 -- bytes that end a line
 line_given : {c after : CheckerView} {line : LineHeld} {text bytes piece : List ℕ} {taken : ℕ} → AreGiven c line text →

@@ -80,7 +80,7 @@ keeps_call {b} {series} {a} {t} {x} l none k =
         rw (← is) (l, has_set a.month.cuts set (omega (arith, l, k.month.fits.fits.cuts)))
 
 -- an `in` line, after no `call`
-pub keeps_stray : {b : Basin} {series : Inflows} {a : CheckState} {t : ReadSoFar} (node : ℕ) → t.called ≡ 0 →
+keeps_stray : {b : Basin} {series : Inflows} {a : CheckState} {t : ReadSoFar} (node : ℕ) → t.called ≡ 0 →
     a.calling ≡ None → Keeps b series a t →
     Keeps b series (record a { has_callers = false; answered = 0 }) (read_item b series t (line.Member node))
 keeps_stray {b} {series} {a} {t} node none stray k = by_call t.calling (sym k.calling.so_far ∙ stray)
@@ -94,7 +94,7 @@ keeps_stray {b} {series} {a} {t} node none stray k = by_call t.calling (sym k.ca
     by_call (Some r) e = cc
 
 -- an `in` line of the right whose nodes come
-pub keeps_member : {b : Basin} {series : Inflows} {a : CheckState} {t : ReadSoFar} (node : ℕ) {right : ℕ}
+keeps_member : {b : Basin} {series : Inflows} {a : CheckState} {t : ReadSoFar} (node : ℕ) {right : ℕ}
     {set : List Bool} → t.called ≡ 0 → a.calling ≡ Some right → set_of a.month.cuts right ≡ Some set →
     Keeps b series a t →
     Keeps b series (with_own a right (slice_set set node true) a.calling) (read_item b series t (line.Member node))
@@ -129,3 +129,23 @@ keeps_member {b} {series} {a} {t} node {right} {set} none own is k = by_call t.c
     by_call (Some r) e = let same : r ≡ right = cc in
         rw same (subst (λ o. Keeps b series (with_own a right more a.calling)
         (read_own t right (option_map (λ old. slice_set old node true) o) t.calling)) (sym so_far) kept)
+
+-- an `in` line, whether or not it comes after a `call`
+pub keeps_node : {b : Basin} {series : Inflows} {a after : CheckState} {t : ReadSoFar} (node : ℕ) → t.called ≡ 0 →
+    (a.calling ≡ None → after ≡ record a { has_callers = false; answered = 0 }) →
+    ((right : ℕ) (set : List Bool) → a.calling ≡ Some right → set_of a.month.cuts right ≡ Some set →
+    after ≡ with_own a right (slice_set set node true) a.calling) →
+    Keeps b series a t → Keeps b series after (read_item b series t (line.Member node))
+keeps_node {b} {series} {a} {after} {t} node none stray own k = by_call a.calling refl
+  where
+    by_set : (right : ℕ) → a.calling ≡ Some right → (o : Option (List Bool)) → set_of a.month.cuts right ≡ o →
+        IsSome o → Keeps b series after (read_item b series t (line.Member node))
+    by_set right e None is held = cc
+    by_set right e (Some set) is held =
+        subst (λ (x : CheckState). Keeps b series x (read_item b series t (line.Member node)))
+        (sym (own right set e is)) (keeps_member node none e is k)
+
+    by_call : (o : Option ℕ) → a.calling ≡ o → Keeps b series after (read_item b series t (line.Member node))
+    by_call None e = subst (λ (x : CheckState). Keeps b series x (read_item b series t (line.Member node)))
+        (sym (stray e)) (keeps_stray node none e k)
+    by_call (Some right) e = by_set right e (set_of a.month.cuts right) refl (k.calling.held right e).1

@@ -1,7 +1,7 @@
 -- Check progress with one more line.
 use Rattle.std.proofs.Common.{◌≡◌, ℕ, ◌+◌, ◌*◌, ◌^◌, ◌<◌, ◌≤◌, true, false, refl, sym, ap, subst, ◌∙◌, arith, List, []}
 use Rattle.std.proofs.Common.{◌∷◌, ◌++◌, length, append_assoc, append-nil}
-use Rattle.std.specs.Prelude.{Option, Some, None, Result, Ok, Err}
+use Rattle.std.specs.Prelude.{Option, Some, None, Result, Ok, Err, IfSome, IfNone}
 use Rattle.std.specs.Option.{option_and_then}
 use Rattle.std.proofs.Math.Nat.{mul-le-mul}
 use Rattle.water_model.specs.History.{IsPartialHistory}
@@ -25,7 +25,7 @@ use Rattle.cert_check.specs.Auditing.{MonthFollows}
 use Rattle.cert_check.specs.Checking.{first_row, is_whole, judge, judge_row, ok_then, rows, verdict_from}
 use Rattle.cert_check.specs.Coming.{MayCome}
 use Rattle.cert_check.specs.Standing.{CheckerView, IsProgressOf, CheckerStandsFor}
-use Rattle.cert_check.specs.Taking.{TakesItem, TakesLine}
+use Rattle.cert_check.specs.Taking.{HasLines, TakesItem, TakesLine}
 use Rattle.cert_check.specs.declared.progress.CheckProgress.{CheckProgress}
 use Rattle.cert_check.specs.declared.refuted.Refuted.{Refuted}
 use Rattle.cert_check.specs.declared.refuted.RefutedKind.TheVariants as kind
@@ -184,6 +184,16 @@ took {b} series k lines bytes {items} item (Ok done) good judged basin stands (n
 }
 took {b} series k lines bytes item (Err e) good judged basin stands refuted =
     line_judged b series lines bytes good (judged ∙ refuted)
+
+-- check progress after a line that may be taken
+pub lines_after : {T : Type 0} {b : Basin} {series : Inflows} {k after : CheckProgress} (o : Option T)
+    (now : T → List ℕ) → IfSome o (λ text. (lines : List (List ℕ)) → IsProgressOf b series k lines → IsProgressOf b
+    series after (lines ++ now text ∷ [])) → IfNone o (after ≡ k) → HasLines b series k → HasLines b series after
+lines_after {T} {b} {series} None now taken none h = subst (λ (k : CheckProgress). HasLines b series k) (sym none) h
+lines_after (Some text) now taken none h = record {
+  lines = h.lines ++ now text ∷ [];
+  stands = taken h.lines h.stands;
+}
 
 -- The whole checker.
 

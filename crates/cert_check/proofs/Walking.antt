@@ -1,6 +1,6 @@
 -- Walks over the rights in the order of seniority, one index further.
 use Rattle.std.proofs.Common.{◌≡◌, ℕ, ◌+◌, arith}
-use Rattle.std.specs.Prelude.{Option, None, if◌then◌else◌}
+use Rattle.std.specs.Prelude.{Option, None}
 use Rattle.finite_sums.specs.Sums.{total_where}
 use Rattle.finite_sums.proofs.Totals.{total_more}
 use Rattle.water_model.specs.Basin.{is_at}

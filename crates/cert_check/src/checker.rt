@@ -1,6 +1,6 @@
 //! A checker of result texts, line by line.
 ghost use Rattle.std.specs.Prelude.{ℕ, List, [], ◌≡◌, ◌+◌, ◌*◌, ◌^◌, ◌≤◌, ◌++◌, ◌∷◌, length, Some, None, Err, IfOk};
-ghost use Rattle.std.specs.Prelude.{IfErr, IfSome, OnOk};
+ghost use Rattle.std.specs.Prelude.{IfErr, IfNone, IfSome, OnOk};
 ghost use Rattle.result_reader.specs.ReadSoFar.{nothing_read};
 ghost use Rattle.cert_check.specs.Audit.{IsAuditAnswer};
 ghost use Rattle.cert_check.specs.Auditing.{IsAuditIfAny};
@@ -8,10 +8,11 @@ ghost use Rattle.cert_check.specs.Checking.{verdict, verdict_from};
 ghost use Rattle.cert_check.specs.Standing.{IsAnswer, IsAudit, IsLineAnswer, CheckerStandsFor, lines_left};
 ghost use Rattle.cert_check.specs.Whole.{pieces_of};
 ghost use Rattle.water_model.specs.Valid.{IsValidBasin, IsSeriesOf};
+ghost use Rattle.water_text.specs.LinesIn.{TakesToFeed};
 
 use crate::audit::{Audit, answer};
 use crate::opening::{blank_state, last_outlet};
-use crate::progress::{CheckProgress, take_line};
+use crate::progress::{CheckProgress, take_likely, take_line};
 use crate::refuted::{Refuted, RefutedKind};
 use crate::state::Context;
 use cut_cert::rows::NodeRows;
@@ -152,6 +153,30 @@ impl<'b> Checker<'b> {
                 self.refused = Some(refused);
                 Err(refused)
             }
+        }
+    }
+
+    /// Takes the next line as `line` does, and answers it, where some bytes begin with it and its line feed, and it is
+    /// the `in` line that is most likely to come. Else nothing changes: the bytes may begin with any other line.
+    #[inline(always)]
+    pub(crate) fn likely_line<'a>(&mut self, piece: &'a [u8]) -> Option<&'a [u8]>
+        ensures stands { IfSome result (λ text. (lines : List (List ℕ)) → CheckerStandsFor self.old lines →
+            CheckerStandsFor self.new (lines ++ text.now ∷ [])) }
+        ensures takes { IfSome result (λ text. TakesToFeed [] text.now piece.now (length text.now + 1)) }
+        ensures good { IfSome result (λ text. self.new.refused ≡ None) }
+        ensures none { IfNone result (self.new ≡ self.old) }
+        ensures left { IfSome result (λ text. lines_left self.new + 1 ≡ lines_left self.old) }
+        ensures basin { self.new.basin ≡ self.old.basin }
+        ensures series { self.new.series ≡ self.old.series }
+        ensures audit { IsAudit self.old → IsAudit self.new }
+    {
+        match self.refused {
+            Some(_) => return None,
+            None => {}
+        }
+        match take_likely(&self.context, &mut self.progress, piece) {
+            Some(text) => Some(text),
+            None => None,
         }
     }
 

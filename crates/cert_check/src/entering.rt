@@ -12,6 +12,7 @@ ghost use Rattle.water_model.specs.CutSets.{set_of, with_set};
 ghost use Rattle.result_lines.specs.Quantities.{amounts_of, with_amounts};
 ghost use Rattle.water_model.specs.Valid.{IsValidBasin};
 ghost use Rattle.result_lines.specs.OfBasin.{IsOfBasin};
+ghost use Rattle.result_lines.specs.declared.item.Item.TheVariants as line;
 ghost use Rattle.result_reader.specs.ReadSoFar.{ReadSoFar, read_item};
 ghost use Rattle.rights_roll.specs.Rolls.{IsRollOf};
 ghost use Rattle.water_model.specs.History.{FitsBasin};
@@ -160,6 +161,7 @@ pub fn enter_call(state: &mut CheckState, right: u32)
 }
 
 /// Enters an `in` line of the right whose nodes come.
+#[inline(always)]
 pub fn enter_member(state: &mut CheckState, node: u32)
     requires node { node < state.old.month.cuts.nodes }
     requires calling { IfSome state.old.calling (λ right. (right < length state.old.month.cuts.sets) ×
@@ -181,6 +183,20 @@ pub fn enter_member(state: &mut CheckState, node: u32)
         Some(right) => state.month.cuts.add(right, node),
         None => {}
     }
+}
+
+/// Enters the `in` line of a node, as `enter` does. It may come.
+#[inline(always)]
+pub fn enter_node(context: &Context, state: &mut CheckState, node: u32)
+    requires context { IsContext context.now }
+    requires node { node < length context.now.basin.now.nodes }
+    requires awaits { Awaits context.now.basin.now context.now.series.now state.old (line.Member node) }
+    ensures { (t : ReadSoFar) → Keeps context.now.basin.now context.now.series.now state.old t →
+        MayCome context.now.basin.now context.now.series.now t (line.Member node) →
+        Keeps context.now.basin.now context.now.series.now state.new
+        (read_item context.now.basin.now context.now.series.now t (line.Member node)) }
+{
+    enter_member(state, node);
 }
 
 /// Enters a `called` line, which is that of the next right that answers to a caller.

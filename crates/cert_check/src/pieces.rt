@@ -1,6 +1,6 @@
 //! A checker of a result text that comes in pieces of any size.
 ghost use Rattle.std.specs.Prelude.{ℕ, List, [], ◌∷◌, ◌++◌, ◌≡◌, ◌+◌, ◌^◌, ◌<◌, ◌≤◌, None, Err, length, take};
-ghost use Rattle.std.specs.Prelude.{IfOk, IfErr, IfSome, OnOk};
+ghost use Rattle.std.specs.Prelude.{IfOk, IfErr, IfNone, IfSome, OnOk};
 ghost use Rattle.std.specs.List.{position};
 ghost use Rattle.water_model.specs.Valid.{IsValidBasin, IsSeriesOf};
 ghost use Rattle.water_text.specs.LinesIn.{TakesToFeed, is_feed, nothing_held};
@@ -70,9 +70,10 @@ fn whole_line<'a>(line: &LineIn, piece: &'a [u8]) -> Option<&'a [u8]>
     }
 }
 
-/// Gives a checker the prefix of some bytes, up to the end of a line if there is one, and answers how many they are. A
-/// line that lies whole in them isn't copied, other bytes are, behind those that are held.
-fn give_prefix(checker: &mut Checker, line: &mut LineIn, rest: &[u8]) -> Result<usize, Refuted>
+/// Gives a checker the prefix of some bytes, as `give_prefix` does, whatever they are. A line that lies whole in them
+/// isn't copied, other bytes are, behind those that are held.
+#[inline(never)]
+fn give_bytes(checker: &mut Checker, line: &mut LineIn, rest: &[u8]) -> Result<usize, Refuted>
     requires line { IsPartialLine line.old }
     requires good { checker.old.refused ≡ None }
     requires some { 0 < length rest.now }
@@ -102,6 +103,53 @@ fn give_prefix(checker: &mut Checker, line: &mut LineIn, rest: &[u8]) -> Result<
             end_line(checker, line)?;
             Ok(fed.taken)
         }
+    }
+}
+
+/// Gives a checker the line that some bytes begin with, where no byte is held and it is the one that is most likely to
+/// come, and answers it without its line feed. Else nothing changes.
+#[inline(always)]
+fn give_likely<'a>(checker: &mut Checker, line: &LineIn, rest: &'a [u8]) -> Option<&'a [u8]>
+    ensures held { IfSome result (λ text. line.now.bytes ≡ []) }
+    ensures stands { IfSome result (λ text. (lines : List (List ℕ)) → CheckerStandsFor checker.old lines →
+        CheckerStandsFor checker.new (lines ++ text.now ∷ [])) }
+    ensures takes { IfSome result (λ text. TakesToFeed [] text.now rest.now (length text.now + 1)) }
+    ensures good { IfSome result (λ text. checker.new.refused ≡ None) }
+    ensures none { IfNone result (checker.new ≡ checker.old) }
+    ensures left { IfSome result (λ text. lines_left checker.new + 1 ≡ lines_left checker.old) }
+    ensures basin { checker.new.basin ≡ checker.old.basin }
+    ensures series { checker.new.series ≡ checker.old.series }
+    ensures audit { lines.IsAudit checker.old → lines.IsAudit checker.new }
+{
+    if line.bytes().is_empty() {
+        checker.likely_line(rest)
+    } else {
+        None
+    }
+}
+
+/// Gives a checker the prefix of some bytes, up to the end of a line if there is one, and answers how many they are.
+/// Where they begin with the line that is most likely to come, its end isn't looked for.
+fn give_prefix(checker: &mut Checker, line: &mut LineIn, rest: &[u8]) -> Result<usize, Refuted>
+    requires line { IsPartialLine line.old }
+    requires good { checker.old.refused ≡ None }
+    requires some { 0 < length rest.now }
+    ensures some { IfOk result (λ taken. 0 < taken) }
+    ensures within { IfOk result (λ taken. taken ≤ length rest.now) }
+    ensures given { IfOk result (λ taken. (text : List ℕ) → AreGiven checker.old line.old text →
+        AreGiven checker.new line.new (text ++ take taken rest.now)) }
+    ensures good { OnOk result (checker.new.refused ≡ None) }
+    ensures refused { IfErr result (λ e. (text : List ℕ) → AreGiven checker.old line.old text → (more : List ℕ) →
+        text_verdict checker.old.basin checker.old.series (text ++ rest.now ++ more) ≡ Err e) }
+    ensures left { IfOk result (λ taken. room_left checker.new line.new + taken ≤ room_left checker.old line.old) }
+    ensures line { IsPartialLine line.new }
+    ensures basin { checker.new.basin ≡ checker.old.basin }
+    ensures series { checker.new.series ≡ checker.old.series }
+    ensures audit { lines.IsAudit checker.old → lines.IsAudit checker.new }
+{
+    match give_likely(checker, line, rest) {
+        Some(text) => Ok(text.len() + 1),
+        None => give_bytes(checker, line, rest),
     }
 }
 

@@ -1,8 +1,11 @@
 //! What a checker keeps of lines that are good, and how it takes the next.
-ghost use Rattle.std.specs.Prelude.{ℕ, ◌≡◌, ◌+◌, ◌^◌, ◌<◌, ◌++◌, ◌∷◌, [], List, None, OnOk, is_some};
+ghost use Rattle.std.specs.Prelude.{ℕ, ◌≡◌, ◌+◌, ◌^◌, ◌<◌, ◌++◌, ◌∷◌, [], List, None, Ok, IfNone, IfSome, OnOk};
+ghost use Rattle.std.specs.Prelude.{is_some, length};
 ghost use Rattle.result_reader.specs.ReadSoFar.{ReadSoFar, read_so_far};
 ghost use Rattle.result_lines.specs.OfBasin.{IsOfBasin};
 ghost use Rattle.result_lines.specs.declared.item.Item.{Item};
+ghost use Rattle.result_lines.specs.declared.item.Item.TheVariants as line;
+ghost use Rattle.water_text.specs.LinesIn.{TakesToFeed};
 ghost use Rattle.cert_check.specs.Auditing.{IsAuditIfAny};
 ghost use Rattle.cert_check.specs.Checking.{first_row, named_line};
 ghost use Rattle.cert_check.specs.Coming.{MayCome};
@@ -13,7 +16,7 @@ ghost use Rattle.cert_check.specs.Taking.{HasItems, HasLines, IsRead, TakesItem,
 
 use crate::audit::{Audit, audit_item};
 use crate::compare::{is_done, is_member};
-use crate::entering::enter;
+use crate::entering::{enter, enter_node};
 use crate::ready::make_ready;
 use crate::refusing::first_row;
 use crate::refuted::{Refuted, RefutedKind};
@@ -66,7 +69,9 @@ fn count(progress: &mut CheckProgress, item: &Item)
     }
 }
 
-/// Takes a good line into the audit, if one was asked for, before it is entered.
+/// Takes a good line into the audit, if one was asked for, before it is entered. It is inlined, so that where none was
+/// a line costs no call.
+#[inline(always)]
 fn take_audit(context: &Context, progress: &mut CheckProgress, item: &Item)
     requires context { IsContext context.now }
     requires item { IsOfBasin context.now.basin.now item.now }
@@ -147,5 +152,54 @@ pub fn take_line(
             line: next,
             kind: RefutedKind::BadLine,
         }),
+    }
+}
+
+/// Takes the `in` line of a node. It is never refused, as no row holds of it, and its tests look at nothing. Each
+/// call has an item of its own, so that it is compiled for such a line alone.
+#[inline(always)]
+fn take_member(context: &Context, progress: &mut CheckProgress, node: u32)
+    requires context { IsContext context.now }
+    requires node { node < length context.now.basin.now.nodes }
+    requires so_far { HasItems context.now.basin.now context.now.series.now progress.old (line.Member node) }
+    requires room { progress.old.read + 1 < 2 ^ 64 }
+    ensures takes { (items : List Item) → IsRead context.now.basin.now context.now.series.now progress.old items
+        (line.Member node) →
+        TakesItem context.now.basin.now context.now.series.now progress.new items (line.Member node) (Ok tt) }
+    ensures reader { progress.new.reader ≡ progress.old.reader }
+    ensures audited { is_some progress.new.audit ≡ is_some progress.old.audit }
+{
+    take_audit(context, progress, &Item::Member { node });
+    enter_node(context, &mut *progress.state, node);
+    count(progress, &Item::Member { node });
+}
+
+/// Takes the next line as `take_line` does, and answers it, where some bytes begin with it and its line feed, and it is
+/// the `in` line that is most likely to come. Else nothing changes.
+#[inline(always)]
+pub fn take_likely<'a>(
+    context: &Context,
+    progress: &mut CheckProgress,
+    piece: &'a [u8],
+) -> Option<&'a [u8]>
+    requires context { IsContext context.now }
+    requires lines { HasLines context.now.basin.now context.now.series.now progress.old }
+    ensures stands { IfSome result (λ text. (lines : List (List ℕ)) →
+        IsProgressOf context.now.basin.now context.now.series.now progress.old lines →
+        IsProgressOf context.now.basin.now context.now.series.now progress.new (lines ++ text.now ∷ [])) }
+    ensures takes { IfSome result (λ text. TakesToFeed [] text.now piece.now (length text.now + 1)) }
+    ensures none { IfNone result (progress.new ≡ progress.old) }
+    ensures left { IfSome result (λ text. progress.new.reader.left + 1 ≡ progress.old.reader.left) }
+    ensures audited { is_some progress.new.audit ≡ is_some progress.old.audit }
+{
+    if progress.ended {
+        return None;
+    }
+    match progress.reader.likely_member(piece) {
+        Some(member) => {
+            take_member(context, progress, member.node);
+            Some(member.text)
+        }
+        None => None,
     }
 }

@@ -10,6 +10,7 @@ pub mod Sayings
 pub mod StandingLaws
 pub mod LinesLeft
 pub mod Spelled
+mod MemberLines
 pub mod Accepting
 pub mod Telling
 pub mod Sets

@@ -20,5 +20,5 @@ mod shape;
 mod words;
 
 pub use bad_line::BadLine;
-pub use reader::ResultReader;
+pub use reader::{MemberLine, ResultReader};
 pub use result_lines::item::Item;

@@ -1,8 +1,8 @@
 //! Names, and what they name.
-ghost use Rattle.std.specs.Prelude.{◌≡◌, ◌<◌, true, IfOk};
+ghost use Rattle.std.specs.Prelude.{◌≡◌, ◌<◌, ◌≤◌, true, length, IfOk, IfSome};
 ghost use Rattle.water_model.specs.Entries.{count_in, name_in};
 ghost use Rattle.water_model.specs.Valid.{IsValidBasin};
-ghost use Rattle.water_model.specs.declared.space.Space.TheVariants.{Links, Reservoirs};
+ghost use Rattle.water_model.specs.declared.space.Space.TheVariants.{Links, Nodes, Reservoirs};
 ghost use Rattle.basin_names.specs.Named.{named};
 
 use basin_names::{BothNames, SpaceNames};
@@ -46,6 +46,19 @@ impl<'b> Names<'b> {
         ensures same { result ≡ true → name.now ≡ name_in space self.now.basin.now at }
     {
         at < count_in(space, self.basin) && name_in(space, self.basin, at).bytes() == name
+    }
+
+    /// The name of the node at an index, which may be any number, if there is one.
+    pub fn node_name(&self, at: u32) -> Option<&[u8]>
+        requires { IsValidBasin self.now.basin.now }
+        ensures value { IfSome result (λ name. name.now ≡ name_in Nodes self.now.basin.now at) }
+        ensures short { IfSome result (λ name. length name.now ≤ 32) }
+    {
+        if at < count_in(Space::Nodes, self.basin) {
+            Some(name_in(Space::Nodes, self.basin, at).bytes())
+        } else {
+            None
+        }
     }
 
     /// The index of the entry that has the name, or `None` where none has it, by a look-up in the map.

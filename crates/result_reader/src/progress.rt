@@ -21,9 +21,9 @@ pub struct Progress {
     pub must: bool,
 }
 
-/// The progress after an `in` line of a node.
+/// The progress after an `in` line of a node, if the line may come.
 #[tactic(auto, using(crate::proofs::Members::member_steps))]
-fn next_member(basin: &Basin, dues: &[Shape], progress: Progress, node: u32) -> Option<Progress>
+pub fn next_member(basin: &Basin, dues: &[Shape], progress: Progress, node: u32) -> Option<Progress>
     requires basin { IsValidBasin basin.now }
     requires dues { dues.now ≡ form.due_in_month basin.now }
     requires progress { IsProgress basin.now dues.now progress }

@@ -1,9 +1,12 @@
 //! The reader of a result text.
-ghost use Rattle.std.specs.Prelude.{◌≡◌, ◌+◌, ◌*◌, ◌^◌, ◌≤◌, ◌++◌, ◌∷◌, [], List, IfOk, Ok, OnOk, OnErr};
+ghost use Rattle.std.specs.Prelude.{◌≡◌, ◌+◌, ◌*◌, ◌^◌, ◌≤◌, ◌++◌, ◌∷◌, [], List, length, IfOk, IfSome, IfNone, Ok};
+ghost use Rattle.std.specs.Prelude.{OnOk, OnErr};
 ghost use Rattle.rights_roll.specs.Rolls.{IsRollOf};
 ghost use Rattle.result_lines.specs.Spelling.{line_of};
 ghost use Rattle.water_model.specs.Valid.{IsValidBasin};
 ghost use Rattle.result_lines.specs.declared.item.Item.{Item};
+ghost use Rattle.result_lines.specs.declared.item.Item.TheVariants as line;
+ghost use Rattle.water_text.specs.LinesIn.{TakesToFeed};
 ghost use Rattle.result_reader.specs.Form.{due, due_in_month};
 ghost use Rattle.result_reader.specs.OfText.{IsOfText};
 ghost use Rattle.result_reader.specs.Reading.{item_of, read_line};
@@ -14,14 +17,21 @@ use crate::dues::dues_of;
 use crate::likely::{Likely, follow, likely_entry, likely_member};
 use crate::names::Names;
 use crate::position::Position;
-use crate::progress::{Progress, next_progress};
-use crate::reading::{is_member_line, item_by_fields};
+use crate::progress::{Progress, next_member, next_progress};
+use crate::reading::{is_member_line, item_by_fields, member_line};
 use crate::shape::Shape;
 use result_lines::item::Item;
 use rights_roll::roll::Roll;
 use std::alloc::{AllocError, Global};
 use std::marker::Model;
 use water_model::types::Basin;
+
+/// An `in` line that some bytes begin with: its node, and the line without its line feed.
+#[derive(Clone, Copy)]
+pub struct MemberLine<'a> {
+    pub node: u32,
+    pub text: &'a [u8],
+}
 
 /// Reads the lines of a result text of one basin in order, and accepts those that may come.
 ///
@@ -140,6 +150,39 @@ impl<'b> ResultReader<'b> {
                 Ok(item)
             }
             None => Err(BadLine::OutOfPlace),
+        }
+    }
+
+    /// Takes the next line as `line` does, where some bytes begin with it and its line feed, and it is the `in` line of
+    /// the node that is most likely to come. Else the answer is `None` and nothing changes: the bytes may begin with
+    /// any other line.
+    ///
+    /// Most lines of a text are such lines. Bytes are only compared with the one that is likely, so its end isn't
+    /// looked for.
+    #[inline(always)]
+    pub fn likely_member<'a>(&mut self, piece: &'a [u8]) -> Option<MemberLine<'a>>
+        ensures answer { IfSome result (λ m. (items : List Item) → ReaderStandsFor self.old items →
+            Ok (line.Member m.node) ≡ read_line self.old.basin items m.text.now) }
+        ensures accepted { IfSome result (λ m. (items : List Item) → ReaderStandsFor self.old items →
+            ReaderStandsFor self.new (items ++ line.Member m.node ∷ [])) }
+        ensures spelled { IfSome result (λ m. (m.text.now ≡ line_of self.old.basin (line.Member m.node)) ×
+            IsOfText self.old.basin (line.Member m.node)) }
+        ensures takes { IfSome result (λ m. TakesToFeed [] m.text.now piece.now (length m.text.now + 1)) }
+        ensures none { IfNone result (self.new ≡ self.old) }
+        ensures basin { self.new.basin ≡ self.old.basin }
+        ensures left { IfSome result (λ m. self.new.left + 1 ≡ self.old.left) }
+    {
+        let node = likely_member(&self.followers, &self.progress);
+        let Some(text) = member_line(&self.names, node, piece) else {
+            return None;
+        };
+        match next_member(self.names.basin, &self.dues, self.progress, node) {
+            Some(next) => {
+                self.progress = next;
+                self.left -= 1;
+                Some(MemberLine { node, text })
+            }
+            None => None,
         }
     }
 

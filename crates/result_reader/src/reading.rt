@@ -1,6 +1,7 @@
 //! What a line says.
-ghost use Rattle.std.specs.Prelude.{◌≡◌, ◌++◌, true, codes, IfSome, Ok};
+ghost use Rattle.std.specs.Prelude.{◌≡◌, ◌+◌, ◌++◌, ◌∷◌, [], true, codes, drop, length, IfSome, Ok};
 ghost use Rattle.water_text.specs.Fields.{pieces_after};
+ghost use Rattle.water_text.specs.LinesIn.{TakesToFeed};
 ghost use Rattle.water_model.specs.Valid.{IsValidBasin};
 ghost use Rattle.result_lines.specs.declared.item.Item.TheVariants as line;
 ghost use Rattle.result_reader.specs.Reading as reading;
@@ -204,5 +205,33 @@ pub fn is_member_line(names: &Names, node: u32, text: &[u8]) -> bool
     match after_in(text) {
         Some(name) => names.has_name(Space::Nodes, node, name),
         None => false,
+    }
+}
+
+/// The bytes before an index, where a line feed stands there.
+fn line_to(piece: &[u8], end: usize) -> Option<&[u8]>
+    ensures { IfSome result (λ text. piece.now ≡ text.now ++ 10 ∷ drop (length text.now + 1) piece.now) }
+{
+    if end < piece.len() && piece[end] == b'\n' {
+        Some(&piece[..end])
+    } else {
+        None
+    }
+}
+
+/// The `in` line of the node at an index, which may be any number, without its line feed, where a piece begins with it.
+/// The name says where the line would end, so its end isn't looked for.
+#[inline(always)]
+pub fn member_line<'a>(names: &Names, node: u32, piece: &'a [u8]) -> Option<&'a [u8]>
+    requires { IsValidBasin names.now.basin.now }
+    ensures says { IfSome result (λ text. reading.item_of names.now.basin.now text.now ≡ Ok (line.Member node)) }
+    ensures takes { IfSome result (λ text. TakesToFeed [] text.now piece.now (length text.now + 1)) }
+{
+    let name = names.node_name(node)?;
+    let text = line_to(piece, name.len() + 3)?;
+    if is_member_line(names, node, text) {
+        Some(text)
+    } else {
+        None
     }
 }

@@ -1,4 +1,4 @@
-use Rattle.std.proofs.Common.{◌∙◌, arith}
+use Rattle.std.proofs.Common.{arith}
 use Rattle.cut_cert.proofs.Search.{order_in_range}
 use Rattle.cert_check.proofs.answering.next_due.Goals as goal
 

@@ -1,20 +1,16 @@
-use Rattle.std.proofs.Common.{◌≡◌, ℕ, ◌^◌, length, refl, sym, ap, subst, ◌∙◌, Some, None, List, Bool, map}
+use Rattle.std.proofs.Common.{◌^◌, length, refl, sym, ap, subst, ◌∙◌, map}
 use Rattle.std.proofs.Common.{arith}
-use Rattle.std.specs.Prelude.{Option, IsSome}
 use Rattle.std.proofs.lemmas.List.{length-map}
 use Rattle.month_terms.proofs.Amounts.{deliveries_small}
 use Rattle.month_terms.proofs.WaterYears.{used_most}
-use Rattle.water_model.specs.CutSets.{set_of}
 use Rattle.water_model.specs.Entries.{count_in}
 use Rattle.result_lines.specs.OfBasin.{IsOfBasin}
 use Rattle.result_lines.specs.Quantities.{space_of}
 use Rattle.water_model.specs.declared.types.MonthRecord.{MonthRecord}
-use Rattle.result_reader.specs.ReadSoFar.{ReadSoFar, read_item}
 use Rattle.cert_check.specs.Checking.{first_row}
 use Rattle.cert_check.specs.Coming.{is_before_called}
-use Rattle.cert_check.specs.Keeping.{Keeps}
 use Rattle.cert_check.proofs.Entries.{along, keeps_amount, keeps_delivery, keeps_month, keeps_next, keeps_end}
-use Rattle.cert_check.proofs.SetEntries.{keeps_call, keeps_stray, keeps_member}
+use Rattle.cert_check.proofs.SetEntries.{keeps_call, keeps_node}
 use Rattle.cert_check.proofs.Fitting.{amounts_sized}
 use Rattle.cert_check.proofs.entering.enter.Goals as goal
 
@@ -38,28 +34,9 @@ returns-in-Call c = λ t k m good. along t c.in-Call.is c.enter_call.ensures (ke
     (subst (λ i. IsOfBasin c.args.context.now.basin.now i) c.in-Call.is c.requires.item)
     (m.uncalled (ap is_before_called c.in-Call.is)) k)
 
-by_set : (c : goal.After-enter_member) (t : ReadSoFar) → t.called ≡ 0 → (right : ℕ) →
-    c.args.state.now.calling ≡ Some right → (o : Option (List Bool)) →
-    set_of c.args.state.now.month.cuts right ≡ o → IsSome o →
-    Keeps c.args.context.now.basin.now c.args.context.now.series.now c.args.state.now t →
-    Keeps c.args.context.now.basin.now c.args.context.now.series.now c.enter_member.new.state
-    (read_item c.args.context.now.basin.now c.args.context.now.series.now t c.args.item.now)
-by_set c t none right e None is held k = cc
-by_set c t none right e (Some set) is held k = along t c.in-Member.is (c.enter_member.ensures.some right set e is)
-    (keeps_member c.in-Member.node none e is k)
-
-by_call : (c : goal.After-enter_member) (t : ReadSoFar) → t.called ≡ 0 → (o : Option ℕ) → c.args.state.now.calling ≡ o →
-    Keeps c.args.context.now.basin.now c.args.context.now.series.now c.args.state.now t →
-    Keeps c.args.context.now.basin.now c.args.context.now.series.now c.enter_member.new.state
-    (read_item c.args.context.now.basin.now c.args.context.now.series.now t c.args.item.now)
-by_call c t none None e k = along t c.in-Member.is (c.enter_member.ensures.none e) (keeps_stray c.in-Member.node none e
-    k)
-by_call c t none (Some right) e k =
-    by_set c t none right e (set_of c.args.state.now.month.cuts right) refl (k.calling.held right e).1 k
-
 pub returns-in-Member : goal.returns-in-Member
-returns-in-Member c =
-    λ t k m good. by_call c t (m.uncalled (ap is_before_called c.in-Member.is)) c.args.state.now.calling refl k
+returns-in-Member c = λ t k m good. along t c.in-Member.is refl (keeps_node c.in-Member.node
+    (m.uncalled (ap is_before_called c.in-Member.is)) c.enter_member.ensures.none c.enter_member.ensures.some k)
 
 pub returns-in-Called : goal.returns-in-Called
 returns-in-Called c = grind (arith, along, keeps_next, first_row)

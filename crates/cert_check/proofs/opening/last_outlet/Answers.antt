@@ -1,4 +1,4 @@
-use Rattle.std.proofs.Common.{◌≡◌, ◌∙◌, arith}
+use Rattle.std.proofs.Common.{arith}
 use Rattle.water_model.specs.Basin.{is_outlet}
 use Rattle.water_model.specs.Indices.{numbers_from}
 use Rattle.std.specs.Prelude.{nat_le, filter}

@@ -1,4 +1,4 @@
-use Rattle.std.proofs.Common.{ap, ◌∙◌, arith, length}
+use Rattle.std.proofs.Common.{ap, arith, length}
 use Rattle.std.specs.Prelude.{slice_index}
 use Rattle.finite_sums.proofs.Totals.{term_le_total}
 use Rattle.cert_check.proofs.Bounded.{supplies_small}

@@ -1,4 +1,4 @@
-use Rattle.std.proofs.Common.{◌∙◌, arith}
+use Rattle.std.proofs.Common.{arith}
 use Rattle.water_model.proofs.Order.{length-by_seniority}
 use Rattle.cert_check.proofs.Dues.{keeps_passed}
 use Rattle.cert_check.proofs.Missing.{lacks_read}

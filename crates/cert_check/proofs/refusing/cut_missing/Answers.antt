@@ -1,4 +1,4 @@
-use Rattle.std.proofs.Common.{sym, ◌∙◌, arith}
+use Rattle.std.proofs.Common.{sym, arith}
 use Rattle.water_model.proofs.Order.{length-by_seniority}
 use Rattle.cert_check.proofs.Missing.{none_missed, some_missed}
 use Rattle.cert_check.proofs.refusing.cut_missing.Goals as goal
