@@ -55,14 +55,14 @@ pub fn own_key(table: BasinTable) -> &'static str
     ensures { result.now ≡ own_key table }
 {
     match table {
-        BasinTable::Top => "name",
-        BasinTable::Node => "name",
-        BasinTable::Link => "name",
         BasinTable::Reservoir => "node",
-        BasinTable::Diversion => "name",
-        BasinTable::Instream => "name",
-        BasinTable::Zone => "name",
-        BasinTable::Return => "name",
+        BasinTable::Top
+        | BasinTable::Node
+        | BasinTable::Link
+        | BasinTable::Diversion
+        | BasinTable::Instream
+        | BasinTable::Zone
+        | BasinTable::Return => "name",
     }
 }
 
