@@ -1,13 +1,13 @@
 -- A node is adopted over another step: the tree stays a tree, and what is below the node stays in it.
-use Rattle.std.proofs.Common.{ℕ, Bool, true, false, ◌≡◌, ◌≢◌, ◌==◌, ◌||◌, ◌+◌, ◌-◌, ◌<◌, ◌⊎◌, List, length}
-use Rattle.std.proofs.Common.{arith, ap, if◌then◌else◌, slice_set, subst, sym, inl, inr, refl, ◌∙◌}
+use Rattle.std.proofs.Common.{ℕ, Bool, true, false, ◌≡◌, ◌≢◌, ◌==◌, ◌||◌, ◌+◌, ◌-◌, ◌^◌, ◌<◌, ◌⊎◌, List}
+use Rattle.std.proofs.Common.{length, arith, ap, if◌then◌else◌, subst, sym, inl, inr, refl, ◌∙◌}
 use Rattle.std.proofs.lemmas.Bool.{cases_Bool, cases_eq, eq-eqb, ne_eqb, eqb-true}
-use Rattle.std.proofs.lemmas.List.{get_or-set_other, get_or-set_same, length-set}
 use Rattle.circulation.specs.Contents.{Contents, network, flow_of}
 use Rattle.circulation.specs.Residual.{start_of, end_of, room_of}
-use Rattle.residual_tree.specs.Tree.{label_of, IsLabeled}
+use Rattle.residual_tree.specs.Tree.{label_of, predecessor_of, relabel, IsLabeled}
 use Rattle.residual_tree.specs.Repair.{IsLooseBranch, IsTreeBut, IsWayIn}
 use Rattle.residual_tree.specs.Adopting.{IsClear}
+use Rattle.residual_tree.proofs.Packed.{length_relabel, label_same, label_other, predecessor_same, predecessor_other}
 
 -- the tree leads to the outside past any other node
 clear_outside : (c : Contents) (labels : List ℕ) (v : ℕ) → v < c.nodes → IsClear c labels v c.nodes
@@ -63,11 +63,11 @@ rank_before rank on k x y less closed = elim (cases_Bool (on x)) [
 
 -- a node that is labeled is adopted over another step
 pub tree_adopt : {c : Contents} {labels : List ℕ} {saturated orphan free unscanned : ℕ → Type 0} {v s : ℕ} →
-    IsTreeBut c labels saturated orphan free unscanned → v < c.nodes → IsLabeled labels v → IsWayIn c labels v s →
-    IsClear c labels v (start_of (network c) s) → IsTreeBut c (slice_set labels v (s + 1)) saturated orphan free
-    unscanned
-tree_adopt {c} {labels} {saturated} {orphan} {v} {s} t b labeled in_s clear = record {
-  words = length-set labels v (s + 1) ∙ t.words;
+    IsTreeBut c labels saturated orphan free unscanned → v < c.nodes → IsLabeled labels v → s + 1 < 2 ^ 34 →
+    IsWayIn c labels v s → IsClear c labels v (start_of (network c) s) →
+    IsTreeBut c (relabel labels v (s + 1) (start_of (network c) s)) saturated orphan free unscanned
+tree_adopt {c} {labels} {saturated} {orphan} {v} {s} t b labeled small in_s clear = record {
+  words = length_relabel labels v (s + 1) (start_of (network c) s) ∙ t.words;
   root = other c.nodes (λ e. absurd (omega (arith, e))) ∙ t.root;
   rank = rank;
   branch = λ u d m. elim (cases_eq u v) [
@@ -81,6 +81,8 @@ tree_adopt {c} {labels} {saturated} {orphan} {v} {s} t b labeled in_s clear = re
         rank_off t.rank clear.on k v clear.past,
       );
       marked = inl (kept (start_of (network c) s) in_s.marked);
+      predecessor = ap (predecessor_of new) e
+          ∙ predecessor_same labels v (s + 1) (start_of (network c) s) long small;
     }
     | inr ne ↦
         let same = other u ne in
@@ -94,6 +96,7 @@ tree_adopt {c} {labels} {saturated} {orphan} {v} {s} t b labeled in_s clear = re
             | inl r ↦ inl (kept (start_of (network c) (label_of labels u - 1)) r)
             | inr o ↦ inr o
           ];
+          predecessor = predecessor_other labels v (s + 1) (start_of (network c) s) u ne ∙ was.predecessor;
         }
   ];
   room = λ u d m. elim (cases_eq u v) [
@@ -110,27 +113,27 @@ tree_adopt {c} {labels} {saturated} {orphan} {v} {s} t b labeled in_s clear = re
 }
   where
     new : List ℕ
-    new = slice_set labels v (s + 1)
+    new = relabel labels v (s + 1) (start_of (network c) s)
 
     long : v < length labels
     long = omega (arith, t.words)
 
-    here : label_of (slice_set labels v (s + 1)) v ≡ s + 1
-    here = get_or-set_same labels v (s + 1) 0 long
+    here : label_of (relabel labels v (s + 1) (start_of (network c) s)) v ≡ s + 1
+    here = label_same labels v (s + 1) (start_of (network c) s) long small
 
-    other : (u : ℕ) → u ≢ v → label_of (slice_set labels v (s + 1)) u ≡ label_of labels u
-    other u ne = get_or-set_other labels v u (s + 1) 0 ne
+    other : (u : ℕ) → u ≢ v → label_of (relabel labels v (s + 1) (start_of (network c) s)) u ≡ label_of labels u
+    other u ne = label_other labels v (s + 1) (start_of (network c) s) u ne
 
-    own : (u : ℕ) → u ≡ v → label_of (slice_set labels v (s + 1)) u - 1 ≡ s
-    own u e = omega (arith, ap (label_of (slice_set labels v (s + 1))) e, here)
+    own : (u : ℕ) → u ≡ v → label_of (relabel labels v (s + 1) (start_of (network c) s)) u - 1 ≡ s
+    own u e = omega (arith, ap (label_of (relabel labels v (s + 1) (start_of (network c) s))) e, here)
 
-    kept : (u : ℕ) → IsLabeled labels u → IsLabeled (slice_set labels v (s + 1)) u
+    kept : (u : ℕ) → IsLabeled labels u → IsLabeled (relabel labels v (s + 1) (start_of (network c) s)) u
     kept u m = elim (cases_eq u v) [
-      | inl e ↦ omega (arith, ap (label_of (slice_set labels v (s + 1))) e, here)
+      | inl e ↦ omega (arith, ap (label_of (relabel labels v (s + 1) (start_of (network c) s))) e, here)
       | inr ne ↦ omega (arith, other u ne, m)
     ]
 
-    was_labeled : (u : ℕ) → IsLabeled (slice_set labels v (s + 1)) u → IsLabeled labels u
+    was_labeled : (u : ℕ) → IsLabeled (relabel labels v (s + 1) (start_of (network c) s)) u → IsLabeled labels u
     was_labeled u m = elim (cases_eq u v) [
       | inl e ↦ omega (arith, ap (label_of labels) e, labeled)
       | inr ne ↦ omega (arith, other u ne, m)

@@ -1,18 +1,19 @@
 -- Nodes are freed, one after another.
-use Rattle.std.proofs.Common.{ℕ, nat_lt, ◌≡◌, ◌≢◌, ◌+◌, ◌-◌, ◌<◌, ◌≤◌, ◌⊎◌, List, length, replicate, slice_index}
-use Rattle.std.proofs.Common.{slice_set, refl, arith, ap, sym, subst, inl, inr, ◌∙◌}
+use Rattle.std.proofs.Common.{ℕ, nat_lt, ◌≡◌, ◌≢◌, ◌+◌, ◌-◌, ◌^◌, ◌<◌, ◌≤◌, ◌⊎◌, List, length, replicate}
+use Rattle.std.proofs.Common.{slice_index, slice_set, refl, arith, ap, sym, subst, inl, inr, ◌∙◌}
 use Rattle.std.proofs.lemmas.Bool.{cases_eq, cases_lt}
-use Rattle.std.proofs.lemmas.List.{get_or-set_other, get_or-set_same, get_or-replicate, length-set, length-replicate}
+use Rattle.std.proofs.lemmas.List.{get_or-set_other, get_or-set_same, length-set, length-replicate}
 use Rattle.finite_sums.specs.Sums.{when}
 use Rattle.finite_sums.proofs.Totals.{total_zero}
 use Rattle.circulation.specs.Contents.{Contents, network, flow_of, arcs, step_of, IsCirculation}
 use Rattle.circulation.specs.Residual.{arc_of, start_of, end_of, room_of}
 use Rattle.residual_tree.specs.declared.TheConstants.{ROOT}
-use Rattle.residual_tree.specs.Tree.{label_of, IsLabeled}
+use Rattle.residual_tree.specs.Tree.{label_of, relabel, IsLabeled}
 use Rattle.residual_tree.specs.Repair.{IsFreeing, IsSaturatedTree, IsWayIn}
 use Rattle.residual_tree.specs.Adopting.{IsClear, IsAdopted, IsFreedNode}
 use Rattle.circulation.proofs.Overs.{end_within}
 use Rattle.circulation.proofs.Unmarked.{in_basin}
+use Rattle.residual_tree.proofs.Packed.{step_small, length_relabel, label_same, label_other, label_none}
 use Rattle.residual_tree.proofs.Adopts.{tree_adopt}
 use Rattle.residual_tree.proofs.Changes.{count_most, count_freed, count_kept, occurs_more, occurs_here, occurs_or}
 use Rattle.residual_tree.proofs.Changes.{freed_word, tree_free, tree_map}
@@ -26,7 +27,7 @@ basin_end {c} labels s v k b within root is =
 -- what may be done by a step into the node v: it is freed, if it is labeled by the step
 pub record FreesEnd (labels freed labels' freed' : List ℕ) (size size' s v : ℕ) : Type 0 where
   pub child : label_of labels v ≡ s + 1 →
-      (size' ≡ size + 1) × (labels' ≡ slice_set labels v 0) × (freed' ≡ slice_set freed size v)
+      (size' ≡ size + 1) × (labels' ≡ relabel labels v 0 0) × (freed' ≡ slice_set freed size v)
   pub other : label_of labels v ≢ s + 1 → (size' ≡ size) × (labels' ≡ labels) × (freed' ≡ freed)
 
 -- a step was tried: its end is no longer labeled by it, and no other word changed
@@ -51,7 +52,7 @@ freeing_room {c} {labels} s k b f is =
 -- the child is freed
 freed_child : {c : Contents} {labels freed : List ℕ} {at last done size : ℕ} (s : ℕ) → IsCirculation c →
     arc_of s < arcs c → IsFreeing c labels freed at last done size → label_of labels (end_of (network c) s) ≡ s + 1 →
-    IsFreedEnd c labels freed (slice_set labels (end_of (network c) s) 0) (slice_set freed size (end_of (network c) s))
+    IsFreedEnd c labels freed (relabel labels (end_of (network c) s) 0 0) (slice_set freed size (end_of (network c) s))
     at last done size (size + 1) s
 freed_child {c} {labels} {freed} {done} {size} s k b f is =
     let v = end_of (network c) s in
@@ -83,7 +84,7 @@ freed_child {c} {labels} {freed} {done} {size} s k b f is =
         ];
         bounded = omega (arith, count, f.bounded);
       };
-      gone = λ e. absurd (omega (arith, e, get_or-set_same labels v 0 0 long));
+      gone = λ e. absurd (omega (arith, e, label_same labels v 0 0 long (omega arith)));
     }
 
 -- a step was tried, and its end freed if it was labeled by it
@@ -120,16 +121,18 @@ past_firm is f firm = record {
 
 -- a node that is adopted over another step is not freed
 adopted_state : {c : Contents} {labels freed : List ℕ} {at last size v t : ℕ} → IsFreeing c labels freed at last 0
-    size → v < c.nodes → IsLabeled labels v → IsWayIn c labels v t → IsClear c labels v (start_of (network c) t) →
-    IsFreeing c (slice_set labels v (t + 1)) freed at last 0 size
-adopted_state {c} {labels} {v} {t} f b m in_t clear = record {
-  tree = tree_adopt f.tree b m in_t clear;
+    size → v < c.nodes → IsLabeled labels v → t + 1 < 2 ^ 34 → IsWayIn c labels v t →
+    IsClear c labels v (start_of (network c) t) →
+    IsFreeing c (relabel labels v (t + 1) (start_of (network c) t)) freed at last 0 size
+adopted_state {c} {labels} {v} {t} f b m small in_t clear = record {
+  tree = tree_adopt f.tree b m small in_t clear;
   order = f.order;
   places = f.places;
   within = f.within;
   bounded = omega (
     arith,
-    count_kept c.nodes v (t + 1) labels b (omega (arith, f.tree.words, b)) m (omega arith),
+    count_kept c.nodes v (t + 1) (start_of (network c) t) labels b (omega (arith, f.tree.words, b)) m (omega arith)
+        small,
     f.bounded,
   );
 }
@@ -144,12 +147,13 @@ adopted_next {c} {labels} {s} k b is f on h =
     let t = h.step in
     let inner : v < c.nodes = basin_end labels s v k b (end_within c s k b) f.tree.root on in
     let long : v < length labels = omega (arith, f.tree.words, inner) in
-    let here : label_of (slice_set labels v (t + 1)) v ≡ t + 1 = get_or-set_same labels v (t + 1) 0 long in
-    let adopted = adopted_state f inner (omega (arith, on)) h.in_step h.clear in
+    let small : t + 1 < 2 ^ 34 = step_small t k h.in_step.arc in
+    let new : List ℕ = relabel labels v (t + 1) (start_of (network c) t) in
+    let here : label_of new v ≡ t + 1 = label_same labels v (t + 1) (start_of (network c) t) long small in
+    let adopted = adopted_state f inner (omega (arith, on)) small h.in_step h.clear in
     let next = past_firm is adopted (λ u d m e same.
     let node : u ≡ v = sym e ∙ ap (end_of (network c)) same in
-    let own : label_of (slice_set labels v (t + 1)) u - 1 ≡ t =
-    omega (arith, ap (label_of (slice_set labels v (t + 1))) node, here) in
+    let own : label_of new u - 1 ≡ t = omega (arith, ap (label_of new) node, here) in
     subst (λ (x : ℕ). 0 < room_of (network c) (flow_of c) x) (sym own) h.in_step.room) in
     rw (h.words, h.same, h.none) next
 
@@ -226,18 +230,18 @@ orphaning_end {labels} o gone = record {
 -- where only the outside is labeled, and all others are listed as freed, they are freed
 pub felled : {c : Contents} (freed : List ℕ) → IsCirculation c → length freed ≡ c.nodes →
     ((v : ℕ) → v < c.nodes → slice_index freed v ≡ v) →
-    IsFreeing c (slice_set (replicate (c.nodes + 1) 0) c.nodes ROOT) freed 0 0 c.nodes c.nodes
+    IsFreeing c (relabel (replicate (c.nodes + 1) 0) c.nodes ROOT 0) freed 0 0 c.nodes c.nodes
 felled {c} freed k places listed =
-    let labels : List ℕ = slice_set (replicate (c.nodes + 1) 0) c.nodes ROOT in
+    let labels : List ℕ = relabel (replicate (c.nodes + 1) 0) c.nodes ROOT 0 in
     let long : length {A = ℕ} (replicate (c.nodes + 1) 0) ≡ c.nodes + 1 = length-replicate (c.nodes + 1) 0 in
     let root : label_of labels c.nodes ≡ ROOT =
-    get_or-set_same (replicate (c.nodes + 1) 0) c.nodes ROOT 0 (omega (arith, long)) in
+    label_same (replicate (c.nodes + 1) 0) c.nodes ROOT 0 (omega (arith, long)) (omega arith) in
     let none_labeled = λ (v : ℕ) (b : v < c.nodes).
-    get_or-set_other (replicate (c.nodes + 1) 0) c.nodes v ROOT 0 (λ e. absurd (omega (arith, b, e))) ∙
-    get_or-replicate (c.nodes + 1) v 0 0 (omega (arith, b)) in
+    label_other (replicate (c.nodes + 1) 0) c.nodes ROOT 0 v (λ e. absurd (omega (arith, b, e))) ∙
+    label_none (c.nodes + 1) v in
     record {
       tree = record {
-        words = length-set (replicate (c.nodes + 1) 0) c.nodes ROOT ∙ long;
+        words = length_relabel (replicate (c.nodes + 1) 0) c.nodes ROOT 0 ∙ long;
         root = root;
         rank = λ v. 0;
         branch = λ v b m. absurd (omega (arith, none_labeled v b, m));

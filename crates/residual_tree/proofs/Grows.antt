@@ -1,14 +1,15 @@
 -- Freed nodes are labeled again.
-use Rattle.std.proofs.Common.{ℕ, ◌≢◌, ◌≡◌, ◌+◌, ◌-◌, ◌*◌, ◌<◌, ◌≤◌, List, [], length, slice_index, slice_set, refl}
+use Rattle.std.proofs.Common.{ℕ, ◌≢◌, ◌≡◌, ◌+◌, ◌-◌, ◌*◌, ◌^◌, ◌<◌, ◌≤◌, List, [], length, slice_index, slice_set, refl}
 use Rattle.std.proofs.Common.{arith, ap, sym, subst, inl, inr, ◌∙◌}
 use Rattle.std.proofs.lemmas.Bool.{cases_eq}
 use Rattle.std.proofs.lemmas.List.{get_or-set_other, get_or-set_same, length-set}
 use Rattle.circulation.specs.Contents.{Contents, network, flow_of, arcs, step_of, IsCirculation}
 use Rattle.circulation.specs.Residual.{arc_of, start_of, end_of, room_of}
 use Rattle.residual_tree.specs.declared.TheConstants.{ROOT}
-use Rattle.residual_tree.specs.Tree.{label_of, IsLabeled, IsResidualTree}
+use Rattle.residual_tree.specs.Tree.{label_of, relabel, IsLabeled, IsResidualTree}
 use Rattle.residual_tree.specs.Repair.{none, only, no_step, IsFreeing, IsGrowing, HasArtificialStep}
 use Rattle.residual_tree.specs.Repair.{IsSaturatedTree}
+use Rattle.residual_tree.proofs.Packed.{step_small, label_same}
 use Rattle.residual_tree.proofs.Changes.{count_most, count_attached, occurs_more, occurs_here, occurs_or}
 use Rattle.residual_tree.proofs.Changes.{occurs_nowhere, IsLooseWay, labeled_still, tree_attach, tree_map}
 use Rattle.circulation.proofs.Overs.{over_backward, end_within}
@@ -41,21 +42,24 @@ pub growing_room : {c : Contents} {artificial : ℕ} {labels freed queue : List 
     v < c.nodes →
     IsGrowing c artificial labels freed queue next count done size → label_of labels v ≡ 0 → size < length queue
 growing_room {c} {labels} v b g unlabeled =
-    let one = count_attached c.nodes v 1 labels b (omega (arith, g.tree.words, b)) unlabeled (omega arith) in
-    omega (arith, one, count_most c.nodes (slice_set labels v 1), g.bounded, g.places)
+    let long : v < length labels = omega (arith, g.tree.words, b) in
+    let one = count_attached c.nodes v 1 0 labels b long unlabeled (omega arith) (omega arith) in
+    omega (arith, one, count_most c.nodes (relabel labels v 1 0), g.bounded, g.places)
 
 -- one more node is labeled
 pub growing_attach : {c : Contents} {artificial : ℕ} {labels freed queue : List ℕ} {next count done size : ℕ} (v s : ℕ)
     → v < c.nodes → IsGrowing c artificial labels freed queue next count done size → label_of labels v ≡ 0 →
-    IsArtificialWay c artificial labels v s →
-    IsGrowing c artificial (slice_set labels v (s + 1)) freed (slice_set queue size v) next count done (size + 1)
-growing_attach {c} {labels} {queue} {done} {size} v s b g unlabeled in_s =
+    s + 1 < 2 ^ 34 → IsArtificialWay c artificial labels v s →
+    IsGrowing c artificial (relabel labels v (s + 1) (start_of (network c) s)) freed (slice_set queue size v) next count
+    done (size + 1)
+growing_attach {c} {labels} {queue} {done} {size} v s b g unlabeled small in_s =
     let long : v < length labels = omega (arith, g.tree.words, b) in
     let room : size < length queue = growing_room v b g unlabeled in
     let order = g.order in
-    let here = get_or-set_same labels v (s + 1) 0 long in
+    let start : ℕ = start_of (network c) s in
+    let here = label_same labels v (s + 1) start long small in
     record {
-      tree = tree_attach g.tree no_none b unlabeled in_s
+      tree = tree_attach g.tree no_none b unlabeled small in_s
           (λ u o. occurs_more v o) (occurs_here queue done size v order room);
       order = omega (arith, order);
       places = length-set queue size v ∙ g.places;
@@ -65,18 +69,22 @@ growing_attach {c} {labels} {queue} {done} {size} v s b g unlabeled in_s =
             let is : slice_index (slice_set queue size v) k ≡ v =
             ap (slice_index (slice_set queue size v)) e ∙ get_or-set_same queue size v 0 room in (
               omega (arith, is, b),
-              subst (λ (u : ℕ). IsLabeled (slice_set labels v (s + 1)) u) (sym is) (omega (arith, here)),
+              subst (λ (u : ℕ). IsLabeled (relabel labels v (s + 1) start) u) (sym is) (omega (arith, here)),
             )
         | inr ne ↦
             let is : slice_index (slice_set queue size v) k ≡ slice_index queue k =
             get_or-set_other queue size k v 0 ne in
             let was = g.marked k (omega arith) in (
               omega (arith, is, was.0),
-              subst (λ (u : ℕ). IsLabeled (slice_set labels v (s + 1)) u) (sym is)
-                  (labeled_still labels v (s + 1) (slice_index queue k) unlabeled was.1),
+              subst (λ (u : ℕ). IsLabeled (relabel labels v (s + 1) start) u) (sym is)
+                  (labeled_still labels v (s + 1) start (slice_index queue k) unlabeled was.1),
             )
       ];
-      bounded = omega (arith, count_attached c.nodes v (s + 1) labels b long unlabeled (omega arith), g.bounded);
+      bounded = omega (
+        arith,
+        count_attached c.nodes v (s + 1) start labels b long unlabeled (omega arith) small,
+        g.bounded,
+      );
     }
 
 -- what a step with room enters is labeled
@@ -92,7 +100,7 @@ inner_end {c} labels s k b root unlabeled =
 -- what may be done by a step: its end is labeled and put into the queue, if it is unlabeled and the step has room
 pub record LabelsEnd (c : Contents) (labels queue labels' queue' : List ℕ) (size size' s : ℕ) : Type 0 where
   pub fresh : label_of labels (end_of (network c) s) ≡ 0 → 0 < room_of (network c) (flow_of c) s →
-      (size' ≡ size + 1) × (labels' ≡ slice_set labels (end_of (network c) s) (s + 1)) ×
+      (size' ≡ size + 1) × (labels' ≡ relabel labels (end_of (network c) s) (s + 1) (start_of (network c) s)) ×
       (queue' ≡ slice_set queue size (end_of (network c) s))
   pub seen : IsLabeled labels (end_of (network c) s) → (size' ≡ size) × (labels' ≡ labels) × (queue' ≡ queue)
   pub full : room_of (network c) (flow_of c) s ≡ 0 → (size' ≡ size) × (labels' ≡ labels) × (queue' ≡ queue)
@@ -116,7 +124,8 @@ pub tried_next : {c : Contents} (State : List ℕ → List ℕ → ℕ → Type 
     {size size' s : ℕ} → IsCirculation c → arc_of s < arcs c → length labels ≡ c.nodes + 1 →
     label_of labels c.nodes ≡ ROOT → State labels queue size → (end_of (network c) s < c.nodes →
     label_of labels (end_of (network c) s) ≡ 0 → 0 < room_of (network c) (flow_of c) s →
-    State (slice_set labels (end_of (network c) s) (s + 1)) (slice_set queue size (end_of (network c) s)) (size + 1)) →
+    State (relabel labels (end_of (network c) s) (s + 1) (start_of (network c) s))
+    (slice_set queue size (end_of (network c) s)) (size + 1)) →
     LabelsEnd c labels queue labels' queue' size size' s → IsTriedStep c State labels labels' queue' size' s
 tried_next {c} State {labels} {s = s} k b words root p attached h =
     let v = end_of (network c) s in
@@ -128,8 +137,11 @@ tried_next {c} State {labels} {s = s} k b words root p attached h =
             let inner : v < c.nodes = inner_end labels s k b root unlabeled in
             rw (e.1, e.2, e.0) record {
               next = attached inner unlabeled (omega arith);
-              more = λ u m. labeled_still labels v (s + 1) u unlabeled m;
-              here = λ r. omega (arith, get_or-set_same labels v (s + 1) 0 (omega (arith, words, inner)));
+              more = λ u m. labeled_still labels v (s + 1) (start_of (network c) s) u unlabeled m;
+              here = λ r. omega (
+                arith,
+                label_same labels v (s + 1) (start_of (network c) s) (omega (arith, words, inner)) (step_small s k b),
+              );
             }
       ]
       | inr ne ↦
@@ -154,7 +166,7 @@ spreading_next {c} {artificial} {labels} {queue} {done = done} {size = size} {no
     let v = end_of (network c) s in
     tried_next (λ ls q n. IsSpreading c artificial ls q done n node) k b p.state.tree.words p.state.tree.root p
     (λ inner unlabeled room. record {
-      state = growing_attach v s inner p.state unlabeled record {
+      state = growing_attach v s inner p.state unlabeled (step_small s k b) record {
         arc = b;
         enters = refl;
         marked = subst (λ (u : ℕ). IsLabeled labels u) (sym starts) p.labeled;
@@ -162,7 +174,7 @@ spreading_next {c} {artificial} {labels} {queue} {done = done} {size = size} {no
       };
       occurs = get_or-set_other queue size done v 0 (let o = p.order in λ e. absurd (omega (arith, e))) ∙ p.occurs;
       order = omega (arith, p.order);
-      labeled = labeled_still labels v (s + 1) node unlabeled p.labeled;
+      labeled = labeled_still labels v (s + 1) (start_of (network c) s) node unlabeled p.labeled;
     }) h
 
 -- all steps of the node were tried
@@ -217,6 +229,7 @@ artificial_none t = record {
         marked = artificial_marked v t b m;
         before = was.before;
         room = elim (t.room v b m) [ inl room ↦ room | inr o ↦ absurd (omega (arith, was.arc, o)) ];
+        predecessor = was.predecessor;
       };
   closed = λ s b r m. artificial_closed s t b r m;
 }
@@ -230,16 +243,23 @@ artificial_some c labels artificial t = record {
   rank = t.rank;
   branch = λ v b m.
       let was = t.branch v b m in
-      record { arc = was.arc; enters = was.enters; before = was.before; marked = inl was.marked };
+      record {
+        arc = was.arc;
+        enters = was.enters;
+        before = was.before;
+        marked = inl was.marked;
+        predecessor = was.predecessor;
+      };
   room = λ v b m. inl (t.branch v b m).room;
   closed = λ s b r m. inl (t.closed s b r m);
 }
 
 -- the head of an arc is labeled by an artificial step
 pub lend_start : {c : Contents} {labels : List ℕ} (queue : List ℕ) (v s : ℕ) → IsResidualTree c labels →
-    length queue ≡ c.nodes → v < c.nodes → label_of labels v ≡ 0 → arc_of s < arcs c → end_of (network c) s ≡ v →
-    start_of (network c) s ≡ c.nodes → IsGrowing c s (slice_set labels v (s + 1)) [] (slice_set queue 0 v) 0 0 0 1
-lend_start {c} {labels} queue v s t places b unlabeled arc enters starts =
+    length queue ≡ c.nodes → v < c.nodes → label_of labels v ≡ 0 → s + 1 < 2 ^ 34 → arc_of s < arcs c →
+    end_of (network c) s ≡ v → start_of (network c) s ≡ c.nodes →
+    IsGrowing c s (relabel labels v (s + 1) (start_of (network c) s)) [] (slice_set queue 0 v) 0 0 0 1
+lend_start {c} {labels} queue v s t places b unlabeled small arc enters starts =
     growing_attach v s b record {
       tree = tree_map (artificial_some c labels s t) (λ u d m e o. inr o) (λ u x d e f g o. o)
           (λ x d r m o. elim o [ inl free ↦ absurd free | inr unscanned ↦ absurd unscanned ]);
@@ -248,7 +268,7 @@ lend_start {c} {labels} queue v s t places b unlabeled arc enters starts =
       within = λ k d. absurd (omega arith);
       marked = λ k d. absurd (omega arith);
       bounded = omega arith;
-    } unlabeled record {
+    } unlabeled small record {
       arc = arc;
       enters = enters;
       marked = subst (λ (u : ℕ). IsLabeled labels u) (sym starts) (omega (arith, t.root));
@@ -267,28 +287,35 @@ pub record IsLending (c : Contents) (labels queue : List ℕ) (x size : ℕ) : T
   pub grows : IsGrowing c (label_of labels (slice_index queue 0) - 1) labels [] queue 0 0 0 size
 
 -- the artificial step is that of the first node in the queue
-pub lending : {c : Contents} {labels : List ℕ} (queue : List ℕ) {labels' queue' : List ℕ} (x : ℕ) {v s size : ℕ} →
+pub lending : {c : Contents} {labels : List ℕ} (queue : List ℕ) {labels' queue' : List ℕ} (x : ℕ) {v s start size : ℕ} →
     IsCirculation c → IsResidualTree c labels → length queue ≡ c.nodes → x < arcs c → slice_index c.to x ≡ c.nodes →
     label_of labels (slice_index c.from x) ≡ 0 → v ≡ slice_index c.from x → s ≡ 2 * x + 1 →
-    labels' ≡ slice_set labels v (s + 1) → queue' ≡ slice_set queue 0 v → size ≡ 1 → IsLending c labels' queue' x size
-lending {c} {labels} queue {labels'} {queue'} x {s} k t places b out unlabeled node step made made' one =
+    start ≡ c.nodes → labels' ≡ relabel labels v (s + 1) start → queue' ≡ slice_set queue 0 v → size ≡ 1 →
+    IsLending c labels' queue' x size
+lending {c} {labels} queue {labels'} {queue'} x {s} {start} k t places b out unlabeled node step outside made made'
+    one =
     let o = over_backward (network c) (flow_of c) x in
     let within = k.ends.from_in x b in
     let ne : slice_index c.from x ≢ c.nodes = λ e. k.ends.apart x b (e ∙ sym out) in
     let inner : slice_index c.from x < c.nodes = omega (arith, within, ne) in
-    let way_is = made ∙ ap (λ (u : ℕ). slice_set labels u (s + 1)) node
-    ∙ ap (λ (n : ℕ). slice_set labels (slice_index c.from x) (n + 1)) step in
+    let leaves = o.starts ∙ out in
+    let way_is = made ∙ ap (λ (u : ℕ). relabel labels u (s + 1) start) node
+    ∙ ap (λ (n : ℕ). relabel labels (slice_index c.from x) (n + 1) start) step
+    ∙ ap (relabel labels (slice_index c.from x) (2 * x + 1 + 1)) (outside ∙ sym leaves) in
+    let arc : arc_of (2 * x + 1) < arcs c = omega (arith, o.arc, b) in
+    let small : 2 * x + 1 + 1 < 2 ^ 34 = step_small (2 * x + 1) k arc in
     let queue_is = made' ∙ ap (λ (u : ℕ). slice_set queue 0 u) node in
     let first : slice_index queue' 0 ≡ slice_index c.from x =
     ap (λ (xs : List ℕ). slice_index xs 0) queue_is
     ∙ get_or-set_same queue 0 (slice_index c.from x) 0 (omega (arith, places, inner)) in
     let own : label_of labels' (slice_index c.from x) ≡ 2 * x + 1 + 1 =
-    ap (λ (xs : List ℕ). slice_index xs (slice_index c.from x)) way_is
-    ∙ get_or-set_same labels (slice_index c.from x) (2 * x + 1 + 1) 0 (omega (arith, t.words, inner)) in
+    ap (λ (xs : List ℕ). label_of xs (slice_index c.from x)) way_is
+    ∙ label_same labels (slice_index c.from x) (2 * x + 1 + 1) (start_of (network c) (2 * x + 1))
+    (omega (arith, t.words, inner)) small in
     let is : label_of labels' (slice_index queue' 0) - 1 ≡ 2 * x + 1 = omega (arith, ap (label_of labels') first, own)
     in
-    let grows = lend_start queue (slice_index c.from x) (2 * x + 1) t places inner unlabeled (omega (arith, o.arc, b))
-    o.enters (o.starts ∙ out) in
+    let grows = lend_start queue (slice_index c.from x) (2 * x + 1) t places inner unlabeled small arc o.enters leaves
+    in
     record { artificial = is; labeled = omega (arith, own); grows = rw (is, one, way_is, queue_is) grows }
 
 -- where no node was freed, the tree is whole
@@ -315,7 +342,8 @@ saturated_next {c} {labels} {s = s} is other t = tree_map t (λ u d m e o. elim 
 ]) (λ u x d e b f o. o) (λ x b r m o. inr o)
 
 -- where no step may have lost its room, the tree is whole
-pub saturated_none : {c : Contents} {labels : List ℕ} {at : ℕ} → IsSaturatedTree c labels at at → IsResidualTree c labels
+pub saturated_none : {c : Contents} {labels : List ℕ} {at : ℕ} → IsSaturatedTree c labels at at →
+    IsResidualTree c labels
 saturated_none {c} {labels} {at} t =
     artificial_none (tree_map t (λ u d m e o. occurs_nowhere c.scratch at at (label_of labels u - 1) o (omega arith))
     (λ u s d e b f o. o) (λ s b r m o. inr o))

@@ -1,3 +1,4 @@
+pub mod Packed
 pub mod Marked
 pub mod Opposites
 pub mod Changes

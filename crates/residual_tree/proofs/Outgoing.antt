@@ -1,15 +1,15 @@
 -- The tree grows from the outside, where no other node is labeled.
-use Rattle.std.proofs.Common.{ℕ, ◌≡◌, ◌+◌, ◌<◌, ◌⊎◌, List, [], length, replicate, slice_index, slice_set, refl}
+use Rattle.std.proofs.Common.{ℕ, ◌≡◌, ◌+◌, ◌<◌, ◌⊎◌, List, [], length, replicate, slice_set, refl}
 use Rattle.std.proofs.Common.{arith, sym, subst, inl, inr}
 use Rattle.std.specs.List.{range_with_len}
-use Rattle.std.proofs.lemmas.Bool.{cases_eq, cases_lt}
-use Rattle.std.proofs.lemmas.List.{get_or-set_other, get_or-replicate, get_or_past, length-replicate}
+use Rattle.std.proofs.lemmas.Bool.{cases_eq}
 use Rattle.std.proofs.lemmas.List.FromFn.{length-range_with_len, get_or-range_with_len}
 use Rattle.circulation.specs.Contents.{Contents, network, arcs, IsCirculation}
 use Rattle.circulation.specs.Residual.{arc_of, start_of, end_of}
 use Rattle.residual_tree.specs.declared.TheConstants.{ROOT}
-use Rattle.residual_tree.specs.Tree.{IsLabeled}
+use Rattle.residual_tree.specs.Tree.{relabel, IsLabeled}
 use Rattle.residual_tree.specs.Repair.{OccursIn, no_step, IsGrowing}
+use Rattle.residual_tree.proofs.Packed.{step_small, label_other, label_none}
 use Rattle.residual_tree.proofs.Changes.{occurs_more, occurs_here, tree_map}
 use Rattle.residual_tree.proofs.Frees.{felled}
 use Rattle.residual_tree.proofs.Grows.{growing_start, growing_room, growing_attach, LabelsEnd, IsTriedStep, tried_next}
@@ -17,7 +17,7 @@ use Rattle.residual_tree.proofs.Grows.{IsTried}
 
 -- the words where the outside alone is labeled
 abbrev pub bare : Contents → List ℕ
-bare c = slice_set (replicate (c.nodes + 1) 0) c.nodes ROOT
+bare c = relabel (replicate (c.nodes + 1) 0) c.nodes ROOT 0
 
 -- each basin node counts as freed, and those that are labeled stand in the queue
 pub record IsOutgoing (c : Contents) (labels queue : List ℕ) (size : ℕ) : Type 0 where
@@ -29,15 +29,9 @@ bare_labeled : (c : Contents) (u : ℕ) → IsLabeled (bare c) u → u ≡ c.nod
 bare_labeled c u m = elim (cases_eq u c.nodes) [
   | inl is ↦ is
   | inr ne ↦
-      let other = get_or-set_other (replicate (c.nodes + 1) 0) c.nodes u ROOT 0 ne in
-      absurd (omega (arith, other, zero_at (c.nodes + 1) u, m))
+      let other = label_other (replicate (c.nodes + 1) 0) c.nodes ROOT 0 u ne in
+      absurd (omega (arith, other, label_none (c.nodes + 1) u, m))
 ]
-  where
-    zero_at : (n u : ℕ) → slice_index (replicate {A = ℕ} n 0) u ≡ 0
-    zero_at n u = elim (cases_lt u n) [
-      | inl below ↦ get_or-replicate n u 0 0 below
-      | inr past ↦ get_or_past (replicate n 0) u 0 (omega (arith, length-replicate {A = ℕ} n 0))
-    ]
 
 -- before the first step
 pub outgoing_start : {c : Contents} {labels : List ℕ} (queue : List ℕ) → IsCirculation c → length queue ≡ c.nodes →
@@ -56,7 +50,7 @@ pub outgoing_next : {c : Contents} {labels queue labels' queue' : List ℕ} {siz
 outgoing_next {c} {labels} {queue} {size = size} {s = s} k p b starts h =
     let v = end_of (network c) s in
     tried_next (IsOutgoing c) k b p.grows.tree.words p.grows.tree.root p (λ inner unlabeled room. record {
-      grows = growing_attach v s inner p.grows unlabeled record {
+      grows = growing_attach v s inner p.grows unlabeled (step_small s k b) record {
         arc = b;
         enters = refl;
         marked = subst (λ (u : ℕ). IsLabeled labels u) (sym starts) (omega (arith, p.grows.tree.root));
@@ -65,7 +59,7 @@ outgoing_next {c} {labels} {queue} {size = size} {s = s} k p b starts h =
       fresh = λ u m. elim (cases_eq u v) [
         | inl e ↦ inr (subst (OccursIn (slice_set queue size v) 0 (size + 1)) (sym e)
             (occurs_here queue 0 size v (omega arith) (growing_room v inner p.grows unlabeled)))
-        | inr ne ↦ elim (p.fresh u (omega (arith, get_or-set_other labels v u (s + 1) 0 ne, m))) [
+        | inr ne ↦ elim (p.fresh u (omega (arith, label_other labels v (s + 1) (start_of (network c) s) u ne, m))) [
           | inl outer ↦ inl outer
           | inr before ↦ inr (occurs_more v before)
         ]

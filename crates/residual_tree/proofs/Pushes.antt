@@ -174,7 +174,13 @@ pushed_saturated {c} {labels} lower flow {r} {first} {last} {amount} full k t wa
       rank = t.tree.rank;
       branch = λ v b m.
           let was = t.tree.branch v b m in
-          record { arc = was.arc; enters = was.enters; before = was.before; marked = was.marked };
+          record {
+            arc = was.arc;
+            enters = was.enters;
+            before = was.before;
+            marked = was.marked;
+            predecessor = was.predecessor;
+          };
       room = λ v b m.
           let was = t.tree.branch v b m in
           let s = label_of labels v - 1 in
@@ -222,7 +228,13 @@ held_saturated {c} {labels} lower r at t is lowers more = record {
   rank = t.rank;
   branch = λ v b m.
       let was = t.branch v b m in
-      record { arc = was.arc; enters = was.enters; before = was.before; marked = inl was.marked };
+      record {
+        arc = was.arc;
+        enters = was.enters;
+        before = was.before;
+        marked = inl was.marked;
+        predecessor = was.predecessor;
+      };
   room = λ v b m.
       let was = t.branch v b m in
       let s = label_of labels v - 1 in
@@ -263,7 +275,13 @@ but_over scratch t = record {
   rank = t.rank;
   branch = λ v b m.
       let was = t.branch v b m in
-      record { arc = was.arc; enters = was.enters; before = was.before; marked = was.marked };
+      record {
+        arc = was.arc;
+        enters = was.enters;
+        before = was.before;
+        marked = was.marked;
+        predecessor = was.predecessor;
+      };
   room = t.room;
   closed = t.closed;
 }

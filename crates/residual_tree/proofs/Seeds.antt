@@ -2,11 +2,11 @@
 use Rattle.std.proofs.Common.{ℕ, ◌≡◌, ◌+◌, ◌-◌, ◌<◌, ◌⊎◌, List, [], length, slice_index, slice_set}
 use Rattle.std.proofs.Common.{refl, arith, ap, sym, subst, inl, inr, ◌∙◌}
 use Rattle.std.proofs.lemmas.Bool.{cases_eq}
-use Rattle.std.proofs.lemmas.List.{get_or-set_other, get_or-set_same}
 use Rattle.circulation.specs.Contents.{Contents, network, flow_of, arcs, IsCirculation}
 use Rattle.circulation.specs.Residual.{arc_of, start_of, end_of, room_of, opposite}
-use Rattle.residual_tree.specs.Tree.{label_of, IsLabeled, IsResidualTree}
+use Rattle.residual_tree.specs.Tree.{label_of, relabel, IsLabeled, IsResidualTree}
 use Rattle.residual_tree.specs.Repair.{OccursIn, no_step, IsFoundLabel, IsShut, IsGrowing, IsWayIn}
+use Rattle.residual_tree.proofs.Packed.{step_small, label_same, label_other}
 use Rattle.residual_tree.proofs.Changes.{occurs_more, occurs_here, occurs_or, occurs_nowhere, tree_map}
 use Rattle.residual_tree.proofs.Opposites.{opposite_is}
 use Rattle.residual_tree.proofs.Grows.{growing_attach, growing_room, artificial_none, inner_end}
@@ -98,36 +98,39 @@ seed_past {c} {labels} v is s tried = record {
 }
 
 -- a freed node is labeled by the way that was found
-seed_fresh : {c : Contents} {old labels freed queue found : List ℕ} {next count size : ℕ} (v word : ℕ) → next < count →
-    slice_index freed next ≡ v → slice_index found next ≡ word → IsSeeding c old labels freed queue found next count
-    size → label_of labels v ≡ 0 → 0 < word →
-    IsSeeding c old (slice_set labels v word) freed (slice_set queue size v) found (next + 1) count (size + 1)
-seed_fresh {c} {old} {labels} {freed} {queue} {next} {count} {size} v word b is is_word s unlabeled some =
+seed_fresh : {c : Contents} {old labels freed queue found : List ℕ} {next count size : ℕ} (v word : ℕ) →
+    IsCirculation c → next < count → slice_index freed next ≡ v → slice_index found next ≡ word →
+    IsSeeding c old labels freed queue found next count size → label_of labels v ≡ 0 → 0 < word →
+    IsSeeding c old (relabel labels v word (start_of (network c) (word - 1))) freed (slice_set queue size v) found
+    (next + 1) count (size + 1)
+seed_fresh {c} {old} {labels} {freed} {queue} {next} {count} {size} v word k b is is_word s unlabeled some =
     let inner : v < c.nodes = omega (arith, s.grows.within next b, is) in
     let long : v < length labels = omega (arith, s.grows.tree.words, inner) in
     let room = growing_room v inner s.grows unlabeled in
     let step : word ≡ word - 1 + 1 = omega arith in
     let before = subst (λ (u : ℕ). IsWayIn c old u (word - 1)) is ((s.ways next b).some (word - 1) (is_word ∙ step)) in
-    let grows = growing_attach v (word - 1) inner s.grows unlabeled
+    let small = step_small (word - 1) k before.arc in
+    let start : ℕ = start_of (network c) (word - 1) in
+    let grows = growing_attach v (word - 1) inner s.grows unlabeled small
     record {
       arc = before.arc;
       enters = before.enters;
       marked = s.kept (start_of (network c) (word - 1)) before.marked;
       room = inl before.room;
     } in
-    let here = get_or-set_same labels v word 0 long in
+    let here = label_same labels v word start long (omega (arith, small)) in
     seed_past v is
     record {
-      grows = subst (λ (n : ℕ). IsGrowing c (no_step c) (slice_set labels v n) freed (slice_set queue size v) next count
-          0 (size + 1)) (sym step) grows;
+      grows = subst (λ (n : ℕ). IsGrowing c (no_step c) (relabel labels v n start) freed (slice_set queue size v) next
+          count 0 (size + 1)) (sym step) grows;
       ways = s.ways;
       kept = λ u m. elim (cases_eq u v) [
-        | inl e ↦ omega (arith, ap (label_of (slice_set labels v word)) e, here, some)
-        | inr ne ↦ omega (arith, get_or-set_other labels v u word 0 ne, s.kept u m)
+        | inl e ↦ omega (arith, ap (label_of (relabel labels v word start)) e, here, some)
+        | inr ne ↦ omega (arith, label_other labels v word start u ne, s.kept u m)
       ];
       fresh = λ u m. elim (cases_eq u v) [
         | inl e ↦ inr (rw e (occurs_here queue 0 size v (omega arith) room))
-        | inr ne ↦ elim (s.fresh u (omega (arith, get_or-set_other labels v u word 0 ne, m))) [
+        | inr ne ↦ elim (s.fresh u (omega (arith, label_other labels v word start u ne, m))) [
           | inl labeled ↦ inl labeled
           | inr occurs ↦ inr (occurs_more v occurs)
         ]
@@ -136,13 +139,14 @@ seed_fresh {c} {old} {labels} {freed} {queue} {next} {count} {size} v word b is 
 
 -- one more freed node was tried
 pub seeding_next : {c : Contents} {old labels labels' freed queue queue' found : List ℕ} {next count size size' : ℕ}
-    (v : ℕ) {word : ℕ} → next < count → slice_index freed next ≡ v → slice_index found next ≡ word →
+    (v : ℕ) {word : ℕ} → IsCirculation c → next < count → slice_index freed next ≡ v → slice_index found next ≡ word →
     IsSeeding c old labels freed queue found next count size →
     (word ≡ 0 → (size' ≡ size) × (labels' ≡ labels) × (queue' ≡ queue)) →
     (IsLabeled labels v → (size' ≡ size) × (labels' ≡ labels) × (queue' ≡ queue)) →
-    (0 < word → label_of labels v ≡ 0 → (size' ≡ size + 1) × (labels' ≡ slice_set labels v word)
-    × (queue' ≡ slice_set queue size v)) → IsSeeding c old labels' freed queue' found (next + 1) count size'
-seeding_next {c} {old} {labels} {labels'} {freed} {queue} {queue'} {found} {next} {count} {size} {size'} v {word} b is
+    (0 < word → label_of labels v ≡ 0 → (size' ≡ size + 1)
+    × (labels' ≡ relabel labels v word (start_of (network c) (word - 1))) × (queue' ≡ slice_set queue size v)) →
+    IsSeeding c old labels' freed queue' found (next + 1) count size'
+seeding_next {c} {old} {labels} {labels'} {freed} {queue} {queue'} {found} {next} {count} {size} {size'} v {word} k b is
     is_word s skipped seen fresh =
     elim (cases_eq (label_of labels v) 0) [
       | inl unlabeled ↦ elim (cases_eq word 0) [
@@ -152,7 +156,7 @@ seeding_next {c} {old} {labels} {labels'} {freed} {queue} {queue'} {found} {next
             (inr (subst (λ (u : ℕ). (x : ℕ) → IsWayIn c old u x → ⊥) is ((s.ways next b).none (is_word ∙ empty)))))
         | inr some ↦
             let e = fresh (omega arith) unlabeled in
-            rw (e.1, e.2, e.0) (seed_fresh v word b is is_word s unlabeled (omega arith))
+            rw (e.1, e.2, e.0) (seed_fresh v word k b is is_word s unlabeled (omega arith))
       ]
       | inr ne ↦
           seed_same c old labels labels' freed queue queue' found (next + 1) count size size' (seen (omega arith))
@@ -182,21 +186,22 @@ seeded {c} {freed} {count} g = record {
 }
 
 -- an unlabeled node gets its word, if a way into it was found
-pub word_given : {c : Contents} {labels queue labels' queue' : List ℕ} {word size size' : ℕ} (v : ℕ) → v < c.nodes →
-    label_of labels v ≡ 0 → ((s : ℕ) → word ≡ s + 1 → IsWayIn c labels v s) →
+pub word_given : {c : Contents} {labels queue labels' queue' : List ℕ} {word size size' : ℕ} (v : ℕ) →
+    IsCirculation c → v < c.nodes → label_of labels v ≡ 0 → ((s : ℕ) → word ≡ s + 1 → IsWayIn c labels v s) →
     IsGrowing c (no_step c) labels [] queue 0 0 0 size →
     (word ≡ 0 → (size' ≡ size) × (labels' ≡ labels) × (queue' ≡ queue)) →
     (0 < word → label_of labels v ≡ 0 →
-    (size' ≡ size + 1) × (labels' ≡ slice_set labels v word) × (queue' ≡ slice_set queue size v)) →
+    (size' ≡ size + 1) × (labels' ≡ relabel labels v word (start_of (network c) (word - 1)))
+    × (queue' ≡ slice_set queue size v)) →
     IsGrowing c (no_step c) labels' [] queue' 0 0 0 size'
-word_given {labels = labels} {word = word} v b unlabeled ways g none fresh = elim (cases_eq word 0) [
+word_given {c} {labels} {word = word} v k b unlabeled ways g none fresh = elim (cases_eq word 0) [
   | inl e ↦ let n = none e in rw (n.1, n.2, n.0) g
   | inr some ↦
       let f = fresh (omega arith) unlabeled in
       let is : word ≡ word - 1 + 1 = omega arith in
-      let made = f.1 ∙ ap (slice_set labels v) is in
+      let made = f.1 ∙ ap (λ (n : ℕ). relabel labels v n (start_of (network c) (word - 1))) is in
       let way = ways (word - 1) is in
-      rw (made, f.2, f.0) (growing_attach v (word - 1) b g unlabeled record {
+      rw (made, f.2, f.0) (growing_attach v (word - 1) b g unlabeled (step_small (word - 1) k way.arc) record {
         arc = way.arc;
         enters = way.enters;
         marked = way.marked;

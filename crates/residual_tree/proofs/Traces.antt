@@ -1,11 +1,11 @@
 -- The walk is written down from its end.
-use Rattle.std.proofs.Common.{ℕ, min, ◌≡◌, ◌≢◌, ◌+◌, ◌-◌, ◌*◌, ◌<◌, ◌≤◌, List, slice_index, refl}
+use Rattle.std.proofs.Common.{ℕ, min, ◌≡◌, ◌≢◌, ◌+◌, ◌-◌, ◌*◌, ◌%◌, ◌^◌, ◌<◌, ◌≤◌, List, length, slice_index, refl}
 use Rattle.std.proofs.Common.{arith, ap, sym, ◌∙◌}
 use Rattle.circulation.specs.Contents.{Contents, network, flow_of, arcs, step_of, IsCirculation, SameButScratch}
-use Rattle.circulation.specs.Residual.{start_of, end_of, room_of}
+use Rattle.circulation.specs.Residual.{arc_of, start_of, end_of, room_of}
 use Rattle.circulation.proofs.Overs.{over_forward}
 use Rattle.circulation.proofs.Trails.{IsBefore, each_from, IsTrail, IsWayBack, trail_start, trail_next, trail_closed}
-use Rattle.residual_tree.specs.Tree.{label_of, IsLabeled}
+use Rattle.residual_tree.specs.Tree.{label_of, predecessor_of, IsLabeled}
 use Rattle.residual_tree.specs.Raised.{IsExit, IsTaken, IsGathered, IsTraced}
 use Rattle.residual_tree.specs.Repair.{HasSomeArtificial}
 use Rattle.residual_tree.proofs.Grows.{artificial_closed, artificial_marked}
@@ -97,6 +97,29 @@ tracing_next {c} {d} {e} {labels} {r} {node = node} {amount = amount} {s = s} k 
       } p.passed;
       gathered = gathered;
     }
+
+-- the node has a word
+pub tracing_inside : {c d : Contents} {labels : List ℕ} {r most first node amount full : ℕ} →
+    IsTracing c d labels r most first node amount full → HasSomeArtificial c labels r → node ≢ c.nodes →
+    node < length labels
+tracing_inside p t basin =
+    let inside = (p.trail t).inside in
+    omega (arith, t.tree.words, inside, basin)
+
+-- the word has the node that its step leaves
+pub tracing_word : {c d e : Contents} {labels : List ℕ} {r most first first' node amount full s : ℕ} →
+    IsTracing c d labels r most first node amount full → HasSomeArtificial c labels r → node ≢ c.nodes →
+    s ≡ label_of labels node - 1 → IsTaken d e first first' s →
+    (arc_of s < arcs e) × (predecessor_of labels node ≡ start_of (network e) s % 2 ^ 30)
+tracing_word {c} {d} {e} {labels} {node = node} {s = s} p t basin is taken =
+    let inside = (p.trail t).inside in
+    let inner : node < c.nodes = omega (arith, inside, basin) in
+    let branch = t.tree.branch node inner p.labeled in
+    let rest = rest_more c d e.scratch p.rest taken.rest in (
+      omega (arith, branch.arc, is, ap (λ (x : Contents). length x.from) rest),
+      branch.predecessor ∙ ap (λ (n : ℕ). start_of (network c) n % 2 ^ 30) (sym is)
+          ∙ ap (λ (x : Contents). start_of (network x) s % 2 ^ 30) (sym rest),
+    )
 
 -- the head of an arc with room is labeled where its tail is
 pub head_labeled : {c : Contents} {labels : List ℕ} {r : ℕ} (most : ℕ) → HasSomeArtificial c labels r → r < arcs c →

@@ -1,10 +1,10 @@
 -- A tree that is repaired: subtrees are freed, and then grow again on what is left.
-use Rattle.std.specs.Prelude.{ℕ, ◌≡◌, ◌+◌, ◌-◌, ◌*◌, ◌<◌, ◌≤◌, ◌⊎◌, nat_lt, List, length, slice_index}
+use Rattle.std.specs.Prelude.{ℕ, ◌≡◌, ◌+◌, ◌-◌, ◌*◌, ◌%◌, ◌^◌, ◌<◌, ◌≤◌, ◌⊎◌, nat_lt, List, length, slice_index}
 use Rattle.residual_tree.specs.declared.TheConstants.{ROOT}
 use Rattle.finite_sums.specs.Sums.{total, when}
 use Rattle.circulation.specs.Contents.{Contents, network, flow_of, arcs}
 use Rattle.circulation.specs.Residual.{arc_of, start_of, end_of, room_of, opposite}
-use Rattle.residual_tree.specs.Tree.{label_of, IsLabeled}
+use Rattle.residual_tree.specs.Tree.{label_of, predecessor_of, IsLabeled}
 
 -- x stands in the list at an index from `first` to below `last`
 pub record OccursIn (xs : List ℕ) (first last x : ℕ) : Type 0 where
@@ -17,12 +17,14 @@ pub record OccursIn (xs : List ℕ) (first last x : ℕ) : Type 0 where
 abbrev pub labeled_count : ℕ → List ℕ → ℕ
 labeled_count nodes labels = total nodes (λ v. when (nat_lt 0 (label_of labels v)) 1)
 
--- the node v is labeled by the step s from a node of lesser rank that is labeled or an orphan
+-- the node v is labeled by the step s from a node of lesser rank that is labeled or an orphan; the word of v has that
+-- node
 pub record IsLooseBranch (c : Contents) (labels : List ℕ) (orphan : ℕ → Type 0) (rank : ℕ → ℕ) (v s : ℕ) : Type 0 where
   pub arc : arc_of s < arcs c
   pub enters : end_of (network c) s ≡ v
   pub before : rank (start_of (network c) s) < rank v
   pub marked : IsLabeled labels (start_of (network c) s) ⊎ orphan (start_of (network c) s)
+  pub predecessor : predecessor_of labels v ≡ start_of (network c) s % 2 ^ 30
 
 -- a tree but for saturated steps, which may have no room; orphans, which are no longer labeled while their children
 -- are; free nodes, which steps with room may enter although they are not labeled; and unscanned nodes, whose own steps

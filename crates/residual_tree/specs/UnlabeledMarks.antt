@@ -4,7 +4,7 @@ use Rattle.bit_words.specs.Marks.{words_for, is_marked}
 use Rattle.residual_tree.specs.Tree.{label_of}
 use Rattle.residual_tree.specs.declared.labels.Labels.TheInside.{Inside}
 
--- each node but the outside, the last, is marked where its word is 0
+-- each node but the outside, the last, is marked where its label is 0
 pub record HasUnlabeledMarks (labels unlabeled : List ℕ) : Type 0 where
   pub outside : 0 < length labels
   pub count : length unlabeled ≡ words_for (length labels - 1)

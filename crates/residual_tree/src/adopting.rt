@@ -11,8 +11,9 @@ ghost use Rattle.residual_tree.specs.Adopting.{HasSteps, IsClear};
 
 use crate::growing::is_way_back;
 use crate::labels::Labels;
+use crate::predecessor::predecessor;
 use circulation::CirculationMut;
-use circulation::residual::{opposite, start};
+use circulation::residual::opposite;
 
 /// The most steps by which the tree leads from the outside to a node that is near. With fewer, more is freed; with
 /// twice as many, as much.
@@ -40,7 +41,7 @@ fn is_near(circ: &CirculationMut<'_>, labels: &Labels<'_>, node: u32, other: u32
         if at == other {
             return false;
         }
-        at = start(circ, word - 1);
+        at = predecessor(circ, labels, at, word - 1);
     }
     at == outside
 }

@@ -3,7 +3,7 @@
 ghost use Rattle.std.specs.Prelude.{◌≡◌, ℕ, ◌+◌, ◌-◌, ◌*◌, ◌^◌, ◌<◌, ◌≤◌, ◌≢◌, ◌⊎◌, length, slice_set};
 ghost use Rattle.circulation.specs.Contents.{arcs, flow_of, network, step_of, IsCirculation};
 ghost use Rattle.circulation.specs.Residual.{arc_of, room_of, end_of};
-ghost use Rattle.residual_tree.specs.Tree.{label_of};
+ghost use Rattle.residual_tree.specs.Tree.{label_of, relabel};
 ghost use Rattle.residual_tree.specs.Repair.{IsFreeing};
 ghost use Rattle.residual_tree.specs.Adopting.{HasSteps, IsAdopted, IsFreedNode};
 
@@ -11,7 +11,7 @@ use crate::ROOT;
 use crate::adopting::find_near;
 use crate::labels::Labels;
 use circulation::CirculationMut;
-use circulation::residual::{end, room};
+use circulation::residual::{end, room, start};
 
 /// Frees the node that a step enters, where it is the step by which the node is labeled. Takes how many nodes were
 /// freed before, and answers how many are now.
@@ -20,12 +20,12 @@ fn free_end(labels: &mut Labels<'_>, freed: &mut [u64], step: u64, node: u32, si
     requires node { node < length labels.old }
     requires room { label_of labels.old node ≡ step + 1 → size < length freed.old }
     ensures child { label_of labels.old node ≡ step + 1 →
-        (result ≡ size + 1) × (labels.new ≡ slice_set labels.old node 0) × (freed.new ≡ slice_set freed.old size node) }
+        (result ≡ size + 1) × (labels.new ≡ relabel labels.old node 0 0) × (freed.new ≡ slice_set freed.old size node) }
     ensures other { label_of labels.old node ≢ step + 1 →
         (result ≡ size) × (labels.new ≡ labels.old) × (freed.new ≡ freed.old) }
 {
     if labels.get(node) == step + 1 {
-        labels.set(node, 0);
+        labels.set(node, 0, 0);
         freed[size] = u64::from(node);
         size + 1
     } else {
@@ -59,10 +59,11 @@ fn adopt_or_free_node(
         return size;
     }
     let word = find_near(circ, labels, node);
-    labels.set(node, word);
     if word != 0 {
+        labels.set(node, word, start(circ, word - 1));
         return size;
     }
+    labels.set(node, 0, 0);
     freed[size] = u64::from(node);
     size + 1
 }

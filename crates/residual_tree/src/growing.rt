@@ -2,15 +2,15 @@
 ghost use Rattle.std.specs.Prelude.{◌≡◌, true, false, ℕ, ◌+◌, ◌-◌, ◌*◌, ◌^◌, ◌<◌, ◌≤◌, []};
 ghost use Rattle.std.specs.Prelude.{length, replicate, slice_index, slice_set};
 ghost use Rattle.circulation.specs.Contents.{arcs, flow_of, network, IsCirculation};
-ghost use Rattle.circulation.specs.Residual.{arc_of, room_of, end_of, opposite};
-ghost use Rattle.residual_tree.specs.Tree.{label_of, IsLabeled, IsResidualTree, unlabeled};
+ghost use Rattle.circulation.specs.Residual.{arc_of, room_of, start_of, end_of, opposite};
+ghost use Rattle.residual_tree.specs.Tree.{label_of, relabel, IsLabeled, IsResidualTree};
 ghost use Rattle.residual_tree.specs.Repair.{no_step, IsFoundLabel, IsShut, IsFreeing, IsGrowing, IsWayIn};
 ghost use Rattle.residual_tree.specs.Repair.{HasArtificialStep};
 
 use crate::ROOT;
 use crate::labels::Labels;
 use circulation::CirculationMut;
-use circulation::residual::{opposite, room};
+use circulation::residual::{opposite, room, start};
 
 /// Whether the opposite of a step to a node is a way into the node that the step leaves: it has room, and comes from a
 /// node that is labeled.
@@ -67,29 +67,46 @@ fn find_ways(
     }
 }
 
-/// Labels a node by a step. Takes how many nodes were labeled before, and answers how many are now.
-fn attach(labels: &mut Labels<'_>, queue: &mut [u64], node: u32, step: u64, size: usize) -> usize
+/// Labels a node by a step from the node `start`. Takes how many nodes were labeled before, and answers how many are
+/// now.
+fn attach(
+    labels: &mut Labels<'_>,
+    queue: &mut [u64],
+    node: u32,
+    step: u64,
+    start: u32,
+    size: usize,
+) -> usize
     requires node { node < length labels.old }
     requires size { size < length queue.old }
     requires step { step < 2 ^ 33 }
     ensures count { result ≡ size + 1 }
-    ensures labels { labels.new ≡ slice_set labels.old node (step + 1) }
+    ensures labels { labels.new ≡ relabel labels.old node (step + 1) start }
     ensures queue { queue.new ≡ slice_set queue.old size node }
 {
-    labels.set(node, step + 1);
+    labels.set(node, step + 1, start);
     queue[size] = u64::from(node);
     size + 1
 }
 
-/// Gives an unlabeled node its word, unless the word is 0. Takes how many nodes were labeled before, and answers how
-/// many are now.
-fn seed_node(labels: &mut Labels<'_>, queue: &mut [u64], node: u32, word: u64, size: usize) -> usize
+/// Labels an unlabeled node by a step, of which `word` is one more, unless `word` is 0. Takes how many nodes were
+/// labeled before, and answers how many are now.
+fn seed_node(
+    circ: &CirculationMut<'_>,
+    labels: &mut Labels<'_>,
+    queue: &mut [u64],
+    node: u32,
+    word: u64,
+    size: usize,
+) -> usize
     requires node { node < length labels.old }
+    requires arc { 0 < word → arc_of (word - 1) < arcs circ.now }
+    requires kept { IsCirculation circ.now }
     requires room { label_of labels.old node ≡ 0 → size < length queue.old }
     ensures none { word ≡ 0 → (result ≡ size) × (labels.new ≡ labels.old) × (queue.new ≡ queue.old) }
     ensures seen { IsLabeled labels.old node → (result ≡ size) × (labels.new ≡ labels.old) × (queue.new ≡ queue.old) }
     ensures fresh { 0 < word → label_of labels.old node ≡ 0 →
-        (result ≡ size + 1) × (labels.new ≡ slice_set labels.old node word) ×
+        (result ≡ size + 1) × (labels.new ≡ relabel labels.old node word (start_of (network circ.now) (word - 1))) ×
         (queue.new ≡ slice_set queue.old size node) }
 {
     if word == 0 {
@@ -98,7 +115,7 @@ fn seed_node(labels: &mut Labels<'_>, queue: &mut [u64], node: u32, word: u64, s
     if labels.get(node) != 0 {
         return size;
     }
-    labels.set(node, word);
+    labels.set(node, word, start(circ, word - 1));
     queue[size] = u64::from(node);
     size + 1
 }
@@ -122,21 +139,23 @@ fn seed(
     find_ways(circ, labels, freed, count, found);
     let mut size = 0;
     for at in 0..count {
-        size = seed_node(labels, queue, freed[at] as u32, found[at], size);
+        size = seed_node(circ, labels, queue, freed[at] as u32, found[at], size);
     }
     size
 }
 
-/// Labels the node that a step enters, if the step has room and the node is not labeled.
+/// Labels the node that a step from the node `start` enters, if the step has room and the node is not labeled.
 fn label_end(
     circ: &CirculationMut<'_>,
     labels: &mut Labels<'_>,
     queue: &mut [u64],
     step: u64,
+    start: u32,
     node: u32,
     size: usize,
 ) -> usize
     requires arc { arc_of step < arcs circ.now }
+    requires start { start_of (network circ.now) step ≡ start }
     requires node { end_of (network circ.now) step ≡ node }
     requires inside { node ≤ circ.now.nodes }
     requires words { length labels.old ≡ circ.now.nodes + 1 }
@@ -144,7 +163,7 @@ fn label_end(
     requires kept { IsCirculation circ.now }
     ensures fresh { let v = end_of (network circ.now) step in
         label_of labels.old v ≡ 0 → 0 < room_of (network circ.now) (flow_of circ.now) step →
-        (result ≡ size + 1) × (labels.new ≡ slice_set labels.old v (step + 1)) ×
+        (result ≡ size + 1) × (labels.new ≡ relabel labels.old v (step + 1) (start_of (network circ.now) step)) ×
         (queue.new ≡ slice_set queue.old size v) }
     ensures seen { IsLabeled labels.old (end_of (network circ.now) step) →
         (result ≡ size) × (labels.new ≡ labels.old) × (queue.new ≡ queue.old) }
@@ -152,7 +171,7 @@ fn label_end(
         (result ≡ size) × (labels.new ≡ labels.old) × (queue.new ≡ queue.old) }
 {
     if labels.get(node) == 0 && room(circ, step) != 0 {
-        attach(labels, queue, node, step, size)
+        attach(labels, queue, node, step, start, size)
     } else {
         size
     }
@@ -177,7 +196,7 @@ fn spread_from(
     let mut count = size;
     for place in circ.row_first(node)..circ.row_last(node) {
         let step = circ.step_at(place);
-        count = label_end(circ, labels, queue, step, circ.end_at(place), count);
+        count = label_end(circ, labels, queue, step, node, circ.end_at(place), count);
     }
     count
 }
@@ -219,7 +238,7 @@ pub fn grow(
 
 /// Labels the nodes to which steps lead from the outside, where no other node is labeled.
 fn spread_out(circ: &CirculationMut<'_>, labels: &mut Labels<'_>, queue: &mut [u64]) -> usize
-    requires bare { labels.old ≡ slice_set (replicate (circ.now.nodes + 1) 0) circ.now.nodes ROOT }
+    requires bare { labels.old ≡ relabel (replicate (circ.now.nodes + 1) 0) circ.now.nodes ROOT 0 }
     requires places { length queue.old ≡ circ.now.nodes }
     requires kept { IsCirculation circ.now }
     ensures { IsGrowing circ.now (no_step circ.now) labels.new [] queue.new 0 0 0 result }
@@ -228,7 +247,15 @@ fn spread_out(circ: &CirculationMut<'_>, labels: &mut Labels<'_>, queue: &mut [u
     let mut count = 0;
     for place in circ.row_first(outside)..circ.row_last(outside) {
         let step = circ.step_at(place);
-        count = label_end(circ, labels, queue, step, circ.end_at(place), count);
+        count = label_end(
+            circ,
+            labels,
+            queue,
+            step,
+            outside,
+            circ.end_at(place),
+            count,
+        );
     }
     count
 }
@@ -294,7 +321,7 @@ fn label_in_order(
         let own = labels.get(node);
         if own == 0 {
             let word = nearest_way(circ, labels, depth, node);
-            count = seed_node(labels, queue, node, word, count);
+            count = seed_node(circ, labels, queue, node, word, count);
         }
     }
     count
@@ -334,7 +361,7 @@ pub fn grow_out(
     requires kept { IsCirculation circ.now }
     ensures { IsResidualTree circ.now labels.new }
 {
-    labels.set(circ.nodes(), ROOT);
+    labels.set(circ.nodes(), ROOT, 0);
     let first = spread_out(circ, labels, queue);
     note_first(queue, first, depth);
     let size = label_in_order(circ, order, labels, queue, depth, first);
@@ -356,6 +383,13 @@ pub fn label_over(circ: &CirculationMut<'_>, labels: &mut Labels<'_>, queue: &mu
     ensures head { IsLabeled labels.new (slice_index circ.now.from exit) }
 {
     let node = circ.ends(exit).from;
-    let size = attach(labels, queue, node, 2 * u64::from(exit) + 1, 0);
+    let size = attach(
+        labels,
+        queue,
+        node,
+        2 * u64::from(exit) + 1,
+        circ.nodes(),
+        0,
+    );
     spread(circ, labels, queue, size);
 }

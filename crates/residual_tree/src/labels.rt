@@ -1,12 +1,19 @@
 //! The words of the nodes, and beside them a mark for each node that is unlabeled.
-ghost use Rattle.std.specs.Prelude.{◌≡◌, ℕ, ◌+◌, ◌-◌, ◌/◌, ◌<◌, ◌≢◌, ◌==◌, length, slice_set, replicate};
+ghost use Rattle.std.specs.Prelude.{◌≡◌, ℕ, ◌+◌, ◌-◌, ◌/◌, ◌^◌, ◌<◌, ◌≢◌, ◌==◌, length, replicate};
 ghost use Rattle.bit_words.specs.Marks.{words_for, is_marked};
-ghost use Rattle.residual_tree.specs.Tree.{label_of};
+ghost use Rattle.residual_tree.specs.Tree.{label_of, predecessor_of, relabel};
 
 use bit_words::{mark, unmark};
 use std::marker::Model;
 
-/// A word for each node, the outside's last, and a mark for each basin node whose word is 0. Contracts see the list of
+/// All labels are below this: 0, one more than a step, and `ROOT`. The label of a word is its remainder by this.
+const MOST_LABELS: u64 = 0x4_0000_0000;
+
+/// From this many basin nodes on, a word may not hold a node's number whole: 30 bits are left above the label.
+pub const MOST_NODES: u32 = 0x4000_0000;
+
+/// A word for each node, the outside's last, and a mark for each basin node whose label is 0. The word of a node holds
+/// its label and its predecessor, the node that its step leaves, so that one load gives both. Contracts see the list of
 /// the words. They lie in words that are borrowed.
 #[derive(Drop)]
 pub struct Labels<'t> {
@@ -38,26 +45,37 @@ impl<'t> Labels<'t> {
         Labels { labels, unlabeled }
     }
 
-    /// The word of a node.
+    /// The label of a node.
+    #[tactic(auto, unfolding(crate::specs::Tree::label_of))]
     pub fn get(&self, node: u32) -> u64
         requires { node < length self.now }
         ensures { result ≡ label_of self.now node }
     {
-        self.labels[node as usize]
+        self.labels[node as usize] % MOST_LABELS
     }
 
-    /// Gives a node its word.
-    pub fn set(&mut self, node: u32, word: u64)
-        requires { node < length self.old }
-        ensures { self.new ≡ slice_set self.old node word }
+    /// What is kept of a labeled node's predecessor: the remainder of its number by 2^30.
+    #[tactic(auto, unfolding(crate::specs::Tree::predecessor_of))]
+    pub fn predecessor(&self, node: u32) -> u32
+        requires { node < length self.now }
+        ensures { result ≡ predecessor_of self.now node }
     {
-        self.labels[node as usize] = word;
+        (self.labels[node as usize] / MOST_LABELS) as u32
+    }
+
+    /// Gives a node its label and the node that its step leaves.
+    pub fn set(&mut self, node: u32, label: u64, start: u32)
+        requires node { node < length self.old }
+        requires label { label < 2 ^ 34 }
+        ensures { self.new ≡ relabel self.old node label start }
+    {
+        self.labels[node as usize] = label + u64::from(start % MOST_NODES) * MOST_LABELS;
         if node as usize + 1 < self.labels.len() {
-            mark_as(self.unlabeled, node, word == 0);
+            mark_as(self.unlabeled, node, label == 0);
         }
     }
 
-    /// The marks of the basin nodes, 64 to a word: a node is marked where its word is 0. The bits above the last one's
+    /// The marks of the basin nodes, 64 to a word: a node is marked where its label is 0. The bits above the last one's
     /// mean nothing.
     pub fn unlabeled(&self) -> &[u64]
         ensures count { length result.now ≡ words_for (length self.now - 1) }

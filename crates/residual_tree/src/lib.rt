@@ -22,6 +22,7 @@ mod growing;
 mod labels;
 pub mod laws;
 mod parts;
+mod predecessor;
 mod raising;
 mod tracing;
 
@@ -33,8 +34,8 @@ use circulation::CirculationMut;
 use circulation::residual::end;
 use std::marker::Model;
 
-/// The word of the outside node, which no step has.
-const ROOT: u64 = u64::MAX;
+/// The label of the outside node, which no step has. All labels are below 2^34.
+const ROOT: u64 = 0x3_FFFF_FFFF;
 
 /// How many words a tree takes, for this many basin nodes.
 pub fn tree_words(nodes: u32) -> usize
@@ -101,8 +102,8 @@ impl<'t> ResidualTree<'t> {
         }
     }
 
-    /// The word of a node: 0 where it is unlabeled, else one more than the step by which it is labeled. The
-    /// outside has `ROOT`.
+    /// The label of a node, from its word: 0 where it is unlabeled, else one more than the step by which it is labeled.
+    /// The outside has `ROOT`.
     fn word(&self, node: u32) -> u64
         requires { node < length self.now }
         ensures { result ≡ label_of self.now node }

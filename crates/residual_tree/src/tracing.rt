@@ -7,8 +7,9 @@ ghost use Rattle.residual_tree.specs.Repair.{HasSomeArtificial};
 ghost use Rattle.residual_tree.specs.Raised.{IsExit, IsFull, IsGathered, IsTaken, IsTraced};
 
 use crate::ResidualTree;
+use crate::predecessor::predecessor;
 use circulation::CirculationMut;
-use circulation::residual::{room, start};
+use circulation::residual::room;
 
 /// Where a walk begins in the scratch words, which it fills to their end, how much it can carry, and how many scratch
 /// words from the first on name the steps of it that have no room after a push of that amount.
@@ -81,7 +82,7 @@ pub fn trace(
         }
         let step = tree.word(node) - 1;
         walk = take_step(circ, walk, step);
-        node = start(circ, step);
+        node = predecessor(circ, &tree.labels, node, step);
     }
     take_step(circ, walk, 2 * u64::from(arc))
 }

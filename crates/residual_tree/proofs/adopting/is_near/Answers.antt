@@ -18,13 +18,14 @@ loop-steps-preserved c =
     let b = c.args.circ.now in
     let labels = c.args.labels.now in
     let word : c.get-word.result - 1 ≡ label_of labels c.loop-steps.at - 1 = ap (λ (n : ℕ). n - 1) c.get-word.ensures in
-    let starts = c.start-at.ensures ∙ ap (start_of (network b)) word in
+    let starts = c.predecessor-at.ensures ∙ ap (start_of (network b)) word in
     let inner : c.loop-steps.at < b.nodes =
     omega (arith, c.loop-steps.invariant.within, c.if-at-outside.false, c.nodes-outside.ensures.number) in
-    let arc = c.requires.steps c.loop-steps.at inner (omega (arith, c.get-word.ensures, c.if-word-eq0.false)) in
+    let arc = c.requires.steps c.loop-steps.at inner (omega (arith, c.get-word.ensures, c.if-word-eq0.false))
+    in
     record {
       within = omega
-          (arith, starts, start_within (network b) (label_of labels c.loop-steps.at - 1) c.requires.kept.ends arc);
+          (arith, starts, start_within (network b) (label_of labels c.loop-steps.at - 1) c.requires.kept.ends arc.0);
       clear = λ h. c.loop-steps.invariant.clear (clear_step c.loop-steps.at c.if-at-other.false
           (subst (λ (u : ℕ). IsClear b labels c.args.other u) starts h));
     }

@@ -17,4 +17,6 @@ loop-at-preserved c =
     e.firm
 
 pub adopt_or_free_end-size-requires-clause-steps : goal.adopt_or_free_end-size-requires-clause-steps
-adopt_or_free_end-size-requires-clause-steps c = λ u d m. (c.loop-at.invariant.tree.branch u d m).arc
+adopt_or_free_end-size-requires-clause-steps c = λ u d m.
+    let branch = c.loop-at.invariant.tree.branch u d m in
+    (branch.arc, branch.predecessor)

@@ -12,6 +12,14 @@ inside : (c : Contents) (labels freed : List ℕ) (at done size node : ℕ) → 
     node ≤ c.nodes
 inside c labels freed at done size node o = omega (arith, o.state.within done o.order, o.occurs)
 
+pub free_end-count-requires-clause-node : goal.free_end-count-requires-clause-node
+free_end-count-requires-clause-node c =
+    let state = c.loop-place.invariant.state.1 in
+    let at = row_step _ c.requires.kept (inside _ _ _ _ _ _ _ state) c.row_first-place.ensures.place
+    c.row_last-place-end.ensures.place c.loop-place.auto.place c.loop-place-test.true c.step_at-step.ensures
+    c.end_at.ensures in
+    omega (arith, at.inside, state.state.tree.words)
+
 pub free_end-count-requires-clause-room : goal.free_end-count-requires-clause-room
 free_end-count-requires-clause-room c = λ is.
     let state = c.loop-place.invariant.state.1 in

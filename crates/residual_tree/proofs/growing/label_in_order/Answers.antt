@@ -13,7 +13,7 @@ pub loop-place-preserved : goal.loop-place-preserved
 loop-place-preserved c = elim c.if-own-eq0.branch [
   | then-own-eq0 w ↦
       let inv = c.loop-place.invariant in
-      let next = word_given _
+      let next = word_given _ c.requires.kept
       (c.requires.order c.loop-place.place (omega (arith, c.loop-place-test.true, c.loop-place.auto.place-end)))
       (omega (arith, w.if-own-eq0.true, c.get-own.ensures)) w.nearest_way-word.ensures.way inv.tree
       w.seed_node-count.ensures.none w.seed_node-count.ensures.fresh in

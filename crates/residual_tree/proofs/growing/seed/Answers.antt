@@ -10,7 +10,7 @@ loop-at-init c = seeding_start _
 pub loop-at-preserved : goal.loop-at-preserved
 loop-at-preserved c =
     let e = c.seed_node-size.ensures in
-    seeding_next _ c.loop-at-test.true refl refl c.loop-at.invariant e.none e.seen e.fresh
+    seeding_next _ c.requires.kept c.loop-at-test.true refl refl c.loop-at.invariant e.none e.seen e.fresh
 
 pub seed_node-size-requires-clause-room : goal.seed_node-size-requires-clause-room
 seed_node-size-requires-clause-room c = λ unlabeled.

@@ -22,6 +22,12 @@ bounds-queue-done g c =
     let short = queue_short c.requires.1.0 in
     omega (arith, short, c.requires.0, c.requires.1.0.places)
 
+pub label_end-count-requires-clause-inside : goal.label_end-count-requires-clause-inside
+label_end-count-requires-clause-inside g c =
+    (row_step _ c.requires.1.1 (inside _ _ _ _ _ _ _ c.loop-place.invariant.state) c.row_first-place.ensures.place
+    c.row_last-place-end.ensures.place c.loop-place.auto.place c.loop-place-test.true c.step_at-step.ensures
+    c.end_at.ensures).inside
+
 pub label_end-count-requires-clause-room : goal.label_end-count-requires-clause-room
 label_end-count-requires-clause-room g c = λ unlabeled.
     let state = c.loop-place.invariant.state in

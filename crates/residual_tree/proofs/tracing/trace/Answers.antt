@@ -1,7 +1,8 @@
-use Rattle.std.proofs.Common.{ℕ, length, ◌≡◌, ◌-◌, ◌*◌, slice_index, arith, ap, sym, ◌∙◌}
+use Rattle.std.proofs.Common.{List, ℕ, length, ◌≡◌, ◌-◌, ◌*◌, ◌<◌, slice_index, arith, ap, subst, sym, ◌∙◌}
 use Rattle.circulation.specs.Contents.{Contents, network, flow_of}
+use Rattle.residual_tree.specs.Tree.{predecessor_of}
 use Rattle.residual_tree.proofs.Traces.{tracing_start, tracing_space, tracing_back, tracing_next, tracing_head}
-use Rattle.residual_tree.proofs.Traces.{tracing_exit, taken_space, room_same, rest_more}
+use Rattle.residual_tree.proofs.Traces.{tracing_inside, tracing_word, tracing_exit, taken_space, room_same, rest_more}
 use Rattle.circulation.proofs.Overs.{over_forward}
 use Rattle.residual_tree.proofs.tracing.trace.Goals as goal
 
@@ -20,7 +21,7 @@ loop-node-preserved c =
     let step = ap (λ (n : ℕ). n - 1) c.word-step.ensures in
     let w = c.take_step-walk.ensures in
     let next = tracing_next c.requires.kept c.loop-node.invariant.tracing c.requires.tree c.requires.held ne
-    basin step c.start-node.ensures w.amount w.taken w.kept w.gathered in
+    basin step c.predecessor-node.ensures w.amount w.taken w.kept w.gathered in
     record { tracing = next; space = tracing_space next c.requires.tree }
 
 pub returns-then-node-nodes-clause-traced : goal.returns-then-node-nodes-clause-traced
@@ -97,3 +98,26 @@ returns-clause-blocked c = λ empty.
       c.requires.most,
       empty,
     ))
+
+pub word-step-requires : goal.word-step-requires
+word-step-requires c = tracing_inside c.loop-node.invariant.tracing c.requires.tree
+    (λ e. c.if-node-nodes.false (e ∙ sym c.nodes-nodes.ensures.number))
+
+pub predecessor-node-requires-clause-node : goal.predecessor-node-requires-clause-node
+predecessor-node-requires-clause-node c =
+    subst (λ (xs : List ℕ). c.loop-node.node < length xs) (sym c.tree.view_is)
+    (tracing_inside c.loop-node.invariant.tracing c.requires.tree
+    (λ e. c.if-node-nodes.false (e ∙ sym c.nodes-nodes.ensures.number)))
+
+pub predecessor-node-requires-clause-arc : goal.predecessor-node-requires-clause-arc
+predecessor-node-requires-clause-arc c =
+    (tracing_word c.loop-node.invariant.tracing c.requires.tree
+    (λ e. c.if-node-nodes.false (e ∙ sym c.nodes-nodes.ensures.number)) (ap (λ (n : ℕ). n - 1) c.word-step.ensures)
+    c.take_step-walk.ensures.taken).0
+
+pub predecessor-node-requires-clause-kept_start : goal.predecessor-node-requires-clause-kept_start
+predecessor-node-requires-clause-kept_start c =
+    let word = tracing_word c.loop-node.invariant.tracing c.requires.tree
+    (λ e. c.if-node-nodes.false (e ∙ sym c.nodes-nodes.ensures.number)) (ap (λ (n : ℕ). n - 1) c.word-step.ensures)
+    c.take_step-walk.ensures.taken in
+    ap (λ (xs : List ℕ). predecessor_of xs c.loop-node.node) c.tree.view_is ∙ word.1
