@@ -1,6 +1,6 @@
 -- What is kept on links for instream rights.
 use Rattle.std.proofs.Common.{ℕ, Bool, true, false, ◌≡◌, ◌≢◌, ◌==◌, ◌+◌, ◌<◌, ◌≤◌, List, length, slice_index, slice_set}
-use Rattle.std.proofs.Common.{add-one, ap, arith, ◌∙◌, sym, refl, inl, inr, subst, if◌then◌else◌}
+use Rattle.std.proofs.Common.{add-one, ap, arith, zero, suc, ◌-◌, ◌∙◌, sym, refl, inl, inr, subst, if◌then◌else◌}
 use Rattle.std.proofs.lemmas.Bool.Decides.{eqb_tells}
 use Rattle.std.proofs.lemmas.List.{get_or-set_same, get_or-set_other, length-set}
 use Rattle.std.specs.Prelude.{Some, None, min, max, slice_get, unwrap_or, option_map}
@@ -68,6 +68,28 @@ noting_off b want flow kept n none now = record {
       ap (λ o. if is_at o e then min (slice_index want n) (slice_index flow e) else 0) none in
       omega (arith, now.each e l, one_more b want flow n e, off);
 }
+
+-- rights that are no instream rights change nothing
+pub noting_past : (b : Basin) (want flow kept : List ℕ) (from more : ℕ) →
+    ((r : ℕ) → from ≤ r → r < from + more → instream_link b r ≡ None) →
+    IsNoting b want flow from kept → IsNoting b want flow (from + more) kept
+noting_past b want flow kept from zero none now =
+    let is : from ≡ from + 0 = omega arith in
+    subst (λ (n : ℕ). IsNoting b want flow n kept) is now
+noting_past b want flow kept from (suc n) none now =
+    let is : from + n + 1 ≡ from + suc n = omega arith in
+    subst (λ (k : ℕ). IsNoting b want flow k kept) is
+    (noting_off b want flow kept (from + n) (none (from + n) (omega arith) (omega arith))
+    (noting_past b want flow kept from n (λ r low high. none r low (omega (arith, high))) now))
+
+-- as far as another number of rights
+pub noting_to : (b : Basin) (want flow kept : List ℕ) (from to : ℕ) → from ≤ to →
+    ((r : ℕ) → from ≤ r → r < to → instream_link b r ≡ None) →
+    IsNoting b want flow from kept → IsNoting b want flow to kept
+noting_to b want flow kept from to order none now =
+    let is : from + (to - from) ≡ to = omega arith in
+    subst (λ (n : ℕ). IsNoting b want flow n kept) is
+    (noting_past b want flow kept from (to - from) (λ r low high. none r low (omega (arith, high))) now)
 
 -- one on a link is noted there
 pub noting_on : (b : Basin) (want flow kept : List ℕ) (n link : ℕ) → instream_link b n ≡ Some link →

@@ -10,6 +10,7 @@ use Rattle.water_model.specs.declared.types.Basin.{Basin}
 use Rattle.circulation.specs.Network.{Network, IsFlow, inflow, outflow}
 use Rattle.circulation.specs.Residual.{arc_of, is_backward, by_direction, start_of, room_of, IsClosedWalk}
 use Rattle.circulation.proofs.Pushing.{IsPushing, pushing_start, pushing_next, change_fits}
+use Rattle.rivers_first.specs.declared.instream.InstreamSpan.{InstreamSpan}
 use Rattle.rivers_first.specs.Rounds.{canal_of, links_above, HasRounds, IsRound, IsDown}
 use Rattle.rivers_first.specs.Sent.{IsWithin, IsSent, HasFullRiver, IsRoomOfOne, IsRelieved, IsRelievedIfDown}
 
@@ -231,8 +232,8 @@ relieved_next b kept old now new rounds at d are within before sent one others k
 ]
 
 -- the canal of a round is one of the links
-pub canal_inside : {b : Basin} {rounds : List (List ℕ)} {kept canals again : List ℕ} →
-    HasRounds b rounds kept canals again →
+pub canal_inside : {b : Basin} {rounds : List (List ℕ)} {kept canals again : List ℕ} {span : InstreamSpan} →
+    HasRounds b rounds kept canals again span →
     (at d : ℕ) → at < length rounds → get_or canals at d < length b.links
 canal_inside {rounds = rounds} h at d l =
     let round = h.are.each at [] l in

@@ -1,7 +1,8 @@
 -- Rounds: closed walks of the residual network that take water off a canal, and give it to rivers.
-use Rattle.std.specs.Prelude.{◌≡◌, ◌≢◌, ℕ, ◌+◌, ◌<◌, ◌^◌, true, false, All, List, length, map, slice_index}
-use Rattle.water_model.specs.Basin.{tail_of, head_of, is_river}
+use Rattle.std.specs.Prelude.{◌≡◌, ◌≢◌, ◌⊎◌, ℕ, ◌+◌, ◌<◌, ◌≤◌, ◌^◌, true, false, All, List, length, map, slice_index, None}
+use Rattle.water_model.specs.Basin.{tail_of, head_of, is_river, instream_link}
 use Rattle.water_model.specs.declared.types.Basin.{Basin}
+use Rattle.rivers_first.specs.declared.instream.InstreamSpan.{InstreamSpan}
 use Rattle.circulation.specs.Network.{Network}
 use Rattle.circulation.specs.Residual.{arc_of, is_backward, start_of, end_of}
 
@@ -60,8 +61,16 @@ pub record AreRounds (v : RoundsView) : Type 0 where
 abbrev pub canal_of : List ℕ → ℕ
 canal_of round = arc_of (slice_index round 0)
 
--- the canals are those of the rounds, and there is room to note each round
-pub record HasRounds (b : Basin) (rounds : List (List ℕ)) (kept canals again : List ℕ) : Type 0 where
-  pub are : AreRounds (record { basin = b; rounds = rounds; kept = kept })
-  pub canals_are : canals ≡ map canal_of rounds
-  pub noted : length again ≡ length rounds
+-- all instream rights are in the span
+pub record SpansInstream (b : Basin) (span : InstreamSpan) : Type 0 where
+  pub order : span.first ≤ span.last
+  pub within : span.last ≤ length b.rights
+  pub others : (r : ℕ) → r < length b.rights → (r < span.first) ⊎ (span.last ≤ r) → instream_link b r ≡ None
+
+-- the canals are those of the rounds, there is room to note each round, and the span has all instream rights
+pub record HasRounds (b : Basin) (rounds : List (List ℕ)) (kept canals again : List ℕ) (span : InstreamSpan) : Type 0
+  where
+    pub are : AreRounds (record { basin = b; rounds = rounds; kept = kept })
+    pub canals_are : canals ≡ map canal_of rounds
+    pub noted : length again ≡ length rounds
+    pub instream : SpansInstream b span

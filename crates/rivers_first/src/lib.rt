@@ -2,6 +2,7 @@
 #![tactic(auto)]
 
 mod checked;
+mod instream;
 mod rounds;
 mod search;
 

@@ -7,10 +7,11 @@ ghost use Rattle.water_model.specs.Plans.{IsGreatest, DeliversSame};
 ghost use Rattle.water_model.specs.Valid.{IsValidBasin};
 ghost use Rattle.finite_sums.specs.Sums.{when};
 ghost use Rattle.circulation.specs.Residual.{arc_of, is_backward, room_of, IsPushed};
-ghost use Rattle.rivers_first.specs.Rounds.{canal_of, links_above, IsRound, IsDown};
+ghost use Rattle.rivers_first.specs.Rounds.{canal_of, links_above, IsRound, IsDown, SpansInstream};
 ghost use Rattle.rivers_first.specs.Sent.{IsWithin, IsSent, KeepsInstream, HasFullRiver, IsRelieved, IsRelievedIfDown};
 ghost use Rattle.rivers_first.specs.Sent.{IsRoomOfOne};
 
+use crate::instream::{InstreamSpan, instream_span};
 use crate::search::Search;
 use std::alloc::{AllocError, Global};
 use std::marker::Model;
@@ -34,6 +35,8 @@ pub struct Rounds<'b> {
     kept: Vec<u64>,
     /// Room: the rounds that were not passed over when all were looked at. Any numbers do.
     again: Vec<usize>,
+    /// Where the instream rights stand.
+    span: InstreamSpan,
 }
 
 impl<'b> Model for Rounds<'b> {
@@ -43,12 +46,13 @@ impl<'b> Model for Rounds<'b> {
 
     ghost view = { λ r. record { basin = r.basin.now; rounds = r.rounds.items; kept = r.kept.items } };
 
-    ghost invariant = { λ r. HasRounds r.basin.now r.rounds.items r.kept.items r.canals.items r.again.items };
+    ghost invariant = { λ r. HasRounds r.basin.now r.rounds.items r.kept.items r.canals.items r.again.items r.span };
 }
 
 /// Notes for each link the most that an instream right on it has of its want.
-fn note_kept(basin: &Basin, want: &[u64], flow: &[u64], kept: &mut [u64])
+fn note_kept(basin: &Basin, span: InstreamSpan, want: &[u64], flow: &[u64], kept: &mut [u64])
     requires valid { IsValidBasin basin.now }
+    requires span { SpansInstream basin.now span }
     requires wants { length want.now ≡ length basin.now.rights }
     requires kept { length kept.old ≡ length basin.now.links }
     requires flows { length flow.now ≡ length basin.now.links }
@@ -58,7 +62,7 @@ fn note_kept(basin: &Basin, want: &[u64], flow: &[u64], kept: &mut [u64])
     ensures kept { KeepsInstream basin.now want.now flow.now (length basin.now.rights) kept.new }
 {
     kept.fill(0);
-    for right in 0..basin.rights.len() {
+    for right in span.first..span.last {
         if let RightKind::Instream { link } = basin.rights[right].kind {
             let link = link as usize;
             let has = want[right].min(flow[link]);
@@ -113,6 +117,7 @@ impl<'b> Rounds<'b> {
             canals,
             kept,
             again,
+            span: instream_span(basin),
         })
     }
 
@@ -244,7 +249,7 @@ impl<'b> Rounds<'b> {
         ensures sent { IsSent self.old.basin self.new.kept flow.old flow.new }
         ensures relieved { All (IsRelievedIfDown self.old.basin self.new.kept flow.old flow.new) self.old.rounds }
     {
-        note_kept(self.basin, want, flow, self.kept.as_mut_slice());
+        note_kept(self.basin, self.span, want, flow, self.kept.as_mut_slice());
         let count = self.send_all(flow);
         self.send_again(count, flow);
     }
