@@ -6,8 +6,9 @@ use Rattle.std.proofs.lemmas.Bool.Decides.{nat_tests}
 use Rattle.std.proofs.lemmas.List.{ext_get_or, get_or-replicate, get_or-set_same, get_or-set_other, length-set}
 use Rattle.std.proofs.lemmas.List.{length-replicate}
 use Rattle.std.proofs.lemmas.List.FromFn.{get_or-map-range_with_len, length-map-range_with_len}
-use Rattle.std.specs.Prelude.{◌==◌, ◌&&◌, nat_lt, slice_set, slice_index, Option, Some, IfSome, IsSome, IsTrue, ◌↔◌}
+use Rattle.std.specs.Prelude.{◌==◌, ◌&&◌, nat_lt, slice_set, Option, Some, IfSome, IsSome, IsTrue, ◌↔◌}
 use Rattle.bit_words.specs.Marks.{is_marked, marks}
+use Rattle.residual_tree.specs.Tree.{label_of}
 use Rattle.water_model.specs.CutSets.{CutSets, set_of, with_set}
 use Rattle.senior_hold.specs.MonthNetwork.{list_of}
 use Rattle.water_model.proofs.SetEntries.{set_entry, set_of_with, set_twice}
@@ -114,13 +115,13 @@ is_unreached v n p t l both h = grind (arith, nat_tests)
 pub is_reached : (v n p : ℕ) (t : Bool) → (IsTrue t ↔ (0 < p)) → t ≡ true → nat_lt v n && (p == 0) ≡ false
 is_reached v n p t both h = grind (arith, nat_tests)
 
--- the marks of the nodes whose words are 0 are the set of the unlabeled nodes
+-- the marks of the nodes whose labels are 0 are the set of the unlabeled nodes
 pub marks_are : (n : ℕ) (marked labels : List ℕ) → length labels ≡ n + 1 →
-    ((v : ℕ) → v + 1 < length labels → is_marked marked v ≡ (slice_index labels v == 0)) →
-    marks n marked ≡ list_of n (λ v. nat_lt v n && (slice_index labels v == 0))
+    ((v : ℕ) → v + 1 < length labels → is_marked marked v ≡ (label_of labels v == 0)) →
+    marks n marked ≡ list_of n (λ v. nat_lt v n && (label_of labels v == 0))
 marks_are n marked labels size each =
-    same_marks n (is_marked marked) (λ v. nat_lt v n && (slice_index labels v == 0))
-    (λ v l. each v (omega (arith, size, l)) ∙ below v n (slice_index labels v == 0) l)
+    same_marks n (is_marked marked) (λ v. nat_lt v n && (label_of labels v == 0))
+    (λ v l. each v (omega (arith, size, l)) ∙ below v n (label_of labels v == 0) l)
   where
     below : (i n : ℕ) (t : Bool) → i < n → t ≡ nat_lt i n && t
     below i n t l = grind (arith, nat_tests)
