@@ -13,10 +13,10 @@ use Rattle.water_model.specs.Valid.{IsValidBasin, IsSeriesOf}
 use Rattle.water_model.specs.declared.types.Basin.{Basin}
 use Rattle.water_model.specs.declared.types.Inflows.{Inflows}
 use Rattle.water_model.specs.declared.types.MonthRecord.{MonthRecord}
-use Rattle.duality.proofs.Balance.{balanced}
+use Rattle.duality.proofs.Balance.{balanced, month_balance}
 use Rattle.water_model.proofs.Sets.{sum_total}
 use Rattle.water_model.proofs.Order.{length-numbers_from}
-use Rattle.water_model.proofs.Histories.{opens_with_last}
+use Rattle.water_model.proofs.Histories.{last_follows, opens_with_last}
 use Rattle.water_model.proofs.Wants.{want_most}
 use Rattle.month_terms.proofs.Amounts.{each_month, delivered_small, deliveries_small}
 use Rattle.month_terms.proofs.Bounds.{inflows_small, returns_small}
@@ -111,6 +111,13 @@ pub record AreSmall (w : Waters) : Type 0 where
   pub diverted : w.diverted < 2 ^ 64
   pub out : w.out < 2 ^ 64
 
+opening_small : (b : Basin) → IsValidBasin b → sum (map (λ v. v.opening) b.reservoirs) ≤ 32 * 10 ^ 12
+opening_small b valid = omega (arith, sum-map (λ v. v.opening) b.reservoirs, openings_small b valid)
+
+few_months : (b : Basin) (series : Inflows) (records : List MonthRecord) → IsValidBasin b →
+    IsPartialHistory b series records → length records ≤ 1200
+few_months b series records valid partial = omega (arith, partial.within, valid.run.months.1)
+
 waters_small : (b : Basin) (series : Inflows) (records : List MonthRecord) → IsValidBasin b → IsSeriesOf b series →
     IsPartialHistory b series records →
     AreSmall (waters_of b series records)
@@ -128,7 +135,7 @@ waters_small b series records valid fits partial = record {
     sides = balanced b series records valid partial
 
     opening : sum (map (λ v. v.opening) b.reservoirs) ≤ 32 * 10 ^ 12
-    opening = omega (arith, sum-map (λ v. v.opening) b.reservoirs, openings_small b valid)
+    opening = opening_small b valid
 
     inflows : sum_by (λ m. total_inflow b series m.index) records ≤ length records * (2 * 10 ^ 12)
     inflows = inflows_all_small b series records valid fits partial
@@ -137,7 +144,7 @@ waters_small b series records valid fits partial = record {
     returns = returns_all_small b series records valid fits partial
 
     months : length records ≤ 1200
-    months = omega (arith, partial.within, valid.run.months.1)
+    months = few_months b series records valid partial
 
 pub month_room : (b : Basin) (series : Inflows) (records : List MonthRecord) (m : MonthRecord) (w : Waters) →
     IsValidBasin b → IsSeriesOf b series →
@@ -151,6 +158,20 @@ month_room b series records m w valid fits partial is = record {
   evaporated = omega (arith, all.evaporated, ap (λ v. v.evaporated) is, sum_by_push (λ k. sum k.evaporated) records m);
   to_diversions = omega (arith, all.diverted, ap (λ v. v.diverted) is, sum_by_push (λ k. diverted b k) records m);
   out = omega (arith, all.out, ap (λ v. v.out) is, sum_by_push (λ k. sum k.plan.out) records m);
+  month =
+      omega (
+        arith,
+        balanced b series (records ++ m ∷ []) valid partial,
+        opening_small b valid,
+        inflows_all_small b series (records ++ m ∷ []) valid fits partial,
+        returns_all_small b series (records ++ m ∷ []) valid fits partial,
+        few_months b series (records ++ m ∷ []) valid partial,
+        ap (λ xs. sum xs) (opens_with_last b records m),
+        sum_by_push (λ k. sum k.evaporated) records m,
+        sum_by_push (λ k. diverted b k) records m,
+        sum_by_push (λ k. sum k.plan.out) records m,
+      );
+  balance = month_balance b series records m valid (last_follows b series records m partial);
 }
   where
     all : AreSmall (waters_of b series (records ++ m ∷ []))

@@ -66,7 +66,7 @@ pub record HasRoom (f : RightFigures) (m : MonthRecord) (right : ℕ) : Type 0 w
   pub wanted : f.wanted + slice_index m.want right < 2 ^ 64
   pub delivered : f.delivered + slice_index m.delivered right < 2 ^ 64
 
--- and those of the water
+-- and those of the water, and what came into the month is what is left of it and went out
 pub record HasRoomForMonth (b : Basin) (series : Inflows) (w : Waters) (m : MonthRecord) : Type 0 where
   pub inflows : w.inflows + total_inflow b series m.index < 2 ^ 64
   pub returns : w.returns + sum m.returned < 2 ^ 64
@@ -74,6 +74,9 @@ pub record HasRoomForMonth (b : Basin) (series : Inflows) (w : Waters) (m : Mont
   pub evaporated : w.evaporated + sum m.evaporated < 2 ^ 64
   pub to_diversions : w.diverted + diverted b m < 2 ^ 64
   pub out : w.out + sum m.plan.out < 2 ^ 64
+  pub month : sum m.closing + sum m.evaporated + diverted b m + sum m.plan.out < 2 ^ 64
+  pub balance : sum m.opening + total_inflow b series m.index + sum m.returned
+      ≡ sum m.closing + sum m.evaporated + diverted b m + sum m.plan.out
 
 -- the sums over some rights fit
 pub record AreBounded (rights : List RightFigures) : Type 0 where

@@ -1,15 +1,13 @@
 //! The water of a run.
 ghost use Rattle.std.specs.Prelude.{List, ◌≡◌, ◌+◌, ◌<◌, ◌^◌, ◌++◌, ◌∷◌, [], length, sum, map, slice_index};
 ghost use Rattle.std.specs.Prelude.{if◌then◌else◌};
-ghost use Rattle.duality.specs.Balance.{total_inflow, diverted};
+ghost use Rattle.duality.specs.Balance.{diverted};
 ghost use Rattle.water_model.specs.History.{FitsBasin};
 ghost use Rattle.water_model.specs.Valid.{IsValidBasin, IsSeriesOf, is_diversion};
 ghost use Rattle.water_model.specs.declared.types.MonthRecord.{MonthRecord};
 ghost use Rattle.reports.specs.Figures.{waters_of};
 ghost use Rattle.reports.specs.Tallies.{HasRoomForMonth};
 
-use month_terms::supply::inflow_in_year;
-use water_model::calls::month_at;
 use water_model::types::{Basin, Inflows, MonthRecord, RightKind};
 
 /// The water of a run: what was stored before its first month, flowed in and came back, and what is stored after its
@@ -31,22 +29,6 @@ fn sum_of(amounts: &[u64]) -> u64
     ensures { result ≡ sum amounts.now }
 {
     amounts.iter().sum()
-}
-
-/// The inflow to all nodes in the month with this index.
-#[tactic(auto, using(finite_sums::proofs::Totals::total_start, finite_sums::proofs::Totals::total_more))]
-fn total_inflow(basin: &Basin, series: &Inflows, index: u32) -> u64
-    requires basin { IsValidBasin basin.now }
-    requires series { IsSeriesOf basin.now series.now }
-    requires index { index < basin.now.months }
-    ensures { result ≡ total_inflow basin.now series.now index }
-{
-    let position = month_at(basin, index).month as usize - 1;
-    let mut inflow = 0;
-    for node in 0..basin.nodes.len() {
-        inflow += inflow_in_year(basin, series, node, index, position);
-    }
-    inflow
 }
 
 /// What a right was delivered as a diversion, and 0 where it is none.
@@ -118,14 +100,23 @@ impl Waters {
         ensures { (records : List MonthRecord) → self.now ≡ waters_of basin.now series.now records →
             result ≡ waters_of basin.now series.now (records ++ month.now ∷ []) }
     {
+        let returned = sum_of(month.returned.as_slice());
+        let closing = sum_of(month.closing.as_slice());
+        let evaporated = sum_of(month.evaporated.as_slice());
+        let diverted = diverted(basin, month);
+        let out = sum_of(month.plan.out.as_slice());
+        // By the balance of the month, so that no node is looked at.
+        let inflow = closing + evaporated + diverted + out
+            - sum_of(month.opening.as_slice())
+            - returned;
         Waters {
             opening: self.opening,
-            inflows: self.inflows + total_inflow(basin, series, month.index),
-            returns: self.returns + sum_of(month.returned.as_slice()),
-            closing: sum_of(month.closing.as_slice()),
-            evaporated: self.evaporated + sum_of(month.evaporated.as_slice()),
-            diverted: self.diverted + diverted(basin, month),
-            out: self.out + sum_of(month.plan.out.as_slice()),
+            inflows: self.inflows + inflow,
+            returns: self.returns + returned,
+            closing,
+            evaporated: self.evaporated + evaporated,
+            diverted: self.diverted + diverted,
+            out: self.out + out,
         }
     }
 }
