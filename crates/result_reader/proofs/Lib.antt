@@ -11,6 +11,7 @@ pub mod StandingLaws
 pub mod LinesLeft
 pub mod Spelled
 mod MemberLines
+mod DueLines
 pub mod Accepting
 pub mod Telling
 pub mod Sets

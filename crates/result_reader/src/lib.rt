@@ -7,6 +7,7 @@
 #![tactic(auto)]
 
 mod bad_line;
+mod due_lines;
 mod dues;
 mod fields;
 pub mod laws;

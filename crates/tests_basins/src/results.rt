@@ -47,6 +47,18 @@ const LINES: &[(&str, Result<Item, BadLine>)] = &[
     ("flow a 060", Err(BadLine::BadField)),
     ("flow b 60", Err(BadLine::OutOfPlace)),
     ("flow a  60", Err(BadLine::BadField)),
+    ("flow a 60 1", Err(BadLine::BadField)),
+    ("flow a", Err(BadLine::BadField)),
+    ("flow a ", Err(BadLine::BadField)),
+    ("flow a 1000000000000001", Err(BadLine::BadField)),
+    ("flow ab 60", Err(BadLine::OutOfPlace)),
+    ("flows a 60", Err(BadLine::UnknownWord)),
+    ("flow  a 60", Err(BadLine::BadField)),
+    (
+        "flow a 600000000000000000000000000000000000000000000000000000000000000000000000000000000000000000000000000\
+         0000000000000000000000000000000",
+        Err(BadLine::OverLong),
+    ),
     (
         "flow a 60",
         Ok(Item::Amount {
@@ -57,6 +69,8 @@ const LINES: &[(&str, Result<Item, BadLine>)] = &[
     ),
     ("in top", Err(BadLine::OutOfPlace)),
     ("end", Err(BadLine::OutOfPlace)),
+    ("out se 60", Err(BadLine::OutOfPlace)),
+    ("out top 60", Err(BadLine::OutOfPlace)),
     (
         "out sea 60",
         Ok(Item::Amount {
@@ -71,14 +85,14 @@ const LINES: &[(&str, Result<Item, BadLine>)] = &[
     ("river-result 1", Err(BadLine::OutOfPlace)),
 ];
 
-/// Two links, and two rights of which the junior stands at the spring.
+/// Two links, of which one's name begins the other's, and two rights of which the junior stands at the spring.
 const RIGHTS: &str = "\
     format = 1\nfirst_month = \"1900-01\"\nmonths = 1\n\
     [[node]]\nname = \"top\"\ninflow = 80\n\
     [[node]]\nname = \"mid\"\n\
     [[node]]\nname = \"mouth\"\noutlet = true\n\
     [[link]]\nname = \"a\"\nfrom = \"top\"\nto = \"mid\"\n\
-    [[link]]\nname = \"b\"\nfrom = \"mid\"\nto = \"mouth\"\n\
+    [[link]]\nname = \"ab\"\nfrom = \"mid\"\nto = \"mouth\"\n\
     [[diversion]]\nname = \"old\"\nnode = \"mid\"\ndate = \"1890-01-01\"\nwant = 60\n\
     [[diversion]]\nname = \"new\"\nnode = \"top\"\ndate = \"1920-01-01\"\nwant = 50\n";
 
@@ -103,7 +117,7 @@ const LINES_OF_RIGHTS: &[(&str, Result<Item, BadLine>)] = &[
     ("month 1900-02", Err(BadLine::OutOfPlace)),
     ("month 1900-01", Ok(Item::Month { month: JANUARY })),
     ("flow a 060", Err(BadLine::BadField)),
-    ("flow b 0", Err(BadLine::OutOfPlace)),
+    ("flow ab 0", Err(BadLine::OutOfPlace)),
     (
         "flow a 60",
         Ok(Item::Amount {
@@ -112,20 +126,27 @@ const LINES_OF_RIGHTS: &[(&str, Result<Item, BadLine>)] = &[
             amount: 60,
         }),
     ),
+    ("flow a 0", Err(BadLine::OutOfPlace)),
     (
-        "flow b 0",
+        "flow ab 1000000000000000",
         Ok(Item::Amount {
             quantity: Quantity::Flow,
             entry: 1,
-            amount: 0,
+            amount: 1_000_000_000_000_000,
         }),
     ),
     ("deliver new 20 50", Err(BadLine::OutOfPlace)),
+    ("deliver old 40", Err(BadLine::BadField)),
+    ("deliver old 40 60 60", Err(BadLine::BadField)),
+    ("deliver old 040 60", Err(BadLine::BadField)),
+    ("deliver old 40 060", Err(BadLine::BadField)),
+    ("deliver old 40  60", Err(BadLine::BadField)),
+    ("deliver old 40 1000000000000001", Err(BadLine::BadField)),
     (
-        "deliver old 60 60",
+        "deliver old 40 60",
         Ok(Item::Deliver {
             right: 0,
-            amount: 60,
+            amount: 40,
             want: 60,
         }),
     ),
