@@ -12,6 +12,7 @@ pub mod LinesLeft
 pub mod Spelled
 mod MemberLines
 mod DueLines
+mod NodeTexts
 pub mod Accepting
 pub mod Telling
 pub mod Sets

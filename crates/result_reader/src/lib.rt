@@ -13,6 +13,7 @@ mod fields;
 pub mod laws;
 mod likely;
 mod names;
+mod node_lines;
 mod position;
 mod progress;
 mod reader;
