@@ -117,8 +117,8 @@ impl<'b> ResultReader<'b> {
             return Ok(Item::Member { node: member });
         }
         let due = due_shape(&self.dues, &self.progress);
-        if let Some(item) = due_line(&self.names, due, text) {
-            return Ok(item);
+        if let Some(said) = due_line(&self.names, due, text) {
+            return Ok(said);
         }
         let entry = likely_entry(due);
         item_by_fields(&self.names, Likely { member, entry }, text)
