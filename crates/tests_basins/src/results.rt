@@ -152,6 +152,32 @@ const LINES_OF_RIGHTS: &[(&str, Result<Item, BadLine>)] = &[
     ),
 ];
 
+/// Lines that its reader accepts, up to those of a set.
+const LINES_TO_SET: &[&str] = &[
+    "river-result 1",
+    "run 1900-01 1",
+    "month 1900-01",
+    "flow a 60",
+    "flow ab 60",
+    "deliver old 60 60",
+    "deliver new 20 50",
+    "out mouth 60",
+    "call new",
+];
+
+/// Bytes that the reader is given then, with the node whose line it takes from them. At first the likely node is `top`.
+const PIECES: &[(&str, Option<u32>)] = &[
+    ("", None),
+    ("in top", None),
+    ("in to\n", None),
+    ("in topx\n", None),
+    ("in top \n", None),
+    (" in top\n", None),
+    ("in mid\n", None),
+    ("in top\nin mid\n", Some(0)),
+    ("in top\n", None),
+];
+
 /// Gives a reader a line, and compares its answer.
 fn read_line<R: Abort>(
     rt: &R,
@@ -210,4 +236,41 @@ fn read_all<R: Abort>(
 fn accepts_what_may_come(rt: HostRuntime) -> Result<(), AllocError> {
     read_all(&rt, rt.alloc(), SPRING, LINES, (7, 0))?;
     read_all(&rt, rt.alloc(), RIGHTS, LINES_OF_RIGHTS, (20, 14))
+}
+
+/// Gives a reader some bytes, and compares the node whose line it takes from them.
+fn take_member<R: Abort>(rt: &R, reader: &mut ResultReader, piece: &str, node: Option<u32>) {
+    let taken = match reader.likely_member(piece.as_bytes()) {
+        Some(line) => Some(line.node),
+        None => None,
+    };
+    assert_eq!(rt; taken, node, "bytes {piece}");
+}
+
+/// Gives a new reader for a basin with a roll these lines, and then these bytes.
+fn take_members<R: Abort>(
+    rt: &R,
+    alloc: Global,
+    basin: &Basin,
+    roll: &Roll,
+) -> Result<(), AllocError>
+    requires basin { IsValidBasin basin.now }
+    requires roll { IsRollOf basin.now.rights roll.now }
+{
+    let mut reader = ResultReader::open(alloc, basin, roll)?;
+    for text in LINES_TO_SET {
+        assert!(rt; reader.line(text.as_bytes()).is_ok(), "line {text}");
+    }
+    for (piece, node) in PIECES {
+        take_member(rt, &mut reader, piece, *node);
+    }
+    Ok(())
+}
+
+#[test]
+fn takes_the_likely_members(rt: HostRuntime) -> Result<(), AllocError> {
+    let alloc = rt.alloc();
+    let basin = basin_of(alloc, RIGHTS)?;
+    let roll = Roll::of_basin(alloc, &basin)?;
+    take_members(&rt, alloc, &basin, &roll)
 }
