@@ -11,6 +11,8 @@ pub mod StandingLaws
 pub mod LinesLeft
 pub mod Spelled
 mod MemberLines
+mod DueLines
+mod NodeTexts
 pub mod Accepting
 pub mod Telling
 pub mod Sets

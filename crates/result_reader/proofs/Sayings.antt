@@ -69,7 +69,7 @@ name_field-Ok : (field name : List ℕ) → name_field field ≡ Ok name → fie
 name_field-Ok field name h = grind (arith, nat_tests)
 
 -- a field that is read as a number is its spelling
-amount_field-Ok : (field : List ℕ) (n : ℕ) → amount_field field ≡ Ok n → (field ≡ decimal n) × (n ≤ 10 ^ 15)
+pub amount_field-Ok : (field : List ℕ) (n : ℕ) → amount_field field ≡ Ok n → (field ≡ decimal n) × (n ≤ 10 ^ 15)
 amount_field-Ok field n h =
     let r = plain_is_read field (10 ^ 15) n (ok_or-Ok (read_plain field (10 ^ 15)) bad.BadField n h) in
     (r.spelled, r.within)

@@ -8,3 +8,4 @@ pub mod Standing
 pub mod ReadSoFar
 pub mod Records
 pub mod Laws
+pub mod NodeLines

@@ -7,11 +7,13 @@
 #![tactic(auto)]
 
 mod bad_line;
+mod due_lines;
 mod dues;
 mod fields;
 pub mod laws;
 mod likely;
 mod names;
+mod node_lines;
 mod position;
 mod progress;
 mod reader;

@@ -25,11 +25,11 @@ fn entry_of(shape: &Shape) -> u32 {
     }
 }
 
-/// The first entry that the line at a position names, or 0.
-fn due_entry(dues: &[Shape], position: Position) -> u32 {
+/// The line of a month that is due at a position, if one is.
+fn shape_at(dues: &[Shape], position: Position) -> Option<Shape> {
     match position {
-        Position::Month { at, .. } => dues.get(at).map_or(0, |shape| entry_of(shape)),
-        Position::Title | Position::Run | Position::After => 0,
+        Position::Month { at, .. } => dues.get(at).copied(),
+        Position::Title | Position::Run | Position::After => None,
     }
 }
 
@@ -48,9 +48,17 @@ pub fn likely_member(followers: &[u32], progress: &Progress) -> u32 {
     node_at(followers, progress.next_member)
 }
 
+/// The line of a month that is due, if one is.
+pub fn due_shape(dues: &[Shape], progress: &Progress) -> Option<Shape> {
+    shape_at(dues, progress.position)
+}
+
 /// The first entry that any other line most likely names: that of the line which is due.
-pub fn likely_entry(dues: &[Shape], progress: &Progress) -> u32 {
-    due_entry(dues, progress.position)
+pub fn likely_entry(due: Option<Shape>) -> u32 {
+    match due {
+        Some(shape) => entry_of(&shape),
+        None => 0,
+    }
 }
 
 /// Keeps the node of an `in` line as the one that came after the line before it.

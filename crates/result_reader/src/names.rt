@@ -1,10 +1,13 @@
 //! Names, and what they name.
-ghost use Rattle.std.specs.Prelude.{◌≡◌, ◌<◌, ◌≤◌, true, length, IfOk, IfSome};
+ghost use Rattle.std.specs.Prelude.{◌≡◌, ◌<◌, ◌++◌, ◌∷◌, true, length, IfOk, IfSome};
 ghost use Rattle.water_model.specs.Entries.{count_in, name_in};
 ghost use Rattle.water_model.specs.Valid.{IsValidBasin};
-ghost use Rattle.water_model.specs.declared.space.Space.TheVariants.{Links, Nodes, Reservoirs};
+ghost use Rattle.water_model.specs.declared.space.Space.TheVariants.{Links, Reservoirs};
 ghost use Rattle.basin_names.specs.Named.{named};
+ghost use Rattle.result_reader.specs.NodeLines.{member_text};
 
+use crate::fields::after_field;
+use crate::node_lines::NodeLines;
 use basin_names::{BothNames, SpaceNames};
 use std::alloc::{AllocError, Global};
 use water_model::space::{Space, count_in, name_in};
@@ -17,9 +20,11 @@ pub struct Names<'b> {
     both: BothNames<'b>,
     links: SpaceNames<'b>,
     reservoirs: SpaceNames<'b>,
+    lines: NodeLines<'b>,
     ghost of_both: { both.basin.now ≡ basin.now },
     ghost of_links: { (links.basin.now ≡ basin.now) × (links.space ≡ Links) },
     ghost of_reservoirs: { (reservoirs.basin.now ≡ basin.now) × (reservoirs.space ≡ Reservoirs) },
+    ghost of_lines: { lines.basin.now ≡ basin.now },
 }
 
 impl<'b> Names<'b> {
@@ -31,11 +36,13 @@ impl<'b> Names<'b> {
         let both = BothNames::of(alloc, basin)?;
         let links = SpaceNames::of(alloc, Space::Links, basin)?;
         let reservoirs = SpaceNames::of(alloc, Space::Reservoirs, basin)?;
+        let lines = NodeLines::of(alloc, basin)?;
         Ok(Names {
             basin,
             both,
             links,
             reservoirs,
+            lines,
         })
     }
 
@@ -48,17 +55,26 @@ impl<'b> Names<'b> {
         at < count_in(space, self.basin) && name_in(space, self.basin, at).bytes() == name
     }
 
-    /// The name of the node at an index, which may be any number, if there is one.
-    pub fn node_name(&self, at: u32) -> Option<&[u8]>
+    /// What stands after the name of the entry at an index, which may be any number, and the space behind it, where the
+    /// entry is there and a text begins with them.
+    pub fn after_name<'a>(&self, space: Space, at: u32, text: &'a [u8]) -> Option<&'a [u8]>
         requires { IsValidBasin self.now.basin.now }
-        ensures value { IfSome result (λ name. name.now ≡ name_in Nodes self.now.basin.now at) }
-        ensures short { IfSome result (λ name. length name.now ≤ 32) }
+        ensures within { IfSome result (λ rest. at < count_in space self.now.basin.now) }
+        ensures rest { IfSome result (λ rest. text.now ≡ name_in space self.now.basin.now at ++ (32 ∷ rest.now)) }
     {
-        if at < count_in(Space::Nodes, self.basin) {
-            Some(name_in(Space::Nodes, self.basin, at).bytes())
+        if at < count_in(space, self.basin) {
+            after_field(name_in(space, self.basin, at).bytes(), text)
         } else {
             None
         }
+    }
+
+    /// The `in` line of the node at an index, which may be any number, with its line feed, if there is one.
+    pub fn member_line(&self, node: u32) -> Option<&[u8]>
+        ensures within { IfSome result (λ line. node < length self.now.basin.now.nodes) }
+        ensures line { IfSome result (λ line. line.now ≡ member_text self.now.basin.now node) }
+    {
+        self.lines.line(node)
     }
 
     /// The index of the entry that has the name, or `None` where none has it, by a look-up in the map.

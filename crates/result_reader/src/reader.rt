@@ -13,8 +13,9 @@ ghost use Rattle.result_reader.specs.Reading.{item_of, read_line};
 ghost use Rattle.result_reader.specs.Standing.{ReaderStandsFor, max_lines};
 
 use crate::bad_line::BadLine;
+use crate::due_lines::due_line;
 use crate::dues::dues_of;
-use crate::likely::{Likely, follow, likely_entry, likely_member};
+use crate::likely::{Likely, due_shape, follow, likely_entry, likely_member};
 use crate::names::Names;
 use crate::position::Position;
 use crate::progress::{Progress, next_member, next_progress};
@@ -115,7 +116,11 @@ impl<'b> ResultReader<'b> {
         if is_member_line(&self.names, member, text) {
             return Ok(Item::Member { node: member });
         }
-        let entry = likely_entry(&self.dues, &self.progress);
+        let due = due_shape(&self.dues, &self.progress);
+        if let Some(said) = due_line(&self.names, due, text) {
+            return Ok(said);
+        }
+        let entry = likely_entry(due);
         item_by_fields(&self.names, Likely { member, entry }, text)
     }
 

@@ -208,29 +208,24 @@ pub fn is_member_line(names: &Names, node: u32, text: &[u8]) -> bool
     }
 }
 
-/// The bytes before an index, where a line feed stands there.
-fn line_to(piece: &[u8], end: usize) -> Option<&[u8]>
-    ensures { IfSome result (λ text. piece.now ≡ text.now ++ 10 ∷ drop (length text.now + 1) piece.now) }
+/// Whether bytes begin with a line.
+fn begins_with(piece: &[u8], line: &[u8]) -> bool
+    ensures { result ≡ true → piece.now ≡ line.now ++ drop (length line.now) piece.now }
 {
-    if end < piece.len() && piece[end] == b'\n' {
-        Some(&piece[..end])
-    } else {
-        None
-    }
+    line.len() <= piece.len() && &piece[..line.len()] == line
 }
 
 /// The `in` line of the node at an index, which may be any number, without its line feed, where a piece begins with it.
-/// The name says where the line would end, so its end isn't looked for.
+/// It is compared with the line that was spelled once, so its end isn't looked for.
 #[inline(always)]
 pub fn member_line<'a>(names: &Names, node: u32, piece: &'a [u8]) -> Option<&'a [u8]>
     requires { IsValidBasin names.now.basin.now }
     ensures says { IfSome result (λ text. reading.item_of names.now.basin.now text.now ≡ Ok (line.Member node)) }
     ensures takes { IfSome result (λ text. TakesToFeed [] text.now piece.now (length text.now + 1)) }
 {
-    let name = names.node_name(node)?;
-    let text = line_to(piece, name.len() + 3)?;
-    if is_member_line(names, node, text) {
-        Some(text)
+    let line = names.member_line(node)?;
+    if begins_with(piece, line) {
+        Some(&piece[..line.len() - 1])
     } else {
         None
     }

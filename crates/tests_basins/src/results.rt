@@ -47,6 +47,18 @@ const LINES: &[(&str, Result<Item, BadLine>)] = &[
     ("flow a 060", Err(BadLine::BadField)),
     ("flow b 60", Err(BadLine::OutOfPlace)),
     ("flow a  60", Err(BadLine::BadField)),
+    ("flow a 60 1", Err(BadLine::BadField)),
+    ("flow a", Err(BadLine::BadField)),
+    ("flow a ", Err(BadLine::BadField)),
+    ("flow a 1000000000000001", Err(BadLine::BadField)),
+    ("flow ab 60", Err(BadLine::OutOfPlace)),
+    ("flows a 60", Err(BadLine::UnknownWord)),
+    ("flow  a 60", Err(BadLine::BadField)),
+    (
+        "flow a 600000000000000000000000000000000000000000000000000000000000000000000000000000000000000000000000000\
+         0000000000000000000000000000000",
+        Err(BadLine::OverLong),
+    ),
     (
         "flow a 60",
         Ok(Item::Amount {
@@ -57,6 +69,8 @@ const LINES: &[(&str, Result<Item, BadLine>)] = &[
     ),
     ("in top", Err(BadLine::OutOfPlace)),
     ("end", Err(BadLine::OutOfPlace)),
+    ("out se 60", Err(BadLine::OutOfPlace)),
+    ("out top 60", Err(BadLine::OutOfPlace)),
     (
         "out sea 60",
         Ok(Item::Amount {
@@ -71,14 +85,14 @@ const LINES: &[(&str, Result<Item, BadLine>)] = &[
     ("river-result 1", Err(BadLine::OutOfPlace)),
 ];
 
-/// Two links, and two rights of which the junior stands at the spring.
+/// Two links, of which one's name begins the other's, and two rights of which the junior stands at the spring.
 const RIGHTS: &str = "\
     format = 1\nfirst_month = \"1900-01\"\nmonths = 1\n\
     [[node]]\nname = \"top\"\ninflow = 80\n\
     [[node]]\nname = \"mid\"\n\
     [[node]]\nname = \"mouth\"\noutlet = true\n\
     [[link]]\nname = \"a\"\nfrom = \"top\"\nto = \"mid\"\n\
-    [[link]]\nname = \"b\"\nfrom = \"mid\"\nto = \"mouth\"\n\
+    [[link]]\nname = \"ab\"\nfrom = \"mid\"\nto = \"mouth\"\n\
     [[diversion]]\nname = \"old\"\nnode = \"mid\"\ndate = \"1890-01-01\"\nwant = 60\n\
     [[diversion]]\nname = \"new\"\nnode = \"top\"\ndate = \"1920-01-01\"\nwant = 50\n";
 
@@ -103,7 +117,7 @@ const LINES_OF_RIGHTS: &[(&str, Result<Item, BadLine>)] = &[
     ("month 1900-02", Err(BadLine::OutOfPlace)),
     ("month 1900-01", Ok(Item::Month { month: JANUARY })),
     ("flow a 060", Err(BadLine::BadField)),
-    ("flow b 0", Err(BadLine::OutOfPlace)),
+    ("flow ab 0", Err(BadLine::OutOfPlace)),
     (
         "flow a 60",
         Ok(Item::Amount {
@@ -112,23 +126,56 @@ const LINES_OF_RIGHTS: &[(&str, Result<Item, BadLine>)] = &[
             amount: 60,
         }),
     ),
+    ("flow a 0", Err(BadLine::OutOfPlace)),
     (
-        "flow b 0",
+        "flow ab 1000000000000000",
         Ok(Item::Amount {
             quantity: Quantity::Flow,
             entry: 1,
-            amount: 0,
+            amount: 1_000_000_000_000_000,
         }),
     ),
     ("deliver new 20 50", Err(BadLine::OutOfPlace)),
+    ("deliver old 40", Err(BadLine::BadField)),
+    ("deliver old 40 60 60", Err(BadLine::BadField)),
+    ("deliver old 040 60", Err(BadLine::BadField)),
+    ("deliver old 40 060", Err(BadLine::BadField)),
+    ("deliver old 40  60", Err(BadLine::BadField)),
+    ("deliver old 40 1000000000000001", Err(BadLine::BadField)),
     (
-        "deliver old 60 60",
+        "deliver old 40 60",
         Ok(Item::Deliver {
             right: 0,
-            amount: 60,
+            amount: 40,
             want: 60,
         }),
     ),
+];
+
+/// Lines that its reader accepts, up to those of a set.
+const LINES_TO_SET: &[&str] = &[
+    "river-result 1",
+    "run 1900-01 1",
+    "month 1900-01",
+    "flow a 60",
+    "flow ab 60",
+    "deliver old 60 60",
+    "deliver new 20 50",
+    "out mouth 60",
+    "call new",
+];
+
+/// Bytes that the reader is given then, with the node whose line it takes from them. At first the likely node is `top`.
+const PIECES: &[(&str, Option<u32>)] = &[
+    ("", None),
+    ("in top", None),
+    ("in to\n", None),
+    ("in topx\n", None),
+    ("in top \n", None),
+    (" in top\n", None),
+    ("in mid\n", None),
+    ("in top\nin mid\n", Some(0)),
+    ("in top\n", None),
 ];
 
 /// Gives a reader a line, and compares its answer.
@@ -189,4 +236,41 @@ fn read_all<R: Abort>(
 fn accepts_what_may_come(rt: HostRuntime) -> Result<(), AllocError> {
     read_all(&rt, rt.alloc(), SPRING, LINES, (7, 0))?;
     read_all(&rt, rt.alloc(), RIGHTS, LINES_OF_RIGHTS, (20, 14))
+}
+
+/// Gives a reader some bytes, and compares the node whose line it takes from them.
+fn take_member<R: Abort>(rt: &R, reader: &mut ResultReader, piece: &str, node: Option<u32>) {
+    let taken = match reader.likely_member(piece.as_bytes()) {
+        Some(line) => Some(line.node),
+        None => None,
+    };
+    assert_eq!(rt; taken, node, "bytes {piece}");
+}
+
+/// Gives a new reader for a basin with a roll these lines, and then these bytes.
+fn take_members<R: Abort>(
+    rt: &R,
+    alloc: Global,
+    basin: &Basin,
+    roll: &Roll,
+) -> Result<(), AllocError>
+    requires basin { IsValidBasin basin.now }
+    requires roll { IsRollOf basin.now.rights roll.now }
+{
+    let mut reader = ResultReader::open(alloc, basin, roll)?;
+    for text in LINES_TO_SET {
+        assert!(rt; reader.line(text.as_bytes()).is_ok(), "line {text}");
+    }
+    for (piece, node) in PIECES {
+        take_member(rt, &mut reader, piece, *node);
+    }
+    Ok(())
+}
+
+#[test]
+fn takes_the_likely_members(rt: HostRuntime) -> Result<(), AllocError> {
+    let alloc = rt.alloc();
+    let basin = basin_of(alloc, RIGHTS)?;
+    let roll = Roll::of_basin(alloc, &basin)?;
+    take_members(&rt, alloc, &basin, &roll)
 }

@@ -1,7 +1,16 @@
-use Rattle.result_reader.proofs.MemberLines.{said_takes}
+use Rattle.result_reader.proofs.MemberLines.{IsMemberTaken, member_taken}
+use Rattle.std.proofs.Common.{◌-◌, length, take}
+use Rattle.result_reader.proofs.reading.member_line.Goals.{Then-begins_with}
 use Rattle.result_reader.proofs.reading.member_line.Goals as goal
 
-pub returns-then-is_member_line-clause-takes : goal.returns-then-is_member_line-clause-takes
-returns-then-is_member_line-clause-takes c =
-    said_takes c.requires c.in_ok-text.text.now c.args.piece.now
-    (c.is_member_line.ensures c.if-is_member_line.true) c.in_ok-text.ensures
+taken : (c : Then-begins_with) → IsMemberTaken c.args.names.now.basin.now c.args.node c.args.piece.now
+    (take (length c.in_ok-line.line.now - 1) c.args.piece.now)
+taken c =
+    member_taken c.args.names.now.basin.now c.requires c.args.node c.in_ok-line.ensures.within c.args.piece.now
+    c.in_ok-line.line.now c.in_ok-line.ensures.line (c.begins_with.ensures c.if-begins_with.true)
+
+pub returns-then-begins_with-clause-says : goal.returns-then-begins_with-clause-says
+returns-then-begins_with-clause-says c = (taken c).says
+
+pub returns-then-begins_with-clause-takes : goal.returns-then-begins_with-clause-takes
+returns-then-begins_with-clause-takes c = (taken c).takes
