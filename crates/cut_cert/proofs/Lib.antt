@@ -6,3 +6,4 @@ pub mod BoundParts
 pub mod Callers
 pub mod Claims
 pub mod Search
+pub mod Listed

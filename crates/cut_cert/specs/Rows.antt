@@ -1,6 +1,6 @@
 -- For each node the links and rights that bound a set which holds it, as chains of rising numbers, and what they add.
 use Rattle.std.specs.Prelude.{◌≡◌, ◌≢◌, ℕ, ◌+◌, ◌<◌, ◌≤◌, ◌&&◌, not, Bool, List, length, slice_index, slice_index_or}
-use Rattle.std.specs.Prelude.{Option, Some, None, is_some, if◌then◌else◌}
+use Rattle.std.specs.Prelude.{Option, Some, None, is_some, map, if◌then◌else◌}
 use Rattle.finite_sums.specs.Sums.{total_where, when}
 use Rattle.water_text.specs.declared.month.Month.{Month}
 use Rattle.water_model.specs.Basin.{is_at, is_on_link, is_senior, tail_of, head_of, taking_node}
@@ -8,6 +8,8 @@ use Rattle.water_model.specs.Cuts.{kept_on}
 use Rattle.water_model.specs.Lookups.{has}
 use Rattle.water_model.specs.Plans.{carry_of}
 use Rattle.water_model.specs.declared.types.Basin.{Basin}
+use Rattle.water_model.specs.Rights.{priority}
+use Rattle.rights_roll.specs.Priorities.{numbers_of}
 use Rattle.rights_roll.specs.RollView.{RollView}
 use Rattle.cut_cert.specs.declared.rows.Chains.{Chains}
 use Rattle.cut_cert.specs.declared.rows.NodeRows.{NodeRows}
@@ -53,12 +55,21 @@ begins_at b link = Some (tail_of b link)
 abbrev pub held_at : Basin → RollView → ℕ → Option ℕ
 held_at b roll link = if is_some (slice_index_or roll.first_on link None) then begins_at b link else None
 
+-- the tails of links, and the priorities of rights
+abbrev pub AreTails : Basin → NodeRows → Type 0
+AreTails b rows = rows.tails.items ≡ map (λ l. l.from) b.links
+
+abbrev pub ArePriorities : Basin → NodeRows → Type 0
+ArePriorities b rows = map numbers_of rows.priorities.items ≡ map priority b.rights
+
 -- the rows of a basin by node: the links that end at each node, those that begin there and have an instream right, and
--- the diversions and zones that take there
+-- the diversions and zones that take there; and the tails of links and the priorities of rights
 pub record AreNodeRows (b : Basin) (roll : RollView) (rows : NodeRows) : Type 0 where
   pub enter : AreAllChains (ends_at b) (length b.links) (length b.nodes) rows.enter
   pub held : AreAllChains (held_at b roll) (length b.links) (length b.nodes) rows.held
   pub takers : AreAllChains (taking_node b) (length b.rights) (length b.nodes) rows.takers
+  pub tails : AreTails b rows
+  pub priorities : ArePriorities b rows
 
 -- what a link brings in from outside a set
 abbrev pub carry_in : Basin → Month → List Bool → ℕ → ℕ

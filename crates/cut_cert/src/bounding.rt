@@ -4,17 +4,17 @@ ghost use Rattle.bit_words.specs.Marks.{words_for};
 ghost use Rattle.water_text.specs.Months.{IsMonth, days_of};
 ghost use Rattle.water_model.specs.Plans.{carry_of_kind};
 ghost use Rattle.water_model.specs.Cuts.{cut_capacity, cut_kept};
+ghost use Rattle.water_model.specs.Basin.{tail_of};
 ghost use Rattle.water_model.specs.Valid.{IsValidBasin, IsValidCarry};
 ghost use Rattle.rights_roll.specs.Rolls.{IsRollOf};
 ghost use Rattle.cut_cert.specs.Sets.{marked_nodes, AreAmounts};
 ghost use Rattle.cut_cert.specs.Rows.{AreNodeRows, BelongBy, IsSumOfRow, carry_in, kept_out, node_capacity, node_kept};
-ghost use Rattle.cut_cert.specs.Rows.{senior_take};
+ghost use Rattle.cut_cert.specs.Rows.{senior_take, ArePriorities};
 
 use crate::marked::is_in;
 use crate::rows::{Chains, NodeRows};
 use crate::{is_on_link, kept_on};
 use bit_words::next_marked_in_both;
-use rights_roll::priority::is_senior_to;
 use rights_roll::roll::Roll;
 use water_model::types::{Basin, Carry};
 use water_text::month::Month;
@@ -46,19 +46,19 @@ fn carry_in_days(carry: &Carry, month: Month, days: u64) -> u64
 }
 
 /// What a link brings in from outside the set.
-fn carry_in(basin: &Basin, month: Month, days: u64, words: &[u64], link: u32) -> u64
+fn carry_in(basin: &Basin, month: Month, days: u64, words: &[u64], link: u32, tail: u32) -> u64
     requires basin { IsValidBasin basin.now }
     requires month { IsMonth month }
     requires days { days ≡ days_of month }
     requires words { length words.now ≡ words_for (length basin.now.nodes) }
     requires link { link < length basin.now.links }
+    requires tail { tail ≡ tail_of basin.now link }
     ensures { result ≡ carry_in basin.now month (marked_nodes basin.now words.now) link }
 {
-    let entry = &basin.links[link as usize];
-    if is_in(words, entry.from) {
+    if is_in(words, tail) {
         0
     } else {
-        carry_in_days(&entry.carry, month, days)
+        carry_in_days(&basin.links[link as usize].carry, month, days)
     }
 }
 
@@ -87,13 +87,14 @@ fn kept_out(
 }
 
 /// What a right that is senior to another is delivered, or 0.
-fn senior_take(basin: &Basin, delivered: &[u64], right: u32, taker: u32) -> u64
+fn senior_take(basin: &Basin, rows: &NodeRows, delivered: &[u64], right: u32, taker: u32) -> u64
+    requires rows { ArePriorities basin.now rows.now }
     requires delivered { length delivered.now ≡ length basin.now.rights }
     requires right { right < length basin.now.rights }
     requires taker { taker < length basin.now.rights }
     ensures { result ≡ senior_take basin.now delivered.now right taker }
 {
-    if is_senior_to(basin, taker, right) {
+    if rows.is_senior(basin, taker, right) {
         delivered[taker as usize]
     } else {
         0
@@ -148,7 +149,7 @@ fn sides_at(
     let brought = sum_at(
         &rows.enter,
         node,
-        |link| carry_in(basin, month, days, words, link),
+        |link| carry_in(basin, month, days, words, link, rows.tail(basin, link)),
     );
     let kept = sum_at(
         &rows.held,
@@ -158,7 +159,7 @@ fn sides_at(
     let taken = sum_at(
         &rows.takers,
         node,
-        |taker| senior_take(basin, delivered, right, taker),
+        |taker| senior_take(basin, rows, delivered, right, taker),
     );
     let here = supply[node as usize];
     Sides {

@@ -13,4 +13,6 @@ returns c =
       enter = rw (c.len-nodes.ensures, c.len-links.ensures) at enter;
       held = rw (c.len-nodes.ensures, c.len-links.ensures) at held;
       takers = rw (c.len-nodes.ensures, c.len-rights.ensures) at takers;
+      tails = c.in_ok-tails.ensures;
+      priorities = c.in_ok-priorities.ensures;
     }
