@@ -25,7 +25,7 @@ use Rattle.cert_check.proofs.TextVerdicts.{prefix_refused, long_rest, short_rest
 
 -- The pieces of two texts, one after the other: the last of the first goes on in the first of the second.
 
-abbrev glued : List ℕ → List (List ℕ) → List (List ℕ)
+abbrev pub glued : List ℕ → List (List ℕ) → List (List ℕ)
 glued last [] = last ∷ []
 glued last (piece ∷ pieces) = (last ++ piece) ∷ pieces
 
@@ -34,10 +34,10 @@ joined [] others = others
 joined (piece ∷ []) others = glued piece others
 joined (piece ∷ next ∷ pieces) others = piece ∷ joined (next ∷ pieces) others
 
-some_pieces : (bytes : List ℕ) → 0 < length (pieces_of bytes)
+pub some_pieces : (bytes : List ℕ) → 0 < length (pieces_of bytes)
 some_pieces bytes = omega (arith, length-slice_split is_feed bytes)
 
-glued-nothing : (pieces : List (List ℕ)) → 0 < length pieces → pieces ≡ glued [] pieces
+pub glued-nothing : (pieces : List (List ℕ)) → 0 < length pieces → pieces ≡ glued [] pieces
 glued-nothing [] some = absurd (omega arith)
 glued-nothing (piece ∷ pieces) some = refl
 
@@ -73,7 +73,7 @@ joined-end (line ∷ []) last others = refl
 joined-end (line ∷ next ∷ lines) last others = ap (λ ps. line ∷ ps) (joined-end (next ∷ lines) last others)
 
 -- the pieces of a text with more bytes after it
-pieces_more : (text more : List ℕ) (lines : List (List ℕ)) (held : List ℕ) → pieces_of text ≡ lines ++ held ∷ [] →
+pub pieces_more : (text more : List ℕ) (lines : List (List ℕ)) (held : List ℕ) → pieces_of text ≡ lines ++ held ∷ [] →
     pieces_of (text ++ more) ≡ lines ++ glued held (pieces_of more)
 pieces_more text more lines held h =
     pieces_both text more ∙ (ap (λ ps. joined ps (pieces_of more)) h ∙ joined-end lines held (pieces_of more))

@@ -50,17 +50,17 @@ lines_left b (item ∷ items) s {after} h = by_step (step b s.must s.dues item) 
     by_step None e k further = cc
     by_step (Some ds) e k further = omega (arith, further ds k, step-fewer b s.must s.dues item ds e)
 
-pub bounded_lines : {b : Basin} {series : Inflows} {k : CheckProgress} {lines : List (List ℕ)} → IsValidBasin b →
-    IsProgressOf b series k lines → k.read + 1 < 2 ^ 64
-bounded_lines {b} {series} {k} valid s =
-    let stands : due_after b (all_due b) s.items ≡ Some k.reader.due =
-    subst (λ (c : Basin). due_after c (all_due c) s.items ≡ Some k.reader.due) s.basin s.reader in
-    let left = lines_left b s.items (all_due b) stands in
+pub bounded_items : {b : Basin} (r : reader.ReaderView) (items : List Item) → IsValidBasin b → r.basin ≡ b →
+    reader.ReaderStandsFor r items → length items + 1 < 2 ^ 64
+bounded_items {b} r items valid is reads =
+    let stands : due_after b (all_due b) items ≡ Some r.due =
+    subst (λ (c : Basin). due_after c (all_due c) items ≡ Some r.due) is reads in
+    let left = lines_left b items (all_due b) stands in
     let run = most_of_run b (length (due_in_month b)) b.months (length b.nodes) (length b.rights) refl refl refl refl in
     let fits =
     run_fits_more (length (due_in_month b)) b.months (length b.nodes) (length b.rights) (bounded_due b valid)
     valid.run.months.1 valid.bounded.nodes valid.bounded.rights in
-    omega (arith, left, run, fits, s.counts.read)
+    omega (arith, left, run, fits)
   where
     run_fits_more : (dues count nodes rights : ℕ) → dues ≤ 50000 → count ≤ 1200 → nodes ≤ 2000 → rights ≤ 2000 →
         count * (1 + dues + rights * nodes) + 3 + 1 < 2 ^ 64
@@ -69,6 +69,11 @@ bounded_lines {b} {series} {k} valid s =
         let month : 1 + dues + rights * nodes ≤ 1 + 50000 + 2000 * 2000 = omega arith in
         let all : count * (1 + dues + rights * nodes) ≤ 1200 * (1 + 50000 + 2000 * 2000) = mul-le-mul m month in
         omega arith
+
+pub bounded_lines : {b : Basin} {series : Inflows} {k : CheckProgress} {lines : List (List ℕ)} → IsValidBasin b →
+    IsProgressOf b series k lines → k.read + 1 < 2 ^ 64
+bounded_lines {b} {series} {k} valid s =
+    omega (arith, bounded_items k.reader s.items valid s.basin s.reader, s.counts.read)
 
 -- The verdict with one more line.
 

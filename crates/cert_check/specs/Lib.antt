@@ -15,3 +15,4 @@ pub mod Standing
 pub mod Taking
 pub mod Walks
 pub mod Whole
+pub mod SetLines

@@ -1,18 +1,20 @@
 //! A checker of result texts, line by line.
-ghost use Rattle.std.specs.Prelude.{ℕ, List, [], ◌≡◌, ◌+◌, ◌*◌, ◌^◌, ◌≤◌, ◌++◌, ◌∷◌, length, Some, None, Err, IfOk};
-ghost use Rattle.std.specs.Prelude.{IfErr, IfNone, IfSome, OnOk};
+ghost use Rattle.std.specs.Prelude.{ℕ, List, [], ◌≡◌, ◌+◌, ◌*◌, ◌^◌, ◌<◌, ◌≤◌, ◌++◌, ◌∷◌, length, Some, None, Err};
+ghost use Rattle.std.specs.Prelude.{IfOk, IfErr, IfNone, IfSome, OnOk};
 ghost use Rattle.result_reader.specs.ReadSoFar.{nothing_read};
 ghost use Rattle.cert_check.specs.Audit.{IsAuditAnswer};
 ghost use Rattle.cert_check.specs.Auditing.{IsAuditIfAny};
 ghost use Rattle.cert_check.specs.Checking.{verdict, verdict_from};
+ghost use Rattle.cert_check.specs.SetLines.{GivesSet};
 ghost use Rattle.cert_check.specs.Standing.{IsAnswer, IsAudit, IsLineAnswer, CheckerStandsFor, lines_left};
 ghost use Rattle.cert_check.specs.Whole.{pieces_of};
 ghost use Rattle.water_model.specs.Valid.{IsValidBasin, IsSeriesOf};
 ghost use Rattle.water_text.specs.LinesIn.{TakesToFeed};
 
 use crate::audit::{Audit, answer};
+use crate::last_set::LastSet;
 use crate::opening::{blank_state, last_outlet};
-use crate::progress::{CheckProgress, take_likely, take_line};
+use crate::progress::{CheckProgress, take_likely, take_likely_set, take_line};
 use crate::refuted::{Refuted, RefutedKind};
 use crate::state::Context;
 use cut_cert::rows::NodeRows;
@@ -68,6 +70,7 @@ impl<'b> Checker<'b> {
         let rows = NodeRows::of(alloc, basin, &roll)?;
         let tables = tables_of(alloc, basin)?;
         let state = blank_state(alloc, basin)?;
+        let last_set = LastSet::open(alloc, basin)?;
         let reader = ResultReader::open(alloc, basin, &roll)?;
         let context = Context {
             basin,
@@ -86,6 +89,7 @@ impl<'b> Checker<'b> {
                 last_other: 0,
                 ended: false,
                 audit,
+                last_set,
             },
             refused: None,
         })
@@ -178,6 +182,24 @@ impl<'b> Checker<'b> {
             Some(text) => Some(text),
             None => None,
         }
+    }
+
+    /// Takes the next lines as `line` does, one after another, as long as some bytes begin with them and they are the
+    /// `in` lines of the last set, and answers how many bytes they are. Else nothing changes.
+    #[inline(always)]
+    pub(crate) fn likely_set(&mut self, piece: &[u8]) -> Option<usize>
+        ensures gives { IfSome result (λ taken. GivesSet self.old self.new piece.now taken) }
+        ensures some { IfSome result (λ taken. 0 < taken) }
+        ensures good { IfSome result (λ taken. self.new.refused ≡ None) }
+        ensures none { IfNone result (self.new ≡ self.old) }
+        ensures basin { self.new.basin ≡ self.old.basin }
+        ensures series { self.new.series ≡ self.old.series }
+        ensures audit { IsAudit self.old → IsAudit self.new }
+    {
+        if self.refused.is_some() {
+            return None;
+        }
+        take_likely_set(&self.context, &mut self.progress, piece)
     }
 
     /// How many lines may still be accepted, at most: for each line that is due one, and for a `call` line one more for

@@ -67,6 +67,7 @@ pub fn blank_state(alloc: Global, basin: &Basin) -> Result<Box<CheckState>, Allo
             month: Box::into_inner(month),
             calling: None,
             has_supply: false,
+            tight: None,
             closes,
             has_closes: false,
             callers: [None; MAX_NODES],

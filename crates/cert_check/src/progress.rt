@@ -1,6 +1,7 @@
 //! What a checker keeps of lines that are good, and how it takes the next.
 ghost use Rattle.std.specs.Prelude.{ℕ, ◌≡◌, ◌+◌, ◌^◌, ◌<◌, ◌++◌, ◌∷◌, [], List, None, Ok, IfNone, IfSome, OnOk};
 ghost use Rattle.std.specs.Prelude.{is_some, length};
+ghost use Rattle.result_reader.specs.Members.{members};
 ghost use Rattle.result_reader.specs.ReadSoFar.{ReadSoFar, read_so_far};
 ghost use Rattle.result_lines.specs.OfBasin.{IsOfBasin};
 ghost use Rattle.result_lines.specs.declared.item.Item.{Item};
@@ -11,12 +12,14 @@ ghost use Rattle.cert_check.specs.Checking.{first_row, named_line};
 ghost use Rattle.cert_check.specs.Coming.{MayCome};
 ghost use Rattle.cert_check.specs.Keeping.{Keeps};
 ghost use Rattle.cert_check.specs.Context.{IsContext};
+ghost use Rattle.cert_check.specs.SetLines.{TakesSet};
 ghost use Rattle.cert_check.specs.Standing.{Counts, IsProgressOf};
 ghost use Rattle.cert_check.specs.Taking.{HasItems, HasLines, IsRead, TakesItem, TakesLine};
 
 use crate::audit::{Audit, audit_item};
 use crate::compare::{is_done, is_member};
-use crate::entering::{enter, enter_node};
+use crate::entering::{enter, enter_node, enter_nodes};
+use crate::last_set::LastSet;
 use crate::ready::make_ready;
 use crate::refusing::first_row;
 use crate::refuted::{Refuted, RefutedKind};
@@ -39,6 +42,8 @@ pub struct CheckProgress<'b> {
     pub ended: bool,
     /// What an audit keeps of the lines, if one was asked for.
     pub audit: Option<Audit>,
+    /// The nodes that most likely come next.
+    pub last_set: LastSet,
 }
 
 /// The number of the line that a row names: for a loose cut its `call` line, and else the next line.
@@ -67,6 +72,20 @@ fn count(progress: &mut CheckProgress, item: &Item)
     if is_done(item) {
         progress.ended = true;
     }
+    progress.last_set.note(item);
+}
+
+/// Counts the `in` lines of several nodes, which are those that most likely come next.
+fn count_members(progress: &mut CheckProgress, count: usize)
+    requires { progress.old.read + count < 2 ^ 64 }
+    ensures counts { (items : List Item) (nodes : List ℕ) → length nodes ≡ count → Counts progress.old items →
+        Counts progress.new (items ++ members nodes) }
+    ensures state { progress.new.state ≡ progress.old.state }
+    ensures reader { progress.new.reader ≡ progress.old.reader }
+    ensures audit { progress.new.audit ≡ progress.old.audit }
+{
+    progress.read += count as u64;
+    progress.last_set.pass(count);
 }
 
 /// Takes a good line into the audit, if one was asked for, before it is entered. It is inlined, so that where none was
@@ -202,4 +221,34 @@ pub fn take_likely<'a>(
         }
         None => None,
     }
+}
+
+/// Takes the next lines as `take_line` does, one after another, as long as some bytes begin with them and their line
+/// feeds, and they are the `in` lines of the last set from here on. Answers how many bytes they are. Where not even the
+/// first line is such a line, or an audit was asked for, nothing changes.
+#[inline(always)]
+pub fn take_likely_set(
+    context: &Context,
+    progress: &mut CheckProgress,
+    piece: &[u8],
+) -> Option<usize>
+    requires context { IsContext context.now }
+    requires lines { HasLines context.now.basin.now context.now.series.now progress.old }
+    ensures takes { IfSome result (λ taken.
+        TakesSet context.now.basin.now context.now.series.now progress.old progress.new piece.now taken) }
+    ensures some { IfSome result (λ taken. 0 < taken) }
+    ensures none { IfNone result (progress.new ≡ progress.old) }
+    ensures audited { is_some progress.new.audit ≡ is_some progress.old.audit }
+{
+    if progress.ended || progress.audit.is_some() {
+        return None;
+    }
+    let nodes = progress.last_set.rest();
+    let taken = progress.reader.likely_members(piece, nodes);
+    if taken.count == 0 {
+        return None;
+    }
+    enter_nodes(context, &mut *progress.state, &nodes[..taken.count]);
+    count_members(progress, taken.count);
+    Some(taken.bytes)
 }

@@ -7,3 +7,4 @@ pub mod Callers
 pub mod Claims
 pub mod Search
 pub mod Listed
+pub mod SameSets

@@ -1,3 +1,4 @@
 pub mod Sets
 pub mod Callers
 pub mod Rows
+pub mod SameSets

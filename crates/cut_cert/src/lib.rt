@@ -19,6 +19,7 @@ mod bounding;
 pub mod calls;
 mod marked;
 pub mod rows;
+pub mod same_set;
 
 use crate::bounding::sides_of;
 use crate::marked::words_of;

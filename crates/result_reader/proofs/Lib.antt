@@ -10,7 +10,9 @@ pub mod Sayings
 pub mod StandingLaws
 pub mod LinesLeft
 pub mod Spelled
-mod MemberLines
+mod MemberTexts
+mod MemberBlocks
+mod MembersTaken
 mod DueLines
 mod NodeTexts
 pub mod Accepting

@@ -9,3 +9,4 @@ pub mod ReadSoFar
 pub mod Records
 pub mod Laws
 pub mod NodeLines
+pub mod Members

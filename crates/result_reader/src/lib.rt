@@ -12,6 +12,7 @@ mod dues;
 mod fields;
 pub mod laws;
 mod likely;
+mod member_block;
 mod names;
 mod node_lines;
 mod position;
@@ -22,5 +23,5 @@ mod shape;
 mod words;
 
 pub use bad_line::BadLine;
-pub use reader::{MemberLine, ResultReader};
+pub use reader::{MemberLine, MemberLines, ResultReader};
 pub use result_lines::item::Item;

@@ -1,6 +1,6 @@
 //! The reader of a result text.
-ghost use Rattle.std.specs.Prelude.{◌≡◌, ◌+◌, ◌*◌, ◌^◌, ◌≤◌, ◌++◌, ◌∷◌, [], List, length, IfOk, IfSome, IfNone, Ok};
-ghost use Rattle.std.specs.Prelude.{OnOk, OnErr};
+ghost use Rattle.std.specs.Prelude.{◌≡◌, ◌+◌, ◌*◌, ◌^◌, ◌<◌, ◌≤◌, ◌++◌, ◌∷◌, [], List, length, take, All, IfOk};
+ghost use Rattle.std.specs.Prelude.{IfSome, IfNone, OnOk, OnErr, Ok};
 ghost use Rattle.rights_roll.specs.Rolls.{IsRollOf};
 ghost use Rattle.result_lines.specs.Spelling.{line_of};
 ghost use Rattle.water_model.specs.Valid.{IsValidBasin};
@@ -8,6 +8,7 @@ ghost use Rattle.result_lines.specs.declared.item.Item.{Item};
 ghost use Rattle.result_lines.specs.declared.item.Item.TheVariants as line;
 ghost use Rattle.water_text.specs.LinesIn.{TakesToFeed};
 ghost use Rattle.result_reader.specs.Form.{due, due_in_month};
+ghost use Rattle.result_reader.specs.Members.{AreRead, TakesLines, member_lines, members};
 ghost use Rattle.result_reader.specs.OfText.{IsOfText};
 ghost use Rattle.result_reader.specs.Reading.{item_of, read_line};
 ghost use Rattle.result_reader.specs.Standing.{ReaderStandsFor, max_lines};
@@ -16,6 +17,7 @@ use crate::bad_line::BadLine;
 use crate::due_lines::due_line;
 use crate::dues::dues_of;
 use crate::likely::{Likely, due_shape, follow, likely_entry, likely_member};
+use crate::member_block::members_at;
 use crate::names::Names;
 use crate::position::Position;
 use crate::progress::{Progress, next_member, next_progress};
@@ -32,6 +34,14 @@ use water_model::types::Basin;
 pub struct MemberLine<'a> {
     pub node: u32,
     pub text: &'a [u8],
+}
+
+/// The `in` lines of several nodes that some bytes begin with: how many they are, and how many bytes with their line
+/// feeds.
+#[derive(Clone, Copy)]
+pub struct MemberLines {
+    pub count: usize,
+    pub bytes: usize,
 }
 
 /// Reads the lines of a result text of one basin in order, and accepts those that may come.
@@ -188,6 +198,43 @@ impl<'b> ResultReader<'b> {
                 Some(MemberLine { node, text })
             }
             None => None,
+        }
+    }
+
+    /// Takes the next lines as `line` does, one after another, as long as some bytes begin with them and their line
+    /// feeds, and they are the `in` lines of these nodes in their order. The list may be of any numbers: it ends where
+    /// one isn't above that before it. Where not even the first line is such a line, nothing changes.
+    ///
+    /// Most lines of a text are those of a set that came before. They are only compared, and the reader goes on once,
+    /// after the last of them.
+    #[inline(always)]
+    pub fn likely_members(&mut self, piece: &[u8], nodes: &[u32]) -> MemberLines
+        ensures within { result.count ≤ length nodes.now }
+        ensures takes { TakesLines (member_lines self.old.basin (take result.count nodes.now)) piece.now result.bytes }
+        ensures of_basin { All (λ n. n < length self.old.basin.nodes) (take result.count nodes.now) }
+        ensures answer { (items : List Item) → ReaderStandsFor self.old items →
+            AreRead self.old.basin items (take result.count nodes.now) }
+        ensures accepted { (items : List Item) → ReaderStandsFor self.old items →
+            ReaderStandsFor self.new (items ++ members (take result.count nodes.now)) }
+        ensures none { result.count ≡ 0 → self.new ≡ self.old }
+        ensures basin { self.new.basin ≡ self.old.basin }
+        ensures left { self.new.left + result.count ≡ self.old.left }
+    {
+        let Some(first) = self.progress.next_member else {
+            return MemberLines { count: 0, bytes: 0 };
+        };
+        let block = members_at(&self.names, first, nodes, piece);
+        if block.count > 0 {
+            self.progress = Progress {
+                position: self.progress.position,
+                next_member: Some(block.next),
+                must: false,
+            };
+            self.left -= block.count as u64;
+        }
+        MemberLines {
+            count: block.count,
+            bytes: block.bytes,
         }
     }
 

@@ -209,7 +209,7 @@ pub fn is_member_line(names: &Names, node: u32, text: &[u8]) -> bool
 }
 
 /// Whether bytes begin with a line.
-fn begins_with(piece: &[u8], line: &[u8]) -> bool
+pub fn begins_with(piece: &[u8], line: &[u8]) -> bool
     ensures { result ≡ true → piece.now ≡ line.now ++ drop (length line.now) piece.now }
 {
     line.len() <= piece.len() && &piece[..line.len()] == line

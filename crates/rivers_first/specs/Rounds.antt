@@ -1,5 +1,6 @@
 -- Rounds: closed walks of the residual network that take water off a canal, and give it to rivers.
-use Rattle.std.specs.Prelude.{◌≡◌, ◌≢◌, ◌⊎◌, ℕ, ◌+◌, ◌<◌, ◌≤◌, ◌^◌, true, false, All, List, length, map, slice_index, None}
+use Rattle.std.specs.Prelude.{◌≡◌, ◌≢◌, ◌⊎◌, ℕ, ◌+◌, ◌<◌, ◌≤◌, ◌^◌, true, false, None, All, List, length, map}
+use Rattle.std.specs.Prelude.{slice_index}
 use Rattle.water_model.specs.Basin.{tail_of, head_of, is_river, instream_link}
 use Rattle.water_model.specs.declared.types.Basin.{Basin}
 use Rattle.rivers_first.specs.declared.instream.InstreamSpan.{InstreamSpan}

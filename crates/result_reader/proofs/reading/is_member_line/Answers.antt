@@ -1,5 +1,5 @@
 use Rattle.std.proofs.Common.{arith}
-use Rattle.result_reader.proofs.MemberLines.{member_said}
+use Rattle.result_reader.proofs.MemberTexts.{member_said}
 use Rattle.result_reader.proofs.reading.is_member_line.Goals as goal
 
 pub returns-in-Some : goal.returns-in-Some

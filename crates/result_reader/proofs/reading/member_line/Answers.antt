@@ -1,4 +1,4 @@
-use Rattle.result_reader.proofs.MemberLines.{IsMemberTaken, member_taken}
+use Rattle.result_reader.proofs.MemberTexts.{IsMemberTaken, member_taken}
 use Rattle.std.proofs.Common.{◌-◌, length, take}
 use Rattle.result_reader.proofs.reading.member_line.Goals.{Then-begins_with}
 use Rattle.result_reader.proofs.reading.member_line.Goals as goal

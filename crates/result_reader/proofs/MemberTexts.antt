@@ -16,7 +16,7 @@ use Rattle.result_reader.specs.Reading.{item_of}
 use Rattle.result_reader.proofs.Sayings.{item_is_said}
 use Rattle.result_reader.proofs.Spelled.{item-line, line_lacks_feed}
 
-spelled : (b : Basin) (node : ℕ) → codes "in " ++ name_in space.Nodes b node ≡ line_of b (line.Member node)
+pub spelled : (b : Basin) (node : ℕ) → codes "in " ++ name_in space.Nodes b node ≡ line_of b (line.Member node)
 unfolding line_of fields_of
 spelled b node = refl
 
