@@ -6,6 +6,7 @@ use Rattle.water_model.specs.Network.{tail_in}
 use Rattle.water_model.specs.Rights.{priority, priority_in}
 use Rattle.water_model.specs.declared.types.Link.{Link}
 use Rattle.water_model.specs.declared.types.Right.{Right}
+use Rattle.rights_roll.proofs.SameSeniority.{priority_in-is}
 use Rattle.rights_roll.specs.Priorities.{numbers_of}
 use Rattle.rights_roll.specs.declared.priority.Priority.{Priority}
 
@@ -15,13 +16,6 @@ pub tails_are : (links : List Link) (e d : ℕ) → e < length links →
 tails_are [] e d l = absurd (omega arith)
 tails_are (x ∷ links) zero d l = refl
 tails_are (x ∷ links) (suc e) d l = tails_are links e d (omega arith)
-
--- the list of priorities, index by index
-priorities_are : (rights : List Right) (r : ℕ) → r < length rights →
-    get_or (map priority rights) r [] ≡ priority_in rights r
-priorities_are [] r l = absurd (omega arith)
-priorities_are (x ∷ rights) zero l = refl
-priorities_are (x ∷ rights) (suc r) l = priorities_are rights r (omega arith)
 
 -- what is listed of a right is its priority
 pub listed_is : (ps : List Priority) (rights : List Right) (r : ℕ) (p : Priority) →
@@ -33,4 +27,4 @@ listed_is ps rights r p same l at =
     ap numbers_of at
     ∙ sym (get_or-map numbers_of ps r p [] within)
     ∙ ap (λ (xs : List (List ℕ)). get_or xs r []) same
-    ∙ priorities_are rights r l
+    ∙ sym (priority_in-is rights r)

@@ -1,6 +1,7 @@
 //! Copies of records and series.
 ghost use Rattle.std.specs.Prelude.{◌≡◌, IfOk};
 
+use crate::cut_list::CutList;
 use crate::rows::Rows;
 use crate::types::{Inflows, MonthRecord, Plan};
 use std::alloc::{AllocError, Global};
@@ -50,35 +51,92 @@ impl Inflows {
     }
 }
 
+/// Two equal lists.
+fn two_copies(
+    alloc: Global,
+    first: &Rows<u64>,
+    second: &Rows<u64>,
+) -> Result<(Rows<u64>, Rows<u64>), AllocError>
+    ensures first { IfOk result (λ lists. lists.0 ≡ first.now) }
+    ensures second { IfOk result (λ lists. lists.1 ≡ second.now) }
+{
+    let one = first.copy(alloc)?;
+    let other = second.copy(alloc)?;
+    Ok((one, other))
+}
+
+/// An equal plan and equal sets.
+fn plan_and_cuts(
+    alloc: Global,
+    plan: &Plan,
+    cuts: &CutList,
+) -> Result<(Plan, CutList), AllocError>
+    ensures plan { IfOk result (λ copied. copied.0 ≡ plan.now) }
+    ensures cuts { IfOk result (λ copied. copied.1 ≡ cuts.now) }
+{
+    let one = plan.copy(alloc)?;
+    let other = cuts.copy(alloc)?;
+    Ok((one, other))
+}
+
+/// A record with other lists: by reservoir, by right, by node, and the plan and the sets.
+fn with_lists(
+    record: &MonthRecord,
+    by_reservoir: (Rows<u64>, Rows<u64>, Rows<u64>),
+    by_right: (Rows<u64>, Rows<u64>, Rows<u64>),
+    by_node: (Rows<u64>, Rows<u64>),
+    planned: (Plan, CutList),
+) -> MonthRecord
+    ensures { result ≡ record record.now {
+      opening = by_reservoir.0;
+      evaporated = by_reservoir.1;
+      closing = by_reservoir.2;
+      used = by_right.0;
+      want = by_right.1;
+      delivered = by_right.2;
+      returned = by_node.0;
+      supply = by_node.1;
+      plan = planned.0;
+      cuts = planned.1;
+    } }
+{
+    let (opening, evaporated, closing) = by_reservoir;
+    let (used, want, delivered) = by_right;
+    let (returned, supply) = by_node;
+    let (plan, cuts) = planned;
+    MonthRecord {
+        index: record.index,
+        month: record.month,
+        opening,
+        evaporated,
+        returned,
+        used,
+        supply,
+        want,
+        plan,
+        delivered,
+        cuts,
+        closing,
+    }
+}
+
+/// An equal record, which is not in a box.
+fn copy_of(alloc: Global, record: &MonthRecord) -> Result<MonthRecord, AllocError>
+    ensures { IfOk result (λ copied. copied ≡ record.now) }
+{
+    let by_reservoir = three_copies(alloc, &record.opening, &record.evaporated, &record.closing)?;
+    let by_right = three_copies(alloc, &record.used, &record.want, &record.delivered)?;
+    let by_node = two_copies(alloc, &record.returned, &record.supply)?;
+    let planned = plan_and_cuts(alloc, &record.plan, &record.cuts)?;
+    Ok(with_lists(record, by_reservoir, by_right, by_node, planned))
+}
+
 impl MonthRecord {
     /// An equal record. AllocError comes where memory is lacking.
     pub fn copy(&self, alloc: Global) -> Result<Box<MonthRecord>, AllocError>
         ensures { IfOk result (λ copied. copied.value ≡ self.now) }
     {
-        let plan = self.plan.copy(alloc)?;
-        let cuts = self.cuts.copy(alloc)?;
-        let by_reservoir = three_copies(alloc, &self.opening, &self.evaporated, &self.closing)?;
-        let by_right = three_copies(alloc, &self.used, &self.want, &self.delivered)?;
-        let returned = self.returned.copy(alloc)?;
-        let supply = self.supply.copy(alloc)?;
-        let (opening, evaporated, closing) = by_reservoir;
-        let (used, want, delivered) = by_right;
-        Ok(Box::new(
-            alloc,
-            MonthRecord {
-                index: self.index,
-                month: self.month,
-                opening,
-                evaporated,
-                returned,
-                used,
-                supply,
-                want,
-                plan,
-                delivered,
-                cuts,
-                closing,
-            },
-        )?)
+        let copied = copy_of(alloc, self)?;
+        Ok(Box::new(alloc, copied)?)
     }
 }
