@@ -1,11 +1,7 @@
-//! The tests of basins that are made, and of texts, reports and edges of the program, a file for each.
+//! The tests of basins that are made, and of their reports, a file for each.
 #![tactic(auto)]
 
 #[cfg(test)]
-mod edges;
-#[cfg(test)]
 mod reported;
-#[cfg(test)]
-mod texts;
 #[cfg(test)]
 mod trials;

@@ -9,8 +9,6 @@ mod memory;
 mod shelf;
 mod sink;
 mod stream;
-#[cfg(test)]
-mod tests;
 mod watched;
 
 pub use file::FileShelf;

@@ -174,28 +174,37 @@ fn memory_takes(rt: HostRuntime) -> Result<(), AllocError> {
     Ok(())
 }
 
-/// Of its own file a watched shelf counts each call, and of others none.
-#[test]
-fn watched_shelf_counts_the_calls_for_its_file(rt: HostRuntime) -> Result<(), AllocError> {
-    let alloc = rt.alloc();
+/// A shelf of two files, which watches the first.
+fn watched(alloc: Global) -> Result<WatchedShelf<MemoryShelf>, AllocError> {
     let mut held = Vec::new(alloc);
     held.push(file(alloc, "one", "ab")?)?;
     held.push(file(alloc, "other", "cd")?)?;
     let shelf = MemoryShelf::new(held, Vec::new(alloc));
-    let mut shelf = WatchedShelf::new(shelf, String::from_str(alloc, "one")?);
+    Ok(WatchedShelf::new(shelf, String::from_str(alloc, "one")?))
+}
+
+/// Whether a whole file is answered so, and this many calls are counted then.
+fn is_whole(
+    shelf: &mut WatchedShelf<MemoryShelf>,
+    alloc: Global,
+    name: &str,
+    most: u64,
+    want: Result<&[u8], ShelfRefused>,
+    asked: u64,
+) -> bool {
+    is_answer(shelf.read_whole(alloc, name, most), want) && shelf.asked() == asked
+}
+
+/// Of its own file a watched shelf counts each call, and of others none.
+#[test]
+fn watched_shelf_counts_the_calls_for_its_file(rt: HostRuntime) -> Result<(), AllocError> {
+    let alloc = rt.alloc();
+    let mut shelf = watched(alloc)?;
     let mut part = [0u8; 2];
-    assert!(rt; is_answer(shelf.read_whole(alloc, "other", 2), Ok(b"cd")));
-    assert_eq!(rt; shelf.asked(), 0);
-    assert!(rt; is_answer(shelf.read_whole(alloc, "one", 2), Ok(b"ab")));
-    assert_eq!(rt; shelf.asked(), 1);
+    assert!(rt; is_whole(&mut shelf, alloc, "other", 2, Ok(b"cd"), 0));
+    assert!(rt; is_whole(&mut shelf, alloc, "one", 2, Ok(b"ab"), 1));
     assert_eq!(rt; shelf.read_part("one", 1, &mut part), Ok(1));
     assert_eq!(rt; shelf.read_part("other", 0, &mut part), Ok(2));
-    assert!(rt;
-        is_answer(
-            shelf.read_whole(alloc, "one", 1),
-            Err(ShelfRefused::TooLong)
-        )
-    );
-    assert_eq!(rt; shelf.asked(), 3);
+    assert!(rt; is_whole(&mut shelf, alloc, "one", 1, Err(ShelfRefused::TooLong), 3));
     Ok(())
 }

@@ -1,10 +1,12 @@
 //! What no clause says: which parts of real files and of a pipe are read, when a sink over a writer writes, and what
 //! each call answers where nothing fails.
-use crate::{FileShelf, MemoryShelf, MemorySink, Shelf, ShelfRefused, Sink, SinkFailed, StdSink};
 use std::alloc::{AllocError, Global};
 use std::io::{PipeReader, Write};
 use std::os::fd::AsRawFd;
 use std::{fs, io};
+use water_edge::{
+    FileShelf, MemoryShelf, MemorySink, Shelf, ShelfRefused, Sink, SinkFailed, StdSink,
+};
 
 /// Whether a read of a part into the first `room` of seven bytes answers `want`, and leaves the seven as `after`.
 fn is_part<S: Shelf>(
