@@ -1,18 +1,24 @@
 //! What commands do after their files: they solve the months of a basin and write what was found, or check a result.
-ghost use Rattle.std.specs.Prelude.{◌≡◌, ◌+◌, ◌*◌, ◌≤◌, ◌++◌, [], codes, length, IfOk};
+ghost use Rattle.std.specs.Prelude.{◌≡◌, ◌+◌, ◌*◌, ◌≤◌, ◌++◌, [], List, codes, length, IfOk};
 ghost use Rattle.std.specs.Fmt.{decimal};
 ghost use Rattle.basin_gen.specs.Generator.{generated};
+ghost use Rattle.call_list.specs.Finders.{IsFinderOf};
 ghost use Rattle.cert_check.specs.KindNames.{kind_name};
 ghost use Rattle.cert_check.specs.Standing.{IsAnswer};
 ghost use Rattle.cert_check.specs.Whole.{text_verdict};
 ghost use Rattle.index_seq.specs.Traces.{HasWholeYears, years_of};
+ghost use Rattle.reports.specs.Ends.{IsRun};
+ghost use Rattle.reports.specs.Reports.{report_text, trial_text};
 ghost use Rattle.water_edge.specs.Edge.{Rose};
 ghost use Rattle.water_model.specs.Valid.{IsValidBasin, IsSeriesOf};
+ghost use Rattle.water_model.specs.declared.types.MonthRecord.{MonthRecord};
 ghost use Rattle.basin_cli.specs.Actions.{LeavesText, LeavesTraces};
 ghost use Rattle.basin_cli.specs.Answer.{answered, ending_of, yes_word, EndsAnswer};
 ghost use Rattle.basin_cli.specs.Ending.{status_of};
+ghost use Rattle.basin_cli.specs.Listed.{LeavesList};
 ghost use Rattle.basin_cli.specs.Out.{IsRefusal, Leaves, MayWrite};
 ghost use Rattle.basin_cli.specs.Outcome.{HasTrialCause, IsQuiet, WritesTrial};
+ghost use Rattle.basin_cli.specs.Written.{LeavesRun};
 ghost use Rattle.month_fold.specs.Works.{Solves, SolvesRun};
 
 use crate::checking::Question;
@@ -41,6 +47,126 @@ pub enum RunText {
     Report,
 }
 
+/// Solves the months of a basin with a series and puts the result, each month's lines as soon as it is solved. Memory is
+/// taken before the first byte is put.
+fn put_result<K: Sink, P: Ledger, M: Ledger>(
+    alloc: Global,
+    basin: &Basin,
+    series: &Inflows,
+    out: &mut K,
+    work: &mut Work<P, M>,
+) -> Ending
+    requires basin { IsValidBasin basin.now }
+    requires series { IsSeriesOf basin.now series.now }
+    ensures ends { HasTrialCause result (Rose (K.faults out.old) (K.faults out.new)) }
+    ensures leaves { MayWrite (status_of result) → LeavesRun basin.now series.now (status_of result)
+        (K.output out.old) (K.output out.new) work.old work.new }
+    ensures out_stays { (MayWrite (status_of result) → ⊥) → out.new ≡ out.old }
+    ensures idle { (MayWrite (status_of result) → ⊥) → work.new ≡ work.old }
+    ensures work { SolvesRun basin.now work.old work.new }
+    ensures flushed { IsQuiet (status_of result) → (K.output out.new).flushed ≡ (K.output out.new).taken }
+{
+    let mut run = match Run::open(alloc, basin, series) {
+        Ok(run) => run,
+        Err(_) => return Ending::OutOfMemory,
+    };
+    let written = write_run(out, &mut run, work);
+    drop(run);
+    match written {
+        Ok(()) => Ending::Done,
+        Err(_) => Ending::WriteFault,
+    }
+}
+
+/// Solves the months of a basin with a series and puts the list of their calls, each month's lines as soon as it is
+/// solved. The memory of the run is taken before the first byte is put.
+fn put_found_calls<K: Sink, P: Ledger, M: Ledger>(
+    alloc: Global,
+    finder: &mut CallFinder,
+    basin: &Basin,
+    series: &Inflows,
+    out: &mut K,
+    work: &mut Work<P, M>,
+) -> Ending
+    requires basin { IsValidBasin basin.now }
+    requires series { IsSeriesOf basin.now series.now }
+    requires finder { IsFinderOf basin.now finder.old }
+    ensures ends { HasTrialCause result (Rose (K.faults out.old) (K.faults out.new)) }
+    ensures leaves { MayWrite (status_of result) → LeavesList basin.now series.now (status_of result)
+        (K.output out.old) (K.output out.new) work.old work.new }
+    ensures out_stays { (MayWrite (status_of result) → ⊥) → out.new ≡ out.old }
+    ensures idle { (MayWrite (status_of result) → ⊥) → work.new ≡ work.old }
+    ensures work { SolvesRun basin.now work.old work.new }
+    ensures flushed { IsQuiet (status_of result) → (K.output out.new).flushed ≡ (K.output out.new).taken }
+{
+    let mut run = match Run::open(alloc, basin, series) {
+        Ok(run) => run,
+        Err(_) => return Ending::OutOfMemory,
+    };
+    let listed = list_run(out, finder, &mut run, work);
+    drop(run);
+    match listed {
+        Ok(()) => Ending::Done,
+        Err(_) => Ending::WriteFault,
+    }
+}
+
+/// Solves the months of a basin with a series and puts the list of their calls, each month's lines as soon as it is
+/// solved. Memory is taken before the first byte is put.
+fn put_calls<K: Sink, P: Ledger, M: Ledger>(
+    alloc: Global,
+    basin: &Basin,
+    series: &Inflows,
+    out: &mut K,
+    work: &mut Work<P, M>,
+) -> Ending
+    requires basin { IsValidBasin basin.now }
+    requires series { IsSeriesOf basin.now series.now }
+    ensures ends { HasTrialCause result (Rose (K.faults out.old) (K.faults out.new)) }
+    ensures leaves { MayWrite (status_of result) → LeavesList basin.now series.now (status_of result)
+        (K.output out.old) (K.output out.new) work.old work.new }
+    ensures out_stays { (MayWrite (status_of result) → ⊥) → out.new ≡ out.old }
+    ensures idle { (MayWrite (status_of result) → ⊥) → work.new ≡ work.old }
+    ensures work { SolvesRun basin.now work.old work.new }
+    ensures flushed { IsQuiet (status_of result) → (K.output out.new).flushed ≡ (K.output out.new).taken }
+{
+    let mut finder = match CallFinder::open(alloc, basin) {
+        Ok(finder) => finder,
+        Err(_) => return Ending::OutOfMemory,
+    };
+    let ending = put_found_calls(alloc, &mut finder, basin, series, out, work);
+    drop(finder);
+    ending
+}
+
+/// Solves the months of a basin with a series and puts a report on them. Memory is taken before the first byte is put.
+fn put_report<K: Sink, P: Ledger, M: Ledger>(
+    alloc: Global,
+    basin: &Basin,
+    series: &Inflows,
+    out: &mut K,
+    work: &mut Work<P, M>,
+) -> Ending
+    requires basin { IsValidBasin basin.now }
+    requires series { IsSeriesOf basin.now series.now }
+    ensures ends { HasTrialCause result (Rose (K.faults out.old) (K.faults out.new)) }
+    ensures leaves { MayWrite (status_of result) → (records : List MonthRecord) × IsRun basin.now series.now records
+        × Leaves (status_of result) (report_text basin.now series.now records) (K.output out.old) (K.output out.new) }
+    ensures out_stays { (MayWrite (status_of result) → ⊥) → out.new ≡ out.old }
+    ensures idle { (MayWrite (status_of result) → ⊥) → work.new ≡ work.old }
+    ensures work { SolvesRun basin.now work.old work.new }
+    ensures flushed { IsQuiet (status_of result) → (K.output out.new).flushed ≡ (K.output out.new).taken }
+{
+    match period_report(alloc, basin, series, out, work) {
+        Ok(()) => match out.flush() {
+            Ok(()) => Ending::Done,
+            Err(_) => Ending::WriteFault,
+        },
+        Err(ReportStop::SinkFailed) => Ending::WriteFault,
+        Err(ReportStop::OutOfMemory) => Ending::OutOfMemory,
+    }
+}
+
 /// Solves the months of a basin with a series and puts a text of them, of a result and of a list of calls each month's
 /// lines as soon as it is solved. Memory is taken before the first byte is put.
 pub fn put_run_text<K: Sink, P: Ledger, M: Ledger>(
@@ -62,38 +188,9 @@ pub fn put_run_text<K: Sink, P: Ledger, M: Ledger>(
     ensures flushed { IsQuiet (status_of result) → (K.output out.new).flushed ≡ (K.output out.new).taken }
 {
     match text {
-        RunText::Result => {
-            let mut run = match Run::open(alloc, basin, series) {
-                Ok(run) => run,
-                Err(_) => return Ending::OutOfMemory,
-            };
-            match write_run(out, &mut run, work) {
-                Ok(()) => Ending::Done,
-                Err(_) => Ending::WriteFault,
-            }
-        }
-        RunText::Calls => {
-            let mut finder = match CallFinder::open(alloc, basin) {
-                Ok(finder) => finder,
-                Err(_) => return Ending::OutOfMemory,
-            };
-            let mut run = match Run::open(alloc, basin, series) {
-                Ok(run) => run,
-                Err(_) => return Ending::OutOfMemory,
-            };
-            match list_run(out, &mut finder, &mut run, work) {
-                Ok(()) => Ending::Done,
-                Err(_) => Ending::WriteFault,
-            }
-        }
-        RunText::Report => match period_report(alloc, basin, series, out, work) {
-            Ok(()) => match out.flush() {
-                Ok(()) => Ending::Done,
-                Err(_) => Ending::WriteFault,
-            },
-            Err(ReportStop::SinkFailed) => Ending::WriteFault,
-            Err(ReportStop::OutOfMemory) => Ending::OutOfMemory,
-        },
+        RunText::Result => put_result(alloc, basin, series, out, work),
+        RunText::Calls => put_calls(alloc, basin, series, out, work),
+        RunText::Report => put_report(alloc, basin, series, out, work),
     }
 }
 
@@ -125,6 +222,37 @@ pub fn ensemble_basin<K: Sink, P: Ledger, M: Ledger>(
     }
 }
 
+/// Solves the months of the basin that was made of a number and a size, and puts a summary of them.
+fn put_trial<K: Sink, P: Ledger, M: Ledger>(
+    alloc: Global,
+    number: u32,
+    size: u32,
+    basin: &Basin,
+    series: &Inflows,
+    out: &mut K,
+    work: &mut Work<P, M>,
+) -> Ending
+    requires basin { IsValidBasin basin.now }
+    requires series { IsSeriesOf basin.now series.now }
+    ensures ends { HasTrialCause result (Rose (K.faults out.old) (K.faults out.new)) }
+    ensures leaves { MayWrite (status_of result) → (records : List MonthRecord) × IsRun basin.now series.now records
+        × Leaves (status_of result) (trial_text number size basin.now series.now records)
+        (K.output out.old) (K.output out.new) }
+    ensures out_stays { (MayWrite (status_of result) → ⊥) → out.new ≡ out.old }
+    ensures idle { (MayWrite (status_of result) → ⊥) → work.new ≡ work.old }
+    ensures work { SolvesRun basin.now work.old work.new }
+    ensures flushed { IsQuiet (status_of result) → (K.output out.new).flushed ≡ (K.output out.new).taken }
+{
+    match trial_report(alloc, number, size, basin, series, out, work) {
+        Ok(()) => match out.flush() {
+            Ok(()) => Ending::Done,
+            Err(_) => Ending::WriteFault,
+        },
+        Err(ReportStop::SinkFailed) => Ending::WriteFault,
+        Err(ReportStop::OutOfMemory) => Ending::OutOfMemory,
+    }
+}
+
 /// Makes the basin of a number and a size, solves its months and puts a summary of them.
 pub fn trial_basin<K: Sink, P: Ledger, M: Ledger>(
     alloc: Global,
@@ -147,14 +275,10 @@ pub fn trial_basin<K: Sink, P: Ledger, M: Ledger>(
         Ok(made) => made,
         Err(_) => return Ending::OutOfMemory,
     };
-    match trial_report(alloc, number, size, &basin, &series, out, work) {
-        Ok(()) => match out.flush() {
-            Ok(()) => Ending::Done,
-            Err(_) => Ending::WriteFault,
-        },
-        Err(ReportStop::SinkFailed) => Ending::WriteFault,
-        Err(ReportStop::OutOfMemory) => Ending::OutOfMemory,
-    }
+    let ending = put_trial(alloc, number, size, &basin, &series, out, work);
+    drop(basin);
+    drop(series);
+    ending
 }
 
 /// The word of a yes.
@@ -245,5 +369,7 @@ pub fn answer_of(
     ensures { IfOk result (λ answer. IsAnswer basin.now answer (text_verdict basin.now series.now text.now)) }
 {
     let mut checker = Checker::open(alloc, basin, series)?;
-    Ok(check_text(&mut checker, text))
+    let answer = check_text(&mut checker, text);
+    drop(checker);
+    Ok(answer)
 }

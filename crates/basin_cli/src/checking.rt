@@ -132,7 +132,9 @@ pub fn check_file<S: Shelf, K: Sink>(
         Ok(checker) => checker,
         Err(_) => return Ending::OutOfMemory,
     };
-    match answer_parts(question, shelf, name, &mut checker) {
+    let answered = answer_parts(question, shelf, name, &mut checker);
+    drop(checker);
+    match answered {
         Ok(answer) => print_answer(question, &answer, out),
         Err(ending) => ending,
     }

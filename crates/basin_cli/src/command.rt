@@ -1,5 +1,5 @@
 //! The words of the command line.
-ghost use Rattle.std.specs.Prelude.{◌≡◌, option_map, map, string_bytes, IfSome};
+ghost use Rattle.std.specs.Prelude.{◌≡◌, ◌∷◌, [], option_map, map, string_bytes, IfSome};
 ghost use Rattle.basin_cli.specs.Command.{IsInForm, command_named, command_of, named, series_named, trial_of, why_of};
 ghost use Rattle.water_text.specs.Amounts.{read_amount};
 ghost use Rattle.water_text.specs.Months.{read_month};
@@ -117,78 +117,108 @@ fn why_words<'a>(
     }
 }
 
+/// The command of two words.
+fn of_two<'a>(word: &'a str, basin: &'a str) -> Option<Words<'a>>
+    ensures words { option_map command_named result ≡ command_of (word.entry.now ∷ basin.entry.now ∷ []) }
+    ensures form { IfSome result IsInForm }
+{
+    if word == "run" {
+        let inputs = Inputs {
+            basin,
+            series: None,
+        };
+        Some(Words::Text(RunText::Result, inputs))
+    } else if word == "upgrade" {
+        Some(Words::Upgrade(basin))
+    } else {
+        None
+    }
+}
+
+/// The command of three words.
+fn of_three<'a>(word: &'a str, one: &'a str, other: &'a str) -> Option<Words<'a>>
+    ensures words { option_map command_named result ≡ command_of (word.entry.now ∷ one.entry.now ∷ other.entry.now ∷ []) }
+    ensures form { IfSome result IsInForm }
+{
+    if word == "run" {
+        Some(Words::Text(RunText::Result, files_named(one, other)))
+    } else if word == "report" {
+        Some(Words::Text(RunText::Report, files_named(one, other)))
+    } else if word == "calls" {
+        Some(Words::Text(RunText::Calls, files_named(one, other)))
+    } else if word == "ensemble" {
+        Some(Words::Ensemble(files_named(one, other)))
+    } else if word == "trial" {
+        trial_words(one, other)
+    } else {
+        None
+    }
+}
+
+/// The command of four words.
+fn of_four<'a>(word: &'a str, basin: &'a str, one: &'a str, other: &'a str) -> Option<Words<'a>>
+    ensures words { option_map command_named result ≡ command_of (word.entry.now ∷ basin.entry.now ∷ one.entry.now ∷ other.entry.now ∷ []) }
+    ensures form { IfSome result IsInForm }
+{
+    if word == "check" {
+        Some(Words::Check {
+            question: Question::Check,
+            inputs: files_named(basin, one),
+            result: other,
+        })
+    } else if word == "audit" {
+        Some(Words::Check {
+            question: Question::Audit,
+            inputs: files_named(basin, one),
+            result: other,
+        })
+    } else if word == "edit" {
+        Some(Words::Edit {
+            inputs: files_named(basin, one),
+            script: other,
+        })
+    } else if word == "compare" {
+        Some(Words::Compare {
+            inputs: files_named(basin, other),
+            second: one,
+        })
+    } else {
+        None
+    }
+}
+
+/// The command of five words.
+fn of_five<'a>(word: &'a str, basin: &'a str, series: &'a str, month: &'a str, right: &'a str) -> Option<Words<'a>>
+    ensures words { option_map command_named result ≡ command_of (word.entry.now ∷ basin.entry.now ∷ series.entry.now ∷ month.entry.now ∷ right.entry.now ∷ []) }
+    ensures form { IfSome result IsInForm }
+{
+    if word == "why" {
+        why_words(Account::Reach, files_named(basin, series), month, right)
+    } else if word == "where" {
+        why_words(Account::Core, files_named(basin, series), month, right)
+    } else {
+        None
+    }
+}
+
 /// The command that the words are.
 pub fn command(words: &[String]) -> Option<Words<'_>>
     ensures words { option_map command_named result ≡ command_of (map string_bytes words.now) }
     ensures form { IfSome result IsInForm }
 {
     match words {
-        [word, basin] => {
-            if word.as_str() == "run" {
-                let inputs = Inputs {
-                    basin: basin.as_str(),
-                    series: None,
-                };
-                Some(Words::Text(RunText::Result, inputs))
-            } else if word.as_str() == "upgrade" {
-                Some(Words::Upgrade(basin.as_str()))
-            } else {
-                None
-            }
-        }
-        [word, one, other] => {
-            if word.as_str() == "run" {
-                Some(Words::Text(RunText::Result, files_named(one.as_str(), other.as_str())))
-            } else if word.as_str() == "report" {
-                Some(Words::Text(RunText::Report, files_named(one.as_str(), other.as_str())))
-            } else if word.as_str() == "calls" {
-                Some(Words::Text(RunText::Calls, files_named(one.as_str(), other.as_str())))
-            } else if word.as_str() == "ensemble" {
-                Some(Words::Ensemble(files_named(one.as_str(), other.as_str())))
-            } else if word.as_str() == "trial" {
-                trial_words(one.as_str(), other.as_str())
-            } else {
-                None
-            }
-        }
+        [word, basin] => of_two(word.as_str(), basin.as_str()),
+        [word, one, other] => of_three(word.as_str(), one.as_str(), other.as_str()),
         [word, basin, one, other] => {
-            if word.as_str() == "check" {
-                Some(Words::Check {
-                    question: Question::Check,
-                    inputs: files_named(basin.as_str(), one.as_str()),
-                    result: other.as_str(),
-                })
-            } else if word.as_str() == "audit" {
-                Some(Words::Check {
-                    question: Question::Audit,
-                    inputs: files_named(basin.as_str(), one.as_str()),
-                    result: other.as_str(),
-                })
-            } else if word.as_str() == "edit" {
-                Some(Words::Edit {
-                    inputs: files_named(basin.as_str(), one.as_str()),
-                    script: other.as_str(),
-                })
-            } else if word.as_str() == "compare" {
-                Some(Words::Compare {
-                    inputs: files_named(basin.as_str(), other.as_str()),
-                    second: one.as_str(),
-                })
-            } else {
-                None
-            }
+            of_four(word.as_str(), basin.as_str(), one.as_str(), other.as_str())
         }
-        [word, basin, series, month, right] => {
-            if word.as_str() == "why" {
-                let inputs = files_named(basin.as_str(), series.as_str());
-                why_words(Account::Reach, inputs, month.as_str(), right.as_str())
-            } else if word.as_str() == "where" {
-                let inputs = files_named(basin.as_str(), series.as_str());
-                why_words(Account::Core, inputs, month.as_str(), right.as_str())
-            } else {
-                None
-            }
-        }
+        [word, basin, series, month, right] => of_five(
+            word.as_str(),
+            basin.as_str(),
+            series.as_str(),
+            month.as_str(),
+            right.as_str(),
+        ),
         _ => None,
     }
 }

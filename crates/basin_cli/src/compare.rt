@@ -29,7 +29,7 @@ pub fn do_compare<S: Shelf, K: Sink, P: Ledger, M: Ledger>(
         Ok(pair) => pair,
         Err(ending) => return ending,
     };
-    compare_basins(
+    let ending = compare_basins(
         alloc,
         &pair.first.basin,
         &pair.second.basin,
@@ -37,5 +37,7 @@ pub fn do_compare<S: Shelf, K: Sink, P: Ledger, M: Ledger>(
         &pair.second.series,
         out,
         work,
-    )
+    );
+    drop(pair);
+    ending
 }

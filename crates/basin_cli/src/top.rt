@@ -45,7 +45,9 @@ fn do_text<S: Shelf, K: Sink, P: Ledger, M: Ledger>(
         Ok(files) => files,
         Err(ending) => return ending,
     };
-    put_run_text(alloc, text, &files.basin, &files.series, out, work)
+    let ending = put_run_text(alloc, text, &files.basin, &files.series, out, work);
+    drop(files);
+    ending
 }
 
 /// `check` and `audit`: reads a result, in parts, and puts whether it is the text of a history of a basin with its
@@ -66,7 +68,7 @@ fn do_check<S: Shelf, K: Sink>(
         Ok(files) => files,
         Err(ending) => return ending,
     };
-    check_file(
+    let ending = check_file(
         alloc,
         question,
         &files.basin,
@@ -74,7 +76,9 @@ fn do_check<S: Shelf, K: Sink>(
         shelf,
         result_name,
         out,
-    )
+    );
+    drop(files);
+    ending
 }
 
 /// `why` and `where`: solves the months of a basin with its series up to one month, and puts why the right of this name
@@ -98,7 +102,7 @@ fn do_why<S: Shelf, K: Sink, P: Ledger, M: Ledger>(
         Ok(files) => files,
         Err(ending) => return ending,
     };
-    explain_right(
+    let ending = explain_right(
         alloc,
         account,
         &files.basin,
@@ -107,7 +111,9 @@ fn do_why<S: Shelf, K: Sink, P: Ledger, M: Ledger>(
         right.as_bytes(),
         out,
         work,
-    )
+    );
+    drop(files);
+    ending
 }
 
 /// `ensemble`: solves the record of a basin's gauges once from each of its years, and puts how often each yearly
@@ -127,7 +133,9 @@ fn do_ensemble<S: Shelf, K: Sink, P: Ledger, M: Ledger>(
         Ok(files) => files,
         Err(ending) => return ending,
     };
-    ensemble_basin(alloc, &files.basin, &files.series, out, work)
+    let ending = ensemble_basin(alloc, &files.basin, &files.series, out, work);
+    drop(files);
+    ending
 }
 
 /// `edit`: changes numbers of a basin's series as a script says, and puts the months that it shows.
@@ -149,9 +157,14 @@ fn do_edit<S: Shelf, K: Sink, P: Ledger, M: Ledger>(
     };
     let text = match read_file(alloc, shelf, script, File::Script) {
         Ok(text) => text,
-        Err(ending) => return ending,
+        Err(ending) => {
+            drop(files);
+            return ending;
+        }
     };
-    edit_basin(alloc, &files.basin, &files.series, &text, out, work)
+    let ending = edit_basin(alloc, &files.basin, &files.series, &text, out, work);
+    drop(files);
+    ending
 }
 
 /// Does what the words say, and leaves err alone.
