@@ -1,7 +1,7 @@
 -- One step of a loop that makes a list of the entries of another.
 use Rattle.std.proofs.Common.{◌≡◌, ℕ, ◌+◌, ◌<◌, List, [], ◌∷◌, ◌++◌, length, map, drop, get_or, Bool, true, false}
 use Rattle.std.proofs.Common.{refl, sym, ap, ◌∙◌, append_assoc}
-use Rattle.std.specs.Prelude.{filter}
+use Rattle.std.specs.Prelude.{filter, if◌then◌else◌}
 use Rattle.std.proofs.lemmas.List.{at_drop_more, map-append}
 
 -- what is left of the entries begins with the one at the index
@@ -35,11 +35,11 @@ mapped f made now v d push is =
 -- the entries that pass a test, where the first one passes or fails
 pub passes_first : {X D : Type 0} (f : X → D) (p : X → Bool) (x : X) (xs : List X) → p x ≡ true →
     map f (filter p (x ∷ xs)) ≡ f x ∷ map f (filter p xs)
-passes_first f p x xs e = rw e refl
+passes_first f p x xs e = ap (λ t. map f (if t then x ∷ filter p xs else filter p xs)) e
 
 pub fails_first : {X D : Type 0} (f : X → D) (p : X → Bool) (x : X) (xs : List X) → p x ≡ false →
     map f (filter p (x ∷ xs)) ≡ map f (filter p xs)
-fails_first f p x xs e = rw e refl
+fails_first f p x xs e = ap (λ t. map f (if t then x ∷ filter p xs else filter p xs)) e
 
 -- an entry gives one value, where every entry does
 pub all_mapped : {X V D : Type 0} (f : V → D) (xs : List X) (g : X → D) (made now : List V) (i : ℕ) (x : X) (v : V) →
