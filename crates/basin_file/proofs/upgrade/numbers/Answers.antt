@@ -1,4 +1,4 @@
-use Rattle.std.proofs.Common.{ℕ, ◌++◌, ◌+◌, List, drop, map, get_or, refl, ap, ◌∙◌}
+use Rattle.std.proofs.Common.{ℕ, ◌++◌, ◌+◌, List, drop, map, get_or, refl, ap, ◌∙◌, arith}
 use Rattle.toml.specs.Data.{Data}
 use Rattle.toml.specs.View.{view}
 use Rattle.basin_file.specs.Upgraded.{number}
@@ -16,3 +16,6 @@ loop-n-preserved c =
     (mapped view made c.push.new.self.items c.number.result (number n) c.in_ok-push.ensures.items c.number.ensures)
     ∙ pushed rest (map view made) amounts i n 0 (number n) (rest amounts) c.loop-n-test.true refl refl
     c.loop-n.invariant
+
+pub number-requires : goal.number-requires
+number-requires c = omega (arith, c.requires c.loop-n.n-index 0 c.loop-n-test.true)
