@@ -8,3 +8,4 @@ pub mod CleanTables
 pub mod Listed
 pub mod TableSpells
 pub mod Fitting
+pub mod Loops

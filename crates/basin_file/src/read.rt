@@ -125,7 +125,6 @@ fn unchecked_basin(alloc: Global, document: &Document) -> Result<Basin, BasinRef
 }
 
 /// The basin that the top table of a document spells, or the first fault that the document has by itself.
-#[tactic(auto, using(crate::proofs::Faultless::sound_at))]
 fn tree_basin(alloc: Global, tree: &Table) -> Result<Basin, BasinRefused>
     ensures basin { IfOk result (λ basin. basin ≡ basin_of (table_view tree.now)) }
     ensures sound { IfOk result IsSoundBasin }

@@ -1,6 +1,6 @@
 -- Draws one after the other, and lists by index.
-use Rattle.std.proofs.Common.{◌≡◌, ℕ, zero, suc, ◌+◌, ◌*◌, ◌/◌, ◌%◌, ◌^◌, ◌<◌, refl, sym, ap, ◌∙◌, arith, [], ◌∷◌, ◌++◌}
-use Rattle.std.proofs.Common.{add-one, add-zero, add-suc, append_assoc, append-nil}
+use Rattle.std.proofs.Common.{◌≡◌, ℕ, zero, suc, ◌+◌, ◌*◌, ◌/◌, ◌%◌, ◌^◌, ◌<◌, refl, sym, ap, ◌∙◌, arith, List, [], ◌∷◌}
+use Rattle.std.proofs.Common.{◌++◌, add-one, add-zero, add-suc, append_assoc, append-nil}
 use Rattle.std.proofs.lemmas.Grind.{common_steps}
 use Rattle.std.proofs.Math.Nat.{mod-add-mod}
 use Rattle.std.proofs.lemmas.Bool.Decides.{nat_tests}
@@ -30,6 +30,21 @@ list_of_none f = refl
 pub list_of_more : {X : Type 0} → (n : ℕ) (f : ℕ → X) → list_of (n + 1) f ≡ list_of n f ++ f n ∷ []
 unfolding list_of
 list_of_more n f = rw add-one refl
+
+-- an entry more, in a list that is made entry by entry, alone or after others
+pub list_grows : {X : Type 0} → (n : ℕ) (f : ℕ → X) (made now : List X) (x : X) → now ≡ made ++ x ∷ [] → x ≡ f n →
+    made ≡ list_of n f → now ≡ list_of (n + 1) f
+list_grows n f made now x push is before =
+    push
+    ∙ (ap (λ l. l ++ x ∷ []) before ∙ (ap (λ y. list_of n f ++ y ∷ []) is ∙ sym (list_of_more n f)))
+
+pub list_appends : {X : Type 0} → (first : List X) (n : ℕ) (f : ℕ → X) (made now : List X) (x : X) →
+    now ≡ made ++ x ∷ [] → x ≡ f n → made ≡ first ++ list_of n f → now ≡ first ++ list_of (n + 1) f
+list_appends first n f made now x push is before =
+    push
+    ∙ (ap (λ l. l ++ x ∷ []) before
+    ∙ (append_assoc first (list_of n f) (x ∷ [])
+    ∙ ap (λ l. first ++ l) (list_grows n f (list_of n f) (list_of n f ++ x ∷ []) x refl is refl)))
 
 -- as the code computes
 pub next_wrapped : (x : ℕ) → (x * 6364136223846793005 % 2 ^ 64 + 1442695040888963407) % 2 ^ 64 ≡ next x

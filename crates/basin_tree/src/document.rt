@@ -99,6 +99,91 @@ fn index_of(indices: &IndexMap<&[u8], u64>, name: &str) -> Option<u64>
     indices.get(&name.as_bytes()).copied()
 }
 
+/// The indices of the names of two tables. AllocError comes where memory is lacking.
+fn two_indices<'a>(
+    alloc: Global,
+    tree: &'a Table,
+    first: BasinTable,
+    second: BasinTable,
+) -> Result<(IndexMap<&'a [u8], u64>, IndexMap<&'a [u8], u64>), AllocError>
+    ensures first { IfOk result (λ both. KeepsIndices both.0 (texts_in (table_view tree.now) first)) }
+    ensures second { IfOk result (λ both. KeepsIndices both.1 (texts_in (table_view tree.now) second)) }
+{
+    let one = table_indices(alloc, tree, first)?;
+    let other = table_indices(alloc, tree, second)?;
+    Ok((one, other))
+}
+
+/// The indices of the names of the rights, and for each return row the number of earlier rows of its diversion.
+/// AllocError comes where memory is lacking.
+fn rights_and_earlier<'a>(
+    alloc: Global,
+    tree: &'a Table,
+) -> Result<(IndexMap<&'a [u8], u64>, Vec<u64>), AllocError>
+    ensures rights { IfOk result (λ both. KeepsIndices both.0 (texts_of (table_view tree.now) Space.Rights)) }
+    ensures earlier { IfOk result (λ both. both.1.items
+        ≡ earlier_from [] (texts_after (codes "diversion") (items_at (table_view tree.now) BasinTable.Return))) }
+{
+    let earlier = earlier_of(alloc, listed_at(tree, BasinTable::Return), "diversion")?;
+    let rights = right_indices(alloc, tree)?;
+    Ok((rights, earlier))
+}
+
+/// The indices of the names of nodes and links, and those of reservoirs and diversions. AllocError comes where memory
+/// is lacking.
+fn entry_indices<'a>(
+    alloc: Global,
+    tree: &'a Table,
+) -> Result<
+    (
+        (IndexMap<&'a [u8], u64>, IndexMap<&'a [u8], u64>),
+        (IndexMap<&'a [u8], u64>, IndexMap<&'a [u8], u64>),
+    ),
+    AllocError,
+>
+    ensures nodes { IfOk result (λ found. KeepsIndices found.0.0 (texts_of (table_view tree.now) Space.Nodes)) }
+    ensures links { IfOk result (λ found. KeepsIndices found.0.1 (texts_of (table_view tree.now) Space.Links)) }
+    ensures reservoirs { IfOk result
+        (λ found. KeepsIndices found.1.0 (texts_of (table_view tree.now) Space.Reservoirs)) }
+    ensures diversions { IfOk result
+        (λ found. KeepsIndices found.1.1 (texts_of (table_view tree.now) Space.Diversions)) }
+{
+    let nodes_and_links = two_indices(alloc, tree, BasinTable::Node, BasinTable::Link)?;
+    let others = two_indices(alloc, tree, BasinTable::Reservoir, BasinTable::Diversion)?;
+    Ok((nodes_and_links, others))
+}
+
+/// The document with the indices of its entries, and with those of its rights and the numbers of earlier return rows.
+fn with_indices<'a>(
+    tree: &'a Table,
+    entries: (
+        (IndexMap<&'a [u8], u64>, IndexMap<&'a [u8], u64>),
+        (IndexMap<&'a [u8], u64>, IndexMap<&'a [u8], u64>),
+    ),
+    rights_and_earlier: (IndexMap<&'a [u8], u64>, Vec<u64>),
+) -> Document<'a>
+    requires nodes { KeepsIndices entries.0.0 (texts_of (table_view tree.now) Space.Nodes) }
+    requires links { KeepsIndices entries.0.1 (texts_of (table_view tree.now) Space.Links) }
+    requires reservoirs { KeepsIndices entries.1.0 (texts_of (table_view tree.now) Space.Reservoirs) }
+    requires diversions { KeepsIndices entries.1.1 (texts_of (table_view tree.now) Space.Diversions) }
+    requires rights { KeepsIndices rights_and_earlier.0 (texts_of (table_view tree.now) Space.Rights) }
+    requires earlier { rights_and_earlier.1.items
+        ≡ earlier_from [] (texts_after (codes "diversion") (items_at (table_view tree.now) BasinTable.Return)) }
+    ensures { result.tree.now ≡ tree.now }
+{
+    let ((nodes, links), (reservoirs, diversions)) = entries;
+    let (rights, earlier) = rights_and_earlier;
+    Document {
+        tree,
+        nodes,
+        links,
+        reservoirs,
+        diversions,
+        rights,
+        earlier,
+    }
+}
+
 impl<'a> Document<'a> {
     ghost use Rattle.basin_tree.specs.Documents.{tree_of};
 
@@ -106,21 +191,9 @@ impl<'a> Document<'a> {
     pub fn of(alloc: Global, tree: &'a Table) -> Result<Document<'a>, AllocError>
         ensures { IfOk result (λ document. tree_of document ≡ table_view tree.now) }
     {
-        let earlier = earlier_of(alloc, listed_at(tree, BasinTable::Return), "diversion")?;
-        let nodes = table_indices(alloc, tree, BasinTable::Node)?;
-        let links = table_indices(alloc, tree, BasinTable::Link)?;
-        let reservoirs = table_indices(alloc, tree, BasinTable::Reservoir)?;
-        let diversions = table_indices(alloc, tree, BasinTable::Diversion)?;
-        let rights = right_indices(alloc, tree)?;
-        Ok(Document {
-            tree,
-            nodes,
-            links,
-            reservoirs,
-            diversions,
-            rights,
-            earlier,
-        })
+        let rights_and_earlier = rights_and_earlier(alloc, tree)?;
+        let entries = entry_indices(alloc, tree)?;
+        Ok(with_indices(tree, entries, rights_and_earlier))
     }
 
     /// The format of the document: 2 where `format` is this number, and else 1.

@@ -79,13 +79,25 @@ fn first_listed<T: EntryTest>(document: &Document, fault: BasinFault) -> Option<
         (λ table. option_map (found_at fault)
         (find (T.fails (tree_of document.now)) (entries_in (tree_of document.now) table))) listed }
 {
-    first_in::<T>(document, fault, BasinTable::Node)
-        .or_else(|| first_in::<T>(document, fault, BasinTable::Link))
-        .or_else(|| first_in::<T>(document, fault, BasinTable::Reservoir))
-        .or_else(|| first_in::<T>(document, fault, BasinTable::Diversion))
-        .or_else(|| first_in::<T>(document, fault, BasinTable::Instream))
-        .or_else(|| first_in::<T>(document, fault, BasinTable::Zone))
-        .or_else(|| first_in::<T>(document, fault, BasinTable::Return))
+    if let Some(finding) = first_in::<T>(document, fault, BasinTable::Node) {
+        return Some(finding);
+    }
+    if let Some(finding) = first_in::<T>(document, fault, BasinTable::Link) {
+        return Some(finding);
+    }
+    if let Some(finding) = first_in::<T>(document, fault, BasinTable::Reservoir) {
+        return Some(finding);
+    }
+    if let Some(finding) = first_in::<T>(document, fault, BasinTable::Diversion) {
+        return Some(finding);
+    }
+    if let Some(finding) = first_in::<T>(document, fault, BasinTable::Instream) {
+        return Some(finding);
+    }
+    if let Some(finding) = first_in::<T>(document, fault, BasinTable::Zone) {
+        return Some(finding);
+    }
+    first_in::<T>(document, fault, BasinTable::Return)
 }
 
 /// The first entry that fails the test, in the order of tables and entries.

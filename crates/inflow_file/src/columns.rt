@@ -122,8 +122,8 @@ impl<'a> Columns<'a> {
         requires { IsValidBasin basin.now }
         ensures { IfOk result (λ columns. columns.basin.now ≡ basin.now) }
     {
-        let names = BothNames::of(alloc, basin)?;
         let Indices { numbers, of_number } = indices_of(alloc, basin)?;
+        let names = BothNames::of(alloc, basin)?;
         Ok(Columns {
             basin,
             names,

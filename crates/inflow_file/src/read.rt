@@ -82,6 +82,30 @@ fn has_header(row: &ByteRecord, kinds: bool) -> bool
     is_header(row) || kinds
 }
 
+/// Takes the records that a reader has, whose first has to be a header.
+fn take_records(
+    reader: &mut Reader<&[u8]>,
+    row: &mut ByteRecord,
+    columns: &Columns,
+    amounts: &mut [Option<u64>],
+) -> Result<(), SeriesRefused>
+    requires reader { IsReading reader.old }
+    requires bounded { length (records_left reader.old) < 2 ^ 64 }
+    requires basin { IsValidBasin columns.now.basin.now }
+    requires empty { amounts.old ≡ given_by columns.now.basin.now [] }
+    ensures { TakesTable columns.now.basin.now (records_left reader.old) amounts.new result }
+{
+    let found = read_row(reader, row)?;
+    if !found {
+        return Err(no_header());
+    }
+    let kinds = has_kinds(columns.basin, row);
+    if !has_header(row, kinds) {
+        return Err(no_header());
+    }
+    take_all(reader, row, columns, kinds, amounts)
+}
+
 /// Takes the records of a table, whose first has to be a header.
 fn take_table(
     alloc: Global,
@@ -95,15 +119,7 @@ fn take_table(
 {
     let mut reader = reader_of(alloc, text);
     let mut row = ByteRecord::new(alloc);
-    let found = read_row(&mut reader, &mut row)?;
-    if !found {
-        return Err(no_header());
-    }
-    let kinds = has_kinds(columns.basin, &row);
-    if !has_header(&row, kinds) {
-        return Err(no_header());
-    }
-    take_all(&mut reader, &mut row, columns, kinds, amounts)
+    take_records(&mut reader, &mut row, columns, amounts)
 }
 
 /// A cell for each amount that is due, none of which is given.
@@ -130,6 +146,18 @@ fn read_amounts(
     Ok(amounts)
 }
 
+/// The series of the columns' basin that a table spells, or the first fault in the table.
+fn read_with(alloc: Global, columns: &Columns, text: &[u8]) -> Result<Inflows, SeriesRefused>
+    requires { IsValidBasin columns.now.basin.now }
+    ensures spelled { IfOk result (SpellsSeries columns.now.basin.now text.now) }
+    ensures valid { IfOk result (IsSeriesOf columns.now.basin.now) }
+    ensures faultless { OnOk result (series_fault columns.now.basin.now text.now ≡ None) }
+    ensures refused { IfErr result (λ e. IsSeriesRefusal e columns.now.basin.now text.now) }
+{
+    let amounts = read_amounts(alloc, columns, text)?;
+    complete(alloc, columns, amounts.as_slice())
+}
+
 /// The bytes of a table of the header alone: the series of a basin without gauges and without wants in the series.
 pub const HEADER: &[u8] = b"month,node,amount\n";
 
@@ -147,6 +175,5 @@ pub fn read_inflows(alloc: Global, basin: &Basin, text: &[u8]) -> Result<Inflows
     ensures refused { IfErr result (λ e. IsSeriesRefusal e basin.now text.now) }
 {
     let columns = Columns::of(alloc, basin)?;
-    let amounts = read_amounts(alloc, &columns, text)?;
-    complete(alloc, &columns, amounts.as_slice())
+    read_with(alloc, &columns, text)
 }

@@ -101,8 +101,8 @@ impl<'b> ResultReader<'b> {
     {
         let dues = dues_of(alloc, basin, roll)?;
         let left = max_lines(basin, &dues);
-        let names = Names::of(alloc, basin)?;
         let followers = vec![in alloc; 0; basin.nodes.len() + 1]?;
+        let names = Names::of(alloc, basin)?;
         Ok(ResultReader {
             names,
             dues,

@@ -2,8 +2,9 @@
 use Rattle.std.proofs.Common.{◌≡◌, ℕ, ◌+◌, ◌<◌, ◌≤◌, suc, List, [], ◌∷◌, ◌++◌, length, map, take, drop, get_or}
 use Rattle.std.proofs.Common.{slice_get, slice_index, Option, Some, None, if◌then◌else◌}
 use Rattle.std.proofs.Common.{refl, sym, ap, ◌∙◌, inl, inr, arith, count_by, option_map, option_and_then}
-use Rattle.std.proofs.Common.{IfSome, MatchOption, zero, append_assoc}
-use Rattle.std.proofs.lemmas.List.{drop_all, append-nil}
+use Rattle.std.proofs.Common.{IfSome, MatchOption, zero, append_assoc, Bool, sum_by}
+use Rattle.std.proofs.lemmas.List.{at_drop_more, drop_all, append-nil, map-append, take_more}
+use Rattle.std.proofs.lemmas.List.Sums.{sum_by-append, sum_by-cons}
 use Rattle.std.proofs.lemmas.Option.{slice_get-map, slice_get_read}
 use Rattle.std.proofs.lemmas.Bool.{cases_Bool}
 use Rattle.std.proofs.lemmas.Slice.Eq.{bytes_eq-Decides}
@@ -86,6 +87,56 @@ counted_more t old new before updates was q =
       | inr other ↦ (let here : index_at new q ≡ index_at old q = rw other at there in
           rw (bytes_eq-sym q t.now) (rw other (rw here (omega arith))))
     ]
+
+count_more : (p : Option (List ℕ) → Bool) (texts : List (Option (List ℕ))) (text : Option (List ℕ)) →
+    count_by p (texts ++ text ∷ []) ≡ count_by p texts + (if p text then 1 else 0)
+count_more p texts text =
+    let count : Option (List ℕ) → ℕ = λ t. if p t then 1 else 0 in
+    let last : sum_by count (text ∷ []) ≡ (if p text then 1 else 0) + sum_by count [] = sum_by-cons count text [] in
+    let all : sum_by count (texts ++ text ∷ []) ≡ sum_by count texts + sum_by count (text ∷ []) =
+    sum_by-append count texts (text ∷ []) in
+    all ∙ ap (λ n. sum_by count texts + n) (last ∙ omega arith)
+
+same_before : (counts others : List ℕ → ℕ) → ((q : List ℕ) → counts q ≡ others q) → (text : Option (List ℕ)) →
+    option_map_or counts text 0 ≡ option_map_or others text 0
+same_before counts others same None = refl
+same_before counts others same (Some q) = same q
+
+-- one row more is counted
+module _ {V : Type 0} (f : V → Option (List ℕ)) (rows : List V) (i : ℕ) (v : V) (within : i < length rows)
+    (at : v ≡ get_or rows i v) where
+  seen_more : map f (take (i + 1) rows) ≡ map f (take i rows) ++ f v ∷ []
+  seen_more =
+      ap (map f) (take_more rows i v within)
+      ∙ (map-append f (take i rows) (get_or rows i v ∷ []) ∙ ap (λ w. map f (take i rows) ++ f w ∷ []) (sym at))
+
+  pub counts_more : (counts : List ℕ → ℕ) (q : List ℕ) (now : ℕ) →
+      counts q ≡ count_by (is_the_text q) (map f (take i rows)) →
+      now ≡ counts q + (if is_the_text q (f v) then 1 else 0) →
+      now ≡ count_by (is_the_text q) (map f (take (i + 1) rows))
+  counts_more counts q now before is =
+      is
+      ∙ (ap (λ n. n + (if is_the_text q (f v) then 1 else 0)) before
+      ∙ sym (ap (count_by (is_the_text q)) seen_more ∙ count_more (is_the_text q) (map f (take i rows)) (f v)))
+
+  pub earlier_more : (counts : List ℕ → ℕ) (earlier now all : List ℕ) →
+      ((q : List ℕ) → counts q ≡ count_by (is_the_text q) (map f (take i rows))) →
+      now ≡ earlier ++ option_map_or counts (f v) 0 ∷ [] →
+      earlier ++ earlier_from (map f (take i rows)) (map f (drop i rows)) ≡ all →
+      now ++ earlier_from (map f (take (i + 1) rows)) (map f (drop (i + 1) rows)) ≡ all
+  earlier_more counts earlier now all same push before =
+      let seen = map f (take i rows) in
+      let more = map f (drop (i + 1) rows) in
+      let first = option_map_or counts (f v) 0 in
+      let after = earlier_from (map f (take (i + 1) rows)) more in
+      let here : earlier_from seen (map f (drop i rows)) ≡ first ∷ after =
+      at_drop_more (λ vs. earlier_from seen (map f vs)) rows i v within
+      ∙ (ap (λ w. earlier_from seen (f w ∷ more)) (sym at)
+      ∙ (ap (λ n. n ∷ earlier_from (seen ++ f v ∷ []) more)
+      (sym (same_before counts (λ q. count_by (is_the_text q) seen) same (f v)))
+      ∙ ap (λ s. first ∷ earlier_from s more) (sym seen_more))) in
+      ap (λ xs. xs ++ after) push
+      ∙ (append_assoc earlier (first ∷ []) after ∙ (ap (λ xs. earlier ++ xs) (sym here) ∙ before))
 
 pub counts_all : {V : Type 0} (f : V → Option (List ℕ)) (seen : List (Option (List ℕ))) (earlier : List ℕ)
     (rows : List V) (i : ℕ) → length rows ≤ i

@@ -1,5 +1,5 @@
 //! The first indices of texts in lists.
-ghost use Rattle.std.specs.Prelude.{◌≡◌, ◌+◌, ◌<◌, ◌^◌, [], List, ℕ, length, IfOk, OnOk, OnErr, MatchResult};
+ghost use Rattle.std.specs.Prelude.{◌≡◌, ◌+◌, ◌<◌, ◌^◌, ◌++◌, ◌∷◌, [], List, ℕ, length, IfOk, OnOk, OnErr, MatchResult};
 ghost use Rattle.std.specs.Prelude.{Some, None, option_map, option_and_then, if◌then◌else◌};
 ghost use Rattle.std.specs.Option.{option_or, option_map_or};
 ghost use Rattle.indexmap.specs.IndexMap.{IsUnchanged};
@@ -104,6 +104,27 @@ fn count_text<'a>(
     }
 }
 
+/// Appends how often the text at a key of a value was counted before, and counts it. AllocError comes where memory is
+/// lacking.
+fn add_earlier<'a>(
+    counts: &mut IndexMap<&'a str, u64>,
+    earlier: &mut Vec<u64>,
+    value: &'a Value,
+    key: &str,
+) -> Result<(), AllocError>
+    requires { (q : List ℕ) → counted counts.old q + 1 < 2 ^ 64 }
+    ensures before { OnOk result
+        (earlier.new.items ≡ earlier.old.items ++ (option_map_or (λ q. counted counts.old q)
+        (option_and_then as_str (get key.now (view value.now))) 0 ∷ [])) }
+    ensures counts { OnOk result ((q : List ℕ) →
+        counted counts.new q ≡ counted counts.old
+        q + (if is_the_text q (option_and_then as_str (get key.now (view value.now))) then 1 else 0)) }
+{
+    let before = count_text(counts, text_of(value, key))?;
+    earlier.push(before)?;
+    Ok(())
+}
+
 /// For each value, how many of the values before it have its text at a key. AllocError comes where memory is lacking.
 pub fn earlier_of(alloc: Global, values: &[Value], key: &str) -> Result<Vec<u64>, AllocError>
     ensures { IfOk result (λ earlier. earlier.items ≡ earlier_from [] (texts_after key.now (items_view values.now))) }
@@ -111,7 +132,7 @@ pub fn earlier_of(alloc: Global, values: &[Value], key: &str) -> Result<Vec<u64>
     let mut counts = IndexMap::new(alloc);
     let mut earlier = Vec::new(alloc);
     for value in values {
-        earlier.push(count_text(&mut counts, text_of(value, key))?)?;
+        add_earlier(&mut counts, &mut earlier, value, key)?;
     }
     Ok(earlier)
 }

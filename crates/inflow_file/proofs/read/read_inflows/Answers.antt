@@ -1,20 +1,12 @@
-use Rattle.std.proofs.Common.{◌∙◌, ap, length}
-use Rattle.inflow_file.specs.CsvRecords.{records_of}
-use Rattle.inflow_file.specs.SeriesFaults.{body_of, entries_of}
-use Rattle.inflow_file.proofs.DueLaws.{length-given}
-use Rattle.inflow_file.proofs.GapLaws.{series_read}
 use Rattle.inflow_file.proofs.read.read_inflows.Goals as goal
-
-pub complete-requires-clause-count : goal.complete-requires-clause-count
-complete-requires-clause-count c =
-    ap length (c.as_slice.ensures.value ∙ c.in_ok-amounts.ensures.ok.given)
-    ∙ length-given c.in_ok-columns.columns.basin.now
-    (entries_of c.in_ok-columns.columns.basin.now
-    (body_of c.in_ok-columns.columns.basin.now (records_of c.args.text.now)))
 
 pub returns : goal.returns
 returns c =
-    let read = series_read _ _ _ _ _ c.in_ok-columns.ensures c.in_ok-amounts.ensures.ok
-    (c.complete.ensures (body_of c.in_ok-columns.columns.basin.now (records_of c.args.text.now))
-    (c.as_slice.ensures.value ∙ c.in_ok-amounts.ensures.ok.given)) in
-    record { spelled = read.spelled; valid = read.valid; faultless = read.faultless; refused = read.refused }
+    let read = c.read_with.ensures in
+    let same = c.in_ok-columns.ensures in
+    record {
+      spelled = rw same at read.spelled;
+      valid = rw same at read.valid;
+      faultless = rw same at read.faultless;
+      refused = rw same at read.refused;
+    }

@@ -1,21 +1,10 @@
-use Rattle.std.proofs.Common.{◌∙◌, ap, sym, arith, length}
+use Rattle.std.proofs.Common.{ap, arith, length}
 use Rattle.inflow_file.proofs.RecordLaws.{bounded_records}
-use Rattle.inflow_file.proofs.TableLaws.{no_header, table_taken}
 use Rattle.inflow_file.proofs.read.take_table.Goals as goal
 
-pub take_all-requires-clause-bounded : goal.take_all-requires-clause-bounded
-take_all-requires-clause-bounded c =
-    let took = rw c.if-not-found.false at c.in_ok-found.ensures.takes in
-    omega (arith, bounded_records c.args.text.now, ap length (sym c.reader_of-reader.ensures.all ∙ took))
-
-pub returns-then-not-has_header : goal.returns-then-not-has_header
-returns-then-not-has_header c =
-    let took = rw c.if-not-found.false at c.in_ok-found.ensures.takes in
-    rw c.no_header-then-not-has_header.ensures (no_header _ _ _ _ _ (sym c.reader_of-reader.ensures.all ∙ took)
-    c.has_kinds-kinds.ensures (sym c.if-not-has_header.ensures))
+pub take_records-requires-clause-bounded : goal.take_records-requires-clause-bounded
+take_records-requires-clause-bounded c =
+    omega (arith, bounded_records c.args.text.now, ap length c.reader_of-reader.ensures.all)
 
 pub returns : goal.returns
-returns c =
-    let took = rw c.if-not-found.false at c.in_ok-found.ensures.takes in
-    table_taken _ _ _ _ _ _ _ (sym c.reader_of-reader.ensures.all ∙ took) c.has_kinds-kinds.ensures
-    (sym c.if-not-has_header.ensures) c.take_all.ensures
+returns c = rw c.reader_of-reader.ensures.all at c.take_records.ensures
