@@ -255,6 +255,37 @@ want_is b series r i p used m is at l plain =
     by false None (Some link) t x h = absurd (cc)
     by false None None t x h = refl
 
+-- the want of a right without a volume and without wants in the series
+pub want_stands : (b : Basin) (series : Inflows) (r i p used number : ℕ) (x : Right) → slice_get b.rights r ≡ Some x →
+    x.series ≡ false → is_some x.volume ≡ false → p ≡ in_year b i →
+    number ≡ cap_by_link b (run_month b i) (link_of_kind x.kind) (slice_index x.want p) →
+    number ≡ want_of b series r i used
+want_stands b series r i p used number x entry no_series no_volume at is =
+    is
+    ∙ (ap (λ q. cap_by_link b (run_month b i) (link_of_kind x.kind) (slice_index x.want q)) at
+    ∙ (by x.series x.volume (link_of_kind x.kind) _ _ no_series no_volume
+    ∙ sym (ap (λ v. want_by_volume v (cap_by_link b (run_month b i) (instream_link b r)
+    (of_entry b.rights r (λ y. number_of b series r i y) 0)) used) volume
+    ∙ (ap (λ o. want_by_volume x.volume (cap_by_link b (run_month b i) o
+    (of_entry b.rights r (λ y. number_of b series r i y) 0)) used) link
+    ∙ ap (λ y. want_by_volume x.volume (cap_by_link b (run_month b i) (link_of_kind x.kind) y) used) known))))
+  where
+    volume : volume_of b r ≡ x.volume
+    volume = ap (λ o. unwrap_or (option_map (λ (y : Right). y.volume) o) None) entry
+
+    link : instream_link b r ≡ link_of_kind x.kind
+    link = ap (λ o. unwrap_or (option_map (λ (y : Right). link_of_kind y.kind) o) None) entry
+
+    known : of_entry b.rights r (λ y. number_of b series r i y) 0 ≡ number_of b series r i x
+    known = ap (λ o. unwrap_or (option_map (λ (y : Right). number_of b series r i y) o) 0) entry
+
+    by : (s : Bool) (v o : Option ℕ) (t y : ℕ) → s ≡ false → is_some v ≡ false →
+        cap_by_link b (run_month b i) o y
+        ≡ want_by_volume v (cap_by_link b (run_month b i) o (if s then t else y)) used
+    by true v o t y h e = absurd (cc)
+    by false (Some volume) o t y h e = absurd (cc)
+    by false None o t y h e = refl
+
 -- What a plan delivers.
 
 -- an instream right is a right of the basin, and its link is a link

@@ -4,3 +4,4 @@ pub mod Bounds
 pub mod BlankRecords
 pub mod Calendars
 pub mod WaterYears
+pub mod Mapped

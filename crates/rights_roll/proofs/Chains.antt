@@ -1,10 +1,10 @@
 -- The chains of instream rights, built from the last right back.
 use Rattle.std.proofs.Common.{◌≡◌, ◌≢◌, ℕ, ◌+◌, ◌<◌, ◌≤◌, List, length, get_or, set, Option, Some, None, sym, ap, ◌∙◌}
-use Rattle.std.proofs.Common.{subst, inl, inr, arith}
+use Rattle.std.proofs.Common.{zero, suc, replicate, refl, subst, inl, inr, arith}
 use Rattle.std.proofs.lemmas.Bool.{cases_eq}
-use Rattle.std.proofs.lemmas.List.{length-set, get_or-set_same, get_or-set_other}
+use Rattle.std.proofs.lemmas.List.{length-replicate, length-set, get_or-set_same, get_or-set_other}
 use Rattle.water_model.specs.declared.types.Right.{Right}
-use Rattle.rights_roll.specs.Rolls.{link_in, IsNextOn}
+use Rattle.rights_roll.specs.Rolls.{link_in, AreChains, IsNextOn}
 
 -- the chains of the rights from an index onwards
 pub record ChainsFrom (rights : List Right) (first_on next_on : List (Option ℕ)) (at : ℕ) : Type 0 where
@@ -88,3 +88,51 @@ chains-more {rights} {first_on} {next_on} k link {further} after below on is h =
           subst P (sym (get_or-set_other next_on k right further None other))
           (h.nexts right its (let o : right ≢ k = other in omega arith) fits e))
     ]
+
+-- nothing is read of a list without entries
+nothing : (n k : ℕ) → get_or (replicate {A = Option ℕ} n None) k None ≡ None
+nothing zero k = refl
+nothing (suc n) zero = refl
+nothing (suc n) (suc k) = nothing n k
+
+-- no right stands after the last
+pub chains-start : (rights : List Right) (first_on next_on : List (Option ℕ)) (links : ℕ) →
+    first_on ≡ replicate links None → next_on ≡ replicate (length rights) None →
+    ((right link : ℕ) → link_in rights right ≡ Some link → link < links) →
+    ChainsFrom rights first_on next_on (length rights)
+chains-start rights first_on next_on links firsts nexts within = record {
+  count = ap length nexts ∙ length-replicate {A = Option ℕ} (length rights) None;
+  links = λ right link on.
+      omega (arith, within right link on, ap length firsts, length-replicate {A = Option ℕ} links None);
+  firsts = λ link. subst (IsNextOn rights link (length rights))
+      (sym (ap (λ (xs : List (Option ℕ)). get_or xs link None) firsts ∙ nothing links link))
+      (λ s from below. absurd (omega (arith, from, below)));
+  nexts = λ right link from below on. absurd (omega (arith, from, below));
+  others = λ right none. ap (λ (xs : List (Option ℕ)). get_or xs right None) nexts ∙ nothing (length rights) right;
+}
+
+-- a right on no link
+pub chains-skip : {rights : List Right} {first_on next_on : List (Option ℕ)} {at : ℕ} (k : ℕ) → at ≡ k + 1 →
+    ((link : ℕ) → link_in rights k ≢ Some link) → ChainsFrom rights first_on next_on at →
+    ChainsFrom rights first_on next_on k
+chains-skip {rights} {first_on} {next_on} k after off h = record {
+  count = h.count;
+  links = h.links;
+  firsts = λ link. skip rights link k (get_or first_on link None) (off link)
+      (subst (λ (start : ℕ). IsNextOn rights link start (get_or first_on link None)) after (h.firsts link));
+  nexts = λ right link from below on. elim (cases_eq right k) [
+    | inl same ↦ absurd (off link (ap (link_in rights) (sym same) ∙ on))
+    | inr other ↦ h.nexts right link (omega (arith, after, from, other)) below on
+  ];
+  others = h.others;
+}
+
+-- all rights are gone through
+pub chains-whole : {rights : List Right} {first_on next_on : List (Option ℕ)} {at : ℕ} → at ≡ 0 →
+    ChainsFrom rights first_on next_on at → AreChains rights first_on next_on
+chains-whole {rights} {first_on} {next_on} start h = record {
+  count = h.count;
+  firsts = λ link. subst (λ (k : ℕ). IsNextOn rights link k (get_or first_on link None)) start (h.firsts link);
+  nexts = λ right link below on. h.nexts right link (omega (arith, start)) below on;
+  others = λ right below none. h.others right none;
+}

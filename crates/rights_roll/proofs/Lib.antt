@@ -8,3 +8,4 @@ pub mod Seniors
 pub mod Soundness
 pub mod ZoneFaults
 pub mod ZoneTables
+pub mod Wants

@@ -1,12 +1,13 @@
 -- One more link is put into the list of its tail.
-use Rattle.std.proofs.Common.{◌≡◌, ◌∙◌, ℕ, ◌+◌, ◌-◌, ◌<◌, Bool, false, List, length, sym, ap, subst, arith, get_or, inl}
+use Rattle.std.proofs.Common.{◌≡◌, ◌∙◌, ℕ, ◌+◌, ◌-◌, ◌<◌, Bool, true, false, List, length, refl, sym, ap, subst, arith}
+use Rattle.std.proofs.Common.{get_or, inl}
 use Rattle.std.proofs.Common.{inr}
 use Rattle.std.proofs.lemmas.Bool.{cases_eq, eq-eqb, ne_eqb}
 use Rattle.std.proofs.lemmas.List.{get_or-set_same, get_or-set_other, length-set}
-use Rattle.std.specs.Prelude.{Option, Some, None, slice_set}
-use Rattle.water_model.specs.Network.{tail_in}
+use Rattle.std.specs.Prelude.{Option, Some, None, slice_set, ◌==◌, ◌&&◌}
+use Rattle.water_model.specs.Network.{tail_in, is_river_in}
 use Rattle.water_model.specs.declared.types.Link.{Link}
-use Rattle.river_net.specs.Firsts.{IsFirstFrom, IsLeaving, leaves}
+use Rattle.river_net.specs.Firsts.{AreFirsts, IsFirstFrom, IsLeaving, leaves, leaves_as_river}
 
 -- an index before the others that does not pass
 first_skip : (test : ℕ → Bool) (e bound : ℕ) (o : Option ℕ) → test e ≡ false → IsFirstFrom test (e + 1) bound o →
@@ -58,6 +59,48 @@ leaving_next {nodes} {links} e {first} {next} {v} {x} below inside at read now =
         (sym (get_or-set_other next e f x None other)) (now.nexts f (omega arith) b)
   ];
 }
+
+-- one more river, before the others of its tail
+pub rivers_next : {nodes : ℕ} (links : List Link) (e : ℕ) {firsts : List (Option ℕ)} {v : ℕ} → e < length links →
+    v < nodes → tail_in links e ≡ v → is_river_in links e ≡ true →
+    AreFirsts (leaves_as_river links) nodes (e + 1) (length links) firsts →
+    AreFirsts (leaves_as_river links) nodes e (length links) (slice_set firsts v (Some e))
+rivers_next {nodes} links e {firsts} {v} below inside at river now = record {
+  count = length-set firsts v (Some e) ∙ now.count;
+  each = λ u l. elim (cases_eq u v) [
+    | inl same ↦
+        subst (λ u. IsFirstFrom (leaves_as_river links u) e (length links)
+        (get_or (slice_set firsts v (Some e)) u None))
+        (sym same) (subst (IsFirstFrom (leaves_as_river links v) e (length links))
+        (sym (get_or-set_same firsts v (Some e) None (let c = now.count in omega arith)))
+        (omega arith, below, passes, λ k a b. absurd (omega arith)))
+    | inr other ↦
+        subst (IsFirstFrom (leaves_as_river links u) e (length links))
+        (sym (get_or-set_other firsts v u (Some e) None other))
+        (first_skip (leaves_as_river links u) e (length links) (get_or firsts u None)
+        (ap (λ (t : Bool). t && is_river_in links e) (ne_eqb (tail_in links e) u (λ h. other (sym h ∙ at))))
+        (now.each u l))
+  ];
+}
+  where
+    passes : leaves_as_river links v e ≡ true
+    passes = ap (λ (t : Bool). t && is_river_in links e) (eq-eqb (tail_in links e) v at) ∙ river
+
+-- one more link, which is no river
+pub rivers_skip : {nodes : ℕ} (links : List Link) (e : ℕ) {firsts : List (Option ℕ)} → is_river_in links e ≡ false →
+    AreFirsts (leaves_as_river links) nodes (e + 1) (length links) firsts →
+    AreFirsts (leaves_as_river links) nodes e (length links) firsts
+rivers_skip links e {firsts} dry now = record {
+  count = now.count;
+  each = λ u l. first_skip (leaves_as_river links u) e (length links) (get_or firsts u None) (fails u) (now.each u l);
+}
+  where
+    under : (t : Bool) → t && false ≡ false
+    under true = refl
+    under false = refl
+
+    fails : (u : ℕ) → leaves_as_river links u e ≡ false
+    fails u = ap (λ (t : Bool). (tail_in links e == u) && t) dry ∙ under (tail_in links e == u)
 
 -- how many links there are from the next one on
 abbrev pub links_left : ℕ → Option ℕ → ℕ

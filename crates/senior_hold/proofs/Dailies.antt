@@ -1,9 +1,11 @@
 -- What a link carries, by what it carries in a day.
 use Rattle.std.proofs.Common.{◌≡◌, ◌⊎◌, ℕ, ◌-◌, ◌*◌, ◌^◌, ◌<◌, ◌≤◌, Bool, true, false, refl, ap, arith, sym, ◌∙◌}
-use Rattle.std.proofs.Common.{List, length, slice_index, slice_set, ◌+◌, inl, inr, subst}
+use Rattle.std.proofs.Common.{List, [], ◌∷◌, ◌++◌, length, slice_index, slice_set, ◌+◌, inl, inr, subst, map, take}
+use Rattle.std.proofs.Common.{get_or}
 use Rattle.std.specs.Prelude.{slice_get, if◌then◌else◌, Some, unwrap_or, option_map}
 use Rattle.std.proofs.lemmas.Bool.Decides.{eqb_tells}
-use Rattle.std.proofs.lemmas.List.{get_or-map, get_or-set_same, get_or-set_other, length-map, length-set}
+use Rattle.std.proofs.lemmas.List.{get_or-map, get_or-set_same, get_or-set_other, length-map, length-set, map_more}
+use Rattle.std.proofs.lemmas.List.{take_all}
 use Rattle.std.proofs.lemmas.Option.{get_or_from_slice_get}
 use Rattle.water_text.specs.Months.{days_of}
 use Rattle.water_text.specs.declared.month.Month.{Month}
@@ -14,8 +16,9 @@ use Rattle.water_model.specs.declared.types.Carry.{Carry}
 use Rattle.water_model.specs.declared.types.Carry.TheVariants.{River, Canal}
 use Rattle.water_model.specs.declared.types.Link.{Link}
 use Rattle.water_model.proofs.Valid.{entry_holds}
-use Rattle.senior_hold.specs.Carries.{carry_in, dailies_in, daily_of_kind}
+use Rattle.senior_hold.specs.Carries.{AreDailies, carry_in, dailies_in, daily_of_kind}
 use Rattle.senior_hold.specs.declared.carries.TheConstants.{OF_RIVER}
+use Rattle.senior_hold.proofs.Lists.{pushed_count, pushed_gets}
 
 -- the row of a link
 pub daily_at : (b : Basin) (position e : ℕ) → IsValidBasin b → e < length b.links →
@@ -115,3 +118,46 @@ next_small b month row into n valid now l =
     subst (λ (r : List ℕ). (slice_index r n ≡ OF_RIVER) ⊎ (slice_index r n ≤ 10 ^ 9)) (sym now.row_is)
     (link_small b (month.month - 1) n valid
     (let size = row_length b (month.month - 1) row now.row_is in omega arith))
+
+-- the carry of a link that a loop over the links comes to
+pub carry_at : (b : Basin) (links : List Link) (i : ℕ) (x : Link) → IsValidBasin b → links ≡ b.links →
+    i < length links → x ≡ get_or links i x → IsValidCarry x.carry
+carry_at b links i x valid same l is =
+    subst (λ (y : Link). IsValidCarry y.carry) (sym (is ∙ ap (λ (ls : List Link). get_or ls i x) same))
+    (valid.links i x (subst (λ (ls : List Link). i < length ls) same l)).carry
+
+-- the row of the links before, and the amount of the next link
+pub row_more : (b : Basin) (links : List Link) (position i : ℕ) (x : Link) (row more : List ℕ) (amount : ℕ) →
+    links ≡ b.links → i < length links → x ≡ get_or links i x →
+    row ≡ map (λ l. daily_of_kind l.carry position) (take i b.links) → amount ≡ daily_of_kind x.carry position →
+    more ≡ row ++ amount ∷ [] → more ≡ map (λ l. daily_of_kind l.carry position) (take (i + 1) b.links)
+row_more b links position i x row more amount same l is row_is amount_is more_is =
+    more_is
+    ∙ ap (λ (r : List ℕ). r ++ amount ∷ []) row_is
+    ∙ ap (λ (n : ℕ). map (λ (l : Link). daily_of_kind l.carry position) (take i b.links) ++ n ∷ [])
+    (amount_is ∙ ap (λ (y : Link). daily_of_kind y.carry position)
+    (is ∙ ap (λ (ls : List Link). get_or ls i x) same))
+    ∙ sym (map_more (λ (l : Link). daily_of_kind l.carry position) b.links i x
+    (subst (λ (ls : List Link). i < length ls) same l))
+
+-- the row of all links
+pub row_whole : (b : Basin) (links : List Link) (position i : ℕ) (row : List ℕ) → links ≡ b.links →
+    length links ≤ i → row ≡ map (λ l. daily_of_kind l.carry position) (take i b.links) → row ≡ dailies_in b position
+row_whole b links position i row same l row_is =
+    row_is ∙ ap (λ (ls : List Link). map (λ (l : Link). daily_of_kind l.carry position) ls)
+    (take_all i b.links (subst (λ (ls : List Link). length ls ≤ i) same l))
+
+-- the rows of a further calendar month
+pub rows_more : (b : Basin) (rows more : List (List ℕ)) (n : ℕ) (row : List ℕ) → more ≡ rows ++ row ∷ [] →
+    (length rows ≡ n) × ((p : ℕ) → p < n → slice_get rows p ≡ Some (dailies_in b p)) → row ≡ dailies_in b n →
+    (length more ≡ n + 1) × ((p : ℕ) → p < n + 1 → slice_get more p ≡ Some (dailies_in b p))
+rows_more b rows more n row is now here =
+    (pushed_count rows more row n is now.0, pushed_gets (dailies_in b) rows more n row is now.0 now.1 here)
+
+-- the rows of all calendar months
+pub rows_whole : (b : Basin) (rows : List (List ℕ)) (n : ℕ) → n ≤ 12 → 12 ≤ n →
+    (length rows ≡ n) × ((p : ℕ) → p < n → slice_get rows p ≡ Some (dailies_in b p)) → AreDailies b rows
+rows_whole b rows n low high now = record {
+  count = omega (arith, now.0, low, high);
+  row = λ p l. now.1 p (omega (arith, l, high));
+}

@@ -1,9 +1,11 @@
-use Rattle.std.proofs.Common.{◌≡◌, ◌≢◌, ◌-◌, ◌∙◌, ℕ, Bool, List, length, arith, ap, sym}
+use Rattle.std.proofs.Common.{◌≡◌, ◌≢◌, ◌-◌, ◌∙◌, ℕ, Bool, List, length, arith, ap, refl, sym}
 use Rattle.std.specs.Prelude.{Some}
 use Rattle.bit_words.specs.Marks.{marks, words_for}
 use Rattle.circulation.specs.Contents.{Contents}
 use Rattle.water_model.specs.CutSets.{with_set}
 use Rattle.residual_tree.specs.declared.raising.TreeRaised.{TreeRaised}
+use Rattle.senior_hold.specs.declared.serving.Turn.{Turn}
+use Rattle.senior_hold.specs.declared.sweep.Method.{Method}
 use Rattle.senior_hold.proofs.Marks.{marks_are}
 use Rattle.senior_hold.proofs.TreeServes.{served_full, served_unlabeled}
 use Rattle.senior_hold.proofs.serving.serve_by.Goals as goal
@@ -17,10 +19,75 @@ ended_unlabeled r e = λ f. let both : TreeRaised.Stopped ≡ TreeRaised.Unfinis
 ended_met : (r : TreeRaised) → r ≡ TreeRaised.Met → r ≢ TreeRaised.Unfinished
 ended_met r e = λ f. let both : TreeRaised.Met ≡ TreeRaised.Unfinished = sym e ∙ f in cc (both)
 
-pub returns-in-Met-clause-served : goal.returns-in-Met-clause-served
-returns-in-Met-clause-served g c = λ _. served_full c.flow.ensures.kept c.raise_fully.ensures.raised
-    c.requires.claim.arc
-    ((c.raise_fully.ensures.met (ended_met c.raise_fully.result c.in-Met.is)).0 c.in-Met.is)
+tree_searches : (m : Method) → m ≡ Method.Tree → m ≡ Method.Searches → ⊥
+tree_searches m h i = let both : Method.Tree ≡ Method.Searches = sym h ∙ i in cc (both)
+
+served_gave_up : Turn.Served ≡ Turn.GaveUp → ⊥
+served_gave_up h = cc (h)
+
+not_stopped : (r : TreeRaised) → r ≡ TreeRaised.Met → r ≢ TreeRaised.Stopped
+not_stopped r e = λ f. let both : TreeRaised.Met ≡ TreeRaised.Stopped = sym e ∙ f in cc (both)
+
+pub returns-in-Searches : goal.returns-in-Searches
+returns-in-Searches g c =
+    let done = c.serve.ensures in
+    record {
+      served = λ _. done.served;
+      tree = λ h e. absurd (tree_searches c.args.method h c.in-Searches.is);
+      raised = λ e. absurd (served_gave_up e);
+      kept = done.kept;
+      shape = done.shape;
+      cost = λ h. absurd (tree_searches c.args.method h c.in-Searches.is);
+      used = λ h. absurd (tree_searches c.args.method h c.in-Searches.is);
+      gave_up = λ e. absurd (served_gave_up e);
+      searched = λ _. refl;
+      search_cost = λ _. done.cost;
+    }
+
+pub returns-then-claim-flow-clause-tree : goal.returns-then-claim-flow-clause-tree
+returns-then-claim-flow-clause-tree g c = λ _ _. c.hold.ensures.tree
+
+pub returns-then-claim-flow-clause-raised : goal.returns-then-claim-flow-clause-raised
+returns-then-claim-flow-clause-raised g c = λ e. absurd (served_gave_up e)
+
+pub returns-then-claim-flow-clause-gave_up : goal.returns-then-claim-flow-clause-gave_up
+returns-then-claim-flow-clause-gave_up g c = λ e. absurd (served_gave_up e)
+
+pub returns-then-claim-flow-clause-search_cost : goal.returns-then-claim-flow-clause-search_cost
+returns-then-claim-flow-clause-search_cost g c = λ h. absurd (tree_searches c.args.method c.in-Tree.is h)
+
+pub returns-in-Met : goal.returns-in-Met
+returns-in-Met g c =
+    let done = c.raise_fully.ensures in
+    record {
+      served = λ _. served_full c.flow.ensures.kept done.raised c.requires.claim.arc
+          ((done.met (ended_met c.raise_fully.result c.in-Met.is)).0 c.in-Met.is);
+      tree = λ _ _. done.leaves.tree (not_stopped c.raise_fully.result c.in-Met.is);
+      raised = λ e. absurd (served_gave_up e);
+      kept = done.raised.kept;
+      shape = record { nodes = refl; sets = refl };
+      cost = λ _. done.cost;
+      used = λ _. done.used;
+      gave_up = λ e. absurd (served_gave_up e);
+      searched = λ _. refl;
+      search_cost = λ h. absurd (tree_searches c.args.method c.in-Tree.is h);
+    }
+
+pub returns-in-Unfinished : goal.returns-in-Unfinished
+returns-in-Unfinished g c =
+    let done = c.raise_fully.ensures in
+    record {
+      served = λ e. absurd (served_gave_up (sym e));
+      tree = λ _ e. absurd (served_gave_up (sym e));
+      raised = λ _. done.raised.rest;
+      kept = done.raised.kept;
+      shape = record { nodes = refl; sets = refl };
+      cost = λ _. done.cost;
+      used = λ _. done.used;
+      gave_up = λ _. done.gave_up c.in-Unfinished.is;
+      searched = λ h. absurd (tree_searches c.args.method c.in-Tree.is h);
+      search_cost = λ h. absurd (tree_searches c.args.method c.in-Tree.is h);
+    }
 
 pub begin_with-requires-clause-words : goal.begin_with-requires-clause-words
 begin_with-requires-clause-words g c =
@@ -43,3 +110,15 @@ returns-in-Stopped-clause-served g c = λ _.
     (ap (λ (n : ℕ). marks n c.unlabeled_marks.result.now) nodes
     ∙ marks_are c.raise_fully.new.circ.nodes c.unlabeled_marks.result.now c.raise_fully.new.tree
     (done.leaves.artificial c.in-Stopped.is).words c.unlabeled_marks.ensures.marks))
+
+pub returns-in-Stopped-clause-tree : goal.returns-in-Stopped-clause-tree
+returns-in-Stopped-clause-tree g c = λ _ _. c.drop_artificial.ensures.tree
+
+pub returns-in-Stopped-clause-raised : goal.returns-in-Stopped-clause-raised
+returns-in-Stopped-clause-raised g c = λ e. absurd (served_gave_up e)
+
+pub returns-in-Stopped-clause-gave_up : goal.returns-in-Stopped-clause-gave_up
+returns-in-Stopped-clause-gave_up g c = λ e. absurd (served_gave_up e)
+
+pub returns-in-Stopped-clause-search_cost : goal.returns-in-Stopped-clause-search_cost
+returns-in-Stopped-clause-search_cost g c = λ h. absurd (tree_searches c.args.method c.in-Tree.is h)

@@ -31,50 +31,129 @@ arid t p both h = grind (arith, nat_tests)
 wet : (t : Bool) (p : ℕ) → (IsTrue t ↔ (p ≡ 0)) → t ≡ false → 0 < p
 wet t p both h = grind (arith, nat_tests)
 
-pub returns-else-eq-clause-leaves : goal.returns-else-eq-clause-leaves
-returns-else-eq-clause-leaves g c =
+met_stopped : (r : TreeRaised) → r ≡ TreeRaised.Stopped → r ≡ TreeRaised.Met → ⊥
+met_stopped r e f = let both : TreeRaised.Stopped ≡ TreeRaised.Met = sym e ∙ f in cc (both)
+
+met_unfinished : TreeRaised.Met ≡ TreeRaised.Unfinished → ⊥
+met_unfinished h = cc (h)
+
+stopped_unfinished : TreeRaised.Stopped ≡ TreeRaised.Unfinished → ⊥
+stopped_unfinished h = cc (h)
+
+-- before the first push the head is unlabeled
+pub returns-then-is_unlabeled-2 : goal.returns-then-is_unlabeled-2
+returns-then-is_unlabeled-2 g c =
+    let r = c.raise_within_unlabeled in
+    let done = r.ensures in
+    let bare = arid c.is_unlabeled-then-is_unlabeled.result (label_of c.args.tree.now c.ends-ends.result.to)
+    c.is_unlabeled-then-is_unlabeled.ensures c.if-is_unlabeled-2.true in
+    record {
+      raised = record {
+        kept = done.kept;
+        rest = done.rest;
+        held = done.held;
+        rises = done.rises;
+        limit = done.limit;
+      };
+      met = done.met;
+      leaves = record { tree = done.tree; artificial = done.artificial; cut = done.cut };
+      count = done.count;
+      cost = done.cost;
+      unfinished = λ is. elim (cases_eq r.new.searches c.args.searches.now) [
+        | inr pushed ↦ inl (omega (arith, pushed, done.count, done.cost))
+        | inl none ↦ elim (done.at_first is none (omega arith)) [
+          | inl full ↦ inr full
+          | inr labeled ↦ absurd (omega (
+            arith,
+            subst (λ (v : ℕ). IsLabeled c.args.tree.now v) (sym c.ends-ends.ensures.to) labeled,
+            bare,
+          ))
+        ]
+      ];
+    }
+
+pub returns-else-eq : goal.returns-else-eq
+returns-else-eq g c =
+    let done = c.raise_by_tree-pulled.ensures in
     let tree = c.raise_by_tree-pulled.new.tree in
     record {
-      tree = λ _. c.raise_by_tree-pulled.ensures.tree;
-      artificial = λ is. artificial_some c.raise_by_tree-pulled.new.circ tree (2 * c.args.claim.exit + 1)
-          c.raise_by_tree-pulled.ensures.tree;
-      cut = λ is. c.raise_by_tree-pulled.ensures.cut is (elim c.else-eq.branch [
-        | else-eq-via-then-eq+else-is_unlabeled-3 w ↦
-            subst (λ (v : ℕ). IsLabeled tree v) c.ends-ends.ensures.to
-            (wet w.is_unlabeled-then-eq.result (label_of tree c.ends-ends.result.to) w.is_unlabeled-then-eq.ensures
-            w.if-is_unlabeled-3.false)
-        | else-eq-via-else-eq w ↦
-            absurd (not_unlabeled c.raise_by_tree-pulled.result (sym c.eq.ensures ∙ w.if-eq.false) is)
-      ]);
+      raised = record {
+        kept = done.kept;
+        rest = done.rest;
+        held = done.held;
+        rises = done.rises;
+        limit = done.limit;
+      };
+      met = done.met;
+      leaves = record {
+        tree = λ _. c.raise_by_tree-pulled.ensures.tree;
+        artificial = λ is. artificial_some c.raise_by_tree-pulled.new.circ tree (2 * c.args.claim.exit + 1)
+            c.raise_by_tree-pulled.ensures.tree;
+        cut = λ is. c.raise_by_tree-pulled.ensures.cut is (elim c.else-eq.branch [
+          | else-eq-via-then-eq+else-is_unlabeled-3 w ↦
+              subst (λ (v : ℕ). IsLabeled tree v) c.ends-ends.ensures.to
+              (wet w.is_unlabeled-then-eq.result (label_of tree c.ends-ends.result.to) w.is_unlabeled-then-eq.ensures
+              w.if-is_unlabeled-3.false)
+          | else-eq-via-else-eq w ↦
+              absurd (not_unlabeled c.raise_by_tree-pulled.result (sym c.eq.ensures ∙ w.if-eq.false) is)
+        ]);
+      };
+      count = done.count;
+      cost = done.cost;
+      unfinished = λ is. elim (done.unfinished is) [ inl pushed ↦ inl pushed | inr full ↦ inr full.1 ];
     }
 
 -- without a push both ends are as they were, so that one of them is labeled
-pub returns-then-is_unlabeled-3-clause-unfinished : goal.returns-then-is_unlabeled-3-clause-unfinished
-returns-then-is_unlabeled-3-clause-unfinished g c = λ _.
-    let r = c.raise_by_tree-pulled in
-    let ends = c.ends-ends in
-    let kept = ends.ensures.kept in
-    elim (cases_eq r.new.searches c.args.searches.now) [
-      | inr pushed ↦ inl (omega (arith, pushed, r.ensures.count, r.ensures.cost))
-      | inl none ↦ inl (
-          let stay = λ (v : ℕ) (b : v ≤ c.args.circ.now.nodes) (m : IsLabeled c.args.tree.now v).
-          same_labeled c.args.circ.now r.new.circ c.args.tree.now r.new.tree v kept
-          (r.ensures.still none c.requires.held) c.requires.tree r.ensures.tree b m in
-          let tail = r.ensures.unlabeled (is_unlabeled r.result (sym c.eq.ensures ∙ c.if-eq.true)) in
-          let head = arid c.is_unlabeled-then-eq.result (label_of r.new.tree ends.result.to)
-          c.is_unlabeled-then-eq.ensures
-          c.if-is_unlabeled-3.true in
-          elim c.else-is_unlabeled.branch [
-            | else-is_unlabeled-via-then-is_unlabeled+else-is_unlabeled-2 w ↦
-                let was = wet w.is_unlabeled-then-is_unlabeled.result (label_of c.args.tree.now ends.result.to)
-                w.is_unlabeled-then-is_unlabeled.ensures w.if-is_unlabeled-2.false in
-                let inside = kept.ends.to_in c.args.claim.arc c.requires.claim.arc in
-                omega (arith, stay ends.result.to (omega (arith, ends.ensures.to, inside)) was, head)
-            | else-is_unlabeled-via-else-is_unlabeled w ↦
-                let was = wet c.is_unlabeled.result (label_of c.args.tree.now ends.result.from) c.is_unlabeled.ensures
-                w.if-is_unlabeled.false in
-                let inside = kept.ends.from_in c.args.claim.arc c.requires.claim.arc in
-                let now = stay ends.result.from (omega (arith, ends.ensures.from, inside)) was in
-                omega (arith, subst (λ (v : ℕ). IsLabeled r.new.tree v) ends.ensures.from now, tail)
-          ])
-    ]
+pub returns-then-is_unlabeled-3 : goal.returns-then-is_unlabeled-3
+returns-then-is_unlabeled-3 g c =
+    let done = c.raise_by_tree-pulled.ensures in
+    let is = is_unlabeled c.raise_by_tree-pulled.result (sym c.eq.ensures ∙ c.if-eq.true) in
+    record {
+      raised = record {
+        kept = done.kept;
+        rest = done.rest;
+        held = done.held;
+        rises = done.rises;
+        limit = done.limit;
+      };
+      met = (
+        λ e. absurd (met_unfinished (sym e)),
+        λ same. absurd (met_stopped c.raise_by_tree-pulled.result is (done.met.1 same)),
+      );
+      leaves = record {
+        tree = λ _. done.tree;
+        artificial = λ e. absurd (stopped_unfinished (sym e));
+        cut = λ e. absurd (stopped_unfinished (sym e));
+      };
+      count = done.count;
+      cost = done.cost;
+      unfinished = λ _.
+          let r = c.raise_by_tree-pulled in
+          let ends = c.ends-ends in
+          let kept = ends.ensures.kept in
+          elim (cases_eq r.new.searches c.args.searches.now) [
+            | inr pushed ↦ inl (omega (arith, pushed, r.ensures.count, r.ensures.cost))
+            | inl none ↦ inl (
+                let stay = λ (v : ℕ) (b : v ≤ c.args.circ.now.nodes) (m : IsLabeled c.args.tree.now v).
+                same_labeled c.args.circ.now r.new.circ c.args.tree.now r.new.tree v kept
+                (r.ensures.still none c.requires.held) c.requires.tree r.ensures.tree b m in
+                let tail = r.ensures.unlabeled (is_unlabeled r.result (sym c.eq.ensures ∙ c.if-eq.true)) in
+                let head = arid c.is_unlabeled-then-eq.result (label_of r.new.tree ends.result.to)
+                c.is_unlabeled-then-eq.ensures
+                c.if-is_unlabeled-3.true in
+                elim c.else-is_unlabeled.branch [
+                  | else-is_unlabeled-via-then-is_unlabeled+else-is_unlabeled-2 w ↦
+                      let was = wet w.is_unlabeled-then-is_unlabeled.result (label_of c.args.tree.now ends.result.to)
+                      w.is_unlabeled-then-is_unlabeled.ensures w.if-is_unlabeled-2.false in
+                      let inside = kept.ends.to_in c.args.claim.arc c.requires.claim.arc in
+                      omega (arith, stay ends.result.to (omega (arith, ends.ensures.to, inside)) was, head)
+                  | else-is_unlabeled-via-else-is_unlabeled w ↦
+                      let was = wet c.is_unlabeled.result (label_of c.args.tree.now ends.result.from)
+                      c.is_unlabeled.ensures
+                      w.if-is_unlabeled.false in
+                      let inside = kept.ends.from_in c.args.claim.arc c.requires.claim.arc in
+                      let now = stay ends.result.from (omega (arith, ends.ensures.from, inside)) was in
+                      omega (arith, subst (λ (v : ℕ). IsLabeled r.new.tree v) ends.ensures.from now, tail)
+                ])
+          ];
+    }
