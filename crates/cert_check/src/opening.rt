@@ -116,7 +116,7 @@ pub fn last_outlet(basin: &Basin) -> u32
     last
 }
 
-/// A basin and its series with what is derived from the basin.
+/// A basin and its series with what is derived from the basin. AllocError comes where memory is lacking.
 pub fn context_of<'b>(
     alloc: Global,
     basin: &'b Basin,
@@ -141,7 +141,8 @@ pub fn context_of<'b>(
     })
 }
 
-/// A check state of no line, room for a set, and a reader that was given no line.
+/// A check state of no line, room for a set, and a reader that was given no line. AllocError comes where memory is
+/// lacking.
 fn parts_of<'b>(
     alloc: Global,
     basin: &'b Basin,
@@ -161,7 +162,7 @@ fn parts_of<'b>(
     Ok((state, last_set, reader))
 }
 
-/// The progress of no line, with this audit of no line if one is asked for.
+/// The progress of no line, with this audit of no line if one is asked for. AllocError comes where memory is lacking.
 pub fn progress_of<'b>(
     alloc: Global,
     basin: &'b Basin,
