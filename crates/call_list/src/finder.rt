@@ -1,5 +1,5 @@
 //! What a month's list of calls is found with.
-ghost use Rattle.std.specs.Prelude.{◌≡◌, IfOk};
+ghost use Rattle.std.specs.Prelude.{◌≡◌, length, IfOk};
 ghost use Rattle.water_model.specs.History.{HasReaches};
 ghost use Rattle.water_model.specs.Valid.{IsValidBasin};
 ghost use Rattle.rights_roll.specs.Rolls.{IsRollOf};
@@ -41,6 +41,22 @@ impl Model for CallFinder {
     } };
 }
 
+/// A list with room for each link, and lists in which nothing was found, by node and by link. AllocError comes where
+/// memory is lacking.
+fn lists_of(
+    alloc: Global,
+    basin: &Basin,
+) -> Result<(Vec<u32>, Vec<Option<u32>>, Vec<Option<u32>>), AllocError>
+    ensures undecided { IfOk result (λ lists. length lists.0.items ≡ length basin.now.links) }
+    ensures nodes { IfOk result (λ lists. length lists.1.items ≡ length basin.now.nodes) }
+    ensures links { IfOk result (λ lists. length lists.2.items ≡ length basin.now.links) }
+{
+    let undecided = vec![in alloc; 0; basin.links.len()]?;
+    let next = vec![in alloc; None; basin.nodes.len()]?;
+    let helped = vec![in alloc; None; basin.links.len()]?;
+    Ok((undecided, next, helped))
+}
+
 impl CallFinder {
     /// Takes the memory for a basin, and has found nothing yet. Refused only where memory runs out; no other call takes
     /// memory.
@@ -49,9 +65,7 @@ impl CallFinder {
         ensures { IfOk result (IsFinderOf basin.now) }
     {
         let search = ResidualSearch::open(alloc, basin)?;
-        let undecided = vec![in alloc; 0; basin.links.len()]?;
-        let next = vec![in alloc; None; basin.nodes.len()]?;
-        let helped = vec![in alloc; None; basin.links.len()]?;
+        let (undecided, next, helped) = lists_of(alloc, basin)?;
         Ok(CallFinder {
             search,
             undecided,

@@ -12,15 +12,10 @@ ghost use Rattle.water_model.specs.Valid.{IsValidBasin, IsSeriesOf};
 ghost use Rattle.water_text.specs.LinesIn.{TakesToFeed};
 
 use crate::audit::{Audit, answer};
-use crate::last_set::LastSet;
-use crate::opening::{blank_state, last_outlet};
+use crate::opening::{context_of, progress_of};
 use crate::progress::{CheckProgress, take_likely, take_likely_set, take_line};
 use crate::refuted::{Refuted, RefutedKind};
 use crate::state::Context;
-use cut_cert::rows::NodeRows;
-use month_terms::evaporation::tables_of;
-use result_reader::ResultReader;
-use rights_roll::roll::Roll;
 use std::alloc::{AllocError, Global};
 use std::marker::Model;
 use water_model::types::{Basin, Inflows};
@@ -66,31 +61,11 @@ impl<'b> Checker<'b> {
         ensures bounded { IfOk result (λ checker. lines_left checker ≤ 5 * 10 ^ 9) }
         ensures audit { IfOk result (λ checker. checker.progress.audit ≡ audit) }
     {
-        let roll = Roll::of_basin(alloc, basin)?;
-        let rows = NodeRows::of(alloc, basin, &roll)?;
-        let tables = tables_of(alloc, basin)?;
-        let state = blank_state(alloc, basin)?;
-        let last_set = LastSet::open(alloc, basin)?;
-        let reader = ResultReader::open(alloc, basin, &roll)?;
-        let context = Context {
-            basin,
-            series,
-            roll,
-            rows,
-            tables,
-            last_outlet: last_outlet(basin),
-        };
+        let context = context_of(alloc, basin, series)?;
+        let progress = progress_of(alloc, basin, &context.roll, audit)?;
         Ok(Checker {
             context,
-            progress: CheckProgress {
-                reader,
-                state,
-                read: 0,
-                last_other: 0,
-                ended: false,
-                audit,
-                last_set,
-            },
+            progress,
             refused: None,
         })
     }

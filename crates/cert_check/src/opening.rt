@@ -1,22 +1,34 @@
 //! What a checker begins with. Only these functions take memory.
-ghost use Rattle.std.specs.Prelude.{ℕ, ◌≡◌, ◌<◌, [], length, nat_le, if◌then◌else◌, IfOk};
+ghost use Rattle.std.specs.Prelude.{ℕ, ◌≡◌, ◌*◌, ◌^◌, ◌<◌, ◌≤◌, [], length, nat_le, if◌then◌else◌, IfOk};
 ghost use Rattle.std.specs.List.{list_all};
 ghost use Rattle.lag_returns.specs.Lags as lag;
 ghost use Rattle.lag_returns.specs.Lags.{HasReturned};
 ghost use Rattle.result_reader.specs.ReadSoFar.{nothing_read};
+ghost use Rattle.result_reader.specs.Standing.{ReaderStandsFor};
+ghost use Rattle.rights_roll.specs.Rolls.{IsRollOf};
 ghost use Rattle.water_model.specs.Basin.{is_outlet};
 ghost use Rattle.water_model.specs.Indices.{outlets};
-ghost use Rattle.water_model.specs.Valid.{IsValidBasin};
+ghost use Rattle.water_model.specs.Valid.{IsValidBasin, IsSeriesOf};
 ghost use Rattle.water_model.specs.declared.types.Inflows.{Inflows};
+ghost use Rattle.cert_check.specs.Auditing.{IsAuditIfAny};
+ghost use Rattle.cert_check.specs.Context.{IsContext};
 ghost use Rattle.cert_check.specs.Keeping.{Keeps};
+ghost use Rattle.cert_check.specs.Standing.{IsProgressOf};
 
-use crate::state::CheckState;
+use crate::audit::Audit;
+use crate::last_set::LastSet;
+use crate::progress::CheckProgress;
+use crate::state::{CheckState, Context};
+use cut_cert::rows::NodeRows;
 use lag_returns::Lags;
+use month_terms::evaporation::tables_of;
 use month_terms::opening::{blank_month, openings};
+use result_reader::ResultReader;
+use rights_roll::roll::Roll;
 use std::alloc::{AllocError, Global};
 use water_model::blank::zeros;
 use water_model::rows::Rows;
-use water_model::types::{Basin, MAX_NODES};
+use water_model::types::{Basin, Inflows, MAX_NODES};
 
 /// What comes back to each node in the first month.
 fn first_comes(alloc: Global, basin: &Basin, lags: &Lags) -> Result<Rows<u64>, AllocError>
@@ -102,4 +114,76 @@ pub fn last_outlet(basin: &Basin) -> u32
         last = last_with(basin, last, node);
     }
     last
+}
+
+/// A basin and its series with what is derived from the basin. AllocError comes where memory is lacking.
+pub fn context_of<'b>(
+    alloc: Global,
+    basin: &'b Basin,
+    series: &'b Inflows,
+) -> Result<Context<'b>, AllocError>
+    requires basin { IsValidBasin basin.now }
+    requires series { IsSeriesOf basin.now series.now }
+    ensures basin { IfOk result (λ context. context.basin.now ≡ basin.now) }
+    ensures series { IfOk result (λ context. context.series.now ≡ series.now) }
+    ensures context { IfOk result IsContext }
+{
+    let roll = Roll::of_basin(alloc, basin)?;
+    let rows = NodeRows::of(alloc, basin, &roll)?;
+    let tables = tables_of(alloc, basin)?;
+    Ok(Context {
+        basin,
+        series,
+        roll,
+        rows,
+        tables,
+        last_outlet: last_outlet(basin),
+    })
+}
+
+/// A check state of no line, room for a set, and a reader that was given no line. AllocError comes where memory is
+/// lacking.
+fn parts_of<'b>(
+    alloc: Global,
+    basin: &'b Basin,
+    roll: &Roll,
+) -> Result<(Box<CheckState>, LastSet, ResultReader<'b>), AllocError>
+    requires basin { IsValidBasin basin.now }
+    requires roll { IsRollOf basin.now.rights roll.now }
+    ensures state { IfOk result (λ parts. (series : Inflows) →
+        Keeps basin.now series parts.0.value (nothing_read basin.now)) }
+    ensures basin { IfOk result (λ parts. parts.2.basin ≡ basin.now) }
+    ensures none { IfOk result (λ parts. ReaderStandsFor parts.2 []) }
+    ensures bounded { IfOk result (λ parts. parts.2.left ≤ 5 * 10 ^ 9) }
+{
+    let state = blank_state(alloc, basin)?;
+    let last_set = LastSet::open(alloc, basin)?;
+    let reader = ResultReader::open(alloc, basin, roll)?;
+    Ok((state, last_set, reader))
+}
+
+/// The progress of no line, with this audit of no line if one is asked for. AllocError comes where memory is lacking.
+pub fn progress_of<'b>(
+    alloc: Global,
+    basin: &'b Basin,
+    roll: &Roll,
+    audit: Option<Audit>,
+) -> Result<CheckProgress<'b>, AllocError>
+    requires basin { IsValidBasin basin.now }
+    requires roll { IsRollOf basin.now.rights roll.now }
+    requires audit { IsAuditIfAny basin.now (nothing_read basin.now) [] audit }
+    ensures none { IfOk result (λ progress. (series : Inflows) → IsProgressOf basin.now series progress []) }
+    ensures bounded { IfOk result (λ progress. progress.reader.left ≤ 5 * 10 ^ 9) }
+    ensures audit { IfOk result (λ progress. progress.audit ≡ audit) }
+{
+    let (state, last_set, reader) = parts_of(alloc, basin, roll)?;
+    Ok(CheckProgress {
+        reader,
+        state,
+        read: 0,
+        last_other: 0,
+        ended: false,
+        audit,
+        last_set,
+    })
 }

@@ -1,5 +1,5 @@
 //! Months solved and kept.
-ghost use Rattle.std.specs.Prelude.{◌≡◌, ◌+◌, ◌-◌, ◌<◌, ◌≤◌, take, vec_len, OnOk, OnErr};
+ghost use Rattle.std.specs.Prelude.{◌≡◌, ◌+◌, ◌-◌, ◌<◌, ◌≤◌, ◌++◌, ◌∷◌, [], take, vec_len, OnOk, OnErr};
 ghost use Rattle.water_model.specs.Valid.{IsValidBasin, IsSeriesOf};
 ghost use Rattle.month_fold.specs.Runs.{RunStandsFor, run_with};
 ghost use Rattle.month_fold.specs.Works.{Solves};
@@ -10,6 +10,22 @@ use month_fold::work::Work;
 use std::alloc::{AllocError, Global};
 use std::sync::ledger::Ledger;
 use water_model::types::{Inflows, MonthRecord};
+
+/// Keeps a copy of a record after those that are kept. After an AllocError those before are kept.
+fn keep(
+    alloc: Global,
+    month: &MonthRecord,
+    kept: &mut Vec<Box<MonthRecord>>,
+) -> Result<(), AllocError>
+    ensures records { OnOk result
+        (records_of kept.new.items ≡ records_of kept.old.items ++ month.now ∷ []) }
+    ensures stay { take (vec_len kept.old) kept.new.items ≡ kept.old.items }
+    ensures count { OnOk result (vec_len kept.new ≡ vec_len kept.old + 1) }
+    ensures same { OnErr result (kept.new.items ≡ kept.old.items) }
+{
+    kept.push(month.copy(alloc)?)?;
+    Ok(())
+}
 
 /// Solves the month of this index, after those that are kept, and keeps its record too. After an AllocError those
 /// before are kept.
@@ -32,7 +48,7 @@ fn add_month<P: Ledger, M: Ledger>(
     ensures work { Solves 1 engine.old.basin work.old work.new }
 {
     engine.step(series, index, work);
-    kept.push(engine.month().copy(alloc)?)?;
+    keep(alloc, engine.month(), kept)?;
     Ok(())
 }
 

@@ -3,7 +3,7 @@ use Rattle.std.proofs.Common.{◌≡◌, ℕ, sym, ap, subst, ◌∙◌, List, [
 use Rattle.std.specs.Prelude.{slice_index_or}
 use Rattle.std.specs.List.{flat_map}
 use Rattle.std.specs.List.Sorted.{IsNonDecreasingBy, IsPermutation}
-use Rattle.water_edge.specs.Edge.{Output}
+use Rattle.water_edge.specs.Edge.{Extends, Output}
 use Rattle.water_model.specs.Indices.{seniors_first}
 use Rattle.water_model.specs.declared.types.Basin.{Basin}
 use Rattle.water_model.specs.declared.types.Inflows.{Inflows}
@@ -36,6 +36,14 @@ sorted_lines b series sums amounts h count moved sorted = record {
       (sym (same_lines (slice_index_or sums r []) (slice_index_or amounts r []) (moved r))
       ∙ ap yearly_lines (sums_whole b series sums h r (seniors_below b.rights r k)))));
 }
+
+-- these lines are the text of the traces
+pub text_whole : (b : Basin) (series : Inflows) (amounts : List (List ℕ)) (old new : Output) →
+    HaveLines b series amounts →
+    Extends old new (flat_map (whole_line b) (ensemble_lines b (λ r. slice_index_or amounts r []))) →
+    (traces : List (List MonthRecord)) × AreTraces b series traces × Extends old new (ensemble_text b traces)
+text_whole b series amounts old new h whole =
+    (h.traces, h.whole, subst (λ (ls : List EnsembleLine). Extends old new (flat_map (whole_line b) ls)) h.lines whole)
 
 -- a prefix of these lines is a prefix of the text of the traces
 pub text_cut : (b : Basin) (series : Inflows) (amounts : List (List ℕ)) (old new : Output) →

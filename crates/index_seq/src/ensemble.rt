@@ -49,6 +49,29 @@ fn sorted_amounts<'b, P: Ledger, M: Ledger>(
     Ok(all)
 }
 
+/// Puts how often each amount came.
+///
+/// Each line is one `put`. SinkFailed comes only where the sink counted a fault, and a prefix of the text stands; no
+/// other error comes.
+fn put_amounts<'b, K: Sink>(
+    sink: &mut K,
+    basin: &Basin,
+    series: &Inflows,
+    all: &EnsembleState<'b>,
+) -> Result<(), EnsembleStop>
+    requires basin { IsValidBasin basin.now }
+    requires engine { all.now.engine.basin ≡ basin.now }
+    requires lines { HaveLines basin.now series.now all.now.amounts }
+    ensures text { WritesTraces basin.now series.now result (K.output sink.old) (K.output sink.new) }
+    ensures cause { HasCause (K.faults sink.old) (K.faults sink.new) (result ≡ Err SinkFailed) }
+    ensures stays { result ≡ Err OutOfMemory → sink.new ≡ sink.old }
+{
+    match put_ensemble(sink, basin, all.engine.roll(), all.amounts.as_slice()) {
+        Ok(()) => Ok(()),
+        Err(_) => Err(EnsembleStop::SinkFailed),
+    }
+}
+
 /// Runs the record of a basin's gauges once from each of its years, and then puts how often each yearly delivery of
 /// each right came. Nothing is put before all traces are run.
 ///
@@ -69,12 +92,6 @@ pub fn ensemble_report<K: Sink, P: Ledger, M: Ledger>(
     ensures stays { result ≡ Err OutOfMemory → sink.new ≡ sink.old }
     ensures work { Solves (years_of basin.now * basin.now.months) basin.now work.old work.new }
 {
-    let all = match sorted_amounts(alloc, basin, series, work) {
-        Ok(all) => all,
-        Err(_) => return Err(EnsembleStop::OutOfMemory),
-    };
-    match put_ensemble(sink, basin, all.engine.roll(), all.amounts.as_slice()) {
-        Ok(()) => Ok(()),
-        Err(_) => Err(EnsembleStop::SinkFailed),
-    }
+    let all = sorted_amounts(alloc, basin, series, work)?;
+    put_amounts(sink, basin, series, &all)
 }

@@ -150,11 +150,110 @@ fn run_trace<'b, P: Ledger, M: Ledger>(
     Ok(run.close())
 }
 
+/// Runs all traces in one engine, trace by trace. `begun` is written over with the series of each. AllocError comes
+/// where memory is lacking.
+fn run_each<'b, P: Ledger, M: Ledger>(
+    basin: &Basin,
+    series: &Inflows,
+    mut engine: Engine<'b>,
+    begun: &mut Inflows,
+    sums: &mut [Rows<u64>],
+    year: &mut [u64],
+    work: &mut Work<P, M>,
+) -> Result<Engine<'b>, AllocError>
+    requires basin { IsValidBasin basin.now }
+    requires whole { HasWholeYears basin.now }
+    requires series { IsSeriesOf basin.now series.now }
+    requires engine { engine.basin ≡ basin.now }
+    requires begun { IsRotationOf series.now begun.old }
+    requires sums { HaveSums basin.now series.now 0 sums.old }
+    requires year { IsEmptyYear basin.now year.old }
+    ensures engine { IfOk result (λ kept. kept.basin ≡ basin.now) }
+    ensures sums { OnOk result (HaveSums basin.now series.now (years_of basin.now) sums.new) }
+    ensures work { Solves (years_of basin.now * basin.now.months) basin.now work.old work.new }
+{
+    let count = basin.months / 12;
+    for trace in 0..count {
+        engine = run_trace(basin, series, trace, engine, begun, sums, year, work)?;
+    }
+    Ok(engine)
+}
+
 /// What each right was delivered in each year of each trace, by right, and the engine that ran the traces.
 #[derive(Drop)]
 pub struct EnsembleState<'b> {
     pub engine: Engine<'b>,
     pub amounts: Rows<Rows<u64>>,
+}
+
+/// What all traces are run in, beside an engine: what each right was delivered so far, by right, and in the year so
+/// far, and the series that the next trace begins with.
+#[derive(Drop)]
+struct TraceRoom {
+    amounts: Rows<Rows<u64>>,
+    year: Rows<u64>,
+    begun: Inflows,
+}
+
+/// Room for the traces of a basin, in which none was run yet. AllocError comes where memory is lacking.
+fn room_for_traces(alloc: Global, basin: &Basin, series: &Inflows) -> Result<TraceRoom, AllocError>
+    requires { IsValidBasin basin.now }
+    ensures sums { IfOk result (λ room. HaveSums basin.now series.now 0 room.amounts) }
+    ensures year { IfOk result (λ room. IsEmptyYear basin.now room.year) }
+    ensures begun { IfOk result (λ room. room.begun ≡ series.now) }
+{
+    let count = basin.months / 12;
+    let amounts = empty_sums(alloc, basin.rights.len(), (count * count) as usize)?;
+    // A year in which no right was delivered anything yet.
+    let year = zeros(alloc, basin.rights.len())?;
+    let begun = series.copy(alloc)?;
+    Ok(TraceRoom {
+        amounts,
+        year,
+        begun,
+    })
+}
+
+/// An engine, and what each right was delivered in each year of each trace that was run in a room.
+fn state_of<'b>(engine: Engine<'b>, room: TraceRoom) -> EnsembleState<'b>
+    ensures engine { result.engine ≡ engine.entry }
+    ensures amounts { result.amounts ≡ room.amounts }
+{
+    EnsembleState {
+        engine,
+        amounts: room.amounts,
+    }
+}
+
+/// Runs all traces in one engine and one room, in which none was run yet. AllocError comes where memory is lacking.
+fn run_in_room<'b, P: Ledger, M: Ledger>(
+    basin: &Basin,
+    series: &Inflows,
+    engine: Engine<'b>,
+    mut room: TraceRoom,
+    work: &mut Work<P, M>,
+) -> Result<EnsembleState<'b>, AllocError>
+    requires basin { IsValidBasin basin.now }
+    requires whole { HasWholeYears basin.now }
+    requires series { IsSeriesOf basin.now series.now }
+    requires engine { engine.basin ≡ basin.now }
+    requires begun { IsRotationOf series.now room.begun }
+    requires sums { HaveSums basin.now series.now 0 room.amounts }
+    requires year { IsEmptyYear basin.now room.year }
+    ensures engine { IfOk result (λ all. all.engine.basin ≡ basin.now) }
+    ensures sums { IfOk result (λ all. HaveSums basin.now series.now (years_of basin.now) all.amounts) }
+    ensures work { Solves (years_of basin.now * basin.now.months) basin.now work.old work.new }
+{
+    let engine = run_each(
+        basin,
+        series,
+        engine,
+        &mut room.begun,
+        room.amounts.as_mut_slice(),
+        room.year.as_mut_slice(),
+        work,
+    )?;
+    Ok(state_of(engine, room))
 }
 
 /// Runs all traces in one engine, trace by trace. AllocError comes where memory is lacking: it is taken once for all
@@ -163,7 +262,7 @@ pub fn run_traces<'b, P: Ledger, M: Ledger>(
     alloc: Global,
     basin: &Basin,
     series: &Inflows,
-    mut engine: Engine<'b>,
+    engine: Engine<'b>,
     work: &mut Work<P, M>,
 ) -> Result<EnsembleState<'b>, AllocError>
     requires basin { IsValidBasin basin.now }
@@ -174,25 +273,6 @@ pub fn run_traces<'b, P: Ledger, M: Ledger>(
     ensures sums { IfOk result (λ all. HaveSums basin.now series.now (years_of basin.now) all.amounts) }
     ensures work { Solves (years_of basin.now * basin.now.months) basin.now work.old work.new }
 {
-    let count = basin.months / 12;
-    let mut sums = empty_sums(alloc, basin.rights.len(), (count * count) as usize)?;
-    // A year in which no right was delivered anything yet.
-    let mut year = zeros(alloc, basin.rights.len())?;
-    let mut begun = series.copy(alloc)?;
-    for trace in 0..count {
-        engine = run_trace(
-            basin,
-            series,
-            trace,
-            engine,
-            &mut begun,
-            sums.as_mut_slice(),
-            year.as_mut_slice(),
-            work,
-        )?;
-    }
-    Ok(EnsembleState {
-        engine,
-        amounts: sums,
-    })
+    let room = room_for_traces(alloc, basin, series)?;
+    run_in_room(basin, series, engine, room, work)
 }

@@ -1,4 +1,8 @@
 //! Why an ensemble stops.
+ghost use Rattle.std.specs.Prelude.{◌≡◌};
+ghost use Rattle.index_seq.specs.declared.stop.EnsembleStop.TheVariants.{OutOfMemory};
+
+use std::alloc::AllocError;
 
 /// Why an ensemble isn't whole.
 #[derive(Clone, Copy, Debug, PartialEq, Eq)]
@@ -7,4 +11,12 @@ pub enum EnsembleStop {
     SinkFailed,
     /// Memory is lacking. The sink is as it was.
     OutOfMemory,
+}
+
+impl From<AllocError> for EnsembleStop {
+    ghost from_gives = { λ _ e. e ≡ OutOfMemory };
+
+    fn from(_error: AllocError) -> EnsembleStop {
+        EnsembleStop::OutOfMemory
+    }
 }

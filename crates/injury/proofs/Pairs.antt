@@ -102,3 +102,7 @@ pairs_bounded first second (r ∷ order) = one (pair_of first second r) (pairs_b
         length (cons_option o (filter_map (pair_of first second) order)) ≤ length (r ∷ order)
     one None l = omega arith
     one (Some p) l = omega arith
+
+pub common_bounded : (first second : Basin) → length (common_rights first second) ≤ length (seniors_first first)
+unfolding common_rights
+common_bounded first second = pairs_bounded first second (seniors_first first)

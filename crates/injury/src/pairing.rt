@@ -2,6 +2,7 @@
 ghost use Rattle.std.specs.Prelude.{◌≡◌, ◌<◌, ◌≤◌, ◌++◌, length, false, option_to_list, IfOk, OnOk, IsErr};
 ghost use Rattle.water_edge.specs.Edge.{HasCause};
 ghost use Rattle.water_model.specs.Lookups.{of_entry};
+ghost use Rattle.water_model.specs.Indices.{seniors_first};
 ghost use Rattle.water_model.specs.Valid.{IsValidBasin};
 ghost use Rattle.water_model.specs.declared.space.Space.TheVariants.{Rights};
 ghost use Rattle.injury.specs.Common.{pair_of, common_rights, HaveDeliveries};
@@ -43,6 +44,25 @@ fn add_pair(pairs: &mut Vec<Pair>, pair: Option<Pair>) -> Result<(), AllocError>
     Ok(())
 }
 
+/// The pairs of the first basin's rights, which come in the order of seniority. AllocError comes where memory is
+/// lacking.
+fn pairs_of(
+    alloc: Global,
+    first: &Basin,
+    second: &SpaceNames,
+    rights: &[u32],
+) -> Result<Vec<Pair>, AllocError>
+    requires rights { rights.now ≡ seniors_first first.now }
+    requires of_rights { second.now.space ≡ Rights }
+    ensures { IfOk result (λ pairs. pairs.items ≡ common_rights first.now second.now.basin.now) }
+{
+    let mut pairs = Vec::new(alloc);
+    for right in rights {
+        add_pair(&mut pairs, pair_of(first, second, *right))?;
+    }
+    Ok(pairs)
+}
+
 /// The rights that two basins have in common.
 #[derive(Drop)]
 pub struct Pairing {
@@ -69,12 +89,8 @@ impl Pairing {
         ensures { IfOk result (λ pairing. pairing ≡ common_rights first.now second.now) }
     {
         let roll = Roll::of_basin(alloc, first)?;
-        let order = roll.by_seniority();
         let names = SpaceNames::of(alloc, Space::Rights, second)?;
-        let mut pairs = Vec::new(alloc);
-        for right in order {
-            add_pair(&mut pairs, pair_of(first, &names, *right))?;
-        }
+        let pairs = pairs_of(alloc, first, &names, roll.by_seniority())?;
         Ok(Pairing { pairs })
     }
 

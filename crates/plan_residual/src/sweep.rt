@@ -17,6 +17,7 @@ use crate::sources::{see_junior, spread_apart, spread_own};
 use crate::spread::{follow, spread_on};
 use crate::steps::Direction;
 use crate::visits::Queue;
+use cut_cert::calls::is_short;
 use water_model::types::RightKind;
 
 /// Follows the step back over a link from its head, if that was seen.
@@ -127,6 +128,15 @@ fn has_reach(scene: &Scene, right: u32, queue: &mut Queue) -> bool
     whole
 }
 
+/// Whether a right was delivered less than its want.
+fn tests_short(scene: &Scene, right: u32) -> bool
+    requires right { right < length scene.now.basin.rights }
+    ensures yes { OnTrue result (IsShort scene.now.month right) }
+    ensures no { OnFalse result (IsShort scene.now.month right → ⊥) }
+{
+    is_short(scene.month, right)
+}
+
 /// Whether the right at an index of the order is short and has another set than its reach. The sweep comes to it, if it
 /// is short.
 fn judge(scene: &Scene, position: usize, last: &mut Option<usize>, queue: &mut Queue) -> bool
@@ -142,8 +152,7 @@ fn judge(scene: &Scene, position: usize, last: &mut Option<usize>, queue: &mut Q
     ensures last { IsAt scene.now.basin scene.now.month queue.new.seen position last.new }
 {
     let right = scene.right_at(position);
-    let month = scene.month;
-    if month.delivered[right as usize] >= month.want[right as usize] {
+    if !tests_short(scene, right) {
         return false;
     }
     rise(scene, position, *last, queue);

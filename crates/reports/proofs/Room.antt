@@ -20,7 +20,7 @@ use Rattle.water_model.proofs.Histories.{last_follows, opens_with_last}
 use Rattle.water_model.proofs.Wants.{want_most}
 use Rattle.month_terms.proofs.Amounts.{each_month, delivered_small, deliveries_small}
 use Rattle.month_terms.proofs.Bounds.{inflows_small, returns_small}
-use Rattle.reports.specs.Figures.{waters_of, wanted, delivered, called_in, called_count}
+use Rattle.reports.specs.Figures.{waters_of, wanted, called_in, called_count}
 use Rattle.reports.specs.Tallies.{figures_of, HasRoom, HasRoomForMonth}
 use Rattle.reports.specs.declared.figures.RightFigures.{RightFigures}
 use Rattle.reports.specs.declared.waters.Waters.{Waters}

@@ -62,6 +62,25 @@ fn keep_months<T: Kept, P: Ledger, M: Ledger>(kept: &mut T, run: &mut Run, work:
     }
 }
 
+/// What is kept before the first month of a basin with a series, and the run that will solve it. AllocError comes where
+/// memory is lacking.
+fn opened<'b, 's, T: Kept>(
+    alloc: Global,
+    basin: &'b Basin,
+    series: &'s Inflows,
+) -> Result<(T, Run<'b, 's>), AllocError>
+    requires basin { IsValidBasin basin.now }
+    requires series { IsSeriesOf basin.now series.now }
+    ensures first { IfOk result (λ all. all.1.done ≡ 0) }
+    ensures basin { IfOk result (λ all. all.1.basin ≡ basin.now) }
+    ensures series { IfOk result (λ all. all.1.series ≡ series.now) }
+    ensures kept { IfOk result (λ all. IsKeptOf T.is_of all.1 all.0) }
+{
+    let run = Run::open(alloc, basin, series)?;
+    let kept = T::open(alloc, basin)?;
+    Ok((kept, run))
+}
+
 /// What is kept of all months of a basin with a series, and the run that solved them. AllocError comes where memory is
 /// lacking, before a month is solved.
 pub fn kept_of<'b, 's, T: Kept, P: Ledger, M: Ledger>(
@@ -77,8 +96,7 @@ pub fn kept_of<'b, 's, T: Kept, P: Ledger, M: Ledger>(
     ensures unsolved { OnErr result (work.new ≡ work.old) }
     ensures work { SolvesRun basin.now work.old work.new }
 {
-    let mut run = Run::open(alloc, basin, series)?;
-    let mut kept = T::open(alloc, basin)?;
+    let (mut kept, mut run) = opened::<T>(alloc, basin, series)?;
     keep_months(&mut kept, &mut run, work);
     Ok((kept, run))
 }

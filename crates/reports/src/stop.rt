@@ -1,4 +1,8 @@
 //! Why a report stops.
+ghost use Rattle.std.specs.Prelude.{◌≡◌};
+ghost use Rattle.reports.specs.declared.stop.ReportStop.TheVariants.{OutOfMemory};
+
+use std::alloc::AllocError;
 
 /// Why a report isn't whole.
 #[derive(Clone, Copy, Debug, PartialEq, Eq)]
@@ -7,4 +11,12 @@ pub enum ReportStop {
     SinkFailed,
     /// Memory is lacking. The sink is as it was.
     OutOfMemory,
+}
+
+impl From<AllocError> for ReportStop {
+    ghost from_gives = { λ _ e. e ≡ OutOfMemory };
+
+    fn from(_error: AllocError) -> ReportStop {
+        ReportStop::OutOfMemory
+    }
 }

@@ -105,3 +105,18 @@ pub returns-clause-work : goal.returns-clause-work
 returns-clause-work g c =
     solves_within c.args.engine.now.basin c.args.work.now c.loop-index.work c.loop-index.index c.args.kept.now.len
     c.args.count (omega (arith, c.loop-index.auto.index-end, c.requires.more)) c.loop-index.invariant.work
+
+pub add_month-requires-clause-stands : goal.add_month-requires-clause-stands
+add_month-requires-clause-stands g c = c.loop-index.invariant.stands
+
+pub returns-clause-basin : goal.returns-clause-basin
+returns-clause-basin g c = c.loop-index.invariant.basin
+
+pub returns-clause-stay : goal.returns-clause-stay
+returns-clause-stay g c = c.loop-index.invariant.stay
+
+pub returns-in_err-add_month-clause-basin : goal.returns-in_err-add_month-clause-basin
+returns-in_err-add_month-clause-basin g c = c.in_err-add_month.ensures.basin ∙ c.loop-index.invariant.basin
+
+pub returns-in_err-add_month-clause-stay : goal.returns-in_err-add_month-clause-stay
+returns-in_err-add_month-clause-stay g c = rw c.in_err-add_month.ensures.same c.loop-index.invariant.stay

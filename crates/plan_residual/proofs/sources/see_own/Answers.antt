@@ -1,8 +1,9 @@
-use Rattle.std.proofs.Common.{rules, ◌≡◌, ap, sym, ◌∙◌, inl, inr, ℕ}
+use Rattle.std.proofs.Common.{rules, ◌≡◌, ap, refl, sym, ◌∙◌, inl, inr, ℕ}
 use Rattle.std.proofs.lemmas.Option.{slice_get_within}
-use Rattle.std.specs.Prelude.{Some}
+use Rattle.std.specs.Prelude.{Some, None}
 use Rattle.water_model.specs.Basin.{head_of, instream_link}
 use Rattle.water_model.specs.Lookups.{has}
+use Rattle.plan_residual.proofs.Queues.{extends_same}
 use Rattle.plan_residual.proofs.sources.see_own.Goals as goal
 
 pub returns-in-Instream : goal.returns-in-Instream
@@ -27,4 +28,26 @@ returns-in-Instream c =
         )
         | inr old ↦ inr old
       ];
+    }
+
+pub returns-in-Diversion : goal.returns-in-Diversion
+returns-in-Diversion c =
+    let off : instream_link c.args.scene.now.basin c.args.right ≡ None = search rules in
+    record {
+      in_queue = c.requires.queue.in_queue;
+      count = refl;
+      extends = extends_same c.args.queue.now;
+      own = λ e l is. (let never : None ≡ Some e = sym off ∙ is in cc);
+      only = λ v h. inr h;
+    }
+
+pub returns-in-Zone : goal.returns-in-Zone
+returns-in-Zone c =
+    let off : instream_link c.args.scene.now.basin c.args.right ≡ None = search rules in
+    record {
+      in_queue = c.requires.queue.in_queue;
+      count = refl;
+      extends = extends_same c.args.queue.now;
+      own = λ e l is. (let never : None ≡ Some e = sym off ∙ is in cc);
+      only = λ v h. inr h;
     }

@@ -1,7 +1,7 @@
 use Rattle.std.proofs.Common.{◌≡◌, take}
 use Rattle.std.specs.Prelude.{filter_map}
 use Rattle.injury.specs.Common.{pair_of}
-use Rattle.injury.proofs.pairing.Pairing.build.Given as goal
+use Rattle.injury.proofs.pairing.pairs_of.Given as goal
 
 abbrev pub invariant-loop-right : goal.invariant-loop-right
-invariant-loop-right l = l.pairs.items ≡ filter_map (pair_of l.first l.names.basin.now) (take l.right-index l.order)
+invariant-loop-right l = l.pairs.items ≡ filter_map (pair_of l.first l.second.basin.now) (take l.right-index l.rights)

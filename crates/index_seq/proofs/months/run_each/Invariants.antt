@@ -1,7 +1,7 @@
 use Rattle.std.proofs.Common.{◌≡◌, ◌*◌}
 use Rattle.index_seq.specs.Sums.{HaveSums, IsEmptyYear}
 use Rattle.index_seq.specs.Traces.{IsRotationOf}
-use Rattle.index_seq.proofs.months.run_traces.Given as goal
+use Rattle.index_seq.proofs.months.run_each.Given as goal
 use Rattle.month_fold.specs.Works.{Solves}
 
 abbrev pub invariant-loop-trace : goal.invariant-loop-trace
