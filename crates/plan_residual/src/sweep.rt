@@ -129,7 +129,7 @@ fn has_reach(scene: &Scene, right: u32, queue: &mut Queue) -> bool
 }
 
 /// Whether a right was delivered less than its want.
-fn tests_short(scene: &Scene, right: u32) -> bool
+fn falls_short(scene: &Scene, right: u32) -> bool
     requires right { right < length scene.now.basin.rights }
     ensures yes { OnTrue result (IsShort scene.now.month right) }
     ensures no { OnFalse result (IsShort scene.now.month right → ⊥) }
@@ -152,7 +152,7 @@ fn judge(scene: &Scene, position: usize, last: &mut Option<usize>, queue: &mut Q
     ensures last { IsAt scene.now.basin scene.now.month queue.new.seen position last.new }
 {
     let right = scene.right_at(position);
-    if !tests_short(scene, right) {
+    if !falls_short(scene, right) {
         return false;
     }
     rise(scene, position, *last, queue);
