@@ -32,3 +32,24 @@ returns-clause-text g c =
     (Puts-third old (g.K.Sink.output c.put_lines.new.sink) (g.K.Sink.output c.put_parts.new.sink) new
     c.put_lines-2.result _ _ _ c.in_ok-put_lines.ensures.text c.in_ok-put_parts.ensures.text
     c.put_lines-2.ensures.text)
+
+pub put_lines-requires-clause-basin : goal.put_lines-requires-clause-basin
+put_lines-requires-clause-basin g c = c.requires.basin
+
+pub put_lines-requires-clause-lines : goal.put_lines-requires-clause-lines
+put_lines-requires-clause-lines g c = c.requires.first
+
+pub put_parts-requires-clause-basin : goal.put_parts-requires-clause-basin
+put_parts-requires-clause-basin g c = c.requires.basin
+
+pub put_parts-requires-clause-roll : goal.put_parts-requires-clause-roll
+put_parts-requires-clause-roll g c = c.requires.roll
+
+pub put_parts-requires-clause-same : goal.put_parts-requires-clause-same
+put_parts-requires-clause-same g c = c.requires.same
+
+pub put_lines-requires-2-clause-basin : goal.put_lines-requires-2-clause-basin
+put_lines-requires-2-clause-basin g c = c.requires.basin
+
+pub put_lines-requires-2-clause-lines : goal.put_lines-requires-2-clause-lines
+put_lines-requires-2-clause-lines g c = c.requires.last
