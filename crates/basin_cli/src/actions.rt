@@ -47,8 +47,8 @@ pub enum RunText {
     Report,
 }
 
-/// Solves the months of a basin with a series and puts the result, each month's lines as soon as it is solved. Memory is
-/// taken before the first byte is put.
+/// Solves the months of a basin with a series and puts the result, each month's lines as soon as it is solved. Memory
+/// is taken before the first byte is put.
 fn put_result<K: Sink, P: Ledger, M: Ledger>(
     alloc: Global,
     basin: &Basin,

@@ -119,7 +119,8 @@ fn why_words<'a>(
 
 /// The command of two words.
 fn of_two<'a>(word: &'a str, basin: &'a str) -> Option<Words<'a>>
-    ensures words { option_map command_named result ≡ command_of (word.entry.now ∷ basin.entry.now ∷ []) }
+    ensures words { option_map command_named result
+        ≡ command_of (word.entry.now ∷ basin.entry.now ∷ []) }
     ensures form { IfSome result IsInForm }
 {
     if word == "run" {
@@ -137,7 +138,8 @@ fn of_two<'a>(word: &'a str, basin: &'a str) -> Option<Words<'a>>
 
 /// The command of three words.
 fn of_three<'a>(word: &'a str, one: &'a str, other: &'a str) -> Option<Words<'a>>
-    ensures words { option_map command_named result ≡ command_of (word.entry.now ∷ one.entry.now ∷ other.entry.now ∷ []) }
+    ensures words { option_map command_named result
+        ≡ command_of (word.entry.now ∷ one.entry.now ∷ other.entry.now ∷ []) }
     ensures form { IfSome result IsInForm }
 {
     if word == "run" {
@@ -157,7 +159,8 @@ fn of_three<'a>(word: &'a str, one: &'a str, other: &'a str) -> Option<Words<'a>
 
 /// The command of four words.
 fn of_four<'a>(word: &'a str, basin: &'a str, one: &'a str, other: &'a str) -> Option<Words<'a>>
-    ensures words { option_map command_named result ≡ command_of (word.entry.now ∷ basin.entry.now ∷ one.entry.now ∷ other.entry.now ∷ []) }
+    ensures words { option_map command_named result
+        ≡ command_of (word.entry.now ∷ basin.entry.now ∷ one.entry.now ∷ other.entry.now ∷ []) }
     ensures form { IfSome result IsInForm }
 {
     if word == "check" {
@@ -188,8 +191,16 @@ fn of_four<'a>(word: &'a str, basin: &'a str, one: &'a str, other: &'a str) -> O
 }
 
 /// The command of five words.
-fn of_five<'a>(word: &'a str, basin: &'a str, series: &'a str, month: &'a str, right: &'a str) -> Option<Words<'a>>
-    ensures words { option_map command_named result ≡ command_of (word.entry.now ∷ basin.entry.now ∷ series.entry.now ∷ month.entry.now ∷ right.entry.now ∷ []) }
+fn of_five<'a>(
+    word: &'a str,
+    basin: &'a str,
+    series: &'a str,
+    month: &'a str,
+    right: &'a str,
+) -> Option<Words<'a>>
+    ensures words { option_map command_named result
+        ≡ command_of (word.entry.now ∷ basin.entry.now ∷ series.entry.now ∷ month.entry.now
+        ∷ right.entry.now ∷ []) }
     ensures form { IfSome result IsInForm }
 {
     if word == "why" {

@@ -1,5 +1,6 @@
 -- A sweep from the most junior right to the most senior.
-use Rattle.std.proofs.Common.{◌≡◌, ℕ, ◌+◌, ◌<◌, Bool, true, false, not, refl, sym, ◌∙◌, ap, subst, arith, List, length, inl, inr}
+use Rattle.std.proofs.Common.{◌≡◌, ℕ, ◌+◌, ◌<◌, Bool, true, false, not, refl, sym, ◌∙◌, ap, subst, arith}
+use Rattle.std.proofs.Common.{List, length, inl, inr}
 use Rattle.std.proofs.lemmas.Bool.{cases_eq, false≢true, ltb-true}
 use Rattle.std.specs.Bool.{OnTrue, OnFalse}
 use Rattle.std.specs.Prelude.{Option, Some, None, IsTrue, ◌↔◌, if◌then◌else◌}

@@ -66,11 +66,7 @@ fn two_copies(
 }
 
 /// An equal plan and equal sets.
-fn plan_and_cuts(
-    alloc: Global,
-    plan: &Plan,
-    cuts: &CutList,
-) -> Result<(Plan, CutList), AllocError>
+fn plan_and_cuts(alloc: Global, plan: &Plan, cuts: &CutList) -> Result<(Plan, CutList), AllocError>
     ensures plan { IfOk result (λ copied. copied.0 ≡ plan.now) }
     ensures cuts { IfOk result (λ copied. copied.1 ≡ cuts.now) }
 {
