@@ -148,14 +148,6 @@ pub answer_leaves : (asked : Question) (b : Basin) (series : Inflows) (known : O
 answer_leaves asked b series known answer how old new is left =
     IfSome_then known is (λ text answers may. record { answer = answer; is = answers; written = left })
 
--- where a part could not be read, no answer is put
-pub unread_leaves : (asked : Question) (b : Basin) (series : Inflows) (known : Option (List ℕ)) (how : Ending)
-    (old new : Output) →
-    how ≡ ending.ReadFault file.Result →
-    IfSome known (λ text. MayWrite (status_of how) → LeavesAnswer asked b series text (status_of how) old new)
-unread_leaves asked b series known how old new is =
-    of_any known (λ text may. absurd (subst (λ how. MayWrite (status_of how)) is may))
-
 -- a failure that came later
 pub ends_later : (asked : Question) (b : Basin) (series : Inflows) (known : Option (List ℕ)) (how : Ending)
     (read later write : Type 0) →

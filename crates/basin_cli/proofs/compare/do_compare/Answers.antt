@@ -33,22 +33,22 @@ returns g c =
     let known = g.S.Shelf.known c.args.shelf.now in
     let files = named c.args.inputs in
     let second = c.args.second.now in
-    let how = c.compare_basins.result in
+    let how = c.compare_basins-ending.result in
     record {
       cause =
-          cause known files second c.in-Ok.pair c.in-Ok.ensures.paired how _ _ _ _ c.compare_basins.ensures.compares
-          c.compare_basins.ensures.ends;
+          cause known files second c.in-Ok.pair c.in-Ok.ensures.paired how _ _ _ _ c.compare_basins-ending.ensures.compares
+          c.compare_basins-ending.ensures.ends;
       asked =
-          stops_at_none (files_to (compare files second)) _ _ how c.compare_basins.ensures.at;
+          stops_at_none (files_to (compare files second)) _ _ how c.compare_basins-ending.ensures.at;
       can_be_printed = search rules;
       writes =
-          writes known files second c.in-Ok.pair c.in-Ok.ensures.paired how _ _ _ c.compare_basins.ensures.compares;
-      out_stays = c.compare_basins.ensures.out_stays;
-      flushed = c.compare_basins.ensures.flushed;
+          writes known files second c.in-Ok.pair c.in-Ok.ensures.paired how _ _ _ c.compare_basins-ending.ensures.compares;
+      out_stays = c.compare_basins-ending.ensures.out_stays;
+      flushed = c.compare_basins-ending.ensures.flushed;
       shown = tt;
       unread = tt;
-      idle = λ refused. absurd (c.compare_basins.ensures.idle refused);
+      idle = λ refused. absurd (c.compare_basins-ending.ensures.idle refused);
       work =
           work known files second c.in-Ok.pair c.in-Ok.ensures.paired c.args.work.now
-          c.compare_basins.new.work c.compare_basins.ensures.work;
+          c.compare_basins-ending.new.work c.compare_basins-ending.ensures.work;
     }

@@ -20,7 +20,7 @@ returns g c =
     let text = c.deref.result.now in
     let b = c.in-Ok.files.basin in
     let series = c.in-Ok.files.series in
-    let how = c.edit_basin.result in
+    let how = c.edit_basin-ending.result in
     let is : IfSome (known script) (λ bytes. text ≡ bytes) =
     rw c.deref.ensures.value
     (subst (λ (o : Option (List ℕ)). IfSome o (λ bytes. c.in-Ok-read_file.text.items ≡ bytes))
@@ -28,21 +28,21 @@ returns g c =
     record {
       cause =
           editing_cause known files b series c.in-Ok.ensures.fits c.in-Ok.ensures.loaded script text is how _ _
-          (rw c.deref.ensures.value c.in-Ok-read_file.ensures.within) c.edit_basin.ensures.ends;
+          (rw c.deref.ensures.value c.in-Ok-read_file.ensures.within) c.edit_basin-ending.ensures.ends;
       asked =
-          editing_stops (files_to (edit files script)) _ _ b series text how _ c.edit_basin.ensures.ends;
+          editing_stops (files_to (edit files script)) _ _ b series text how _ c.edit_basin-ending.ensures.ends;
       can_be_printed = search rules;
       writes =
           editing_writes known files b series c.in-Ok.ensures.fits c.in-Ok.ensures.loaded script text is
-          (status_of how) _ _ c.edit_basin.ensures.leaves;
-      out_stays = c.edit_basin.ensures.out_stays;
-      flushed = c.edit_basin.ensures.flushed;
-      shown = c.edit_basin.ensures.shown;
+          (status_of how) _ _ c.edit_basin-ending.ensures.leaves;
+      out_stays = c.edit_basin-ending.ensures.out_stays;
+      flushed = c.edit_basin-ending.ensures.flushed;
+      shown = c.edit_basin-ending.ensures.shown;
       unread = tt;
-      idle = c.edit_basin.ensures.idle;
+      idle = c.edit_basin-ending.ensures.idle;
       work =
           editing_solves known files b series c.in-Ok.ensures.fits c.in-Ok.ensures.loaded script text is
-          c.args.work.now c.edit_basin.new.work c.edit_basin.ensures.work;
+          c.args.work.now c.edit_basin-ending.new.work c.edit_basin-ending.ensures.work;
     }
 
 pub returns-in-Err-read_file : goal.returns-in-Err-read_file

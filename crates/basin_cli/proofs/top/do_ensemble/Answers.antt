@@ -14,23 +14,23 @@ returns g c =
     let files = named c.args.inputs in
     let b = c.in-Ok.files.basin in
     let series = c.in-Ok.files.series in
-    let how = c.ensemble_basin.result in
+    let how = c.ensemble_basin-ending.result in
     record {
       cause =
           gathering_cause known files b series c.in-Ok.ensures.fits c.in-Ok.ensures.loaded how _ _
-          c.in-Ok.ensures.whole c.ensemble_basin.ensures.ends;
+          c.in-Ok.ensures.whole c.ensemble_basin-ending.ensures.ends;
       asked =
-          solving_stops (files_to (ensemble files)) _ _ how _ c.ensemble_basin.ensures.ends;
+          solving_stops (files_to (ensemble files)) _ _ how _ c.ensemble_basin-ending.ensures.ends;
       can_be_printed = search rules;
       writes =
-          writes known files b series c.in-Ok.ensures.fits c.in-Ok.ensures.loaded _ _ c.ensemble_basin.ensures.leaves;
-      out_stays = c.ensemble_basin.ensures.out_stays;
-      flushed = c.ensemble_basin.ensures.flushed;
+          writes known files b series c.in-Ok.ensures.fits c.in-Ok.ensures.loaded _ _ c.ensemble_basin-ending.ensures.leaves;
+      out_stays = c.ensemble_basin-ending.ensures.out_stays;
+      flushed = c.ensemble_basin-ending.ensures.flushed;
       shown = tt;
       unread = tt;
-      idle = λ refused. absurd (c.ensemble_basin.ensures.idle refused);
+      idle = λ refused. absurd (c.ensemble_basin-ending.ensures.idle refused);
       work =
           of_basin (known files.basin) b
-          (λ d. Solves (years_of d * d.months) d c.args.work.now c.ensemble_basin.new.work)
-          c.in-Ok.ensures.loaded.from_basin c.ensemble_basin.ensures.work;
+          (λ d. Solves (years_of d * d.months) d c.args.work.now c.ensemble_basin-ending.new.work)
+          c.in-Ok.ensures.loaded.from_basin c.ensemble_basin-ending.ensures.work;
     }
