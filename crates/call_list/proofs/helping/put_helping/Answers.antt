@@ -33,3 +33,21 @@ returns-clause-text g c = (
       c.requires.short (rw c.cuts-core.ensures c.find_core.ensures.core.is_core),
   Puts-then _ _ _ c.put_account.result _ _ c.in_ok-put_indices.ensures.text c.put_account.ensures.text,
 )
+
+pub find_core-requires-clause-plan : goal.find_core-requires-clause-plan
+find_core-requires-clause-plan g c = c.requires.plan
+
+pub find_core-requires-clause-roll : goal.find_core-requires-clause-roll
+find_core-requires-clause-roll g c = c.requires.roll
+
+pub put_account-requires-clause-basin : goal.put_account-requires-clause-basin
+put_account-requires-clause-basin g c = c.requires.basin
+
+pub put_account-requires-clause-roll : goal.put_account-requires-clause-roll
+put_account-requires-clause-roll g c = c.requires.roll
+
+pub put_indices-requires-clause-basin : goal.put_indices-requires-clause-basin
+put_indices-requires-clause-basin g c = c.requires.basin
+
+pub put_indices-requires-clause-roll : goal.put_indices-requires-clause-roll
+put_indices-requires-clause-roll g c = c.requires.roll

@@ -12,3 +12,9 @@ pub returns-clause-comes : goal.returns-clause-comes
 returns-clause-comes c = λ deliveries stands.
     c.write_returns.ensures.each (deliveries ++ c.args.state.now.month.delivered ∷ [])
     (returns-clause-lags c deliveries stands)
+
+pub use_month-requires-clause-basin : goal.use_month-requires-clause-basin
+use_month-requires-clause-basin c = c.requires.basin
+
+pub write_returns-requires-clause-basin : goal.write_returns-requires-clause-basin
+write_returns-requires-clause-basin c = c.requires.basin

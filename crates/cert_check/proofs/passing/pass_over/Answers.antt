@@ -9,3 +9,6 @@ passes-requires-clause-right c =
 
 pub lacks_call-requires-clause-right : goal.lacks_call-requires-clause-right
 lacks_call-requires-clause-right c = grind (arith, order_in_range)
+
+pub lacks_call-requires-clause-basin : goal.lacks_call-requires-clause-basin
+lacks_call-requires-clause-basin c = c.requires.basin

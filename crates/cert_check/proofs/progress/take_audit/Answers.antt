@@ -12,3 +12,6 @@ returns-in-Some-clause-audit c = λ items so_far.
     (sym c.deref_mut.ensures.value) so_far.state in
     audit_taken c.requires.item so_far (c.requires.good t so_far.state so_far.comes) c.in-Some.is
     (c.audit_item.ensures.takes t kept)
+
+pub audit_item-requires-clause-context : goal.audit_item-requires-clause-context
+audit_item-requires-clause-context c = c.requires.context

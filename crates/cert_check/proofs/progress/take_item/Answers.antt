@@ -41,3 +41,15 @@ returns-in-None-clause-takes c = λ items so_far.
         audit = so_far.audit;
       })),
     )
+
+pub enter-requires-clause-context : goal.enter-requires-clause-context
+enter-requires-clause-context c = c.requires.context
+
+pub first_row-requires-clause-context : goal.first_row-requires-clause-context
+first_row-requires-clause-context c = c.requires.context
+
+pub make_ready-requires-clause-context : goal.make_ready-requires-clause-context
+make_ready-requires-clause-context c = c.requires.context
+
+pub take_audit-requires-clause-context : goal.take_audit-requires-clause-context
+take_audit-requires-clause-context c = c.requires.context

@@ -45,3 +45,6 @@ returns-in-Some-clause-stands c = λ lines s.
       ends = line_ends lines text c.requires.context.valid c.requires.context.series s.verdict read;
       audit = s.audit;
     }))
+
+pub take_member-requires-clause-context : goal.take_member-requires-clause-context
+take_member-requires-clause-context c = c.requires.context

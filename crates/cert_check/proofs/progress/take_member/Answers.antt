@@ -31,3 +31,9 @@ returns-clause-takes c = λ items so_far.
       }),
       rw c.count.ensures.audit (c.take_audit.ensures.audit items so_far),
     )
+
+pub enter_node-requires-clause-context : goal.enter_node-requires-clause-context
+enter_node-requires-clause-context c = c.requires.context
+
+pub take_audit-requires-clause-context : goal.take_audit-requires-clause-context
+take_audit-requires-clause-context c = c.requires.context

@@ -15,3 +15,21 @@ returns-in-Amount-clause-ready c = record {
 pub returns-then-is_member-clause-ready : goal.returns-then-is_member-clause-ready
 returns-then-is_member-clause-ready c =
     ready c.args.context.now c.args.state.now c.args.item.now (sym c.is_member.ensures ∙ c.if-is_member.true)
+
+pub pass-requires-clause-context : goal.pass-requires-clause-context
+pass-requires-clause-context c = c.requires.context
+
+pub pass-requires-clause-item : goal.pass-requires-clause-item
+pass-requires-clause-item c = c.requires.item
+
+pub pass-requires-clause-awaits : goal.pass-requires-clause-awaits
+pass-requires-clause-awaits c = c.requires.awaits
+
+pub answer-requires-clause-context : goal.answer-requires-clause-context
+answer-requires-clause-context c = c.requires.context
+
+pub make_ready_for_set-requires-clause-context : goal.make_ready_for_set-requires-clause-context
+make_ready_for_set-requires-clause-context c = c.requires.context
+
+pub make_ready_for_amount-requires-clause-context : goal.make_ready_for_amount-requires-clause-context
+make_ready_for_amount-requires-clause-context c = c.requires.context

@@ -33,3 +33,9 @@ returns-in-Used c = λ t k way.
 pub returns-in-Flow : goal.returns-in-Flow
 returns-in-Flow c = λ t k way.
     rw c.in-Flow.is (c.flow_wrong.ensures c.args.context.now.series.now t k.month.shows)
+
+pub balance_wrong-requires-clause-context : goal.balance_wrong-requires-clause-context
+balance_wrong-requires-clause-context c = c.requires.context
+
+pub closing_wrong-requires-clause-context : goal.closing_wrong-requires-clause-context
+closing_wrong-requires-clause-context c = c.requires.context

@@ -13,3 +13,9 @@ returns-clause-text g c =
     subst (λ (lines : List BookLine). Puts (g.K.Sink.output c.args.sink.now) (g.K.Sink.output c.put_listing.new.sink)
     c.put_listing.result (flat_map (whole_line s.basin) lines))
     (account_lines s c.sum-sum.result c.sum-sum.ensures c.requires.tight) c.put_listing.ensures.text
+
+pub put_listing-requires-clause-basin : goal.put_listing-requires-clause-basin
+put_listing-requires-clause-basin g c = c.requires.basin
+
+pub put_listing-requires-clause-roll : goal.put_listing-requires-clause-roll
+put_listing-requires-clause-roll g c = c.requires.roll

@@ -20,3 +20,24 @@ returns c = λ month supply tight.
     (rw set at last_own) (rw (set, c.requires.last) at kept) (rw set at apart)
     (subst (λ (cut : List Bool). IsTight c.args.basin.now month supply c.args.delivered.now c.args.last cut)
     (c.is_same_set.ensures c.if-not-is_same_set.false) tight)
+
+pub kept_between-requires-clause-basin : goal.kept_between-requires-clause-basin
+kept_between-requires-clause-basin c = c.requires.basin
+
+pub kept_between-requires-clause-roll : goal.kept_between-requires-clause-roll
+kept_between-requires-clause-roll c = c.requires.roll
+
+pub kept_own-last_own-requires-clause-basin : goal.kept_own-last_own-requires-clause-basin
+kept_own-last_own-requires-clause-basin c = c.requires.basin
+
+pub kept_own-last_own-requires-clause-roll : goal.kept_own-last_own-requires-clause-roll
+kept_own-last_own-requires-clause-roll c = c.requires.roll
+
+pub kept_own-own-requires-clause-basin : goal.kept_own-own-requires-clause-basin
+kept_own-own-requires-clause-basin c = c.requires.basin
+
+pub kept_own-own-requires-clause-roll : goal.kept_own-own-requires-clause-roll
+kept_own-own-requires-clause-roll c = c.requires.roll
+
+pub separates-requires-clause-basin : goal.separates-requires-clause-basin
+separates-requires-clause-basin c = c.requires.basin

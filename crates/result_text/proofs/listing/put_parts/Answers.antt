@@ -16,3 +16,9 @@ loop-part-preserved g c =
     (slice_get-get_or c.args.parts.now c.loop-part.part-index _ c.loop-part-test.true
     ∙ ap (λ part. Some part) (sym c.part-item.is))
     c.in_ok-put_part.ensures.text c.in_ok-put_part.ensures.cause.later
+
+pub put_part-requires-clause-basin : goal.put_part-requires-clause-basin
+put_part-requires-clause-basin g c = c.requires.basin
+
+pub put_part-requires-clause-roll : goal.put_part-requires-clause-roll
+put_part-requires-clause-roll g c = c.requires.roll

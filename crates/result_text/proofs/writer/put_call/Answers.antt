@@ -24,3 +24,9 @@ returns-in_ok-put_line-in-Some-clause-text g c =
     (ap (λ n. Some (marks n words)) (c.len-nodes.ensures ∙ sym c.requires.month.fits.cut_nodes)
     ∙ c.in-Some.ensures.set))
     all
+
+pub put_line-requires-clause-basin : goal.put_line-requires-clause-basin
+put_line-requires-clause-basin g c = c.requires.basin
+
+pub put_members-requires-clause-basin : goal.put_members-requires-clause-basin
+put_members-requires-clause-basin g c = c.requires.basin

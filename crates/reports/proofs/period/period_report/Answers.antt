@@ -1,0 +1,10 @@
+use Rattle.reports.proofs.period.period_report.Goals as goal
+
+pub kept_of-requires-clause-basin : goal.kept_of-requires-clause-basin
+kept_of-requires-clause-basin g c = c.requires.basin
+
+pub kept_of-requires-clause-series : goal.kept_of-requires-clause-series
+kept_of-requires-clause-series g c = c.requires.series
+
+pub put_tally-requires-clause-basin : goal.put_tally-requires-clause-basin
+put_tally-requires-clause-basin g c = c.requires.basin
