@@ -32,7 +32,7 @@ use Rattle.basin_cli.specs.Outcome.{IsHistoryText, IsReachesText, IsRefuted, IsY
 use Rattle.basin_cli.specs.Reading.{OfBoth}
 use Rattle.basin_cli.specs.Series.{AreLoaded}
 use Rattle.basin_cli.specs.declared.status.Status.{Status}
-use Rattle.basin_cli.proofs.Known.{accepted, after, of_any, of_both, spelled_history}
+use Rattle.basin_cli.proofs.Known.{accepted, after, of_both, spelled_history}
 use Rattle.basin_cli.proofs.OneSeries.{one_basin}
 
 -- the text of a history of what bytes spell
