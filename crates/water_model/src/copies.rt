@@ -77,13 +77,13 @@ fn plan_and_cuts(alloc: Global, plan: &Plan, cuts: &CutList) -> Result<(Plan, Cu
 
 /// A record with other lists: by reservoir, by right, by node, and the plan and the sets.
 fn with_lists(
-    record: &MonthRecord,
+    month: &MonthRecord,
     by_reservoir: (Rows<u64>, Rows<u64>, Rows<u64>),
     by_right: (Rows<u64>, Rows<u64>, Rows<u64>),
     by_node: (Rows<u64>, Rows<u64>),
     planned: (Plan, CutList),
 ) -> MonthRecord
-    ensures { result ≡ record record.now {
+    ensures { result ≡ record month.now {
       opening = by_reservoir.0;
       evaporated = by_reservoir.1;
       closing = by_reservoir.2;
@@ -101,8 +101,8 @@ fn with_lists(
     let (returned, supply) = by_node;
     let (plan, cuts) = planned;
     MonthRecord {
-        index: record.index,
-        month: record.month,
+        index: month.index,
+        month: month.month,
         opening,
         evaporated,
         returned,
@@ -117,14 +117,14 @@ fn with_lists(
 }
 
 /// An equal record, which is not in a box.
-fn copy_of(alloc: Global, record: &MonthRecord) -> Result<MonthRecord, AllocError>
-    ensures { IfOk result (λ copied. copied ≡ record.now) }
+fn copy_of(alloc: Global, month: &MonthRecord) -> Result<MonthRecord, AllocError>
+    ensures { IfOk result (λ copied. copied ≡ month.now) }
 {
-    let by_reservoir = three_copies(alloc, &record.opening, &record.evaporated, &record.closing)?;
-    let by_right = three_copies(alloc, &record.used, &record.want, &record.delivered)?;
-    let by_node = two_copies(alloc, &record.returned, &record.supply)?;
-    let planned = plan_and_cuts(alloc, &record.plan, &record.cuts)?;
-    Ok(with_lists(record, by_reservoir, by_right, by_node, planned))
+    let by_reservoir = three_copies(alloc, &month.opening, &month.evaporated, &month.closing)?;
+    let by_right = three_copies(alloc, &month.used, &month.want, &month.delivered)?;
+    let by_node = two_copies(alloc, &month.returned, &month.supply)?;
+    let planned = plan_and_cuts(alloc, &month.plan, &month.cuts)?;
+    Ok(with_lists(month, by_reservoir, by_right, by_node, planned))
 }
 
 impl MonthRecord {
