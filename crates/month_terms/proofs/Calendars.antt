@@ -26,7 +26,8 @@ use Rattle.water_model.specs.declared.types.RightKind.{RightKind}
 use Rattle.water_model.specs.declared.types.RightKind.TheVariants.{Diversion, Instream, Zone}
 use Rattle.water_model.proofs.Gauges.{cell_within, filter_short, gauges_rise, index_is}
 use Rattle.water_model.proofs.Lists.{numbers_more}
-use Rattle.water_model.proofs.Order.{Has, has-filter, filter-has, length-numbers_from, numbers_from-has, numbers_from-below}
+use Rattle.water_model.proofs.Order.{Has, has-filter, filter-has, length-numbers_from, numbers_from-has}
+use Rattle.water_model.proofs.Order.{numbers_from-below}
 use Rattle.water_model.proofs.Valid.{entry_at, kind_is}
 use Rattle.month_terms.specs.Calendars.{IsCalendarMonth, ListInstream, monthly_inflow, wants_otherwise}
 use Rattle.month_terms.specs.declared.calendar.CalendarMonth.{CalendarMonth}
@@ -74,7 +75,8 @@ pub one_fails : (p : ℕ → Bool) (n : ℕ) → p n ≡ false →
     filter p (numbers_from 0 (n + 1)) ≡ filter p (numbers_from 0 n)
 one_fails p n e =
     ap (λ xs. filter p xs) (counted n) ∙ (filter-append p (numbers_from 0 n) (n ∷ [])
-    ∙ (ap (λ t. filter p (numbers_from 0 n) ++ (if t then n ∷ [] else [])) e ∙ append-nil (filter p (numbers_from 0 n))))
+    ∙ (ap (λ t. filter p (numbers_from 0 n) ++ (if t then n ∷ [] else [])) e
+    ∙ append-nil (filter p (numbers_from 0 n))))
 
 -- A list that is written at one index after the other of some keys.
 
@@ -129,7 +131,8 @@ month_number f xs numbers n x are at =
     ∙ get_or_from_slice_get (map f xs) n (f x) 0 (slice_get-map f xs n ∙ ap (option_map f) at)
 
 inflow_by_entry : (b : Basin) (series : Inflows) (n i : ℕ) → n < length b.nodes →
-    (kind : Inflow) × (inflow_at b series n i ≡ inflow_of_kind b series n i kind) × (is_gauged b n ≡ is_gauged_kind kind)
+    (kind : Inflow) × (inflow_at b series n i ≡ inflow_of_kind b series n i kind)
+    × (is_gauged b n ≡ is_gauged_kind kind)
     × ((p : ℕ) (m : CalendarMonth) → IsCalendarMonth b p m → slice_index m.inflows n ≡ monthly_inflow kind p)
 inflow_by_entry b series n i l =
     let entry = entry_at b.nodes n l in (
@@ -239,7 +242,8 @@ want_is b series r i p used m is at l plain =
     let row = month_number (λ x. slice_index x.want p) b.rights m.wants r entry.0 is.wants entry.1 in
     let alone : wants_otherwise entry.0 ≡ false =
     sym (ap (λ o. unwrap_or (option_map wants_otherwise o) false) entry.1) ∙ plain in
-    row ∙ (ap (λ q. slice_index entry.0.want q) at ∙ (by entry.0.series entry.0.volume (link_of_kind entry.0.kind) _ _ alone
+    row ∙ (ap (λ q. slice_index entry.0.want q) at
+    ∙ (by entry.0.series entry.0.volume (link_of_kind entry.0.kind) _ _ alone
     ∙ sym (ap (λ v. want_by_volume v (cap_by_link b (run_month b i) (instream_link b r)
     (of_entry b.rights r (λ x. number_of b series r i x) 0)) used) volume
     ∙ (ap (λ o. want_by_volume entry.0.volume (cap_by_link b (run_month b i) o

@@ -7,19 +7,22 @@ use Rattle.month_terms.proofs.want.write_deliveries.Goals as goal
 pub bounds-want-right : goal.bounds-want-right
 bounds-want-right c =
     let on = c.requires.calendar.instream.each c.loop-place.place c.index.result.now c.index.ensures in
-    let within = instream_within c.args.basin.now c.index.result.now.right c.index.result.now.link c.requires.basin on in
+    let entry = c.index.result.now in
+    let within = instream_within c.args.basin.now entry.right entry.link c.requires.basin on in
     omega (arith, within.0, c.requires.want)
 
 pub index-requires-in-loop-place : goal.index-requires-in-loop-place
 index-requires-in-loop-place c =
     let on = c.requires.calendar.instream.each c.loop-place.place c.index.result.now c.index.ensures in
-    let within = instream_within c.args.basin.now c.index.result.now.right c.index.result.now.link c.requires.basin on in
+    let entry = c.index.result.now in
+    let within = instream_within c.args.basin.now entry.right entry.link c.requires.basin on in
     omega (arith, within.1, c.requires.flow)
 
 pub bounds-delivered-right : goal.bounds-delivered-right
 bounds-delivered-right c =
     let on = c.requires.calendar.instream.each c.loop-place.place c.index.result.now c.index.ensures in
-    let within = instream_within c.args.basin.now c.index.result.now.right c.index.result.now.link c.requires.basin on in
+    let entry = c.index.result.now in
+    let within = instream_within c.args.basin.now entry.right entry.link c.requires.basin on in
     omega (arith, within.0, c.loop-place.auto.delivered, c.copy_from_slice.ensures.len, c.requires.delivered)
 
 pub loop-place-preserved : goal.loop-place-preserved
