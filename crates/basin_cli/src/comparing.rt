@@ -120,6 +120,97 @@ fn draft_counts(draft: &mut Draft, pairing: &Pairing, injured: u32) -> Result<()
     }
 }
 
+/// Solves all months of two runs that had none, and drafts their comparison. Answers the number of injuries in it.
+fn draft_runs<P: Ledger, M: Ledger>(
+    draft: &mut Draft,
+    pairing: &Pairing,
+    basin: &Basin,
+    other: &Basin,
+    first: &mut Run,
+    second: &mut Run,
+    work: &mut Work<P, M>,
+) -> Result<u32, AllocError>
+    requires basin { IsValidBasin basin.now }
+    requires other { IsValidBasin other.now }
+    requires pairing { pairing.now ≡ common_rights basin.now other.now }
+    requires months { other.now.months ≡ basin.now.months }
+    requires empty { draft.old.bytes.items ≡ [] }
+    requires first { (first.old.basin ≡ basin.now) × RunStandsFor first.old [] }
+    requires second { (second.old.basin ≡ other.now) × RunStandsFor second.old [] }
+    ensures text { IfOk result
+        (IsTextOfComparison basin.now other.now first.old.series second.old.series draft.new.bytes.items) }
+    ensures work { SolvesBoth basin.now.months basin.now other.now work.old work.new }
+{
+    let injured = compare_months(draft, pairing, basin, other, first, second, work)?;
+    draft_counts(draft, pairing, injured)?;
+    Ok(injured)
+}
+
+/// Drafts the comparison of a run that had no month and the run of another basin.
+fn draft_beside<P: Ledger, M: Ledger>(
+    alloc: Global,
+    draft: &mut Draft,
+    pairing: &Pairing,
+    basin: &Basin,
+    other: &Basin,
+    first: &mut Run,
+    other_series: &Inflows,
+    work: &mut Work<P, M>,
+) -> Result<u32, AllocError>
+    requires basin { IsValidBasin basin.now }
+    requires other { IsValidBasin other.now }
+    requires pairing { pairing.now ≡ common_rights basin.now other.now }
+    requires months { other.now.months ≡ basin.now.months }
+    requires empty { draft.old.bytes.items ≡ [] }
+    requires first { (first.old.basin ≡ basin.now) × RunStandsFor first.old [] }
+    requires other_series { IsSeriesOf other.now other_series.now }
+    ensures text { IfOk result
+        (IsTextOfComparison basin.now other.now first.old.series other_series.now draft.new.bytes.items) }
+    ensures work { SolvesBoth basin.now.months basin.now other.now work.old work.new }
+{
+    let mut second = Run::open(alloc, other, other_series)?;
+    let drafted = draft_runs(draft, pairing, basin, other, first, &mut second, work);
+    drop(second);
+    drafted
+}
+
+/// Drafts the comparison of the runs of two basins.
+fn draft_comparison<P: Ledger, M: Ledger>(
+    alloc: Global,
+    draft: &mut Draft,
+    pairing: &Pairing,
+    basin: &Basin,
+    other: &Basin,
+    series: &Inflows,
+    other_series: &Inflows,
+    work: &mut Work<P, M>,
+) -> Result<u32, AllocError>
+    requires basin { IsValidBasin basin.now }
+    requires other { IsValidBasin other.now }
+    requires pairing { pairing.now ≡ common_rights basin.now other.now }
+    requires months { other.now.months ≡ basin.now.months }
+    requires empty { draft.old.bytes.items ≡ [] }
+    requires series { IsSeriesOf basin.now series.now }
+    requires other_series { IsSeriesOf other.now other_series.now }
+    ensures text { IfOk result
+        (IsTextOfComparison basin.now other.now series.now other_series.now draft.new.bytes.items) }
+    ensures work { SolvesBoth basin.now.months basin.now other.now work.old work.new }
+{
+    let mut first = Run::open(alloc, basin, series)?;
+    let drafted = draft_beside(
+        alloc,
+        draft,
+        pairing,
+        basin,
+        other,
+        &mut first,
+        other_series,
+        work,
+    );
+    drop(first);
+    drafted
+}
+
 /// The comparison of two runs, before any of it is written, and the number of injuries in it.
 pub fn text_of_comparison<P: Ledger, M: Ledger>(
     alloc: Global,
@@ -140,23 +231,22 @@ pub fn text_of_comparison<P: Ledger, M: Ledger>(
     ensures work { SolvesBoth basin.now.months basin.now other.now work.old work.new }
 {
     let pairing = Pairing::build(alloc, basin, other)?;
-    let mut first = Run::open(alloc, basin, series)?;
-    let mut second = Run::open(alloc, other, other_series)?;
     let mut draft = Draft {
         bytes: Vec::new(alloc),
         faults: 0,
     };
-    let injured = compare_months(
+    let drafted = draft_comparison(
+        alloc,
         &mut draft,
         &pairing,
         basin,
         other,
-        &mut first,
-        &mut second,
+        series,
+        other_series,
         work,
-    )?;
-    draft_counts(&mut draft, &pairing, injured)?;
-    Ok((draft, injured))
+    );
+    drop(pairing);
+    Ok((draft, drafted?))
 }
 
 /// How a comparison with this many injuries ends.

@@ -203,6 +203,50 @@ fn answer<K: Sink>(
     }
 }
 
+/// Solves the months of a basin up to the one with this index, and puts the answer about a right in it, by a finder of
+/// the basin.
+fn explain_by<K: Sink, P: Ledger, M: Ledger>(
+    alloc: Global,
+    account: Account,
+    finder: &mut HelpFinder,
+    basin: &Basin,
+    series: &Inflows,
+    index: u32,
+    right: u32,
+    out: &mut K,
+    work: &mut Work<P, M>,
+) -> Ending
+    requires finder { IsHelpFinderOf basin.now finder.old }
+    requires basin { IsValidBasin basin.now }
+    requires series { IsSeriesOf basin.now series.now }
+    requires index { index < basin.now.months }
+    requires right { right < length basin.now.rights }
+    ensures answers { MayWrite (status_of result) → AnswersAt account basin.now series.now index right result
+        (Rose (K.faults out.old) (K.faults out.new)) (K.output out.old) (K.output out.new) }
+    ensures memory { (MayWrite (status_of result) → ⊥) → result ≡ OutOfMemory }
+    ensures out_stays { (MayWrite (status_of result) → ⊥) → out.new ≡ out.old }
+    ensures idle { (MayWrite (status_of result) → ⊥) → work.new ≡ work.old }
+    ensures work { Solves (index + 1) basin.now work.old work.new }
+    ensures flushed { IsQuiet (status_of result) → (K.output out.new).flushed ≡ (K.output out.new).taken }
+{
+    let mut run = match Run::open(alloc, basin, series) {
+        Ok(run) => run,
+        Err(_) => return Ending::OutOfMemory,
+    };
+    solve_up_to(&mut run, index, work);
+    let ending = answer(
+        out,
+        account,
+        finder,
+        run.basin(),
+        run.roll(),
+        run.month(),
+        right,
+    );
+    drop(run);
+    ending
+}
+
 /// Solves the months of a basin with its series up to the one of this index, and puts why a right got no more in it.
 fn explain_at<K: Sink, P: Ledger, M: Ledger>(
     alloc: Global,
@@ -226,24 +270,23 @@ fn explain_at<K: Sink, P: Ledger, M: Ledger>(
     ensures work { Solves (index + 1) basin.now work.old work.new }
     ensures flushed { IsQuiet (status_of result) → (K.output out.new).flushed ≡ (K.output out.new).taken }
 {
-    let mut run = match Run::open(alloc, basin, series) {
-        Ok(run) => run,
-        Err(_) => return Ending::OutOfMemory,
-    };
     let mut finder = match HelpFinder::open(alloc, basin) {
         Ok(finder) => finder,
         Err(_) => return Ending::OutOfMemory,
     };
-    solve_up_to(&mut run, index, work);
-    answer(
-        out,
+    let ending = explain_by(
+        alloc,
         account,
         &mut finder,
-        run.basin(),
-        run.roll(),
-        run.month(),
+        basin,
+        series,
+        index,
         right,
-    )
+        out,
+        work,
+    );
+    drop(finder);
+    ending
 }
 
 /// Puts why the right of this name got no more in a month: where it is short, the account book of its reach, or where

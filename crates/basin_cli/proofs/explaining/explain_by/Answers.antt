@@ -1,9 +1,9 @@
 use Rattle.std.proofs.Common.{◌≡◌, ◌∙◌}
 use Rattle.basin_cli.proofs.Explained.{last_record, record_fits, record_plan, record_reaches}
-use Rattle.basin_cli.proofs.explaining.explain_at.Goals as goal
+use Rattle.basin_cli.proofs.explaining.explain_by.Goals as goal
 
-pub answer-requires : goal.answer-requires
-answer-requires g c =
+pub answer-ending-requires : goal.answer-ending-requires
+answer-ending-requires g c =
     let solved = c.solve_up_to.ensures in
     let same : c.solve_up_to.new.run.basin ≡ c.args.basin.now = solved.basin ∙ c.in-Ok.ensures.basin in
     let is = last_record _ _ c.solve_up_to.new.run c.args.index same (solved.series ∙ c.in-Ok.ensures.series)
@@ -11,7 +11,7 @@ answer-requires g c =
     solved.last in
     rw (c.basin.ensures.value, same, c.month.ensures)
     (record {
-      finds = c.in-Ok-open.ensures;
+      finds = c.requires.finder;
       valid = c.requires.basin;
       ranks = rw same at c.roll.ensures;
       fits = record_fits _ _ _ _ c.requires.basin is;
@@ -24,13 +24,13 @@ pub returns-clause-answers : goal.returns-clause-answers
 returns-clause-answers g c = λ may.
     (let solved = c.solve_up_to.ensures in
     let same : c.solve_up_to.new.run.basin ≡ c.args.basin.now = solved.basin ∙ c.in-Ok.ensures.basin in
-    let answered = rw (c.basin.ensures.value, same, c.month.ensures) at c.answer.ensures.leaves in
+    let answered = rw (c.basin.ensures.value, same, c.month.ensures) at c.answer-ending.ensures.leaves in
     record {
       last = c.solve_up_to.new.run.last;
       of_month =
           last_record _ _ c.solve_up_to.new.run c.args.index same (solved.series ∙ c.in-Ok.ensures.series) solved.done
           solved.last;
-      ends = rw c.month.ensures at c.answer.ensures.ends;
+      ends = rw c.month.ensures at c.answer-ending.ensures.ends;
       text = answered.0;
       explains = answered.1;
       written = answered.2;
