@@ -1,5 +1,6 @@
 //! Scripts answered over a basin with a gauge and a return.
 ghost use Rattle.std.specs.Prelude.{◌≡◌, ◌<◌};
+ghost use Rattle.water_model.specs.Valid.{IsSeriesOf, IsValidBasin};
 
 use crate::basins::basin_of;
 use edit_script::{ScriptFault, ScriptRefused, read_script};
@@ -11,6 +12,7 @@ use std::marker::Brand;
 use std::sync::ledger::{Blank, Ledger};
 use std::test::Fail;
 use water_edge::MemorySink;
+use water_model::types::{Basin, Inflows};
 
 const BASIN: &str = r#"
 format = 1
@@ -23,6 +25,26 @@ return = [{ diversion = "farm", node = "mouth", part = 5000, lag = 1 }]
 "#;
 
 const SERIES: &[u8] = b"month,node,amount\n1900-01,head,10\n1900-02,head,10\n1900-03,head,10\n";
+
+/// What a script is answered over a basin with its series.
+fn answer_over<P: Ledger, M: Ledger>(
+    alloc: Global,
+    basin: &Basin,
+    series: &Inflows,
+    script: &[u8],
+    work: &mut Work<P, M>,
+) -> Result<Result<MemorySink, ScriptRefused>, Fail>
+    requires basin { IsValidBasin basin.now }
+    requires series { IsSeriesOf basin.now series.now }
+{
+    let edits = match read_script(alloc, basin, series, script) {
+        Ok(edits) => edits,
+        Err(refused) => return Ok(Err(refused)),
+    };
+    let mut out = MemorySink::new(alloc, 4096, Vec::new(alloc))?;
+    put_shows(alloc, basin, series, &edits, &mut out, work)?;
+    Ok(Ok(out))
+}
 
 /// What a script is answered.
 fn answered<P: Ledger, M: Ledger>(
@@ -40,14 +62,8 @@ fn answered<P: Ledger, M: Ledger>(
 {
     let basin = basin_of(alloc, BASIN)?;
     let series = read_inflows(alloc, &basin, SERIES)?;
-    let edits = match read_script(alloc, &basin, &series, script) {
-        Ok(edits) => edits,
-        Err(refused) => return Ok(Err(refused)),
-    };
     let mut work = Work::<P, M>::new(pushes, months);
-    let mut out = MemorySink::new(alloc, 4096, Vec::new(alloc))?;
-    put_shows(alloc, &basin, &series, &edits, &mut out, &mut work)?;
-    Ok(Ok(out))
+    answer_over(alloc, &basin, &series, script, &mut work)
 }
 
 const SCRIPT: &[u8] = b"river-edit 1

@@ -1,5 +1,6 @@
 //! Result texts that are checked in pieces, and whole.
-ghost use Rattle.std.specs.Prelude.{◌<◌};
+ghost use Rattle.std.specs.Prelude.{[], ◌≡◌, ◌<◌, None};
+ghost use Rattle.cert_check.specs.Standing.{CheckerStandsFor};
 ghost use Rattle.water_model.specs.Valid.{IsSeriesOf, IsValidBasin};
 
 use crate::basins::basin_of;
@@ -62,6 +63,17 @@ static REFUTED: [(&str, u64, RefutedKind); 8] = [
     ("", 1, RefutedKind::EarlyEnd),
 ];
 
+/// Gives a new checker a text in pieces of at most `length` bytes, and answers what it is.
+fn feed_pieces(checker: &mut PieceChecker, text: &str, length: usize) -> Result<u32, Refuted>
+    requires new { checker.old.refused ≡ None }
+    requires some { 0 < length }
+{
+    for piece in text.as_bytes().chunks(length) {
+        checker.feed(piece)?;
+    }
+    checker.finish()
+}
+
 /// The answer to a text that comes in pieces of at most `length` bytes.
 fn answer_in_pieces(
     alloc: Global,
@@ -75,12 +87,9 @@ fn answer_in_pieces(
     requires some { 0 < length }
 {
     let mut checker = PieceChecker::open(alloc, basin, series)?;
-    for piece in text.as_bytes().chunks(length) {
-        if let Err(refused) = checker.feed(piece) {
-            return Ok(Err(refused));
-        }
-    }
-    Ok(checker.finish())
+    let answer = feed_pieces(&mut checker, text, length);
+    drop(checker);
+    Ok(answer)
 }
 
 /// The answer to a text that comes whole.
@@ -94,7 +103,9 @@ fn answer_whole(
     requires series { IsSeriesOf basin.now series.now }
 {
     let mut checker = Checker::open(alloc, basin, series)?;
-    Ok(check_text(&mut checker, text.as_bytes()))
+    let answer = check_text(&mut checker, text.as_bytes());
+    drop(checker);
+    Ok(answer)
 }
 
 /// Gives a text whole and in pieces, and compares the answers.
@@ -118,24 +129,8 @@ fn expect_answer<R: Abort>(
     Ok(())
 }
 
-#[test]
-fn answers_the_same_in_pieces(rt: HostRuntime) -> Result<(), Fail> {
-    let alloc = rt.alloc();
-    let basin = basin_of(alloc, BASIN)?;
-    let series = read_inflows(alloc, &basin, HEADER)?;
-    expect_answer(&rt, alloc, &basin, &series, ACCEPTED, Ok(1))?;
-    for (text, line, kind) in &REFUTED {
-        let want = Err(Refuted {
-            line: *line,
-            kind: *kind,
-        });
-        expect_answer(&rt, alloc, &basin, &series, text, want)?;
-    }
-    Ok(())
-}
-
-/// Gives a new checker a whole text, and compares how many lines are left before it and after it.
-fn count_lines<R: Abort>(
+/// Gives each text whole and in pieces.
+fn expect_answers<R: Abort>(
     rt: &R,
     alloc: Global,
     basin: &Basin,
@@ -144,11 +139,33 @@ fn count_lines<R: Abort>(
     requires basin { IsValidBasin basin.now }
     requires series { IsSeriesOf basin.now series.now }
 {
-    let mut checker = Checker::open(alloc, basin, series)?;
-    assert!(rt; checker.lines_left() == 7);
-    assert_eq!(rt; check_text(&mut checker, ACCEPTED.as_bytes()), Ok(1));
-    assert!(rt; checker.lines_left() == 0);
+    expect_answer(rt, alloc, basin, series, ACCEPTED, Ok(1))?;
+    for (text, line, kind) in &REFUTED {
+        let want = Err(Refuted {
+            line: *line,
+            kind: *kind,
+        });
+        expect_answer(rt, alloc, basin, series, text, want)?;
+    }
     Ok(())
+}
+
+#[test]
+fn answers_the_same_in_pieces(rt: HostRuntime) -> Result<(), Fail> {
+    let alloc = rt.alloc();
+    let basin = basin_of(alloc, BASIN)?;
+    let series = read_inflows(alloc, &basin, HEADER)?;
+    expect_answers(&rt, alloc, &basin, &series)?;
+    Ok(())
+}
+
+/// Gives a new checker a whole text, and compares how many lines are left before it and after it.
+fn count_lines<R: Abort>(rt: &R, checker: &mut Checker)
+    requires { CheckerStandsFor checker.old [] }
+{
+    assert!(rt; checker.lines_left() == 7);
+    assert_eq!(rt; check_text(checker, ACCEPTED.as_bytes()), Ok(1));
+    assert!(rt; checker.lines_left() == 0);
 }
 
 #[test]
@@ -156,6 +173,8 @@ fn counts_the_lines_that_are_left(rt: HostRuntime) -> Result<(), Fail> {
     let alloc = rt.alloc();
     let basin = basin_of(alloc, BASIN)?;
     let series = read_inflows(alloc, &basin, HEADER)?;
-    count_lines(&rt, alloc, &basin, &series)?;
+    let mut checker = Checker::open(alloc, &basin, &series)?;
+    count_lines(&rt, &mut checker);
+    drop(checker);
     Ok(())
 }

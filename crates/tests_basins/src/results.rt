@@ -200,6 +200,18 @@ fn read_lines<R: Abort>(
     }
 }
 
+/// Gives a reader these lines, and compares how many may be left before and after.
+fn count_left<R: Abort>(
+    rt: &R,
+    reader: &mut ResultReader,
+    lines: &[(&str, Result<Item, BadLine>)],
+    left: (u64, u64),
+) {
+    assert!(rt; reader.lines_left() == left.0);
+    read_lines(rt, reader, lines);
+    assert!(rt; reader.lines_left() == left.1);
+}
+
 /// Gives a new reader for a basin with a roll these lines, and compares how many may be left before and after.
 fn read_with<R: Abort>(
     rt: &R,
@@ -213,9 +225,8 @@ fn read_with<R: Abort>(
     requires roll { IsRollOf basin.now.rights roll.now }
 {
     let mut reader = ResultReader::open(alloc, basin, roll)?;
-    assert!(rt; reader.lines_left() == left.0);
-    read_lines(rt, &mut reader, lines);
-    assert!(rt; reader.lines_left() == left.1);
+    count_left(rt, &mut reader, lines, left);
+    drop(reader);
     Ok(())
 }
 
@@ -247,24 +258,14 @@ fn take_member<R: Abort>(rt: &R, reader: &mut ResultReader, piece: &str, node: O
     assert_eq!(rt; taken, node, "bytes {piece}");
 }
 
-/// Gives a new reader for a basin with a roll these lines, and then these bytes.
-fn take_members<R: Abort>(
-    rt: &R,
-    alloc: Global,
-    basin: &Basin,
-    roll: &Roll,
-) -> Result<(), AllocError>
-    requires basin { IsValidBasin basin.now }
-    requires roll { IsRollOf basin.now.rights roll.now }
-{
-    let mut reader = ResultReader::open(alloc, basin, roll)?;
+/// Gives a reader the lines up to those of a set, and then bytes.
+fn take_members<R: Abort>(rt: &R, reader: &mut ResultReader) {
     for text in LINES_TO_SET {
         assert!(rt; reader.line(text.as_bytes()).is_ok(), "line {text}");
     }
     for (piece, node) in PIECES {
-        take_member(rt, &mut reader, piece, *node);
+        take_member(rt, reader, piece, *node);
     }
-    Ok(())
 }
 
 #[test]
@@ -272,5 +273,8 @@ fn takes_the_likely_members(rt: HostRuntime) -> Result<(), AllocError> {
     let alloc = rt.alloc();
     let basin = basin_of(alloc, RIGHTS)?;
     let roll = Roll::of_basin(alloc, &basin)?;
-    take_members(&rt, alloc, &basin, &roll)
+    let mut reader = ResultReader::open(alloc, &basin, &roll)?;
+    take_members(&rt, &mut reader);
+    drop(reader);
+    Ok(())
 }

@@ -1,12 +1,14 @@
 //! A run whose first month was solved by another run.
-ghost use Rattle.std.specs.Prelude.{◌≡◌, ◌<◌};
+ghost use Rattle.std.specs.Prelude.{[], ◌∷◌, ◌≡◌, ◌<◌, map, IfOk};
+ghost use Rattle.month_fold.specs.Runs.{RunStandsFor};
+ghost use Rattle.water_model.specs.History.{IsPartialHistory};
 ghost use Rattle.water_model.specs.Valid.{IsSeriesOf, IsValidBasin};
 
 use crate::basins::basin_of;
 use inflow_file::{HEADER, read_inflows};
 use month_fold::run::Run;
 use month_fold::work::Work;
-use std::alloc::Global;
+use std::alloc::{AllocError, Global};
 use std::marker::Brand;
 use std::process::Abort;
 use std::sync::ledger::{Blank, Ledger};
@@ -69,6 +71,62 @@ fn compare_later<R: Abort, P: Ledger, M: Ledger>(rt: &R, run: &mut Run, work: &m
     assert!(rt; run.left() == 0);
 }
 
+/// Solves the first month of a run, compares it, and answers a copy of its record.
+fn first_record<R: Abort, P: Ledger, M: Ledger>(
+    rt: &R,
+    alloc: Global,
+    run: &mut Run,
+    work: &mut Work<P, M>,
+) -> Result<Box<MonthRecord>, AllocError>
+    requires { RunStandsFor run.old [] }
+    ensures basin { run.new.basin ≡ run.old.basin }
+    ensures series { run.new.series ≡ run.old.series }
+    ensures stands { RunStandsFor run.new (run.new.last ∷ []) }
+    ensures copied { IfOk result (λ kept. kept.value ≡ run.new.last) }
+{
+    assert!(rt; run.left() == 3);
+    run.step(work);
+    assert_eq!(rt; numbers_of(run.month()), FIRST);
+    run.month().copy(alloc)
+}
+
+/// The record of the first month of a basin with its series.
+fn record_of<R: Abort, P: Ledger, M: Ledger>(
+    rt: &R,
+    alloc: Global,
+    basin: &Basin,
+    series: &Inflows,
+    work: &mut Work<P, M>,
+) -> Result<Box<MonthRecord>, AllocError>
+    requires basin { IsValidBasin basin.now }
+    requires series { IsSeriesOf basin.now series.now }
+    ensures { IfOk result (λ kept. IsPartialHistory basin.now series.now (kept.value ∷ [])) }
+{
+    let mut run = Run::open(alloc, basin, series)?;
+    let kept = first_record(rt, alloc, &mut run, work);
+    drop(run);
+    kept
+}
+
+/// Solves the months after these, and compares each.
+fn solve_later<R: Abort, P: Ledger, M: Ledger>(
+    rt: &R,
+    alloc: Global,
+    basin: &Basin,
+    series: &Inflows,
+    months: &[Box<MonthRecord>],
+    work: &mut Work<P, M>,
+) -> Result<(), AllocError>
+    requires basin { IsValidBasin basin.now }
+    requires series { IsSeriesOf basin.now series.now }
+    requires months { IsPartialHistory basin.now series.now (map (λ m. m.value) months.now) }
+{
+    let mut run = Run::resume(alloc, basin, series, months)?;
+    compare_later(rt, &mut run, work);
+    drop(run);
+    Ok(())
+}
+
 /// Solves the first month by one run, and those after it by another, which goes on from a copy of the first one's
 /// record.
 fn go_on<R: Abort, P: Ledger, M: Ledger>(
@@ -89,14 +147,9 @@ fn go_on<R: Abort, P: Ledger, M: Ledger>(
     requires series { IsSeriesOf basin.now series.now }
 {
     let mut work = Work::<P, M>::new(pushes, months);
-    let mut run = Run::open(alloc, basin, series)?;
-    assert!(rt; run.left() == 3);
-    run.step(&mut work);
-    assert_eq!(rt; numbers_of(run.month()), FIRST);
     let mut kept = Vec::new(alloc);
-    kept.push(run.month().copy(alloc)?)?;
-    let mut resumed = Run::resume(alloc, basin, series, kept.as_slice())?;
-    compare_later(rt, &mut resumed, &mut work);
+    kept.push(record_of(rt, alloc, basin, series, &mut work)?)?;
+    solve_later(rt, alloc, basin, series, kept.as_slice(), &mut work)?;
     Ok(())
 }
 

@@ -1,11 +1,14 @@
 //! A record that is begun in another of its years.
+ghost use Rattle.std.specs.Prelude.{◌≡◌};
+ghost use Rattle.water_model.specs.Valid.{IsValidBasin};
+
 use crate::basins::basin_of;
 use index_seq::rotate;
 use inflow_file::read_inflows;
-use std::alloc::Global;
+use std::alloc::{AllocError, Global};
 use std::process::Abort;
 use std::test::Fail;
-use water_model::types::Inflows;
+use water_model::types::{Basin, Inflows};
 
 /// Two gauges over two years from October on.
 const BASIN: &str = r#"format = 1
@@ -68,22 +71,52 @@ fn dry_and_wet(alloc: Global) -> Result<String, Fail> {
     Ok(text)
 }
 
+/// The series that a text spells, begun in its second year.
+fn begun_of<R: Abort>(
+    rt: &R,
+    alloc: Global,
+    basin: &Basin,
+    text: &str,
+) -> Result<Inflows, AllocError>
+    requires basin { IsValidBasin basin.now }
+    requires months { basin.now.months ≡ 24 }
+{
+    let Ok(series) = read_inflows(alloc, basin, text.as_bytes()) else {
+        panic!(rt; "the record is refused");
+    };
+    let begun = rotate(alloc, basin, &series, 1);
+    drop(series);
+    begun
+}
+
+/// A series has the wet year first, and then the dry one.
+fn expect_wet_first<R: Abort>(rt: &R, begun: &Inflows) {
+    assert_eq!(rt; begun.amount.len(), 24);
+    for month in 0..12usize {
+        assert_eq!(rt; begun.amount.as_slice().get(month), Some(&12));
+        assert_eq!(rt; begun.amount.as_slice().get(month + 12), Some(&4));
+    }
+}
+
 /// Begun in its second year the record has the wet year first and the dry one after it.
 #[test]
 fn begins_with_the_wet_year(rt: HostRuntime) -> Result<(), Fail> {
     let basin = basin_of(rt.alloc(), USER)?;
     assert_eq!(&rt; basin.months, 24);
     let text = dry_and_wet(rt.alloc())?;
-    let Ok(series) = read_inflows(rt.alloc(), &basin, text.as_bytes()) else {
-        panic!(&rt; "the record is refused");
-    };
-    let begun = rotate(rt.alloc(), &basin, &series, 1)?;
-    assert_eq!(&rt; begun.amount.len(), 24);
-    for month in 0..12usize {
-        assert_eq!(&rt; begun.amount.as_slice().get(month), Some(&12));
-        assert_eq!(&rt; begun.amount.as_slice().get(month + 12), Some(&4));
-    }
+    let begun = begun_of(&rt, rt.alloc(), &basin, text.as_str())?;
+    expect_wet_first(&rt, &begun);
     Ok(())
+}
+
+/// A series has the indices 21 to 32 of the record, and then 9 to 20.
+fn expect_second_first<R: Abort>(rt: &R, begun: &Inflows) {
+    for month in 0..12usize {
+        expect_month(rt, begun, month, month as u64 + 21);
+        expect_month(rt, begun, month + 12, month as u64 + 9);
+    }
+    assert_eq!(rt; begun.amount.len(), 48);
+    assert!(rt; begun.wanted.len() == 0 && begun.want.len() == 0);
 }
 
 /// The run goes from index 9 to index 32. Begun one year later it has the indices 21 to 32, and then 9 to 20.
@@ -92,15 +125,7 @@ fn begins_in_the_second_year(rt: HostRuntime) -> Result<(), Fail> {
     let basin = basin_of(rt.alloc(), BASIN)?;
     assert_eq!(&rt; basin.months, 24);
     let text = record(rt.alloc())?;
-    let Ok(series) = read_inflows(rt.alloc(), &basin, text.as_bytes()) else {
-        panic!(&rt; "the record is refused");
-    };
-    let begun = rotate(rt.alloc(), &basin, &series, 1)?;
-    for month in 0..12usize {
-        expect_month(&rt, &begun, month, month as u64 + 21);
-        expect_month(&rt, &begun, month + 12, month as u64 + 9);
-    }
-    assert_eq!(&rt; begun.amount.len(), 48);
-    assert!(&rt; begun.wanted.len() == 0 && begun.want.len() == 0);
+    let begun = begun_of(&rt, rt.alloc(), &basin, text.as_str())?;
+    expect_second_first(&rt, &begun);
     Ok(())
 }

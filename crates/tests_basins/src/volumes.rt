@@ -5,6 +5,7 @@ ghost use Rattle.water_model.specs.Valid.{IsValidBasin, IsSeriesOf};
 use crate::basins::basin_of;
 use inflow_file::{HEADER, read_inflows};
 use std::alloc::{AllocError, Global};
+use std::process::Abort;
 use std::test::Fail;
 use water_model::calls::{begins_year, want_of};
 use water_model::types::{Basin, Inflows};
@@ -44,23 +45,38 @@ fn series_of(alloc: Global, basin: &Basin) -> Result<Inflows, AllocError>
     }
 }
 
+/// Compares the wants of the farm and of the town.
+fn expect_wants<R: Abort>(rt: &R, basin: &Basin, series: &Inflows)
+    requires basin { IsValidBasin basin.now }
+    requires series { IsSeriesOf basin.now series.now }
+{
+    assert!(rt; basin.rights.len() == 2 && basin.months == 24);
+    for (used, want) in WANTS {
+        assert_eq!(rt; want_of(basin, series, 0, 0, used), want);
+        assert_eq!(rt; want_of(basin, series, 1, 23, used), 8);
+    }
+}
+
 #[test]
 fn wants_what_is_left_of_a_volume(rt: HostRuntime) -> Result<(), Fail> {
     let basin = basin_of(rt.alloc(), BASIN)?;
     let series = series_of(rt.alloc(), &basin)?;
-    assert!(&rt; basin.rights.len() == 2 && basin.months == 24);
-    for (used, want) in WANTS {
-        assert_eq!(&rt; want_of(&basin, &series, 0, 0, used), want);
-        assert_eq!(&rt; want_of(&basin, &series, 1, 23, used), 8);
-    }
+    expect_wants(&rt, &basin, &series);
     Ok(())
+}
+
+/// Compares which months begin a year.
+fn expect_begins<R: Abort>(rt: &R, basin: &Basin)
+    requires { IsValidBasin basin.now }
+{
+    for index in 0..36u32 {
+        assert_eq!(rt; begins_year(basin, index), index % 12 == 2);
+    }
 }
 
 #[test]
 fn begins_a_year_with_each_march(rt: HostRuntime) -> Result<(), Fail> {
     let basin = basin_of(rt.alloc(), BASIN)?;
-    for index in 0..36u32 {
-        assert_eq!(&rt; begins_year(&basin, index), index % 12 == 2);
-    }
+    expect_begins(&rt, &basin);
     Ok(())
 }

@@ -60,10 +60,10 @@ returns-in-Err-read_file g c =
       asked =
           stops_at (files_to (edit files script)) _ _ file.Script ending c.in-Err-read_file.ensures.at
           (asks_then _ _ _ _ _ c.in-Ok.ensures.reads (asks_one _ _ _ c.read_file.ensures.asked));
-      can_be_printed = first_of (search rules, grind (arith, common_steps));
-      writes = first_of (search rules, grind (arith, common_steps));
+      can_be_printed = search rules;
+      writes = search rules;
       out_stays = λ _. refl;
-      flushed = first_of (search rules, grind (arith, common_steps));
+      flushed = search rules;
       shown = unread _ ending (λ _ _. inl refl);
       unread = tt;
       idle = λ _. refl;
@@ -77,14 +77,14 @@ returns-in-Err g c =
     let known = g.S.Shelf.known c.args.shelf.now in
     let ending = c.in-Err.ending in
     record {
-      cause = first_of (search rules, grind (arith, common_steps));
+      cause = search rules;
       asked =
           inputs_stop (files_to (edit files script)) _ _ files _ _ ending (λ asks. asks) (λ asks. asks)
           c.in-Err.ensures.stops c.in-Err.ensures.up_to;
-      can_be_printed = first_of (search rules, grind (arith, common_steps));
-      writes = first_of (search rules, grind (arith, common_steps));
+      can_be_printed = search rules;
+      writes = search rules;
       out_stays = λ _. refl;
-      flushed = first_of (search rules, grind (arith, common_steps));
+      flushed = search rules;
       shown = unread _ ending (λ _ _. inl refl);
       unread = tt;
       idle = λ _. refl;
