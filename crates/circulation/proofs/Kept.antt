@@ -1,7 +1,9 @@
 -- What changes a part of a circulation keeps the rest.
-use Rattle.std.proofs.Common.{ℕ, ◌≡◌, ◌+◌, ◌*◌, List, length, slice_index, replicate, arith, ap, subst, ◌∙◌}
+use Rattle.std.proofs.Common.{ℕ, ◌≡◌, ◌+◌, ◌*◌, List, length, slice_index, replicate, arith, ap, sym, subst, ◌∙◌}
 use Rattle.std.proofs.lemmas.Grind.{common_steps}
 use Rattle.circulation.specs.Network.{IsFlow}
+use Rattle.circulation.specs.Rooms.{flows_over, uppers_over, AreRooms}
+use Rattle.circulation.proofs.RoomLists.{flows_are, uppers_are}
 use Rattle.circulation.specs.Contents.{Contents, network, IsCirculation, IsStart, month_contents}
 
 -- another flow in place of the flow
@@ -36,15 +38,18 @@ month-kept {supply} {upper} k s = record {
   rows = k.rows;
 }
 
--- the lists as they were written one by one
-pub month-written : {c x : Contents} {n : ℕ} {supply lower upper flow s u f : List ℕ} → c ≡ x → IsCirculation c →
-    n ≡ length c.lower → lower ≡ replicate n 0 → supply ≡ s → upper ≡ u → flow ≡ f → IsStart x s u f →
-    IsCirculation (record c { supply = supply; lower = lower; upper = upper; flow = flow })
-month-written {c} {x} {n} {supply} {lower} {upper} {flow} {s} {u} {f} is k size none es eu ef start =
-    let kept : IsCirculation x = subst IsCirculation is k in
-    let nodes = ap (λ (y : Contents). length y.from) is in
+-- the words as they were written one by one
+pub month-written : {c x : Contents} {n : ℕ} {supply lower rooms s u f : List ℕ} → c ≡ x → IsCirculation c →
+    n ≡ length c.lower → lower ≡ replicate n 0 → supply ≡ s → AreRooms (replicate (length u) 0) u f rooms →
+    IsStart x s u f →
+    record c { supply = supply; lower = lower; upper = uppers_over lower rooms; flow = flows_over lower rooms }
+    ≡ month_contents x s u f
+month-written {c} {x} {n} {supply} {lower} {rooms} {s} {u} {f} is k size none es are start =
+    let arcs = ap (λ (y : Contents). length y.from) is in
     let none_here : lower ≡ replicate (length x.from) 0 = none ∙ ap (λ (n : ℕ). replicate {A = ℕ} n 0)
-    (size ∙ k.shape.lower ∙ nodes) in
-    let done = month-kept kept start in
-    let same : month_contents x s u f ≡ record c { supply = supply; lower = lower; upper = upper; flow = flow } = cc in
-    subst IsCirculation same done
+    (size ∙ k.shape.lower ∙ arcs) in
+    let here : AreRooms lower u f rooms = subst (λ (l : List ℕ). AreRooms l u f rooms)
+    (ap (λ (n : ℕ). replicate {A = ℕ} n 0) start.uppers ∙ sym none_here) are in
+    let upper = uppers_are here in
+    let flow = flows_are here in
+    cc

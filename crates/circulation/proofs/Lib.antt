@@ -11,6 +11,8 @@ pub mod RowSums
 pub mod Scans
 pub mod Starts
 pub mod Overs
+pub mod RoomLists
+pub mod Lent
 pub mod Cuts
 pub mod Unmarked
 pub mod Trails

@@ -15,6 +15,8 @@ use Rattle.circulation.specs.Chains.{tails_of}
 use Rattle.circulation.specs.Laid.{IsLaid}
 use Rattle.finite_sums.proofs.Totals.{total_zero}
 use Rattle.circulation.proofs.Pairs.{no_ends}
+use Rattle.circulation.specs.Rooms.{AreRooms}
+use Rattle.circulation.proofs.RoomLists.{rooms_none}
 
 -- each end is a node, and no arc goes from a node to itself
 abbrev pub AreWithin : ℕ → List Ends → Type 0
@@ -91,20 +93,18 @@ empty-circulation {nodes} {from} {to} {rows} bounded_nodes bounded_arcs same end
 
 -- a row of zeros in parts
 zeros_in_parts : (arcs nodes : ℕ) {count : ℕ} →
-    count ≡ arcs + (arcs + (arcs + (nodes + (4 * nodes + 8 + (2 * nodes + 6))))) →
-    replicate {A = ℕ} count 0 ≡ replicate arcs 0 ++ (replicate arcs 0
-    ++ (replicate arcs 0 ++ (replicate nodes 0 ++ (replicate (4 * nodes + 8) 0 ++ replicate (2 * nodes + 6) 0))))
+    count ≡ 2 * arcs + (arcs + (nodes + (4 * nodes + 8 + (2 * nodes + 6)))) →
+    replicate {A = ℕ} count 0 ≡ replicate (2 * arcs) 0
+    ++ (replicate arcs 0 ++ (replicate nodes 0 ++ (replicate (4 * nodes + 8) 0 ++ replicate (2 * nodes + 6) 0)))
 zeros_in_parts arcs nodes is =
     ap (λ (n : ℕ). replicate {A = ℕ} n 0) is
-    ∙ sym (replicate-append-replicate {A = ℕ} arcs (arcs + (arcs + (nodes + (4 * nodes + 8 + (2 * nodes + 6))))) 0)
-    ∙ ap (λ (xs : List ℕ). replicate arcs 0 ++ xs)
-    (sym (replicate-append-replicate {A = ℕ} arcs (arcs + (nodes + (4 * nodes + 8 + (2 * nodes + 6)))) 0)
-    ∙ ap (λ (xs : List ℕ). replicate arcs 0 ++ xs)
+    ∙ sym (replicate-append-replicate {A = ℕ} (2 * arcs) (arcs + (nodes + (4 * nodes + 8 + (2 * nodes + 6)))) 0)
+    ∙ ap (λ (xs : List ℕ). replicate (2 * arcs) 0 ++ xs)
     (sym (replicate-append-replicate {A = ℕ} arcs (nodes + (4 * nodes + 8 + (2 * nodes + 6))) 0)
     ∙ ap (λ (xs : List ℕ). replicate arcs 0 ++ xs)
     (sym (replicate-append-replicate {A = ℕ} nodes (4 * nodes + 8 + (2 * nodes + 6)) 0)
     ∙ ap (λ (xs : List ℕ). replicate nodes 0 ++ xs)
-    (sym (replicate-append-replicate {A = ℕ} (4 * nodes + 8) (2 * nodes + 6) 0)))))
+    (sym (replicate-append-replicate {A = ℕ} (4 * nodes + 8) (2 * nodes + 6) 0))))
 
 -- the words of a circulation that is empty
 pub empty-words : (circ : Circulation) {c : Contents} {kept moved : List ℕ} → c.nodes ≡ circ.nodes →
@@ -125,9 +125,13 @@ empty-words circ {c} nodes arcs k is none pairs count from to steps small fixed 
     fixed = fixed;
     circulation = k;
   };
+  rooms = replicate (2 * length c.from) 0;
   unused = replicate (2 * c.nodes + 6) 0;
+  of_steps = subst (λ (e : Contents). AreRooms e.lower e.upper e.flow (replicate (2 * length c.from) 0)) (sym is)
+      (rooms_none (length c.from));
   moving = none ∙ zeros_in_parts (length c.from) c.nodes (omega (arith, nodes, arcs)) ∙ ap (λ (e : Contents).
-      e.flow ++ (e.upper ++ (e.lower ++ (e.supply ++ (e.scratch ++ replicate (2 * c.nodes + 6) 0))))) (sym is);
+      replicate (2 * length c.from) 0 ++ (e.lower ++ (e.supply ++ (e.scratch ++ replicate (2 * c.nodes + 6) 0))))
+      (sym is);
 }
 
 -- the words of a circulation that was just opened

@@ -1,15 +1,17 @@
 -- A push along a closed walk keeps the flow: what holds when the steps before `at` are done.
 use Rattle.std.proofs.Common.{ℕ, Bool, true, false, not, ◌==◌, ◌≡◌, ◌≢◌, ◌+◌, ◌-◌, ◌*◌, ◌^◌, ◌<◌, ◌≤◌, length}
-use Rattle.std.proofs.Common.{slice_index, slice_set, refl, arith, ap, sym, subst, inl, inr, ◌∙◌}
+use Rattle.std.proofs.Common.{List, slice_index, refl, arith, ap, sym, subst, inl, inr, ◌∙◌}
 use Rattle.std.proofs.lemmas.Bool.{ne_eqb}
 use Rattle.std.proofs.lemmas.Bool.Decides.{eqb_tells}
-use Rattle.std.proofs.lemmas.List.{get_or-set_same, get_or-set_other, length-set}
 use Rattle.finite_sums.specs.Sums.{when}
 use Rattle.circulation.specs.Contents.{Contents, network, flow_of, step_of, IsCirculation}
 use Rattle.circulation.specs.Network.{Network, IsFlow, inflow, outflow}
-use Rattle.circulation.specs.Residual.{arc_of, is_backward, by_direction, start_of, end_of, IsClosedWalk, IsPushed}
+use Rattle.circulation.specs.Residual.{arc_of, is_backward, by_direction, opposite, start_of, end_of, room_of}
+use Rattle.circulation.specs.Residual.{IsClosedWalk, IsPushed}
+use Rattle.circulation.specs.Rooms.{flows_over, uppers_over, AreRooms, IsRoomMoved}
 use Rattle.finite_sums.proofs.Totals.{total_change}
 use Rattle.circulation.proofs.Kept.{flow-kept}
+use Rattle.circulation.proofs.RoomLists.{flow_moved, uppers_are, rooms_fit, rooms_inside, room_is}
 
 -- the sums at a node, by the way of the step and whether its arc leaves or enters the node
 step_sums : (back f t : Bool) (d x y o p i j : ℕ) → y + when back d ≡ x + when (not back) d →
@@ -171,47 +173,73 @@ next_same : {x y : Contents} {first last at amount : ℕ} → IsPushState x y fi
     step_of x at ≡ step_of y at
 next_same {at} p = ap (λ (z : Contents). step_of z at) (sym p.rest)
 
--- its arc has a flow
-pub push_inside : {x y : Contents} {first last at amount : ℕ} → IsCirculation x →
-    IsClosedWalk (network x) (flow_of x) (step_of x) first last amount → IsPushState x y first last at amount →
-    first ≤ at → at < last → arc_of (step_of y at) < length y.flow
-push_inside {y} {at} k walk p a b =
-    subst (λ (s : ℕ). arc_of s < length y.flow) (next_same p) (omega (arith, walk.arc at a b, k.shape.flow, p.size))
+-- both rooms over the arc of the next step can change by the amount
+pub record CanMove (rooms : List ℕ) (s amount : ℕ) : Type 0 where
+  pub inside : s < length rooms
+  pub other : opposite s < length rooms
+  pub room : amount ≤ slice_index rooms s
+  pub fits : slice_index rooms (opposite s) + amount < 2 ^ 64
 
--- which it can change
-pub push_fits : {x y : Contents} {first last at amount : ℕ} → IsCirculation x →
+-- its arc has a flow
+push_inside : {x y : Contents} {first last at amount : ℕ} → IsCirculation x →
     IsClosedWalk (network x) (flow_of x) (step_of x) first last amount → IsPushState x y first last at amount →
-    first ≤ at → at < last → (is_backward (step_of y at) ≡ true → amount ≤ flow_of y (arc_of (step_of y at))) ×
-    (is_backward (step_of y at) ≡ false → flow_of y (arc_of (step_of y at)) + amount < 2 ^ 64)
-push_fits {x} {y} {at} {amount} k walk p a b =
-    let fits = change_fits _ _ _ _ _ _ _ _ k.flow walk p.pushing a b in
-    let small = k.shape.small (arc_of (step_of x at)) (walk.arc at a b) in
-    subst (λ (s : ℕ). (is_backward s ≡ true → amount ≤ flow_of y (arc_of s)) ×
-    (is_backward s ≡ false → flow_of y (arc_of s) + amount < 2 ^ 64)) (next_same p)
-    (fits.0, λ e. omega (arith, fits.1 e, small))
+    first ≤ at → at < last → arc_of (step_of y at) < length y.lower
+push_inside {x} {y} {at} k walk p a b =
+    subst (λ (s : ℕ). arc_of s < length y.lower) (next_same p)
+    (omega (arith, walk.arc at a b, k.shape.lower, ap (λ (c : Contents). length c.lower) p.rest))
+
+-- and the step has still its old room
+push_room : {x y : Contents} {first last at amount : ℕ} →
+    IsClosedWalk (network x) (flow_of x) (step_of x) first last amount → IsPushState x y first last at amount →
+    first ≤ at → at < last → amount ≤ room_of (network y) (flow_of y) (step_of y at)
+push_room {x} {y} {at = at} {amount = amount} walk p a b =
+    let s = step_of x at in
+    let room : amount ≤ by_direction (is_backward s) (slice_index x.upper (arc_of s) - flow_of y (arc_of s))
+    (flow_of y (arc_of s) - slice_index x.lower (arc_of s)) = rw (untouched walk p.pushing a b) (walk.room at a b) in
+    let here : amount ≤ room_of (network y) (flow_of y) s = subst (λ (c : Contents).
+    amount ≤ room_of (network c) (flow_of y) s) (sym p.rest) room in
+    subst (λ (s : ℕ). amount ≤ room_of (network y) (flow_of y) s) (next_same p) here
+
+-- the next step can be done
+pub push_fits : {x y : Contents} {rooms : List ℕ} {first last at amount : ℕ} → IsCirculation x →
+    IsClosedWalk (network x) (flow_of x) (step_of x) first last amount → IsPushState x y first last at amount →
+    AreRooms y.lower y.upper y.flow rooms → first ≤ at → at < last → CanMove rooms (step_of y at) amount
+push_fits {x} {y} {rooms} {at = at} k walk p are a b =
+    let s = step_of y at in
+    let inside = push_inside k walk p a b in
+    let words = rooms_inside s are inside in
+    let room = push_room walk p a b in
+    let is = room_is y s are inside in
+    let small : slice_index x.upper (arc_of s) ≤ 10 ^ 15 = subst (λ (s : ℕ). slice_index x.upper (arc_of s) ≤ 10 ^ 15)
+    (next_same p) (k.shape.small (arc_of (step_of x at)) (walk.arc at a b)) in
+    let upper = ap (λ (c : Contents). slice_index c.upper (arc_of s)) p.rest in
+    record {
+      inside = words.0;
+      other = words.1;
+      room = omega (arith, room, is);
+      fits = omega (arith, room, is, rooms_fit s are inside, small, upper);
+    }
 
 -- and that was done
-pub push_next : {x y : Contents} {first last at amount : ℕ} (new : ℕ) → IsCirculation x →
+pub push_next : {x y : Contents} {rooms new : List ℕ} {first last at amount : ℕ} → IsCirculation x →
     IsClosedWalk (network x) (flow_of x) (step_of x) first last amount → IsPushState x y first last at amount →
-    first ≤ at → at < last → new + when (is_backward (step_of y at)) amount ≡ flow_of y (arc_of (step_of y at)) + when
-    (not (is_backward (step_of y at))) amount →
-    IsPushState x (record y { flow = slice_set y.flow (arc_of (step_of y at)) new }) first last (at + 1) amount
-push_next {x} {y} {first} {last} {at} {amount} new k walk p a b change =
-    let same = next_same p in
-    let inside = push_inside k walk p a b in
-    let arc = arc_of (step_of y at) in
-    let flow = slice_set y.flow arc new in
-    let here = get_or-set_same y.flow arc new 0 inside in
-    let done : slice_index flow arc + when (is_backward (step_of y at)) amount ≡ flow_of y arc + when
-    (not (is_backward (step_of y at))) amount = ap (λ (n : ℕ). n + when (is_backward (step_of y at)) amount) here ∙
-    change in
-    record {
-      rest = ap (λ (z : Contents). record z { flow = flow }) p.rest;
-      size = length-set y.flow arc new ∙ p.size;
-      pushing = pushing_next (network x) (flow_of x) (flow_of y) (slice_index flow) (step_of x) first last at amount
-          k.flow walk p.pushing a b (rw same done)
-          (λ c ne. get_or-set_other y.flow arc c new 0 (λ e. ne (e ∙ ap arc_of (sym same))));
-    }
+    AreRooms y.lower y.upper y.flow rooms → first ≤ at → at < last → IsRoomMoved rooms new (step_of y at) amount →
+    IsPushState x (record y { upper = uppers_over y.lower new; flow = flows_over y.lower new }) first last (at + 1)
+    amount × (length new ≡ 2 * length y.lower)
+push_next {x} {y} {new = new} {first} {last} {at} {amount} k walk p are a b change =
+    let moved = flow_moved (step_of y at) amount are (push_inside k walk p a b) change in
+    let flow = flows_over y.lower new in
+    let same = next_same p in (
+      record {
+        rest = ap (λ (u : List ℕ). record y { upper = u; flow = flow }) (uppers_are moved.kept)
+            ∙ ap (λ (z : Contents). record z { flow = flow }) p.rest;
+        size = moved.kept.flows ∙ sym are.flows ∙ p.size;
+        pushing = pushing_next (network x) (flow_of x) (flow_of y) (slice_index flow) (step_of x) first last at amount
+            k.flow walk p.pushing a b (rw same moved.on)
+            (λ c ne. moved.off c (λ e. ne (e ∙ ap arc_of (sym same))));
+      },
+      moved.kept.size,
+    )
 
 -- when all steps are done it is a circulation again
 pub push_kept : {x y : Contents} {first last at amount : ℕ} → IsCirculation x → IsPushState x y first last at amount →

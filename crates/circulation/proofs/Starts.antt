@@ -1,20 +1,31 @@
 -- The words of a circulation at the start of a month.
 use Rattle.std.proofs.Common.{ℕ, ◌≡◌, ◌+◌, ◌-◌, ◌*◌, List, ◌++◌, length, take, drop, map, replicate, arith, ap}
-use Rattle.std.proofs.Common.{refl, sym, ◌∙◌, take-append-drop, length-drop, length-take-le}
-use Rattle.std.proofs.lemmas.List.{take_at, drop_at, length-map}
+use Rattle.std.proofs.Common.{refl, sym, subst, ◌∙◌, take-append-drop, length-drop, length-take-le}
+use Rattle.std.proofs.lemmas.List.{take_at, drop_at, drop-drop, length-map}
 use Rattle.circulation.specs.declared.Circulation.{Circulation}
 use Rattle.circulation.specs.Contents.{Contents, IsStart, month_contents}
 use Rattle.circulation.specs.Places.{tail_of, head_of, word_count, fixed_count, AreFixedOf, AreWordsOf}
+use Rattle.circulation.specs.Rooms.{AreRooms}
 use Rattle.circulation.proofs.Kept.{scratch-kept, month-kept}
 use Rattle.circulation.proofs.Lends.{contents_of, lists_same}
 
+-- the words after the rooms, the lower bounds and the supplies
+pub words_after : (arcs nodes : ℕ) (words : List ℕ) {after last : List ℕ} → after ≡ drop (2 * arcs) words →
+    last ≡ drop arcs after → drop nodes last ≡ drop (3 * arcs + nodes) words
+words_after arcs nodes words is last_is =
+    ap (drop nodes) (last_is ∙ ap (drop arcs) is)
+    ∙ ap (drop nodes) (drop-drop arcs (2 * arcs) words) ∙ drop-drop nodes (2 * arcs + arcs) words
+    ∙ ap (λ (n : ℕ). drop n words) (omega arith)
+
 -- the words of a month that starts
-pub month-words : {circ : Circulation} {c : Contents} {kept : List ℕ} (old : List ℕ) {new supply upper start : List ℕ} →
+pub month-words : {circ : Circulation} {c : Contents} {kept : List ℕ}
+    (old : List ℕ) {new rooms supply upper start : List ℕ} →
     AreFixedOf circ c kept → length old ≡ word_count circ.nodes circ.arcs - fixed_count circ.nodes circ.arcs →
     IsStart c supply upper start →
-    new ≡ start ++ (upper ++ (replicate circ.arcs 0 ++ (supply ++ drop (3 * circ.arcs + length supply) old))) →
+    AreRooms (replicate circ.arcs 0) upper start rooms →
+    new ≡ rooms ++ (replicate circ.arcs 0 ++ (supply ++ drop (3 * circ.arcs + length supply) old)) →
     (scratch : List ℕ) × AreWordsOf circ (record (month_contents c supply upper start) { scratch = scratch }) kept new
-month-words {circ} {c} old {supply} {upper} {start} w count s is =
+month-words {circ} {c} old {rooms = rooms} {supply} {upper} {start} w count s of_steps is =
     let arcs : length c.from ≡ circ.arcs = ap length w.from ∙ (length-map w.pairs tail_of ∙ w.arcs) in
     let rest = drop (3 * circ.arcs + length supply) old in
     let scratch = take (4 * c.nodes + 8) rest in
@@ -33,9 +44,11 @@ month-words {circ} {c} old {supply} {upper} {start} w count s is =
           fixed = w.fixed;
           circulation = scratch-kept scratch long (month-kept w.circulation s);
         };
+        rooms = rooms;
         unused = drop (4 * c.nodes + 8) rest;
-        moving = is ∙ ap (λ (n : ℕ). start ++ (upper ++ (replicate n 0 ++ (supply ++ rest)))) (sym arcs)
-            ∙ ap (λ (xs : List ℕ). start ++ (upper ++ (replicate (length c.from) 0 ++ (supply ++ xs))))
+        of_steps = subst (λ (n : ℕ). AreRooms (replicate n 0) upper start rooms) (sym arcs) of_steps;
+        moving = is ∙ ap (λ (n : ℕ). rooms ++ (replicate n 0 ++ (supply ++ rest))) (sym arcs)
+            ∙ ap (λ (xs : List ℕ). rooms ++ (replicate (length c.from) 0 ++ (supply ++ xs)))
             (sym (take-append-drop (4 * c.nodes + 8) rest));
       },
     )

@@ -1,6 +1,7 @@
 pub mod Network
 pub mod Residual
 pub mod Rows
+pub mod Rooms
 pub mod Chains
 pub mod Contents
 pub mod Places

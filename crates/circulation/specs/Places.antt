@@ -4,6 +4,7 @@ use Rattle.word_region.specs.Words.{Words, IsUsed, words_at}
 use Rattle.circulation.specs.declared.Ends.{Ends}
 use Rattle.circulation.specs.declared.Circulation.{Circulation}
 use Rattle.circulation.specs.Contents.{Contents, IsCirculation}
+use Rattle.circulation.specs.Rooms.{AreRooms}
 
 -- how many words it takes
 abbrev pub word_count : ℕ → ℕ → ℕ
@@ -42,8 +43,10 @@ pub record AreFixedOf (circ : Circulation) (c : Contents) (kept : List ℕ) : Ty
 -- the words are those of the contents: first those that never change, and then those that do
 pub record AreWordsOf (circ : Circulation) (c : Contents) (kept moved : List ℕ) : Type 0 where
   pub fixed : AreFixedOf circ c kept
+  pub rooms : List ℕ
   pub unused : List ℕ
-  pub moving : moved ≡ c.flow ++ (c.upper ++ (c.lower ++ (c.supply ++ (c.scratch ++ unused))))
+  pub of_steps : AreRooms c.lower c.upper c.flow rooms
+  pub moving : moved ≡ rooms ++ (c.lower ++ (c.supply ++ (c.scratch ++ unused)))
 
 -- the same of all words of its place
 abbrev pub HasWords : Circulation → Contents → List ℕ → Type 0

@@ -1,12 +1,13 @@
 //! A circulation in words that are borrowed.
-ghost use Rattle.std.specs.Prelude.{IsTrue, ◌↔◌, ◌≡◌, true, false, not, ℕ, ◌+◌, ◌*◌, ◌^◌, ◌<◌, ◌≤◌};
+ghost use Rattle.std.specs.Prelude.{IsTrue, ◌↔◌, ◌≡◌, true, false, ℕ, ◌+◌, ◌*◌, ◌^◌, ◌<◌, ◌≤◌};
 ghost use Rattle.std.specs.Prelude.{◌==◌, length, slice_index, slice_set};
 ghost use Rattle.circulation.specs.Contents.{arcs, flow_of, step_of, held_contents, month_contents, network};
 ghost use Rattle.circulation.specs.Contents.{IsCirculation, IsStart};
 ghost use Rattle.circulation.specs.Network.{inflow, outflow};
-ghost use Rattle.circulation.specs.Residual.{by_direction, is_backward, IsClosedWalk, IsPushed};
+ghost use Rattle.circulation.specs.Residual.{by_direction, IsClosedWalk, IsPushed};
 ghost use Rattle.finite_sums.specs.Sums.{total, when};
 
+use crate::rooms::{move_room, write_rooms};
 use crate::{END, Ends};
 use std::marker::Model;
 use std::sync::ledger::Ledger;
@@ -24,8 +25,9 @@ pub struct CirculationMut<'r> {
     pub(crate) step: &'r [u64],
     pub(crate) end: &'r [u64],
     pub(crate) first: &'r [u64],
-    pub(crate) flow: &'r mut [u64],
-    pub(crate) upper: &'r mut [u64],
+    /// The room of each step, in units of 1,000 cubic metres: word `2 * a` has that of the step forward over the
+    /// arc `a`, and word `2 * a + 1` that of the step back over it.
+    pub(crate) rooms: &'r mut [u64],
     pub(crate) lower: &'r mut [u64],
     pub(crate) supply: &'r mut [u64],
     pub(crate) scratch: &'r mut [u64],
@@ -79,7 +81,8 @@ impl CirculationMut<'_> {
         ensures amount { result ≡ flow_of self.now arc }
         ensures kept { IsCirculation self.now }
     {
-        self.flow[arc as usize]
+        let place = arc as usize;
+        self.lower[place] + self.rooms[2 * place + 1]
     }
 
     /// The least flow that an arc may have, in units of 1,000 cubic metres.
@@ -99,9 +102,9 @@ impl CirculationMut<'_> {
     {
         let place = arc as usize;
         if forward {
-            self.upper[place] - self.flow[place]
+            self.rooms[2 * place]
         } else {
-            self.flow[place] - self.lower[place]
+            self.rooms[2 * place + 1]
         }
     }
 
@@ -114,7 +117,11 @@ impl CirculationMut<'_> {
         ensures held { self.new ≡ held_contents self.old arc amount }
     {
         let place = arc as usize;
-        self.lower[place] = self.lower[place].max(amount);
+        let held = self.lower[place];
+        if amount > held {
+            self.rooms[2 * place + 1] -= amount - held;
+            self.lower[place] = amount;
+        }
     }
 
     /// Starts a month: no arc is held, and supplies by node, upper bounds by arc and the flow by arc are
@@ -126,8 +133,7 @@ impl CirculationMut<'_> {
     {
         self.supply.copy_from_slice(supply);
         self.lower.fill(0);
-        self.upper.copy_from_slice(upper);
-        self.flow.copy_from_slice(start);
+        write_rooms(self.rooms, upper, start);
     }
 
     /// The condition of `begin_month` as a test: the lengths fit, no upper bound passes 10^15, and the flow
@@ -204,8 +210,7 @@ impl CirculationMut<'_> {
         let _nodes = self.nodes;
         for at in first..first + count {
             let step = self.scratch[at];
-            let arc = (step / 2) as usize;
-            self.flow[arc] = stepped(self.flow[arc], step, amount);
+            move_room(self.rooms, step as usize, amount);
         }
         searches.tick();
     }
@@ -264,19 +269,6 @@ impl CirculationMut<'_> {
     {
         let scratch: &mut [u64] = &mut *self.scratch;
         scratch[at] = value;
-    }
-}
-
-/// The flow of an arc after a step over it.
-fn stepped(flow: u64, step: u64, amount: u64) -> u64
-    requires back { is_backward step ≡ true → amount ≤ flow }
-    requires forward { is_backward step ≡ false → flow + amount < 2 ^ 64 }
-    ensures { result + when (is_backward step) amount ≡ flow + when (not (is_backward step)) amount }
-{
-    if step % 2 == 1 {
-        flow - amount
-    } else {
-        flow + amount
     }
 }
 

@@ -10,8 +10,9 @@
 #![tactic(auto)]
 
 ghost use Rattle.std.specs.Prelude.{◌≡◌, ◌+◌, ◌-◌, ◌*◌, ◌^◌, ◌<◌, ◌≤◌, ◌≢◌, length};
-ghost use Rattle.std.specs.Prelude.{IfOk, OnOk, OnErr, All, ◌++◌, drop, replicate};
+ghost use Rattle.std.specs.Prelude.{IfOk, OnOk, OnErr, All, List, ℕ, ◌++◌, drop, replicate, slice_index};
 ghost use Rattle.circulation.specs.Contents.{Contents, empty_contents, month_contents, on_last, IsStart};
+ghost use Rattle.circulation.specs.Rooms.{AreRooms};
 ghost use Rattle.circulation.specs.Rows.{Rows};
 ghost use Rattle.circulation.specs.Places.{word_count, fixed_count, tails, heads, AreFixedOf, AreWordsOf, Holds};
 ghost use Rattle.word_region.specs.Words.{words_at};
@@ -20,10 +21,12 @@ ghost use Rattle.word_region.specs.declared.Place.{Place};
 mod circulation_mut;
 mod laying;
 pub mod residual;
+mod rooms;
 mod rows;
 
 pub use crate::circulation_mut::CirculationMut;
 use crate::laying::lay;
+use crate::rooms::write_last_rooms;
 use word_region::{Full, Place, Region};
 
 /// Every end of an arc is less than this: a word has the tail of an arc times this, plus its head.
@@ -109,8 +112,7 @@ impl Circulation {
         let (ends, rows) = fixed.split_at(arcs);
         let (step, rows) = rows.split_at(2 * arcs);
         let (end, first) = rows.split_at(2 * arcs);
-        let (flow, moving) = moving.split_at_mut(arcs);
-        let (upper, moving) = moving.split_at_mut(arcs);
+        let (rooms, moving) = moving.split_at_mut(2 * arcs);
         let (lower, moving) = moving.split_at_mut(arcs);
         let (supply, moving) = moving.split_at_mut(basin);
         let (scratch, _unused) = moving.split_at_mut(4 * basin + 8);
@@ -120,8 +122,7 @@ impl Circulation {
             step,
             end,
             first,
-            flow,
-            upper,
+            rooms,
             lower,
             supply,
             scratch,
@@ -154,29 +155,19 @@ impl Circulation {
     }
 }
 
-/// Writes 0 for the first arcs, and for the last ones their amounts.
-fn write_flow(flow: &mut [u64], amounts: &[u64])
-    requires { length amounts.now ≤ length flow.old }
-    ensures { flow.new ≡ on_last (length flow.old) amounts.now }
-{
-    let (first, last) = flow.split_at_mut(flow.len() - amounts.len());
-    first.fill(0);
-    last.copy_from_slice(amounts);
-}
-
-/// Writes the flow, the upper and lower bounds and the supplies with which a month starts.
+/// Writes the rooms, the lower bounds and the supplies with which a month starts.
 fn write_month(words: &mut [u64], arcs: usize, supply: &[u64], upper: &[u64], start: &[u64])
     requires start { length start.now ≤ arcs }
     requires upper { length upper.now ≡ arcs }
+    requires within { (a : ℕ) → a < arcs → slice_index (on_last arcs start.now) a ≤ slice_index upper.now a }
     requires fits { 3 * arcs + length supply.now ≤ length words.old }
-    ensures { words.new ≡ on_last arcs start.now
-        ++ (upper.now ++ (replicate arcs 0 ++ (supply.now ++ drop (3 * arcs + length supply.now) words.old))) }
+    ensures { (rooms : List ℕ) × (AreRooms (replicate arcs 0) upper.now (on_last arcs start.now) rooms
+        × (words.new ≡ rooms ++ (replicate arcs 0
+        ++ (supply.now ++ drop (3 * arcs + length supply.now) words.old)))) }
 {
-    let (flow, words) = words.split_at_mut(arcs);
-    let (uppers, words) = words.split_at_mut(arcs);
+    let (rooms, words) = words.split_at_mut(2 * arcs);
     let (lowers, words) = words.split_at_mut(arcs);
-    write_flow(flow, start);
-    uppers.copy_from_slice(upper);
+    write_last_rooms(rooms, upper, start);
     lowers.fill(0);
     words[..supply.len()].copy_from_slice(supply);
 }

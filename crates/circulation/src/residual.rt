@@ -20,12 +20,7 @@ pub fn room(circ: &CirculationMut<'_>, step: u64) -> u64
     requires kept { IsCirculation circ.now }
     ensures { result ≡ room_of (network circ.now) (flow_of circ.now) step }
 {
-    let arc = arc_of_step(circ, step);
-    if step % 2 == 1 {
-        circ.room(arc, false)
-    } else {
-        circ.room(arc, true)
-    }
+    circ.rooms[step as usize]
 }
 
 /// The node that a step leaves.
