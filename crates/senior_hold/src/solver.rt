@@ -80,6 +80,8 @@ fn layout_of(alloc: Global, basin: &Basin) -> Result<Layout, AllocError>
 {
     let nodes = basin.nodes.as_slice();
     let rights = basin.rights.as_slice();
+    let arcs = arcs_of(alloc, basin)?;
+    let dailies = dailies_of(alloc, basin)?;
     // A valid basin has a network and a roll, so that only memory can be lacking.
     let Ok(net) = Net::build(alloc, nodes, basin.links.as_slice()) else {
         return Err(AllocError);
@@ -87,8 +89,6 @@ fn layout_of(alloc: Global, basin: &Basin) -> Result<Layout, AllocError>
     let Ok(roll) = Roll::build(alloc, rights, basin.returns.as_slice()) else {
         return Err(AllocError);
     };
-    let arcs = arcs_of(alloc, basin)?;
-    let dailies = dailies_of(alloc, basin)?;
     Ok(Layout {
         net,
         roll,
@@ -102,12 +102,10 @@ fn room_of(alloc: Global, basin: &Basin, arcs: usize) -> Result<Room, AllocError
     requires { arcs ≡ arc_count (spilled basin.now) }
     ensures { IfOk result (λ room. FitsRoom basin.now room) }
 {
+    let upper = vec![in alloc; 0; arcs]?;
+    let start = vec![in alloc; 0; arcs]?;
     let most = blank_plan(alloc, basin)?;
-    Ok(Room {
-        most,
-        upper: vec![in alloc; 0; arcs]?,
-        start: vec![in alloc; 0; arcs]?,
-    })
+    Ok(Room { most, upper, start })
 }
 
 impl<'b> Solver<'b> {

@@ -18,3 +18,12 @@ flow-requires c =
 pub returns : goal.returns
 returns c = list_is _ c.loop-right.right _ c.loop-right.into (c.loop-right.auto.into
     ∙ c.requires.into) (omega (arith, c.loop-right-test.false, c.len-right-end.ensures)) c.loop-right.invariant
+
+pub is_taker-requires-clause-valid : goal.is_taker-requires-clause-valid
+is_taker-requires-clause-valid c = c.requires.valid
+
+pub is_taker-requires-clause-arcs : goal.is_taker-requires-clause-arcs
+is_taker-requires-clause-arcs c = c.requires.arcs
+
+pub is_taker-requires-clause-right : goal.is_taker-requires-clause-right
+is_taker-requires-clause-right c = omega (arith, c.loop-right-test.true, c.len-right-end.ensures)

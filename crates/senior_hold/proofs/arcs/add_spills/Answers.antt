@@ -15,3 +15,6 @@ loop-from-preserved c =
     laid_out (spilled c.args.basin.now) c.loop-from.ends.items _ c.loop-from.from c.loop-from.from c.len-outside.result
     (spilled_outlet c.args.basin.now c.loop-from.from inside) refl (c.len-outside.ensures
     ∙ sym (spilled_count c.args.basin.now)) c.in_ok-push.ensures.items c.loop-from.invariant
+
+pub overflow_cast-outside : goal.overflow_cast-outside
+overflow_cast-outside c = omega (arith, c.len-outside.ensures, c.requires.valid.bounded.nodes)

@@ -35,3 +35,21 @@ returns-clause-served g c = elim c.if-eq.branch [
       (λ h. ap (λ (x : Contents). flow_of x c.args.claim.arc) (c.raise-raised.ensures.idle h).1)
       (λ h. c.raise-raised.ensures.met h is)) w.cuts-is)
 ]
+
+pub raise-raised-requires-clause-arc : goal.raise-raised-requires-clause-arc
+raise-raised-requires-clause-arc g c = c.requires.claim.arc
+
+pub raise-raised-requires-clause-path_out : goal.raise-raised-requires-clause-path_out
+raise-raised-requires-clause-path_out g c = c.requires.path_out
+
+pub begin-requires-clause-right : goal.begin-requires-clause-right
+begin-requires-clause-right g c = c.requires.set.right
+
+pub begin-requires-clause-free : goal.begin-requires-clause-free
+begin-requires-clause-free g c = c.requires.set.free
+
+pub returns-clause-kept : goal.returns-clause-kept
+returns-clause-kept g c = c.hold.ensures.kept
+
+pub returns-clause-cost : goal.returns-clause-cost
+returns-clause-cost g c = c.raise-raised.ensures.cost c.requires.claim.limit

@@ -1,4 +1,4 @@
-use Rattle.std.proofs.Common.{◌≡◌, ◌≢◌, ◌-◌, ◌∙◌, ℕ, Bool, List, length, arith, ap, refl, sym}
+use Rattle.std.proofs.Common.{◌≡◌, ◌≢◌, ◌-◌, ◌∙◌, ℕ, Bool, List, length, arith, ap, refl, sym, inl}
 use Rattle.std.specs.Prelude.{Some}
 use Rattle.bit_words.specs.Marks.{marks, words_for}
 use Rattle.circulation.specs.Contents.{Contents}
@@ -122,3 +122,63 @@ returns-in-Stopped-clause-gave_up g c = λ e. absurd (served_gave_up e)
 
 pub returns-in-Stopped-clause-search_cost : goal.returns-in-Stopped-clause-search_cost
 returns-in-Stopped-clause-search_cost g c = λ h. absurd (tree_searches c.args.method c.in-Tree.is h)
+
+pub serve-requires-clause-claim : goal.serve-requires-clause-claim
+serve-requires-clause-claim g c = c.requires.claim
+
+pub serve-requires-clause-set : goal.serve-requires-clause-set
+serve-requires-clause-set g c = c.requires.set
+
+pub serve-requires-clause-path_out : goal.serve-requires-clause-path_out
+serve-requires-clause-path_out g c = c.requires.path_out c.in-Searches.is
+
+pub flow-requires : goal.flow-requires
+flow-requires g c = c.requires.claim.arc
+
+pub hold-requires-clause-arc : goal.hold-requires-clause-arc
+hold-requires-clause-arc g c = c.requires.claim.arc
+
+pub hold-requires-clause-tree : goal.hold-requires-clause-tree
+hold-requires-clause-tree g c = c.requires.tree c.in-Tree.is
+
+pub returns-then-claim-flow-clause-kept : goal.returns-then-claim-flow-clause-kept
+returns-then-claim-flow-clause-kept g c = c.hold.ensures.kept
+
+pub returns-then-claim-flow-clause-shape : goal.returns-then-claim-flow-clause-shape
+returns-then-claim-flow-clause-shape g c = record { nodes = refl; sets = refl }
+
+pub returns-then-claim-flow-clause-cost : goal.returns-then-claim-flow-clause-cost
+returns-then-claim-flow-clause-cost g c = λ _. omega arith
+
+pub returns-then-claim-flow-clause-used : goal.returns-then-claim-flow-clause-used
+returns-then-claim-flow-clause-used g c = λ _. inl (omega arith)
+
+pub returns-then-claim-flow-clause-searched : goal.returns-then-claim-flow-clause-searched
+returns-then-claim-flow-clause-searched g c = λ _. refl
+
+pub raise_fully-requires-clause-claim : goal.raise_fully-requires-clause-claim
+raise_fully-requires-clause-claim g c = c.requires.claim
+
+pub raise_fully-requires-clause-tree : goal.raise_fully-requires-clause-tree
+raise_fully-requires-clause-tree g c = c.requires.tree c.in-Tree.is
+
+pub begin_with-requires-clause-right : goal.begin_with-requires-clause-right
+begin_with-requires-clause-right g c = c.requires.set.right
+
+pub begin_with-requires-clause-free : goal.begin_with-requires-clause-free
+begin_with-requires-clause-free g c = c.requires.set.free
+
+pub drop_artificial-requires-clause-tree : goal.drop_artificial-requires-clause-tree
+drop_artificial-requires-clause-tree g c = c.raise_fully.ensures.leaves.artificial c.in-Stopped.is
+
+pub returns-in-Stopped-clause-kept : goal.returns-in-Stopped-clause-kept
+returns-in-Stopped-clause-kept g c = c.drop_artificial.ensures.kept
+
+pub returns-in-Stopped-clause-cost : goal.returns-in-Stopped-clause-cost
+returns-in-Stopped-clause-cost g c = λ _. c.raise_fully.ensures.cost
+
+pub returns-in-Stopped-clause-used : goal.returns-in-Stopped-clause-used
+returns-in-Stopped-clause-used g c = λ _. c.raise_fully.ensures.used
+
+pub returns-in-Stopped-clause-searched : goal.returns-in-Stopped-clause-searched
+returns-in-Stopped-clause-searched g c = λ _. refl

@@ -1,4 +1,4 @@
-use Rattle.std.proofs.Common.{◌≡◌, ◌+◌, ◌<◌, ◌≤◌, ◌∙◌, ℕ, List, length, slice_index, arith, ap, ap₂, subst}
+use Rattle.std.proofs.Common.{◌≡◌, ◌+◌, ◌<◌, ◌≤◌, ◌∙◌, ℕ, List, length, slice_index, arith, ap, ap₂, sym, subst}
 use Rattle.water_model.specs.RunOfRiver.{RunsNaturally}
 use Rattle.circulation.specs.Contents.{flow_of}
 use Rattle.river_net.specs.Net.{total_of}
@@ -82,3 +82,26 @@ returns-clause-settled c =
           (ap (λ (xs : List ℕ). slice_index xs e) run_is);
       take = c.read_takes.ensures;
     })
+
+pub read_spills-requires-clause-arcs : goal.read_spills-requires-clause-arcs
+read_spills-requires-clause-arcs c = c.requires.givens.layout.are_arcs
+
+pub read_spills-requires-clause-into : goal.read_spills-requires-clause-into
+read_spills-requires-clause-into c = ap length c.as_mut_slice.ensures.value ∙ c.requires.room.fits_most.out
+
+pub read_takes-requires-clause-valid : goal.read_takes-requires-clause-valid
+read_takes-requires-clause-valid c = c.requires.givens.valid
+
+pub read_takes-requires-clause-into : goal.read_takes-requires-clause-into
+read_takes-requires-clause-into c = ap length c.as_mut_slice-3.ensures.value ∙ c.requires.plan.take
+
+pub read_takes-requires-clause-arcs : goal.read_takes-requires-clause-arcs
+read_takes-requires-clause-arcs c = c.requires.givens.layout.are_arcs
+
+pub add_run-requires-clause-count : goal.add_run-requires-clause-count
+add_run-requires-clause-count c = ap length (c.as_slice-2.ensures ∙ whole_rows _ _ (c.natural.auto.flow ∙ ap length
+    c.as_mut_slice-4.ensures.value))
+    ∙ c.natural.auto.flow ∙ ap length c.as_mut_slice-4.ensures.value ∙ c.requires.room.fits_most.flow
+    ∙ sym (ap length (c.as_mut_slice-6.ensures.value
+    ∙ whole_rows _ _ (c.read_links.auto.into ∙ ap length c.as_mut_slice-2.ensures.value))
+    ∙ c.read_links.auto.into ∙ ap length c.as_mut_slice-2.ensures.value ∙ c.requires.plan.flow)

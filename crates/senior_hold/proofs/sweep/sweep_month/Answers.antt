@@ -7,6 +7,7 @@ use Rattle.senior_hold.specs.contracts.serving.Turn.{the_type}
 use Rattle.water_model.specs.CutSets.{set_of}
 use Rattle.circulation.specs.Contents.{Contents, network}
 use Rattle.augment.specs.Raised.{open_arcs}
+use Rattle.residual_tree.specs.TreeWords.{tree_words}
 use Rattle.senior_hold.specs.MonthNetwork.{arc_count, right_arc, spill_arc}
 use Rattle.senior_hold.specs.Spilled.{IsSpilledStart, SpillsAreOf}
 use Rattle.senior_hold.proofs.Begins.{standing_begun}
@@ -204,3 +205,62 @@ returns-clause-swept g c =
       search_pushes = λ h. within_all c.loop-turn.turn (length b.rights) (30 * (2 * arc_count b + 1)) _ _
           (omega (arith, all)) (inv.search_cost h);
     }
+
+pub begin-circ-requires-clause-givens : goal.begin-circ-requires-clause-givens
+begin-circ-requires-clause-givens g c = c.requires.givens
+
+pub begin-circ-requires-clause-room : goal.begin-circ-requires-clause-room
+begin-circ-requires-clause-room g c = c.requires.room
+
+pub begin-circ-requires-clause-arcs : goal.begin-circ-requires-clause-arcs
+begin-circ-requires-clause-arcs g c = c.requires.arcs
+
+pub begin-circ-requires-clause-plan : goal.begin-circ-requires-clause-plan
+begin-circ-requires-clause-plan g c = c.requires.begin.plan
+
+pub plant-tree-requires-clause-words : goal.plant-tree-requires-clause-words
+plant-tree-requires-clause-words g c =
+    c.requires.size ∙ ap tree_words (sym (c.begin-circ.ensures.begun.net.ends.nodes
+    ∙ spilled_count c.args.givens.now.basin.now))
+
+pub bounds-order-turn : goal.bounds-order-turn
+bounds-order-turn g c = c.loop-turn-test.true
+
+pub claim_of-claim-requires-clause-givens : goal.claim_of-claim-requires-clause-givens
+claim_of-claim-requires-clause-givens g c = c.requires.givens
+
+pub claim_of-claim-requires-clause-net : goal.claim_of-claim-requires-clause-net
+claim_of-claim-requires-clause-net g c = c.loop-turn.invariant.standing.net
+
+pub serve_by-turn-requires-clause-claim : goal.serve_by-turn-requires-clause-claim
+serve_by-turn-requires-clause-claim g c = c.claim_of-claim.ensures.claim
+
+pub serve_by-turn-requires-clause-tree : goal.serve_by-turn-requires-clause-tree
+serve_by-turn-requires-clause-tree g c = c.loop-turn.invariant.tree
+
+pub settle_plan-requires-clause-givens : goal.settle_plan-requires-clause-givens
+settle_plan-requires-clause-givens g c = c.requires.givens
+
+pub settle_plan-requires-clause-room : goal.settle_plan-requires-clause-room
+settle_plan-requires-clause-room g c = c.loop-turn.invariant.room
+
+pub settle_plan-requires-clause-plan : goal.settle_plan-requires-clause-plan
+settle_plan-requires-clause-plan g c = c.loop-turn.invariant.plan
+
+pub returns-then-eq-clause-room : goal.returns-then-eq-clause-room
+returns-then-eq-clause-room g c = c.settle_plan.ensures.room
+
+pub settle_plan-requires-2-clause-givens : goal.settle_plan-requires-2-clause-givens
+settle_plan-requires-2-clause-givens g c = c.requires.givens
+
+pub settle_plan-requires-2-clause-room : goal.settle_plan-requires-2-clause-room
+settle_plan-requires-2-clause-room g c = c.loop-turn.invariant.room
+
+pub settle_plan-requires-2-clause-ends : goal.settle_plan-requires-2-clause-ends
+settle_plan-requires-2-clause-ends g c = c.loop-turn.invariant.standing.net.ends
+
+pub settle_plan-requires-2-clause-plan : goal.settle_plan-requires-2-clause-plan
+settle_plan-requires-2-clause-plan g c = c.loop-turn.invariant.plan
+
+pub returns-clause-room : goal.returns-clause-room
+returns-clause-room g c = c.settle_plan-2.ensures.room

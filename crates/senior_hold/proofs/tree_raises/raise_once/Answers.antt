@@ -157,3 +157,33 @@ returns-then-is_unlabeled-3 g c =
                 ])
           ];
     }
+
+pub ends-ends-requires : goal.ends-ends-requires
+ends-ends-requires g c = c.requires.claim.arc
+
+pub raise_within_unlabeled-requires-clause-arc : goal.raise_within_unlabeled-requires-clause-arc
+raise_within_unlabeled-requires-clause-arc g c = c.requires.claim.arc
+
+pub raise_within_unlabeled-requires-clause-want : goal.raise_within_unlabeled-requires-clause-want
+raise_within_unlabeled-requires-clause-want g c = c.requires.claim.want
+
+pub raise_within_unlabeled-requires-clause-less : goal.raise_within_unlabeled-requires-clause-less
+raise_within_unlabeled-requires-clause-less g c = c.requires.less
+
+pub raise_within_unlabeled-requires-clause-held : goal.raise_within_unlabeled-requires-clause-held
+raise_within_unlabeled-requires-clause-held g c = c.requires.held
+
+pub raise_within_unlabeled-requires-clause-exit : goal.raise_within_unlabeled-requires-clause-exit
+raise_within_unlabeled-requires-clause-exit g c = c.requires.claim.exit_arc
+
+pub raise_within_unlabeled-requires-clause-tree : goal.raise_within_unlabeled-requires-clause-tree
+raise_within_unlabeled-requires-clause-tree g c = c.requires.tree
+
+pub raise_by_tree-pulled-requires-clause-arc : goal.raise_by_tree-pulled-requires-clause-arc
+raise_by_tree-pulled-requires-clause-arc g c = c.requires.claim.arc
+
+pub raise_by_tree-pulled-requires-clause-less : goal.raise_by_tree-pulled-requires-clause-less
+raise_by_tree-pulled-requires-clause-less g c = c.requires.less
+
+pub raise_by_tree-pulled-requires-clause-tree : goal.raise_by_tree-pulled-requires-clause-tree
+raise_by_tree-pulled-requires-clause-tree g c = c.requires.tree
