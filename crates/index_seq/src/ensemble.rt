@@ -93,5 +93,7 @@ pub fn ensemble_report<K: Sink, P: Ledger, M: Ledger>(
     ensures work { Solves (years_of basin.now * basin.now.months) basin.now work.old work.new }
 {
     let all = sorted_amounts(alloc, basin, series, work)?;
-    put_amounts(sink, basin, series, &all)
+    let put = put_amounts(sink, basin, series, &all);
+    drop(all);
+    put
 }

@@ -66,5 +66,8 @@ pub fn period_report<K: Sink, P: Ledger, M: Ledger>(
     ensures work { SolvesRun basin.now work.old work.new }
 {
     let (tally, run) = kept_of::<Tally, P, M>(alloc, basin, series, work)?;
-    put_tally(basin, series, sink, run.roll(), &tally)
+    let put = put_tally(basin, series, sink, run.roll(), &tally);
+    drop(run);
+    drop(tally);
+    put
 }

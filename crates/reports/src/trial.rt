@@ -66,6 +66,9 @@ pub fn trial_report<K: Sink, P: Ledger, M: Ledger>(
     ensures unsolved { result ≡ Err OutOfMemory → work.new ≡ work.old }
     ensures work { SolvesRun basin.now work.old work.new }
 {
-    let (trial, _run) = kept_of::<Trial, P, M>(alloc, basin, series, work)?;
-    put_trial(number, size, basin, series, sink, &trial)
+    let (trial, run) = kept_of::<Trial, P, M>(alloc, basin, series, work)?;
+    drop(run);
+    let put = put_trial(number, size, basin, series, sink, &trial);
+    drop(trial);
+    put
 }

@@ -35,3 +35,27 @@ loop-trace-preserved g c =
       work = one_part c.args.basin.now.months c.loop-trace.trace c.args.basin.now c.args.work.now c.loop-trace.work
           c.run_trace.new.work c.loop-trace.invariant.work traced.work;
     }
+
+pub run_trace-requires-clause-basin : goal.run_trace-requires-clause-basin
+run_trace-requires-clause-basin g c = c.requires.basin
+
+pub run_trace-requires-clause-whole : goal.run_trace-requires-clause-whole
+run_trace-requires-clause-whole g c = c.requires.whole
+
+pub run_trace-requires-clause-series : goal.run_trace-requires-clause-series
+run_trace-requires-clause-series g c = c.requires.series
+
+pub run_trace-requires-clause-trace : goal.run_trace-requires-clause-trace
+run_trace-requires-clause-trace g c = c.loop-trace-test.true
+
+pub run_trace-requires-clause-engine : goal.run_trace-requires-clause-engine
+run_trace-requires-clause-engine g c = c.loop-trace.invariant.engine
+
+pub run_trace-requires-clause-begun : goal.run_trace-requires-clause-begun
+run_trace-requires-clause-begun g c = c.loop-trace.invariant.begun
+
+pub run_trace-requires-clause-sums : goal.run_trace-requires-clause-sums
+run_trace-requires-clause-sums g c = c.loop-trace.invariant.sums
+
+pub run_trace-requires-clause-year : goal.run_trace-requires-clause-year
+run_trace-requires-clause-year g c = c.loop-trace.invariant.year

@@ -10,3 +10,12 @@ returns-clause-text g c =
     (g.K.Sink.output c.args.sink.now) (g.K.Sink.output c.put_line.new.sink) (g.K.Sink.output c.put_yearly.new.sink)
     c.put_yearly.result
     c.in_ok-put_line.ensures.text c.put_yearly.ensures.text
+
+pub put_line-requires-clause-basin : goal.put_line-requires-clause-basin
+put_line-requires-clause-basin g c = c.requires.basin
+
+pub put_yearly-requires-clause-basin : goal.put_yearly-requires-clause-basin
+put_yearly-requires-clause-basin g c = c.requires.basin
+
+pub put_yearly-requires-clause-sorted : goal.put_yearly-requires-clause-sorted
+put_yearly-requires-clause-sorted g c = c.requires.sorted

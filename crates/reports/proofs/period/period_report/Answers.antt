@@ -6,5 +6,5 @@ kept_of-requires-clause-basin g c = c.requires.basin
 pub kept_of-requires-clause-series : goal.kept_of-requires-clause-series
 kept_of-requires-clause-series g c = c.requires.series
 
-pub put_tally-requires-clause-basin : goal.put_tally-requires-clause-basin
-put_tally-requires-clause-basin g c = c.requires.basin
+pub put_tally-put-requires-clause-basin : goal.put_tally-put-requires-clause-basin
+put_tally-put-requires-clause-basin g c = c.requires.basin
