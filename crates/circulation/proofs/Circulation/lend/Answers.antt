@@ -31,15 +31,6 @@ split_at_mut-supply-requires c = omega (
   c.split_at_mut-lower.ensures.back_len,
 )
 
-pub split_at_mut-scratch-requires : goal.split_at_mut-scratch-requires
-split_at_mut-scratch-requires c = omega (
-  arith,
-  (lent_lengths c.requires.1).1,
-  c.split_at_mut-rooms.ensures.back_len,
-  c.split_at_mut-lower.ensures.back_len,
-  c.split_at_mut-supply.ensures.back_len,
-)
-
 pub returns : goal.returns
 returns c = λ c' w.
     let lent = lent_is w
