@@ -69,12 +69,12 @@ impl<'b> Engine<'b> {
         requires { IsValidBasin basin.now }
         ensures { IfOk result (λ engine. engine.basin ≡ basin.now) }
     {
-        let solver = solver_of(alloc, basin)?;
-        let calendar = Calendar::of(alloc, basin)?;
+        let month = blank_month(alloc, basin)?;
+        let used = zeros(alloc, basin.rights.len())?;
         let tables = tables_of(alloc, basin)?;
         let lags = Lags::open(alloc, basin.returns.as_slice())?;
-        let used = zeros(alloc, basin.rights.len())?;
-        let month = blank_month(alloc, basin)?;
+        let solver = solver_of(alloc, basin)?;
+        let calendar = Calendar::of(alloc, basin)?;
         Ok(Engine {
             basin,
             solver,

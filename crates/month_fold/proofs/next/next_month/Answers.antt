@@ -67,3 +67,43 @@ returns-clause-small g c =
     next_small c.args.basin.now c.args.series.now c.requires.months.records c.conclude.new.month
     c.requires.months.went.valid c.requires.months.went.fits
     (returns-clause-next g c c.requires.months.records c.requires.months.went)
+
+pub write_returns-requires-clause-basin : goal.write_returns-requires-clause-basin
+write_returns-requires-clause-basin g c = c.requires.months.went.valid
+
+pub write_returns-requires-clause-returned : goal.write_returns-requires-clause-returned
+write_returns-requires-clause-returned g c = c.requires.month.fits.returned
+
+pub settle-requires-clause-calendar : goal.settle-requires-clause-calendar
+settle-requires-clause-calendar g c = c.requires.calendar
+
+pub settle-requires-clause-basin : goal.settle-requires-clause-basin
+settle-requires-clause-basin g c = c.requires.months.went.valid
+
+pub settle-requires-clause-series : goal.settle-requires-clause-series
+settle-requires-clause-series g c = c.requires.months.went.fits
+
+pub settle-requires-clause-tables : goal.settle-requires-clause-tables
+settle-requires-clause-tables g c = c.requires.tables
+
+pub settle-requires-clause-index : goal.settle-requires-clause-index
+settle-requires-clause-index g c = c.requires.index
+
+pub settle-requires-clause-month : goal.settle-requires-clause-month
+settle-requires-clause-month g c =
+    let uses : length c.write_returns.new.month.used ≡ length c.args.month.now.used =
+    ap length c.write_returns.ensures.used ∙ (c.requires.months.went.used.count ∙ sym c.requires.month.fits.used) in
+    begun_fits c.args.basin.now c.args.month.now c.write_returns.new.month c.requires.month c.write_returns.ensures.rest
+    c.write_returns.ensures.length uses
+
+pub conclude-requires-clause-calendar : goal.conclude-requires-clause-calendar
+conclude-requires-clause-calendar g c = c.requires.calendar
+
+pub conclude-requires-clause-basin : goal.conclude-requires-clause-basin
+conclude-requires-clause-basin g c = c.requires.months.went.valid
+
+pub returns-clause-solver : goal.returns-clause-solver
+returns-clause-solver g c = c.solve_month.ensures.same
+
+pub returns-clause-pushes : goal.returns-clause-pushes
+returns-clause-pushes g c = rw c.requires.solver at c.solve_month.ensures.pushes

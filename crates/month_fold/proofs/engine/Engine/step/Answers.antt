@@ -1,4 +1,4 @@
-use Rattle.std.proofs.Common.{◌∙◌, sym, ap, [], ◌∷◌, ◌++◌, map}
+use Rattle.std.proofs.Common.{◌∙◌, sym, ap, refl, [], ◌∷◌, ◌++◌, map}
 use Rattle.std.proofs.lemmas.List.{length-map}
 use Rattle.water_model.specs.declared.types.MonthRecord.{MonthRecord}
 use Rattle.month_fold.specs.RunInside.{engine_of}
@@ -70,3 +70,27 @@ pub use_volumes-requires-clause-little : goal.use_volumes-requires-clause-little
 use_volumes-requires-clause-little g c =
     used_little (run_with (engine_of c.self.inside) c.args.series.now c.args.done) c.requires.months.records
     (rw (sym c.self.view_is) at c.requires.months.went)
+
+pub next_month-requires-clause-calendar : goal.next_month-requires-clause-calendar
+next_month-requires-clause-calendar g c = c.self.invariant.calendar
+
+pub next_month-requires-clause-tables : goal.next_month-requires-clause-tables
+next_month-requires-clause-tables g c = c.deref.ensures.value ∙ c.self.invariant.tables
+
+pub next_month-requires-clause-solver : goal.next_month-requires-clause-solver
+next_month-requires-clause-solver g c = c.deref_mut.ensures.value ∙ c.self.invariant.solver
+
+pub next_month-requires-clause-index : goal.next_month-requires-clause-index
+next_month-requires-clause-index g c = rw (sym c.self.view_is) at c.requires.left
+
+pub next_month-requires-clause-month : goal.next_month-requires-clause-month
+next_month-requires-clause-month g c = rw c.deref_mut-2.ensures.value c.self.invariant.month
+
+pub use_volumes-requires-clause-basin : goal.use_volumes-requires-clause-basin
+use_volumes-requires-clause-basin g c = c.self.invariant.valid
+
+pub use_volumes-requires-clause-used : goal.use_volumes-requires-clause-used
+use_volumes-requires-clause-used g c = c.self.invariant.used
+
+pub returns-clause-basin : goal.returns-clause-basin
+returns-clause-basin g c = rw (sym c.self.view_is) refl

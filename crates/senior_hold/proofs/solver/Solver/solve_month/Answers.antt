@@ -63,7 +63,8 @@ returns-then-eq-clause-cuts g c = subst (λ (b : Basin). FitsCuts b c.sweep.new.
 
 pub returns-then-eq-clause-solved : goal.returns-then-eq-clause-solved
 returns-then-eq-clause-solved g c = subst (λ (b : Basin). IsSolved b c.args.month c.args.supply.now c.args.want.now
-    c.sweep.new.plan c.sweep.new.cuts) c.sweep-swept.ensures.same (c.sweep.ensures.solved (c.sweep.ensures.searched refl))
+    c.sweep.new.plan c.sweep.new.cuts) c.sweep-swept.ensures.same
+    (c.sweep.ensures.solved (c.sweep.ensures.searched refl))
 
 pub returns-else-eq-clause-same : goal.returns-else-eq-clause-same
 returns-else-eq-clause-same g c = c.sweep-swept.ensures.same

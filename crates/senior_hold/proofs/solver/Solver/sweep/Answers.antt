@@ -88,8 +88,9 @@ returns-then-eq-clause-plan g c = subst (λ (b : Basin). IsPlan b c.args.month c
     c.sweep-swept.new.plan) c.self.view_is c.sweep-swept.ensures.swept.plan
 
 pub returns-then-eq-clause-solved : goal.returns-then-eq-clause-solved
-returns-then-eq-clause-solved g c = λ is. subst (λ (b : Basin). IsSolved b c.args.month c.args.supply.now c.args.want.now
-    c.sweep-swept.new.plan c.sweep-swept.new.cuts) c.self.view_is (c.sweep-swept.ensures.swept.solved is)
+returns-then-eq-clause-solved g c = λ is.
+    subst (λ (b : Basin). IsSolved b c.args.month c.args.supply.now c.args.want.now c.sweep-swept.new.plan
+    c.sweep-swept.new.cuts) c.self.view_is (c.sweep-swept.ensures.swept.solved is)
 
 pub returns-then-eq-clause-pushes : goal.returns-then-eq-clause-pushes
 returns-then-eq-clause-pushes g c = λ is. subst (λ (b : Basin). c.sweep-swept.new.searches
