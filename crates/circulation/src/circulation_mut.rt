@@ -215,8 +215,8 @@ impl CirculationMut<'_> {
         searches.tick();
     }
 
-    /// The index at which the row of a node begins: the steps that leave the node, backward over the arcs that enter it,
-    /// by arc, and then forward over those that leave it. So ways into a node from upstream are looked at first.
+    /// The index at which the row of a node begins: the steps that leave the node, backward over the arcs that enter
+    /// it, by arc, and then forward over those that leave it. So ways into a node from upstream are looked at first.
     pub fn row_first(&self, node: u32) -> usize
         requires { node ≤ self.now.nodes }
         ensures place { result ≡ slice_index self.now.rows.first node }

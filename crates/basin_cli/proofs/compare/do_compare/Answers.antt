@@ -36,13 +36,15 @@ returns g c =
     let how = c.compare_basins-ending.result in
     record {
       cause =
-          cause known files second c.in-Ok.pair c.in-Ok.ensures.paired how _ _ _ _ c.compare_basins-ending.ensures.compares
+          cause known files second c.in-Ok.pair c.in-Ok.ensures.paired how _ _ _ _
+          c.compare_basins-ending.ensures.compares
           c.compare_basins-ending.ensures.ends;
       asked =
           stops_at_none (files_to (compare files second)) _ _ how c.compare_basins-ending.ensures.at;
       can_be_printed = search rules;
       writes =
-          writes known files second c.in-Ok.pair c.in-Ok.ensures.paired how _ _ _ c.compare_basins-ending.ensures.compares;
+          writes known files second c.in-Ok.pair c.in-Ok.ensures.paired how _ _ _
+          c.compare_basins-ending.ensures.compares;
       out_stays = c.compare_basins-ending.ensures.out_stays;
       flushed = c.compare_basins-ending.ensures.flushed;
       shown = tt;

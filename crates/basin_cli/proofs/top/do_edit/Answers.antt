@@ -61,7 +61,7 @@ returns-in-Err-read_file g c =
           stops_at (files_to (edit files script)) _ _ file.Script ending c.in-Err-read_file.ensures.at
           (asks_then _ _ _ _ _ c.in-Ok.ensures.reads (asks_one _ _ _ c.read_file.ensures.asked));
       can_be_printed = search rules;
-      writes = search rules;
+      writes = grind (arith, common_steps);
       out_stays = λ _. refl;
       flushed = search rules;
       shown = unread _ ending (λ _ _. inl refl);

@@ -23,7 +23,8 @@ returns g c =
           solving_stops (files_to (ensemble files)) _ _ how _ c.ensemble_basin-ending.ensures.ends;
       can_be_printed = search rules;
       writes =
-          writes known files b series c.in-Ok.ensures.fits c.in-Ok.ensures.loaded _ _ c.ensemble_basin-ending.ensures.leaves;
+          writes known files b series c.in-Ok.ensures.fits c.in-Ok.ensures.loaded _ _
+          c.ensemble_basin-ending.ensures.leaves;
       out_stays = c.ensemble_basin-ending.ensures.out_stays;
       flushed = c.ensemble_basin-ending.ensures.flushed;
       shown = tt;

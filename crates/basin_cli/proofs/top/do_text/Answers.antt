@@ -11,5 +11,6 @@ pub returns : goal.returns
 returns g c =
     let read = c.in-Ok.ensures in
     let did = c.put_run_text-ending.ensures in
-    text_served g.S.Shelf g.K.Sink (named c.args.inputs) c.put_run_text-ending.result _ _ c.args.text c.in-Ok.files.basin
+    text_served g.S.Shelf g.K.Sink (named c.args.inputs) c.put_run_text-ending.result _ _ c.args.text
+    c.in-Ok.files.basin
     c.in-Ok.files.series _ _ _ _ read.fits read.loaded did.ends did.out_stays did.idle did.flushed did.work did.leaves
