@@ -65,9 +65,9 @@ module _ {S K : Type 0} (shelf : Shelf.Ghosts S) (sink : Sink.Ghosts K) (files :
         StopsReading files how (shelf.known old) (Rose (shelf.faults old) (shelf.faults new)) →
         AskUpTo (inputs_to files) how (shelf.asked old) (shelf.asked new) → CanBePrinted how →
         Serves shelf sink (Some (text_command kind files)) how old new out out done done
-    text_stops text.Result out done h asks prints = first_of (search rules, grind (arith, common_steps))
-    text_stops text.Calls out done h asks prints = first_of (search rules, grind (arith, common_steps))
-    text_stops text.Report out done h asks prints = first_of (search rules, grind (arith, common_steps))
+    text_stops text.Result out done h asks prints = search rules
+    text_stops text.Calls out done h asks prints = search rules
+    text_stops text.Report out done h asks prints = search rules
 
     pub text_served : (kind : RunText) (b : Basin) (series : Inflows) (before after : WorkDone) (out out' : K) →
         IsSeriesOf b series → AreLoaded (shelf.known old) files b series →

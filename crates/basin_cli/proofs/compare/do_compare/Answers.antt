@@ -15,13 +15,13 @@ returns-in-Err g c =
     let second = c.args.second.now in
     let out = g.K.Sink.output c.args.out.now in
     record {
-      cause = first_of (search rules, grind (arith, common_steps));
+      cause = search rules;
       asked = c.in-Err.ensures.up_to;
       can_be_printed = c.in-Err.ensures.printable;
       writes =
           refused_writes known files second c.in-Err.ending _ out out c.in-Err.ensures.stops;
       out_stays = λ _. refl;
-      flushed = first_of (search rules, grind (arith, common_steps));
+      flushed = search rules;
       shown = tt;
       unread = tt;
       idle = λ _. refl;

@@ -19,14 +19,14 @@ returns-in-Err g c = λ count.
     (let files = named c.args.inputs in
     let result = c.args.result_name.now in
     record {
-      cause = first_of (search rules, grind (arith, common_steps));
+      cause = search rules;
       asked =
           inputs_stop (files_to (check c.args.question files result)) _ _ files _ _ c.in-Err.ending
           (λ asks. asks) (λ asks. asks) c.in-Err.ensures.stops c.in-Err.ensures.up_to;
-      can_be_printed = first_of (search rules, grind (arith, common_steps));
-      writes = first_of (search rules, grind (arith, common_steps));
+      can_be_printed = search rules;
+      writes = grind (arith, common_steps);
       out_stays = λ _. refl;
-      flushed = first_of (search rules, grind (arith, common_steps));
+      flushed = search rules;
       shown = tt;
       unread = unread _ c.in-Err.ending (λ _. c.read_inputs.ensures.asked result);
       idle = λ _. refl;

@@ -13,14 +13,14 @@ pub returns-in-Err : goal.returns-in-Err
 returns-in-Err g c = λ done.
     (let name = c.args.name.now in
     record {
-      cause = first_of (search rules, grind (arith, common_steps));
+      cause = search rules;
       asked =
           stops_at (files_to (upgrade name)) _ _ file.Basin c.in-Err.ending c.in-Err.ensures.at
           (asks_one _ _ _ c.read_basin_file.ensures.asked);
-      can_be_printed = first_of (search rules, grind (arith, common_steps));
-      writes = first_of (search rules, grind (arith, common_steps));
+      can_be_printed = search rules;
+      writes = search rules;
       out_stays = λ _. refl;
-      flushed = first_of (search rules, grind (arith, common_steps));
+      flushed = search rules;
       shown = tt;
       unread = tt;
       idle = λ _. refl;
@@ -29,7 +29,7 @@ returns-in-Err g c = λ done.
 
 pub returns-in-Ok-put_whole : goal.returns-in-Ok-put_whole
 returns-in-Ok-put_whole g c = λ done. record {
-  cause = first_of (search rules, grind (arith, common_steps));
+  cause = search rules;
   asked = tt;
   can_be_printed = tt;
   writes =
@@ -47,7 +47,7 @@ returns-in-Ok-put_whole g c = λ done. record {
 
 pub returns : goal.returns
 returns g c = λ done. record {
-  cause = first_of (search rules, grind (arith, common_steps));
+  cause = search rules;
   asked = tt;
   can_be_printed = tt;
   writes =
