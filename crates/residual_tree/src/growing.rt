@@ -24,10 +24,11 @@ pub fn is_way_back(circ: &CirculationMut<'_>, labels: &Labels<'_>, step: u64, no
         (0 < room_of (network circ.now) (flow_of circ.now) (opposite step)) }
     ensures no { result ≡ false → IsShut circ.now labels.now step }
 {
-    if labels.get(node) == 0 {
-        return false;
-    }
-    room(circ, opposite(circ, step)) != 0
+    // Both words are read before the one branch: which of the two says no can't be foreseen, and one branch costs less
+    // than two.
+    let labeled = labels.get(node) != 0;
+    let open = room(circ, opposite(circ, step)) != 0;
+    labeled & open
 }
 
 /// One more than a way into a node, which is a step with room from a labeled node, or 0 where there is none.
@@ -170,7 +171,10 @@ fn label_end(
     ensures full { room_of (network circ.now) (flow_of circ.now) step ≡ 0 →
         (result ≡ size) × (labels.new ≡ labels.old) × (queue.new ≡ queue.old) }
 {
-    if labels.get(node) == 0 && room(circ, step) != 0 {
+    // One branch, as in `is_way_back`.
+    let unlabeled = labels.get(node) == 0;
+    let open = room(circ, step) != 0;
+    if unlabeled & open {
         attach(labels, queue, node, step, start, size)
     } else {
         size

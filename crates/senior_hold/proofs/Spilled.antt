@@ -8,10 +8,10 @@ use Rattle.finite_sums.specs.Sums.{when}
 use Rattle.finite_sums.proofs.Totals.{total_where_start, total_zero}
 use Rattle.water_model.specs.Basin.{is_outlet, tail_of, head_of, takes_at}
 use Rattle.water_model.specs.declared.types.Basin.{Basin}
-use Rattle.circulation.specs.Contents.{Contents, network}
+use Rattle.circulation.specs.Contents.{Contents, arcs, network}
 use Rattle.senior_hold.specs.MonthNetwork.{out_arc, spill_arc, HasBasinEnds}
 use Rattle.senior_hold.specs.Arcs.{AreEndsOf}
-use Rattle.senior_hold.specs.Spilled.{spilled, HasSpills}
+use Rattle.senior_hold.specs.Spilled.{spilled}
 use Rattle.senior_hold.proofs.Laid.{end_at}
 use Rattle.water_model.specs.declared.types.Plan.{Plan}
 use Rattle.water_model.specs.Plans.{IsPlan}
@@ -22,6 +22,12 @@ use Rattle.water_model.specs.CutSets.{CutSets, set_of, without_sets}
 use Rattle.circulation.specs.declared.Ends.{Ends}
 use Rattle.senior_hold.proofs.SpilledArcs.{spilled_count, spilled_outlet, spill_is, spilled_arcs}
 use Rattle.water_model.proofs.SetEntries.{emptied}
+
+-- the spills are arcs from the nodes to the outside, in the order of the nodes
+pub record HasSpills (c : Contents) (first : ℕ) : Type 0 where
+  pub arc : (n : ℕ) → n < c.nodes → first + n < arcs c
+  pub from : (n : ℕ) → n < c.nodes → slice_index c.from (first + n) ≡ n
+  pub to : (n : ℕ) → n < c.nodes → slice_index c.to (first + n) ≡ c.nodes
 
 -- the spills of a circulation
 pub has_spills : (b : Basin) (c : Contents) (first : ℕ) → first ≡ spill_arc b 0 → HasBasinEnds (spilled b) (network c) →

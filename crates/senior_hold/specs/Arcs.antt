@@ -7,14 +7,24 @@ use Rattle.water_text.specs.declared.month.Month.{Month}
 use Rattle.water_model.specs.declared.types.Basin.{Basin}
 use Rattle.water_model.specs.declared.types.Plan.{Plan}
 use Rattle.circulation.specs.declared.Ends.{Ends}
-use Rattle.senior_hold.specs.MonthNetwork.{takes, take_arc, out_arc, right_arc, spill_arc}
+use Rattle.senior_hold.specs.MonthNetwork.{takes, take_arc, out_arc, right_arc, right_exit, spill_arc}
 use Rattle.senior_hold.specs.declared.arcs.Arcs.{Arcs}
+use Rattle.senior_hold.specs.declared.arcs.Position.{Position}
 
 -- the arcs of rights, and that of the first node's spill
 pub record AreArcs (b : Basin) (arcs : Arcs) : Type 0 where
   pub right_count : length arcs.rights.items ≡ length b.rights
   pub right : (r : ℕ) → r < length b.rights → slice_index arcs.rights.items r ≡ right_arc b r
   pub spill : arcs.spill ≡ spill_arc b 0
+
+-- a right with its arc and its exit
+abbrev pub position_of : Basin → ℕ → Position
+position_of b right = record { right = right; arc = right_arc b right; exit = right_exit b right }
+
+-- these are the rights in an order
+pub record ArePositions (b : Basin) (order : List ℕ) (positions : List Position) : Type 0 where
+  pub count : length positions ≡ length order
+  pub position : (k : ℕ) → k < length order → slice_get positions k ≡ Some (position_of b (slice_index order k))
 
 -- the ends of the arcs of the first `links` links, `rights` rights and `nodes` nodes
 pub record AreEndsOf (b : Basin) (ends : List Ends) (links rights nodes : ℕ) : Type 0 where

@@ -47,6 +47,14 @@ arc_by_link b right (Some link) = link
 abbrev pub right_arc : Basin → ℕ → ℕ
 right_arc b right = arc_by_link b right (instream_link b right)
 
+-- the exit of a right: the spill of the node that its arc enters, or the first where that enters the outside
+abbrev pub exit_by_link : Basin → Option ℕ → ℕ
+exit_by_link b None = spill_arc b 0
+exit_by_link b (Some link) = spill_arc b (head_of b link)
+
+abbrev pub right_exit : Basin → ℕ → ℕ
+right_exit b right = exit_by_link b (instream_link b right)
+
 -- the arcs have their ends
 pub record HasBasinEnds (b : Basin) (w : Network) : Type 0 where
   pub nodes : w.nodes ≡ length b.nodes

@@ -7,7 +7,7 @@ use Rattle.water_model.specs.declared.types.Basin.{Basin}
 use Rattle.water_model.specs.declared.types.Node.{Node}
 use Rattle.water_model.specs.declared.types.Plan.{Plan}
 use Rattle.water_text.specs.declared.month.Month.{Month}
-use Rattle.circulation.specs.Contents.{Contents, arcs, network, flow_of}
+use Rattle.circulation.specs.Contents.{Contents, network, flow_of}
 use Rattle.circulation.specs.Network.{IsFlow}
 use Rattle.senior_hold.specs.declared.sweep.Method.{Method}
 use Rattle.senior_hold.specs.MonthNetwork.{plan_of, arc_count, spill_arc, IsMonthNetwork}
@@ -31,12 +31,6 @@ pub record IsSettledPlan (b : Basin) (g : ℕ → ℕ) (p : Plan) : Type 0 where
   pub flow_len : length p.flow ≡ length b.links
   pub flow : (e : ℕ) → e < length b.links → slice_index p.flow e ≡ g e + slice_index run e
   pub take : p.take ≡ (plan_of b g).take
-
--- the spills are arcs from the nodes to the outside, in the order of the nodes
-pub record HasSpills (c : Contents) (first : ℕ) : Type 0 where
-  pub arc : (n : ℕ) → n < c.nodes → first + n < arcs c
-  pub from : (n : ℕ) → n < c.nodes → slice_index c.from (first + n) ≡ n
-  pub to : (n : ℕ) → n < c.nodes → slice_index c.to (first + n) ≡ c.nodes
 
 -- the most that a node may spill: as much as a river carries, by searches at outlets alone
 abbrev pub spill_most : Basin → Method → ℕ → ℕ

@@ -2,8 +2,8 @@
 ghost use Rattle.std.specs.Prelude.{◌≡◌, ℕ, ◌+◌, ◌<◌, length, slice_index, IfOk, OnOk};
 ghost use Rattle.water_model.specs.Basin.{taking_node};
 ghost use Rattle.water_model.specs.Valid.{IsValidBasin};
-ghost use Rattle.senior_hold.specs.MonthNetwork.{taker_count, right_arc, spill_arc};
-ghost use Rattle.senior_hold.specs.Arcs.{AreArcs, AreEnds, AreEndsOf};
+ghost use Rattle.senior_hold.specs.MonthNetwork.{taker_count, right_arc, right_exit, spill_arc};
+ghost use Rattle.senior_hold.specs.Arcs.{AreArcs, ArePositions, AreEnds, AreEndsOf, position_of};
 ghost use Rattle.senior_hold.specs.Spilled.{spilled};
 
 use circulation::Ends;
@@ -70,6 +70,60 @@ pub fn arcs_of(alloc: Global, basin: &Basin) -> Result<Arcs, AllocError>
     let rights = right_arcs(alloc, basin)?;
     let spill = first_spill(basin);
     Ok(Arcs { rights, spill })
+}
+
+/// A right in the order of seniority, its arc, and an arc from the head of that to the outside, unless the head is the
+/// outside.
+#[derive(Clone, Copy)]
+pub struct Position {
+    pub right: u32,
+    pub arc: u32,
+    pub exit: u32,
+}
+
+/// The spill of the node that a right's arc enters, or the first spill where it enters the outside.
+fn exit_of(basin: &Basin, first: u32, right: u32) -> u32
+    requires valid { IsValidBasin basin.now }
+    requires right { right < length basin.now.rights }
+    requires first { first ≡ spill_arc basin.now 0 }
+    ensures { result ≡ right_exit basin.now right }
+{
+    if let RightKind::Instream { link } = basin.rights[right as usize].kind {
+        first + basin.links[link as usize].to
+    } else {
+        first
+    }
+}
+
+/// The right, its arc and its exit.
+fn position_of(basin: &Basin, arcs: &Arcs, right: u32) -> Position
+    requires valid { IsValidBasin basin.now }
+    requires arcs { AreArcs basin.now arcs.now }
+    requires right { right < length basin.now.rights }
+    ensures { result ≡ position_of basin.now right }
+{
+    let arc = arcs.rights[right as usize];
+    let exit = exit_of(basin, arcs.spill, right);
+    Position { right, arc, exit }
+}
+
+/// The rights in an order, each with its arc and its exit.
+pub fn positions_of(
+    alloc: Global,
+    basin: &Basin,
+    arcs: &Arcs,
+    order: &[u32],
+) -> Result<Vec<Position>, AllocError>
+    requires valid { IsValidBasin basin.now }
+    requires arcs { AreArcs basin.now arcs.now }
+    requires order { (k : ℕ) → k < length order.now → slice_index order.now k < length basin.now.rights }
+    ensures { IfOk result (λ positions. ArePositions basin.now order.now positions.items) }
+{
+    let mut positions = Vec::with_capacity(alloc, order.len())?;
+    for place in 0..order.len() {
+        positions.push(position_of(basin, arcs, order[place]))?;
+    }
+    Ok(positions)
 }
 
 /// The ends of the links.

@@ -14,7 +14,7 @@ ghost use Rattle.senior_hold.specs.Solved.{FitsPlan, FitsCuts, IsGiven, IsSolved
 ghost use Rattle.senior_hold.specs.Layouts.{IsLayout, FitsRoom};
 ghost use Rattle.senior_hold.specs.Spilled.{spilled};
 
-use crate::arcs::{Arcs, arcs_of, ends_of_arcs};
+use crate::arcs::{Arcs, Position, arcs_of, ends_of_arcs, positions_of};
 use crate::carries::dailies_of;
 use crate::places::{Places, open_places, sweep, words_of};
 use crate::sweep::{Givens, Method, Sweep};
@@ -38,6 +38,8 @@ pub struct Layout {
     pub net: Net,
     pub roll: Roll,
     pub arcs: Arcs,
+    /// The rights with their arcs, seniors first.
+    pub positions: Vec<Position>,
     /// What links carry in a day, by link, in a row for each calendar month.
     pub dailies: Vec<Rows<u64>>,
 }
@@ -89,10 +91,12 @@ fn layout_of(alloc: Global, basin: &Basin) -> Result<Layout, AllocError>
     let Ok(roll) = Roll::build(alloc, rights, basin.returns.as_slice()) else {
         return Err(AllocError);
     };
+    let positions = positions_of(alloc, basin, &arcs, roll.by_seniority())?;
     Ok(Layout {
         net,
         roll,
         arcs,
+        positions,
         dailies,
     })
 }

@@ -5,21 +5,20 @@
 //! end runs down the rivers. No delivery changes by that, as a tight cut bounds every plan.
 ghost use Rattle.std.specs.Prelude.{◌≡◌, ℕ, ◌+◌, ◌*◌, ◌^◌, ◌<◌, ◌≤◌, length, slice_index};
 ghost use Rattle.water_model.specs.Plans.{IsPlan};
-ghost use Rattle.circulation.specs.Contents.{network, flow_of, arcs};
-ghost use Rattle.residual_tree.specs.Raised.{IsExit};
+ghost use Rattle.circulation.specs.Contents.{network, flow_of};
 ghost use Rattle.residual_tree.specs.TreeWords.{tree_words};
 ghost use Rattle.river_net.specs.Net.{total_of};
-ghost use Rattle.senior_hold.specs.MonthNetwork.{HasBasinEnds, IsMonthNetwork, right_arc, spill_arc};
+ghost use Rattle.senior_hold.specs.MonthNetwork.{HasBasinEnds, right_arc, right_exit};
 ghost use Rattle.senior_hold.specs.Arcs.{AreBounds};
-ghost use Rattle.senior_hold.specs.Serving.{IsClaim};
 ghost use Rattle.senior_hold.specs.Solved.{FitsPlan};
 ghost use Rattle.senior_hold.specs.Layouts.{FitsRoom};
 ghost use Rattle.senior_hold.specs.Givens.{IsGivens, CanBegin, IsSweep};
 ghost use Rattle.senior_hold.specs.Places.{HasArcs};
-ghost use Rattle.senior_hold.specs.Spilled.{spilled, spills_of, spill_most, HasSpills, IsBegun};
+ghost use Rattle.senior_hold.specs.Spilled.{spilled, spills_of, spill_most, IsBegun};
 ghost use Rattle.senior_hold.specs.Spilled.{IsSpilledStart, IsSettledPlan};
 
 use crate::amounts::{lay, read_links, read_spills, read_takes, write_bounds, write_outlets};
+use crate::arcs::Position;
 use crate::carries::RIVER_CARRY;
 use crate::serving::{Claim, Turn, serve_by};
 use crate::solver::{Layout, Room};
@@ -116,41 +115,18 @@ fn begin<'r>(
     }
 }
 
-/// An arc from the head of an arc to the outside, unless the head is the outside.
-fn exit_of(circ: &CirculationMut<'_>, first: u32, arc: u32) -> u32
-    requires arc { arc < arcs circ.now }
-    requires spills { HasSpills circ.now first }
-    requires some { 0 < circ.now.nodes }
-    ensures arc { result < arcs circ.now }
-    ensures exit { IsExit circ.now arc result }
-    ensures first { first ≤ result }
-    ensures spill { result < first + circ.now.nodes }
-{
-    let head = circ.ends(arc).to;
-    if head < circ.nodes() {
-        first + head
-    } else {
-        first
-    }
-}
-
-/// What a right claims.
-fn claim_of(givens: &Givens, circ: &CirculationMut<'_>, right: u32) -> Claim
+/// What the right whose turn it is claims. All but the want lies in the order of the turns, so that a turn doesn't have
+/// to look for it in three lists.
+fn claim_of(givens: &Givens, turn: usize) -> Claim
     requires givens { IsGivens givens.now }
-    requires net { let g = givens.now in
-        IsMonthNetwork (spilled g.basin.now) g.month g.supply.now g.want.now (network circ.now) }
-    requires right { right < length givens.now.basin.now.rights }
-    ensures claim { IsClaim circ.now result }
-    ensures right { result.right ≡ right }
-    ensures arc { result.arc ≡ right_arc givens.now.basin.now right }
-    ensures want { result.want ≡ slice_index givens.now.want.now right }
-    ensures first { spill_arc givens.now.basin.now 0 ≤ result.exit }
-    ensures spill { result.exit < spill_arc givens.now.basin.now 0 + circ.now.nodes }
+    requires turn { turn < length givens.now.basin.now.rights }
+    ensures right { result.right ≡ slice_index givens.now.layout.now.roll.order turn }
+    ensures arc { result.arc ≡ right_arc givens.now.basin.now result.right }
+    ensures exit { result.exit ≡ right_exit givens.now.basin.now result.right }
+    ensures want { result.want ≡ slice_index givens.now.want.now result.right }
 {
-    let place = right as usize;
-    let arc = givens.layout.arcs.rights[place];
-    let exit = exit_of(circ, givens.layout.arcs.spill, arc);
-    let want = givens.want[place];
+    let Position { right, arc, exit } = givens.layout.positions[turn];
+    let want = givens.want[right as usize];
     Claim {
         right,
         arc,
@@ -229,11 +205,10 @@ pub fn sweep_month<L: Ledger>(
 {
     let mut circ = begin(givens, room, held, fixed, moving, plan);
     let mut tree = ResidualTree::plant(&circ, givens.layout.net.order(), words);
-    let order = givens.layout.roll.by_seniority();
-    let mut left = PUSHES_PER_RIGHT * order.len() as u32;
-    for turn in 0..order.len() {
-        let right = order[turn];
-        let claim = claim_of(givens, &circ, right);
+    let turns = givens.layout.positions.len();
+    let mut left = PUSHES_PER_RIGHT * turns as u32;
+    for turn in 0..turns {
+        let claim = claim_of(givens, turn);
         let turn = serve_by(
             givens.method,
             &mut circ,

@@ -8,7 +8,7 @@ use Rattle.water_model.specs.CutSets.{set_of}
 use Rattle.circulation.specs.Contents.{Contents, network}
 use Rattle.augment.specs.Raised.{open_arcs}
 use Rattle.residual_tree.specs.TreeWords.{tree_words}
-use Rattle.senior_hold.specs.MonthNetwork.{arc_count, right_arc, spill_arc}
+use Rattle.senior_hold.specs.MonthNetwork.{arc_count, spill_arc}
 use Rattle.senior_hold.specs.Spilled.{IsSpilledStart, SpillsAreOf}
 use Rattle.senior_hold.proofs.Begins.{standing_begun}
 use Rattle.senior_hold.proofs.Budget.{never_full}
@@ -18,7 +18,8 @@ use Rattle.senior_hold.proofs.Solves.{standing_next}
 use Rattle.senior_hold.proofs.SettledPlans.{spills_bounded, settled_plan, sweep_solved}
 use Rattle.senior_hold.proofs.SpilledArcs.{spilled_count, spilled_kinds}
 use Rattle.senior_hold.proofs.TreeServes.{raised_net}
-use Rattle.senior_hold.proofs.Turns.{StandsAt, order_of, at_turn, turn_path_out, one_more, within_all}
+use Rattle.senior_hold.proofs.Turns.{StandsAt, order_of, turn_count, at_turn, own_claim, turn_path_out, one_more}
+use Rattle.senior_hold.proofs.Turns.{within_all}
 use Rattle.senior_hold.proofs.sweep.sweep_month.Goals as goal
 
 served : (t : Turn) → sameb the_type t Turn.GaveUp ≡ false → t ≡ Turn.Served
@@ -38,47 +39,43 @@ apart t h i = let both : Turn.GaveUp ≡ Turn.Served = sym h ∙ i in cc (both)
 
 pub overflow_cast-left : goal.overflow_cast-left
 overflow_cast-left g c =
-    let o = order_of c.requires.givens in
-    omega (arith, ap length c.by_seniority-order.ensures, o.count, c.requires.givens.valid.bounded.rights)
+    omega (arith, c.len-turns.ensures, turn_count c.requires.givens, c.requires.givens.valid.bounded.rights)
 
 pub overflow_mul-left : goal.overflow_mul-left
 overflow_mul-left g c =
-    let o = order_of c.requires.givens in
-    omega (arith, ap length c.by_seniority-order.ensures, o.count, c.requires.givens.valid.bounded.rights)
+    omega (arith, c.len-turns.ensures, turn_count c.requires.givens, c.requires.givens.valid.bounded.rights)
 
 pub loop-turn-init : goal.loop-turn-init
 loop-turn-init g c =
-    let o = order_of c.requires.givens in
     record {
       standing = standing_begun c.begin-circ.ensures.begun c.requires.begin.given.fits_cuts
           c.requires.begin.given.no_sets;
       tree = λ h. c.plant-tree.ensures;
       first = λ e. refl;
-      cost = λ h. omega (arith, ap length c.by_seniority-order.ensures, o.count);
+      cost = λ h. omega (arith, c.len-turns.ensures, turn_count c.requires.givens);
       spills = c.begin-circ.ensures.begun.spills;
-      used = λ h. omega (arith, ap length c.by_seniority-order.ensures, o.count);
+      used = λ h. omega (arith, c.len-turns.ensures, turn_count c.requires.givens);
       search_cost = λ h. omega arith;
       room = c.begin-circ.ensures.room;
       plan = c.requires.begin.given.fits_plan;
     }
 
-pub claim_of-claim-requires-clause-right : goal.claim_of-claim-requires-clause-right
-claim_of-claim-requires-clause-right g c =
-    (at_turn c.requires.givens c.by_seniority-order.ensures c.loop-turn-test.true
-    c.loop-turn.invariant.standing).in_range
+pub claim_of-claim-requires-clause-turn : goal.claim_of-claim-requires-clause-turn
+claim_of-claim-requires-clause-turn g c =
+    (at_turn c.requires.givens c.len-turns.ensures c.loop-turn-test.true c.loop-turn.invariant.standing).below
 
 pub serve_by-turn-requires-clause-path_out : goal.serve_by-turn-requires-clause-path_out
 serve_by-turn-requires-clause-path_out g c = λ h.
-    let t = at_turn c.requires.givens c.by_seniority-order.ensures c.loop-turn-test.true
+    let t = at_turn c.requires.givens c.len-turns.ensures c.loop-turn-test.true
     c.loop-turn.invariant.standing in
-    turn_path_out c.loop-turn.circ c.requires.givens t.in_range c.claim_of-claim.ensures.arc
-    c.loop-turn.invariant.standing.net
+    turn_path_out c.loop-turn.circ c.requires.givens (omega (arith, c.claim_of-claim.ensures.right, t.in_range))
+    c.claim_of-claim.ensures.arc c.loop-turn.invariant.standing.net
     (subst (λ m. SpillsAreOf c.args.givens.now.basin.now m c.loop-turn.circ) h c.loop-turn.invariant.spills)
 
 pub serve_by-turn-requires-clause-set : goal.serve_by-turn-requires-clause-set
 serve_by-turn-requires-clause-set g c =
     let now = c.loop-turn.invariant.standing in
-    let t = at_turn c.requires.givens c.by_seniority-order.ensures c.loop-turn-test.true now in
+    let t = at_turn c.requires.givens c.len-turns.ensures c.loop-turn-test.true now in
     let is = c.claim_of-claim.ensures.right in
     record {
       right = omega (arith, is, t.in_range, now.cut_rights);
@@ -88,18 +85,18 @@ serve_by-turn-requires-clause-set g c =
 
 pub loop-turn-preserved : goal.loop-turn-preserved
 loop-turn-preserved g c =
-    let t = at_turn c.requires.givens c.by_seniority-order.ensures c.loop-turn-test.true
+    let t = at_turn c.requires.givens c.len-turns.ensures c.loop-turn-test.true
     c.loop-turn.invariant.standing in
     let b = c.args.givens.now.basin.now in
     let inv = c.loop-turn.invariant in
     let claim = c.claim_of-claim.ensures in
+    let own = own_claim c.loop-turn.circ c.claim_of-claim.result c.requires.givens inv.standing.net
+    (omega (arith, claim.right, t.in_range)) claim.arc claim.exit claim.want in
     let done = c.serve_by-turn.ensures in
     let is = served c.serve_by-turn.result (sym c.eq.ensures ∙ c.if-eq.false) in
     record {
       standing = standing_next (spilled_kinds b (right_kind b c.requires.givens.valid)) t.below
-          (claim.right ∙ t.is) (order_of c.requires.givens) inv.standing
-          (claim.arc ∙ ap (right_arc b) (sym claim.right))
-          (claim.want ∙ ap (slice_index c.args.givens.now.want.now) (sym claim.right)) (done.served is) done.kept;
+          claim.right (order_of c.requires.givens) inv.standing claim.arc claim.want (done.served is) done.kept;
       tree = λ h. done.tree h is;
       first = λ e. absurd (omega arith);
       cost = λ h. omega (arith, inv.cost h, done.cost h);
@@ -107,7 +104,7 @@ loop-turn-preserved g c =
       used = λ h. elim (done.used h) [
         | inl each ↦ omega (arith, each, inv.used h)
         | inr fills ↦ absurd (never_full fills c.requires.givens.valid c.requires.givens.supplies inv.standing.net
-            (subst (λ m. SpillsAreOf b m c.loop-turn.circ) h inv.spills) claim.first claim.spill)
+            (subst (λ m. SpillsAreOf b m c.loop-turn.circ) h inv.spills) own.first own.spill)
       ];
       search_cost = λ h. one_more (arc_count b) (open_arcs (network c.loop-turn.circ)) c.loop-turn.turn
           _ _ _ (open_bounded b c.loop-turn.circ inv.standing.net.ends
@@ -132,9 +129,11 @@ settle_plan-requires-clause-small g c =
 pub returns-then-eq-clause-swept : goal.returns-then-eq-clause-swept
 returns-then-eq-clause-swept g c =
     let b = c.args.givens.now.basin.now in
-    let o = order_of c.requires.givens in
     let inv = c.loop-turn.invariant in
+    let t = at_turn c.requires.givens c.len-turns.ensures c.loop-turn-test.true inv.standing in
     let claim = c.claim_of-claim.ensures in
+    let own = own_claim c.loop-turn.circ c.claim_of-claim.result c.requires.givens inv.standing.net
+    (omega (arith, claim.right, t.in_range)) claim.arc claim.exit claim.want in
     let done = c.serve_by-turn.ensures in
     let is = gave_up c.serve_by-turn.result (sym c.eq.ensures ∙ c.if-eq.true) in
     record {
@@ -155,11 +154,11 @@ returns-then-eq-clause-swept g c =
             all,
             inv.used h,
             c.loop-turn-test.true,
-            ap length c.by_seniority-order.ensures,
-            o.count,
+            c.len-turns.ensures,
+            turn_count c.requires.givens,
           )
           | inr fills ↦ absurd (never_full fills c.requires.givens.valid c.requires.givens.supplies inv.standing.net
-              (subst (λ m. SpillsAreOf b m c.loop-turn.circ) h inv.spills) claim.first claim.spill)
+              (subst (λ m. SpillsAreOf b m c.loop-turn.circ) h inv.spills) own.first own.spill)
         ]
       ];
       searched = λ h. absurd (apart c.serve_by-turn.result is (done.searched h));
@@ -182,8 +181,8 @@ returns-clause-swept g c =
       arith,
       c.loop-turn-test.false,
       c.loop-turn.auto.turn-end,
-      ap length c.by_seniority-order.ensures,
-      o.count,
+      c.len-turns.ensures,
+      turn_count c.requires.givens,
     ) in
     record {
       fits = c.settle_plan-2.ensures.fits;
@@ -223,17 +222,16 @@ plant-tree-requires-clause-words g c =
     c.requires.size ∙ ap tree_words (sym (c.begin-circ.ensures.begun.net.ends.nodes
     ∙ spilled_count c.args.givens.now.basin.now))
 
-pub bounds-order-turn : goal.bounds-order-turn
-bounds-order-turn g c = c.loop-turn-test.true
-
 pub claim_of-claim-requires-clause-givens : goal.claim_of-claim-requires-clause-givens
 claim_of-claim-requires-clause-givens g c = c.requires.givens
 
-pub claim_of-claim-requires-clause-net : goal.claim_of-claim-requires-clause-net
-claim_of-claim-requires-clause-net g c = c.loop-turn.invariant.standing.net
-
 pub serve_by-turn-requires-clause-claim : goal.serve_by-turn-requires-clause-claim
-serve_by-turn-requires-clause-claim g c = c.claim_of-claim.ensures.claim
+serve_by-turn-requires-clause-claim g c =
+    let now = c.loop-turn.invariant.standing in
+    let t = at_turn c.requires.givens c.len-turns.ensures c.loop-turn-test.true now in
+    let claim = c.claim_of-claim.ensures in
+    (own_claim c.loop-turn.circ c.claim_of-claim.result c.requires.givens now.net
+    (omega (arith, claim.right, t.in_range)) claim.arc claim.exit claim.want).claim
 
 pub serve_by-turn-requires-clause-tree : goal.serve_by-turn-requires-clause-tree
 serve_by-turn-requires-clause-tree g c = c.loop-turn.invariant.tree
