@@ -37,3 +37,12 @@ loop-at-preserved c =
         | else-send_over w ↦ omega (arith, w.count-is, before.few)
       ];
     }
+
+pub send_over-requires-clause-within : goal.send_over-requires-clause-within
+send_over-requires-clause-within c = rw c.loop-at.invariant.same c.loop-at.invariant.sent.within
+
+pub returns-clause-same : goal.returns-clause-same
+returns-clause-same c = c.loop-at.invariant.same
+
+pub returns-clause-sent : goal.returns-clause-sent
+returns-clause-sent c = c.loop-at.invariant.sent

@@ -24,3 +24,6 @@ index-requires-2 c =
       c.index.ensures,
       c.self.invariant.are.room,
     )
+
+pub send-requires-clause-within : goal.send-requires-clause-within
+send-requires-clause-within c = c.requires.within
