@@ -1,4 +1,4 @@
-use Rattle.std.proofs.Common.{arith}
+use Rattle.std.proofs.Common.{arith, ◌∙◌}
 use Rattle.residual_tree.proofs.Grows.{queue_short}
 use Rattle.residual_tree.proofs.Seeds.{closed_tree}
 use Rattle.residual_tree.proofs.growing.grow_out.Goals as goal
@@ -11,3 +11,27 @@ note_first-requires-clause-size c =
 pub returns-then-is_closed : goal.returns-then-is_closed
 returns-then-is_closed c = closed_tree c.requires.kept c.label_in_order-size.ensures
     (c.is_closed.ensures c.if-is_closed.true)
+
+pub spread_out-first-requires-clause-places : goal.spread_out-first-requires-clause-places
+spread_out-first-requires-clause-places c = c.requires.places
+
+pub spread_out-first-requires-clause-kept : goal.spread_out-first-requires-clause-kept
+spread_out-first-requires-clause-kept c = c.requires.kept
+
+pub label_in_order-size-requires-clause-order : goal.label_in_order-size-requires-clause-order
+label_in_order-size-requires-clause-order c = c.requires.order
+
+pub label_in_order-size-requires-clause-depth : goal.label_in_order-size-requires-clause-depth
+label_in_order-size-requires-clause-depth c = c.note_first.ensures ∙ c.requires.depth
+
+pub label_in_order-size-requires-clause-tree : goal.label_in_order-size-requires-clause-tree
+label_in_order-size-requires-clause-tree c = c.spread_out-first.ensures
+
+pub label_in_order-size-requires-clause-kept : goal.label_in_order-size-requires-clause-kept
+label_in_order-size-requires-clause-kept c = c.requires.kept
+
+pub is_closed-requires-clause-words : goal.is_closed-requires-clause-words
+is_closed-requires-clause-words c = c.label_in_order-size.ensures.tree.words
+
+pub is_closed-requires-clause-kept : goal.is_closed-requires-clause-kept
+is_closed-requires-clause-kept c = c.requires.kept
