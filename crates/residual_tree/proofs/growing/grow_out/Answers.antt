@@ -1,5 +1,5 @@
-use Rattle.std.proofs.Common.{arith, ◌∙◌}
-use Rattle.residual_tree.proofs.Grows.{queue_short}
+use Rattle.std.proofs.Common.{arith, ◌∙◌, refl}
+use Rattle.residual_tree.proofs.Grows.{artificial_none, queue_short}
 use Rattle.residual_tree.proofs.Seeds.{closed_tree}
 use Rattle.residual_tree.proofs.growing.grow_out.Goals as goal
 
@@ -35,3 +35,16 @@ is_closed-requires-clause-words c = c.label_in_order-size.ensures.tree.words
 
 pub is_closed-requires-clause-kept : goal.is_closed-requires-clause-kept
 is_closed-requires-clause-kept c = c.requires.kept
+
+pub spread_out-first-requires-clause-bare : goal.spread_out-first-requires-clause-bare
+spread_out-first-requires-clause-bare c = rw (c.set.ensures, c.requires.bare, c.nodes.ensures.number) refl
+
+pub note_first-requires-clause-within : goal.note_first-requires-clause-within
+note_first-requires-clause-within c = λ k l.
+    let inside = (c.spread_out-first.ensures.marked k l).0 in omega (arith, inside, c.requires.depth)
+
+pub spread-requires : goal.spread-requires
+spread-requires c = (c.label_in_order-size.ensures, c.requires.kept)
+
+pub returns : goal.returns
+returns c = artificial_none c.spread.ensures.tree
