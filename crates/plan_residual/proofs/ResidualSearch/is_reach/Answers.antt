@@ -1,3 +1,4 @@
+use Rattle.std.proofs.Common.{sym}
 use Rattle.plan_residual.proofs.ResidualSearch.is_reach.Goals as goal
 
 pub search-requires-clause-cut : goal.search-requires-clause-cut
@@ -14,3 +15,10 @@ returns-clause-reach c = c.search.ensures.reach
 
 pub returns-clause-stays : goal.returns-clause-stays
 returns-clause-stays c = c.self.view_is
+
+pub invariant_of-scene : goal.invariant_of-scene
+invariant_of-scene c = record {
+  plan = c.requires.plan;
+  roll = c.requires.roll;
+  rows = rw (sym c.self.view_is) at c.requires.search;
+}

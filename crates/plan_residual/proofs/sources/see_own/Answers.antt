@@ -51,3 +51,6 @@ returns-in-Zone c =
       own = λ e l is. (let never : None ≡ Some e = sym off ∙ is in cc);
       only = λ v h. inr h;
     }
+
+pub visit-requires-clause-queue : goal.visit-requires-clause-queue
+visit-requires-clause-queue c = c.requires.queue.in_queue

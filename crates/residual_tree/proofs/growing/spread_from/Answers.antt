@@ -60,3 +60,9 @@ returns-clause-tree g c =
     spreading_end state
     (scan_end c.args.circ.now _ _ _ c.requires.1.1 (inside _ _ _ _ _ _ _ state) c.loop-place.invariant.scan
     (omega (arith, c.loop-place-test.false, c.row_last-place-end.ensures.place)))
+
+pub label_end-count-requires-clause-kept : goal.label_end-count-requires-clause-kept
+label_end-count-requires-clause-kept g c = c.row_first-place.ensures.kept
+
+pub returns-clause-more : goal.returns-clause-more
+returns-clause-more g c = c.loop-place.invariant.more

@@ -120,3 +120,18 @@ returns g c =
       count = omega (arith, inv.count);
       still = λ none. inv.still (omega (arith, none, inv.count));
     }
+
+pub ends-tail-requires : goal.ends-tail-requires
+ends-tail-requires g c = c.requires.arc
+
+pub flow-flow-requires : goal.flow-flow-requires
+flow-flow-requires g c = rw c.loop-pushes.invariant.rest.rest c.requires.arc
+
+pub round-requires-clause-arc : goal.round-requires-clause-arc
+round-requires-clause-arc g c = rw c.loop-pushes.invariant.rest.rest c.requires.arc
+
+pub round-requires-clause-held : goal.round-requires-clause-held
+round-requires-clause-held g c = c.loop-pushes.invariant.held
+
+pub round-requires-clause-kept : goal.round-requires-clause-kept
+round-requires-clause-kept g c = c.loop-pushes.invariant.kept

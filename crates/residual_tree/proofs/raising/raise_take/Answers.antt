@@ -184,3 +184,18 @@ returns g c =
       pushed = λ some. omega (arith, inv.count, inv.left);
       unfinished = λ _. omega (arith, inv.count, c.loop-pushes-test.false);
     }
+
+pub ends-tail-requires : goal.ends-tail-requires
+ends-tail-requires g c = c.requires.arc
+
+pub flow-got-requires : goal.flow-got-requires
+flow-got-requires g c = c.requires.arc
+
+pub round-pushed-requires-clause-arc : goal.round-pushed-requires-clause-arc
+round-pushed-requires-clause-arc g c = rw c.loop-pushes.invariant.rest.rest c.requires.arc
+
+pub round-pushed-requires-clause-held : goal.round-pushed-requires-clause-held
+round-pushed-requires-clause-held g c = c.loop-pushes.invariant.held
+
+pub round-pushed-requires-clause-kept : goal.round-pushed-requires-clause-kept
+round-pushed-requires-clause-kept g c = c.loop-pushes.invariant.kept

@@ -244,3 +244,24 @@ returns-else-flow-want-2 g c =
       ));
       at_first = λ _ none some. absurd (omega (arith, none, some, inv.count, c.loop-pushes-test.false));
     }
+
+pub ends-ends-requires : goal.ends-ends-requires
+ends-ends-requires g c = c.requires.arc
+
+pub flow-flow-requires : goal.flow-flow-requires
+flow-flow-requires g c = rw c.loop-pushes.invariant.rest.rest c.requires.arc
+
+pub round-requires-clause-arc : goal.round-requires-clause-arc
+round-requires-clause-arc g c = rw c.loop-pushes.invariant.rest.rest c.requires.arc
+
+pub round-requires-clause-held : goal.round-requires-clause-held
+round-requires-clause-held g c = c.loop-pushes.invariant.held
+
+pub round-requires-clause-tree : goal.round-requires-clause-tree
+round-requires-clause-tree g c = rw c.from.ensures c.add_artificial.ensures.tree
+
+pub round-requires-clause-kept : goal.round-requires-clause-kept
+round-requires-clause-kept g c = c.loop-pushes.invariant.kept
+
+pub flow-requires : goal.flow-requires
+flow-requires g c = rw c.loop-pushes.invariant.rest.rest c.requires.arc

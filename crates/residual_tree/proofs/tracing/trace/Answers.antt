@@ -121,3 +121,48 @@ predecessor-node-requires-clause-kept_start c =
     (λ e. c.if-node-nodes.false (e ∙ sym c.nodes-nodes.ensures.number)) (ap (λ (n : ℕ). n - 1) c.word-step.ensures)
     c.take_step-walk.ensures.taken in
     ap (λ (xs : List ℕ). predecessor_of xs c.loop-node.node) c.tree.view_is ∙ word.1
+
+pub ends-ends-requires : goal.ends-ends-requires
+ends-ends-requires c = c.requires.arc
+
+pub take_step-out-requires-clause-apart : goal.take_step-out-requires-clause-apart
+take_step-out-requires-clause-apart c = c.loop-node.invariant.space
+
+pub take_step-out-requires-clause-gathered : goal.take_step-out-requires-clause-gathered
+take_step-out-requires-clause-gathered c = c.loop-node.invariant.tracing.gathered
+
+pub take_step-out-requires-clause-kept : goal.take_step-out-requires-clause-kept
+take_step-out-requires-clause-kept c = c.loop-node.invariant.tracing.kept
+
+pub take_step-requires-clause-gathered : goal.take_step-requires-clause-gathered
+take_step-requires-clause-gathered c = c.take_step-out.ensures.gathered
+
+pub take_step-requires-clause-kept : goal.take_step-requires-clause-kept
+take_step-requires-clause-kept c = c.take_step-out.ensures.kept
+
+pub returns-then-node-nodes-clause-kept : goal.returns-then-node-nodes-clause-kept
+returns-then-node-nodes-clause-kept c = c.take_step.ensures.kept
+
+pub take_step-walk-requires-clause-apart : goal.take_step-walk-requires-clause-apart
+take_step-walk-requires-clause-apart c = c.loop-node.invariant.space
+
+pub take_step-walk-requires-clause-gathered : goal.take_step-walk-requires-clause-gathered
+take_step-walk-requires-clause-gathered c = c.loop-node.invariant.tracing.gathered
+
+pub take_step-walk-requires-clause-kept : goal.take_step-walk-requires-clause-kept
+take_step-walk-requires-clause-kept c = c.loop-node.invariant.tracing.kept
+
+pub predecessor-node-requires-clause-kept : goal.predecessor-node-requires-clause-kept
+predecessor-node-requires-clause-kept c = c.take_step-walk.ensures.kept
+
+pub take_step-requires-2-clause-apart : goal.take_step-requires-2-clause-apart
+take_step-requires-2-clause-apart c = c.loop-node.invariant.space
+
+pub take_step-requires-2-clause-gathered : goal.take_step-requires-2-clause-gathered
+take_step-requires-2-clause-gathered c = c.loop-node.invariant.tracing.gathered
+
+pub take_step-requires-2-clause-kept : goal.take_step-requires-2-clause-kept
+take_step-requires-2-clause-kept c = c.loop-node.invariant.tracing.kept
+
+pub returns-clause-kept : goal.returns-clause-kept
+returns-clause-kept c = c.take_step-2.ensures.kept
