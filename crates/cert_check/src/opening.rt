@@ -12,7 +12,7 @@ ghost use Rattle.water_model.specs.Valid.{IsValidBasin, IsSeriesOf};
 ghost use Rattle.water_model.specs.declared.types.Inflows.{Inflows};
 ghost use Rattle.cert_check.specs.Auditing.{IsAuditIfAny};
 ghost use Rattle.cert_check.specs.Context.{IsContext};
-ghost use Rattle.cert_check.specs.Keeping.{Keeps};
+ghost use Rattle.cert_check.specs.Keeping.{AreLeft, Keeps};
 ghost use Rattle.cert_check.specs.Standing.{IsProgressOf};
 
 use crate::audit::Audit;
@@ -55,18 +55,30 @@ fn room_for_sums(
     Ok((closes, into, out_of))
 }
 
+/// What no month leaves: returns that are under way, what is stored, what comes back to each node, and what was used.
+fn left_of_none(
+    alloc: Global,
+    basin: &Basin,
+) -> Result<(Lags, Rows<u64>, Rows<u64>, Rows<u64>), AllocError>
+    requires { IsValidBasin basin.now }
+    ensures { IfOk result (λ left. AreLeft basin.now [] 0 left.0 left.1 left.2 left.3) }
+{
+    let lags = Lags::open(alloc, basin.returns.as_slice())?;
+    let comes = first_comes(alloc, basin, &lags)?;
+    let opens = openings(alloc, basin)?;
+    let used = zeros(alloc, basin.rights.len())?;
+    Ok((lags, opens, comes, used))
+}
+
 /// A check state of no line.
 pub fn blank_state(alloc: Global, basin: &Basin) -> Result<Box<CheckState>, AllocError>
     requires { IsValidBasin basin.now }
     ensures { IfOk result (λ state. (series : Inflows) →
         Keeps basin.now series state.value (nothing_read basin.now)) }
 {
-    let lags = Lags::open(alloc, basin.returns.as_slice())?;
-    let comes = first_comes(alloc, basin, &lags)?;
-    let opens = openings(alloc, basin)?;
-    let used = zeros(alloc, basin.rights.len())?;
     let sums = room_for_sums(alloc, basin)?;
     let month = blank_month(alloc, basin)?;
+    let (lags, opens, comes, used) = left_of_none(alloc, basin)?;
     let (closes, into, out_of) = sums;
     Ok(Box::new(
         alloc,
@@ -156,10 +168,15 @@ fn parts_of<'b>(
     ensures none { IfOk result (λ parts. ReaderStandsFor parts.2 []) }
     ensures bounded { IfOk result (λ parts. parts.2.left ≤ 5 * 10 ^ 9) }
 {
-    let state = blank_state(alloc, basin)?;
     let last_set = LastSet::open(alloc, basin)?;
     let reader = ResultReader::open(alloc, basin, roll)?;
-    Ok((state, last_set, reader))
+    match blank_state(alloc, basin) {
+        Ok(state) => Ok((state, last_set, reader)),
+        Err(stop) => {
+            drop(reader);
+            Err(stop)
+        }
+    }
 }
 
 /// The progress of no line, with this audit of no line if one is asked for. AllocError comes where memory is lacking.
@@ -176,14 +193,19 @@ pub fn progress_of<'b>(
     ensures bounded { IfOk result (λ progress. progress.reader.left ≤ 5 * 10 ^ 9) }
     ensures audit { IfOk result (λ progress. progress.audit ≡ audit) }
 {
-    let (state, last_set, reader) = parts_of(alloc, basin, roll)?;
-    Ok(CheckProgress {
-        reader,
-        state,
-        read: 0,
-        last_other: 0,
-        ended: false,
-        audit,
-        last_set,
-    })
+    match parts_of(alloc, basin, roll) {
+        Ok((state, last_set, reader)) => Ok(CheckProgress {
+            reader,
+            state,
+            read: 0,
+            last_other: 0,
+            ended: false,
+            audit,
+            last_set,
+        }),
+        Err(stop) => {
+            drop(audit);
+            Err(stop)
+        }
+    }
 }

@@ -8,3 +8,6 @@ first_other-requires-clause-roll c = c.requires.roll
 
 pub first_other-requires-clause-sets : goal.first_other-requires-clause-sets
 first_other-requires-clause-sets c = c.requires.sets
+
+pub first_other-requires-clause-search : goal.first_other-requires-clause-search
+first_other-requires-clause-search c = c.requires.memory.search

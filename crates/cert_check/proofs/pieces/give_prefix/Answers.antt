@@ -30,3 +30,6 @@ returns-in-Some-give_likely-clause-left c =
       rw c.in_default.ensures.none at c.in-Some-give_likely.ensures.left,
       c.in-Some-give_likely.ensures.takes.short,
     )
+
+pub give_bytes-requires-clause-some : goal.give_bytes-requires-clause-some
+give_bytes-requires-clause-some c = c.requires.some

@@ -53,3 +53,18 @@ make_ready-requires-clause-context c = c.requires.context
 
 pub take_audit-requires-clause-context : goal.take_audit-requires-clause-context
 take_audit-requires-clause-context c = c.requires.context
+
+pub make_ready-requires-clause-item : goal.make_ready-requires-clause-item
+make_ready-requires-clause-item c = c.requires.item
+
+pub first_row-requires-clause-item : goal.first_row-requires-clause-item
+first_row-requires-clause-item c = c.requires.item
+
+pub take_audit-requires-clause-item : goal.take_audit-requires-clause-item
+take_audit-requires-clause-item c = c.requires.item
+
+pub enter-requires-clause-item : goal.enter-requires-clause-item
+enter-requires-clause-item c = c.requires.item
+
+pub take_audit-requires-clause-room : goal.take_audit-requires-clause-room
+take_audit-requires-clause-room c = c.requires.room

@@ -117,3 +117,6 @@ returns-clause-some c =
     let b = c.args.context.now.basin.now in
     some_taken (member_lines b (nodes at)) (taken at)
     (omega (arith, counted at, length-map (nodes at) (λ n. line_of b (line.Member n)), some at))
+
+pub enter_nodes-requires-clause-context : goal.enter_nodes-requires-clause-context
+enter_nodes-requires-clause-context c = c.requires.context

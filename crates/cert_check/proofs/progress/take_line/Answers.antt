@@ -63,3 +63,6 @@ returns-in-Err-clause-takes c = λ lines s. rw s.counts.read
     (judged_bad c.args.context.now.basin.now c.args.context.now.series.now s.items c.args.text.now
     (sym s.counts.ended ∙ c.if-progress.false)
     (ap (λ x. read_line x s.items c.args.text.now) (sym s.basin) ∙ sym (c.in-Err.ensures.answer s.items s.reader))))
+
+pub take_item-requires-clause-context : goal.take_item-requires-clause-context
+take_item-requires-clause-context c = c.requires.context

@@ -21,3 +21,9 @@ make_sums-requires-clause-supply c = λ n l.
 
 pub returns-clause-keeps : goal.returns-clause-keeps
 returns-clause-keeps c = grind (arith, keeps_room)
+
+pub know_supply-requires-clause-context : goal.know_supply-requires-clause-context
+know_supply-requires-clause-context c = c.requires.context
+
+pub know_supply-requires-clause-month : goal.know_supply-requires-clause-month
+know_supply-requires-clause-month c = c.requires.month

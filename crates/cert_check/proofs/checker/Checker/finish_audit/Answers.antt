@@ -13,3 +13,6 @@ returns-in-Some-clause-answer c = λ lines text stands pieces.
     (subst (λ (v : CheckerView). IsSeriesOf v.basin v.series) c.self.view_is c.self.invariant.context.series) refl
     c.in_ok-months.ensures.stays (c.in_ok-months.ensures.answer lines stands)
     (sym (ap (λ v. v.progress.audit) c.self.view_is) ∙ c.in-Some.is) stands pieces)
+
+pub finish-requires : goal.finish-requires
+finish-requires c = c.requires.rest
