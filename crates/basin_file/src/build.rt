@@ -116,19 +116,76 @@ fn rights_of(alloc: Global, document: &Document) -> Result<Rows<Right>, AllocErr
     Ok(Rows::from_vec(rights))
 }
 
+/// The nodes and the links of the basin that a document spells. AllocError comes where memory is lacking.
+fn network_of(alloc: Global, document: &Document) -> Result<(Rows<Node>, Rows<Link>), AllocError>
+    ensures nodes { IfOk result (λ parts. parts.0 ≡ (basin_of (tree_of document.now)).nodes) }
+    ensures links { IfOk result (λ parts. parts.1 ≡ (basin_of (tree_of document.now)).links) }
+{
+    let nodes = table_of::<Node, NodeReader>(alloc, document, BasinTable::Node)?;
+    match table_of::<Link, LinkReader>(alloc, document, BasinTable::Link) {
+        Ok(links) => Ok((nodes, links)),
+        Err(stop) => {
+            drop(nodes);
+            Err(stop)
+        }
+    }
+}
+
+/// Its rights and its return rows. AllocError comes where memory is lacking.
+fn users_of(
+    alloc: Global,
+    document: &Document,
+) -> Result<(Rows<Right>, Rows<ReturnRow>), AllocError>
+    ensures rights { IfOk result (λ parts. parts.0 ≡ (basin_of (tree_of document.now)).rights) }
+    ensures returns { IfOk result (λ parts. parts.1 ≡ (basin_of (tree_of document.now)).returns) }
+{
+    let rights = rights_of(alloc, document)?;
+    match table_of::<ReturnRow, ReturnReader>(alloc, document, BasinTable::Return) {
+        Ok(returns) => Ok((rights, returns)),
+        Err(stop) => {
+            drop(rights);
+            Err(stop)
+        }
+    }
+}
+
+/// Its nodes, links, rights and return rows. AllocError comes where memory is lacking.
+fn lists_of(
+    alloc: Global,
+    document: &Document,
+) -> Result<((Rows<Node>, Rows<Link>), (Rows<Right>, Rows<ReturnRow>)), AllocError>
+    ensures nodes { IfOk result (λ parts. parts.0.0 ≡ (basin_of (tree_of document.now)).nodes) }
+    ensures links { IfOk result (λ parts. parts.0.1 ≡ (basin_of (tree_of document.now)).links) }
+    ensures rights { IfOk result (λ parts. parts.1.0 ≡ (basin_of (tree_of document.now)).rights) }
+    ensures returns { IfOk result (λ parts. parts.1.1 ≡ (basin_of (tree_of document.now)).returns) }
+{
+    let network = network_of(alloc, document)?;
+    match users_of(alloc, document) {
+        Ok(users) => Ok((network, users)),
+        Err(stop) => {
+            drop(network);
+            Err(stop)
+        }
+    }
+}
+
 /// The basin that a document spells. What can't be there in a document without a fault has a default.
 pub fn basin_of(alloc: Global, document: &Document) -> Result<Basin, AllocError>
     ensures { IfOk result (λ basin. basin ≡ basin_of (tree_of document.now)) }
 {
-    let nodes = table_of::<Node, NodeReader>(alloc, document, BasinTable::Node)?;
-    let links = table_of::<Link, LinkReader>(alloc, document, BasinTable::Link)?;
     let reservoirs = table_of::<Reservoir, ReservoirReader>(
         alloc,
         document,
         BasinTable::Reservoir,
     )?;
-    let rights = rights_of(alloc, document)?;
-    let returns = table_of::<ReturnRow, ReturnReader>(alloc, document, BasinTable::Return)?;
+    let lists = match lists_of(alloc, document) {
+        Ok(lists) => lists,
+        Err(stop) => {
+            drop(reservoirs);
+            return Err(stop);
+        }
+    };
+    let ((nodes, links), (rights, returns)) = lists;
     let top = document.tree;
     Ok(Basin {
         format: document.format() as u32,

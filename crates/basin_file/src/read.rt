@@ -132,7 +132,11 @@ fn tree_basin(alloc: Global, tree: &Table) -> Result<Basin, BasinRefused>
     ensures refused { IfErr result (IsRefusalOf (document_fault (Some (table_view tree.now)))) }
 {
     match Document::of(alloc, tree) {
-        Ok(document) => unchecked_basin(alloc, &document),
+        Ok(document) => {
+            let spelled = unchecked_basin(alloc, &document);
+            drop(document);
+            spelled
+        }
         Err(_) => Err(BasinRefused::OutOfMemory),
     }
 }
@@ -160,8 +164,13 @@ fn read_tree(alloc: Global, tree: &Table) -> Result<Basin, BasinRefused>
     ensures refused { IfErr result (IsRefusalOf (document_fault (Some (table_view tree.now)))) }
 {
     let basin = tree_basin(alloc, tree)?;
-    check_basin(alloc, &basin)?;
-    Ok(basin)
+    match check_basin(alloc, &basin) {
+        Ok(()) => Ok(basin),
+        Err(refusal) => {
+            drop(basin);
+            Err(refusal)
+        }
+    }
 }
 
 /// The basin that the bytes of a basin file spell, which is valid, or the first fault in them with its table and entry.
@@ -186,5 +195,7 @@ pub fn read_basin(alloc: Global, text: &[u8]) -> Result<Basin, BasinRefused>
         }
         Err(_) => return Err(BasinRefused::OutOfMemory),
     };
-    read_tree(alloc, &tree)
+    let read = read_tree(alloc, &tree);
+    drop(tree);
+    read
 }

@@ -37,8 +37,13 @@ fn links_and_reservoirs<'b>(
     ensures reservoirs { IfOk result (λ names. (names.1.basin.now ≡ basin.now) × (names.1.space ≡ Reservoirs)) }
 {
     let links = SpaceNames::of(alloc, Space::Links, basin)?;
-    let reservoirs = SpaceNames::of(alloc, Space::Reservoirs, basin)?;
-    Ok((links, reservoirs))
+    match SpaceNames::of(alloc, Space::Reservoirs, basin) {
+        Ok(reservoirs) => Ok((links, reservoirs)),
+        Err(stop) => {
+            drop(links);
+            Err(stop)
+        }
+    }
 }
 
 /// The names of the nodes and the rights, and the `in` lines of the nodes. AllocError comes where memory is lacking.
@@ -50,9 +55,14 @@ fn both_and_lines<'b>(
     ensures both { IfOk result (λ parts. parts.0.basin.now ≡ basin.now) }
     ensures lines { IfOk result (λ parts. parts.1.basin.now ≡ basin.now) }
 {
-    let both = BothNames::of(alloc, basin)?;
     let lines = NodeLines::of(alloc, basin)?;
-    Ok((both, lines))
+    match BothNames::of(alloc, basin) {
+        Ok(both) => Ok((both, lines)),
+        Err(stop) => {
+            drop(lines);
+            Err(stop)
+        }
+    }
 }
 
 /// The names put together: of the links and the reservoirs, and of the nodes and the rights with the `in` lines.
@@ -85,8 +95,13 @@ impl<'b> Names<'b> {
         ensures { IfOk result (λ names. names.basin.now ≡ basin.now) }
     {
         let spaces = links_and_reservoirs(alloc, basin)?;
-        let others = both_and_lines(alloc, basin)?;
-        Ok(with_parts(basin, spaces, others))
+        match both_and_lines(alloc, basin) {
+            Ok(others) => Ok(with_parts(basin, spaces, others)),
+            Err(stop) => {
+                drop(spaces);
+                Err(stop)
+            }
+        }
     }
 
     /// Whether the entry at an index, which may be any number, is there and has the name.

@@ -19,3 +19,6 @@ loop-value-preserved c =
     (c.in_ok-push.ensures.items ∙ ap (λ (p : AreaPoint). made ++ p ∷ []) c.point_of.ensures)
     ∙ pushed rest made items i value value (point_in (unwrap_or (as_array (view value)) no_items)) (rest items)
     c.loop-value-test.true c.value-item.is refl c.loop-value.invariant
+
+pub loop-value-init : goal.loop-value-init
+loop-value-init c = rw c.new-points.ensures.items refl

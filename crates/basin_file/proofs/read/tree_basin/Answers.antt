@@ -17,11 +17,11 @@ sound_of (Err e) tree is none = search rules
 
 pub returns-in-Ok : goal.returns-in-Ok
 returns-in-Ok c =
-    let basin = rw c.in-Ok.ensures at c.unchecked_basin.ensures.basin in
-    let faultless = rw c.in-Ok.ensures at c.unchecked_basin.ensures.faultless in
+    let basin = rw c.in-Ok.ensures at c.unchecked_basin-spelled.ensures.basin in
+    let faultless = rw c.in-Ok.ensures at c.unchecked_basin-spelled.ensures.faultless in
     record {
       basin = basin;
-      sound = sound_of c.unchecked_basin.result (table_view c.args.tree.now) basin faultless;
+      sound = sound_of c.unchecked_basin-spelled.result (table_view c.args.tree.now) basin faultless;
       faultless = faultless;
-      refused = rw c.in-Ok.ensures at c.unchecked_basin.ensures.refused;
+      refused = rw c.in-Ok.ensures at c.unchecked_basin-spelled.ensures.refused;
     }

@@ -19,3 +19,6 @@ loop-n-preserved c =
 
 pub number-requires : goal.number-requires
 number-requires c = omega (arith, c.requires c.loop-n.n-index 0 c.loop-n-test.true)
+
+pub loop-n-init : goal.loop-n-init
+loop-n-init c = rw c.in_ok-list.ensures.items refl

@@ -1,4 +1,4 @@
-use Rattle.std.proofs.Common.{◌≡◌, ◌++◌, ◌+◌, ◌<◌, List, length, get_or, drop, map, ap, sym, subst, ◌∙◌}
+use Rattle.std.proofs.Common.{◌≡◌, ◌++◌, ◌+◌, ◌<◌, List, length, get_or, drop, map, ap, sym, subst, ◌∙◌, refl}
 use Rattle.std.specs.Prelude.{filter}
 use Rattle.toml.specs.Data.{Data, table}
 use Rattle.toml.specs.View.{view}
@@ -37,3 +37,6 @@ loop-right-preserved c =
           (fails_first made_of passes right (drop (i + 1) rights)
           (sym c.is_in_table.ensures ∙ w.if-is_in_table.false)) c.loop-right.invariant)
     ]
+
+pub loop-right-init : goal.loop-right-init
+loop-right-init c = rw c.new-list.ensures.items refl

@@ -1,4 +1,4 @@
-use Rattle.std.proofs.Common.{ap, ◌∙◌}
+use Rattle.std.proofs.Common.{ap, ◌∙◌, refl}
 use Rattle.toml.specs.Data.{table}
 use Rattle.toml.specs.View.{view}
 use Rattle.toml.proofs.Views.{view-Table}
@@ -12,3 +12,6 @@ loop-entry-preserved g c =
     c.in_ok-push.ensures.items
     (view-Table c.in_ok-write.field-0 ∙ ap table c.in_ok-write.ensures)
     c.loop-entry.invariant
+
+pub loop-entry-init : goal.loop-entry-init
+loop-entry-init g c = rw c.new-list.ensures.items refl

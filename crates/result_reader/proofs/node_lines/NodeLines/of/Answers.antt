@@ -1,8 +1,15 @@
-use Rattle.std.proofs.Common.{◌≡◌, ◌+◌, ◌≤◌, ◌*◌, arith, ap, ◌∙◌, length, List, ℕ, [], ◌∷◌, ◌++◌, length-append}
+use Rattle.std.proofs.Common.{◌≡◌, ◌+◌, ◌≤◌, ◌*◌, arith, ap, ◌∙◌, length, List, ℕ, [], ◌∷◌, ◌++◌, length-append, refl}
 use Rattle.std.specs.Prelude.{codes}
 use Rattle.result_reader.specs.NodeLines.{member_text}
 use Rattle.result_reader.proofs.NodeTexts.{more_lines, line_short}
 use Rattle.result_reader.proofs.node_lines.NodeLines.of.Goals as goal
+
+pub loop-node-init : goal.loop-node-init
+loop-node-init c = record {
+  lines = λ node span at. let none = rw c.new-spans.ensures.items at at in cc;
+  count = rw c.new-spans.ensures.items refl;
+  short = omega (arith, ap length c.new-text.ensures.items);
+}
 
 pub loop-node-preserved : goal.loop-node-preserved
 loop-node-preserved c =
