@@ -13,13 +13,13 @@ use water_edge::{MemoryShelf, MemorySink};
 
 /// The bytes of the files BASIN, BASIN2, SERIES, RESULT and SCRIPT, how many bytes a part of a file has at most, where
 /// 0 counts as 1, and the numbers of the calls of the shelf, of out and of err that fail.
-#[derive(Drop)]
-pub struct Set {
-    pub basin: Vec<u8>,
-    pub second: Vec<u8>,
-    pub series: Vec<u8>,
-    pub result: Vec<u8>,
-    pub script: Vec<u8>,
+#[derive(Clone, Copy, Drop)]
+pub struct Set<'a> {
+    pub basin: &'a [u8],
+    pub second: &'a [u8],
+    pub series: &'a [u8],
+    pub result: &'a [u8],
+    pub script: &'a [u8],
     pub part: usize,
     pub shelf_fails: u64,
     pub out_fails: u64,
@@ -30,48 +30,77 @@ pub struct Set {
 pub const NEVER: u64 = 1_000_000;
 
 /// Files whose calls all succeed. A part has all the bytes that there are.
-pub fn files(alloc: Global, basin: &str, series: &str) -> Result<Set, Fail> {
-    Ok(Set {
-        basin: Vec::from_slice(alloc, basin.as_bytes())?,
-        second: Vec::new(alloc),
-        series: Vec::from_slice(alloc, series.as_bytes())?,
-        result: Vec::new(alloc),
-        script: Vec::new(alloc),
+pub fn files<'a>(basin: &'a str, series: &'a str) -> Set<'a> {
+    Set {
+        basin: basin.as_bytes(),
+        second: b"",
+        series: series.as_bytes(),
+        result: b"",
+        script: b"",
         part: usize::MAX,
         shelf_fails: NEVER,
         out_fails: NEVER,
         err_fails: NEVER,
-    })
+    }
 }
 
-/// The words, and a shelf that holds the files.
-fn set_up(
-    alloc: Global,
-    words: &[&str],
-    set: Set,
-) -> Result<(Vec<String>, MemoryShelf), AllocError> {
+/// A file of this name.
+fn named(alloc: Global, name: &str, bytes: &[u8]) -> Result<(String, Vec<u8>), AllocError> {
+    let name = String::from_str(alloc, name)?;
+    Ok((name, Vec::from_slice(alloc, bytes)?))
+}
+
+/// The words, each by itself.
+fn list_of(alloc: Global, words: &[&str]) -> Result<Vec<String>, AllocError> {
     let mut list = Vec::new(alloc);
     for word in words {
         list.push(String::from_str(alloc, word)?)?;
     }
+    Ok(list)
+}
+
+/// The files of a set.
+fn held_of(alloc: Global, set: &Set) -> Result<Vec<(String, Vec<u8>)>, AllocError> {
     let mut held = Vec::new(alloc);
-    held.push((String::from_str(alloc, "BASIN")?, set.basin))?;
-    held.push((String::from_str(alloc, "BASIN2")?, set.second))?;
-    held.push((String::from_str(alloc, "SERIES")?, set.series))?;
-    held.push((String::from_str(alloc, "RESULT")?, set.result))?;
-    held.push((String::from_str(alloc, "SCRIPT")?, set.script))?;
+    for (name, bytes) in [
+        ("BASIN", set.basin),
+        ("BASIN2", set.second),
+        ("SERIES", set.series),
+        ("RESULT", set.result),
+        ("SCRIPT", set.script),
+    ] {
+        held.push(named(alloc, name, bytes)?)?;
+    }
+    Ok(held)
+}
+
+/// A shelf that holds the files.
+fn shelf_of(alloc: Global, set: &Set) -> Result<MemoryShelf, AllocError> {
     let failing = vec![in alloc; set.shelf_fails; 1]?;
-    let shelf = MemoryShelf::new(held, failing).in_pieces(set.part.max(1));
-    Ok((list, shelf))
+    let held = held_of(alloc, set)?;
+    Ok(MemoryShelf::new(held, failing).in_pieces(set.part.max(1)))
+}
+
+/// A sink of which one call fails.
+fn sink_of(alloc: Global, room: usize, fails: u64) -> Result<MemorySink, AllocError> {
+    MemorySink::new(alloc, room, vec![in alloc; fails; 1]?)
+}
+
+/// Out and err.
+fn sinks_of(alloc: Global, set: &Set) -> Result<(MemorySink, MemorySink), AllocError> {
+    let out = sink_of(alloc, 131_072, set.out_fails)?;
+    Ok((out, sink_of(alloc, 4096, set.err_fails)?))
 }
 
 fn call_over<P: Ledger, M: Ledger>(
     alloc: Global,
     pushes: Blank,
     months: Blank,
-    words: &[&str],
-    set: Set,
-) -> Result<(Status, MemorySink, MemorySink), AllocError>
+    words: &[String],
+    shelf: &mut MemoryShelf,
+    out: &mut MemorySink,
+    err: &mut MemorySink,
+) -> Status
     requires pushes_name { pushes.name ≡ P.name }
     requires pushes_parts { pushes.parts ≡ P.parts }
     requires pushes_some { 0 < P.parts }
@@ -80,22 +109,34 @@ fn call_over<P: Ledger, M: Ledger>(
     requires months_some { 0 < M.parts }
 {
     let mut work = Work::<P, M>::new(pushes, months);
-    let mut out = MemorySink::new(alloc, 131_072, vec![in alloc; set.out_fails; 1]?)?;
-    let mut err = MemorySink::new(alloc, 4096, vec![in alloc; set.err_fails; 1]?)?;
-    let (words, mut shelf) = set_up(alloc, words, set)?;
-    let status = basin_main(alloc, &words, &mut shelf, &mut out, &mut err, &mut work);
-    Ok((status, out, err))
+    basin_main(alloc, words, shelf, out, err, &mut work)
+}
+
+/// Calls the program over these sinks, and gives its status.
+fn status_of(
+    alloc: Global,
+    words: &[&str],
+    set: &Set,
+    out: &mut MemorySink,
+    err: &mut MemorySink,
+) -> Result<Status, AllocError> {
+    let list = list_of(alloc, words)?;
+    let mut shelf = shelf_of(alloc, set)?;
+    let pushes = Blank::new(1);
+    let months = Blank::new(1);
+    let status = call_over::<Brand, Brand>(alloc, pushes, months, &list, &mut shelf, out, err);
+    Ok(status)
 }
 
 /// Calls the program, and gives its status, and what stands on out and err.
 pub fn call(
     alloc: Global,
     words: &[&str],
-    set: Set,
+    set: &Set,
 ) -> Result<(Status, MemorySink, MemorySink), AllocError> {
-    let pushes = Blank::new(1);
-    let months = Blank::new(1);
-    call_over::<Brand, Brand>(alloc, pushes, months, words, set)
+    let (mut out, mut err) = sinks_of(alloc, set)?;
+    let status = status_of(alloc, words, set, &mut out, &mut err)?;
+    Ok((status, out, err))
 }
 
 /// Fails where a text is another than is wanted, and prints it.
@@ -107,22 +148,52 @@ fn same(stream: &str, text: &[u8], want: &str) -> Result<(), Fail> {
     Err(Fail::new(format_args!("on {stream} stands {text:?}, and not {want:?}")))
 }
 
-/// Calls the program, and fails where its status, or what stands on out and err, is another than is wanted.
-pub fn expect(
-    alloc: Global,
+/// Fails where a status, or what stands on out and err, is another than is wanted of a call of these words.
+fn compare(
     words: &[&str],
-    set: Set,
+    status: Status,
+    out: &[u8],
+    err: &[u8],
     want: (Status, &str, &str),
 ) -> Result<(), Fail> {
-    let (status, out, err) = call(alloc, words, set)?;
     if status != want.0 {
         return Err(Fail::new(format_args!(
             "the status of {words:?} is {status:?}, and not {:?}",
             want.0
         )));
     }
-    same("out", out.bytes(), want.1)?;
-    same("err", err.bytes(), want.2)
+    same("out", out, want.1)?;
+    same("err", err, want.2)
+}
+
+/// Calls the program, and fails where its status, or what stands on out and err, is another than is wanted.
+pub fn expect(
+    alloc: Global,
+    words: &[&str],
+    set: &Set,
+    want: (Status, &str, &str),
+) -> Result<(), Fail> {
+    let (status, out, err) = call(alloc, words, set)?;
+    compare(words, status, out.bytes(), err.bytes(), want)
+}
+
+/// The text on out of a call that is done. Fails where it isn't, or err has anything.
+fn text_in(
+    alloc: Global,
+    words: &[&str],
+    status: Status,
+    out: &[u8],
+    err: &[u8],
+) -> Result<String, Fail> {
+    compare(words, status, b"", err, (Status::Done, "", ""))?;
+    let text = std::str::from_utf8(out)?;
+    Ok(String::from_str(alloc, text)?)
+}
+
+/// Calls the program, and gives the text on out. Fails where the call isn't done, or err has anything.
+pub fn text_of(alloc: Global, words: &[&str], set: &Set) -> Result<String, Fail> {
+    let (status, out, err) = call(alloc, words, set)?;
+    text_in(alloc, words, status, out.bytes(), err.bytes())
 }
 
 /// A text with other words instead of some that stand in it.

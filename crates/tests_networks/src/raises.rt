@@ -2,7 +2,7 @@
 ghost use Rattle.std.specs.Prelude.{◌≡◌, ◌<◌};
 
 use crate::networks::{
-    CASES, Case, Turn, begin, compare_flows, hold, hold_all, leads_outside, lend, open,
+    Case, Turn, begin, cases, compare_flows, hold, hold_all, leads_outside, lend, open,
 };
 use augment::{raise, reached};
 use circulation::CirculationMut;
@@ -53,7 +53,23 @@ fn compare_reached<R: Abort>(rt: &R, circ: &CirculationMut<'_>, case: &Case) {
     }
 }
 
-/// Plays a case and compares what it leaves.
+/// Plays a case from its start, and compares what it leaves.
+fn play_from_start<L: Ledger, R: Abort>(
+    rt: &R,
+    alloc: Global,
+    circ: &mut CirculationMut<'_>,
+    case: &Case,
+    searches: &mut Steps<L>,
+) -> Result<(), AllocError> {
+    begin(rt, alloc, circ, case)?;
+    hold_all(rt, circ, case);
+    play_all(rt, circ, case, searches);
+    compare_reached(rt, circ, case);
+    compare_flows(rt, circ, case);
+    Ok(())
+}
+
+/// Opens a case and plays it.
 fn run<L: Ledger, R: Abort>(
     rt: &R,
     alloc: Global,
@@ -67,13 +83,10 @@ fn run<L: Ledger, R: Abort>(
     let mut laid = open(rt, alloc, case)?;
     let place = laid.circ.place;
     let mut circ = lend(&laid.circ, laid.region.words_mut(place));
-    begin(rt, alloc, &mut circ, case)?;
-    hold_all(rt, &mut circ, case);
     let mut searches: Steps<L> = Steps::new(blank);
-    play_all(rt, &mut circ, case, &mut searches);
-    compare_reached(rt, &circ, case);
-    compare_flows(rt, &circ, case);
-    Ok(())
+    let played = play_from_start(rt, alloc, &mut circ, case, &mut searches);
+    drop(laid);
+    played
 }
 
 /// Plays one case under a ledger of its own.
@@ -83,7 +96,7 @@ fn run_alone<R: Abort>(rt: &R, alloc: Global, case: &Case) -> Result<(), AllocEr
 
 #[test]
 fn raises_as_worked_out(rt: HostRuntime) -> Result<(), AllocError> {
-    for case in &CASES {
+    for case in cases() {
         run_alone(&rt, rt.alloc(), case)?;
     }
     Ok(())

@@ -1,9 +1,10 @@
 //! The worked networks, raised along the residual tree.
-ghost use Rattle.std.specs.Prelude.{◌≡◌, ◌<◌};
+ghost use Rattle.std.specs.Prelude.{◌≡◌, ◌<◌, length};
 ghost use Rattle.residual_tree.specs.Tree.{IsResidualTree};
+ghost use Rattle.residual_tree.specs.TreeWords.{tree_words};
 
 use crate::networks::{
-    CASES, Case, Turn, begin, compare_flows, hold_all, leads_outside, lend, open,
+    Case, Turn, begin, cases, compare_flows, hold_all, leads_outside, lend, open,
 };
 use augment::Raised;
 use circulation::CirculationMut;
@@ -131,7 +132,43 @@ fn compare_unlabeled<R: Abort>(
     }
 }
 
-/// Plays a case and compares what it leaves. Answers how many raises pushed.
+/// Plays a case that is begun along a tree in these words, and compares what it leaves. Answers how many raises pushed.
+fn play_over<L: Ledger, R: Abort>(
+    rt: &R,
+    circ: &mut CirculationMut<'_>,
+    words: &mut [u64],
+    case: &Case,
+    max_pushes: u32,
+    searches: &mut Steps<L>,
+) -> u32
+    requires { length words.old ≡ tree_words circ.old.nodes }
+{
+    // Months are planted in the order of the network; without an order all steps are looked at.
+    let mut tree = ResidualTree::plant(circ, &[], words);
+    let raises = play_all(rt, circ, &mut tree, case, max_pushes, searches);
+    compare_unlabeled(rt, circ, &tree, case);
+    compare_flows(rt, circ, case);
+    raises
+}
+
+/// Plays a case from its start. Answers how many raises pushed.
+fn play_from_start<L: Ledger, R: Abort>(
+    rt: &R,
+    alloc: Global,
+    circ: &mut CirculationMut<'_>,
+    case: &Case,
+    max_pushes: u32,
+    searches: &mut Steps<L>,
+) -> Result<u32, AllocError> {
+    begin(rt, alloc, circ, case)?;
+    hold_all(rt, circ, case);
+    let mut words = vec![in alloc; 0; tree_words(circ.nodes())]?;
+    let raises = play_over(rt, circ, &mut words, case, max_pushes, searches);
+    drop(words);
+    Ok(raises)
+}
+
+/// Opens a case and plays it. Answers how many raises pushed.
 fn run<L: Ledger, R: Abort>(
     rt: &R,
     alloc: Global,
@@ -146,17 +183,10 @@ fn run<L: Ledger, R: Abort>(
     let mut laid = open(rt, alloc, case)?;
     let place = laid.circ.place;
     let mut circ = lend(&laid.circ, laid.region.words_mut(place));
-    begin(rt, alloc, &mut circ, case)?;
-    hold_all(rt, &mut circ, case);
-    let nodes = circ.nodes();
-    let mut words = vec![in alloc; 0; tree_words(nodes)]?;
-    // Months are planted in the order of the network; without an order all steps are looked at.
-    let mut tree = ResidualTree::plant(&circ, &[], &mut words);
     let mut searches: Steps<L> = Steps::new(blank);
-    let raises = play_all(rt, &mut circ, &mut tree, case, max_pushes, &mut searches);
-    compare_unlabeled(rt, &circ, &tree, case);
-    compare_flows(rt, &circ, case);
-    Ok(raises)
+    let raises = play_from_start(rt, alloc, &mut circ, case, max_pushes, &mut searches);
+    drop(laid);
+    raises
 }
 
 /// Plays one case under a ledger of its own.
@@ -172,7 +202,7 @@ fn run_alone<R: Abort>(
 /// Plays all cases by raises of at most `max_pushes` pushes each. Answers how many raises pushed.
 fn run_all<R: Abort>(rt: &R, alloc: Global, max_pushes: u32) -> Result<u32, AllocError> {
     let mut raises: u32 = 0;
-    for case in &CASES {
+    for case in cases() {
         raises = raises.saturating_add(run_alone(rt, alloc, case, max_pushes)?);
     }
     Ok(raises)

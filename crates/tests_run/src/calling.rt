@@ -1,7 +1,7 @@
 //! Who must stand back, beside who is called.
 use std::alloc::Global;
 use std::test::Fail;
-use test_support::{call, files};
+use test_support::{files, text_of};
 
 /// The old right has its water from the spring, and the new one what the creek brings below it. Of a unit at the spring
 /// the young right has to stand back; at the ford it is the new one's.
@@ -78,14 +78,6 @@ diversion = [
 ]
 "#;
 
-/// The text that a command writes of a basin without gauges.
-fn text_of(alloc: Global, command: &str, basin: &str) -> Result<String, Fail> {
-    let set = files(alloc, basin, "")?;
-    let (_status, out, _err) = call(alloc, &[command, "BASIN", "-"], set)?;
-    let text = std::str::from_utf8(out.bytes()).unwrap_or("no text");
-    Ok(String::from_str(alloc, text)?)
-}
-
 /// The lines of a month of a text, from after its first line to before its `end`.
 fn month_of<'a>(text: &'a str, month: &str) -> Result<&'a str, Fail> {
     let (_before, from) = text.split_once(month).ok_or("no such month")?;
@@ -93,18 +85,34 @@ fn month_of<'a>(text: &'a str, month: &str) -> Result<&'a str, Fail> {
     Ok(lines)
 }
 
-/// Fails where a right that the lines of a list say is curtailed has no `called` line among those of a result.
-fn expect_called(alloc: Global, listed: &str, written: &str) -> Result<(), Fail> {
-    for line in listed.lines() {
+/// Fails where a right has no `called` line among those of a result.
+fn expect_called(alloc: Global, right: &str, written: &str) -> Result<(), Fail> {
+    let called = format!(in alloc; "\ncalled {right} ")?;
+    if written.contains(called.as_str()) {
+        return Ok(());
+    }
+    Err(Fail::new(format_args!("{right} is curtailed and not called")))
+}
+
+/// Fails where a right that the list of a month's calls says is curtailed has no `called` line in the month's result.
+fn expect_all_called(alloc: Global, month: &str, list: &str, text: &str) -> Result<(), Fail> {
+    let written = month_of(text, month)?;
+    for line in month_of(list, month)?.lines() {
         if let Some(names) = line.strip_prefix("curtailed ") {
             let (right, _senior) = names.split_once(" ").ok_or("one name")?;
-            let called = format!(in alloc; "\ncalled {right} ")?;
-            if !written.contains(called.as_str()) {
-                return Err(Fail::new(format_args!("{right} is curtailed and not called")));
-            }
+            expect_called(alloc, right, written)?;
         }
     }
     Ok(())
+}
+
+/// Lists the calls of a basin without gauges and runs it, and fails where somebody is curtailed in a month and not
+/// called.
+fn expect_calls(alloc: Global, basin: &str, month: &str) -> Result<(), Fail> {
+    let set = files(basin, "");
+    let list = text_of(alloc, &["calls", "BASIN", "-"], &set)?;
+    let result = text_of(alloc, &["run", "BASIN", "-"], &set)?;
+    expect_all_called(alloc, month, list.as_str(), result.as_str())
 }
 
 /// Basins and months in which rights are curtailed.
@@ -120,10 +128,7 @@ const CURTAILED: [(&str, &str); 5] = [
 #[test]
 fn curtails_only_who_is_called(rt: HostRuntime) -> Result<(), Fail> {
     for (basin, month) in CURTAILED {
-        let list = text_of(rt.alloc(), "calls", basin)?;
-        let result = text_of(rt.alloc(), "run", basin)?;
-        let listed = month_of(list.as_str(), month)?;
-        expect_called(rt.alloc(), listed, month_of(result.as_str(), month)?)?;
+        expect_calls(rt.alloc(), basin, month)?;
     }
     Ok(())
 }

@@ -1,19 +1,11 @@
 //! Comparisons of two basins, beside the texts of both runs.
 use crate::basins::{ORDINARY, ORDINARY_SERIES};
 use basin_cli::Status;
-use std::alloc::Global;
+use std::alloc::{AllocError, Global};
 use std::test::Fail;
-use test_support::{Set, call, expect, files, with};
-use water_edge::MemorySink;
+use test_support::{Set, expect, files, text_of, with};
 
-/// Files of two basins and a series, whose calls all succeed.
-fn set_of(alloc: Global, first: &str, second: &str, series: &str) -> Result<Set, Fail> {
-    let mut set = files(alloc, first, series)?;
-    set.second = Vec::from_slice(alloc, second.as_bytes())?;
-    Ok(set)
-}
-
-const GAUGES: [&str; 4] = ["compare", "BASIN", "BASIN2", "SERIES"];
+const WORDS: [&str; 4] = ["compare", "BASIN", "BASIN2", "SERIES"];
 
 /// Changes of the ordinary basin: what stands in it, and what replaces that.
 const CHANGES: [(&str, &str); 14] = [
@@ -71,14 +63,6 @@ const CHANGES: [(&str, &str); 14] = [
     ("[10000, 500]", "[10000, 100]"),
 ];
 
-/// The text of a run.
-fn text_of_run(alloc: Global, basin: &str) -> Result<MemorySink, Fail> {
-    let set = files(alloc, basin, ORDINARY_SERIES)?;
-    let words = ["run", "BASIN", "SERIES"];
-    let (_, out, _) = call(alloc, &words, set)?;
-    Ok(out)
-}
-
 /// The right and the amount of a line of a delivery.
 fn delivery_in(line: &str) -> Option<(&str, u64)> {
     let (right, amounts) = line.strip_prefix("deliver ")?.split_once(" ")?;
@@ -103,49 +87,111 @@ fn delivered(text: &str, month: &str, right: &str) -> Option<u64> {
     None
 }
 
-/// The comparison of two runs, line by line from their texts: the second's amount is looked up for each delivery of the
-/// first.
-fn comparison(alloc: Global, first: &str, second: &str) -> Result<(bool, String), Fail> {
-    let mut lines = String::new(alloc);
-    let mut month = String::new(alloc);
-    let (mut pairs, mut months, mut injured) = (0u64, 0u64, 0u64);
+/// What is counted of two runs.
+#[derive(Drop)]
+struct Counts {
+    months: u64,
+    pairs: u64,
+    injured: u64,
+}
+
+/// Counts a delivery of the first run and what the right is delivered in the second, and adds the line of its injury.
+fn compare_delivery(
+    month: &str,
+    right: &str,
+    amounts: (u64, u64),
+    counts: &mut Counts,
+    lines: &mut String,
+) -> Result<(), AllocError> {
+    counts.pairs = counts.pairs.saturating_add(1);
+    let (amount, other) = amounts;
+    if amount <= other {
+        return Ok(());
+    }
+    counts.injured = counts.injured.saturating_add(1);
+    write!(lines, "injured {month} {right} {amount} {other}\n")
+}
+
+/// Compares two runs line by line from their texts: the second's amount is looked up for each delivery of the first.
+fn compare_lines(
+    first: &str,
+    second: &str,
+    counts: &mut Counts,
+    lines: &mut String,
+) -> Result<(), AllocError> {
+    let mut month = "";
     for line in first.lines() {
         if let Some(named) = line.strip_prefix("month ") {
-            month = String::from_str(alloc, named)?;
-            months = months.saturating_add(1);
+            month = named;
+            counts.months = counts.months.saturating_add(1);
         }
-        let Some((right, amount)) = delivery_in(line) else {
-            continue;
-        };
-        let Some(other) = delivered(second, month.as_str(), right) else {
-            continue;
-        };
-        pairs = pairs.saturating_add(1);
-        if other < amount {
-            injured = injured.saturating_add(1);
-            let row = format!(in alloc; "injured {month} {right} {amount} {other}\n")?;
-            lines.push_str(row.as_str())?;
+        if let Some((right, amount)) = delivery_in(line) {
+            if let Some(other) = delivered(second, month, right) {
+                compare_delivery(month, right, (amount, other), counts, lines)?;
+            }
         }
     }
-    let common = pairs.checked_div(months).ok_or("no month")?;
-    let row = format!(in alloc; "compared {common} {injured}\n")?;
-    lines.push_str(row.as_str())?;
-    Ok((0 < injured, lines))
+    Ok(())
+}
+
+/// Adds the last line of the comparison.
+fn add_total(counts: &Counts, lines: &mut String) -> Result<(), Fail> {
+    let common = counts.pairs.checked_div(counts.months).ok_or("no month")?;
+    Ok(write!(lines, "compared {common} {}\n", counts.injured)?)
+}
+
+/// Adds the comparison of two runs, and answers whether somebody is injured.
+fn add_comparison(first: &str, second: &str, lines: &mut String) -> Result<bool, Fail> {
+    let mut counts = Counts {
+        months: 0,
+        pairs: 0,
+        injured: 0,
+    };
+    compare_lines(first, second, &mut counts, lines)?;
+    add_total(&counts, lines)?;
+    Ok(0 < counts.injured)
+}
+
+/// Compares the ordinary basin with a changed one, and fails where the list is another than that of the texts of both
+/// runs.
+fn expect_list(alloc: Global, first: &str, changed: &str, second: &str) -> Result<(), Fail> {
+    let mut want = String::new(alloc);
+    let injured = add_comparison(first, second, &mut want)?;
+    let status = if injured { Status::No } else { Status::Done };
+    let set = Set {
+        second: changed.as_bytes(),
+        ..files(ORDINARY, ORDINARY_SERIES)
+    };
+    expect(alloc, &WORDS, &set, (status, want.as_str(), ""))
+}
+
+/// The text of a run with the ordinary series.
+fn text_of_run(alloc: Global, basin: &str) -> Result<String, Fail> {
+    text_of(
+        alloc,
+        &["run", "BASIN", "SERIES"],
+        &files(basin, ORDINARY_SERIES),
+    )
+}
+
+/// Runs a changed basin, and compares with it.
+fn expect_change(alloc: Global, first: &str, change: (&str, &str)) -> Result<(), Fail> {
+    let changed = with(alloc, ORDINARY, change.0, change.1)?;
+    let second = text_of_run(alloc, changed.as_str())?;
+    expect_list(alloc, first, changed.as_str(), second.as_str())
+}
+
+/// Compares with each changed basin.
+fn expect_changes(alloc: Global, first: &str) -> Result<(), Fail> {
+    for change in CHANGES {
+        expect_change(alloc, first, change)?;
+    }
+    Ok(())
 }
 
 /// Each change's list of injuries is that of the texts of both runs.
 #[test]
 fn lists_what_both_runs_say(rt: HostRuntime) -> Result<(), Fail> {
-    let before = text_of_run(rt.alloc(), ORDINARY)?;
-    let first = std::str::from_utf8(before.bytes()).expect(&rt, "a text");
-    for (old, new) in CHANGES {
-        let changed = with(rt.alloc(), ORDINARY, old, new)?;
-        let after = text_of_run(rt.alloc(), changed.as_str())?;
-        let second = std::str::from_utf8(after.bytes()).expect(&rt, "a text");
-        let (injured, want) = comparison(rt.alloc(), first, second)?;
-        let status = if injured { Status::No } else { Status::Done };
-        let set = set_of(rt.alloc(), ORDINARY, changed.as_str(), ORDINARY_SERIES)?;
-        expect(rt.alloc(), &GAUGES, set, (status, want.as_str(), ""))?;
-    }
-    Ok(())
+    let first = text_of_run(rt.alloc(), ORDINARY)?;
+    expect_changes(rt.alloc(), first.as_str())
 }

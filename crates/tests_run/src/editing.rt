@@ -1,19 +1,9 @@
 //! Scripts of changes to a series. What they show is compared with runs of the changed series.
 use crate::basins::ORDINARY;
-use std::alloc::Global;
+use std::alloc::{AllocError, Global};
 use std::process::Abort;
 use std::test::Fail;
-use test_support::{Set, call, files, with};
-use water_edge::MemorySink;
-
-const WORDS: [&str; 4] = ["edit", "BASIN", "SERIES", "SCRIPT"];
-
-/// Files with a script, whose calls all succeed.
-fn with_script(alloc: Global, basin: &str, series: &str, script: &str) -> Result<Set, Fail> {
-    let mut set = files(alloc, basin, series)?;
-    set.script = Vec::from_slice(alloc, script.as_bytes())?;
-    Ok(set)
-}
+use test_support::{Set, files, text_of, with};
 
 /// What a line of a script does in the month of this index: it shows it, or makes this the amount of its gauge.
 type Step = (usize, Option<u64>);
@@ -42,39 +32,33 @@ const SCRIPTS: [&[Step]; 9] = [
     ],
 ];
 
-/// The name of the month of an index.
-fn month_of(alloc: Global, index: usize) -> Result<String, Fail> {
+/// What stands before the digits of the month of an index, and its number.
+fn month_at(index: usize) -> (&'static str, usize) {
     let month = index.saturating_add(7);
-    let zero = if month < 10 { "0" } else { "" };
-    Ok(format!(in alloc; "1960-{zero}{month}")?)
+    (if month < 10 { "1960-0" } else { "1960-" }, month)
 }
 
 /// The amounts as a series.
-fn series_of(alloc: Global, amounts: &[u64]) -> Result<String, Fail> {
-    let mut text = String::from_str(alloc, "month,node,amount\n")?;
-    let mut index = 0usize;
-    for amount in amounts {
-        let month = month_of(alloc, index)?;
-        let line = format!(in alloc; "{month},upper,{amount}\n")?;
-        text.push_str(line.as_str())?;
-        index = index.saturating_add(1);
+fn add_series(amounts: &[u64], text: &mut String) -> Result<(), AllocError> {
+    text.push_str("month,node,amount\n")?;
+    for (index, amount) in amounts.iter().enumerate() {
+        let (year, month) = month_at(index);
+        write!(text, "{year}{month},upper,{amount}\n")?;
     }
-    Ok(text)
+    Ok(())
 }
 
 /// The script of some steps.
-fn script_of(alloc: Global, steps: &[Step]) -> Result<String, Fail> {
-    let mut text = String::from_str(alloc, "river-edit 1\n")?;
+fn add_script(steps: &[Step], text: &mut String) -> Result<(), AllocError> {
+    text.push_str("river-edit 1\n")?;
     for (index, amount) in steps {
-        let month = month_of(alloc, *index)?;
-        let line = match amount {
-            Some(amount) => format!(in alloc; "inflow {month} upper {amount}\n")?,
-            None => format!(in alloc; "show {month}\n")?,
-        };
-        text.push_str(line.as_str())?;
+        let (year, month) = month_at(*index);
+        match amount {
+            Some(amount) => write!(text, "inflow {year}{month} upper {amount}\n")?,
+            None => write!(text, "show {year}{month}\n")?,
+        }
     }
-    text.push_str("done\n")?;
-    Ok(text)
+    text.push_str("done\n")
 }
 
 /// Adds the lines of a text from that of a month to its end, or all of them where no month is asked for, but for flows
@@ -96,74 +80,118 @@ fn add_lines(into: &mut String, text: &str, month: Option<&str>) -> Result<(), F
     Ok(())
 }
 
-/// The text of a run.
-fn text_of_run(alloc: Global, basin: &str, series: &str) -> Result<MemorySink, Fail> {
-    let set = files(alloc, basin, series)?;
-    let words = ["run", "BASIN", "SERIES"];
-    let (_, out, _) = call(alloc, &words, set)?;
-    Ok(out)
+/// The text of a run of these amounts.
+fn text_of_run(alloc: Global, basin: &str, amounts: &[u64]) -> Result<String, Fail> {
+    let mut series = String::new(alloc);
+    add_series(amounts, &mut series)?;
+    text_of(
+        alloc,
+        &["run", "BASIN", "SERIES"],
+        &files(basin, series.as_str()),
+    )
 }
 
 /// The text of what a script shows.
-fn text_of_edit(alloc: Global, basin: &str, script: &str) -> Result<MemorySink, Fail> {
-    let series = series_of(alloc, &START)?;
-    let set = with_script(alloc, basin, series.as_str(), script)?;
-    let (_, out, _) = call(alloc, &WORDS, set)?;
-    Ok(out)
+fn text_of_edit(alloc: Global, basin: &str, steps: &[Step]) -> Result<String, Fail> {
+    let mut series = String::new(alloc);
+    add_series(&START, &mut series)?;
+    let mut script = String::new(alloc);
+    add_script(steps, &mut script)?;
+    let set = Set {
+        script: script.as_bytes(),
+        ..files(basin, series.as_str())
+    };
+    text_of(alloc, &["edit", "BASIN", "SERIES", "SCRIPT"], &set)
 }
 
-/// What fresh runs say that the steps show.
-fn shown_by_runs<R: AllocGlobal>(rt: &R, basin: &str, steps: &[Step]) -> Result<String, Fail> {
-    let mut amounts = Vec::from_slice(rt.alloc(), &START)?;
-    let mut lines = String::new(rt.alloc());
+/// Adds what a fresh run of these amounts says from the month of this index on.
+fn add_run(
+    alloc: Global,
+    basin: &str,
+    amounts: &[u64],
+    index: usize,
+    lines: &mut String,
+) -> Result<(), Fail> {
+    let text = text_of_run(alloc, basin, amounts)?;
+    let (year, month) = month_at(index);
+    let month = format!(in alloc; "{year}{month}")?;
+    add_lines(lines, text.as_str(), Some(month.as_str()))
+}
+
+/// Adds what fresh runs say that the steps show.
+fn add_runs(
+    alloc: Global,
+    basin: &str,
+    steps: &[Step],
+    amounts: &mut [u64],
+    lines: &mut String,
+) -> Result<(), Fail> {
     for (index, amount) in steps {
         match amount {
             Some(amount) => {
                 let place = amounts.get_mut(*index).ok_or("no such month")?;
                 *place = *amount;
             }
-            None => {
-                let series = series_of(rt.alloc(), amounts.as_slice())?;
-                let run = text_of_run(rt.alloc(), basin, series.as_str())?;
-                let text = std::str::from_utf8(run.bytes()).ok().ok_or("no text")?;
-                let month = month_of(rt.alloc(), *index)?;
-                add_lines(&mut lines, text, Some(month.as_str()))?;
-            }
+            None => add_run(alloc, basin, amounts, *index, lines)?,
         }
     }
-    Ok(lines)
+    Ok(())
 }
 
-/// The months that the steps show are those of fresh runs, but for flows and outflows.
-fn expect_runs<R: Abort + AllocGlobal>(rt: &R, basin: &str, steps: &[Step]) -> Result<(), Fail> {
-    let script = script_of(rt.alloc(), steps)?;
-    let out = text_of_edit(rt.alloc(), basin, script.as_str())?;
-    let text = std::str::from_utf8(out.bytes()).ok().ok_or("no text")?;
+/// Fails where the months that a text shows are others than those of fresh runs, but for flows and outflows.
+fn expect_shown<R: Abort + AllocGlobal>(
+    rt: &R,
+    basin: &str,
+    steps: &[Step],
+    text: &str,
+) -> Result<(), Fail> {
     let mut shown = String::new(rt.alloc());
     add_lines(&mut shown, text, None)?;
-    let want = shown_by_runs(rt, basin, steps)?;
+    let mut want = String::new(rt.alloc());
+    let mut amounts = START;
+    add_runs(rt.alloc(), basin, steps, &mut amounts, &mut want)?;
     assert_eq!(rt; shown.as_str(), want.as_str());
+    Ok(())
+}
+
+/// Fails where the last line of a text has another number than that of the months that the steps show.
+fn expect_done<R: Abort + AllocGlobal>(rt: &R, steps: &[Step], text: &str) -> Result<(), Fail> {
     let shows = steps.iter().filter(|step| step.1.is_none()).count();
     let done = format!(in rt.alloc(); "done {shows}\n")?;
     assert!(rt; text.ends_with(done.as_str()));
     Ok(())
 }
 
-/// The lake carries over from month to month, and a quarter of the farm's water comes back a month later.
-#[test]
-fn agrees_with_runs_of_the_changed_series(rt: HostRuntime) -> Result<(), Fail> {
-    let basin = with(rt.alloc(), ORDINARY, "months = 2", "months = 6")?;
+/// The months that the steps show are those of fresh runs, but for flows and outflows.
+fn expect_runs<R: Abort + AllocGlobal>(rt: &R, basin: &str, steps: &[Step]) -> Result<(), Fail> {
+    let text = text_of_edit(rt.alloc(), basin, steps)?;
+    expect_shown(rt, basin, steps, text.as_str())?;
+    expect_done(rt, steps, text.as_str())
+}
+
+/// The ordinary basin over six months.
+fn basin_of(alloc: Global) -> Result<String, Fail> {
+    with(alloc, ORDINARY, "months = 2", "months = 6")
+}
+
+/// Each script shows the months of fresh runs.
+fn expect_scripts<R: Abort + AllocGlobal>(rt: &R, basin: &str) -> Result<(), Fail> {
     for steps in SCRIPTS {
-        expect_runs(&rt, basin.as_str(), steps)?;
+        expect_runs(rt, basin, steps)?;
     }
     Ok(())
 }
 
-/// Every seventh of a thousand lines shows a month.
+/// The lake carries over from month to month, and a quarter of the farm's water comes back a month later.
 #[test]
-fn answers_a_thousand_lines(rt: HostRuntime) -> Result<(), Fail> {
-    let basin = with(rt.alloc(), ORDINARY, "months = 2", "months = 6")?;
-    let mut steps = Vec::new(rt.alloc());
+fn agrees_with_runs_of_the_changed_series(rt: HostRuntime) -> Result<(), Fail> {
+    let basin = basin_of(rt.alloc())?;
+    expect_scripts(&rt, basin.as_str())
+}
+
+/// A thousand steps, of which every seventh shows a month.
+fn thousand_steps(alloc: Global) -> Result<Vec<Step>, AllocError> {
+    let mut steps = Vec::new(alloc);
     for line in 0..1000u64 {
         let amount = if line % 7 == 0 {
             None
@@ -172,5 +200,13 @@ fn answers_a_thousand_lines(rt: HostRuntime) -> Result<(), Fail> {
         };
         steps.push(((line % 6) as usize, amount))?;
     }
+    Ok(steps)
+}
+
+/// Every seventh of a thousand lines shows a month.
+#[test]
+fn answers_a_thousand_lines(rt: HostRuntime) -> Result<(), Fail> {
+    let basin = basin_of(rt.alloc())?;
+    let steps = thousand_steps(rt.alloc())?;
     expect_runs(&rt, basin.as_str(), steps.as_slice())
 }

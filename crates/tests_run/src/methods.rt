@@ -7,7 +7,7 @@
 //! needs 40 pushes, and has a budget of 30: the water of the last ten springs runs down the rivers to the mouth, and
 //! searches turn it to the user. With a second right, which wants nothing, there are 60 pushes.
 use basin_cli::Status;
-use std::alloc::Global;
+use std::alloc::{AllocError, Global};
 use std::test::Fail;
 use test_support::{expect, files};
 
@@ -44,106 +44,94 @@ const USER: &str =
 const LATE: &str =
     "[[diversion]]\nname = \"late\"\nnode = \"field\"\ndate = \"1950-01-01\"\nwant = 0\n";
 
-/// The rivers from the fork to the field, with the nodes between them.
-fn add_rivers(alloc: Global, text: &mut String) -> Result<(), Fail> {
+/// Adds the rivers from the fork to the field, with the nodes between them.
+fn add_rivers(text: &mut String) -> Result<(), AllocError> {
     for bend in 0..BENDS {
-        let node = format!(in alloc; "[[node]]\nname = \"b{bend}\"\n")?;
-        text.push_str(node.as_str())?;
+        write!(text, "[[node]]\nname = \"b{bend}\"\n")?;
     }
     text.push_str("[[link]]\nname = \"first\"\nfrom = \"fork\"\nto = \"b0\"\n")?;
     for bend in 1..BENDS {
         let above = bend - 1;
-        let link = format!(in alloc;
+        write!(
+            text,
             "[[link]]\nname = \"w{bend}\"\nfrom = \"b{above}\"\nto = \"b{bend}\"\n"
         )?;
-        text.push_str(link.as_str())?;
     }
-    text.push_str("[[link]]\nname = \"last\"\nfrom = \"b63\"\nto = \"field\"\n")?;
-    Ok(())
+    text.push_str("[[link]]\nname = \"last\"\nfrom = \"b63\"\nto = \"field\"\n")
 }
 
-/// The basin, with the second right or without.
-fn basin(alloc: Global, late: bool) -> Result<String, Fail> {
-    let mut text = String::from_str(alloc, "format = 1\nfirst_month = \"1900-01\"\nmonths = 1\n")?;
+/// Adds the basin, with the first right and what follows it.
+fn add_basin(late: &str, text: &mut String) -> Result<(), AllocError> {
+    text.push_str("format = 1\nfirst_month = \"1900-01\"\nmonths = 1\n")?;
     for spring in 0..SPRINGS {
-        let node = format!(in alloc; "[[node]]\nname = \"s{spring}\"\ninflow = 1\n")?;
-        text.push_str(node.as_str())?;
+        write!(text, "[[node]]\nname = \"s{spring}\"\ninflow = 1\n")?;
     }
     text.push_str(VALLEY)?;
-    add_rivers(alloc, &mut text)?;
+    add_rivers(text)?;
     for spring in 0..SPRINGS {
-        let link = format!(in alloc;
+        write!(
+            text,
             "[[link]]\nname = \"r{spring}\"\nfrom = \"s{spring}\"\nto = \"fork\"\n"
         )?;
-        text.push_str(link.as_str())?;
     }
     text.push_str(USER)?;
-    if late {
-        text.push_str(LATE)?;
-    }
-    Ok(text)
+    text.push_str(late)
 }
 
-/// The lines of flows, with this much in the canal and on the rivers.
-fn add_flows(alloc: Global, canal: u64, river: u64, text: &mut String) -> Result<(), Fail> {
-    let canal = format!(in alloc; "flow canal {canal}\nflow end 0\nflow first {river}\n")?;
-    text.push_str(canal.as_str())?;
+/// Adds the lines of flows, with this much in the canal and on the rivers.
+fn add_flows(canal: u64, river: u64, text: &mut String) -> Result<(), AllocError> {
+    write!(text, "flow canal {canal}\nflow end 0\nflow first {river}\n")?;
     for bend in 1..BENDS {
-        let flow = format!(in alloc; "flow w{bend} {river}\n")?;
-        text.push_str(flow.as_str())?;
+        write!(text, "flow w{bend} {river}\n")?;
     }
-    let last = format!(in alloc; "flow last {river}\n")?;
-    text.push_str(last.as_str())?;
+    write!(text, "flow last {river}\n")?;
     for spring in 0..SPRINGS {
-        let flow = format!(in alloc; "flow r{spring} 1\n")?;
-        text.push_str(flow.as_str())?;
+        write!(text, "flow r{spring} 1\n")?;
     }
     Ok(())
 }
 
-/// The result, with these flows of the canal and the rivers, and with the deliveries of juniors. The user gets all 40,
-/// and every node is in its reach: no water can be had from anywhere.
-fn result(alloc: Global, canal: u64, river: u64, juniors: &str) -> Result<String, Fail> {
-    let mut text = String::from_str(alloc, "river-result 1\nrun 1900-01 1\nmonth 1900-01\n")?;
-    add_flows(alloc, canal, river, &mut text)?;
-    text.push_str("deliver user 40 50\n")?;
-    text.push_str(juniors)?;
-    text.push_str("out mouth 0\ncall user\n")?;
+/// Adds the lines of the user's set. Every node is in it: no water can be had from anywhere.
+fn add_members(text: &mut String) -> Result<(), AllocError> {
     for spring in 0..SPRINGS {
-        let member = format!(in alloc; "in s{spring}\n")?;
-        text.push_str(member.as_str())?;
+        write!(text, "in s{spring}\n")?;
     }
     text.push_str("in fork\nin field\nin mouth\n")?;
     for bend in 0..BENDS {
-        let member = format!(in alloc; "in b{bend}\n")?;
-        text.push_str(member.as_str())?;
+        write!(text, "in b{bend}\n")?;
     }
-    text.push_str("end\ndone 1\n")?;
-    Ok(text)
+    Ok(())
+}
+
+/// Adds the result, with these flows of the canal and the rivers, and with the deliveries of juniors. The user gets all
+/// 40.
+fn add_result(flows: (u64, u64), juniors: &str, text: &mut String) -> Result<(), AllocError> {
+    text.push_str("river-result 1\nrun 1900-01 1\nmonth 1900-01\n")?;
+    add_flows(flows.0, flows.1, text)?;
+    write!(
+        text,
+        "deliver user 40 50\n{juniors}out mouth 0\ncall user\n"
+    )?;
+    add_members(text)?;
+    text.push_str("end\ndone 1\n")
+}
+
+/// Runs the basin with these rights, and fails where the result is another than that of these flows and deliveries.
+fn expect_result(alloc: Global, late: &str, flows: (u64, u64), juniors: &str) -> Result<(), Fail> {
+    let mut basin = String::new(alloc);
+    add_basin(late, &mut basin)?;
+    let mut want = String::new(alloc);
+    add_result(flows, juniors, &mut want)?;
+    let want = (Status::Done, want.as_str(), "");
+    expect(alloc, &["run", "BASIN"], &files(basin.as_str(), ""), want)
 }
 
 #[test]
 fn solves_by_searches_where_the_budget_gives_out(rt: HostRuntime) -> Result<(), Fail> {
-    let basin = basin(rt.alloc(), false)?;
-    let want = result(rt.alloc(), 30, 10, "")?;
-    let set = files(rt.alloc(), basin.as_str(), "")?;
-    expect(
-        rt.alloc(),
-        &["run", "BASIN"],
-        set,
-        (Status::Done, want.as_str(), ""),
-    )
+    expect_result(rt.alloc(), "", (30, 10), "")
 }
 
 #[test]
 fn solves_by_the_tree_within_the_budget(rt: HostRuntime) -> Result<(), Fail> {
-    let basin = basin(rt.alloc(), true)?;
-    let want = result(rt.alloc(), 40, 0, "deliver late 0 0\n")?;
-    let set = files(rt.alloc(), basin.as_str(), "")?;
-    expect(
-        rt.alloc(),
-        &["run", "BASIN"],
-        set,
-        (Status::Done, want.as_str(), ""),
-    )
+    expect_result(rt.alloc(), LATE, (40, 0), "deliver late 0 0\n")
 }

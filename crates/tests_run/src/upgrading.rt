@@ -2,32 +2,44 @@
 use crate::basins::{JUNIOR_SHORT, LAKE, ORDINARY, ORDINARY_SERIES, ORDINARY_TEXT};
 use basin_cli::Status;
 use std::alloc::Global;
+use std::process::Abort;
 use std::test::Fail;
-use test_support::{call, expect, files};
-
-const WORDS: [&str; 2] = ["upgrade", "BASIN"];
+use test_support::{expect, files, text_of};
 
 /// What `upgrade` writes of a basin.
 fn upgraded(alloc: Global, basin: &str) -> Result<String, Fail> {
-    let set = files(alloc, basin, "")?;
-    let (status, out, err) = call(alloc, &WORDS, set)?;
-    if status != Status::Done || !err.bytes().is_empty() {
-        return Err(Fail::new(format_args!("the status is {status:?}")));
-    }
-    let text = std::str::from_utf8(out.bytes())?;
-    Ok(String::from_str(alloc, text)?)
+    text_of(alloc, &["upgrade", "BASIN"], &files(basin, ""))
+}
+
+/// Fails where a run of a basin writes another text.
+fn expect_text(alloc: Global, basin: &str, series: &str, text: &str) -> Result<(), Fail> {
+    let want = (Status::Done, text, "");
+    expect(
+        alloc,
+        &["run", "BASIN", "SERIES"],
+        &files(basin, series),
+        want,
+    )
+}
+
+/// Compares what a run of an upgraded basin writes.
+fn expect_upgraded(alloc: Global, basin: &str, series: &str, text: &str) -> Result<(), Fail> {
+    let twice = upgraded(alloc, basin)?;
+    expect_text(alloc, twice.as_str(), series, text)
+}
+
+/// Compares what runs of a basin and of an upgraded basin write, and that of the basin upgraded once more.
+fn expect_runs(alloc: Global, basins: (&str, &str), series: &str, text: &str) -> Result<(), Fail> {
+    let (basin, once) = basins;
+    expect_text(alloc, basin, series, text)?;
+    expect_text(alloc, once, series, text)?;
+    expect_upgraded(alloc, once, series, text)
 }
 
 /// Compares what a run of an upgraded basin writes, and that of the basin upgraded once more.
 fn expect_run(alloc: Global, basin: &str, series: &str, text: &str) -> Result<(), Fail> {
     let once = upgraded(alloc, basin)?;
-    let twice = upgraded(alloc, once.as_str())?;
-    for spelled in [basin, once.as_str(), twice.as_str()] {
-        let words = ["run", "BASIN", "SERIES"];
-        let set = files(alloc, spelled, series)?;
-        expect(alloc, &words, set, (Status::Done, text, ""))?;
-    }
-    Ok(())
+    expect_runs(alloc, (basin, once.as_str()), series, text)
 }
 
 const NO_SERIES: &str = "month,node,amount\n";
@@ -150,27 +162,33 @@ const EVERY_SERIES: &str = "\
     1900-02,want,trout,0\n\
     1900-03,want,trout,7\n";
 
+/// What is looked for in the upgraded file.
+const KEYS: [&str; 9] = [
+    "format = 2\n",
+    "year_start = 3\n",
+    "closed = [1, 3]\n",
+    "volume = 30\n",
+    "want = \"series\"\n",
+    "inflow = \"gauged\"\n",
+    "date = \"0098-01-02\"\n",
+    "rate = [1, 2, 3, 0, 0, 0, 0, 0, 0, 0, 0, 4]\n",
+    "area = [[0, 0], [100, 100]]\n",
+];
+
+/// Stops where a key is missing in an upgraded file.
+fn expect_keys<R: Abort>(rt: &R, file: &str) {
+    for key in KEYS {
+        assert!(rt; file.contains(key), "{key} in {file}");
+    }
+}
+
 /// Each key and its value come through: a run of what is written writes what a run of the file does.
 #[test]
 fn keeps_every_key(rt: HostRuntime) -> Result<(), Fail> {
-    let set = files(rt.alloc(), EVERY_KEY, EVERY_SERIES)?;
-    let (status, out, _err) = call(rt.alloc(), &["run", "BASIN", "SERIES"], set)?;
-    assert_eq!(rt; status, Status::Done);
-    let text = std::str::from_utf8(out.bytes())?;
-    expect_run(rt.alloc(), EVERY_KEY, EVERY_SERIES, text)?;
+    let set = files(EVERY_KEY, EVERY_SERIES);
+    let text = text_of(rt.alloc(), &["run", "BASIN", "SERIES"], &set)?;
+    expect_run(rt.alloc(), EVERY_KEY, EVERY_SERIES, text.as_str())?;
     let once = upgraded(rt.alloc(), EVERY_KEY)?;
-    for key in [
-        "format = 2\n",
-        "year_start = 3\n",
-        "closed = [1, 3]\n",
-        "volume = 30\n",
-        "want = \"series\"\n",
-        "inflow = \"gauged\"\n",
-        "date = \"0098-01-02\"\n",
-        "rate = [1, 2, 3, 0, 0, 0, 0, 0, 0, 0, 0, 4]\n",
-        "area = [[0, 0], [100, 100]]\n",
-    ] {
-        assert!(rt; once.as_str().contains(key), "{key} in {once}");
-    }
+    expect_keys(&rt, once.as_str());
     Ok(())
 }

@@ -1,4 +1,4 @@
-use Rattle.test_support.proofs.call.Given as goal
+use Rattle.test_support.proofs.status_of.Given as goal
 
 abbrev pub ghosts-call_over-P-Ledger : goal.ghosts-call_over-P-Ledger
 ghosts-call_over-P-Ledger a = record { name = a.pushes.name; parts = a.pushes.parts }
