@@ -326,4 +326,5 @@ module _ (tree : Members) where
         stands_at_outlet t tree (row_of (keyed fields)) ≡ false → IsClean tree (filled t number fields)
     clean_fields t number fields format keys nodes canal late many same outlets =
         clean_by tree (filled t number fields) (fits_keys fields (keys_of t) format keys.0 keys.2)
-        (let known = ap (λ f. has_unknown f t (row_of (keyed fields))) format ∙ known_names t fields keys.1 in assumption)
+        (let known = ap (λ f. has_unknown f t (row_of (keyed fields))) format
+        ∙ known_names t fields keys.1 in assumption)

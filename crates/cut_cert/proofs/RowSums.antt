@@ -186,8 +186,8 @@ chain_smaller node_of count nodes node chains f sum at next are so is =
     fewer_left (λ s. is_at (node_of s) node) count at next so.at.1
     (chain_goes_on node_of count nodes node chains f sum at next are so is)
 
--- how far the sum of a node's terms has come: for each way to say to which nodes the indices belong and what their terms
--- are, and, as no term is more than 10^15, for one way with that term
+-- how far the sum of a node's terms has come: for each way to say to which nodes the indices belong and what their
+-- terms are, and, as no term is more than 10^15, for one way with that term
 pub record IsRowSum (chains : Chains) (node : ℕ) (is_term : ℕ → ℕ → Type 0) (sum : ℕ) (next : Option ℕ) : Type 0 where
   pub node_of : ℕ → Option ℕ
   pub all : BelongBy node_of chains

@@ -53,8 +53,8 @@ pub struct NodeRows {
     pub priorities: Vec<Priority>,
 }
 
-/// The indices below a count in chains, each in that of the node to which it belongs, if to any. They are put in from the
-/// last one back, so each finds the one after it.
+/// The indices below a count in chains, each in that of the node to which it belongs, if to any. They are put in from
+/// the last one back, so each finds the one after it.
 pub fn chains_by<F: Fn(usize) -> Option<u32>>(
     alloc: Global,
     nodes: usize,

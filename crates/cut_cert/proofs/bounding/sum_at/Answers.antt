@@ -46,6 +46,7 @@ returns g c =
     let so = rw c.in_default.is at c.loop-next.invariant in
     record {
       sum = λ node_of count nodes f all terms.
-          sum_all (λ s. is_at (node_of s) c.args.node) count f c.loop-next.sum (so.sums node_of count nodes f all terms);
+          sum_all (λ s. is_at (node_of s) c.args.node) count f c.loop-next.sum
+          (so.sums node_of count nodes f all terms);
       most = row_all c.args.rows.now c.args.node (goal.F-post g c.args.term) c.loop-next.sum so c.requires.few;
     }

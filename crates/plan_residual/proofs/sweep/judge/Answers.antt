@@ -47,7 +47,8 @@ has_reach-requires-clause-reached c = rw c.right_at-right.ensures.value c.rise.e
 pub returns-clause-yes : goal.returns-clause-yes
 returns-clause-yes c =
     judged_yes c.args.scene.now.basin c.args.scene.now.month c.right_at-right.result _ c.has_reach.result
-    c.right_at-right.ensures.value (rw c.if-not-falls_short.false at c.falls_short.ensures.yes) c.has_reach.ensures.reach
+    c.right_at-right.ensures.value (rw c.if-not-falls_short.false at c.falls_short.ensures.yes)
+    c.has_reach.ensures.reach
 
 pub returns-clause-no : goal.returns-clause-no
 returns-clause-no c =
@@ -62,6 +63,7 @@ returns-clause-last c = (
   omega arith,
   c.requires.position,
   short_right c.args.scene.now.basin c.args.scene.now.month c.right_at-right.result _ c.falls_short.result
-      c.right_at-right.ensures.value c.right_at-right.ensures.within c.falls_short.ensures.yes c.if-not-falls_short.false,
+      c.right_at-right.ensures.value c.right_at-right.ensures.within c.falls_short.ensures.yes
+      c.if-not-falls_short.false,
   rw (← c.right_at-right.ensures.value) c.has_reach.ensures.reached,
 )

@@ -19,7 +19,8 @@ loop-at-preserved c =
     let within : at < length rounds = omega (arith, c.loop-at-test.true, c.len-at-end.ensures, count) in
     let sent : IsSent view.basin view.kept c.loop-at.flow flow =
     subst (λ (v : RoundsView). IsSent v.basin v.kept c.loop-at.flow flow) before.same c.send_over.ensures.sent in
-    let here : IsDown (get_or rounds at []) → IsRelieved view.kept flow (get_or rounds at []) ⊎ HasFullRiver view.basin flow =
+    let here : IsDown (get_or rounds at []) →
+    IsRelieved view.kept flow (get_or rounds at []) ⊎ HasFullRiver view.basin flow =
     subst (λ (v : RoundsView). IsDown (get_or v.rounds at []) →
     IsRelieved v.kept flow (get_or v.rounds at []) ⊎ HasFullRiver v.basin flow) before.same
     c.send_over.ensures.relieved in
