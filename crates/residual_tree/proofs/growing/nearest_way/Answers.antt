@@ -33,21 +33,25 @@ end_at-end-requires c = scan_inside c.args.circ.now c.args.node _ c.requires.kep
     (omega (arith, c.requires.node)) (omega (arith, c.loop-place-test.true, c.row_last-place-end.ensures.place))
 
 pub is_way_back-requires-clause-arc : goal.is_way_back-requires-clause-arc
-is_way_back-requires-clause-arc c = (row_step c.args.node c.requires.kept (omega (arith, c.requires.node)) c.row_first-place.ensures.place
+is_way_back-requires-clause-arc c =
+    (row_step c.args.node c.requires.kept (omega (arith, c.requires.node)) c.row_first-place.ensures.place
     c.row_last-place-end.ensures.place c.loop-place.auto.place c.loop-place-test.true c.step_at-step.ensures
     c.end_at-end.ensures).arc
 
 pub is_way_back-requires-clause-node : goal.is_way_back-requires-clause-node
-is_way_back-requires-clause-node c = (row_step c.args.node c.requires.kept (omega (arith, c.requires.node)) c.row_first-place.ensures.place
+is_way_back-requires-clause-node c =
+    (row_step c.args.node c.requires.kept (omega (arith, c.requires.node)) c.row_first-place.ensures.place
     c.row_last-place-end.ensures.place c.loop-place.auto.place c.loop-place-test.true c.step_at-step.ensures
     c.end_at-end.ensures).end
 
 pub is_way_back-requires-clause-inside : goal.is_way_back-requires-clause-inside
-is_way_back-requires-clause-inside c = (row_step c.args.node c.requires.kept (omega (arith, c.requires.node)) c.row_first-place.ensures.place
+is_way_back-requires-clause-inside c =
+    (row_step c.args.node c.requires.kept (omega (arith, c.requires.node)) c.row_first-place.ensures.place
     c.row_last-place-end.ensures.place c.loop-place.auto.place c.loop-place-test.true c.step_at-step.ensures
     c.end_at-end.ensures).inside
 
 pub opposite-word-requires-clause-arc : goal.opposite-word-requires-clause-arc
-opposite-word-requires-clause-arc c = (row_step c.args.node c.requires.kept (omega (arith, c.requires.node)) c.row_first-place.ensures.place
+opposite-word-requires-clause-arc c =
+    (row_step c.args.node c.requires.kept (omega (arith, c.requires.node)) c.row_first-place.ensures.place
     c.row_last-place-end.ensures.place c.loop-place.auto.place c.loop-place-test.true c.step_at-step.ensures
     c.end_at-end.ensures).arc

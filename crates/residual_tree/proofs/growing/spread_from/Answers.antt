@@ -96,17 +96,20 @@ end_at-requires g c = scan_inside _ _ _ c.requires.1.1
     (omega (arith, c.loop-place-test.true, c.row_last-place-end.ensures.place))
 
 pub label_end-count-requires-clause-arc : goal.label_end-count-requires-clause-arc
-label_end-count-requires-clause-arc g c = (row_step _ c.requires.1.1 (inside _ _ _ _ _ _ _ c.loop-place.invariant.state) c.row_first-place.ensures.place
+label_end-count-requires-clause-arc g c =
+    (row_step _ c.requires.1.1 (inside _ _ _ _ _ _ _ c.loop-place.invariant.state) c.row_first-place.ensures.place
     c.row_last-place-end.ensures.place c.loop-place.auto.place c.loop-place-test.true c.step_at-step.ensures
     c.end_at.ensures).arc
 
 pub label_end-count-requires-clause-start : goal.label_end-count-requires-clause-start
-label_end-count-requires-clause-start g c = (row_step _ c.requires.1.1 (inside _ _ _ _ _ _ _ c.loop-place.invariant.state) c.row_first-place.ensures.place
+label_end-count-requires-clause-start g c =
+    (row_step _ c.requires.1.1 (inside _ _ _ _ _ _ _ c.loop-place.invariant.state) c.row_first-place.ensures.place
     c.row_last-place-end.ensures.place c.loop-place.auto.place c.loop-place-test.true c.step_at-step.ensures
     c.end_at.ensures).start
 
 pub label_end-count-requires-clause-node : goal.label_end-count-requires-clause-node
-label_end-count-requires-clause-node g c = (row_step _ c.requires.1.1 (inside _ _ _ _ _ _ _ c.loop-place.invariant.state) c.row_first-place.ensures.place
+label_end-count-requires-clause-node g c =
+    (row_step _ c.requires.1.1 (inside _ _ _ _ _ _ _ c.loop-place.invariant.state) c.row_first-place.ensures.place
     c.row_last-place-end.ensures.place c.loop-place.auto.place c.loop-place-test.true c.step_at-step.ensures
     c.end_at.ensures).end
 

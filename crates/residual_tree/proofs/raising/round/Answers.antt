@@ -75,7 +75,8 @@ pub returns-then-walk-eq0-clause-kept : goal.returns-then-walk-eq0-clause-kept
 returns-then-walk-eq0-clause-kept g c = c.trace-walk.ensures.kept
 
 pub returns-then-walk-eq0-clause-rest : goal.returns-then-walk-eq0-clause-rest
-returns-then-walk-eq0-clause-rest g c = subst (λ (x : Contents). IsRaisedOver c.args.circ.now x c.args.arc) (sym c.trace-walk.ensures.traced.rest)
+returns-then-walk-eq0-clause-rest g c =
+    subst (λ (x : Contents). IsRaisedOver c.args.circ.now x c.args.arc) (sym c.trace-walk.ensures.traced.rest)
     (record { rest = refl; lowers = λ a ne. refl })
 
 pub returns-then-walk-eq0-clause-held : goal.returns-then-walk-eq0-clause-held
