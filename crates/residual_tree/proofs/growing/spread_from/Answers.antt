@@ -1,7 +1,7 @@
-use Rattle.std.proofs.Common.{List, ℕ, ◌≤◌, arith}
+use Rattle.std.proofs.Common.{List, ℕ, ◌≤◌, arith, refl}
 use Rattle.circulation.specs.Contents.{Contents, network}
 use Rattle.circulation.specs.Residual.{end_of}
-use Rattle.circulation.proofs.Scans.{scan_next, scan_end}
+use Rattle.circulation.proofs.Scans.{scan_start, scan_inside, scan_next, scan_end}
 use Rattle.residual_tree.proofs.Opposites.{row_step}
 use Rattle.residual_tree.proofs.Grows.{IsSpreading, IsTried, queue_short, growing_room, inner_end, spreading_next}
 use Rattle.residual_tree.proofs.Grows.{spreading_end}
@@ -66,3 +66,52 @@ label_end-count-requires-clause-kept g c = c.row_first-place.ensures.kept
 
 pub returns-clause-more : goal.returns-clause-more
 returns-clause-more g c = c.loop-place.invariant.more
+
+pub row_first-place-requires : goal.row_first-place-requires
+row_first-place-requires g c = let below = (c.requires.1.0.marked c.args.done c.requires.0).0 in omega (arith, below)
+
+pub row_last-place-end-requires : goal.row_last-place-end-requires
+row_last-place-end-requires g c = let below = (c.requires.1.0.marked c.args.done c.requires.0).0 in omega (arith, below)
+
+pub loop-place-init : goal.loop-place-init
+loop-place-init g c = record {
+  state = record {
+    state = c.requires.1.0;
+    occurs = refl;
+    order = c.requires.0;
+    labeled = (c.requires.1.0.marked c.args.done c.requires.0).1;
+  };
+  more = λ v m. m;
+  scan = scan_start _ _ _ _ c.row_first-place.ensures.place;
+}
+
+pub step_at-step-requires : goal.step_at-step-requires
+step_at-step-requires g c = scan_inside _ _ _ c.requires.1.1
+    (inside _ _ _ _ _ _ _ c.loop-place.invariant.state)
+    (omega (arith, c.loop-place-test.true, c.row_last-place-end.ensures.place))
+
+pub end_at-requires : goal.end_at-requires
+end_at-requires g c = scan_inside _ _ _ c.requires.1.1
+    (inside _ _ _ _ _ _ _ c.loop-place.invariant.state)
+    (omega (arith, c.loop-place-test.true, c.row_last-place-end.ensures.place))
+
+pub label_end-count-requires-clause-arc : goal.label_end-count-requires-clause-arc
+label_end-count-requires-clause-arc g c =
+    (row_step _ c.requires.1.1 (inside _ _ _ _ _ _ _ c.loop-place.invariant.state) c.row_first-place.ensures.place
+    c.row_last-place-end.ensures.place c.loop-place.auto.place c.loop-place-test.true c.step_at-step.ensures
+    c.end_at.ensures).arc
+
+pub label_end-count-requires-clause-start : goal.label_end-count-requires-clause-start
+label_end-count-requires-clause-start g c =
+    (row_step _ c.requires.1.1 (inside _ _ _ _ _ _ _ c.loop-place.invariant.state) c.row_first-place.ensures.place
+    c.row_last-place-end.ensures.place c.loop-place.auto.place c.loop-place-test.true c.step_at-step.ensures
+    c.end_at.ensures).start
+
+pub label_end-count-requires-clause-node : goal.label_end-count-requires-clause-node
+label_end-count-requires-clause-node g c =
+    (row_step _ c.requires.1.1 (inside _ _ _ _ _ _ _ c.loop-place.invariant.state) c.row_first-place.ensures.place
+    c.row_last-place-end.ensures.place c.loop-place.auto.place c.loop-place-test.true c.step_at-step.ensures
+    c.end_at.ensures).end
+
+pub label_end-count-requires-clause-words : goal.label_end-count-requires-clause-words
+label_end-count-requires-clause-words g c = c.loop-place.invariant.state.state.tree.words

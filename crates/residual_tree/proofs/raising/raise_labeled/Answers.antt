@@ -1,5 +1,5 @@
-use Rattle.std.proofs.Common.{◌≢◌, slice_index, arith, ap, refl, subst, sym, ◌∙◌, inl, inr}
-use Rattle.circulation.specs.Contents.{Contents, flow_of}
+use Rattle.std.proofs.Common.{◌≢◌, ◌<◌, slice_index, arith, ap, refl, subst, sym, ◌∙◌, inl, inr}
+use Rattle.circulation.specs.Contents.{Contents, arcs, flow_of}
 use Rattle.residual_tree.specs.Raised.{IsExit, IsFull}
 use Rattle.residual_tree.specs.Tree.{label_of}
 use Rattle.residual_tree.proofs.Grows.{artificial_some}
@@ -135,3 +135,17 @@ round-requires-clause-held g c = c.loop-pushes.invariant.held
 
 pub round-requires-clause-kept : goal.round-requires-clause-kept
 round-requires-clause-kept g c = c.loop-pushes.invariant.kept
+
+pub round-requires-clause-positive : goal.round-requires-clause-positive
+round-requires-clause-positive g c =
+    omega (arith, c.if-flow-want.false, c.flow-flow.ensures.amount, c.loop-pushes.invariant.limit)
+
+pub round-requires-clause-most : goal.round-requires-clause-most
+round-requires-clause-most g c =
+    let upper = ap (λ (x : Contents). slice_index x.upper c.args.arc) c.loop-pushes.invariant.rest.rest in
+    omega (arith, upper, c.requires.want, c.flow-flow.ensures.amount, c.loop-pushes.invariant.limit)
+
+pub round-requires-clause-artificial_arc : goal.round-requires-clause-artificial_arc
+round-requires-clause-artificial_arc g c =
+    let inside : c.args.arc < arcs c.loop-pushes.circ = rw c.loop-pushes.invariant.rest.rest c.requires.arc in
+    omega (arith, c.from-artificial.ensures, inside)

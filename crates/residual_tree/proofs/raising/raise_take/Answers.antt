@@ -1,5 +1,5 @@
-use Rattle.std.proofs.Common.{ℕ, ◌≡◌, length, slice_index, arith, ap, refl, subst, sym, ◌∙◌}
-use Rattle.circulation.specs.Contents.{Contents}
+use Rattle.std.proofs.Common.{ℕ, ◌≡◌, ◌<◌, length, slice_index, arith, ap, refl, subst, sym, ◌∙◌}
+use Rattle.circulation.specs.Contents.{Contents, arcs}
 use Rattle.residual_tree.specs.Tree.{label_of, IsLabeled}
 use Rattle.residual_tree.proofs.UnlabeledCut.{unlabeled_cut}
 use Rattle.residual_tree.proofs.Grows.{artificial_some}
@@ -199,3 +199,16 @@ round-pushed-requires-clause-held g c = c.loop-pushes.invariant.held
 
 pub round-pushed-requires-clause-kept : goal.round-pushed-requires-clause-kept
 round-pushed-requires-clause-kept g c = c.loop-pushes.invariant.kept
+
+pub round-pushed-requires-clause-positive : goal.round-pushed-requires-clause-positive
+round-pushed-requires-clause-positive g c = omega (arith, c.loop-pushes.invariant.less)
+
+pub round-pushed-requires-clause-most : goal.round-pushed-requires-clause-most
+round-pushed-requires-clause-most g c =
+    let upper = ap (λ (x : Contents). slice_index x.upper c.args.arc) c.loop-pushes.invariant.rest.rest in
+    omega (arith, upper, c.requires.want, c.loop-pushes.invariant.got, c.loop-pushes.invariant.less)
+
+pub round-pushed-requires-clause-artificial_arc : goal.round-pushed-requires-clause-artificial_arc
+round-pushed-requires-clause-artificial_arc g c =
+    let inside : c.args.arc < arcs c.loop-pushes.circ = rw c.loop-pushes.invariant.rest.rest c.requires.arc in
+    omega (arith, c.from-artificial.ensures, inside)

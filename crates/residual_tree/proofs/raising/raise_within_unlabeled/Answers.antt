@@ -265,3 +265,17 @@ round-requires-clause-kept g c = c.loop-pushes.invariant.kept
 
 pub flow-requires : goal.flow-requires
 flow-requires g c = rw c.loop-pushes.invariant.rest.rest c.requires.arc
+
+pub round-requires-clause-positive : goal.round-requires-clause-positive
+round-requires-clause-positive g c =
+    omega (arith, c.if-flow-want.false, c.flow-flow.ensures.amount, c.loop-pushes.invariant.limit)
+
+pub round-requires-clause-most : goal.round-requires-clause-most
+round-requires-clause-most g c =
+    let upper = ap (λ (x : Contents). slice_index x.upper c.args.arc) c.loop-pushes.invariant.rest.rest in
+    omega (arith, upper, c.requires.want, c.flow-flow.ensures.amount, c.loop-pushes.invariant.limit)
+
+pub round-requires-clause-artificial_arc : goal.round-requires-clause-artificial_arc
+round-requires-clause-artificial_arc g c =
+    let inside : c.args.exit < arcs c.loop-pushes.circ = rw c.loop-pushes.invariant.rest.rest c.requires.exit in
+    omega (arith, c.from.ensures, inside)
