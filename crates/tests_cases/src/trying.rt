@@ -4,7 +4,7 @@ use crate::case::{Case, Compared};
 use crate::fault::Fault;
 use crate::marked::find;
 use basin_cli::Status;
-use std::alloc::Global;
+use std::alloc::{AllocError, Global};
 use test_support::{Set, call};
 
 /// What one call is given beside its words and files, and what is wanted of it.
@@ -18,18 +18,18 @@ struct Trial<'a> {
 }
 
 /// The files of a case, with the calls that fail.
-fn set_of(alloc: Global, case: &Case, trial: &Trial) -> Result<Set, Fault> {
-    Ok(Set {
-        basin: Vec::from_slice(alloc, case.basin.as_slice())?,
-        second: Vec::from_slice(alloc, case.second.as_slice())?,
-        series: Vec::from_slice(alloc, case.series.as_slice())?,
-        result: Vec::from_slice(alloc, case.result.as_slice())?,
-        script: Vec::from_slice(alloc, case.script.as_slice())?,
+fn set_of<'a>(case: &'a Case, trial: &Trial) -> Set<'a> {
+    Set {
+        basin: case.basin.as_slice(),
+        second: case.second.as_slice(),
+        series: case.series.as_slice(),
+        result: case.result.as_slice(),
+        script: case.script.as_slice(),
         part: trial.part,
         shelf_fails: case.shelf_fails,
         out_fails: trial.out_fails,
         err_fails: case.err_fails,
-    })
+    }
 }
 
 /// The lines of a text that begin with a word.
@@ -41,6 +41,26 @@ fn picked(alloc: Global, text: &[u8], word: &str) -> Result<Vec<u8>, Fault> {
         }
     }
     Ok(lines)
+}
+
+/// Tells of a line that differs from the one that is wanted, or stands after the end of what is wanted.
+fn difference_in_line(
+    alloc: Global,
+    stream: &str,
+    number: u64,
+    line: &[u8],
+    want: Option<&[u8]>,
+) -> Result<String, AllocError> {
+    let line = std::str::from_utf8(line).unwrap_or("no text");
+    match want {
+        Some(other) => {
+            let other = std::str::from_utf8(other).unwrap_or("no text");
+            format!(in alloc; "line {number} on {stream} is {line:?}, and not {other:?}")
+        }
+        None => format!(in alloc;
+            "line {number} on {stream} is {line:?}, after the end of what is wanted"
+        ),
+    }
 }
 
 /// Tells the first line in which two texts differ. None where they are the same.
@@ -61,16 +81,7 @@ fn first_difference(
         if other == Some(line) {
             continue;
         }
-        let line = std::str::from_utf8(line).unwrap_or("no text");
-        let told = match other {
-            Some(other) => {
-                let other = std::str::from_utf8(other).unwrap_or("no text");
-                format!(in alloc; "line {number} on {stream} is {line:?}, and not {other:?}")?
-            }
-            None => format!(in alloc;
-                "line {number} on {stream} is {line:?}, after the end of what is wanted"
-            )?,
-        };
+        let told = difference_in_line(alloc, stream, number, line, other)?;
         return Ok(Some(told));
     }
     let told = format!(in alloc; "on {stream} the lines after line {number} are missing")?;
@@ -100,23 +111,52 @@ fn difference_on_out(
     }
 }
 
-/// Calls the program once, and tells in what it ends otherwise.
-fn difference_at(alloc: Global, case: &Case, trial: &Trial) -> Result<Option<String>, Fault> {
-    let mut words = Vec::new(alloc);
-    for word in &case.words {
-        words.push(word.as_str())?;
-    }
-    let set = set_of(alloc, case, trial)?;
-    let (status, out, err) = call(alloc, &words, set)?;
+/// Tells in what a call ended otherwise.
+fn difference_after(
+    alloc: Global,
+    case: &Case,
+    trial: &Trial,
+    status: Status,
+    out: &[u8],
+    err: &[u8],
+) -> Result<Option<String>, Fault> {
     if status != trial.status {
         let told = format!(in alloc; "the status is {status:?}, and not {:?}", trial.status)?;
         return Ok(Some(told));
     }
-    let difference = difference_on_out(alloc, case, out.bytes(), trial.out)?;
-    if difference.is_some() {
-        return Ok(difference);
+    match difference_on_out(alloc, case, out, trial.out)? {
+        Some(told) => Ok(Some(told)),
+        None => first_difference(alloc, "err", err, trial.err),
     }
-    first_difference(alloc, "err", err.bytes(), trial.err)
+}
+
+/// The words of a case.
+fn words_of<'a>(alloc: Global, case: &'a Case) -> Result<Vec<&'a str>, AllocError> {
+    let mut words = Vec::new(alloc);
+    for word in &case.words {
+        words.push(word.as_str())?;
+    }
+    Ok(words)
+}
+
+/// Calls the program once with these words, and tells in what it ends otherwise.
+fn difference_of(
+    alloc: Global,
+    words: &[&str],
+    case: &Case,
+    trial: &Trial,
+) -> Result<Option<String>, Fault> {
+    let (status, out, err) = call(alloc, words, &set_of(case, trial))?;
+    let difference = difference_after(alloc, case, trial, status, out.bytes(), err.bytes());
+    drop(out);
+    drop(err);
+    difference
+}
+
+/// Calls the program once, and tells in what it ends otherwise.
+fn difference_at(alloc: Global, case: &Case, trial: &Trial) -> Result<Option<String>, Fault> {
+    let words = words_of(alloc, case)?;
+    difference_of(alloc, words.as_slice(), case, trial)
 }
 
 /// Calls the program with the put of each line of out failing, from the first to the last.

@@ -1,23 +1,86 @@
 //! Reports of generated basins against a program of its own, which tries flows right by right.
 ghost use Rattle.std.specs.Prelude.{◌≡◌, ◌<◌, ◌≤◌};
+ghost use Rattle.water_model.specs.Valid.{IsSeriesOf, IsValidBasin};
 
 use basin_gen::make;
 use month_fold::work::Work;
 use reports::{period_report, trial_report};
 use std::alloc::Global;
 use std::marker::Brand;
+use std::process::Abort;
 use std::sync::ledger::{Blank, Ledger};
 use std::test::Fail;
 use water_edge::MemorySink;
+use water_model::types::{Basin, Inflows};
 
-/// The report and the summary of a generated basin.
-fn texts_of<P: Ledger, M: Ledger>(
+/// Compares the report of a basin.
+fn compare_report<R: Abort, P: Ledger, M: Ledger>(
+    rt: &R,
+    alloc: Global,
+    basin: &Basin,
+    series: &Inflows,
+    want: &str,
+    work: &mut Work<P, M>,
+) -> Result<(), Fail>
+    requires basin { IsValidBasin basin.now }
+    requires series { IsSeriesOf basin.now series.now }
+{
+    let mut report = MemorySink::new(alloc, 4096, Vec::new(alloc))?;
+    period_report(alloc, basin, series, &mut report, work)?;
+    assert_eq!(rt;
+        report.bytes(),
+        want.as_bytes(),
+        "report of {}",
+        basin.nodes.len()
+    );
+    Ok(())
+}
+
+/// Compares the summary of the basin of a size, number 7.
+fn compare_summary<R: Abort, P: Ledger, M: Ledger>(
+    rt: &R,
+    alloc: Global,
+    size: u32,
+    basin: &Basin,
+    series: &Inflows,
+    want: &str,
+    work: &mut Work<P, M>,
+) -> Result<(), Fail>
+    requires basin { IsValidBasin basin.now }
+    requires series { IsSeriesOf basin.now series.now }
+{
+    let mut summary = MemorySink::new(alloc, 4096, Vec::new(alloc))?;
+    trial_report(alloc, 7, size, basin, series, &mut summary, work)?;
+    assert_eq!(rt; summary.bytes(), want.as_bytes(), "summary of {size}");
+    Ok(())
+}
+
+/// Compares the report and the summary of the basin of a size.
+fn compare_texts<R: Abort, P: Ledger, M: Ledger>(
+    rt: &R,
+    alloc: Global,
+    size: u32,
+    basin: &Basin,
+    series: &Inflows,
+    want: (&str, &str),
+    work: &mut Work<P, M>,
+) -> Result<(), Fail>
+    requires basin { IsValidBasin basin.now }
+    requires series { IsSeriesOf basin.now series.now }
+{
+    compare_report(rt, alloc, basin, series, want.0, work)?;
+    compare_summary(rt, alloc, size, basin, series, want.1, work)
+}
+
+/// Makes the basin of a size, number 7, and compares its texts.
+fn compare_made<R: Abort, P: Ledger, M: Ledger>(
+    rt: &R,
     alloc: Global,
     pushes: Blank,
     months: Blank,
-    number: u32,
     size: u32,
-) -> Result<(MemorySink, MemorySink), Fail>
+    want: (&str, &str),
+) -> Result<(), Fail>
     requires pushes_name { pushes.name ≡ P.name }
     requires pushes_parts { pushes.parts ≡ P.parts }
     requires pushes_some { 0 < P.parts }
@@ -27,21 +90,12 @@ fn texts_of<P: Ledger, M: Ledger>(
     requires least { 2 ≤ size }
     requires most { size ≤ 2000 }
 {
-    let (basin, series) = make(alloc, number, size)?;
+    let (basin, series) = make(alloc, 7, size)?;
     let mut work = Work::<P, M>::new(pushes, months);
-    let mut report = MemorySink::new(alloc, 4096, Vec::new(alloc))?;
-    let mut summary = MemorySink::new(alloc, 4096, Vec::new(alloc))?;
-    period_report(alloc, &basin, &series, &mut report, &mut work)?;
-    trial_report(
-        alloc,
-        number,
-        size,
-        &basin,
-        &series,
-        &mut summary,
-        &mut work,
-    )?;
-    Ok((report, summary))
+    let compared = compare_texts(rt, alloc, size, &basin, &series, want, &mut work);
+    drop(series);
+    drop(basin);
+    compared
 }
 
 /// Without rights all water flows out: five times what flows in in a year.
@@ -76,15 +130,9 @@ const BASIN: (&str, &str) = (
 #[test]
 fn reports_generated_basins(rt: HostRuntime) -> Result<(), Fail> {
     for (size, want) in [(2, RIVER), (85, BASIN)] {
-        let (report, summary) = texts_of::<Brand, Brand>(
-            rt.alloc(),
-            Blank::new(1),
-            Blank::new(1),
-            7,
-            size,
-        )?;
-        assert_eq!(rt; report.bytes(), want.0.as_bytes(), "report of {size}");
-        assert_eq!(rt; summary.bytes(), want.1.as_bytes(), "summary of {size}");
+        let pushes = Blank::new(1);
+        let months = Blank::new(1);
+        compare_made::<HostRuntime, Brand, Brand>(&rt, rt.alloc(), pushes, months, size, want)?;
     }
     Ok(())
 }
