@@ -2,7 +2,7 @@
 ghost use Rattle.std.specs.Prelude.{◌≡◌, ◌<◌, ◌≤◌, ◌^◌, ◌+◌, length, map, codes, true, All, IfOk, OnOk};
 ghost use Rattle.std.specs.Prelude.{Some, None, option_map, option_to_list, string_bytes};
 ghost use Rattle.std.specs.Str.{IsAscii};
-ghost use Rattle.toml.specs.Data.{string, array, table, Members, no_members};
+ghost use Rattle.toml.specs.Data.{string, array, table, Members};
 ghost use Rattle.toml.specs.View.{view, table_view, items_view, items_of};
 ghost use Rattle.toml_tree.specs.Document.{document_of};
 ghost use Rattle.water_text.specs.Days.{is_date};
@@ -231,37 +231,6 @@ fn put_volume(alloc: Global, row: &mut Table, volume: Option<u64>) -> Result<(),
     }
 }
 
-/// Fills the table of a right.
-fn fill_right(
-    alloc: Global,
-    row: &mut Table,
-    basin: &Basin,
-    right: &Right,
-) -> Result<(), AllocError>
-    requires empty { table_view row.old ≡ no_members }
-    requires basin { IsValidBasin basin.now }
-    requires right { IsValidRight basin.now right.now }
-    requires date { is_date right.now.date ≡ true }
-    ensures { OnOk result (table_view row.new ≡ right_row basin.now right.now) }
-{
-    put_right(alloc, row, right)?;
-    match right.kind {
-        RightKind::Diversion { node } => {
-            put_name(alloc, row, "node", node_name(basin, node))?;
-            put_volume(alloc, row, right.volume)
-        }
-        RightKind::Instream { link } => {
-            let name = basin.links[link as usize].name.bytes();
-            put_name(alloc, row, "link", name)
-        }
-        RightKind::Zone { reservoir, level } => {
-            let node = basin.reservoirs[reservoir as usize].node;
-            put_name(alloc, row, "reservoir", node_name(basin, node))?;
-            put_number(alloc, row, "level", u64::from(level))
-        }
-    }
-}
-
 /// The table of a right.
 fn right_row(alloc: Global, basin: &Basin, right: &Right) -> Result<Table, AllocError>
     requires basin { IsValidBasin basin.now }
@@ -270,13 +239,23 @@ fn right_row(alloc: Global, basin: &Basin, right: &Right) -> Result<Table, Alloc
     ensures { IfOk result (λ row. table_view row ≡ right_row basin.now right.now) }
 {
     let mut row = Table::new(alloc);
-    match fill_right(alloc, &mut row, basin, right) {
-        Ok(()) => Ok(row),
-        Err(stop) => {
-            drop(row);
-            Err(stop)
+    put_right(alloc, &mut row, right)?;
+    match right.kind {
+        RightKind::Diversion { node } => {
+            put_name(alloc, &mut row, "node", node_name(basin, node))?;
+            put_volume(alloc, &mut row, right.volume)?;
+        }
+        RightKind::Instream { link } => {
+            let name = basin.links[link as usize].name.bytes();
+            put_name(alloc, &mut row, "link", name)?;
+        }
+        RightKind::Zone { reservoir, level } => {
+            let node = basin.reservoirs[reservoir as usize].node;
+            put_name(alloc, &mut row, "reservoir", node_name(basin, node))?;
+            put_number(alloc, &mut row, "level", u64::from(level))?;
         }
     }
+    Ok(row)
 }
 
 /// Makes the table of one entry.
@@ -291,17 +270,6 @@ trait RowWriter<E> {
         ensures { IfOk result (λ made. table_view made ≡ table_of basin.now entry.now) };
 }
 
-/// Fills the table of a node.
-fn fill_node(alloc: Global, row: &mut Table, node: &Node) -> Result<(), AllocError>
-    requires empty { table_view row.old ≡ no_members }
-    requires entry { IsValidNode node.now }
-    ensures { OnOk result (table_view row.new ≡ node_row node.now) }
-{
-    put_name(alloc, row, "name", node.name.bytes())?;
-    put(alloc, row, "outlet", Value::Boolean(node.outlet))?;
-    put(alloc, row, "inflow", inflow_value(alloc, &node.inflow)?)
-}
-
 /// The table of a node.
 struct NodeWriter;
 
@@ -312,32 +280,15 @@ impl RowWriter<Node> for NodeWriter {
 
     fn write(alloc: Global, _basin: &Basin, node: &Node) -> Result<Table, AllocError> {
         let mut row = Table::new(alloc);
-        match fill_node(alloc, &mut row, node) {
-            Ok(()) => Ok(row),
-            Err(stop) => {
-                drop(row);
-                Err(stop)
-            }
-        }
-    }
-}
-
-/// Fills the table of a link.
-fn fill_link(alloc: Global, row: &mut Table, basin: &Basin, link: &Link) -> Result<(), AllocError>
-    requires empty { table_view row.old ≡ no_members }
-    requires basin { IsValidBasin basin.now }
-    requires entry { IsValidLink basin.now link.now }
-    ensures { OnOk result (table_view row.new ≡ link_row basin.now link.now) }
-{
-    put_name(alloc, row, "name", link.name.bytes())?;
-    put_name(alloc, row, "from", node_name(basin, link.from))?;
-    put_name(alloc, row, "to", node_name(basin, link.to))?;
-    match &link.carry {
-        Carry::River => Ok(()),
-        Carry::Canal { per_day, shut } => {
-            put_number(alloc, row, "per_day", *per_day)?;
-            put_list(alloc, row, "closed", months_shut(alloc, shut)?)
-        }
+        put_name(alloc, &mut row, "name", node.name.bytes())?;
+        put(alloc, &mut row, "outlet", Value::Boolean(node.outlet))?;
+        put(
+            alloc,
+            &mut row,
+            "inflow",
+            inflow_value(alloc, &node.inflow)?,
+        )?;
+        Ok(row)
     }
 }
 
@@ -351,37 +302,18 @@ impl RowWriter<Link> for LinkWriter {
 
     fn write(alloc: Global, basin: &Basin, link: &Link) -> Result<Table, AllocError> {
         let mut row = Table::new(alloc);
-        match fill_link(alloc, &mut row, basin, link) {
-            Ok(()) => Ok(row),
-            Err(stop) => {
-                drop(row);
-                Err(stop)
+        put_name(alloc, &mut row, "name", link.name.bytes())?;
+        put_name(alloc, &mut row, "from", node_name(basin, link.from))?;
+        put_name(alloc, &mut row, "to", node_name(basin, link.to))?;
+        match &link.carry {
+            Carry::River => {}
+            Carry::Canal { per_day, shut } => {
+                put_number(alloc, &mut row, "per_day", *per_day)?;
+                put_list(alloc, &mut row, "closed", months_shut(alloc, shut)?)?;
             }
         }
+        Ok(row)
     }
-}
-
-/// Fills the table of a reservoir.
-fn fill_reservoir(
-    alloc: Global,
-    row: &mut Table,
-    basin: &Basin,
-    reservoir: &Reservoir,
-) -> Result<(), AllocError>
-    requires empty { table_view row.old ≡ no_members }
-    requires basin { IsValidBasin basin.now }
-    requires entry { IsValidReservoir basin.now reservoir.now }
-    ensures { OnOk result (table_view row.new ≡ reservoir_row basin.now reservoir.now) }
-{
-    put_name(alloc, row, "node", node_name(basin, reservoir.node))?;
-    put_number(alloc, row, "opening", reservoir.opening)?;
-    put(
-        alloc,
-        row,
-        "area",
-        Value::Array(points(alloc, reservoir.area.as_slice())?),
-    )?;
-    put(alloc, row, "rate", numbers(alloc, &reservoir.rate)?)
 }
 
 /// The table of a reservoir.
@@ -394,33 +326,17 @@ impl RowWriter<Reservoir> for ReservoirWriter {
 
     fn write(alloc: Global, basin: &Basin, reservoir: &Reservoir) -> Result<Table, AllocError> {
         let mut row = Table::new(alloc);
-        match fill_reservoir(alloc, &mut row, basin, reservoir) {
-            Ok(()) => Ok(row),
-            Err(stop) => {
-                drop(row);
-                Err(stop)
-            }
-        }
+        put_name(alloc, &mut row, "node", node_name(basin, reservoir.node))?;
+        put_number(alloc, &mut row, "opening", reservoir.opening)?;
+        put(
+            alloc,
+            &mut row,
+            "area",
+            Value::Array(points(alloc, reservoir.area.as_slice())?),
+        )?;
+        put(alloc, &mut row, "rate", numbers(alloc, &reservoir.rate)?)?;
+        Ok(row)
     }
-}
-
-/// Fills the table of a return row.
-fn fill_return(
-    alloc: Global,
-    row: &mut Table,
-    basin: &Basin,
-    entry: &ReturnRow,
-) -> Result<(), AllocError>
-    requires empty { table_view row.old ≡ no_members }
-    requires basin { IsValidBasin basin.now }
-    requires entry { IsValidReturn basin.now entry.now }
-    ensures { OnOk result (table_view row.new ≡ return_row basin.now entry.now) }
-{
-    let right = basin.rights[entry.right as usize].name.bytes();
-    put_name(alloc, row, "diversion", right)?;
-    put_name(alloc, row, "node", node_name(basin, entry.node))?;
-    put_number(alloc, row, "part", u64::from(entry.part))?;
-    put_number(alloc, row, "lag", u64::from(entry.lag))
 }
 
 /// The table of a return row.
@@ -433,13 +349,12 @@ impl RowWriter<ReturnRow> for ReturnWriter {
 
     fn write(alloc: Global, basin: &Basin, entry: &ReturnRow) -> Result<Table, AllocError> {
         let mut row = Table::new(alloc);
-        match fill_return(alloc, &mut row, basin, entry) {
-            Ok(()) => Ok(row),
-            Err(stop) => {
-                drop(row);
-                Err(stop)
-            }
-        }
+        let right = basin.rights[entry.right as usize].name.bytes();
+        put_name(alloc, &mut row, "diversion", right)?;
+        put_name(alloc, &mut row, "node", node_name(basin, entry.node))?;
+        put_number(alloc, &mut row, "part", u64::from(entry.part))?;
+        put_number(alloc, &mut row, "lag", u64::from(entry.lag))?;
+        Ok(row)
     }
 }
 
@@ -509,30 +424,6 @@ fn put_rights(
     put_list(alloc, top, key, rights_of(alloc, basin, which)?)
 }
 
-/// Fills the table of format 2 that stands for a basin.
-fn fill_top(alloc: Global, top: &mut Table, basin: &Basin) -> Result<(), AllocError>
-    requires empty { table_view top.old ≡ no_members }
-    requires basin { IsValidBasin basin.now }
-    ensures { OnOk result (table_view top.new ≡ basin_table basin.now) }
-{
-    put_rights(alloc, top, "zone", basin, BasinTable::Zone)?;
-    put_number(alloc, top, "year_start", u64::from(basin.year_start))?;
-    let returns = basin.returns.as_slice();
-    put_rows::<ReturnRow, ReturnWriter>(alloc, top, "return", basin, returns)?;
-    let reservoirs = basin.reservoirs.as_slice();
-    put_rows::<Reservoir, ReservoirWriter>(alloc, top, "reservoir", basin, reservoirs)?;
-    let nodes = basin.nodes.as_slice();
-    put_rows::<Node, NodeWriter>(alloc, top, "node", basin, nodes)?;
-    put_number(alloc, top, "months", u64::from(basin.months))?;
-    let links = basin.links.as_slice();
-    put_rows::<Link, LinkWriter>(alloc, top, "link", basin, links)?;
-    put_rights(alloc, top, "instream", basin, BasinTable::Instream)?;
-    put_number(alloc, top, "format", 2)?;
-    put_month(alloc, top, "first_month", basin.first)?;
-    put_rights(alloc, top, "diversion", basin, BasinTable::Diversion)?;
-    Ok(())
-}
-
 /// The table of format 2 that stands for a basin: every key with its value, monthly values as lists of twelve. What a
 /// river, a canal that is never shut and a right without a volume don't have is left out, and so is an empty list.
 ///
@@ -542,13 +433,22 @@ pub fn spelled(alloc: Global, basin: &Basin) -> Result<Table, AllocError>
     ensures { IfOk result (λ made. table_view made ≡ basin_table basin.now) }
 {
     let mut top = Table::new(alloc);
-    match fill_top(alloc, &mut top, basin) {
-        Ok(()) => Ok(top),
-        Err(stop) => {
-            drop(top);
-            Err(stop)
-        }
-    }
+    put_rights(alloc, &mut top, "zone", basin, BasinTable::Zone)?;
+    put_number(alloc, &mut top, "year_start", u64::from(basin.year_start))?;
+    let returns = basin.returns.as_slice();
+    put_rows::<ReturnRow, ReturnWriter>(alloc, &mut top, "return", basin, returns)?;
+    let reservoirs = basin.reservoirs.as_slice();
+    put_rows::<Reservoir, ReservoirWriter>(alloc, &mut top, "reservoir", basin, reservoirs)?;
+    let nodes = basin.nodes.as_slice();
+    put_rows::<Node, NodeWriter>(alloc, &mut top, "node", basin, nodes)?;
+    put_number(alloc, &mut top, "months", u64::from(basin.months))?;
+    let links = basin.links.as_slice();
+    put_rows::<Link, LinkWriter>(alloc, &mut top, "link", basin, links)?;
+    put_rights(alloc, &mut top, "instream", basin, BasinTable::Instream)?;
+    put_number(alloc, &mut top, "format", 2)?;
+    put_month(alloc, &mut top, "first_month", basin.first)?;
+    put_rights(alloc, &mut top, "diversion", basin, BasinTable::Diversion)?;
+    Ok(top)
 }
 
 /// The text of a file of format 2 that spells a basin: it is read as the basin's table, which spells the basin itself,

@@ -169,14 +169,9 @@ fn parts_of<'b>(
     ensures bounded { IfOk result (λ parts. parts.2.left ≤ 5 * 10 ^ 9) }
 {
     let last_set = LastSet::open(alloc, basin)?;
+    let state = blank_state(alloc, basin)?;
     let reader = ResultReader::open(alloc, basin, roll)?;
-    match blank_state(alloc, basin) {
-        Ok(state) => Ok((state, last_set, reader)),
-        Err(stop) => {
-            drop(reader);
-            Err(stop)
-        }
-    }
+    Ok((state, last_set, reader))
 }
 
 /// The progress of no line, with this audit of no line if one is asked for. AllocError comes where memory is lacking.

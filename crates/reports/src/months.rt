@@ -36,15 +36,6 @@ pub trait Kept: Sized {
             is_of basin.now series.now (records ++ month.now ∷ []) self.new };
 }
 
-/// Adds the last month of a run to what is kept of those before it.
-fn keep_last<T: Kept>(kept: &mut T, run: &Run)
-    requires { IsKeptBefore T.is_of run.now.basin run.now.series kept.old run.now.last }
-    ensures { (records : List MonthRecord) → T.is_of run.now.basin run.now.series records kept.old →
-        T.is_of run.now.basin run.now.series (records ++ run.now.last ∷ []) kept.new }
-{
-    kept.add(run.basin(), run.series(), run.roll(), run.month());
-}
-
 /// Solves the next month and adds it to what is kept.
 fn keep_month<T: Kept, P: Ledger, M: Ledger>(kept: &mut T, run: &mut Run, work: &mut Work<P, M>)
     requires left { run.old.done < run.old.basin.months }
@@ -55,7 +46,7 @@ fn keep_month<T: Kept, P: Ledger, M: Ledger>(kept: &mut T, run: &mut Run, work: 
     ensures work { Solves 1 run.old.basin work.old work.new }
 {
     run.step(work);
-    keep_last(kept, run);
+    kept.add(run.basin(), run.series(), run.roll(), run.month());
 }
 
 /// Solves all months and adds them to what is kept.

@@ -1,7 +1,7 @@
 use Rattle.std.proofs.Common.{refl}
 use Rattle.basin_file.specs.Upgraded.{basin_table, top_keys}
 use Rattle.basin_file.proofs.Fields.{put_in_order}
-use Rattle.basin_file.proofs.upgrade.fill_top.Goals as goal
+use Rattle.basin_file.proofs.upgrade.spelled.Goals as goal
 
 pub returns : goal.returns
 unfolding basin_table
@@ -18,7 +18,7 @@ returns c =
       c.in_ok-put_rows.ensures,
       c.in_ok-put_number.ensures,
       c.in_ok-put_rights.ensures,
-      c.requires.empty,
+      c.new-top.ensures.empty,
       c.as_slice-reservoirs.ensures,
       c.as_slice-returns.ensures,
       c.as_slice-nodes.ensures,
