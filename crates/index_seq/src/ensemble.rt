@@ -43,7 +43,8 @@ fn sorted_amounts<'b, P: Ledger, M: Ledger>(
     ensures lines { IfOk result (λ all. HaveLines basin.now series.now all.amounts) }
     ensures work { Solves (years_of basin.now * basin.now.months) basin.now work.old work.new }
 {
-    let engine = Engine::open(alloc, basin)?;
+    let mut engine = Engine::open(alloc, basin)?;
+    engine.leave_flows();
     let mut all = run_traces(alloc, basin, series, engine, work)?;
     put_in_order(basin, series, all.amounts.as_mut_slice());
     Ok(all)

@@ -116,6 +116,13 @@ impl<'b> Engine<'b> {
         self.basin
     }
 
+    /// Leaves it open from now on by which links water goes: for runs of which nobody reads a flow.
+    pub fn leave_flows(&mut self)
+        ensures { self.new ≡ self.old }
+    {
+        self.solver.leave_flows();
+    }
+
     /// The roll of the basin's rights, by which months are solved.
     pub fn roll(&self) -> &Roll
         ensures { IsRollOf self.now.basin.rights result.now }

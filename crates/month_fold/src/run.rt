@@ -125,6 +125,14 @@ impl<'b, 's> Run<'b, 's> {
         self.series
     }
 
+    /// Leaves it open from now on by which links water goes: for those who read no flow of the months to come. All else
+    /// in a record stays what it is.
+    pub fn leave_flows(&mut self)
+        ensures { self.new ≡ self.old }
+    {
+        self.engine.leave_flows();
+    }
+
     /// The roll of the basin's rights, by which months are solved.
     pub fn roll(&self) -> &Roll
         ensures { IsRollOf self.now.basin.rights result.now }

@@ -76,7 +76,9 @@ fn opened<'b, 's, T: Kept>(
     ensures series { IfOk result (λ all. all.1.series ≡ series.now) }
     ensures kept { IfOk result (λ all. IsKeptOf T.is_of all.1 all.0) }
 {
-    let run = Run::open(alloc, basin, series)?;
+    let mut run = Run::open(alloc, basin, series)?;
+    // A report reads no flow.
+    run.leave_flows();
     match T::open(alloc, basin) {
         Ok(kept) => Ok((kept, run)),
         Err(stop) => {

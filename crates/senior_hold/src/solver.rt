@@ -61,6 +61,8 @@ pub struct Solver<'b> {
     region: Region,
     places: Places,
     rounds: Rounds<'b>,
+    /// Whether somebody reads the flows on links.
+    reads_flows: bool,
 }
 
 impl<'b> Model for Solver<'b> {
@@ -131,7 +133,16 @@ impl<'b> Solver<'b> {
             region,
             places,
             rounds,
+            reads_flows: true,
         })
+    }
+
+    /// Leaves it open from now on by which links water goes: any plan with the greatest deliveries will do where nobody
+    /// reads a flow. Deliveries, outflows and sets stay what they are.
+    pub fn leave_flows(&mut self)
+        ensures { self.new ≡ self.old }
+    {
+        self.reads_flows = false;
     }
 
     /// The roll of the basin's rights, by which months are solved.
@@ -186,7 +197,7 @@ impl<'b> Solver<'b> {
             cuts,
             searches,
         );
-        if swept == Sweep::GaveUp || self.basin.rights.len() == 0 {
+        if swept == Sweep::GaveUp || self.basin.rights.len() == 0 || !self.reads_flows {
             return swept;
         }
         self.rounds.prefer_rivers(want, plan);
@@ -195,8 +206,8 @@ impl<'b> Solver<'b> {
 
     /// Writes the plan of a month that serves seniors first, and gives each right that is short its reach as its set.
     /// The supply is indexed by node, the want by right, both in units of 1,000 cubic metres. Without rights the plan
-    /// is the run of the river; else its water goes by rivers where it need not go through a canal. Each search that
-    /// finds a walk, and each push along the tree, ticks `searches` once. It refuses nothing and takes no memory.
+    /// is the run of the river; else its water goes by rivers where it need not go through a canal, unless flows are
+    /// left open. Each search that finds a walk, and each push along the tree, ticks `searches` once. It refuses nothing and takes no memory.
     pub fn solve_month<L: Ledger>(
         &mut self,
         month: Month,

@@ -13,4 +13,4 @@ pub run_traces-requires-clause-series : goal.run_traces-requires-clause-series
 run_traces-requires-clause-series g c = c.requires.series
 
 pub run_traces-requires-clause-engine : goal.run_traces-requires-clause-engine
-run_traces-requires-clause-engine g c = c.in_ok-engine.ensures
+run_traces-requires-clause-engine g c = rw c.leave_flows.ensures c.in_ok-engine.ensures
