@@ -8,7 +8,7 @@ use test_support::{Set, expect, files, text_of, with};
 const WORDS: [&str; 4] = ["compare", "BASIN", "BASIN2", "SERIES"];
 
 /// Changes of the ordinary basin: what stands in it, and what replaces that.
-const CHANGES: [(&str, &str); 14] = [
+static CHANGES: [(&str, &str); 14] = [
     // A junior diversion before the others of its kind, between them and after them.
     (
         "[[diversion]]\nname = \"canalco\"",
@@ -175,16 +175,16 @@ fn text_of_run(alloc: Global, basin: &str) -> Result<String, Fail> {
 }
 
 /// Runs a changed basin, and compares with it.
-fn expect_change(alloc: Global, first: &str, change: (&str, &str)) -> Result<(), Fail> {
-    let changed = with(alloc, ORDINARY, change.0, change.1)?;
+fn expect_change(alloc: Global, first: &str, old: &str, new: &str) -> Result<(), Fail> {
+    let changed = with(alloc, ORDINARY, old, new)?;
     let second = text_of_run(alloc, changed.as_str())?;
     expect_list(alloc, first, changed.as_str(), second.as_str())
 }
 
 /// Compares with each changed basin.
 fn expect_changes(alloc: Global, first: &str) -> Result<(), Fail> {
-    for change in CHANGES {
-        expect_change(alloc, first, change)?;
+    for (old, new) in &CHANGES {
+        expect_change(alloc, first, old, new)?;
     }
     Ok(())
 }
