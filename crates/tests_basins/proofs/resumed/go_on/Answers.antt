@@ -11,7 +11,9 @@ one_kept kept empty one pushed new = rw (pushed, new) refl
 
 pub solve_later-requires-clause-months : goal.solve_later-requires-clause-months
 solve_later-requires-clause-months g c =
-    rw (c.as_slice.ensures.value,
-    one_kept c.push.new.self.items c.new-kept.result.items c.in_ok-record_of.field-0 c.in_ok-push.ensures.items
-    c.new-kept.ensures.items)
+    rw (
+      c.as_slice.ensures.value,
+      one_kept c.push.new.self.items c.new-kept.result.items c.in_ok-record_of.field-0 c.in_ok-push.ensures.items
+          c.new-kept.ensures.items,
+    )
     c.in_ok-record_of.ensures
