@@ -122,13 +122,8 @@ fn network_of(alloc: Global, document: &Document) -> Result<(Rows<Node>, Rows<Li
     ensures links { IfOk result (λ parts. parts.1 ≡ (basin_of (tree_of document.now)).links) }
 {
     let nodes = table_of::<Node, NodeReader>(alloc, document, BasinTable::Node)?;
-    match table_of::<Link, LinkReader>(alloc, document, BasinTable::Link) {
-        Ok(links) => Ok((nodes, links)),
-        Err(stop) => {
-            drop(nodes);
-            Err(stop)
-        }
-    }
+    let links = table_of::<Link, LinkReader>(alloc, document, BasinTable::Link)?;
+    Ok((nodes, links))
 }
 
 /// Its rights and its return rows. AllocError comes where memory is lacking.
@@ -140,13 +135,8 @@ fn users_of(
     ensures returns { IfOk result (λ parts. parts.1 ≡ (basin_of (tree_of document.now)).returns) }
 {
     let rights = rights_of(alloc, document)?;
-    match table_of::<ReturnRow, ReturnReader>(alloc, document, BasinTable::Return) {
-        Ok(returns) => Ok((rights, returns)),
-        Err(stop) => {
-            drop(rights);
-            Err(stop)
-        }
-    }
+    let returns = table_of::<ReturnRow, ReturnReader>(alloc, document, BasinTable::Return)?;
+    Ok((rights, returns))
 }
 
 /// Its nodes, links, rights and return rows. AllocError comes where memory is lacking.
@@ -160,13 +150,8 @@ fn lists_of(
     ensures returns { IfOk result (λ parts. parts.1.1 ≡ (basin_of (tree_of document.now)).returns) }
 {
     let network = network_of(alloc, document)?;
-    match users_of(alloc, document) {
-        Ok(users) => Ok((network, users)),
-        Err(stop) => {
-            drop(network);
-            Err(stop)
-        }
-    }
+    let users = users_of(alloc, document)?;
+    Ok((network, users))
 }
 
 /// The basin that a document spells. What can't be there in a document without a fault has a default.
@@ -178,14 +163,7 @@ pub fn basin_of(alloc: Global, document: &Document) -> Result<Basin, AllocError>
         document,
         BasinTable::Reservoir,
     )?;
-    let lists = match lists_of(alloc, document) {
-        Ok(lists) => lists,
-        Err(stop) => {
-            drop(reservoirs);
-            return Err(stop);
-        }
-    };
-    let ((nodes, links), (rights, returns)) = lists;
+    let ((nodes, links), (rights, returns)) = lists_of(alloc, document)?;
     let top = document.tree;
     Ok(Basin {
         format: document.format() as u32,

@@ -31,6 +31,7 @@ pub mod Missing
 pub mod Dues
 pub mod Even
 pub mod MemberLines
+pub mod FreeOfCalls
 pub mod Standings
 pub mod SetLines
 pub mod ByteLaws

@@ -1,5 +1,6 @@
 -- What the tests of a line look at.
-use Rattle.std.specs.Prelude.{if◌then◌else◌, ◌≡◌, ℕ, ◌+◌, ◌≤◌, ◌==◌, Bool, true, false, List, length, slice_index, Some}
+use Rattle.std.specs.Prelude.{if◌then◌else◌, ◌≡◌, ℕ, ◌+◌, ◌≤◌, ◌==◌, Bool, true, false, not, List, length}
+use Rattle.std.specs.Prelude.{slice_index, Some}
 use Rattle.finite_sums.specs.Sums.{total_where}
 use Rattle.water_model.specs.Basin.{head_of, tail_of}
 use Rattle.water_model.specs.Plans.{inflow_to, outflow_from, taken_at}
@@ -10,7 +11,7 @@ use Rattle.result_lines.specs.declared.quantity.Quantity.TheVariants as quantity
 use Rattle.water_model.specs.declared.types.Basin.{Basin}
 use Rattle.water_model.specs.declared.types.MonthRecord.{MonthRecord}
 use Rattle.result_reader.specs.Due.{is_member}
-use Rattle.cert_check.specs.Checking.{is_after_calls}
+use Rattle.cert_check.specs.Checking.{is_after_calls, is_closing}
 use Rattle.cert_check.specs.declared.state.CheckState.{CheckState}
 use Rattle.cert_check.specs.declared.state.Context.{Context}
 
@@ -45,6 +46,12 @@ IsReadyForAmount m a other entry = Unit {0}
 abbrev pub IsReadyForOwn : Context → CheckState → Item → Type 0
 IsReadyForOwn m a (line.Amount q entry amount) = IsReadyForAmount m a q entry
 IsReadyForOwn m a other = Unit {0}
+
+-- whether a line stands before the `call` lines of a month and gives an amount or a delivery
+abbrev pub is_before_calls : Item → Bool
+is_before_calls (line.Amount q entry amount) = not (is_closing q)
+is_before_calls (line.Deliver r amount want) = true
+is_before_calls other = false
 
 -- it has the callers, where a line stands after the `call` lines
 abbrev pub IsReadyForCalled : CheckState → Item → Type 0

@@ -1,7 +1,7 @@
 //! The rows of a verdict that compare one line with what the lines before it say.
 //!
 //! `month` is a record that shows what was read of the current month. A row answers whether it holds of the line.
-ghost use Rattle.std.specs.Prelude.{◌≡◌, ◌<◌, ◌==◌, length, map, not, slice_index};
+ghost use Rattle.std.specs.Prelude.{◌≡◌, ◌<◌, ◌==◌, ◌&&◌, is_none, length, map, not, slice_index};
 ghost use Rattle.result_lines.specs.OfBasin.{IsOfBasin};
 ghost use Rattle.result_reader.specs.Due.{is_member};
 ghost use Rattle.result_reader.specs.ReadSoFar.{ReadSoFar};
@@ -13,6 +13,7 @@ ghost use Rattle.water_model.specs.Lookups.{of_entry};
 ghost use Rattle.water_model.specs.declared.types.Inflows.{Inflows};
 ghost use Rattle.water_model.specs.Valid.{IsValidBasin, IsSeriesOf};
 ghost use Rattle.cert_check.specs.Checking as checking;
+ghost use Rattle.cert_check.specs.Ready.{is_before_calls};
 ghost use Rattle.cert_check.specs.Shows.{Shows};
 
 use cut_cert::calls::is_short;
@@ -61,6 +62,25 @@ pub fn is_after_calls(item: &Item) -> bool
         Item::Amount { quantity, .. } => is_closing(quantity),
         _ => false,
     }
+}
+
+/// Whether a line stands before the `call` lines of a month and gives an amount or a delivery.
+fn is_before_calls(item: &Item) -> bool
+    ensures { result ≡ is_before_calls item.now }
+{
+    match *item {
+        Item::Amount { quantity, .. } => !is_closing(quantity),
+        Item::Deliver { .. } => true,
+        _ => false,
+    }
+}
+
+/// Whether no row of the calls looks at a line, by the right whose nodes came before it: the line gives an amount or a
+/// delivery before the `call` lines of a month, and ends the nodes of no set.
+pub fn is_free_of_calls(calling: Option<u32>, item: &Item) -> bool
+    ensures { result ≡ (is_none calling && is_before_calls item.now) }
+{
+    calling.is_none() && is_before_calls(item)
 }
 
 fn is_same_month(one: Month, other: Month) -> bool

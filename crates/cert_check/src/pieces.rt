@@ -14,6 +14,7 @@ ghost use Rattle.cert_check.specs.Whole.{text_verdict};
 
 use crate::checker::Checker;
 use crate::refuted::Refuted;
+use memchr::memchr;
 use std::alloc::{AllocError, Global};
 use std::marker::Model;
 use water_model::types::{Basin, Inflows};
@@ -41,7 +42,7 @@ fn end_line(checker: &mut Checker, line: &mut LineIn) -> Result<(), Refuted>
 fn first_feed(piece: &[u8]) -> Option<usize>
     ensures { result ≡ position is_feed piece.now }
 {
-    piece.iter().position(|byte| *byte == b'\n')
+    memchr(b'\n', piece)
 }
 
 /// The line that a piece begins with, without its line feed, where it ends in the piece and has at most 128 bytes.

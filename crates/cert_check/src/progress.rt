@@ -118,6 +118,7 @@ fn take_audit(context: &Context, progress: &mut CheckProgress, item: &Item)
 }
 
 /// Takes what the next line says, or refuses it for the first row that holds of it.
+#[inline(always)]
 fn take_item(context: &Context, progress: &mut CheckProgress, item: &Item) -> Result<(), Refuted>
     requires context { IsContext context.now }
     requires item { IsOfBasin context.now.basin.now item.now }
@@ -144,6 +145,51 @@ fn take_item(context: &Context, progress: &mut CheckProgress, item: &Item) -> Re
     }
 }
 
+/// Takes what the next line says, as `take_item` does. Most lines that are no `in` lines say an amount or a delivery, and
+/// each of these has an item of its own here, so that what takes it is compiled for such a line alone.
+#[inline(always)]
+fn take_said(context: &Context, progress: &mut CheckProgress, item: Item) -> Result<(), Refuted>
+    requires context { IsContext context.now }
+    requires item { IsOfBasin context.now.basin.now item }
+    requires so_far { HasItems context.now.basin.now context.now.series.now progress.old item }
+    requires room { progress.old.read + 1 < 2 ^ 64 }
+    ensures takes { (items : List Item) → IsRead context.now.basin.now context.now.series.now progress.old items
+        item →
+        TakesItem context.now.basin.now context.now.series.now progress.new items item result }
+    ensures reader { progress.new.reader ≡ progress.old.reader }
+    ensures audited { is_some progress.new.audit ≡ is_some progress.old.audit }
+{
+    match item {
+        Item::Amount {
+            quantity,
+            entry,
+            amount,
+        } => take_item(
+            context,
+            progress,
+            &Item::Amount {
+                quantity,
+                entry,
+                amount,
+            },
+        ),
+        Item::Deliver {
+            right,
+            amount,
+            want,
+        } => take_item(
+            context,
+            progress,
+            &Item::Deliver {
+                right,
+                amount,
+                want,
+            },
+        ),
+        other => take_item(context, progress, &other),
+    }
+}
+
 /// Takes the next line, without its line feed, or refuses it. A refused line leaves check progress that says nothing.
 pub fn take_line(
     context: &Context,
@@ -166,7 +212,7 @@ pub fn take_line(
         });
     }
     match progress.reader.line(text) {
-        Ok(item) => take_item(context, progress, &item),
+        Ok(item) => take_said(context, progress, item),
         Err(_) => Err(Refuted {
             line: next,
             kind: RefutedKind::BadLine,

@@ -9,7 +9,7 @@ ghost use Rattle.cert_check.specs.Ready.{HasSums, IsReadyForLine, IsReadyForAmou
 
 use crate::answering::next_due;
 use crate::balancing::make_sums;
-use crate::compare::{is_after_calls, is_member};
+use crate::compare::{is_after_calls, is_free_of_calls, is_member};
 use crate::passing::pass_over;
 use crate::state::{CheckState, Context};
 use crate::supplying::make_supply;
@@ -180,6 +180,24 @@ fn make_ready_for_set(context: &Context, state: &mut CheckState, item: &Item)
     }
 }
 
+/// Makes what the rows of the calls look at. They look at no amount and no delivery before the `call` lines.
+fn make_ready_for_calls(context: &Context, state: &mut CheckState, item: &Item)
+    requires context { IsContext context.now }
+    requires item { IsOfBasin context.now.basin.now item.now }
+    requires awaits { Awaits context.now.basin.now context.now.series.now state.old item.now }
+    ensures set { IsReadyForSet state.new item.now }
+    ensures callers { IsReadyForCalled state.new item.now }
+    ensures keeps { (t : ReadSoFar) → Keeps context.now.basin.now context.now.series.now state.old t →
+        Keeps context.now.basin.now context.now.series.now state.new t }
+{
+    if is_free_of_calls(state.calling, item) {
+        return;
+    }
+    pass(context, state, item);
+    answer(context, state, item);
+    make_ready_for_set(context, state, item);
+}
+
 /// Makes what the test of an amount looks at.
 #[inline(never)]
 fn make_ready_for_amount(context: &Context, state: &mut CheckState, quantity: Quantity, entry: u32)
@@ -215,9 +233,7 @@ pub fn make_ready(context: &Context, state: &mut CheckState, item: &Item)
     if is_member(item) {
         return;
     }
-    pass(context, state, item);
-    answer(context, state, item);
-    make_ready_for_set(context, state, item);
+    make_ready_for_calls(context, state, item);
     match *item {
         Item::Amount {
             quantity,

@@ -355,6 +355,9 @@ pub fn first_row(context: &Context, state: &CheckState, item: &Item) -> Option<R
     if compare::is_member(item) {
         return None;
     }
+    if compare::is_free_of_calls(state.calling, item) {
+        return own_row(context, state, item);
+    }
     match call_row(context, state, item) {
         Some(kind) => Some(kind),
         None => own_row(context, state, item),

@@ -146,13 +146,8 @@ fn run_trace<'b, P: Ledger, M: Ledger>(
 {
     rotate_series(basin, series, trace, begun);
     let mut run = Run::begin(engine, begun);
-    match run_years(basin, series, trace, &mut run, sums, year, work) {
-        Ok(()) => Ok(run.close()),
-        Err(stop) => {
-            drop(run);
-            Err(stop)
-        }
-    }
+    run_years(basin, series, trace, &mut run, sums, year, work)?;
+    Ok(run.close())
 }
 
 /// Runs all traces in one engine, trace by trace. `begun` is written over with the series of each. AllocError comes
@@ -249,7 +244,7 @@ fn run_in_room<'b, P: Ledger, M: Ledger>(
     ensures sums { IfOk result (λ all. HaveSums basin.now series.now (years_of basin.now) all.amounts) }
     ensures work { Solves (years_of basin.now * basin.now.months) basin.now work.old work.new }
 {
-    let ran = run_each(
+    let engine = run_each(
         basin,
         series,
         engine,
@@ -257,14 +252,8 @@ fn run_in_room<'b, P: Ledger, M: Ledger>(
         room.amounts.as_mut_slice(),
         room.year.as_mut_slice(),
         work,
-    );
-    match ran {
-        Ok(engine) => Ok(state_of(engine, room)),
-        Err(stop) => {
-            drop(room);
-            Err(stop)
-        }
-    }
+    )?;
+    Ok(state_of(engine, room))
 }
 
 /// Runs all traces in one engine, trace by trace. AllocError comes where memory is lacking: it is taken once for all
@@ -284,11 +273,6 @@ pub fn run_traces<'b, P: Ledger, M: Ledger>(
     ensures sums { IfOk result (λ all. HaveSums basin.now series.now (years_of basin.now) all.amounts) }
     ensures work { Solves (years_of basin.now * basin.now.months) basin.now work.old work.new }
 {
-    match room_for_traces(alloc, basin, series) {
-        Ok(room) => run_in_room(basin, series, engine, room, work),
-        Err(stop) => {
-            drop(engine);
-            Err(stop)
-        }
-    }
+    let room = room_for_traces(alloc, basin, series)?;
+    run_in_room(basin, series, engine, room, work)
 }

@@ -27,81 +27,23 @@ pub struct Names<'b> {
     ghost of_lines: { lines.basin.now ≡ basin.now },
 }
 
-/// The names of the links and those of the reservoirs. AllocError comes where memory is lacking.
-fn links_and_reservoirs<'b>(
-    alloc: Global,
-    basin: &'b Basin,
-) -> Result<(SpaceNames<'b>, SpaceNames<'b>), AllocError>
-    requires { IsValidBasin basin.now }
-    ensures links { IfOk result (λ names. (names.0.basin.now ≡ basin.now) × (names.0.space ≡ Links)) }
-    ensures reservoirs { IfOk result (λ names. (names.1.basin.now ≡ basin.now) × (names.1.space ≡ Reservoirs)) }
-{
-    let links = SpaceNames::of(alloc, Space::Links, basin)?;
-    match SpaceNames::of(alloc, Space::Reservoirs, basin) {
-        Ok(reservoirs) => Ok((links, reservoirs)),
-        Err(stop) => {
-            drop(links);
-            Err(stop)
-        }
-    }
-}
-
-/// The names of the nodes and the rights, and the `in` lines of the nodes. AllocError comes where memory is lacking.
-fn both_and_lines<'b>(
-    alloc: Global,
-    basin: &'b Basin,
-) -> Result<(BothNames<'b>, NodeLines<'b>), AllocError>
-    requires { IsValidBasin basin.now }
-    ensures both { IfOk result (λ parts. parts.0.basin.now ≡ basin.now) }
-    ensures lines { IfOk result (λ parts. parts.1.basin.now ≡ basin.now) }
-{
-    let lines = NodeLines::of(alloc, basin)?;
-    match BothNames::of(alloc, basin) {
-        Ok(both) => Ok((both, lines)),
-        Err(stop) => {
-            drop(lines);
-            Err(stop)
-        }
-    }
-}
-
-/// The names put together: of the links and the reservoirs, and of the nodes and the rights with the `in` lines.
-fn with_parts<'b>(
-    basin: &'b Basin,
-    spaces: (SpaceNames<'b>, SpaceNames<'b>),
-    others: (BothNames<'b>, NodeLines<'b>),
-) -> Names<'b>
-    requires links { (spaces.0.basin.now ≡ basin.now) × (spaces.0.space ≡ Links) }
-    requires reservoirs { (spaces.1.basin.now ≡ basin.now) × (spaces.1.space ≡ Reservoirs) }
-    requires both { others.0.basin.now ≡ basin.now }
-    requires lines { others.1.basin.now ≡ basin.now }
-    ensures { result.basin.now ≡ basin.now }
-{
-    let (links, reservoirs) = spaces;
-    let (both, lines) = others;
-    Names {
-        basin,
-        both,
-        links,
-        reservoirs,
-        lines,
-    }
-}
-
 impl<'b> Names<'b> {
     /// The names of this basin.
     pub fn of(alloc: Global, basin: &'b Basin) -> Result<Names<'b>, AllocError>
         requires { IsValidBasin basin.now }
         ensures { IfOk result (λ names. names.basin.now ≡ basin.now) }
     {
-        let spaces = links_and_reservoirs(alloc, basin)?;
-        match both_and_lines(alloc, basin) {
-            Ok(others) => Ok(with_parts(basin, spaces, others)),
-            Err(stop) => {
-                drop(spaces);
-                Err(stop)
-            }
-        }
+        let both = BothNames::of(alloc, basin)?;
+        let links = SpaceNames::of(alloc, Space::Links, basin)?;
+        let reservoirs = SpaceNames::of(alloc, Space::Reservoirs, basin)?;
+        let lines = NodeLines::of(alloc, basin)?;
+        Ok(Names {
+            basin,
+            both,
+            links,
+            reservoirs,
+            lines,
+        })
     }
 
     /// Whether the entry at an index, which may be any number, is there and has the name.

@@ -21,6 +21,17 @@ pub struct Progress {
     pub must: bool,
 }
 
+/// Goes on to another progress. Its fields are copied one by one: a copy of the whole takes the unused bytes between them
+/// along, and waits for these.
+#[inline(always)]
+pub fn go_on(progress: &mut Progress, next: Progress)
+    ensures { progress.new ≡ next }
+{
+    progress.position = next.position;
+    progress.next_member = next.next_member;
+    progress.must = next.must;
+}
+
 /// The progress after an `in` line of a node, if the line may come.
 #[tactic(auto, using(crate::proofs::Members::member_steps))]
 pub fn next_member(basin: &Basin, dues: &[Shape], progress: Progress, node: u32) -> Option<Progress>

@@ -20,7 +20,7 @@ use crate::likely::{Likely, due_shape, follow, likely_entry, likely_member};
 use crate::member_block::members_at;
 use crate::names::Names;
 use crate::position::Position;
-use crate::progress::{Progress, next_member, next_progress};
+use crate::progress::{Progress, go_on, next_member, next_progress};
 use crate::reading::{is_member_line, item_by_fields, member_line};
 use crate::shape::Shape;
 use result_lines::item::Item;
@@ -160,7 +160,7 @@ impl<'b> ResultReader<'b> {
         match next_progress(self.names.basin, &self.dues, self.progress, &item) {
             Some(progress) => {
                 follow(self.followers.as_mut_slice(), self.progress, &item);
-                self.progress = progress;
+                go_on(&mut self.progress, progress);
                 self.left -= 1;
                 Ok(item)
             }
@@ -187,13 +187,16 @@ impl<'b> ResultReader<'b> {
         ensures basin { self.new.basin ≡ self.old.basin }
         ensures left { IfSome result (λ m. self.new.left + 1 ≡ self.old.left) }
     {
+        if self.progress.next_member.is_none() {
+            return None;
+        }
         let node = likely_member(&self.followers, &self.progress);
         let Some(text) = member_line(&self.names, node, piece) else {
             return None;
         };
         match next_member(self.names.basin, &self.dues, self.progress, node) {
             Some(next) => {
-                self.progress = next;
+                go_on(&mut self.progress, next);
                 self.left -= 1;
                 Some(MemberLine { node, text })
             }

@@ -17,18 +17,18 @@ run_years-requires-clause-under_way g c =
     (c.begin-run.ensures.basin ∙ c.requires.engine) (c.begin-run.ensures.series ∙ c.rotate_series.ensures.value)
     c.begin-run.ensures.stands c.requires.year
 
-pub returns-in-Ok-clause-engine : goal.returns-in-Ok-clause-engine
-returns-in-Ok-clause-engine g c = c.close.ensures ∙ c.in-Ok.ensures.under_way.basin
+pub returns-clause-engine : goal.returns-clause-engine
+returns-clause-engine g c = c.close.ensures ∙ c.in_ok-run_years.ensures.under_way.basin
 
-pub returns-in-Ok-clause-sums : goal.returns-in-Ok-clause-sums
-returns-in-Ok-clause-sums g c =
+pub returns-clause-sums : goal.returns-clause-sums
+returns-clause-sums g c =
     trace_over c.args.basin.now c.args.series.now c.args.trace _ c.run_years.new.sums _
-    c.in-Ok.ensures.under_way c.requires.whole
+    c.in_ok-run_years.ensures.under_way c.requires.whole
 
-pub returns-in-Ok-clause-year : goal.returns-in-Ok-clause-year
-returns-in-Ok-clause-year g c =
+pub returns-clause-year : goal.returns-clause-year
+returns-clause-year g c =
     year_over c.args.basin.now c.args.series.now c.args.trace _ c.run_years.new.sums _
-    c.in-Ok.ensures.under_way
+    c.in_ok-run_years.ensures.under_way
 
 pub rotate_series-requires-clause-basin : goal.rotate_series-requires-clause-basin
 rotate_series-requires-clause-basin g c = c.requires.basin

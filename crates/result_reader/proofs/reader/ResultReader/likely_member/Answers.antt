@@ -32,8 +32,8 @@ invariant_of-self c =
     record {
       valid = c.self.invariant.valid;
       dues_are = c.self.invariant.dues_are;
-      progress = now.progress;
-      left_is = omega (arith, now.fewer);
+      progress = rw c.go_on.ensures now.progress;
+      left_is = rw c.go_on.ensures (omega (arith, now.fewer));
     }
 
 pub returns-in-Some-next_member-clause-answer : goal.returns-in-Some-next_member-clause-answer
@@ -42,7 +42,7 @@ returns-in-Some-next_member-clause-answer c =
 
 pub returns-in-Some-next_member-clause-accepted : goal.returns-in-Some-next_member-clause-accepted
 returns-in-Some-next_member-clause-accepted c =
-    (taken (goal.at.returns-in-Some-next_member-clause-accepted c).In-Some-next_member).after
+    rw c.go_on.ensures (taken (goal.at.returns-in-Some-next_member-clause-accepted c).In-Some-next_member).after
 
 pub returns-in-Some-next_member-clause-spelled : goal.returns-in-Some-next_member-clause-spelled
 returns-in-Some-next_member-clause-spelled c =

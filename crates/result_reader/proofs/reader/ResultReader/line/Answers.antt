@@ -32,15 +32,15 @@ invariant_of-self c =
     record {
       valid = c.self.invariant.valid;
       dues_are = c.self.invariant.dues_are;
-      progress = now.progress;
-      left_is = omega (arith, now.fewer);
+      progress = rw c.go_on.ensures now.progress;
+      left_is = rw c.go_on.ensures (omega (arith, now.fewer));
     }
 
 pub returns-in-Some-clause-answer : goal.returns-in-Some-clause-answer
 returns-in-Some-clause-answer c = (taken (goal.at.returns-in-Some-clause-answer c).In-Some).answer
 
 pub returns-in-Some-clause-accepted : goal.returns-in-Some-clause-accepted
-returns-in-Some-clause-accepted c = (taken (goal.at.returns-in-Some-clause-accepted c).In-Some).after
+returns-in-Some-clause-accepted c = rw c.go_on.ensures (taken (goal.at.returns-in-Some-clause-accepted c).In-Some).after
 
 pub returns-in-Some-clause-spelled : goal.returns-in-Some-clause-spelled
 returns-in-Some-clause-spelled c = (taken (goal.at.returns-in-Some-clause-spelled c).In-Some).spelled
