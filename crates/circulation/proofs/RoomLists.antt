@@ -169,6 +169,36 @@ rooms_held {lower} {upper} {flow} {rooms} arc amount r b more fits =
       ];
     }
 
+-- the room forward over an arc is what its flow has left to another upper bound
+pub rooms_bounded : {lower upper flow rooms : List ℕ} (arc most : ℕ) → AreRooms lower upper flow rooms →
+    arc < length lower → slice_index flow arc ≤ most →
+    AreRooms lower (slice_set upper arc most) flow
+    (slice_set rooms (2 * arc) (most - (slice_index lower arc + slice_index rooms (2 * arc + 1))))
+rooms_bounded {lower} {upper} {flow} {rooms} arc most r b fits =
+    let up = most - (slice_index lower arc + slice_index rooms (2 * arc + 1)) in
+    record {
+      uppers = length-set upper arc most ∙ r.uppers;
+      flows = r.flows;
+      size = length-set rooms (2 * arc) up ∙ r.size;
+      rise = λ a c. elim (cases_eq a arc) [
+        | inl e ↦ subst (λ (x : ℕ). slice_index flow x + slice_index (slice_set rooms (2 * arc) up) (2 * x)
+            ≡ slice_index (slice_set upper arc most) x) (sym e) (omega (
+              arith,
+              get_or-set_same rooms (2 * arc) up 0 (omega (arith, b, r.size)),
+              get_or-set_same upper arc most 0 (omega (arith, b, r.uppers)),
+              r.fall arc b,
+              fits,
+            ))
+        | inr ne ↦ omega (
+          arith,
+          get_or-set_other rooms (2 * arc) (2 * a) up 0 (omega arith),
+          get_or-set_other upper arc a most 0 ne,
+          r.rise a c,
+        )
+      ];
+      fall = λ a c. omega (arith, get_or-set_other rooms (2 * arc) (2 * a + 1) up 0 (omega arith), r.fall a c);
+    }
+
 -- the room of a step is its residual capacity
 pub room_is : (c : Contents) {rooms : List ℕ} (s : ℕ) → AreRooms c.lower c.upper c.flow rooms →
     arc_of s < length c.lower → slice_index rooms s ≡ room_of (network c) (flow_of c) s

@@ -85,6 +85,10 @@ empty_contents nodes from to rows = record {
 abbrev pub held_contents : Contents → ℕ → ℕ → Contents
 held_contents c arc amount = record c { lower = slice_set c.lower arc (max (slice_index c.lower arc) amount) }
 
+-- the contents with another upper bound of an arc
+abbrev pub bounded_contents : Contents → ℕ → ℕ → Contents
+bounded_contents c arc most = record c { upper = slice_set c.upper arc most }
+
 -- the contents at the start of a month: no arc is held
 abbrev pub month_contents : Contents → List ℕ → List ℕ → List ℕ → Contents
 month_contents c supply upper start = record c {

@@ -1,7 +1,8 @@
 //! A circulation in words that are borrowed.
 ghost use Rattle.std.specs.Prelude.{IsTrue, ◌↔◌, ◌≡◌, true, false, ℕ, ◌+◌, ◌*◌, ◌^◌, ◌<◌, ◌≤◌};
 ghost use Rattle.std.specs.Prelude.{◌==◌, length, slice_index, slice_set};
-ghost use Rattle.circulation.specs.Contents.{arcs, flow_of, step_of, held_contents, month_contents, network};
+ghost use Rattle.circulation.specs.Contents.{arcs, flow_of, step_of, held_contents, bounded_contents};
+ghost use Rattle.circulation.specs.Contents.{month_contents, network};
 ghost use Rattle.circulation.specs.Contents.{IsCirculation, IsStart};
 ghost use Rattle.circulation.specs.Network.{inflow, outflow};
 ghost use Rattle.circulation.specs.Residual.{by_direction, IsClosedWalk, IsPushed};
@@ -122,6 +123,20 @@ impl CirculationMut<'_> {
             self.rooms[2 * place + 1] -= amount - held;
             self.lower[place] = amount;
         }
+    }
+
+    /// Bounds the flow on an arc anew, in units of 1,000 cubic metres: the upper bound becomes this amount, which is no
+    /// less than the flow. The lower bound stays.
+    pub fn bound(&mut self, arc: u32, most: u64)
+        requires arc { arc < arcs self.old }
+        requires kept { flow_of self.old arc ≤ most }
+        requires small { most ≤ 10 ^ 15 }
+        ensures kept { IsCirculation self.new }
+        ensures bounded { self.new ≡ bounded_contents self.old arc most }
+    {
+        let place = arc as usize;
+        let flow = self.lower[place] + self.rooms[2 * place + 1];
+        self.rooms[2 * place] = most - flow;
     }
 
     /// Starts a month: no arc is held, and supplies by node, upper bounds by arc and the flow by arc are

@@ -1,0 +1,12 @@
+pub mod Parts
+pub mod Balances
+pub mod Supplies
+pub mod Flows
+pub mod Paths
+pub mod Tight
+pub mod Turns
+pub mod Marks
+pub mod Raises
+pub mod Laid
+pub mod Begins
+pub mod Checks

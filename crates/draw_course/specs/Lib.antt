@@ -1,0 +1,10 @@
+pub mod Draws
+pub mod Courses
+pub mod Stops
+pub mod Arcs
+pub mod MonthNetwork
+pub mod Raising
+pub mod Engine
+pub mod EngineState
+pub mod CourseState
+pub mod Laws

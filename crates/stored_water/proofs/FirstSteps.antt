@@ -1,0 +1,139 @@
+-- The first step's plan as a course, and the course after all draws as a plan.
+use Rattle.std.proofs.Common.{◌≡◌, ℕ, ◌+◌, ◌-◌, ◌<◌, ◌≤◌, Bool, true, false, refl, ◌∙◌, ap, arith, length}
+use Rattle.std.proofs.Common.{min}
+use Rattle.std.proofs.lemmas.Bool.{and_parts}
+use Rattle.std.proofs.lemmas.Bool.Decides.{nat_tests}
+use Rattle.std.specs.Prelude.{◌==◌, ◌&&◌, not, slice_index, Some}
+use Rattle.finite_sums.specs.Sums.{total_where}
+use Rattle.finite_sums.proofs.Totals.{greatest_where_le, total_where_start, term_le_greatest}
+use Rattle.finite_sums.proofs.Terms.{same_where}
+use Rattle.water_model.specs.Basin.{is_at, taking_node, takes_at, is_on_link, instream_link}
+use Rattle.water_model.specs.Plans.{delivery, taken_at, inflow_to}
+use Rattle.water_model.specs.Plans.{outflow_from}
+use Rattle.water_model.proofs.Sets.{total_crossing, total_where_add}
+use Rattle.duality.proofs.Duality.{delivery_by_take, delivery_le_flow}
+use Rattle.stored_water.specs.Accounts.{is_owned, storing_node, stock_of, sum_in_zone, drawn_from}
+use Rattle.stored_water.specs.Accounts.{drawn_by, draws_on}
+use Rattle.stored_water.specs.Draws.{drawing_node}
+use Rattle.stored_water.specs.DrawLaws.{FirstStepIsCourse, DrawsChangeNoTakes}
+use Rattle.stored_water.proofs.Accounting.{at_some}
+use Rattle.stored_water.proofs.Regrouped.{takes_below, takes_on_no_link, by_zones, by_diversions, diversion_not_owned}
+
+not_true : (t : Bool) → not t ≡ true → t ≡ false
+not_true true h = cc
+not_true false h = refl
+
+pub first_step_is_course : FirstStepIsCourse
+first_step_is_course b month accounts draws l natural supply want delivered amounts taken p plan are adds fills takes =
+    record {
+      taken_len = takes.one_each;
+      flow_len = plan.flow_len;
+      out_len = plan.out_len;
+      carries = plan.carries;
+      holds = λ e m. greatest_where_le (length b.rights) (λ s. is_on_link b s e) (λ s. slice_index delivered s)
+          (slice_index p.flow e)
+          (λ s k on. omega (arith, are.each s k, delivery_le_flow b want p s e on));
+      outlets = plan.outlets;
+      balance = balance;
+    }
+  where
+    delivered_is : (r n : ℕ) → takes_at b r n ≡ true → slice_index delivered r ≡ slice_index p.take r
+    delivered_is r n h =
+        are.each r (takes_below b r n h) ∙ delivery_by_take b want p r (takes_on_no_link b r n h)
+
+    -- the takes at a node: those of owned zones are what their accounts are filled with
+    taken_is : (n : ℕ) → n < length b.nodes →
+        slice_index taken n
+        ≡ taken_at b p.take n
+        + total_where (length accounts) (λ k. is_at (storing_node b accounts k) n) (λ k. slice_index l.carried k)
+    taken_is n m =
+        omega (
+          arith,
+          takes.each n m,
+          total_crossing (length b.rights) (λ r. takes_at b r n) (λ r. is_owned accounts r)
+              (λ r. slice_index p.take r),
+          same_where (length b.rights) (λ r. takes_at b r n && not (is_owned accounts r))
+              (λ r. slice_index delivered r) (λ r. slice_index p.take r)
+              (λ r k h. delivered_is r n (and_parts (takes_at b r n) (not (is_owned accounts r)) h).0),
+          same_where (length b.rights) (λ r. takes_at b r n && is_owned accounts r)
+              (λ r. sum_in_zone accounts (slice_index l.filled) r) (λ r. slice_index p.take r)
+              (λ r k h. (let tests = and_parts (takes_at b r n) (is_owned accounts r) h in
+              fills r tests.1 ∙ delivered_is r n tests.0)),
+          by_zones b accounts n (slice_index l.filled),
+          total_where_start (λ j. is_at (drawing_node b draws j) n) (λ j. slice_index amounts j),
+          same_where (length accounts) (λ k. is_at (storing_node b accounts k) n)
+              (λ k. stock_of l k - drawn_from draws 0 amounts k)
+              (λ k. slice_index l.carried k + slice_index l.filled k)
+              (λ k j h. undrawn k),
+          total_where_add (length accounts) (λ k. is_at (storing_node b accounts k) n)
+              (λ k. slice_index l.carried k) (λ k. slice_index l.filled k),
+        )
+      where
+        undrawn : (k : ℕ) →
+            stock_of l k - drawn_from draws 0 amounts k ≡ slice_index l.carried k + slice_index l.filled k
+        undrawn k = omega (arith, total_where_start (λ j. draws_on draws j k) (λ j. slice_index amounts j))
+
+    balance : (n : ℕ) → n < length b.nodes →
+        slice_index supply n + inflow_to b p.flow n
+        ≡ outflow_from b p.flow n + slice_index taken n + slice_index p.out n
+    balance n m = omega (arith, plan.balance n m, adds n m, taken_is n m)
+
+pub draws_change_no_takes : DrawsChangeNoTakes
+draws_change_no_takes b month accounts draws stock supply want delivered amounts taken take flow out zones
+    for_diversions takes after course = (
+      record {
+        flow_len = course.flow_len;
+        take_len = after.one_each;
+        out_len = course.out_len;
+        carries = course.carries;
+        wants = λ r k. omega arith;
+        instream = after.instream;
+        outlets = course.outlets;
+        balance = λ n m. omega (arith, course.balance n m, taken_is n m);
+      },
+      instream_served,
+    )
+  where
+    kept : ℕ → ℕ
+    kept k = stock k - drawn_from draws (length draws) amounts k
+
+    taken_is : (n : ℕ) → n < length b.nodes → slice_index taken n ≡ taken_at b take n
+    taken_is n m =
+        omega (
+          arith,
+          takes.each n m,
+          total_crossing (length b.rights) (λ r. takes_at b r n) (λ r. is_owned accounts r)
+              (λ r. slice_index take r),
+          same_where (length b.rights) (λ r. takes_at b r n && not (is_owned accounts r))
+              (λ r. slice_index take r)
+              (λ r. slice_index delivered r + drawn_by draws (length draws) amounts r)
+              (λ r k h. (let tests = and_parts (takes_at b r n) (not (is_owned accounts r)) h in
+              after.others r n k (not_true (is_owned accounts r) tests.1)
+              (at_some (taking_node b r) n tests.0))),
+          total_where_add (length b.rights) (λ r. takes_at b r n && not (is_owned accounts r))
+              (λ r. slice_index delivered r) (λ r. drawn_by draws (length draws) amounts r),
+          by_diversions b accounts draws (length draws) amounts n
+              (λ j d e. diversion_not_owned b accounts d.diversion zones (for_diversions j d e)),
+          same_where (length b.rights) (λ r. takes_at b r n && is_owned accounts r)
+              (λ r. slice_index take r) (λ r. sum_in_zone accounts kept r)
+              (λ r k h. after.owned r k (and_parts (takes_at b r n) (is_owned accounts r) h).1),
+          by_zones b accounts n kept,
+        )
+
+    instream_served : (s link : ℕ) → s < length b.rights → link < length b.links → instream_link b s ≡ Some link →
+        slice_index delivered s ≤ slice_index want s →
+        slice_index delivered s ≤ delivery b want (record { flow = flow; take = take; out = out }) s
+    instream_served s link k m on within =
+        let flows : slice_index delivered s ≤ min (slice_index want s) (slice_index flow link) =
+        omega (
+          arith,
+          course.holds link m,
+          term_le_greatest (length b.rights) (λ r. is_on_link b r link) (λ r. slice_index delivered r) s k on_it,
+        ) in
+        rw on flows
+      where
+        equal : (i : ℕ) → (i == i) ≡ true
+        equal i = grind (arith, nat_tests)
+
+        on_it : is_on_link b s link ≡ true
+        on_it = ap (λ o. is_at o link) on ∙ equal link

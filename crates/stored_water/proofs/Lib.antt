@@ -1,0 +1,12 @@
+pub mod Sums
+pub mod ShareProofs
+pub mod CourseBalance
+pub mod Stopping
+pub mod Times
+pub mod Accounting
+pub mod Ledgers
+pub mod Regrouped
+pub mod Drawing
+pub mod FirstSteps
+pub mod Stores
+mod Examples
