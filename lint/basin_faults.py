@@ -50,16 +50,21 @@ def place_word(number):
     return f"{number}{'th' if number % 100 in (11, 12, 13) else {1: 'st', 2: 'nd', 3: 'rd'}.get(number % 10, 'th')}"
 
 
-class Document:
-    """A basin file as it stands, with the faults found so far."""
+class Enough(Exception):
+    """The first fault is found, and no other is asked for."""
 
-    def __init__(self, text):
-        self.text, self.found, self.spoiled = text, [], set()
+
+class Document:
+    """A basin file as it stands, with the faults found so far. The first ends the search where no other is asked for."""
+
+    def __init__(self, text, is_first=False):
+        self.text, self.found, self.spoiled, self.is_first = text, [], set(), is_first
         self.tree = toml_places.Reader(text).document()
         self.is_second = second.is_whole(self.tree.get("format")) and self.tree["format"] == 2
         self.keys = {table: rows | (second.KEYS_2.get(table, {}) if self.is_second else {}) for table,
             rows in second.KEYS.items()}
         self.entries = list(second.entries(self.tree))
+        self.entry_at = {(table, number): entry for table, number, entry in self.entries}
         self.renamed = {}                           # (entry, the key that is meant): the key that is there
 
     def tell(self, kind, table, number, entry, key, text, item=None):
@@ -71,6 +76,8 @@ class Document:
                 at = entry[key].item_at[item]
             self.spoiled.add((id(entry), key))
         self.found.append(Finding(kind, table, number, at, text))
+        if self.is_first:
+            raise Enough
 
     def good(self, entry, key):
         """The value at a key, or None where it is absent or at fault. A misspelled key counts as the one that is
@@ -90,7 +97,7 @@ class Document:
 
     def whose(self, table, number):
         """The entry of a table, and the line of another, as `node 3 (weir, line 14)`."""
-        entry = next(it for kind, count, it in self.entries if (kind, count) == (table, number))
+        entry = self.entry_at[table, number]
         name = self.own_name(table, entry)
         return f"{table} {number} ({f'{name}, ' if name else ''}line {toml_places.line_of(self.text, entry.at)})"
 
@@ -99,23 +106,38 @@ class Document:
 
 
 def unknown_keys(d):
+    meant_by = {}                                   # of a table and an odd key the key that is meant, or None
     for table, number, entry in d.entries:
-        for key in [key for key in entry if key not in d.keys[table]]:
-            every = second.KEYS[table] | second.KEYS_2.get(table, {})
-            if key in every:
-                d.tell("UnknownKey", table, number, entry, key,
-                    f"{key} is a key of format 2: write format = 2 at the top of the file")
-                continue
-            inside = [known for known in every if len(known) > 3 and known in key]
-            known = nearest(key, every) or next(iter(inside),
-                None) or next((OTHER_WORDS[word] for word in OTHER_WORDS if word in key.lower()), None)
-            known = known if known in every else None
+        odd = [key for key in entry if key not in d.keys[table]]
+        # (first all keys of an entry, of which one may be its name)
+        for key in odd:
+            if (table, key) not in meant_by:
+                meant_by[table, key] = key_meant(table, key) if len(meant_by) < MANY else None
+            known = meant_by[table, key]
             if known and known not in entry:
                 d.renamed[id(entry), known] = key
-            others = [other for other, rows in second.KEYS.items() if other != table and key in rows]
-            advice = (f"did you mean {known}?" + (" (format 2)" if known not in d.keys[table] else "") if known
-                      else f"it is one of {others[0]}" if others else f"the keys here are {', '.join(d.keys[table])}")
-            d.tell("UnknownKey", table, number, entry, key, f"{key} is no key here; {advice}")
+        for key in odd:
+            d.tell("UnknownKey", table, number, entry, key, why_unknown(d, table, key, meant_by[table, key]))
+
+
+def key_meant(table, key):
+    """The key that is meant by one that the table hasn't, or None."""
+    every = second.KEYS[table] | second.KEYS_2.get(table, {})
+    if key in every:
+        return None
+    inside = [known for known in every if len(known) > 3 and known in key]
+    known = nearest(key, every) or next(iter(inside),
+        None) or next((OTHER_WORDS[word] for word in OTHER_WORDS if word in key.lower()), None)
+    return known if known in every else None
+
+
+def why_unknown(d, table, key, known):
+    if key in second.KEYS_2.get(table, {}):
+        return f"{key} is a key of format 2: write format = 2 at the top of the file"
+    others = [other for other, rows in second.KEYS.items() if other != table and key in rows]
+    advice = (f"did you mean {known}?" + (" (format 2)" if known not in d.keys[table] else "") if known
+              else f"it is one of {others[0]}" if others else f"the keys here are {', '.join(d.keys[table])}")
+    return f"{key[:60]} is no key here; {advice}"
 
 
 def missing_keys(d):
@@ -318,10 +340,10 @@ def name_advice(space, name, spaces):
     names = spaces[space][0]
     if space == "reservoir" and name in spaces["node"][0]:
         return f": at the node {name} stands no reservoir"
-    others = [other for other in NAMED if other != space and name in spaces[other][0]]
-    if meant(name, names) or not others:
-        there = f"; there are {', '.join(sorted(names))}" if names else f": there is no {space} at all"
-        return meant(name, names) or (there if len(names) <= 12 else "")
+    others, hint = [other for other in NAMED if other != space and name in spaces[other][0]], meant(name, names)
+    if hint or not others:
+        there = "" if len(names) > 12 else f"; there are {', '.join(sorted(names))}"
+        return hint or (there if names else f": there is no {space} at all")
     return f": {name} is the name of {'an instream right' if others[0] == 'instream' else 'a ' + others[0]}"
 
 

@@ -30,11 +30,13 @@ def nearest(word, names):
     count least."""
     def plain(name):
         return re.sub("[^a-z0-9]", "", name.lower())
-    same = [name for name in names if plain(name) == plain(word)]
-    if same or not plain(word):
-        return same[0] if same else None
-    by_plain = {plain(name): name for name in names}
-    close = difflib.get_close_matches(plain(word), by_plain, 1, 0.7)
+    sought, by_plain = plain(word), {}
+    for name in names:
+        by_plain.setdefault(plain(name), name)
+    if sought in by_plain:
+        return by_plain[sought]
+    # (names, keys and files have far fewer signs than that)
+    close = difflib.get_close_matches(sought, by_plain, 1, 0.7) if 0 < len(sought) <= 400 else []
     return by_plain[close[0]] if close else None
 
 

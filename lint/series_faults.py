@@ -218,8 +218,9 @@ def field_advice(record, width):
     return "look for a comma too many" if len(record) > width else "look for a field that is missing"
 
 
-def series_faults(d, data):
-    """The faults of a series in the order in which they show: those of records, then what is missing."""
+def series_faults(d, data, is_first=False):
+    """The faults of a series in the order in which they show: those of records, then what is missing. Where only the
+    first is asked for, nothing is read after the record that has it, so it doesn't tell how many more are like it."""
     if data[:2] in (b"\xff\xfe", b"\xfe\xff"):
         return [Finding("Header", "record", 1, 1,
             "the file is in UTF-16, as some spreadsheets write: save it as CSV in UTF-8")]
@@ -232,11 +233,13 @@ def series_faults(d, data):
         width, is_header = series.header(first[2])
         table = table if is_header or width is None else iter([first, *table])
     for number, line, record in table if width else ():
+        if is_first and series.found:
+            break
         series.record(number, line, record, width)
     found = list(series.findings())
     # (where fields are missing, nobody knows for which month and name they stood)
     is_readable = due.is_known and not any(finding.kind in ("Csv", "Header") for finding in found)
-    return found + (list(series.missing()) if is_readable else [])
+    return found + (list(series.missing()) if is_readable and not (is_first and found) else [])
 
 
 def line_of(finding):

@@ -4,6 +4,8 @@ Python's tomllib tells no places, and reads version 1.0. This reader follows, ru
 program's own reader keeps: 1.1, whole numbers of 64 bits, at most 80 levels. It is tested against the program and not
 proved.
 """
+import bisect
+import functools
 import re
 
 LEVELS = 80                         # the most parts of a key, and the most lists and tables in one another
@@ -11,6 +13,7 @@ BLANKS = re.compile(r"[ \t]*")
 GAP = re.compile(r"(?:[ \t\n]+|\r\n|#[^\x00-\x08\x0a-\x1f\x7f]*)*")
 BARE = re.compile(r"[A-Za-z0-9_-]*")
 WORD = re.compile(r"[A-Za-z0-9_+.:-]*(?: (?=[0-9])(?<=[A-Za-z0-9_+.:-] )[A-Za-z0-9_+.:-]+)?")
+SMALL = re.compile(r"0|[1-9][0-9]{0,17}")         # what most numbers are
 DAY = r"([0-9]{4})-([0-9]{2})-([0-9]{2})"
 TIME = r"([0-9]{2}):([0-9]{2})(?::([0-9]{2})(?:\.[0-9]+)?)?"
 LOCAL_TIME, OFFSET = re.compile(TIME), r"(?:[Zz]|[+-]([0-9]{2}):([0-9]{2}))?"
@@ -185,7 +188,9 @@ class Reader:
     def pair(self, table, level=LEVELS):
         start = self.at
         path = self.key()
-        self.take("=", no_equals(self.text, self.at, path))
+        if self.sign() != "=":
+            raise Wrong(no_equals(self.text, self.at, path), self.at)
+        self.at += 1
         self.skip(BLANKS)
         value_at = self.at
         value = self.value(level)
@@ -219,6 +224,9 @@ class Reader:
             is_long = self.text.startswith(sign * 3, self.at)
             return self.long_text() if is_long else self.one_line()
         word = WORD.match(self.text, self.at)[0]
+        if SMALL.fullmatch(word):
+            self.at += len(word)
+            return int(word)
         value = {"true": True, "false": False}.get(word)
         if value is None:
             is_dated = re.match(r"[0-9]+[-:]", word)
@@ -326,8 +334,14 @@ class Reader:
                 raise Wrong(f"the text that begins in line {line_of(self.text, start)} isn't closed", self.at)
 
 
+@functools.lru_cache(maxsize=2)
+def line_feeds(text):
+    """The places of a text's line feeds."""
+    return [found.start() for found in re.finditer("\n", text)]
+
+
 def line_of(text, at):
-    return text.count("\n", 0, at) + 1
+    return bisect.bisect_left(line_feeds(text), at) + 1
 
 
 def column_of(text, at):
@@ -336,7 +350,7 @@ def column_of(text, at):
 
 def rest_of_line(text, at, most=24):
     """What stands on the line from a place on, or its front."""
-    rest = re.compile(r"[^\r\n]*").match(text, at)[0].rstrip()
+    rest = re.compile(r"[^\r\n]*").match(text, at, at + 1000)[0].rstrip()
     return rest if len(rest) <= most else rest[:most] + ".."
 
 
@@ -351,13 +365,14 @@ def no_key(text, at):
 
 def no_equals(text, at, path):
     if text[at:at + 1] == ":":
-        return f"found a colon after {path[-1]}: write {path[-1]} = .."
-    return f"after {path[-1]} comes {rest_of_line(text, at) or 'nothing'}: write {path[-1]} = and then its value"
+        return f"found a colon after {path[-1][:60]}: write {path[-1][:60]} = .."
+    return (f"after {path[-1][:60]} comes {rest_of_line(text, at) or 'nothing'}: write {path[-1][:60]} = and then its "
+        f"value")
 
 
 def no_value(text, at, word):
     """Why what stands after `=`, or in a list, is no value."""
-    rest = rest_of_line(text, at)
+    rest, word = rest_of_line(text, at), word[:60]
     if rest == "" or rest[0] == "#":
         return "no value stands here"
     if word.lower() in ("true", "false", "yes", "no"):

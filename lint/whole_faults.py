@@ -1,5 +1,7 @@
 """The faults of a basin file as a whole: its network, its rights and its area tables, in the order of the program's
 tests."""
+import collections
+
 from hints import CALENDAR, second
 
 
@@ -25,38 +27,58 @@ class Network:
             if tail is not None and head is not None:
                 self.links[number] = (entry, tail, head)
 
-        self.steps = [(tail, head) for _, tail, head in self.links.values() if tail != head]
+        self.leaving = {node: [] for node in self.entry}    # the links out of each node, with their heads
+        for number, (_, tail, head) in self.links.items():
+            if tail != head:
+                self.leaving[tail].append((number, head))
+
+    def rounds(self):
+        """Of each node a number that it shares with those alone to which its water goes and from which it comes back:
+        the strongly connected components, by Tarjan's search."""
+        index, low, of, open_nodes = {}, {}, {}, []
+        for root in self.entry:
+            way = [] if root in index else [(root, iter(self.leaving[root]))]
+            while way:
+                node, links = way[-1]
+                if node not in index:
+                    index[node] = low[node] = len(index)
+                    open_nodes.append(node)
+                for _, head in links:
+                    if head not in index:
+                        way.append((head, iter(self.leaving[head])))
+                        break
+                    if head not in of:
+                        low[node] = min(low[node], index[head])
+                else:
+                    way.pop()
+                    if way:
+                        low[way[-1][0]] = min(low[way[-1][0]], low[node])
+                    while low[node] == index[node] and node not in of:
+                        of[open_nodes.pop()] = index[node]
+        return of
 
     def loops(self):
         """Of each set of nodes whose water comes back to them: its first node, and the links of a way round."""
-        heads, told = {node: [] for node in self.entry}, set()
-        for tail, head in self.steps:
-            heads[tail].append(head)
-        try:
-            second.graphlib.TopologicalSorter(heads).prepare()
-        except second.graphlib.CycleError:
-            for node in self.entry:
-                if node not in told and second.reaches_itself(heads, node):
-                    told |= second.spread({node}, self.steps) & second.spread({node},
-                        [(head, tail) for tail, head in self.steps])
-                    yield node, self.way_round(node)
+        of = self.rounds()
+        sizes, told = collections.Counter(of.values()), set()
+        for node in self.entry:
+            if sizes[of[node]] > 1 and of[node] not in told:
+                told.add(of[node])
+                yield node, self.way_round(node, of)
 
-    def way_round(self, start):
-        """The links of a shortest way from a node back to it."""
-        leaving, came, line = {}, {}, [start]
-        for number, (_, tail, head) in self.links.items():
-            if tail != head:
-                leaving.setdefault(tail, []).append((number, head))
+    def way_round(self, start, of):
+        """The links of a shortest way from a node back to it, which stays among the nodes of its round."""
+        came, line = {}, [start]
         for node in line:
-            for number, head in leaving.get(node, ()):
-                if head not in came:
+            for number, head in self.leaving[node]:
+                if head not in came and of[head] == of[start]:
                     came[head] = number
                     line.append(head)
         way, node = [], start
         while not way or node != start:
-            way.insert(0, came[node])
+            way.append(came[node])
             node = self.links[came[node]][1]
-        return way
+        return way[::-1]
 
 
 def network_faults(d):
@@ -79,9 +101,12 @@ def network_faults(d):
 
 
 def no_rivers(d, net):
+    canals_of = {}
+    for link, tail, _ in net.links.values():
+        canals_of.setdefault(tail, []).append(d.own_name("link", link) or "?")
     for number, entry in net.entry.items():
         if number not in net.outlets and number not in net.with_river and net.name[number]:
-            canals = [d.own_name("link", link) or "?" for link, tail, _ in net.links.values() if tail == number]
+            canals = canals_of.get(number, [])
             d.tell("NoRiver", "node", number, entry, None, "no river leaves the node, so its water has no way out"
                 + (f" but the canal{'s' if len(canals) > 1 else ''} {', '.join(canals)}" if canals else "")
                    + ": add a link from it without per_day, or outlet = true")
@@ -112,11 +137,7 @@ def right_faults(d):
                 "order" if "order" in right.entry else "date",
                    f"date {right.date} with order {right.priority[1]} is that of {d.whose(other.table, other.number)} "
                    f"too: give one of them another order")
-    zones = [right for right in rights if right.table == "zone"]
-    for place, zone in enumerate(zones):
-        why = zone_fault(d, zones, place) if is_known(zone) else None
-        if why:
-            d.tell("ZoneOrder", "zone", zone.number, zone.entry, "level", why)
+    zone_faults(d, [right for right in rights if right.table == "zone"])
     return_parts(d)
 
 
@@ -133,26 +154,47 @@ def is_known(zone):
     return zone.priority is not None and second.is_whole(zone.level) and isinstance(zone.reservoir, str)
 
 
-def zone_fault(d, zones, place):
+class Level:
+    """The zones of one level of a reservoir: the first, the most senior priority that is known, and whether all are."""
+
+    def __init__(self, first):
+        self.first, self.senior, self.are_known = first, None, True
+
+    def add(self, zone):
+        if zone.priority is None:
+            self.are_known = False
+        elif self.senior is None or zone.priority < self.senior:
+            self.senior = zone.priority
+
+
+def zone_faults(d, zones):
+    levels = {}
+    for zone in zones:
+        if isinstance(zone.reservoir, str) and second.is_whole(zone.level):
+            levels.setdefault((zone.reservoir, zone.level), Level(zone)).add(zone)
+    are_known = all(map(is_known, zones))
+    for zone in zones:
+        why = zone_fault(d, levels, zone, are_known) if is_known(zone) else None
+        if why:
+            d.tell("ZoneOrder", "zone", zone.number, zone.entry, "level", why)
+
+
+def zone_fault(d, levels, zone, are_known):
     """Why a zone may not stand where it does, or None."""
-    zone = zones[place]
-    beside = [other for other in zones if isinstance(other.reservoir, str) and other.reservoir == zone.reservoir]
-    same = next((other for other in zones[:place] if other in beside and other.level == zone.level), None)
-    if same:
-        return f"level {zone.level} of {zone.reservoir} is that of {d.whose('zone', same.number)} too"
+    first = levels[zone.reservoir, zone.level].first
+    if first is not zone:
+        return f"level {zone.level} of {zone.reservoir} is that of {d.whose('zone', first.number)} too"
     if zone.level == 1:
         return None
-    below = [other for other in beside if other.level == zone.level - 1]
-    if not below:
+    below = levels.get((zone.reservoir, zone.level - 1))
+    if below is None:
         # (a zone of the level below may be there, with a fault that is told already)
         why = f"level is {zone.level}, and {zone.reservoir} has no zone of level {zone.level - 1}"
-        return why + ": number the levels from 1, without a gap" if all(map(is_known, zones)) else None
-    if any(other.priority is not None and other.priority < zone.priority for other in below):
+        return why + ": number the levels from 1, without a gap" if are_known else None
+    if below.senior is not None and below.senior < zone.priority or not below.are_known:
         return None
-    if any(other.priority is None for other in below):
-        return None
-    return (f"the zone below, {d.whose('zone', below[0].number)}, isn't senior to it: date the zones from the bottom "
-        f"up, the lowest first")
+    return (f"the zone below, {d.whose('zone', below.first.number)}, isn't senior to it: date the zones from the "
+        f"bottom up, the lowest first")
 
 
 def return_parts(d):
@@ -162,7 +204,8 @@ def return_parts(d):
         if isinstance(entry.get("diversion"), str) and second.is_whole(part) and 1 <= part <= 10_000:
             rows.setdefault(entry["diversion"], []).append((part, entry))
     for _, number, entry in d.rows("diversion"):
-        parts = rows.get(entry.get("name") if isinstance(entry.get("name"), str) else None, [])
+        # (of several diversions of one name the first)
+        parts = rows.pop(entry.get("name") if isinstance(entry.get("name"), str) else None, [])
         total = sum(part for part, _ in parts)
         if total > 10_000:
             sums = " + ".join(f"{part:,} (line {d.line(row)})" for part, row in parts)
