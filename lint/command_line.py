@@ -1,5 +1,6 @@
 """What the script ./basin answers to words: tried with the program as the proved one, by the quick way, and without
 Python."""
+import copy
 import os
 import re
 import shutil
@@ -62,10 +63,14 @@ GOOD = (
     (f"check {WEIR} examples/weir.result", 0, "checked 2"), (f"check {WEIR} examples/weir-forged.txt", 1,
     "refuted 18 Balance"), (f"check {WEIR} /dev/stdin", 0, "checked 2"),
 )
-# Stands for `rt` of the toolchain: `rt try` runs the program in a folder of its own, as the real one does, and marks
-# that it was started.
+# Stands for `rt` of the toolchain: `rt ci` takes what it left before away and leaves the program, as the real one does
+# where all is proved; `rt try` runs it in a folder of its own, and marks that it was started.
 RT = """#!/usr/bin/env bash
 [ "$1" = version ] && { echo 'a kit'; exit; }
+if [ "$1" = ci ]; then
+  rm -rf crates/*/out && mkdir crates/basin/out && cp "$PROGRAM" crates/basin/out/basin && eval "${AT_CI-}"
+  exit
+fi
 touch "$STARTED"
 room="$(mktemp -d)"; shift
 while [ "$1" = --data ]; do cp "${2#*=}" "$room/${2%%=*}"; shift 2; done
@@ -95,44 +100,63 @@ class Place:
 
     def __init__(self, program, room):
         self.folder, self.program, self.started = os.path.join(room, "place"), program, os.path.join(room, "started")
-        os.makedirs(os.path.join(self.folder, "bin"))
-        os.makedirs(os.path.join(self.folder, "crates", "basin"))
+        os.makedirs(os.path.join(self.folder, "kit", "bin"))
+        os.makedirs(os.path.join(self.folder, "crates", "basin", "src"))
         for name in ("basin", "crates.txt", "HANDLES"):
             shutil.copy(os.path.join(ROOT, name), self.folder)
         for name in ("lint", "second-check", "examples", "docs"):
             os.symlink(os.path.realpath(os.path.join(ROOT, name)), os.path.join(self.folder, name))
-        for name, text in (("bin/rt", RT), ("KIT-ID", "a kit\n"), ("bad.toml", BAD),
-                ("bad.csv", "month,node,amount\n1960-7,upper,5\n"),
+        for name, text in (("kit/bin/rt", RT), ("kit/KIT-ID", "a kit\n"), ("crates/basin/src/lib.rt", "\n"),
+                ("bad.toml", BAD), ("bad.csv", "month,node,amount\n1960-7,upper,5\n"),
                 ("bad-script", "river-edit 1\nshow 2002-08\ndone\n")):
             with open(os.path.join(self.folder, name), "w", encoding="ascii") as file:
                 file.write(text)
-        os.chmod(os.path.join(self.folder, "bin", "rt"), 0o755)
+        os.chmod(os.path.join(self.folder, "kit", "bin", "rt"), 0o755)
+        self.gate_files()
         self.without_python = self.tools(os.path.join(room, "tools"))
 
-    def tools(self, folder):
-        """A folder with all commands of the machine but Python."""
+    def of(self, folder):
+        """The same with its files in another folder."""
+        other = copy.copy(self)
+        other.folder = folder
+        return other
+
+    def gate_files(self):
+        """The gate, .ci/run as it stands, with an empty script for each that it calls before its last steps."""
+        with open(os.path.join(ROOT, ".ci", "run"), encoding="utf-8") as file:
+            text = file.read()
+        alone = re.sub(r"(?s)<<CHECKS\n.*?\nCHECKS\n", "\n", text)
+        for name in {".ci/run", *re.findall(r"(?m)^(\.?\w+/[\w-]+)", alone)}:
+            path = os.path.join(self.folder, name)
+            os.makedirs(os.path.dirname(path), exist_ok=True)
+            with open(path, "x", encoding="utf-8") as file:
+                file.write(text if name == ".ci/run" else '#!/bin/sh\neval "${AT_TRIES-}"\n')
+            os.chmod(path, 0o755)
+
+    def tools(self, folder, without="python"):
+        """A folder with all commands of the machine but some."""
         os.makedirs(folder)
         for path in os.environ["PATH"].split(os.pathsep):
             for name in os.listdir(path) if os.path.isdir(path) else ():
-                if not name.startswith("python") and not os.path.lexists(os.path.join(folder, name)):
+                if not name.startswith(without) and not os.path.lexists(os.path.join(folder, name)):
                     os.symlink(os.path.join(path, name), os.path.join(folder, name))
         return folder
 
-    def start(self, words, path=None, **more):
-        path = os.path.join(self.folder, "bin") + os.pathsep + (path or os.environ["PATH"])
-        more = {"stdin": subprocess.DEVNULL} | more
-        return subprocess.Popen(["./basin", *words], cwd=self.folder,
-            env=os.environ | {"PATH": path, "PROGRAM": self.program, "STARTED": self.started},
-                                stdout=subprocess.PIPE, stderr=subprocess.PIPE, **more)
+    def start(self, words, path=None, script="./basin", has_rt=True, env=(), **more):
+        path = (os.path.join(self.folder, "kit", "bin") + os.pathsep if has_rt else "") + (path or os.environ["PATH"])
+        more = {"stdin": subprocess.DEVNULL, "stdout": subprocess.PIPE, "stderr": subprocess.PIPE} | more
+        return subprocess.Popen([script, *words], cwd=self.folder,
+            env=os.environ | {"PATH": path, "PROGRAM": self.program, "STARTED": self.started} | dict(env), **more)
 
     def answer(self, words, path=None, **more):
         """The status, what is written, and the lines on standard error."""
         started = self.start(words, path, **more)
         out, err = started.communicate(timeout=60)
-        return started.returncode, out.decode(), err.decode().splitlines()
+        return started.returncode, (out or b"").decode(), err.decode().splitlines()
 
-    def keep(self, program):
-        return self.answer(["keep", program])[0] == 0
+    def gate(self, program, **env):
+        """Whether the gate passes, where `rt ci` leaves this program."""
+        return self.answer([], script=".ci/run", env={"PROGRAM": program} | env)[0] == 0
 
 
 def try_proved(place, tried):
@@ -182,7 +206,7 @@ def try_signals(place, tried, room):
     for number in (signal.SIGTERM, signal.SIGINT):
         if os.path.exists(place.started):
             os.remove(place.started)
-        tried("a program is kept", place.keep(waiting))
+        tried("a program is kept", place.gate(waiting))
         started = place.start(["run", "examples/weir.toml"])
         until = time.monotonic() + 20
         while time.monotonic() < until and not (os.path.exists(place.started) and os.path.getsize(place.started)):
@@ -193,6 +217,51 @@ def try_signals(place, tried, room):
         started.communicate(timeout=30)
         tried(f"signal {number} ends the script and the program",
             started.returncode == 128 + number and not os.path.exists(f"/proc/{child}"), str(started.returncode))
+
+
+def large_files():
+    """Files that are refused, and that some way of looking for the fault would take minutes for: the name, the text,
+    and the status."""
+    top, node = 'format = 1\nfirst_month = "1900-01"\nmonths = 12\n', '[[node]]\nname = "spring{}"\n'
+    yield "40,000 unknown keys", top + "".join(f"unknown_key_{at} = {at}\n" for at in range(40_000)), 3
+    yield "40,000 nodes with one", top + "".join((node + "outlett = true\n").format(at) for at in range(40_000)), 3
+    yield "300,000 nodes without a name", top + "[[node]]\n" * 300_000, 3
+    yield "100,000 nodes of one name", top + node.format("") * 100_000, 3
+    yield "lists 100,000 deep", top + "x = " + "[" * 100_000 + "]" * 100_000 + "\n", 3
+    yield "tables 100,000 deep", top + "x = " + "{a=" * 100_000 + "1" + "}" * 100_000 + "\n", 3
+    yield "400,000 keys on one line", top + "x = {" + ", ".join(f"a{at}=1" for at in range(400_000)) + "}\n", 3
+    yield "a key of 1,000,000 parts", top + "a." * 1_000_000 + "a = 1\n", 3
+    yield "a key of 4,000,000 signs", top + "a" * 4_000_000 + " = 1\n", 3
+    yield "a list of 2,000,000 numbers", top + "x = [" + "1," * 2_000_000 + "]\n", 3
+    pairs = "".join(f'[[link]]\nname = "{name}{at}"\nfrom = "spring{tail}"\nto = "spring{head}"\n'
+        for at in range(0, 2000, 2) for name, tail, head in (("a", at, at + 1), ("b", at + 1, at)))
+    yield "1,000 pairs of nodes in a ring", top + "".join(map(node.format, range(2000))) + pairs, 3
+    ring = "".join(f'[[link]]\nname = "a{at}"\nfrom = "spring{at}"\nto = "spring{(at + 1) % 2000}"\n'
+        for at in range(2000))
+    yield "2,000 nodes in a ring", top + "".join(map(node.format, range(2000))) + ring, 3
+    yield "200,000 odd records", "month,node,amount\n" + "".join(f"1960-7,odd{at},5\n" for at in range(200_000)), 4
+
+
+def try_large(place, tried):
+    """What the script says of large files comes soon, and the program's own line before it. (Two seconds on a machine
+    with nothing else to do; a few more are left to one that has.)"""
+    path = os.path.join(place.folder, "large")
+    for what, text, status in large_files():
+        with open(path, "w", encoding="ascii") as file:
+            file.write(text)
+        words = ["run", "large", "-"] if status == 3 else ["run", "examples/weir.toml", "large"]
+        began = time.monotonic()
+        answer = place.answer(words)
+        seconds = time.monotonic() - began
+        said = answer[2][1:2] == [f"  lint/lint {words[1]} {words[2]} says what is wrong"] or answer[2][2:] == [
+            f"  all that is wrong: lint/lint {words[1]} {words[2]}"] and len(answer[2][1]) < 100_000
+        tried(f"./basin run of {what}", answer[0] == status and said and seconds < 8,
+            f"{seconds:.1f} seconds {str(answer)[:300]}")
+        if what.startswith("a key of"):
+            began = time.monotonic()
+            answer = place.answer(["why", "large", "-", "1982-07", "old", "fields"])
+            tried(f"the rights of a basin with {what}", answer[0] == 2 and answer[2][:1] == [USAGE]
+                and time.monotonic() - began < 8, str(answer))
 
 
 def try_screen(tried):
@@ -212,7 +281,8 @@ def try_answers(program, room, tried):
     try_screen(tried)
     place = Place(program, room)
     try_quick(place, tried)
-    tried("the program is kept", place.keep(program))
+    tried("the program is kept", place.gate(program))
     try_proved(place, tried)
+    try_large(place, tried)
     try_signals(place, tried, room)
     return len(ANSWERS) + len(GOOD)
