@@ -757,6 +757,11 @@ def aligned(rows):
         yield "  ".join(cells).rstrip()
 
 
+def shown(text):
+    """A text of which every character can be seen: the others are spelled as Python does, a line feed as \\n."""
+    return "".join(it if it.isprintable() else repr(it)[1:-1] for it in text)
+
+
 def start(main, name, usage):
     """Does what the words of the command line ask a script for. A text that is none is told with status 1, a file that
     can't be read or written with 2, and a status of the program's is handed on."""
@@ -777,5 +782,5 @@ def start(main, name, usage):
         sys.exit(1)
     except OSError as error:
         told, status = f"{error.filename or 'standard output'}: {error.strerror}", 2
-    print(f"{name}: {told}", file=sys.stderr)
+    print(f"{name}: " + "\n".join(map(shown, told.split("\n"))), file=sys.stderr)
     sys.exit(status)

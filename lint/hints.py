@@ -46,6 +46,11 @@ def meant(word, names):
     return f"; did you mean {name}?" if name is not None else ""
 
 
+def shown_line(text):
+    """A line of which every character can be seen, so that no name is an order to a terminal, or a line of its own."""
+    return "".join(it if it.isprintable() else repr(it)[1:-1] for it in text)
+
+
 def month_text(month):
     """A month that is counted from the year 0, as it is written."""
     return f"{month // 12:04d}-{month % 12 + 1:02d}"

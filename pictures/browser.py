@@ -59,7 +59,7 @@ class Browser:
         return json.loads(message)
 
     def ask(self, method, **values):
-        """The answer to an order. Faults of the page's scripts and requests for anything are kept on the way."""
+        """The answer to an order. Faults of the page, and requests for anything, are kept on the way."""
         self.number += 1
         order = {"id": self.number, "method": method, "params": values}
         if self.session:
@@ -73,6 +73,8 @@ class Browser:
                 return message["result"]
             if message.get("method") == "Runtime.exceptionThrown":
                 self.errors.append(message["params"]["exceptionDetails"].get("exception", {}).get("description", "?"))
+            if message.get("method") == "Log.entryAdded" and message["params"]["entry"]["level"] == "error":
+                self.errors.append(message["params"]["entry"]["text"])
             if message.get("method") == "Network.requestWillBeSent":
                 self.requests.append(message["params"]["request"]["url"])
 

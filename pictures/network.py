@@ -4,7 +4,10 @@ Every node adds up for the eye: in its box stand what flows in from outside, wha
 with a plus, and what evaporates, is taken, is held after the month and leaves the basin, with a minus; the rest comes
 and goes on the links. What flows in at a gauge stands in no basin file: it is what the node needs to add up.
 """
+import html
+
 import basin
+from basin import shown
 
 # Dark and light of one hue, which print as dark grey and light grey.
 CORE, REACH, PLAIN = ("#9c2f22", "white"), ("#f3cdc7", "black"), ("white", "black")
@@ -12,6 +15,16 @@ EDGE, DRY, HELPS = "#2b6c99", "#7f8c8d", "#9c2f22"
 PAGE = (11.2, 7.8)                  # inches of a landscape page of A4, without its margins
 FEW, MANY = 25, 200                 # nodes of a basin that has room for all names, and of one that is laid out once
 MINUS, HERE = "\u2212", "\u25b6"
+
+
+def quoted(text):
+    """A text as it stands between quotes in dot, which knows entities there."""
+    return shown(text).replace("\\", "\\\\").replace('"', '\\"').replace("&", "&amp;")
+
+
+def marked(text):
+    """A text as it stands in a label that dot reads as marked up, where a backslash has a meaning too."""
+    return html.escape(shown(text)).replace("\\", "\\\\")
 
 
 class View:
@@ -87,22 +100,23 @@ class View:
         want, got = self.now.wanted[name], self.now.delivered[name]
         fared = "wants nothing" if not want else "met" if got == want else f"{want - got} short"
         mark = f"{HERE} " if self.right and name == self.right.name else ""
-        return f"{mark}{name} {self.rights[name].date[:4]}: {fared}"
+        return f"{mark}{shown(name)} {shown(self.rights[name].date[:4])}: {fared}"
 
     def kept(self, link):
         """The instream rights on a link, with what they are delivered."""
         return [f"{self.now.delivered[it]} for {self.told(it)}" for it in self.holders(link)]
 
     def rows(self, node):
-        """The lines of a node's box: its parts, but for those of 0 that are no right's; callers below their rights,
-        after a line feed; and in a large basin the instream rights of the links that leave it."""
+        """The lines of a node's box: its parts, but for those of 0 that are no right's; below a right with a `called`
+        line, after a line feed, in whose set it is; and in a large basin the instream rights of the links that leave
+        it."""
         for amount, what, name in self.balanced(node):
-            caller = f"\n    called by {self.now.callers[name]}" if name in self.now.callers else ""
+            caller = f"\n    in the set of {shown(self.now.callers[name])}" if name in self.now.callers else ""
             if amount or name:
                 yield (f"{amount:+} {what}".replace("-", MINUS, 1) if amount else f"0 {what}") + caller
         for name, link in self.links.items():
             if self.is_large and link["from"] == node:
-                yield from (f"on {name} {text}" for text in self.kept(name))
+                yield from (f"on {shown(name)} {text}" for text in self.kept(name))
 
     def balanced(self, node):
         """The parts of a node. What is lacking or left over is one of them, where the node doesn't add up."""
@@ -136,12 +150,14 @@ def box(view, node, across):
     fill, ink = view.colours(node)
     lines = list(view.rows(node))
     lines = "\n".join(lines).split("\n") if across == 1 else [line.replace("\n   ", ",") for line in lines]
+    lines = list(map(marked, lines))
     rows = ["&#160;&#160; ".join(lines[at:at + across]) for at in range(0, len(lines), across)]
     rows = "".join(f'<TR><TD ALIGN="LEFT">{row}</TD></TR>' for row in rows)
     style = "filled,dashed" if node in view.now.out else "filled,rounded"
     edges = 2 if node in view.now.opening else 1
-    table = f'<TABLE BORDER="0" CELLSPACING="0" CELLPADDING="1"><TR><TD><B>{node}</B></TD></TR>{rows}</TABLE>'
-    return f'"{node}" [label=<{table}> style="{style}" fillcolor="{fill}" fontcolor="{ink}" peripheries={edges}];'
+    table = f'<TABLE BORDER="0" CELLSPACING="0" CELLPADDING="1"><TR><TD><B>{marked(node)}</B></TD></TR>{rows}</TABLE>'
+    return (f'"{quoted(node)}" [label=<{table}> style="{style}" fillcolor="{fill}" fontcolor="{ink}" '
+            f'peripheries={edges}];')
 
 
 def arrow(view, link, most):
@@ -150,12 +166,12 @@ def arrow(view, link, most):
     name, flow, carry = link["name"], view.now.flow[link["name"]], view.carry(link)
     amount = str(flow) if carry is None else "shut" if carry == 0 else f"{flow} of {carry}"
     style = "solid" if carry is None else "dotted" if carry == 0 else "dashed"
-    told = "\\n".join([name, amount, *view.kept(name)])
-    short = amount if carry is None else f"{name} {amount}"
+    told = "\\n".join(map(quoted, [name, amount, *view.kept(name)]))
+    short = amount if carry is None else quoted(f"{name} {amount}")
     label = f'xlabel="{short}"' if view.is_large else f'label="{told}"'
     colour = HELPS if view.right and view.helps(link) else EDGE if flow else DRY
     head = "tee" if carry == 0 else "normal"
-    return (f'"{link["from"]}" -> "{link["to"]}" [{label} style={style} arrowhead={head} '
+    return (f'"{quoted(link["from"])}" -> "{quoted(link["to"])}" [{label} style={style} arrowhead={head} '
             f'penwidth={0.7 + 4 * flow / most:.2f} color="{colour}"];')
 
 
@@ -174,11 +190,12 @@ def legend(view):
              (*PLAIN, "double line: reservoir; dashed box: outlet"),
              (*PLAIN, "1898: the year of a right; seniors are older")]
     if view.right:
-        cells = [(*CORE, f"dark, the core: one more unit here would be {view.right.name}'s"),
-                 (*REACH, "light, the rest of its reach: nothing is left over here"),
-                 (*PLAIN, "white: water here can't help it"),
+        cells = [(*CORE, f"dark, the core: one more unit here would help {view.right.name}"),
+                 (*REACH, "light, the rest of its reach: nothing is left over, and more here can't help"),
+                 (*PLAIN, "white: more here can't help it"),
                  (*PLAIN, "a dark red line: more carry would help")] + cells
-    told = [f'<TD ALIGN="LEFT" BGCOLOR="{fill}"><FONT COLOR="{ink}">{text}</FONT></TD>' for fill, ink, text in cells]
+    told = [f'<TD ALIGN="LEFT" BGCOLOR="{fill}"><FONT COLOR="{ink}">{marked(text)}</FONT></TD>'
+            for fill, ink, text in cells]
     rows = "".join(f"<TR>{left}{right}</TR>" for left, right in zip(told[::2], told[1::2]))
     return f'<TABLE BORDER="0" CELLBORDER="1" CELLSPACING="0" COLOR="#bbbbbb">{rows}</TABLE>'
 
@@ -192,7 +209,7 @@ def dot(view, direction, across):
         '  fontname="sans-serif"; edge [fontname="sans-serif" fontsize=9 arrowsize=0.7];',
         '  node [shape=box fontname="sans-serif" fontsize=10 margin="0.05,0.03" color="#2b6c99"];',
         f"  label=<{legend(view)}>; labelloc=b;",
-        f'  subgraph cluster_basin {{ label="{title(view)}"; labelloc=t; fontsize=13; color=white;',
+        f'  subgraph cluster_basin {{ label="{quoted(title(view))}"; labelloc=t; fontsize=13; color=white;',
         *(f"  {box(view, node, across)}" for node in view.nodes),
         *(f"  {arrow(view, link, most)}" for link in view.links.values()),
         "}}"])

@@ -37,7 +37,7 @@ function supply(m, node) {
 
 // The greatest delivery of a right's seniors on a link, and the most senior of those that have it; or null.
 function kept(m, l, r) {
-  const seniors = rights.map((_, s) => s).filter(s => s < r && isInstream(s) && rights[s][2] === l);
+  const seniors = data.order.links[l].filter(s => s < r);
   const most = Math.max(0, ...seniors.map(s => data.got[m][s]));
   return most ? [most, seniors.find(s => data.got[m][s] === most)] : null;
 }
@@ -63,6 +63,21 @@ function account(m, r, set) {
   return lines;
 }
 
+// The core of a short right, which are the nodes that `basin where` names, as a list of truths by node: from these its
+// node is reached by steps with room, over links that can carry more, and back over links that carry more than is kept
+// on them for its seniors.
+function coreOf(m, r) {
+  const own = isInstream(r) ? rights[r][2] : -1, tails = nodes.map(() => []);
+  links.forEach(([, tail, head], l) => {
+    const flow = data.flow[m][l], keeps = kept(m, l, r);
+    if (flow < carry(m, l)) tails[head].push(tail);
+    if (l !== own && flow > (keeps ? keeps[0] : 0)) tails[tail].push(head);
+  });
+  const core = new Set([own < 0 ? rights[r][2] : links[own][1]]);
+  for (const node of core) tails[node].forEach(tail => core.add(tail));
+  return nodes.map((_, node) => core.has(node));
+}
+
 // --- What is shown ---------------------------------------------------------------------------------------------------
 function make(tag, text, parent, kind) {
   const it = document.createElement(tag);
@@ -76,31 +91,53 @@ function placeName(r) {
   return kind === "instream" ? `instream on ${links[place][0]}` : `${kind} at ${nodes[place]}`;
 }
 
-function showAccount(set) {
+function showAccount(set, core) {
   const {month: m, right: r} = chosen, box = at("account"), name = rights[r][0], got = data.got[m][r];
   box.replaceChildren();
-  at("headline").textContent = `${monthName(m)}: ${name} of ${rights[r][3]} (${placeName(r)}) ` +
+  at("headline").textContent = (data.refuted ? "REFUTED. The result says of " : "") +
+    `${monthName(m)}: ${name} of ${rights[r][3]} (${placeName(r)}) ` +
     (data.want[m][r] === 0 ? "wants nothing" : `is delivered ${said(got)} of ${said(data.want[m][r])}` +
     (lack(m, r) ? `: ${said(lack(m, r))} short` : ", all that it wants"));
-  if (set) {
-    make("h3", "Why it gets no more", box);
-    make("p", "At the thick nodes of the map, and nowhere else, lies the water that could help it:", box);
-    const table = make("table", "", box), lines = account(m, r, set);
-    const words = {supply: "water at", enter: "can come in by", keep: "must flow on in", take: "taken by"};
-    const row = (kind, text, amount, remark) => {
-      const tr = make("tr", "", table, kind), td = make("td", text, tr);
-      if (remark) make("small", ` (${remark})`, td);
-      make("td", amount, tr, "amount");
-    };
-    for (const [word, what, amount, remark] of lines)
-      row(word, `${words[word]} ${what}`, (amount < 0 ? "\u2212 " : "+ ") + said(Math.abs(amount)), remark);
-    const sum = lines.reduce((so, line) => so + line[2], 0);
-    row("sum", sum === got ? `left for ${name}, and delivered` : "THIS IS NOT WHAT IT GOT", said(sum));
-    make("p", "No junior takes any of it there, and no water leaves unused.", box);
-  } else if (lack(m, r)) {
-    make("p", "The result has no set of nodes that shows this shortage.", box);
+  if (data.refuted) {
+    make("p", `basin check answered "${data.refuted}" to this result. So no reason is given here for any shortage, ` +
+      "and nobody is named as curtailed.", box);
+    return;
   }
-  showCalls(box, m, r);
+  if (set) {
+    showBook(box, name, account(m, r, set), got);
+    showCore(box, m, r, core);
+  }
+  showCurtailed(box, m, r);
+  // (so that a long account is printed in columns)
+  document.body.classList.toggle("long", box.querySelectorAll("tr, span").length > 30);
+}
+
+function showBook(box, name, lines, got) {
+  make("h3", "Why it gets no more", box);
+  make("p", "No water outside the thick nodes of the map could have helped it. Of the water at them, and of all that " +
+    "can come in, it got what is left by its seniors:", box);
+  const table = make("table", "", box);
+  const words = {supply: "water at", enter: "can come in by", keep: "must flow on in", take: "taken by"};
+  const row = (kind, text, amount, remark) => {
+    const tr = make("tr", "", table, kind), td = make("td", text, tr);
+    if (remark) make("small", ` (${remark})`, td);
+    make("td", amount, tr, "amount");
+  };
+  for (const [word, what, amount, remark] of lines)
+    row(word, `${words[word]} ${what}`, (amount < 0 ? "\u2212 " : "+ ") + said(Math.abs(amount)), remark);
+  const sum = lines.reduce((so, line) => so + line[2], 0);
+  row("sum", sum === got ? `left for ${name}, and delivered` : "THIS IS NOT WHAT IT GOT", said(sum));
+  make("p", "No junior takes water at the thick nodes, and at none of them does water leave the basin.", box);
+}
+
+// Where one more unit of water would have helped a right, and where it would have been a senior's.
+function showCore(box, m, r, core) {
+  const there = nodes.map((_, node) => node).filter(node => core[node]), next = node => data.next[m][node];
+  const text = node => nodes[node] + (next(node) === r ? "" : ` (${rights[next(node)][0]} is next)`);
+  make("h3", "Where one more unit of water would have helped it", box);
+  make("p", `At the dark nodes, and at no other: ${there.map(text).join(", ")}.`, box);
+  if (there.some(node => next(node) !== r))
+    make("p", "Where another is next, the unit would be that right's, which is senior to it and short too.", box);
 }
 
 // A text with the name of a right that a click chooses.
@@ -110,24 +147,36 @@ function nameIn(parent, before, r, after) {
   parent.append(after);
 }
 
-function showCalls(box, m, r) {
-  const caller = data.caller[m][r], name = rights[r][0];
-  const called = rights.map((_, s) => s).filter(s => data.caller[m][s] === r);
-  make("h3", "Who is called", box);
-  if (caller !== undefined)
-    nameIn(make("p", "", box), `${name} answers to the call of `, caller,
-      ` of ${rights[caller][3]}, and gets nothing.`);
-  make("p", called.length ? `These answer to the call of ${name}, and get nothing of what they want:`
-    : `Nobody answers to a call of ${name} in this month.`, box);
-  const list = make("p", "", box, "called");
-  for (const s of called) nameIn(make("span", "", list), "", s, ` of ${yearOf(s)} (${said(data.want[m][s])}) `);
-  // (so that a long account is printed in columns)
-  document.body.classList.toggle("long", box.querySelectorAll("tr, span").length > 30);
+// Who has to stand back for whom; and, apart, what the `called` lines of the result say besides.
+function showCurtailed(box, m, r) {
+  const senior = data.senior[m][r], caller = data.caller[m][r], name = rights[r][0];
+  const among = list => rights.map((_, s) => s).filter(s => list[s] === r), curtailed = among(data.senior[m]);
+  const others = among(data.caller[m]).filter(s => data.senior[m][s] !== r);
+  const list = (text, those, kind) => {
+    make("p", text, box);
+    const line = make("p", "", box, kind);
+    for (const s of those) nameIn(make("span", "", line), "", s, ` of ${yearOf(s)} (${said(data.want[m][s])}) `);
+  };
+  make("h3", "Who is curtailed", box);
+  if (senior !== undefined)
+    nameIn(make("p", "", box), `${name} is curtailed for `, senior,
+      ` of ${rights[senior][3]}, whose one more unit of water at its node would be. It gets nothing.`);
+  if (curtailed.length)
+    list(`These are curtailed for ${name}: one more unit at their nodes would be ${name}'s. They get nothing of what ` +
+      "they want:", curtailed, "curtailed");
+  else make("p", `Nobody is curtailed for ${name} in this month.`, box);
+  if (caller !== undefined && caller !== senior)
+    nameIn(make("p", "", box), `The line "called ${name} ${rights[caller][0]}" of the result says that ${name} takes ` +
+      "in the set of ", caller, " and gets nothing. It needn't stand back for that right, which one more unit of " +
+      "water there would not help.");
+  if (others.length)
+    list(`Lines "called .. ${name}" stand in the result for these too, as they take at thick nodes and get nothing. ` +
+      `They needn't stand back for ${name}, which one more unit of water there would not help:`, others, "called");
 }
 
 function rightLine(m, s) {
-  const called = data.caller[m][s] === chosen.right ? "\u2190 " : "";
-  return `${called}${rights[s][0]} ${said(data.got[m][s])} of ${said(data.want[m][s])}`;
+  const curtailed = data.senior[m][s] === chosen.right ? "\u2190 " : "";
+  return `${curtailed}${rights[s][0]} ${said(data.got[m][s])} of ${said(data.want[m][s])}`;
 }
 
 const most = Math.max(1, ...data.flow.map(row => Math.max(0, ...row)));
@@ -144,11 +193,12 @@ function writeTexts(texts, first, m, order) {
   });
 }
 
-function showMap(set) {
+function showMap(set, core) {
   const m = chosen.month;
   parts[0].forEach(({group, texts}, node) => {
     writeTexts(texts, nodes[node], m, data.order.nodes[node]);
     group.classList.toggle("in", Boolean(set && set[node]));
+    group.classList.toggle("core", Boolean(core && core[node]));
   });
   parts[1].forEach(({group, texts, path}, l) => {
     const [name, tail, head] = links[l], flow = data.flow[m][l];
@@ -318,12 +368,13 @@ const within = (place, list) => Math.max(0, Math.min(list.length - 1, place));
 
 function show() {
   const set = rights.length ? setOf(chosen.month, chosen.right) : null;
+  const core = set ? coreOf(chosen.month, chosen.right) : null;
   at("month").textContent = months[chosen.month];
   at("slider").value = chosen.month;
   at("right").value = chosen.right;
   at("lake").value = chosen.lake;
-  if (rights.length) showAccount(set);
-  showMap(set);
+  if (rights.length) showAccount(set, core);
+  showMap(set, core);
   showGrid();
   showPlots();
 }
