@@ -109,7 +109,7 @@ function showAccount(set, core) {
   }
   showCurtailed(box, m, r);
   // (so that a long account is printed in columns)
-  document.body.classList.toggle("long", box.querySelectorAll("tr, span").length > 30);
+  document.body.classList.toggle("long", box.querySelectorAll("tr, span").length > 24);
 }
 
 function showBook(box, name, lines, got) {
@@ -135,7 +135,9 @@ function showCore(box, m, r, core) {
   const there = nodes.map((_, node) => node).filter(node => core[node]), next = node => data.next[m][node];
   const text = node => nodes[node] + (next(node) === r ? "" : ` (${rights[next(node)][0]} is next)`);
   make("h3", "Where one more unit of water would have helped it", box);
-  make("p", `At the dark nodes, and at no other: ${there.map(text).join(", ")}.`, box);
+  make("p", "At the dark nodes, and at no other:", box);
+  const list = make("p", "", box, "at");
+  for (const node of there) make("span", `${text(node)} `, list);
   if (there.some(node => next(node) !== r))
     make("p", "Where another is next, the unit would be that right's, which is senior to it and short too.", box);
 }
