@@ -237,7 +237,7 @@ module _ {K : Type 0} (sink : Sink.Ghosts K) (b : Basin) (series : Inflows) (edi
   whole_stops stop.OutOfMemory old new h = (h.0, h.1, h.2.text, some_flushed sink b h.0 old new h.2.flushed)
 
   pub stops_flushed : (why : EditStop) (old new : K) → Answers sink b series edits (Err why) old new →
-      Err why ≡ Err stop.OutOfMemory → IsUntouchedOrFlushed old new (sink.output new)
+      why ≡ stop.OutOfMemory → IsUntouchedOrFlushed old new (sink.output new)
   stops_flushed stop.SinkFailed old new h same = cc
   stops_flushed stop.OutOfMemory old new h same = put_untouched sink b h.0 old new h.2.flushed
 

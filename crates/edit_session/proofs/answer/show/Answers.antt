@@ -44,7 +44,7 @@ returns-in_err-flush-clause-answers g c =
     (show_failed g.K.Sink _ _
     (month_kept valid c.in_ok-solve.ensures.basin c.in_ok-solve.ensures.series c.in_ok-solve.ensures.history
     c.month.ensures)
-    (puts_kept _ _ _ (Err tt) _
+    (puts_kept {E = Unit {0}} _ _ _ (Err (tt {0})) _
     (rw (c.basin.ensures.value, c.in_ok-solve.ensures.basin) at c.in_ok-put_month.ensures.text)
     c.in_err-flush.ensures.bytes))
 

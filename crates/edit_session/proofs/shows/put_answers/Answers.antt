@@ -15,7 +15,9 @@ returns-in_err-answer_each-clause-answers g c =
 pub returns-in_err-answer_each-clause-shown : goal.returns-in_err-answer_each-clause-shown
 returns-in_err-answer_each-clause-shown g c =
     let p = err_from_is_err_and c.from_residual.result c.from_residual.ensures.1 in
-    rw (p.1, p.2) (stops_flushed g.K.Sink _ _ _ c.in_err-answer_each.field-0.0 _ _ c.in_err-answer_each.ensures.answers)
+    let made = p.1 in
+    let is = p.2 in λ same.
+    stops_flushed g.K.Sink _ _ _ c.in_err-answer_each.field-0.0 _ _ c.in_err-answer_each.ensures.answers cc
 
 pub returns-in_err-put_done-clause-answers : goal.returns-in_err-put_done-clause-answers
 returns-in_err-put_done-clause-answers g c =
