@@ -88,11 +88,10 @@ fn serve<S: Shelf, K: Sink, E: Sink, P: Ledger, M: Ledger>(
     ensures out_stays { OnErr words (out.new ≡ out.old) }
     ensures idle { OnErr words (work.new ≡ work.old) }
 {
-    let status = match words {
-        Ok(words) => basin_main(alloc, &words, shelf, out, err, work),
-        Err(AllocError) => without_words(err),
-    };
-    exit(status)
+    match words {
+        Ok(words) => exit(basin_main(alloc, &words, shelf, out, err, work)),
+        Err(AllocError) => exit(without_words(err)),
+    }
 }
 
 /// Serves the words of the command line on the system's files and these two streams, and counts from nothing.
@@ -116,14 +115,7 @@ fn run<P: Ledger, M: Ledger, R: Files + Env + AllocGlobal, W: Write + Drop, V: W
     let mut out = StdSink::new(out);
     let mut err = StdSink::new(err);
     let words = words(rt.alloc(), std::env::args(rt));
-    serve(
-        rt.alloc(),
-        words,
-        &mut shelf,
-        &mut out,
-        &mut err,
-        &mut work,
-    )
+    serve(rt.alloc(), words, &mut shelf, &mut out, &mut err, &mut work)
 }
 
 fn main(rt: HostRuntime) -> ExitCode
