@@ -1,14 +1,18 @@
 //! The program: real files and streams under the top call.
 #![tactic(auto)]
 
-ghost use Rattle.std.specs.Prelude.{◌≡◌, ◌<◌, IfOk, drop, map, string_bytes};
+ghost use Rattle.std.specs.Prelude.{[], ◌≡◌, ◌<◌, IfOk, OnErr, drop, map, string_bytes};
 ghost use Rattle.std.specs.Process.{exit_status};
 ghost use Rattle.std.specs.Vec.Iter.{into_iter_items};
 ghost use Rattle.water_edge.specs.Edge.{Rose};
 ghost use Rattle.basin_cli.specs.Code.{code_of};
 ghost use Rattle.basin_cli.specs.Command.{ServesFiles, command_of};
-ghost use Rattle.basin_cli.specs.Outcome.{Completes, Ends, IsQuiet, WritesFor};
+ghost use Rattle.basin_cli.specs.Ending.{line_of};
+ghost use Rattle.basin_cli.specs.Outcome.{WritesErrLine};
+ghost use Rattle.basin_cli.specs.Serving.{IsServed};
+ghost use Rattle.basin_cli.specs.declared.ending.Ending.TheVariants as ending;
 ghost use Rattle.basin_cli.specs.declared.status.Status.{Status};
+ghost use Rattle.basin_cli.specs.declared.status.Status.TheVariants.{OutOfMemory};
 
 use basin_cli::{Status, basin_main, without_words};
 use month_fold::work::Work;
@@ -34,15 +38,18 @@ fn after_first(alloc: Global, mut args: Args) -> Result<Vec<String>, AllocError>
     Ok(words)
 }
 
-/// The words after the program's name. None of them where one is no text.
-fn words<R: Env + AllocGlobal>(rt: &R) -> Result<Vec<String>, AllocError> {
-    match std::env::args(rt) {
-        Ok(args) => after_first(rt.alloc(), args),
+/// The words after the program's name, of what std says of the command line. None of them where one is no text.
+fn words(alloc: Global, args: io::Result<Args>) -> Result<Vec<String>, AllocError>
+    ensures given { IfOk result (λ words. IfOk args (λ given. words.items ≡ drop 1 (into_iter_items given))) }
+    ensures none { IfOk result (λ words. OnErr args (words.items ≡ [])) }
+{
+    match args {
+        Ok(args) => after_first(alloc, args),
         Err(e) => {
             if e.kind() == io::ErrorKind::OutOfMemory {
                 Err(AllocError)
             } else {
-                Ok(Vec::new(rt.alloc()))
+                Ok(Vec::new(alloc))
             }
         }
     }
@@ -55,31 +62,39 @@ fn exit(status: Status) -> ExitCode
     ExitCode::from(status.code())
 }
 
-/// The status with which the process ends is that of the call.
+/// Does what the words say, or without memory for them puts the line for that. The process ends with the status.
 fn serve<S: Shelf, K: Sink, E: Sink, P: Ledger, M: Ledger>(
     alloc: Global,
-    words: &[String],
+    words: Result<Vec<String>, AllocError>,
     shelf: &mut S,
     out: &mut K,
     err: &mut E,
     work: &mut Work<P, M>,
 ) -> ExitCode
-    requires { ServesFiles (S.serves shelf.old) (command_of (map string_bytes words.now)) }
-    ensures { (status : Status) × (exit_status result ≡ code_of status)
-        × Ends (command_of (map string_bytes words.now)) status (S.known shelf.old)
-        (Rose (S.faults shelf.old) (S.faults shelf.new)) (Rose (K.faults out.old) (K.faults out.new))
-        (S.asked shelf.old) (S.asked shelf.new)
-        (E.output err.old) (E.output err.new) (E.faults err.old) (E.faults err.new)
-        × Completes (command_of (map string_bytes words.now)) status (S.known shelf.old)
-        (Rose (S.faults shelf.old) (S.faults shelf.new)) (Rose (K.faults out.old) (K.faults out.new))
-        × WritesFor (command_of (map string_bytes words.now)) status (S.known shelf.old) (K.output out.old)
-        (K.output out.new) work.old work.new
-        × (IsQuiet status → (K.output out.new).flushed ≡ (K.output out.new).taken) }
+    requires { IfOk words (λ w. ServesFiles (S.serves shelf.old) (command_of (map string_bytes w.items))) }
+
+    // With words: all that `basin_main` promises.
+    ensures served { IfOk words (λ w. (status : Status) × (exit_status result ≡ code_of status)
+        × IsServed S.Shelf K.Sink E.Sink (command_of (map string_bytes w.items)) status shelf.old shelf.new
+        out.old out.new err.old err.new work.old work.new) }
+
+    // Without: nothing is done but for the line on err.
+    ensures status { OnErr words (exit_status result ≡ code_of OutOfMemory) }
+    ensures line { OnErr words (WritesErrLine (E.output err.old) (E.output err.new) (E.faults err.old)
+        (E.faults err.new) (line_of ending.OutOfMemory)) }
+    ensures line_flushed { OnErr words ((Rose (E.faults err.old) (E.faults err.new) → ⊥) →
+        (E.output err.new).flushed ≡ (E.output err.new).taken) }
+    ensures shelf_stays { OnErr words (shelf.new ≡ shelf.old) }
+    ensures out_stays { OnErr words (out.new ≡ out.old) }
+    ensures idle { OnErr words (work.new ≡ work.old) }
 {
-    let status = basin_main(alloc, words, shelf, out, err, work);
-    exit(status)
+    match words {
+        Ok(words) => exit(basin_main(alloc, &words, shelf, out, err, work)),
+        Err(AllocError) => exit(without_words(err)),
+    }
 }
 
+/// Serves the words of the command line on the system's files and these two streams, and counts from nothing.
 fn run<P: Ledger, M: Ledger, R: Files + Env + AllocGlobal, W: Write + Drop, V: Write + Drop>(
     rt: &R,
     out: W,
@@ -93,25 +108,19 @@ fn run<P: Ledger, M: Ledger, R: Files + Env + AllocGlobal, W: Write + Drop, V: W
     requires months_name { months.name ≡ M.name }
     requires months_parts { months.parts ≡ M.parts }
     requires months_some { 0 < M.parts }
+    ensures { (status : Status) × (exit_status result ≡ code_of status) }
 {
     let mut work = Work::<P, M>::new(pushes, months);
     let mut shelf = FileShelf::new(rt);
     let mut out = StdSink::new(out);
     let mut err = StdSink::new(err);
-    match words(rt) {
-        Ok(words) => serve(
-            rt.alloc(),
-            &words,
-            &mut shelf,
-            &mut out,
-            &mut err,
-            &mut work,
-        ),
-        Err(AllocError) => exit(without_words(&mut err)),
-    }
+    let words = words(rt.alloc(), std::env::args(rt));
+    serve(rt.alloc(), words, &mut shelf, &mut out, &mut err, &mut work)
 }
 
-fn main(rt: HostRuntime) -> ExitCode {
+fn main(rt: HostRuntime) -> ExitCode
+    ensures { (status : Status) × (exit_status result ≡ code_of status) }
+{
     let pushes = Blank::new(1);
     let months = Blank::new(1);
     run::<Brand, Brand, HostRuntime, _, _>(&rt, rt.stdout(), rt.stderr(), pushes, months)

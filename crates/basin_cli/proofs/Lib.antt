@@ -1,5 +1,4 @@
 pub mod Written
-pub mod Monthly
 pub mod Listed
 pub mod Missing
 pub mod Failing
@@ -17,7 +16,6 @@ pub mod Edited
 pub mod FoundBytes
 pub mod Idle
 pub mod Flushed
-mod FlushedBefore
 pub mod Parts
 pub mod Unread
 pub mod Solved

@@ -18,7 +18,7 @@ use Rattle.water_model.specs.declared.types.Basin.{Basin}
 use Rattle.water_model.specs.declared.types.Inflows.{Inflows}
 use Rattle.water_model.specs.declared.types.MonthRecord.{MonthRecord}
 use Rattle.basin_cli.specs.Listed.{IsListed, IsWholeList, StopsListing}
-use Rattle.basin_cli.proofs.Monthly.{head_prefix, month_begun, month_prefix, tail_prefix}
+use Rattle.result_text.proofs.Monthly.{head_prefix, month_begun, month_prefix, tail_prefix}
 use Rattle.basin_cli.proofs.Written.{stood_done, whole_run}
 
 -- what one more unit would do in the last month of a run can be found
@@ -145,3 +145,10 @@ tail_put b series run start mid now (Ok u) before after fits all listed puts sol
     (tail_listed b series run start mid now fits all listed puts, tt)
 tail_put b series run start mid now (Err x) before after fits all listed puts solves =
     (tt, tail_stops b series run start mid now before after fits all listed puts solves)
+
+-- what holds of a text of three things holds of that of others which are the same
+pub same_text : {X Y Z : Type 0} (P : List ℕ → Type 0) (text : X → Y → Z → List ℕ) (x a : X) (y b : Y) (z c : Z) →
+    x ≡ a → y ≡ b → z ≡ c → P (text x y z) → P (text a b c)
+same_text {X = X} {Y = Y} {Z = Z} P text x a y b z c one two three holds =
+    subst (λ (k : X). P (text k b c)) one
+    (subst (λ (k : Y). P (text x k c)) two (subst (λ (k : Z). P (text x y k)) three holds))

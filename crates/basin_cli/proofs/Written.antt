@@ -28,7 +28,7 @@ use Rattle.water_edge.proofs.Outputs.{Extends-trans}
 use Rattle.water_edge.specs.Edge.{Extends, Output, Puts}
 use Rattle.basin_cli.specs.Written.{IsWritten, IsWrittenRun, StopsWriting}
 use Rattle.basin_cli.specs.Headline.{KeepsPriority, deliveries_of}
-use Rattle.basin_cli.proofs.Monthly.{head_prefix, month_begun, month_prefix, tail_prefix}
+use Rattle.result_text.proofs.Monthly.{head_prefix, month_begun, month_prefix, tail_prefix}
 
 -- the lines of the last of some months can be written
 pub last_fits : (b : Basin) (run : RunView) (records : List MonthRecord) (m : MonthRecord) → run.basin ≡ b →

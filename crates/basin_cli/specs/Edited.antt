@@ -49,8 +49,9 @@ EditsAfter known files script status =
     IsDone status))
 
 -- What is left on out: for each `show` the lines of its month, of the series as it is by then, and after them how many
--- were shown. After a fault of out a prefix is left of the months shown so far, or of the whole; and where memory ran
--- out the whole lines of the months shown so far, and nothing else.
+-- were shown. After a fault of out all months that were shown but the last are left, flushed, and of that one a prefix,
+-- or a prefix of the whole; and where memory ran out the whole lines of the months shown so far, flushed, and nothing
+-- else.
 abbrev pub LeavesShows : Status → Basin → Inflows → List Edit → Output → Output → Type 0
 LeavesShows Done b series edits old new = AnswersWhole b series edits (Ok tt) old new
 LeavesShows WriteFault b series edits old new = AnswersWhole b series edits (Err stop.SinkFailed) old new

@@ -8,7 +8,7 @@ use Rattle.water_model.specs.History.{HaveReaches, IsPartialHistory}
 use Rattle.water_model.specs.declared.types.Basin.{Basin}
 use Rattle.water_model.specs.declared.types.Inflows.{Inflows}
 use Rattle.basin_cli.specs.Headline.{KeepsPriority}
-use Rattle.basin_cli.specs.Written.{IsPrefixOf}
+use Rattle.result_text.specs.Begun.{IsPrefixOf}
 use Rattle.basin_cli.specs.declared.status.Status.{Status}
 use Rattle.basin_cli.specs.declared.status.Status.TheVariants.{Done, WriteFault}
 

@@ -1,5 +1,5 @@
 -- What a status leaves on out.
-use Rattle.std.specs.Prelude.{◌≡◌, ◌≢◌, ◌⊎◌, ℕ, List, take, Option, Some, ⊤}
+use Rattle.std.specs.Prelude.{◌≡◌, ◌≢◌, ℕ, List, take, Option, Some, ⊤}
 use Rattle.water_edge.specs.Edge.{Extends, Output}
 use Rattle.basin_cli.specs.declared.status.Status.{Status}
 use Rattle.basin_cli.specs.declared.status.Status.TheVariants.{Done, No, WriteFault, OutOfMemory}
@@ -49,14 +49,10 @@ abbrev pub WithoutMemory : Status → Type 0 → Type 0
 WithoutMemory OutOfMemory P = P
 WithoutMemory status P = ⊤
 
--- months that `edit` showed before memory ran out were flushed, unless out failed
-abbrev pub KeepsShown : Option Command → Status → Type 0 → Type 0 → Type 0
-KeepsShown (Some (edit files script)) status fault flushed = WithoutMemory status ((fault → ⊥) → flushed)
-KeepsShown command status fault flushed = ⊤
-
--- out was left alone, or all that it took is flushed
-abbrev pub IsUntouchedOrFlushed : {K : Type 0} → K → K → Output → Type 0
-IsUntouchedOrFlushed old new output = (new ≡ old) ⊎ (output.flushed ≡ output.taken)
+-- months that `edit` showed before memory ran out were flushed
+abbrev pub KeepsShown : Option Command → Status → Type 0 → Type 0
+KeepsShown (Some (edit files script)) status flushed = WithoutMemory status flushed
+KeepsShown command status flushed = ⊤
 
 -- a result that has a name of its own was not asked for: `old` and `new` count the calls for each name, where that is
 -- known

@@ -1,10 +1,10 @@
--- How far a text was written that goes month by month, and that of a run.
-use Rattle.std.specs.Prelude.{◌≡◌, ◌⊎◌, ℕ, ◌-◌, ◌<◌, ◌≤◌, List, length, take, ⊤}
-use Rattle.water_edge.specs.Edge.{Extends, HasFlushed, Output}
+-- How far the text of a run was written.
+use Rattle.std.specs.Prelude.{◌≡◌, ◌<◌, List, length, ⊤}
+use Rattle.water_edge.specs.Edge.{Extends, Output}
 use Rattle.water_model.specs.History.{HaveReaches, IsPartialHistory}
 use Rattle.month_fold.specs.Runs.{RunView, RunStandsFor}
 use Rattle.month_fold.specs.Works.{Solves, WorkDone}
-use Rattle.result_text.specs.Begun.{begun_bytes}
+use Rattle.result_text.specs.Begun.{IsPrefixOf, begun_bytes}
 use Rattle.result_lines.specs.Text.{text_bytes}
 use Rattle.water_model.specs.declared.types.Basin.{Basin}
 use Rattle.water_model.specs.declared.types.Inflows.{Inflows}
@@ -27,17 +27,6 @@ pub record IsWrittenRun (b : Basin) (series : Inflows) (old now : Output) : Type
   pub records : List MonthRecord
   pub keeps : KeepsPriority b series records
   pub text : Extends old now (text_bytes b records)
-
--- Where writing stopped that goes month by month: all of these months but the last stand after what out had taken, and
--- of the last one a prefix; no line of the tail stands before all months do. All but the last are flushed, with the
--- head. `begun` gives the head with the lines of some months.
-pub record IsPrefixOf {X : Type 0} (begun : List X → List ℕ) (whole_text : List ℕ) (months : List X) (are_all : Type 0)
-    (old now : Output) : Type 0 where
-  pub count : ℕ
-  pub whole : 0 < length months → length (begun (take (length months - 1) months)) ≤ count
-  pub last : are_all ⊎ (count ≤ length (begun months))
-  pub text : Extends old now (take count whole_text)
-  pub flushed : 1 < length months → HasFlushed old now (begun (take (length months - 1) months))
 
 -- Where the writing of a run stopped: of its first months all but the last stand on out, and of the last one a prefix.
 -- No month is solved but these.

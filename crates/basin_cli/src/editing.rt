@@ -2,11 +2,12 @@
 ghost use Rattle.std.specs.Prelude.{◌≡◌, ◌≤◌, All, IfErr, IfOk, Ok};
 ghost use Rattle.edit_script.specs.Edits.{IsValidEdit, cost};
 ghost use Rattle.edit_script.specs.Scripts.{script_of};
+ghost use Rattle.edit_session.specs.Shown.{IsUntouchedOrFlushed};
 ghost use Rattle.water_edge.specs.Edge.{Rose};
 ghost use Rattle.water_model.specs.Valid.{IsValidBasin, IsSeriesOf};
 ghost use Rattle.basin_cli.specs.Edited.{EndsEditing, LeavesScript, LeavesShows, WorkOfScript, ScriptEnds};
 ghost use Rattle.basin_cli.specs.Ending.{status_of};
-ghost use Rattle.basin_cli.specs.Out.{IsRefusal, IsUntouchedOrFlushed, MayShow, WithoutMemory};
+ghost use Rattle.basin_cli.specs.Out.{IsRefusal, MayShow, WithoutMemory};
 ghost use Rattle.basin_cli.specs.Outcome.{HasTrialCause, IsQuiet};
 ghost use Rattle.month_fold.specs.Works.{Solves};
 
@@ -58,20 +59,12 @@ fn answer_edits<K: Sink, P: Ledger, M: Ledger>(
     ensures idle { IsRefusal (status_of result) → ⊥ }
     ensures work { Solves (cost edits.now) basin.now work.old work.new }
     ensures flushed { IsQuiet (status_of result) → (K.output out.new).flushed ≡ (K.output out.new).taken }
-    ensures shown { WithoutMemory (status_of result) ((Rose (K.faults out.old) (K.faults out.new) → ⊥) →
-        (K.output out.new).flushed ≡ (K.output out.new).taken) }
+    ensures shown { WithoutMemory (status_of result) (IsUntouchedOrFlushed out.old out.new (K.output out.new)) }
 {
     match put_shows(alloc, basin, series, edits, out, work) {
-        Ok(()) => match out.flush() {
-            Ok(()) => Ending::Done,
-            Err(_) => Ending::WriteFault,
-        },
+        Ok(()) => Ending::Done,
         Err(EditStop::SinkFailed) => Ending::WriteFault,
-        Err(EditStop::OutOfMemory) => {
-            // The months that were shown are flushed, if the sink can.
-            let _ = out.flush();
-            Ending::OutOfMemory
-        }
+        Err(EditStop::OutOfMemory) => Ending::OutOfMemory,
     }
 }
 
@@ -94,8 +87,7 @@ pub fn edit_basin<K: Sink, P: Ledger, M: Ledger>(
     ensures idle { IsRefusal (status_of result) → work.new ≡ work.old }
     ensures work { WorkOfScript basin.now series.now text.now work.old work.new }
     ensures flushed { IsQuiet (status_of result) → (K.output out.new).flushed ≡ (K.output out.new).taken }
-    ensures shown { WithoutMemory (status_of result) ((Rose (K.faults out.old) (K.faults out.new) → ⊥) →
-        IsUntouchedOrFlushed out.old out.new (K.output out.new)) }
+    ensures shown { WithoutMemory (status_of result) (IsUntouchedOrFlushed out.old out.new (K.output out.new)) }
 {
     let edits = match accept_script(alloc, basin, series, text) {
         Ok(edits) => edits,

@@ -3,10 +3,11 @@ ghost use Rattle.std.specs.Prelude.{◌≡◌, Some, map, option_map, string_byt
 ghost use Rattle.water_edge.specs.Edge.{Rose};
 ghost use Rattle.water_text.specs.Months.{IsMonth};
 ghost use Rattle.month_fold.specs.Works.{WorkDone};
+ghost use Rattle.edit_session.specs.Shown.{IsUntouchedOrFlushed};
 ghost use Rattle.basin_cli.specs.Command.{ServesFiles, ServesSeries, check, command_of, edit, ensemble, named};
 ghost use Rattle.basin_cli.specs.Command.{text_command, why};
 ghost use Rattle.basin_cli.specs.Ending.{line_of};
-ghost use Rattle.basin_cli.specs.Out.{IsIdle, IsUnread, IsUntouchedOrFlushed, KeepsShown, MayLeave};
+ghost use Rattle.basin_cli.specs.Out.{IsIdle, IsUnread, KeepsShown, MayLeave};
 ghost use Rattle.basin_cli.specs.Outcome.{Completes, Ends, IsQuiet, WorkFor, WritesErrLine, WritesFor};
 ghost use Rattle.basin_cli.specs.Serving.{Serves};
 
@@ -233,17 +234,17 @@ pub fn basin_main<S: Shelf, K: Sink, E: Sink, P: Ledger, M: Ledger>(
 
     // The text of records that keep the priority of rights, the list of their calls, a report on them, the answer to a
     // result, the comparison of two such lists of records, or the months that a script shows; or after a fault of out a
-    // prefix of it. The months of a run and of a list of calls are written as they are solved.
+    // prefix of it. The months of a run, of a list of calls and of a script are written and flushed as they are solved.
     ensures writes { WritesFor (command_of (map string_bytes words.now)) result (S.known shelf.old) (K.output out.old)
         (K.output out.new) work.old work.new }
     ensures out_stays { (MayLeave (command_of (map string_bytes words.now)) result → ⊥) → out.new ≡ out.old }
     ensures err_stays { IsQuiet result → err.new ≡ err.old }
 
     // Done and no come only where all that was put was flushed, and where memory ran out the months that a script
-    // showed were, unless out failed; the line on err was flushed unless err failed.
+    // showed were; the line on err was flushed unless err failed.
     ensures flushed { IsQuiet result → (K.output out.new).flushed ≡ (K.output out.new).taken }
     ensures shown { KeepsShown (command_of (map string_bytes words.now)) result
-        (Rose (K.faults out.old) (K.faults out.new)) (IsUntouchedOrFlushed out.old out.new (K.output out.new)) }
+        (IsUntouchedOrFlushed out.old out.new (K.output out.new)) }
     ensures err_flushed { (IsQuiet result → ⊥) → (Rose (E.faults err.old) (E.faults err.new) → ⊥) →
         (E.output err.new).flushed ≡ (E.output err.new).taken }
 

@@ -16,7 +16,7 @@ use std::alloc::Global;
 use std::sync::ledger::Ledger;
 use water_edge::Sink;
 
-/// Solves what a month needs and puts its lines.
+/// Solves what a month needs, puts its lines and flushes them.
 fn show<K: Sink, P: Ledger, M: Ledger>(
     alloc: Global,
     session: &mut Session,
@@ -28,16 +28,14 @@ fn show<K: Sink, P: Ledger, M: Ledger>(
     ensures basin { session.new.basin ≡ session.old.basin }
     ensures series { session.new.series ≡ session.old.series }
     ensures kept { OnOk result (length session.new.kept ≡ max (length session.old.kept) (index + 1)) }
-    ensures answers { Answers session.old.basin session.old.series (edit.Show index ∷ []) result (K.output out.old)
-        (K.output out.new) }
+    ensures answers { Answers K.Sink session.old.basin session.old.series (edit.Show index ∷ []) result out.old out.new }
     ensures cause { HasCause (K.faults out.old) (K.faults out.new) (result ≡ Err SinkFailed) }
     ensures work { Solves (solved_by (length session.old.kept) (edit.Show index)) session.old.basin work.old work.new }
 {
     session.solve(alloc, index, work)?;
-    match put_month(out, session.basin(), session.roll(), session.month(index)) {
-        Ok(()) => Ok(()),
-        Err(_) => Err(EditStop::SinkFailed),
-    }
+    put_month(out, session.basin(), session.roll(), session.month(index))?;
+    out.flush()?;
+    Ok(())
 }
 
 /// Makes a change, or puts the lines of the month that is to be shown.
@@ -53,8 +51,7 @@ pub fn answer<K: Sink, P: Ledger, M: Ledger>(
     ensures series { session.new.series ≡ edited_by session.old.series edit }
     ensures kept { OnOk result
         (length session.new.kept ≡ kept_by (length session.old.kept) edit + solved_by (length session.old.kept) edit) }
-    ensures answers { Answers session.old.basin session.old.series (edit ∷ []) result (K.output out.old)
-        (K.output out.new) }
+    ensures answers { Answers K.Sink session.old.basin session.old.series (edit ∷ []) result out.old out.new }
     ensures cause { HasCause (K.faults out.old) (K.faults out.new) (result ≡ Err SinkFailed) }
     ensures work { Solves (solved_by (length session.old.kept) edit) session.old.basin work.old work.new }
 {

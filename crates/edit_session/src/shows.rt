@@ -1,9 +1,9 @@
 //! A whole script answered.
-ghost use Rattle.std.specs.Prelude.{◌≡◌, ◌*◌, ◌<◌, All, length, Err, [], IsErr};
+ghost use Rattle.std.specs.Prelude.{◌≡◌, ◌*◌, ◌<◌, All, length, Err, [], IsErr, OnOk};
 ghost use Rattle.water_edge.specs.Edge.{HasCause, Puts};
 ghost use Rattle.water_model.specs.Valid.{IsValidBasin, IsSeriesOf};
 ghost use Rattle.edit_script.specs.Edits.{IsValidEdit, cost, cost_from};
-ghost use Rattle.edit_session.specs.Shown.{Answers, AnswersWhole, done_bytes, is_show, shows_in};
+ghost use Rattle.edit_session.specs.Shown.{Answers, AnswersWhole, IsUntouchedOrFlushed, done_bytes, is_show, shows_in};
 ghost use Rattle.edit_session.specs.declared.stop.EditStop.TheVariants as stop;
 ghost use Rattle.month_fold.specs.Works.{Solves};
 
@@ -27,8 +27,7 @@ fn answer_each<K: Sink, P: Ledger, M: Ledger>(
     work: &mut Work<P, M>,
 ) -> Result<(), EditStop>
     requires { All (IsValidEdit session.old.basin session.old.series) edits.now }
-    ensures answers { Answers session.old.basin session.old.series edits.now result (K.output out.old)
-        (K.output out.new) }
+    ensures answers { Answers K.Sink session.old.basin session.old.series edits.now result out.old out.new }
     ensures cause { HasCause (K.faults out.old) (K.faults out.new) (result ≡ Err stop.SinkFailed) }
     ensures work { Solves (cost_from (length session.old.kept) edits.now) session.old.basin work.old work.new }
 {
@@ -64,14 +63,16 @@ fn make_done(line: &mut Line, shows: u64)
     line.word(b"\n");
 }
 
-/// Puts the last line.
+/// Puts the last line and flushes it.
 fn put_done<K: Sink>(out: &mut K, shows: u64) -> Result<(), SinkFailed>
     ensures text { Puts (K.output out.old) (K.output out.new) result (done_bytes shows) }
+    ensures flushed { OnOk result ((K.output out.new).flushed ≡ (K.output out.new).taken) }
     ensures cause { HasCause (K.faults out.old) (K.faults out.new) (IsErr result) }
 {
     let mut line = Line::new();
     make_done(&mut line, shows);
-    out.put(line.bytes())
+    out.put(line.bytes())?;
+    out.flush()
 }
 
 /// Answers the lines of a script and puts the last line.
@@ -85,22 +86,22 @@ fn put_answers<K: Sink, P: Ledger, M: Ledger>(
     requires { All (IsValidEdit session.old.basin session.old.series) edits.now }
     ensures answers { AnswersWhole session.old.basin session.old.series edits.now result (K.output out.old)
         (K.output out.new) }
+    ensures shown { result ≡ Err stop.OutOfMemory → IsUntouchedOrFlushed out.old out.new (K.output out.new) }
     ensures cause { HasCause (K.faults out.old) (K.faults out.new) (result ≡ Err stop.SinkFailed) }
     ensures work { Solves (cost_from (length session.old.kept) edits.now) session.old.basin work.old work.new }
 {
     answer_each(alloc, session, edits, out, work)?;
-    match put_done(out, count_shows(edits)) {
-        Ok(()) => Ok(()),
-        Err(_) => Err(EditStop::SinkFailed),
-    }
+    put_done(out, count_shows(edits))?;
+    Ok(())
 }
 
-/// Answers a script: puts for each `show` the lines of its month, of the series as it is by then, and at the end the
-/// number of months shown. Kept months before a change are not solved again: no more months are solved than the cost of
-/// the script.
+/// Answers a script: puts for each `show` the lines of its month, of the series as it is by then, and flushes them, and
+/// at the end the number of months shown. Kept months before a change are not solved again: no more months are solved
+/// than the cost of the script.
 ///
 /// Kept months take memory. OutOfMemory comes where that is lacking, and the whole lines of the months shown so far
-/// stand then; SinkFailed comes only where the sink counted a fault, and a prefix of the answer stands.
+/// stand then, flushed; SinkFailed comes only where the sink counted a fault, and a prefix of the answer stands, of
+/// whose months all but the last are flushed.
 pub fn put_shows<K: Sink, P: Ledger, M: Ledger>(
     alloc: Global,
     basin: &Basin,
@@ -113,6 +114,7 @@ pub fn put_shows<K: Sink, P: Ledger, M: Ledger>(
     requires series { IsSeriesOf basin.now series.now }
     requires placed { All (IsValidEdit basin.now series.now) edits.now }
     ensures answers { AnswersWhole basin.now series.now edits.now result (K.output out.old) (K.output out.new) }
+    ensures shown { result ≡ Err stop.OutOfMemory → IsUntouchedOrFlushed out.old out.new (K.output out.new) }
     ensures cause { HasCause (K.faults out.old) (K.faults out.new) (result ≡ Err stop.SinkFailed) }
     ensures work { Solves (cost edits.now) basin.now work.old work.new }
 {

@@ -1,3 +1,4 @@
 pub mod Members
 pub mod Whole
 pub mod Examples
+pub mod Monthly

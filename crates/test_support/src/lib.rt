@@ -9,7 +9,7 @@ use std::alloc::{AllocError, Global};
 use std::marker::Brand;
 use std::sync::ledger::{Blank, Ledger};
 use std::test::Fail;
-use water_edge::{MemoryShelf, MemorySink};
+use water_edge::{MemoryShelf, MemorySink, Sink};
 
 /// The bytes of the files BASIN, BASIN2, SERIES, RESULT and SCRIPT, how many bytes a part of a file has at most, where
 /// 0 counts as 1, and the numbers of the calls of the shelf, of out and of err that fail.
@@ -92,13 +92,13 @@ fn sinks_of(alloc: Global, set: &Set) -> Result<(MemorySink, MemorySink), AllocE
     Ok((out, sink_of(alloc, 4096, set.err_fails)?))
 }
 
-fn call_over<P: Ledger, M: Ledger>(
+fn call_over<K: Sink, P: Ledger, M: Ledger>(
     alloc: Global,
     pushes: Blank,
     months: Blank,
     words: &[String],
     shelf: &mut MemoryShelf,
-    out: &mut MemorySink,
+    out: &mut K,
     err: &mut MemorySink,
 ) -> Status
     requires pushes_name { pushes.name ≡ P.name }
@@ -113,18 +113,18 @@ fn call_over<P: Ledger, M: Ledger>(
 }
 
 /// Calls the program over these sinks, and gives its status.
-fn status_of(
+fn status_of<K: Sink>(
     alloc: Global,
     words: &[&str],
     set: &Set,
-    out: &mut MemorySink,
+    out: &mut K,
     err: &mut MemorySink,
 ) -> Result<Status, AllocError> {
     let list = list_of(alloc, words)?;
     let mut shelf = shelf_of(alloc, set)?;
     let pushes = Blank::new(1);
     let months = Blank::new(1);
-    let status = call_over::<Brand, Brand>(alloc, pushes, months, &list, &mut shelf, out, err);
+    let status = call_over::<K, Brand, Brand>(alloc, pushes, months, &list, &mut shelf, out, err);
     Ok(status)
 }
 
@@ -137,6 +137,17 @@ pub fn call(
     let (mut out, mut err) = sinks_of(alloc, set)?;
     let status = status_of(alloc, words, set, &mut out, &mut err)?;
     Ok((status, out, err))
+}
+
+/// Calls the program over this out, and gives its status.
+pub fn call_on<K: Sink>(
+    alloc: Global,
+    words: &[&str],
+    set: &Set,
+    out: &mut K,
+) -> Result<Status, AllocError> {
+    let mut err = sink_of(alloc, 4096, set.err_fails)?;
+    status_of(alloc, words, set, out, &mut err)
 }
 
 /// Fails where a text is another than is wanted, and prints it.

@@ -1,9 +1,13 @@
 //! Scripts of changes to a series. What they show is compared with runs of the changed series.
 use crate::basins::ORDINARY;
+use basin_cli::Status;
 use std::alloc::{AllocError, Global};
+use std::io;
+use std::io::Write;
 use std::process::Abort;
 use std::test::Fail;
-use test_support::{Set, files, text_of, with};
+use test_support::{Set, call_on, files, text_of, with};
+use water_edge::StdSink;
 
 /// What a line of a script does in the month of this index: it shows it, or makes this the amount of its gauge.
 type Step = (usize, Option<u64>);
@@ -91,6 +95,8 @@ fn text_of_run(alloc: Global, basin: &str, amounts: &[u64]) -> Result<String, Fa
     )
 }
 
+const WORDS: [&str; 4] = ["edit", "BASIN", "SERIES", "SCRIPT"];
+
 /// The text of what a script shows.
 fn text_of_edit(alloc: Global, basin: &str, steps: &[Step]) -> Result<String, Fail> {
     let mut series = String::new(alloc);
@@ -101,7 +107,7 @@ fn text_of_edit(alloc: Global, basin: &str, steps: &[Step]) -> Result<String, Fa
         script: script.as_bytes(),
         ..files(basin, series.as_str())
     };
-    text_of(alloc, &["edit", "BASIN", "SERIES", "SCRIPT"], &set)
+    text_of(alloc, &WORDS, &set)
 }
 
 /// Adds what a fresh run of these amounts says from the month of this index on.
@@ -209,4 +215,79 @@ fn answers_a_thousand_lines(rt: HostRuntime) -> Result<(), Fail> {
     let basin = basin_of(rt.alloc())?;
     let steps = thousand_steps(rt.alloc())?;
     expect_runs(&rt, basin.as_str(), steps.as_slice())
+}
+
+/// A writer that takes so many pieces more, whole, and the bytes that it took.
+#[derive(Drop)]
+struct TakesPieces {
+    bytes: Vec<u8>,
+    left: usize,
+}
+
+impl Write for TakesPieces {
+    fn write(&mut self, piece: &[u8]) -> io::Result<usize> {
+        if self.left == 0 {
+            return Ok(0);
+        }
+        self.left -= 1;
+        self.bytes.write(piece)
+    }
+
+    fn flush(&mut self) -> io::Result<()> {
+        Ok(())
+    }
+}
+
+/// The text of the first `count` months that a text shows, which end with the line `end`, and all of it where it shows
+/// fewer.
+fn first_months(alloc: Global, text: &str, count: usize) -> Result<String, AllocError> {
+    let mut first = String::new(alloc);
+    for part in text.split_inclusive("end\n").take(count) {
+        first.push_str(part)?;
+    }
+    Ok(first)
+}
+
+/// What a script's answer leaves in a writer that takes so many pieces, and the status of the call.
+fn left_in(
+    alloc: Global,
+    basin: &str,
+    steps: &[Step],
+    pieces: usize,
+) -> Result<(Status, Vec<u8>), Fail> {
+    let mut series = String::new(alloc);
+    add_series(&START, &mut series)?;
+    let mut script = String::new(alloc);
+    add_script(steps, &mut script)?;
+    let set = Set {
+        script: script.as_bytes(),
+        ..files(basin, series.as_str())
+    };
+    let mut writer = TakesPieces {
+        bytes: Vec::new(alloc),
+        left: pieces,
+    };
+    let mut out = StdSink::new(&mut writer);
+    let status = call_on(alloc, &WORDS, &set, &mut out)?;
+    drop(out);
+    Ok((status, writer.bytes))
+}
+
+/// Each month that is shown is handed on by itself, and the last line too. Where the writer takes no more, the months
+/// before stand, and the call fails.
+#[test]
+fn hands_on_month_by_month(rt: HostRuntime) -> Result<(), Fail> {
+    let alloc = rt.alloc();
+    let basin = basin_of(alloc)?;
+    let steps = &[(3, None), (0, Some(0)), (3, None), (5, None)];
+    let text = text_of_edit(alloc, basin.as_str(), steps)?;
+    for pieces in 0..6 {
+        let (status, bytes) = left_in(alloc, basin.as_str(), steps, pieces)?;
+        let want = first_months(alloc, text.as_str(), pieces)?;
+        assert_eq!(&rt; std::str::from_utf8(&bytes)?, want.as_str());
+        let done = pieces >= 4;
+        assert_eq!(&rt; status == Status::Done, done);
+        assert_eq!(&rt; status == Status::WriteFault, !done);
+    }
+    Ok(())
 }

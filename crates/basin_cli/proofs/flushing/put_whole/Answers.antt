@@ -1,4 +1,4 @@
-use Rattle.basin_cli.proofs.Flushed.{puts_kept}
+use Rattle.result_text.proofs.Monthly.{puts_kept}
 use Rattle.basin_cli.proofs.flushing.put_whole.Goals as goal
 
 pub returns-clause-text : goal.returns-clause-text

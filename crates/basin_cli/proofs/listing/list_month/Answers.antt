@@ -3,9 +3,8 @@ use Rattle.call_list.specs.Lists.{month_bytes}
 use Rattle.call_list.specs.Whole.{records_of}
 use Rattle.water_edge.proofs.Puts.{PutsPrefix}
 use Rattle.water_edge.specs.Edge.{Extends}
-use Rattle.basin_cli.proofs.Flushed.{puts_kept}
-use Rattle.basin_cli.proofs.Listed.{last_found, month_put, month_stopped}
-use Rattle.basin_cli.proofs.Monthly.{same_text}
+use Rattle.result_text.proofs.Monthly.{puts_kept}
+use Rattle.basin_cli.proofs.Listed.{last_found, month_put, month_stopped, same_text}
 use Rattle.basin_cli.proofs.Written.{stopped}
 use Rattle.basin_cli.proofs.listing.list_month.Goals as goal
 

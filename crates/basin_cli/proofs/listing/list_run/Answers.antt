@@ -1,5 +1,5 @@
 use Rattle.std.proofs.Common.{refl}
-use Rattle.basin_cli.proofs.Flushed.{puts_kept}
+use Rattle.result_text.proofs.Monthly.{puts_kept}
 use Rattle.basin_cli.proofs.Listed.{head_listed, head_stops, tail_put, tail_stops}
 use Rattle.basin_cli.proofs.Written.{stopped}
 use Rattle.basin_cli.proofs.listing.list_run.Goals as goal

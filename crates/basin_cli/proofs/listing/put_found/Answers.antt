@@ -1,7 +1,7 @@
 use Rattle.std.proofs.Common.{◌∙◌}
 use Rattle.call_list.specs.Lists.{month_bytes}
 use Rattle.water_edge.specs.Edge.{Puts}
-use Rattle.basin_cli.proofs.Monthly.{same_text}
+use Rattle.basin_cli.proofs.Listed.{same_text}
 use Rattle.basin_cli.proofs.listing.put_found.Goals as goal
 
 pub calls-calls-requires-clause-roll : goal.calls-calls-requires-clause-roll

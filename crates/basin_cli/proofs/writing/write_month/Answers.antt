@@ -1,4 +1,4 @@
-use Rattle.basin_cli.proofs.Flushed.{puts_kept}
+use Rattle.result_text.proofs.Monthly.{puts_kept}
 use Rattle.basin_cli.proofs.Written.{last_fits, month_put, month_stopped, stopped}
 use Rattle.basin_cli.proofs.writing.write_month.Goals as goal
 

@@ -1,5 +1,5 @@
 use Rattle.std.proofs.Common.{refl}
-use Rattle.basin_cli.proofs.Flushed.{puts_kept}
+use Rattle.result_text.proofs.Monthly.{puts_kept}
 use Rattle.basin_cli.proofs.Written.{head_stops, head_written, stopped, tail_put, tail_stops}
 use Rattle.basin_cli.proofs.writing.write_run.Goals as goal
 

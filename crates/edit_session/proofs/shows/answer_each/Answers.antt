@@ -2,10 +2,9 @@ use Rattle.std.proofs.Common.{◌≡◌, ◌∙◌, refl, arith, List, [], ◌�
 use Rattle.std.proofs.lemmas.List.{drop_all}
 use Rattle.std.proofs.lemmas.Result.{err_from_is_err_and}
 use Rattle.std.specs.Prelude.{Ok}
-use Rattle.water_edge.proofs.Outputs.{Extends-nil}
 use Rattle.month_fold.proofs.Works.{Solves-none}
 use Rattle.edit_script.specs.declared.edit.Edit.{Edit}
-use Rattle.edit_session.proofs.Playing.{line_at, lines_from, played_more, played_stops, works_stop}
+use Rattle.edit_session.proofs.Playing.{line_at, lines_from, none_put, played_more, played_stops, works_stop}
 use Rattle.edit_session.proofs.shows.answer_each.Goals as goal
 
 from_start : (es : List Edit) → drop 0 es ≡ es
@@ -54,7 +53,7 @@ pub returns-clause-answers : goal.returns-clause-answers
 returns-clause-answers g c =
     let over : drop c.loop-edit.edit-index c.args.edits.now ≡ [] =
     drop_all c.loop-edit.edit-index c.args.edits.now (omega arith) in
-    (rw over at c.loop-edit.invariant.played).answers (Ok tt) _ ([], refl, Extends-nil _)
+    (rw over at c.loop-edit.invariant.played).answers (Ok tt) _ ([], refl, none_put _ _ _)
 
 pub returns-clause-work : goal.returns-clause-work
 returns-clause-work g c =

@@ -1,14 +1,47 @@
 -- A text is written month by month: its head, the lines of each month, and its tail.
-use Rattle.std.proofs.Common.{◌≡◌, ℕ, ◌+◌, ◌-◌, ◌<◌, ◌≤◌, sym, ap, ◌∙◌, subst, arith, inl, inr, List, [], ◌∷◌, ◌++◌}
-use Rattle.std.proofs.Common.{length, take, drop, length-append, append_assoc, append-nil}
+use Rattle.std.proofs.Common.{◌≡◌, ℕ, ◌+◌, ◌-◌, ◌<◌, ◌≤◌, refl, sym, ap, ◌∙◌, subst, arith, inl, inr, List, [], ◌∷◌}
+use Rattle.std.proofs.Common.{◌++◌, length, take, drop, length-append, append_assoc, append-nil, Option, None, Some}
+use Rattle.std.proofs.Common.{Result, Ok, Err}
+use Rattle.std.specs.Io.KnownBytes.{Appends, append_known}
 use Rattle.std.specs.List.{flat_map}
 use Rattle.std.proofs.lemmas.List.{take-append-drop, take-append-le}
 use Rattle.std.proofs.Math.Seq.{take-append-add, take-length}
 use Rattle.water_edge.proofs.Puts.{PutsPrefix}
-use Rattle.water_edge.proofs.Outputs.{Extends-trans}
-use Rattle.water_edge.specs.Edge.{Extends, HasFlushed, Output}
-use Rattle.basin_cli.specs.Written.{IsPrefixOf}
-use Rattle.basin_cli.proofs.FlushedBefore.{HasFlushed-less, flushed_before}
+use Rattle.water_edge.proofs.Outputs.{Extends-kept, Extends-trans, HasFlushed-later, HasFlushed-now, IsKnownPrefix-trans}
+use Rattle.water_edge.specs.Edge.{Extends, HasFlushed, Output, Puts, Stays}
+use Rattle.result_text.specs.Begun.{IsPrefixOf}
+
+-- a piece that was put whole, whether or not it could be flushed
+pub puts_kept : {E : Type 0} (old mid new : Output) (r : Result (Unit {0}) E) (text : List ℕ) →
+    Extends old mid text → Stays mid new → Puts old new r text
+puts_kept old mid new (Ok u) text h k = Extends-kept old mid new text h k
+puts_kept old mid new (Err e) text h k =
+    (length text, omega arith, rw (take-length text) (Extends-kept old mid new text h k))
+
+-- all that was taken was flushed, and then a piece more was taken
+flushed_before : (old mid now : Output) (bytes piece : List ℕ) → Extends old mid bytes →
+    mid.flushed ≡ mid.taken → Extends mid now piece → HasFlushed old now bytes
+flushed_before old mid now bytes piece h all k =
+    HasFlushed-later old mid now bytes (HasFlushed-now old mid bytes h.taken all) k.passes
+
+-- of the bytes that were flushed, the first are
+HasFlushed-less : (old now : Output) (first rest : List ℕ) → HasFlushed old now (first ++ rest) →
+    HasFlushed old now first
+HasFlushed-less old now first rest h = (
+  append_known old.taken first,
+  begins old.taken,
+  IsKnownPrefix-trans (append_known old.taken first) h.0 now.flushed (rest, goes_on old.taken h.0 h.1) h.2,
+)
+  where
+    begins : (known : Option (List ℕ)) → Appends known (append_known known first) first
+    begins None = tt
+    begins (Some bytes) = refl
+
+    goes_on : (known all : Option (List ℕ)) → Appends known all (first ++ rest) →
+        Appends (append_known known first) all rest
+    goes_on None all k = tt
+    goes_on (Some bytes) None k = absurd k
+    goes_on (Some bytes) (Some whole) k = k ∙ sym (append_assoc bytes first rest)
 
 -- a prefix of the second piece stands after the first, whatever follows it
 prefix_after : (start mid now : Output) (a lines rest : List ℕ) (k : ℕ) → k ≤ length lines →
@@ -101,10 +134,3 @@ head_prefix begun text head rest are_all start now none is prefix = record {
   text = rw (is, take-append-le prefix.0 head rest prefix.1) prefix.2;
   flushed = λ longer. absurd (omega (arith, longer));
 }
-
--- what holds of a text of three things holds of that of others which are the same
-pub same_text : {X Y Z : Type 0} (P : List ℕ → Type 0) (text : X → Y → Z → List ℕ) (x a : X) (y b : Y) (z c : Z) →
-    x ≡ a → y ≡ b → z ≡ c → P (text x y z) → P (text a b c)
-same_text {X = X} {Y = Y} {Z = Z} P text x a y b z c one two three holds =
-    subst (λ (k : X). P (text k b c)) one
-    (subst (λ (k : Y). P (text x k c)) two (subst (λ (k : Z). P (text x y k)) three holds))
