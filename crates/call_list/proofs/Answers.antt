@@ -10,12 +10,12 @@ use Rattle.water_model.specs.Valid.{IsValidBasin}
 use Rattle.water_model.specs.declared.types.Basin.{Basin}
 use Rattle.water_model.specs.declared.types.MonthRecord.{MonthRecord}
 use Rattle.water_model.proofs.Seniority.{senior_total}
-use Rattle.plan_residual.specs.Next.{CouldUseAt, IsNextOrFree}
+use Rattle.plan_residual.proofs.Closed.{taking_below}
+use Rattle.next_unit.specs.Core.{one_more}
 use Rattle.next_unit.specs.Helped.{IsHelped}
 use Rattle.next_unit.specs.Laws.{CarryHelpsRight}
 use Rattle.call_list.specs.Found.{Found, IsFoundIn, FitsFound, curtailed_for, if_senior, next_at}
-use Rattle.water_model.proofs.Sets.{has_below}
-use Rattle.next_unit.specs.Next.{IsCurtailedFor}
+use Rattle.next_unit.specs.Next.{HelpsRight, IsCurtailedFor, IsNextOrFree}
 use Rattle.call_list.specs.Laws.{CurtailedExactly}
 
 -- an index with a right is one of the list
@@ -40,12 +40,12 @@ one_first b P r s strict l k here there first other = elim (cases_eq r s) [
 pub same_next : (b : Basin) (m : MonthRecord) (node : ℕ) → IsValidBasin b → (one other : Option ℕ) →
     IsNextOrFree b m node one → IsNextOrFree b m node other → one ≡ other
 same_next b m node valid None None h i = refl
-same_next b m node valid None (Some s) h i = absurd (h s i.uses)
-same_next b m node valid (Some r) None h i = absurd (i r h.uses)
+same_next b m node valid None (Some s) h i = absurd (h s i.in_range i.helps)
+same_next b m node valid (Some r) None h i = absurd (i r h.in_range h.helps)
 same_next b m node valid (Some r) (Some s) h i =
     ap (λ k. Some k)
-    (one_first b (λ t. CouldUseAt b m node t) r s valid.roll.strict h.uses.in_range i.uses.in_range h.uses i.uses
-    (λ t l. h.first t) (λ t l. i.first t))
+    (one_first b (λ t. HelpsRight b m (one_more m.supply node) t) r s valid.roll.strict h.in_range i.in_range h.helps
+    i.helps h.first i.first)
 
 pub same_helped : (b : Basin) (m : MonthRecord) (link : ℕ) → IsValidBasin b → (one other : Option ℕ) →
     IsHelped b m link one → IsHelped b m link other → one ≡ other
@@ -74,7 +74,7 @@ fits_found b m found is = record {
   where
     of_next : (n : ℕ) (o : Option ℕ) → IsNextOrFree b m n o → IfSome o (λ right. right < length b.rights)
     of_next n None h = tt
-    of_next n (Some r) h = h.uses.in_range
+    of_next n (Some r) h = h.in_range
 
     of_link : (e : ℕ) (o : Option ℕ) → IsHelped b m e o → IfSome o (λ right. right < length b.rights)
     of_link e None h = tt
@@ -149,9 +149,6 @@ curtailed_exactly b m found right caller given is l = (to, from)
 
     from : IsCurtailedFor b m right caller → curtailed_for b m found.next right ≡ Some caller
     from c =
-        let uses = c.next.uses in
-        let below : c.node < length b.nodes =
-        omega (arith, has_below uses.core c.node uses.here, uses.is_core.upstream.one_each) in
         curtailed_by b m found.next right c.node caller c.wants c.at
         (same_next b m c.node given.valid (slice_index_or found.next c.node None) (Some caller)
-        (is.next.each c.node below) c.next) c.senior
+        (is.next.each c.node (taking_below b given.valid right c.node l c.at)) c.next) c.senior

@@ -1,5 +1,5 @@
 -- A basin and a series leave one list of calls.
-use Rattle.std.proofs.Common.{◌≡◌, ℕ, suc, refl, sym, ◌∙◌, ap, ap₂, arith, Bool, List, [], ◌∷◌, ◌++◌, length}
+use Rattle.std.proofs.Common.{◌≡◌, ℕ, suc, refl, sym, ◌∙◌, ap, ap₂, arith, List, [], ◌∷◌, ◌++◌, length}
 use Rattle.std.proofs.Common.{take, length-take, Option, Some, None}
 use Rattle.std.proofs.lemmas.List.{ext_get_or, length-map}
 use Rattle.std.specs.Prelude.{slice_get, slice_index, slice_index_or, option_map, if◌then◌else◌, nat_lt}
@@ -7,23 +7,18 @@ use Rattle.std.specs.List.{flat_map}
 use Rattle.std.proofs.lemmas.Option.{slice_get_within, slice_get-map}
 use Rattle.water_model.specs.Entries.{in_order}
 use Rattle.water_model.specs.Basin.{taking_node}
-use Rattle.water_model.specs.History.{IsPartialHistory, IsShort}
 use Rattle.duality.specs.Laws.{HaveSameOutcome}
-use Rattle.water_model.specs.Valid.{IsValidBasin, IsSeriesOf}
+use Rattle.water_model.specs.Valid.{IsValidBasin}
 use Rattle.water_model.specs.declared.types.Basin.{Basin}
-use Rattle.water_model.specs.declared.types.Inflows.{Inflows}
 use Rattle.water_model.specs.declared.types.MonthRecord.{MonthRecord}
 use Rattle.water_model.proofs.Lists.{prefix_partial}
 use Rattle.water_model.proofs.Order.{flat_same}
 use Rattle.duality.proofs.Balance.{slice_get-take}
 use Rattle.duality.proofs.Outcome.{one_outcome}
-use Rattle.plan_residual.specs.Core.{IsCore}
-use Rattle.plan_residual.specs.Next.{CouldUseAt, IsNextOrFree}
 use Rattle.next_unit.specs.Core.{one_more}
 use Rattle.next_unit.specs.Helped.{IsHelped}
-use Rattle.next_unit.specs.Laws.{HelpsRight, CarryHelpsRight}
-use Rattle.next_unit.proofs.Exact.{rights_have_cores}
-use Rattle.next_unit.proofs.InHistories.{month_of, has_plan, histories_show_where_supply_helps}
+use Rattle.next_unit.specs.Laws.{CarryHelpsRight}
+use Rattle.next_unit.specs.Next.{HelpsRight, IsNextOrFree}
 use Rattle.call_list.specs.Entries.{whole_line}
 use Rattle.call_list.specs.Found.{Found, IsFoundIn, curtailed_for, if_senior, next_at}
 use Rattle.call_list.specs.Lists.{head_bytes, line_with, lines_at, lines_in, month_bytes, space_of, tail_bytes}
@@ -33,15 +28,6 @@ use Rattle.call_list.specs.declared.part.Part.TheVariants as part
 use Rattle.call_list.specs.Laws.{FoundIsDetermined, ListIsDetermined}
 use Rattle.call_list.specs.Whole.{MonthFound, records_of}
 use Rattle.call_list.proofs.Answers.{same_next, same_helped}
-
--- a month of some history of a basin and a series
-pub record IsMonthIn (b : Basin) (series : Inflows) (m : MonthRecord) : Type 0 where
-  pub valid : IsValidBasin b
-  pub fits : IsSeriesOf b series
-  pub records : List MonthRecord
-  pub position : ℕ
-  pub partial : IsPartialHistory b series records
-  pub at : slice_get records position ≡ Some m
 
 same_back : (m n : MonthRecord) → HaveSameOutcome m n → HaveSameOutcome n m
 same_back m n same = record {
@@ -77,40 +63,14 @@ carry_helps b m n link r same h = record {
   more = rw (← same.delivered, ← same.want) h.more;
 }
 
--- so a right could use a unit in both, as its core holds exactly the nodes at which one helps
-uses_there : (b : Basin) (series : Inflows) (m n : MonthRecord) → IsMonthIn b series m → IsMonthIn b series n →
-    HaveSameOutcome m n → (node r : ℕ) → CouldUseAt b m node r → CouldUseAt b n node r
-uses_there b series m n one other same node r uses = record {
-  in_range = uses.in_range;
-  short = short;
-  core = core.0;
-  is_core = core.1;
-  here = (histories_show_where_supply_helps b series other.records other.position n r core.0 node other.valid other.fits
-      other.partial other.at uses.in_range short core.1).0 helps;
-}
-  where
-    short : IsShort n r
-    short = rw (← same.delivered, ← same.want) uses.short
-
-    core : (set : List Bool) × IsCore b n r set
-    core = rights_have_cores b n r
-        (has_plan b series other.records other.position n other.valid
-        (month_of b series other.records other.position n other.partial other.at)) uses.in_range
-
-    helps : HelpsRight b n (one_more n.supply node) r
-    helps = supply_helps b m n node r same
-        ((histories_show_where_supply_helps b series one.records one.position m r uses.core node one.valid one.fits
-        one.partial one.at uses.in_range uses.short uses.is_core).1 uses.here)
-
 -- and what is found is the same
-module _ (b : Basin) (series : Inflows) (m n : MonthRecord) (one : IsMonthIn b series m) (other : IsMonthIn b series n)
-    (same : HaveSameOutcome m n) where
+module _ (b : Basin) (m n : MonthRecord) (valid : IsValidBasin b) (same : HaveSameOutcome m n) where
   next_there : (node : ℕ) (answer : Option ℕ) → IsNextOrFree b m node answer → IsNextOrFree b n node answer
-  next_there node None free = λ s uses. free s (uses_there b series n m other one (same_back m n same) node s uses)
+  next_there node None free = λ s l helps. free s l (supply_helps b n m node s (same_back m n same) helps)
   next_there node (Some r) next = record {
-    uses = uses_there b series m n one other same node r next.uses;
-    first = λ s senior uses.
-        next.first s senior (uses_there b series n m other one (same_back m n same) node s uses);
+    in_range = next.in_range;
+    helps = supply_helps b m n node r same next.helps;
+    first = λ s l senior helps. next.first s l senior (supply_helps b n m node s (same_back m n same) helps);
   }
 
   helped_there : (link : ℕ) (answer : Option ℕ) → IsHelped b m link answer → IsHelped b n link answer
@@ -126,19 +86,17 @@ module _ (b : Basin) (series : Inflows) (m n : MonthRecord) (one : IsMonthIn b s
       let make : List (Option ℕ) → List (Option ℕ) → Found = λ next helped. record { next = next; helped = helped } in
       ap₂ make
       (ext_get_or None f.next g.next (is.next.one_each ∙ sym are.next.one_each) (λ k l.
-      same_next b n k one.valid (slice_index_or f.next k None) (slice_index_or g.next k None)
+      same_next b n k valid (slice_index_or f.next k None) (slice_index_or g.next k None)
       (next_there k (slice_index_or f.next k None) (is.next.each k (omega (arith, l, is.next.one_each))))
       (are.next.each k (omega (arith, l, is.next.one_each)))))
       (ext_get_or None f.helped g.helped (is.helped.count ∙ sym are.helped.count) (λ k l.
-      same_helped b n k one.valid (slice_index_or f.helped k None) (slice_index_or g.helped k None)
+      same_helped b n k valid (slice_index_or f.helped k None) (slice_index_or g.helped k None)
       (helped_there k (slice_index_or f.helped k None) (is.helped.each k (omega (arith, l, is.helped.count))))
       (are.helped.each k (omega (arith, l, is.helped.count)))))
 
 pub found_is_determined : FoundIsDetermined
-found_is_determined b series records others i m n f g valid fits partial partial' at at' is are =
-    same_found b series m n
-    (record { valid = valid; fits = fits; records = records; position = i; partial = partial; at = at })
-    (record { valid = valid; fits = fits; records = others; position = i; partial = partial'; at = at' })
+found_is_determined b series records others i m n f g valid partial partial' at at' is are =
+    same_found b m n valid
     (one_outcome b series (take (suc i) records) (take (suc i) others) valid
     (prefix_partial b series records (suc i) partial) (prefix_partial b series others (suc i) partial')
     (omega (
@@ -200,7 +158,7 @@ record_at months i e at =
     slice_get-map (λ (k : MonthFound). k.month) months i ∙ ap (option_map (λ (k : MonthFound). k.month)) at
 
 pub list_is_determined : ListIsDetermined
-list_is_determined b series months others valid fits partial partial' len are are' =
+list_is_determined b series months others valid partial partial' len are are' =
     ap (λ lines. (head_bytes b ++ lines) ++ tail_bytes b) (same_months b months others len each)
   where
     count : length (records_of months) ≡ length (records_of others)
@@ -220,4 +178,4 @@ list_is_determined b series months others valid fits partial partial' len are ar
         y.month here there in
         same_lines b x.month y.month x.found y.found same
         (found_is_determined b series (records_of months) (records_of others) i x.month y.month x.found y.found valid
-        fits partial partial' here there (are.each i x at) (are'.each i y at'))
+        partial partial' here there (are.each i x at) (are'.each i y at'))

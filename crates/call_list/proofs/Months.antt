@@ -9,7 +9,7 @@ use Rattle.water_model.proofs.Histories.{last_follows}
 use Rattle.water_model.proofs.Lists.{get_after}
 use Rattle.plan_residual.specs.Residual.{HasPlan}
 use Rattle.next_unit.specs.Helped.{HasRoomForAll}
-use Rattle.next_unit.proofs.InHistories.{IsMonthOf, month_of, has_plan, has_room_down}
+use Rattle.next_unit.proofs.InHistories.{IsMonthOf, month_of, has_plan, has_room}
 use Rattle.result_text.specs.Range.{FitsText}
 use Rattle.result_text.proofs.Whole.{FitsText-follows}
 
@@ -27,10 +27,7 @@ pub last_can_be_found : (b : Basin) (series : Inflows) (before : List MonthRecor
 last_can_be_found b series before m valid fits partial reaches = record {
   plan = has_plan b series (before ++ m ∷ []) (length before) m valid month;
   reaches = reaches (length before) m (get_after before [] m);
-  room = record {
-    each = λ r l short.
-        has_room_down b series (before ++ m ∷ []) (length before) m r valid fits month l short;
-  };
+  room = has_room b series (before ++ m ∷ []) (length before) m valid fits month;
   fits = FitsText-follows b series before m valid (last_follows b series before m partial)
       (omega (arith, partial.within, length-append before (m ∷ [])));
 }

@@ -4,8 +4,8 @@ use Rattle.std.specs.Prelude.{slice_index_or, ◌≡◌}
 use Rattle.water_model.specs.Basin.{is_senior, taking_node}
 use Rattle.water_model.specs.declared.types.Basin.{Basin}
 use Rattle.water_model.specs.declared.types.MonthRecord.{MonthRecord}
-use Rattle.plan_residual.specs.Next.{AreNext}
 use Rattle.next_unit.specs.Helped.{AreHelped}
+use Rattle.next_unit.specs.Next.{AreNext}
 
 -- for each node the right to which one more unit of water there would go, or none; and for each link the most senior
 -- right that one more unit of carry on it would help, or none

@@ -1,7 +1,7 @@
 -- Laws over the definitions.
 use Rattle.std.specs.Prelude.{◌≡◌, ◌↔◌, ℕ, ◌<◌, List, length, slice_get, Some}
 use Rattle.water_model.specs.History.{IsPartialHistory}
-use Rattle.water_model.specs.Valid.{IsValidBasin, IsSeriesOf}
+use Rattle.water_model.specs.Valid.{IsValidBasin}
 use Rattle.water_model.specs.declared.types.Basin.{Basin}
 use Rattle.water_model.specs.declared.types.Inflows.{Inflows}
 use Rattle.water_model.specs.declared.types.MonthRecord.{MonthRecord}
@@ -21,13 +21,13 @@ CurtailedExactly =
 abbrev pub FoundIsDetermined : Type 0
 FoundIsDetermined =
     (b : Basin) (series : Inflows) (records others : List MonthRecord) (i : ℕ) (m n : MonthRecord) (f g : Found) →
-    IsValidBasin b → IsSeriesOf b series → IsPartialHistory b series records → IsPartialHistory b series others →
+    IsValidBasin b → IsPartialHistory b series records → IsPartialHistory b series others →
     slice_get records i ≡ Some m → slice_get others i ≡ Some n → IsFoundIn b m f → IsFoundIn b n g → f ≡ g
 
 -- And so is the list: it has one text.
 abbrev pub ListIsDetermined : Type 0
 ListIsDetermined =
-    (b : Basin) (series : Inflows) (months others : List MonthFound) → IsValidBasin b → IsSeriesOf b series →
+    (b : Basin) (series : Inflows) (months others : List MonthFound) → IsValidBasin b →
     IsPartialHistory b series (records_of months) → IsPartialHistory b series (records_of others) →
     length months ≡ length others → AreFoundIn b months → AreFoundIn b others →
     list_bytes b months ≡ list_bytes b others

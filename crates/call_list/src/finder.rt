@@ -10,6 +10,7 @@ ghost use Rattle.call_list.specs.Finders.{IsFinderOf};
 ghost use Rattle.call_list.specs.Found.{IsFoundIn};
 
 use crate::month::MonthCalls;
+use next_unit::find_next;
 use next_unit::helped::find_helped;
 use plan_residual::ResidualSearch;
 use rights_roll::roll::Roll;
@@ -87,8 +88,8 @@ impl CallFinder {
         ensures finder { IsFinderOf basin.now self.new }
         ensures found { IsFoundIn basin.now month.now self.new.found }
     {
-        self.search
-            .find_next(basin, roll, month, self.next.as_mut_slice());
+        let next = self.next.as_mut_slice();
+        find_next(&mut self.search, basin, roll, month, next);
         let next = self.next.as_slice();
         let rest = self.undecided.as_mut_slice();
         let helped = self.helped.as_mut_slice();

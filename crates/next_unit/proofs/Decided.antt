@@ -3,7 +3,7 @@ use Rattle.std.proofs.Common.{◌≡◌, ℕ, zero, suc, ◌<◌, Bool, true, fa
 use Rattle.std.proofs.Common.{◌+◌, ◌≤◌, length, inl, inr}
 use Rattle.std.proofs.lemmas.Bool.{and_parts, and_from, both_ways, cases_eq, false_from_ne_true}
 use Rattle.std.proofs.lemmas.List.{get_or-set_same, get_or-set_other, length-set}
-use Rattle.std.specs.Prelude.{◌&&◌, ◌⊎◌, ◌≢◌, Option, Some, None, is_some, slice_index_or, slice_set}
+use Rattle.std.specs.Prelude.{◌&&◌, ◌⊎◌, ◌↔◌, ◌≢◌, Option, Some, None, is_some, slice_index_or, slice_set}
 use Rattle.cut_cert.specs.Sets.{cut_at}
 use Rattle.water_model.specs.Lookups.{has}
 use Rattle.water_model.specs.Basin.{head_of, tail_of, taking_node, instream_link, is_senior}
@@ -12,7 +12,7 @@ use Rattle.water_model.specs.declared.types.Basin.{Basin}
 use Rattle.water_model.specs.declared.types.MonthRecord.{MonthRecord}
 use Rattle.water_model.proofs.Seniority.{senior_total}
 use Rattle.water_model.proofs.Sets.{has_below}
-use Rattle.plan_residual.specs.Next.{CouldUseAt, IsNextAt, IsFreeAt}
+use Rattle.plan_residual.specs.FirstCores.{HasCoreAt, IsFirstCoreAt, IsFirstCoreOrNone, AreFirstCores}
 use Rattle.plan_residual.specs.Residual.{HasPlan, IsClosed, can_rise}
 use Rattle.plan_residual.specs.Slack.{others}
 use Rattle.plan_residual.specs.Sweep.{IsShortRight}
@@ -24,9 +24,11 @@ use Rattle.plan_residual.proofs.Terms.{length-others}
 use Rattle.next_unit.specs.Helped.{AreHelpedTo, AreDecided, AreUndecided, HelpsNoneTo, IsFirstHelped, IsListed}
 use Rattle.next_unit.specs.Helped.{IsHelped, IsHelpedTo, TakesOneMore}
 use Rattle.next_unit.specs.Laws.{CarryHelpsRight}
+use Rattle.next_unit.specs.Next.{IsNextAt, IsFreeAt, IsNextOrFree, AreNext}
 use Rattle.next_unit.proofs.Exact.{rights_have_cores, carry_helps_exactly_into_core}
 use Rattle.next_unit.proofs.Helping.{helped_is_short, short_has_reach}
 use Rattle.next_unit.proofs.Least.{core_within}
+use Rattle.next_unit.proofs.Next.{shown_by_core}
 use Rattle.next_unit.proofs.Pushes.{set_each}
 
 -- the nodes that two sets have in common
@@ -134,10 +136,23 @@ reach_within b m r s one other given short short' senior none first second n h =
       separates = by_link (instream_link b s) none second.is_tight.is_cut.separates;
     }
 
--- carry that helps a right leads from outside its reach to where it could use a unit
+-- whose a unit is the first core shows
+pub shown_at : {b : Basin} {m : MonthRecord} → TakesOneMore b m → (node : ℕ) (o : Option ℕ) →
+    IsNextOrFree b m node o ↔ IsFirstCoreOrNone b m node o
+shown_at {b = b} {m = m} month node o = shown_by_core b m node month.plan
+    (λ s l short. (cut_at m.cuts s, (short_has_reach b m s month.reaches l short).is_tight)) month.room o
+
+pub are_next : {b : Basin} {m : MonthRecord} {next : List (Option ℕ)} → TakesOneMore b m → AreFirstCores b m next →
+    AreNext b m next
+are_next {next = next} month are = record {
+  one_each = are.one_each;
+  each = λ n l. (shown_at month n (slice_index_or next n None)).1 (are.each n l);
+}
+
+-- carry that helps a right leads from outside its reach into its core
 record LeadsTo (b : Basin) (m : MonthRecord) (link s : ℕ) : Type 0 where
   outside : has (cut_at m.cuts s) (tail_of b link) ≡ false
-  uses : CouldUseAt b m (head_of b link) s
+  has_core : HasCoreAt b m (head_of b link) s
 
 -- a link of a month whose sets are the reaches
 module _ {b : Basin} {m : MonthRecord} {link : ℕ} (month : TakesOneMore b m) (below : link < length b.links) where
@@ -149,39 +164,41 @@ module _ {b : Basin} {m : MonthRecord} {link : ℕ} (month : TakesOneMore b m) (
       (short_has_reach b m s month.reaches l short) (month.room.each s l short) core.1 below).0 helps in
       record {
         outside = both.0;
-        uses = record { in_range = l; short = short; core = core.0; is_core = core.1; here = both.1 };
+        has_core = record { in_range = l; short = short; core = core.0; is_core = core.1; here = both.1 };
       }
 
   -- nobody is helped by one that is not full
   pub not_full : can_rise b m link ≡ true → IsHelped b m link None
   not_full rises s l helps =
       let to = leads s l helps in
-      both_ways _ to.outside (core_within b m s to.uses.core (cut_at m.cuts s) month.plan l to.uses.short
-      (short_has_reach b m s month.reaches l to.uses.short).is_tight to.uses.is_core (tail_of b link)
-      (to.uses.is_core.upstream.closed.forward link below rises to.uses.here))
+      let in_core = to.has_core in
+      both_ways _ to.outside (core_within b m s in_core.core (cut_at m.cuts s) month.plan l in_core.short
+      (short_has_reach b m s month.reaches l in_core.short).is_tight in_core.is_core (tail_of b link)
+      (in_core.is_core.upstream.closed.forward link below rises in_core.here))
 
-  -- nor where nobody could use a unit at its head
+  -- nor where a unit at its head would help nobody
   pub free_link : IsFreeAt b m (head_of b link) → IsHelped b m link None
-  free_link free s l helps = free s (leads s l helps).uses
+  free_link free s l helps = (shown_at month (head_of b link) None).0 free s (leads s l helps).has_core
 
   -- and so no right at the first indices is
   pub free_head : IsFreeAt b m (head_of b link) → HelpsNoneTo b m 0 link
   free_head free = record {
     before = λ i l. absurd (omega arith);
-    instream = λ s l on helps. free s (leads s l helps).uses;
+    instream = λ s l on helps. free_link free s l helps;
   }
 
   -- where the reach of the right whose unit it would be does not hold its tail, that right is helped
   pub outside_reach : (r : ℕ) → IsNextAt b m (head_of b link) r → has (cut_at m.cuts r) (tail_of b link) ≡ false →
       IsFirstHelped b m link r
   outside_reach r next outside =
-      let uses = next.uses in
+      let first : IsFirstCoreAt b m (head_of b link) r = (shown_at month (head_of b link) (Some r)).0 next in
+      let own = first.has_core in
       record {
-        in_range = uses.in_range;
-        helps = (carry_helps_exactly_into_core b m r uses.core (cut_at m.cuts r) link month.plan uses.in_range
-            uses.short (short_has_reach b m r month.reaches uses.in_range uses.short)
-            (month.room.each r uses.in_range uses.short) uses.is_core below).1 (outside, uses.here);
-        first = λ s l senior helps. next.first s senior (leads s l helps).uses;
+        in_range = own.in_range;
+        helps = (carry_helps_exactly_into_core b m r own.core (cut_at m.cuts r) link month.plan own.in_range own.short
+            (short_has_reach b m r month.reaches own.in_range own.short) (month.room.each r own.in_range own.short)
+            own.is_core below).1 (outside, own.here);
+        first = λ s l senior helps. first.first s senior (leads s l helps).has_core;
       }
 
   -- where it does, no diversion or zone is helped
@@ -192,18 +209,24 @@ module _ {b : Basin} {m : MonthRecord} {link : ℕ} (month : TakesOneMore b m) (
     instream = λ s l on helps. by_order s l on (leads s l helps) (cases_eq s r);
   }
     where
+      first : IsFirstCoreAt b m (head_of b link) r
+      first = (shown_at month (head_of b link) (Some r)).0 next
+
+      own : HasCoreAt b m (head_of b link) r
+      own = first.has_core
+
       by_order : (s : ℕ) → s < length b.rights → instream_link b s ≡ None → LeadsTo b m link s → (s ≡ r) ⊎ (s ≢ r) → ⊥
       by_order s l on to (inl same) =
           both_ways _ to.outside (ap (λ q. has (cut_at m.cuts q) (tail_of b link)) same ∙ within)
-      by_order s l on to (inr differ) = elim (senior_total b.rights month.plan.valid.roll.strict s r l
-          next.uses.in_range differ) [
-            | inl above ↦ next.first s above to.uses
+      by_order s l on to (inr differ) = elim (senior_total b.rights month.plan.valid.roll.strict s r l own.in_range
+          differ) [
+            | inl above ↦ first.first s above to.has_core
             | inr senior ↦
                 both_ways _ to.outside (reach_within b m r s (cut_at m.cuts r) (cut_at m.cuts s) month.plan
-                (record { in_range = next.uses.in_range; short = next.uses.short })
-                (record { in_range = l; short = to.uses.short }) senior on
-                (short_has_reach b m r month.reaches next.uses.in_range next.uses.short)
-                (short_has_reach b m s month.reaches l to.uses.short) (tail_of b link) within)
+                (record { in_range = own.in_range; short = own.short })
+                (record { in_range = l; short = to.has_core.short }) senior on
+                (short_has_reach b m r month.reaches own.in_range own.short)
+                (short_has_reach b m s month.reaches l to.has_core.short) (tail_of b link) within)
           ]
 
 -- a right that is known decides it

@@ -5,6 +5,8 @@ use Rattle.std.specs.Prelude.{◌↔◌}
 use Rattle.water_model.specs.Cuts.{enters, IsTight}
 use Rattle.water_model.specs.declared.types.Basin.{Basin}
 use Rattle.water_model.specs.declared.types.MonthRecord.{MonthRecord}
+use Rattle.water_model.specs.Lookups.{has}
+use Rattle.next_unit.specs.Next.{HelpsRight}
 use Rattle.next_unit.specs.Laws.{SupplyHelpsExactlyInCore, CarryHelpsExactlyIntoCore, RightsHaveCores, CarryHelpsRight}
 use Rattle.next_unit.specs.Laws.{NoCarryPastTightCutsHelps}
 use Rattle.next_unit.proofs.Least.{core_is_least_tight_cut, nothing_outside_tight_cuts_helps}
@@ -16,17 +18,22 @@ use Rattle.finite_sums.specs.Sums.{total_where, when}
 use Rattle.water_model.specs.Plans.{carry_of}
 use Rattle.duality.proofs.Duality.{cut_slack}
 use Rattle.finite_sums.proofs.Terms.{same_where}
-use Rattle.next_unit.specs.Core.{raised_carry}
+use Rattle.next_unit.specs.Core.{one_more, raised_carry}
 
 more_than : (x d : ℕ) → x ≡ d + 1 → x ≤ d → ⊥
 more_than x d e l = omega (arith, e, l)
 
+-- more supply that helps is in each tight cut
+pub helps_within : (b : Basin) (m : MonthRecord) (r node : ℕ) (cut : List Bool) → r < length b.rights →
+    IsTight b m.month m.supply m.delivered r cut → HelpsRight b m (one_more m.supply node) r → has cut node ≡ true
+helps_within b m r node cut l tight h = true_from_ne_false _ (λ out. more_than _ _ h.more
+    (nothing_outside_tight_cuts_helps b m.month m.supply m.delivered r cut node m.want h.plan l tight out h.is_plan
+    h.serves))
+
 pub supply_helps_exactly_in_core : SupplyHelpsExactlyInCore
 supply_helps_exactly_in_core b m r core cut node given l short tight room is_core = (
-  λ h. true_from_ne_false _ (λ out. more_than _ _ h.more
-      (nothing_outside_tight_cuts_helps b m.month m.supply m.delivered r core node m.want h.plan l
-      (core_is_least_tight_cut b m r core cut given l short tight is_core).is_tight out h.is_plan h.serves)),
-  λ here. supply_in_core_helps b m r core cut node given l short tight room is_core here,
+  helps_within b m r node core l (core_is_least_tight_cut b m r core cut given l short tight is_core).is_tight,
+  supply_in_core_helps b m r core cut node given l short tight room is_core,
 )
 
 -- more carry on a link that does not enter a tight cut does not help

@@ -15,7 +15,8 @@ use Rattle.water_model.proofs.Sets.{has_below}
 use Rattle.plan_residual.specs.Residual.{HasPlan}
 use Rattle.plan_residual.specs.Core.{node_of, node_by_link, AreUpstream}
 use Rattle.next_unit.specs.Core.{HasRoomDown, one_more}
-use Rattle.next_unit.specs.Laws.{SupplyInCoreHelps, HelpsRight}
+use Rattle.next_unit.specs.Next.{HelpsRight}
+use Rattle.next_unit.specs.Laws.{SupplyInCoreHelps}
 use Rattle.next_unit.proofs.Least.{tight_closed, cut_has_node}
 use Rattle.plan_residual.proofs.Upstream.{ranks_to, ranked_within}
 use Rattle.next_unit.proofs.Pushes.{unmoved}

@@ -3,14 +3,13 @@ use Rattle.std.proofs.Common.{◌≡◌, ℕ, ◌+◌, ◌<◌, ◌≤◌, ◌^�
 use Rattle.std.proofs.lemmas.Bool.{cases_eq}
 use Rattle.std.proofs.Common.{take, length-take}
 use Rattle.std.proofs.lemmas.Option.{slice_get_within}
-use Rattle.std.specs.Prelude.{slice_index, slice_get, Some, None, Option, ◌⊎◌, ◌≢◌}
+use Rattle.std.specs.Prelude.{slice_index, slice_get, Some, None, Option, ◌⊎◌, ◌↔◌, ◌≢◌}
 use Rattle.finite_sums.specs.Sums.{total}
 use Rattle.finite_sums.proofs.Totals.{total_same}
 use Rattle.water_text.specs.Months.{IsMonth}
 use Rattle.water_model.specs.Basin.{instream_link}
 use Rattle.water_model.specs.Plans.{IsGreatest, carry_of, delivery}
-use Rattle.water_model.specs.Cuts.{node_within}
-use Rattle.water_model.specs.History.{IsPartialHistory, IsNextMonth, Follows, IsShort, opening_after}
+use Rattle.water_model.specs.History.{IsPartialHistory, IsNextMonth, Follows, opening_after}
 use Rattle.water_model.specs.Hydrology.{inflow_at, returned_at, stored_at, want_by_volume, volume_of, target_of}
 use Rattle.water_model.specs.Hydrology.{cap_by_link, run_month, number_of}
 use Rattle.water_model.specs.Lookups.{of_entry}
@@ -26,18 +25,19 @@ use Rattle.water_model.proofs.Lists.{prefix_partial}
 use Rattle.water_model.proofs.Seniority.{senior_total}
 use Rattle.month_terms.proofs.Amounts.{supply_small}
 use Rattle.plan_residual.specs.Residual.{HasPlan}
-use Rattle.next_unit.specs.Core.{HasRoomDown, one_more}
-use Rattle.plan_residual.specs.Next.{IsNextAt, IsFreeAt}
-use Rattle.next_unit.specs.Next.{GivesOneMore, IsFirstChanged}
+use Rattle.next_unit.specs.Core.{one_more}
+use Rattle.plan_residual.specs.FirstCores.{IsFirstCoreOrNone}
+use Rattle.next_unit.specs.Helped.{HasRoomForAll}
+use Rattle.next_unit.specs.Next.{IsNextAt, IsFreeAt, IsNextOrFree, GivesOneMore, IsFirstChanged}
 use Rattle.next_unit.specs.Laws.{HistoriesShowWhereSupplyHelps, HistoriesShowWhereCarryHelps}
 use Rattle.next_unit.specs.Laws.{NextUnitGoesToOne, NextUnitGoesToNobody, CurtailedGetNothing}
 use Rattle.next_unit.specs.Laws.{FirstChangedIsNext, NextUnitShowsInHistories, CurtailedAreCalled}
+use Rattle.next_unit.specs.Laws.{NextIsFirstCore, FreeIsInNoCore, NextUnitIsDecided, ShortTakersAreCurtailedOrNext}
 use Rattle.next_unit.proofs.Exact.{supply_helps_exactly_in_core, carry_helps_exactly_into_core}
-use Rattle.next_unit.proofs.Helps.{supply_in_core_helps}
 use Rattle.next_unit.proofs.Room.{small_supply_leaves_room, rivers_can_rise}
 use Rattle.next_unit.proofs.Changed.{sent_down}
-use Rattle.next_unit.proofs.Least.{core_within}
-use Rattle.next_unit.proofs.Next.{HaveTightCuts, goes_to_one, goes_to_nobody, got_nothing, decided, called}
+use Rattle.next_unit.proofs.Next.{HaveTightCuts, goes_to_one, goes_to_nobody, got_nothing, called, caller_holds}
+use Rattle.next_unit.proofs.Next.{caller_short, shown_by_core, first_core_is_decided, short_takers_have_first_cores}
 
 -- an instream right wants no more than its link carries
 want_carried : (b : Basin) (series : Inflows) (before : List MonthRecord) (m : MonthRecord) (r e : ℕ) →
@@ -114,11 +114,11 @@ module _ (b : Basin) (series : Inflows) (records : List MonthRecord) (i : ℕ) (
       )
 
   -- and there is room down
-  pub has_room_down : (r : ℕ) → IsValidBasin b → IsSeriesOf b series → IsMonthOf → r < length b.rights → IsShort m r →
-      HasRoomDown b m r
-  has_room_down r valid fits month l short =
-      small_supply_leaves_room b m r (has_plan valid month) l short (small_supply valid fits month)
-      (λ e is. want_carried b series (take i records) m r e month.follows.after l is)
+  pub has_room : IsValidBasin b → IsSeriesOf b series → IsMonthOf → HasRoomForAll b m
+  has_room valid fits month = record {
+    each = λ r l short. small_supply_leaves_room b m r (has_plan valid month) l short (small_supply valid fits month)
+        (λ e is. want_carried b series (take i records) m r e month.follows.after l is);
+  }
 
   -- each short right has a tight cut
   have_cuts : IsMonthOf → HaveTightCuts b m
@@ -130,31 +130,68 @@ histories_show_where_supply_helps b series records i m r core node valid fits pa
     let month = month_of b series records i m partial at in
     let cut = month.follows.short r l short in
     supply_helps_exactly_in_core b m r core cut.0 node (has_plan b series records i m valid month) l short cut.2
-    (has_room_down b series records i m r valid fits month l short) is_core
+    ((has_room b series records i m valid fits month).each r l short) is_core
 
 pub histories_show_where_carry_helps : HistoriesShowWhereCarryHelps
 histories_show_where_carry_helps b series records i m r core reach link valid fits partial at l short is_core is_reach
     below =
     let month = month_of b series records i m partial at in
     carry_helps_exactly_into_core b m r core reach link (has_plan b series records i m valid month) l short is_reach
-    (has_room_down b series records i m r valid fits month l short) is_core below
+    ((has_room b series records i m valid fits month).each r l short) is_core below
+
+-- the right to which a unit would go, or that it is free, is what the cores show
+shown_in_month : (b : Basin) (series : Inflows) (records : List MonthRecord) (i : ℕ) (m : MonthRecord) (node : ℕ)
+    (o : Option ℕ) → IsValidBasin b → IsSeriesOf b series → IsPartialHistory b series records →
+    slice_get records i ≡ Some m → IsNextOrFree b m node o ↔ IsFirstCoreOrNone b m node o
+shown_in_month b series records i m node o valid fits partial at =
+    let month = month_of b series records i m partial at in
+    shown_by_core b m node (has_plan b series records i m valid month) (have_cuts b series records i m month)
+    (has_room b series records i m valid fits month) o
+
+pub next_is_first_core : NextIsFirstCore
+next_is_first_core b series records i m node right = shown_in_month b series records i m node (Some right)
+
+pub free_is_in_no_core : FreeIsInNoCore
+free_is_in_no_core b series records i m node = shown_in_month b series records i m node None
+
+pub next_unit_is_decided : NextUnitIsDecided
+next_unit_is_decided b series records i m node valid fits partial at =
+    elim (first_core_is_decided b m node
+    (has_plan b series records i m valid (month_of b series records i m partial at))) [
+      | inl none ↦ inl ((free_is_in_no_core b series records i m node valid fits partial at).1 none)
+      | inr first ↦
+          inr (first.0, (next_is_first_core b series records i m node first.0 valid fits partial at).1 first.1)
+    ]
+
+pub short_takers_are_curtailed_or_next : ShortTakersAreCurtailedOrNext
+short_takers_are_curtailed_or_next b series records i m right node valid fits partial at l short takes =
+    elim (short_takers_have_first_cores b m right node
+    (has_plan b series records i m valid (month_of b series records i m partial at)) l short takes) [
+      | inl senior ↦ inl (
+        senior.0,
+        record {
+          in_range = l;
+          wants = omega (arith, short);
+          node = node;
+          at = takes;
+          senior = senior.1;
+          next = (next_is_first_core b series records i m node senior.0 valid fits partial at).1 senior.2;
+        },
+      )
+      | inr own ↦ inr ((next_is_first_core b series records i m node right valid fits partial at).1 own)
+    ]
 
 pub next_unit_goes_to_one : NextUnitGoesToOne
-next_unit_goes_to_one b series records i m node right q valid fits partial at next gq =
+next_unit_goes_to_one b series records i m node right q valid partial at next gq =
     let month = month_of b series records i m partial at in
-    let uses = next.uses in
-    let given = has_plan b series records i m valid month in
-    let cut = month.follows.short right uses.in_range uses.short in
-    goes_to_one b m node right q given (have_cuts b series records i m month)
-    (supply_in_core_helps b m right uses.core cut.0 node given uses.in_range uses.short cut.2
-    (has_room_down b series records i m right valid fits month uses.in_range uses.short) uses.is_core uses.here)
+    goes_to_one b m node right q (has_plan b series records i m valid month) (have_cuts b series records i m month)
     next gq
 
 pub next_unit_goes_to_nobody : NextUnitGoesToNobody
 next_unit_goes_to_nobody b series records i m node q valid fits partial at l free gq =
     let month = month_of b series records i m partial at in
     let given = has_plan b series records i m valid month in
-    goes_to_nobody b m node q given (have_cuts b series records i m month)
+    goes_to_nobody b m node q given (have_cuts b series records i m month) l
     (sent_down b m node given (rivers_can_rise b m given (small_supply b series records i m valid fits month)) l)
     free gq
 
@@ -168,28 +205,27 @@ pub first_changed_is_next : FirstChangedIsNext
 first_changed_is_next b series records i m node right q valid fits partial at l gq = (to, from)
   where
     gives : (r : ℕ) → IsNextAt b m node r → GivesOneMore b m q r
-    gives r next = next_unit_goes_to_one b series records i m node r q valid fits partial at next gq
+    gives r next = next_unit_goes_to_one b series records i m node r q valid partial at next gq
 
     more_than : (x d : ℕ) → x ≡ d + 1 → x ≡ d → ⊥
     more_than x d e h = omega (arith, e, h)
 
     to : IsNextAt b m node right → IsFirstChanged b m q right
     to next = record {
-      in_range = next.uses.in_range;
+      in_range = next.in_range;
       changed = more_than (delivery b m.want q right) (slice_index m.delivered right) (gives right next).more;
       seniors = (gives right next).seniors;
     }
 
     from : IsFirstChanged b m q right → IsNextAt b m node right
-    from first =
-        by_next (decided b m node (has_plan b series records i m valid (month_of b series records i m partial at)))
+    from first = by_next (next_unit_is_decided b series records i m node valid fits partial at)
       where
         by_order : (r : ℕ) → IsNextAt b m node r → (r ≡ right) ⊎ (r ≢ right) → IsNextAt b m node right
         by_order r next (inl same) = subst (λ k. IsNextAt b m node k) same next
         by_order r next (inr differ) =
-            elim (senior_total b.rights valid.roll.strict r right next.uses.in_range first.in_range differ) [
+            elim (senior_total b.rights valid.roll.strict r right next.in_range first.in_range differ) [
               | inl senior ↦ absurd (more_than (delivery b m.want q r) (slice_index m.delivered r) (gives r next).more
-                  (first.seniors r next.uses.in_range senior))
+                  (first.seniors r next.in_range senior))
               | inr junior ↦ absurd (first.changed ((gives r next).seniors right first.in_range junior))
             ]
 
@@ -207,9 +243,9 @@ greatest_there b month month' supply supply' want want' q one two three gq =
     (subst (λ x. IsGreatest b month' x want q) two (subst (λ x. IsGreatest b month' supply' x q) three gq))
 
 pub next_unit_shows_in_histories : NextUnitShowsInHistories
-next_unit_shows_in_histories b series other records others i m n node right valid fits partial partial' at at' supply
-    want next =
-    (there right next.uses.in_range ∙ gives.more, λ s l senior. there s l ∙ gives.seniors s l senior)
+next_unit_shows_in_histories b series other records others i m n node right valid partial partial' at at' supply want
+    next =
+    (there right next.in_range ∙ gives.more, λ s l senior. there s l ∙ gives.seniors s l senior)
   where
     here : Follows b series (take i records) m
     here = partial.each i m at
@@ -235,16 +271,13 @@ next_unit_shows_in_histories b series other records others i m n node right vali
     there s l = follows.after.delivered s l ∙ ap (λ w. delivery b w n.plan s) want
 
     gives : GivesOneMore b m n.plan right
-    gives = next_unit_goes_to_one b series records i m node right n.plan valid fits partial at next
+    gives = next_unit_goes_to_one b series records i m node right n.plan valid partial at next
         (greatest_there b m.month n.month (one_more m.supply node) n.supply m.want n.want n.plan month supply want
         (record_is_greatest b other (take i others) n follows))
 
 pub curtailed_are_called : CurtailedAreCalled
 curtailed_are_called b series records i m right caller valid partial at curtailed =
-    let month = month_of b series records i m partial at in
-    let uses = curtailed.next.uses in
-    let cut = month.follows.short caller uses.in_range uses.short in
-    called b m right caller cut.0 uses.short curtailed.senior curtailed.wants cut.1
-    (ap (λ o. node_within o cut.0) curtailed.at
-    ∙ core_within b m caller uses.core cut.0 (has_plan b series records i m valid month) uses.in_range uses.short cut.2
-    uses.is_core curtailed.node uses.here)
+    let short = caller_short b m right caller curtailed in
+    let cut = (partial.each i m at).short caller curtailed.next.in_range short in
+    called b m right caller cut.0 short curtailed.senior curtailed.wants cut.1
+    (caller_holds b m right caller cut.0 curtailed cut.2)

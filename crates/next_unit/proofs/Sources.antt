@@ -11,7 +11,6 @@ use Rattle.water_model.specs.Cuts.{node_within, takes_within, separates, IsCut, 
 use Rattle.water_model.specs.History.{IsShort}
 use Rattle.water_model.specs.declared.types.Basin.{Basin}
 use Rattle.water_model.specs.declared.types.MonthRecord.{MonthRecord}
-use Rattle.water_model.proofs.Valid.{ends}
 use Rattle.water_model.proofs.Sets.{has_below}
 use Rattle.plan_residual.specs.Residual.{HasPlan, IsClosed}
 use Rattle.plan_residual.specs.Slack.{others}

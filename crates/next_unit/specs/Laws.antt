@@ -17,8 +17,8 @@ use Rattle.water_model.specs.declared.types.Plan.{Plan}
 use Rattle.plan_residual.specs.Residual.{HasPlan}
 use Rattle.plan_residual.specs.Core.{IsCore}
 use Rattle.next_unit.specs.Core.{IsLeastTight, HasRoomDown, one_more, raised_carry}
-use Rattle.plan_residual.specs.Next.{IsNextAt, IsFreeAt}
-use Rattle.next_unit.specs.Next.{GivesOneMore, IsFirstChanged, IsCurtailedFor}
+use Rattle.plan_residual.specs.FirstCores.{IsFirstCoreAt, IsInNoCore}
+use Rattle.next_unit.specs.Next.{HelpsRight, IsNextAt, IsFreeAt, GivesOneMore, IsFirstChanged, IsCurtailedFor}
 
 -- Where a short right has a tight cut, its core is a tight cut, and is within every tight cut.
 abbrev pub CoreIsLeastTightCut : Type 0
@@ -35,14 +35,6 @@ NothingOutsideTightCutsHelps =
     (other_want : List ℕ) (q : Plan) → right < length b.rights → IsTight b month supply delivered right cut →
     has cut node ≡ false → IsPlan b month (one_more supply node) other_want q →
     ServesSeniors b delivered other_want q right → delivery b other_want q right ≤ slice_index delivered right
-
--- a plan of the month, but for its supply, that delivers at least as much to each senior of a right, and to the right
--- one more unit
-pub record HelpsRight (b : Basin) (m : MonthRecord) (supply : List ℕ) (right : ℕ) : Type 0 where
-  pub plan : Plan
-  pub is_plan : IsPlan b m.month supply m.want plan
-  pub serves : ServesSeniors b m.delivered m.want plan right
-  pub more : delivery b m.want plan right ≡ slice_index m.delivered right + 1
 
 -- One more unit of supply in the core helps.
 abbrev pub SupplyInCoreHelps : Type 0
@@ -124,22 +116,44 @@ HistoriesShowWhereCarryHelps =
     IsReach b m.month m.supply m.delivered right reach → link < length b.links →
     CarryHelpsRight b m link right ↔ ((has reach (tail_of b link) ≡ false) × IsTrue (has core (head_of b link)))
 
--- One more unit at a node could be used by no right, or it goes to one.
+-- In a month of a history, the right whose one more unit of supply at a node would be is exactly the most senior short
+-- right whose core holds the node.
+abbrev pub NextIsFirstCore : Type 0
+NextIsFirstCore =
+    (b : Basin) (series : Inflows) (records : List MonthRecord) (i : ℕ) (m : MonthRecord) (node right : ℕ) →
+    IsValidBasin b → IsSeriesOf b series → IsPartialHistory b series records → slice_get records i ≡ Some m →
+    IsNextAt b m node right ↔ IsFirstCoreAt b m node right
+
+-- And it would help nobody exactly where no core of a short right holds the node.
+abbrev pub FreeIsInNoCore : Type 0
+FreeIsInNoCore =
+    (b : Basin) (series : Inflows) (records : List MonthRecord) (i : ℕ) (m : MonthRecord) (node : ℕ) →
+    IsValidBasin b → IsSeriesOf b series → IsPartialHistory b series records → slice_get records i ≡ Some m →
+    IsFreeAt b m node ↔ IsInNoCore b m node
+
+-- No core of a short right holds a node, or there is a most senior short right whose core does.
+abbrev pub FirstCoreIsDecided : Type 0
+FirstCoreIsDecided =
+    (b : Basin) (m : MonthRecord) (node : ℕ) → HasPlan b m →
+    IsInNoCore b m node ⊎ ((right : ℕ) × IsFirstCoreAt b m node right)
+
+-- One more unit at a node would help nobody, or it is a right's.
 abbrev pub NextUnitIsDecided : Type 0
 NextUnitIsDecided =
-    (b : Basin) (m : MonthRecord) (node : ℕ) → HasPlan b m →
+    (b : Basin) (series : Inflows) (records : List MonthRecord) (i : ℕ) (m : MonthRecord) (node : ℕ) →
+    IsValidBasin b → IsSeriesOf b series → IsPartialHistory b series records → slice_get records i ≡ Some m →
     IsFreeAt b m node ⊎ ((right : ℕ) × IsNextAt b m node right)
 
 -- Whose the next unit is. Where the supply of a month is one more unit at a node, a greatest plan delivers one more
--- unit to the most senior short right whose core holds the node, and to each senior of that right what it got.
+-- unit to the most senior right that it would help, and to each senior of that right what it got.
 abbrev pub NextUnitGoesToOne : Type 0
 NextUnitGoesToOne =
     (b : Basin) (series : Inflows) (records : List MonthRecord) (i : ℕ) (m : MonthRecord) (node right : ℕ)
-    (q : Plan) → IsValidBasin b → IsSeriesOf b series → IsPartialHistory b series records →
-    slice_get records i ≡ Some m → IsNextAt b m node right →
+    (q : Plan) → IsValidBasin b → IsPartialHistory b series records → slice_get records i ≡ Some m →
+    IsNextAt b m node right →
     IsGreatest b m.month (one_more m.supply node) m.want q → GivesOneMore b m q right
 
--- Where no core of a short right holds the node, it delivers to every right what it got.
+-- Where it would help nobody, it delivers to every right what it got.
 abbrev pub NextUnitGoesToNobody : Type 0
 NextUnitGoesToNobody =
     (b : Basin) (series : Inflows) (records : List MonthRecord) (i : ℕ) (m : MonthRecord) (node : ℕ) (q : Plan) →
@@ -147,7 +161,7 @@ NextUnitGoesToNobody =
     node < length b.nodes → IsFreeAt b m node → IsGreatest b m.month (one_more m.supply node) m.want q →
     AreDeliveries b m.want q m.delivered
 
--- So that right is exactly the most senior one to which it delivers otherwise.
+-- So that right is exactly the most senior one to which it delivers otherwise. Juniors of that right may gain or lose.
 abbrev pub FirstChangedIsNext : Type 0
 FirstChangedIsNext =
     (b : Basin) (series : Inflows) (records : List MonthRecord) (i : ℕ) (m : MonthRecord) (node right : ℕ)
@@ -160,9 +174,9 @@ FirstChangedIsNext =
 abbrev pub NextUnitShowsInHistories : Type 0
 NextUnitShowsInHistories =
     (b : Basin) (series other : Inflows) (records others : List MonthRecord) (i : ℕ) (m n : MonthRecord)
-    (node right : ℕ) → IsValidBasin b → IsSeriesOf b series → IsPartialHistory b series records →
-    IsPartialHistory b other others → slice_get records i ≡ Some m → slice_get others i ≡ Some n →
-    n.supply ≡ one_more m.supply node → n.want ≡ m.want → IsNextAt b m node right →
+    (node right : ℕ) → IsValidBasin b → IsPartialHistory b series records → IsPartialHistory b other others →
+    slice_get records i ≡ Some m → slice_get others i ≡ Some n → n.supply ≡ one_more m.supply node →
+    n.want ≡ m.want → IsNextAt b m node right →
     (slice_index n.delivered right ≡ slice_index m.delivered right + 1)
     × ((s : ℕ) → s < length b.rights → IsTrue (is_senior b s right) →
     slice_index n.delivered s ≡ slice_index m.delivered s)
@@ -181,8 +195,17 @@ CurtailedAreCalled =
     IsValidBasin b → IsPartialHistory b series records → slice_get records i ≡ Some m →
     IsCurtailedFor b m right caller → IsTrue (calls b m right caller)
 
+-- At the node of a short diversion or zone the first core is a senior's or its own.
+abbrev pub ShortTakersHaveFirstCores : Type 0
+ShortTakersHaveFirstCores =
+    (b : Basin) (m : MonthRecord) (right node : ℕ) → HasPlan b m → right < length b.rights → IsShort m right →
+    taking_node b right ≡ Some node →
+    ((caller : ℕ) × IsTrue (is_senior b caller right) × IsFirstCoreAt b m node caller) ⊎ IsFirstCoreAt b m node right
+
 -- A short diversion or zone is curtailed for a senior, or the next unit at its node is its own.
 abbrev pub ShortTakersAreCurtailedOrNext : Type 0
 ShortTakersAreCurtailedOrNext =
-    (b : Basin) (m : MonthRecord) (right node : ℕ) → HasPlan b m → right < length b.rights → IsShort m right →
-    taking_node b right ≡ Some node → ((caller : ℕ) × IsCurtailedFor b m right caller) ⊎ IsNextAt b m node right
+    (b : Basin) (series : Inflows) (records : List MonthRecord) (i : ℕ) (m : MonthRecord) (right node : ℕ) →
+    IsValidBasin b → IsSeriesOf b series → IsPartialHistory b series records → slice_get records i ≡ Some m →
+    right < length b.rights → IsShort m right → taking_node b right ≡ Some node →
+    ((caller : ℕ) × IsCurtailedFor b m right caller) ⊎ IsNextAt b m node right

@@ -1,4 +1,4 @@
 pub mod Core
-pub mod Laws
 pub mod Next
+pub mod Laws
 pub mod Helped

@@ -6,12 +6,12 @@ ghost use Rattle.water_model.specs.Basin.{head_of, instream_link};
 ghost use Rattle.water_model.specs.History.{HasReaches, IsShort};
 ghost use Rattle.water_model.specs.Valid.{IsValidBasin};
 ghost use Rattle.rights_roll.specs.Rolls.{IsRollOf};
-ghost use Rattle.plan_residual.specs.Next.{AreNext, IsNextAt};
 ghost use Rattle.plan_residual.specs.Residual.{HasPlan};
 ghost use Rattle.plan_residual.specs.Rows.{IsSearchOf};
 ghost use Rattle.plan_residual.specs.Sweep.{right_at};
 ghost use Rattle.next_unit.specs.Helped.{AreHelped, AreHelpedTo, AreLinks, AreUndecided, HasRoomForAll, HelpNot};
 ghost use Rattle.next_unit.specs.Helped.{IsCandidate, IsHelped, IsHelpedTo, NoneEnters, TakesOneMore};
+ghost use Rattle.next_unit.specs.Next.{AreNext, IsNextAt};
 
 use crate::carry_helps;
 use cut_cert::calls::is_short;

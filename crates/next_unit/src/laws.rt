@@ -4,9 +4,11 @@ ghost use Rattle.next_unit.specs.Laws.{NoCarryPastTightCutsHelps, CarryIntoCoreH
 ghost use Rattle.next_unit.specs.Laws.{SupplyHelpsExactlyInCore, CarryHelpsExactlyIntoCore};
 ghost use Rattle.next_unit.specs.Laws.{RightsHaveCores, SmallSupplyLeavesRoom};
 ghost use Rattle.next_unit.specs.Laws.{HistoriesShowWhereSupplyHelps, HistoriesShowWhereCarryHelps};
+ghost use Rattle.next_unit.specs.Laws.{NextIsFirstCore, FreeIsInNoCore, FirstCoreIsDecided};
 ghost use Rattle.next_unit.specs.Laws.{NextUnitIsDecided, NextUnitGoesToOne, NextUnitGoesToNobody};
 ghost use Rattle.next_unit.specs.Laws.{FirstChangedIsNext, CurtailedGetNothing, CurtailedAreCalled};
-ghost use Rattle.next_unit.specs.Laws.{NextUnitShowsInHistories, ShortTakersAreCurtailedOrNext};
+ghost use Rattle.next_unit.specs.Laws.{NextUnitShowsInHistories, ShortTakersHaveFirstCores};
+ghost use Rattle.next_unit.specs.Laws.{ShortTakersAreCurtailedOrNext};
 
 /// The core of a short right is the least tight cut.
 #[tactic(auto, using(crate::proofs::Least::core_is_least_tight_cut))]
@@ -68,23 +70,39 @@ pub fn histories_show_where_carry_helps()
     ensures { HistoriesShowWhereCarryHelps }
 {}
 
-/// One more unit at a node could be used by no right, or it goes to one.
+/// In a month of a history, the right whose one more unit at a node would be is the most senior short right whose core
+/// holds the node.
+pub fn next_is_first_core()
+    ensures { NextIsFirstCore }
+{}
+
+/// And it would help nobody where no core of a short right holds the node.
+pub fn free_is_in_no_core()
+    ensures { FreeIsInNoCore }
+{}
+
+/// No core of a short right holds a node, or there is a most senior short right whose core does.
+pub fn first_core_is_decided()
+    ensures { FirstCoreIsDecided }
+{}
+
+/// One more unit at a node would help nobody, or it is a right's.
 pub fn next_unit_is_decided()
     ensures { NextUnitIsDecided }
 {}
 
-/// One more unit of supply at a node goes to the most senior short right whose core holds it, and costs no senior.
-#[tactic(auto, using(crate::proofs::InHistories::next_unit_goes_to_one))]
+/// One more unit of supply at a node goes to the most senior right that it would help, and costs no senior.
 pub fn next_unit_goes_to_one()
     ensures { NextUnitGoesToOne }
 {}
 
-/// Where no core of a short right holds the node, every right gets what it got.
+/// Where it would help nobody, every right gets what it got.
 pub fn next_unit_goes_to_nobody()
     ensures { NextUnitGoesToNobody }
 {}
 
-/// That right is exactly the most senior one to which a greatest plan with the unit delivers otherwise.
+/// That right is exactly the most senior one to which a greatest plan with the unit delivers otherwise. Its juniors may
+/// gain or lose.
 pub fn first_changed_is_next()
     ensures { FirstChangedIsNext }
 {}
@@ -104,8 +122,14 @@ pub fn curtailed_are_called()
     ensures { CurtailedAreCalled }
 {}
 
+/// At the node of a short diversion or zone the first core is a senior's or its own.
+#[tactic(auto, using(crate::proofs::Next::short_takers_have_first_cores))]
+pub fn short_takers_have_first_cores()
+    ensures { ShortTakersHaveFirstCores }
+{}
+
 /// A short diversion or zone is curtailed for a senior, or the next unit at its node is its own.
-#[tactic(auto, using(crate::proofs::Next::short_takers_are_curtailed_or_next))]
+#[tactic(auto, using(crate::proofs::InHistories::short_takers_are_curtailed_or_next))]
 pub fn short_takers_are_curtailed_or_next()
     ensures { ShortTakersAreCurtailedOrNext }
 {}

@@ -17,7 +17,7 @@ use Rattle.plan_residual.specs.Core.{node_of, IsCore}
 use Rattle.plan_residual.specs.Queue.{QueueView, IsEmpty, IsVisit}
 use Rattle.plan_residual.specs.Search.{HasGrown, IsClosedAlong}
 use Rattle.plan_residual.specs.Sweep.{IsShortRight, right_at}
-use Rattle.plan_residual.specs.Next.{CouldUseAt, IsNextAt, IsNextOrFree, AreNext}
+use Rattle.plan_residual.specs.FirstCores.{HasCoreAt, IsFirstCoreAt, IsFirstCoreOrNone, AreFirstCores}
 use Rattle.plan_residual.specs.Claims.{AreClaimed, AreMarked, IsClaim}
 use Rattle.plan_residual.proofs.Along.{along_from_backward, backward_from_along}
 use Rattle.plan_residual.proofs.Cores.{core_of}
@@ -94,18 +94,19 @@ claim_made {b = b} {m = m} {r = r} {node = node} {q = q} {q' = q'} at closed vis
     itself core is = let same : Some is.node ≡ Some node = sym is.at ∙ at in cc
 
 -- one more index is marked
-pub marked_more : (q : QueueView) (from position right : ℕ) (next next' : List (Option ℕ)) → from ≤ position →
-    slice_index q.nodes position < length next → AreMarked q from position right next next' →
-    AreMarked q from (position + 1) right next (slice_set next' (slice_index q.nodes position) (Some right))
-marked_more q from position right next next' above below now = record {
-  count = length-set next' (slice_index q.nodes position) (Some right) ∙ now.count;
+pub marked_more : (q : QueueView) (from position right : ℕ) (firsts firsts' : List (Option ℕ)) → from ≤ position →
+    slice_index q.nodes position < length firsts → AreMarked q from position right firsts firsts' →
+    AreMarked q from (position + 1) right firsts (slice_set firsts' (slice_index q.nodes position) (Some right))
+marked_more q from position right firsts firsts' above below now = record {
+  count = length-set firsts' (slice_index q.nodes position) (Some right) ∙ now.count;
   marked = λ j a l. elim (cases_eq (slice_index q.nodes j) (slice_index q.nodes position)) [
-    | inl same ↦ ap (λ v. slice_index_or (slice_set next' (slice_index q.nodes position) (Some right)) v None) same
-        ∙ get_or-set_same next' (slice_index q.nodes position) (Some right) None (let c = now.count in omega arith)
-    | inr other ↦ get_or-set_other next' (slice_index q.nodes position) (slice_index q.nodes j) (Some right) None other
+    | inl same ↦ ap (λ v. slice_index_or (slice_set firsts' (slice_index q.nodes position) (Some right)) v None) same
+        ∙ get_or-set_same firsts' (slice_index q.nodes position) (Some right) None (let c = now.count in omega arith)
+    | inr other ↦
+        get_or-set_other firsts' (slice_index q.nodes position) (slice_index q.nodes j) (Some right) None other
         ∙ now.marked j a (earlier j l other)
   ];
-  kept = λ v apart. get_or-set_other next' (slice_index q.nodes position) v (Some right) None
+  kept = λ v apart. get_or-set_other firsts' (slice_index q.nodes position) v (Some right) None
       (λ same. apart position above (omega arith) (sym same))
       ∙ now.kept v (λ j a l. apart j a (omega arith));
 }
@@ -120,9 +121,9 @@ marked_more q from position right next next' above below now = record {
 abbrev no_marks : ℕ → List (Option ℕ)
 no_marks n = replicate n None
 
-pub none_claimed : (b : Basin) (m : MonthRecord) (q : QueueView) (next : List (Option ℕ)) →
-    IsEmpty (length b.nodes) q → next ≡ no_marks (length b.nodes) → AreClaimed b m 0 q next
-none_claimed b m q next empty none = record {
+pub none_claimed : (b : Basin) (m : MonthRecord) (q : QueueView) (firsts : List (Option ℕ)) →
+    IsEmpty (length b.nodes) q → firsts ≡ no_marks (length b.nodes) → AreClaimed b m 0 q firsts
+none_claimed b m q firsts empty none = record {
   in_queue = empty.in_queue;
   count = empty.count;
   one_each = ap (λ (xs : List (Option ℕ)). length xs) none ∙ length-replicate {A = Option ℕ} (length b.nodes) None;
@@ -140,10 +141,10 @@ none_claimed b m q next empty none = record {
     nothing (suc k) (suc n) = nothing k n
 
 -- a right that is not short claims nothing
-pub passed_over : (b : Basin) (m : MonthRecord) (position : ℕ) (q : QueueView) (next : List (Option ℕ)) →
+pub passed_over : (b : Basin) (m : MonthRecord) (position : ℕ) (q : QueueView) (firsts : List (Option ℕ)) →
     slice_index m.want (right_at b position) ≤ slice_index m.delivered (right_at b position) →
-    AreClaimed b m position q next → AreClaimed b m (position + 1) q next
-passed_over b m position q next met now = record {
+    AreClaimed b m position q firsts → AreClaimed b m (position + 1) q firsts
+passed_over b m position q firsts met now = record {
   in_queue = now.in_queue;
   count = now.count;
   one_each = now.one_each;
@@ -159,11 +160,11 @@ passed_over b m position q next met now = record {
 }
 
 -- a short one claims the nodes of its core that no senior claimed
-pub claimed_more : (b : Basin) (m : MonthRecord) (position : ℕ) (q q' : QueueView) (next next' : List (Option ℕ)) →
+pub claimed_more : (b : Basin) (m : MonthRecord) (position : ℕ) (q q' : QueueView) (firsts firsts' : List (Option ℕ)) →
     HasPlan b m → IsSeniorityOrder b.rights (seniors_first b) → position < length b.rights →
-    IsShortRight b m (right_at b position) → AreClaimed b m position q next → IsClaim b m (right_at b position) q q' →
-    AreMarked q' q.size q'.size (right_at b position) next next' → AreClaimed b m (position + 1) q' next'
-claimed_more b m position q q' next next' given o below short now claim mark = record {
+    IsShortRight b m (right_at b position) → AreClaimed b m position q firsts → IsClaim b m (right_at b position) q q' →
+    AreMarked q' q.size q'.size (right_at b position) firsts firsts' → AreClaimed b m (position + 1) q' firsts'
+claimed_more b m position q q' firsts firsts' given o below short now claim mark = record {
   in_queue = claim.in_queue;
   count = claim.count ∙ now.count;
   one_each = mark.count ∙ now.one_each;
@@ -177,7 +178,7 @@ claimed_more b m position q q' next next' given o below short now claim mark = r
     mark.kept n (λ j a k same. both_ways (has q'.seen n) out (ap (has q'.seen) (sym same) ∙ claim.in_queue.queued j k))
         ∙ (now.free n l (apart n out)).0,
     λ i a could. elim (cases_eq i position) [
-      | inl same ↦ (let takes = subst (λ (k : ℕ). CouldUseAt b m n (right_at b k)) same could in
+      | inl same ↦ (let takes = subst (λ (k : ℕ). HasCoreAt b m n (right_at b k)) same could in
           both_ways (has q'.seen n) out (claim.holds takes.core takes.is_core n takes.here))
       | inr other ↦ (now.free n l (apart n out)).1 i (omega arith) could
     ],
@@ -194,27 +195,27 @@ claimed_more b m position q q' next next' given o below short now claim mark = r
     ]
 
     -- a node that was there keeps its mark
-    kept : (n : ℕ) → has q.seen n ≡ true → slice_index_or next' n None ≡ slice_index_or next n None
+    kept : (n : ℕ) → has q.seen n ≡ true → slice_index_or firsts' n None ≡ slice_index_or firsts n None
     kept n old =
         let at = now.in_queue.each n old in
         let inside = at.1 in
         mark.kept n (λ j a k same. claim.in_queue.once at.0 j (omega arith) k
         (claim.extends.prefix at.0 at.1 ∙ (at.2 ∙ sym same)))
 
-    added : (n : ℕ) → has q'.seen n ≡ true → has q.seen n ≡ false → slice_index_or next' n None ≡ Some r
+    added : (n : ℕ) → has q'.seen n ≡ true → has q.seen n ≡ false → slice_index_or firsts' n None ≡ Some r
     added n h fresh =
         let at = claim.in_queue.each n h in
-        ap (λ (v : ℕ). slice_index_or next' v None) (sym at.2) ∙ mark.marked at.0 (elim (cases_lt at.0 q.size) [
+        ap (λ (v : ℕ). slice_index_or firsts' v None) (sym at.2) ∙ mark.marked at.0 (elim (cases_lt at.0 q.size) [
           | inl before ↦ absurd (both_ways (has q.seen n) fresh
               (ap (has q.seen) (sym at.2 ∙ claim.extends.prefix at.0 before) ∙ now.in_queue.queued at.0 before))
           | inr after ↦ after
         ]) at.1
 
-    owned : (n : ℕ) → has q'.seen n ≡ true → has q.seen n ≡ false → IsNextAt b m n r
+    owned : (n : ℕ) → has q'.seen n ≡ true → has q.seen n ≡ false → IsFirstCoreAt b m n r
     owned n h fresh =
         let core = core_of b m r given short.in_range in
         record {
-          uses = record {
+          has_core = record {
             in_range = short.in_range;
             short = short.short;
             core = core.0;
@@ -230,19 +231,19 @@ claimed_more b m position q q' next next' given o below short now claim mark = r
               (sym (o.senior s r could.in_range short.in_range) ∙ senior) in
               (now.free n (let k = has_below q'.seen n h in let c = claim.count in let d = now.count in omega arith)
               fresh).1 (o.place s) (omega arith)
-              (subst (λ (t : ℕ). CouldUseAt b m n t) (sym (o.each s could.in_range)) could);
+              (subst (λ (t : ℕ). HasCoreAt b m n t) (sym (o.each s could.in_range)) could);
         }
 
 -- all rights had their turn
 pub all_served : (b : Basin) (m : MonthRecord) (position : ℕ) (q : QueueView)
-    (next : List (Option ℕ)) → IsSeniorityOrder b.rights (seniors_first b) → length b.rights ≤ position →
-    AreClaimed b m position q next → AreNext b m next
-all_served b m position q next o all now = record {
+    (firsts : List (Option ℕ)) → IsSeniorityOrder b.rights (seniors_first b) → length b.rights ≤ position →
+    AreClaimed b m position q firsts → AreFirstCores b m firsts
+all_served b m position q firsts o all now = record {
   one_each = now.one_each;
   each = λ n l. elim (cases_Bool (has q.seen n)) [
-    | inl held ↦ (let was = now.claimed n held in subst (IsNextOrFree b m n) (sym was.1) was.2)
-    | inr out ↦ subst (IsNextOrFree b m n) (sym (now.free n l out).0) (λ s could.
+    | inl held ↦ (let was = now.claimed n held in subst (IsFirstCoreOrNone b m n) (sym was.1) was.2)
+    | inr out ↦ subst (IsFirstCoreOrNone b m n) (sym (now.free n l out).0) (λ s could.
         (now.free n l out).1 (o.place s) (let p = o.in_range s could.in_range in omega arith)
-        (subst (λ (t : ℕ). CouldUseAt b m n t) (sym (o.each s could.in_range)) could))
+        (subst (λ (t : ℕ). HasCoreAt b m n t) (sym (o.each s could.in_range)) could))
   ];
 }

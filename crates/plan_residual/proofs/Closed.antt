@@ -32,7 +32,7 @@ not_in_set set n h =
     not-true (has set n) (sym (has_others set n (let len = length-others set in omega arith)) ∙ h)
 
 -- where a right takes is a node
-taking_below : (b : Basin) → IsValidBasin b → (s n : ℕ) → s < length b.rights → taking_node b s ≡ Some n →
+pub taking_below : (b : Basin) → IsValidBasin b → (s n : ℕ) → s < length b.rights → taking_node b s ≡ Some n →
     n < length b.nodes
 taking_below b valid s n l is =
     let k = kind_is b valid s l in of_kind k.kind k.site (sym k.node ∙ is)

@@ -8,5 +8,5 @@ pub mod Search
 pub mod Reaches
 pub mod Sweep
 pub mod Core
-pub mod Next
+pub mod FirstCores
 pub mod Claims

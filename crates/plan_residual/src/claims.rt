@@ -1,11 +1,11 @@
-//! Whose the next unit of water at each node is. Seniors first, each short right claims the nodes from which its own is
-//! reached, but for those that a senior claimed: a step that has room as seen from a right has room as seen from each
-//! short senior of it, so no search comes to a node that was claimed but by one that was claimed too.
+//! The first core at each node. Seniors first, each short right claims the nodes from which its own is reached, but for
+//! those that a senior claimed: a step that has room as seen from a right has room as seen from each short senior of
+//! it, so no search comes to a node that was claimed but by one that was claimed too.
 ghost use Rattle.std.specs.Prelude.{◌≡◌, ◌+◌, ◌<◌, ◌≤◌, length};
 ghost use Rattle.plan_residual.specs.Queue.{IsQueue, IsQueueIn};
 ghost use Rattle.plan_residual.specs.Search.{IsClosedAlong};
 ghost use Rattle.plan_residual.specs.Claims.{AreClaimed, AreMarked, IsClaim};
-ghost use Rattle.plan_residual.specs.Next.{AreNext};
+ghost use Rattle.plan_residual.specs.FirstCores.{AreFirstCores};
 ghost use Rattle.plan_residual.specs.declared.steps.Direction.TheVariants.{ToRight};
 
 use crate::finding::node_of;
@@ -27,22 +27,22 @@ fn claim(scene: &Scene, right: u32, queue: &mut Queue)
 }
 
 /// Marks the nodes from an index of the queue on as a right's.
-fn mark(queue: &Queue, from: usize, right: u32, next: &mut [Option<u32>])
+fn mark(queue: &Queue, from: usize, right: u32, firsts: &mut [Option<u32>])
     requires queue { IsQueue queue.now }
     requires from { from ≤ queue.now.size }
-    requires nodes { length next.old ≡ length queue.now.seen }
-    ensures { AreMarked queue.now from queue.now.size right next.old next.new }
+    requires nodes { length firsts.old ≡ length queue.now.seen }
+    ensures { AreMarked queue.now from queue.now.size right firsts.old firsts.new }
 {
     for position in from..queue.len() {
-        next[queue.node(position) as usize] = Some(right);
+        firsts[queue.node(position) as usize] = Some(right);
     }
 }
 
 /// Claims the nodes for the right at an index of the order, if it is short.
-fn serve(scene: &Scene, position: usize, queue: &mut Queue, next: &mut [Option<u32>])
+fn serve(scene: &Scene, position: usize, queue: &mut Queue, firsts: &mut [Option<u32>])
     requires position { position < length scene.now.basin.rights }
-    requires claimed { AreClaimed scene.now.basin scene.now.month position queue.old next.old }
-    ensures { AreClaimed scene.now.basin scene.now.month (position + 1) queue.new next.new }
+    requires claimed { AreClaimed scene.now.basin scene.now.month position queue.old firsts.old }
+    ensures { AreClaimed scene.now.basin scene.now.month (position + 1) queue.new firsts.new }
 {
     let right = scene.right_at(position);
     let month = scene.month;
@@ -51,19 +51,19 @@ fn serve(scene: &Scene, position: usize, queue: &mut Queue, next: &mut [Option<u
     }
     let before = queue.len();
     claim(scene, right, queue);
-    mark(queue, before, right, next);
+    mark(queue, before, right, firsts);
 }
 
-/// Finds for each node the right to which the next unit there goes, or none.
-pub fn find_next(scene: &Scene, queue: &mut Queue, next: &mut [Option<u32>])
+/// Finds for each node the most senior short right whose core holds it, or none.
+pub fn find_first_cores(scene: &Scene, queue: &mut Queue, firsts: &mut [Option<u32>])
     requires queue { IsQueueIn scene.now.basin queue.old }
-    requires next { length next.old ≡ length scene.now.basin.nodes }
-    ensures next { AreNext scene.now.basin scene.now.month next.new }
+    requires firsts { length firsts.old ≡ length scene.now.basin.nodes }
+    ensures firsts { AreFirstCores scene.now.basin scene.now.month firsts.new }
     ensures queue { IsQueueIn scene.now.basin queue.new }
 {
     queue.clear();
-    next.fill(None);
+    firsts.fill(None);
     for position in 0..scene.basin.rights.len() {
-        serve(scene, position, queue, next);
+        serve(scene, position, queue, firsts);
     }
 }

@@ -1,6 +1,6 @@
 //! The residual network of a month's own plan, as seen from a right, and one search through it in two directions: from
 //! the nodes at which the right could have water without a step, whether its set is its reach; and backward from its
-//! own node, its core, and whose the next unit of water at each node is. It looks for no plan: it asks which way water
+//! own node, its core, and of each node the first core that holds it. It looks for no plan: it asks which way water
 //! could go as the plan is.
 #![tactic(auto)]
 
@@ -14,7 +14,7 @@ ghost use Rattle.plan_residual.specs.Residual.{HasPlan};
 ghost use Rattle.plan_residual.specs.Reaches.{HaveTightSets, HasReach, IsFirstOther};
 ghost use Rattle.plan_residual.specs.Rows.{IsSearchOf};
 ghost use Rattle.plan_residual.specs.Core.{IsCore};
-ghost use Rattle.plan_residual.specs.Next.{AreNext};
+ghost use Rattle.plan_residual.specs.FirstCores.{AreFirstCores};
 
 mod claims;
 mod deciding;
@@ -28,7 +28,7 @@ pub mod steps;
 mod sweep;
 pub mod visits;
 
-use crate::claims::find_next;
+use crate::claims::find_first_cores;
 use crate::deciding::search;
 use crate::finding::{find_upstream, node_of};
 use crate::scene::Scene;
@@ -137,20 +137,20 @@ impl ResidualSearch {
         find_upstream(&scene, right, node_of(basin, right), &mut self.core);
     }
 
-    /// Finds for each node the right to which one more unit of supply there would go: the most senior short right whose
-    /// core holds the node, or none. No node is visited twice: the cost is linear in nodes, links and rights.
-    pub fn find_next(
+    /// Finds for each node the most senior short right whose core holds it, or none. No node is visited twice: the cost
+    /// is linear in nodes, links and rights.
+    pub fn find_first_cores(
         &mut self,
         basin: &Basin,
         roll: &Roll,
         month: &MonthRecord,
-        next: &mut [Option<u32>],
+        firsts: &mut [Option<u32>],
     )
         requires search { IsSearchOf basin.now self.old }
         requires plan { HasPlan basin.now month.now }
         requires roll { IsRollOf basin.now.rights roll.now }
-        requires size { length next.old ≡ length basin.now.nodes }
-        ensures next { AreNext basin.now month.now next.new }
+        requires size { length firsts.old ≡ length basin.now.nodes }
+        ensures firsts { AreFirstCores basin.now month.now firsts.new }
         ensures search { IsSearchOf basin.now self.new }
         ensures stays { self.new ≡ self.old }
     {
@@ -160,7 +160,7 @@ impl ResidualSearch {
             month,
             rows: &self.rows,
         };
-        find_next(&scene, &mut self.queue, next);
+        find_first_cores(&scene, &mut self.queue, firsts);
     }
 
     /// The nodes of the core that was found last, a mark for each node of the basin.

@@ -1,7 +1,7 @@
 use Rattle.std.proofs.Common.{ℕ, Option, subst, sym, ◌∙◌}
 use Rattle.water_model.specs.Basin.{head_of}
 use Rattle.water_model.proofs.Valid.{ends}
-use Rattle.plan_residual.specs.Next.{IsNextOrFree}
+use Rattle.next_unit.specs.Next.{IsNextOrFree}
 use Rattle.next_unit.proofs.Decided.{free_head}
 use Rattle.next_unit.proofs.helped.decided_by_next.Goals as goal
 

@@ -8,7 +8,7 @@ use Rattle.next_unit.proofs.Decided.{outside_reach, within_reach}
 use Rattle.next_unit.proofs.helped.decided_by_right.Goals as goal
 
 pub holds-requires-clause-right : goal.holds-requires-clause-right
-holds-requires-clause-right c = omega (arith, c.requires.next.uses.in_range, c.requires.month.plan.fits.cuts)
+holds-requires-clause-right c = omega (arith, c.requires.next.in_range, c.requires.month.plan.fits.cuts)
 
 pub holds-requires-clause-node : goal.holds-requires-clause-node
 holds-requires-clause-node c =

@@ -3,7 +3,7 @@ use Rattle.std.proofs.lemmas.Bool.{OnFalse_from, both_ways}
 use Rattle.std.specs.Prelude.{Option, not}
 use Rattle.water_model.specs.Basin.{head_of}
 use Rattle.water_model.proofs.Valid.{ends}
-use Rattle.plan_residual.specs.Next.{IsNextOrFree}
+use Rattle.next_unit.specs.Next.{IsNextOrFree}
 use Rattle.next_unit.specs.Helped.{IsHelped}
 use Rattle.next_unit.proofs.Decided.{free_link, not_full, decided_some, decided_none}
 use Rattle.next_unit.proofs.helped.is_undecided.Goals as goal

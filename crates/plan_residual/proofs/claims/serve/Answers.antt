@@ -21,7 +21,7 @@ returns c =
           (rw (ap (λ k. k.month) c.scene.view_is) at c.index-2.ensures),
       c.if-index.false,
     ) in
-    claimed_more b m c.args.position c.args.queue.now c.claim.new.queue c.args.next.now c.mark.new.next
+    claimed_more b m c.args.position c.args.queue.now c.claim.new.queue c.args.firsts.now c.mark.new.firsts
     given.plan (by_seniority_order b.rights given.plan.valid.roll.strict) c.requires.position
     (subst (λ (r : ℕ). IsShortRight b m r) is record { in_range = c.right_at-right.ensures.within; short = short })
     c.requires.claimed (rw is at c.claim.ensures) (rw (is, c.len-before.ensures) at c.mark.ensures)
@@ -51,6 +51,6 @@ returns-then-index c =
           (rw (ap (λ k. k.month) c.scene.view_is) at c.index-2.ensures),
       c.if-index.true,
     ) in
-    passed_over b m c.args.position c.args.queue.now c.args.next.now
+    passed_over b m c.args.position c.args.queue.now c.args.firsts.now
     (subst (λ (r : ℕ). slice_index m.want r ≤ slice_index m.delivered r) c.right_at-right.ensures.value met)
     c.requires.claimed
