@@ -118,9 +118,7 @@ fn run<P: Ledger, M: Ledger, R: Files + Env + AllocGlobal, W: Write + Drop, V: W
     serve(rt.alloc(), words, &mut shelf, &mut out, &mut err, &mut work)
 }
 
-fn main(rt: HostRuntime) -> ExitCode
-    ensures { (status : Status) × (exit_status result ≡ code_of status) }
-{
+fn main(rt: HostRuntime) -> ExitCode {
     let pushes = Blank::new(1);
     let months = Blank::new(1);
     run::<Brand, Brand, HostRuntime, _, _>(&rt, rt.stdout(), rt.stderr(), pushes, months)
