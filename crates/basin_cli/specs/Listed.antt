@@ -31,7 +31,7 @@ pub record IsWholeList (b : Basin) (series : Inflows) (old now : Output) : Type 
   pub text : Extends old now (list_bytes b months)
 
 -- Where writing stopped: of the months of a run that were solved all but the last stand after what out had taken, and
--- of the last one a prefix. No month is solved but these.
+-- of the last one a prefix. No more months are counted than these.
 pub record StopsListing (b : Basin) (series : Inflows) (old now : Output) (before after : WorkDone) : Type 0
   where
     pub months : List MonthFound

@@ -29,7 +29,7 @@ pub record IsWrittenRun (b : Basin) (series : Inflows) (old now : Output) : Type
   pub text : Extends old now (text_bytes b records)
 
 -- Where the writing of a run stopped: of its first months all but the last stand on out, and of the last one a prefix.
--- No month is solved but these.
+-- No more months are counted than these.
 pub record StopsWriting (b : Basin) (series : Inflows) (old now : Output) (before after : WorkDone) : Type 0 where
   pub records : List MonthRecord
   pub partial : IsPartialHistory b series records

@@ -252,7 +252,7 @@ pub fn basin_main<S: Shelf, K: Sink, E: Sink, P: Ledger, M: Ledger>(
     ensures unread { IsUnread (command_of (map string_bytes words.now)) result (S.asked shelf.old) (S.asked shelf.new) }
 
     // Where words, a file or a script are refused or not read, nothing is solved; of a run, a report, a trial and an
-    // account want of memory comes before a month is solved, or not at all. No month is solved that isn't needed: of a
+    // account want of memory comes before a month is solved, or not at all. Counted are no more months than these: of a
     // run and a list of calls those that were written, of an account those up to the month asked for, of a comparison
     // those of both runs, of an ensemble a run for each year, of a script as many as it costs, and of a check or an
     // audit none. Each has at most as many pushes as its bound allows.
