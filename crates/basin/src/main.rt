@@ -62,6 +62,22 @@ fn exit(status: Status) -> ExitCode
     ExitCode::from(status.code())
 }
 
+/// Does what the words say. It promises of the status all that `basin_main` does.
+fn served<S: Shelf, K: Sink, E: Sink, P: Ledger, M: Ledger>(
+    alloc: Global,
+    words: &[String],
+    shelf: &mut S,
+    out: &mut K,
+    err: &mut E,
+    work: &mut Work<P, M>,
+) -> Status
+    requires { ServesFiles (S.serves shelf.old) (command_of (map string_bytes words.now)) }
+    ensures { IsServed S.Shelf K.Sink E.Sink (command_of (map string_bytes words.now)) result shelf.old shelf.new
+        out.old out.new err.old err.new work.old work.new }
+{
+    basin_main(alloc, words, shelf, out, err, work)
+}
+
 /// Does what the words say, or without memory for them puts the line for that. The process ends with the status.
 fn serve<S: Shelf, K: Sink, E: Sink, P: Ledger, M: Ledger>(
     alloc: Global,
@@ -72,6 +88,8 @@ fn serve<S: Shelf, K: Sink, E: Sink, P: Ledger, M: Ledger>(
     work: &mut Work<P, M>,
 ) -> ExitCode
     requires { IfOk words (λ w. ServesFiles (S.serves shelf.old) (command_of (map string_bytes w.items))) }
+
+    ensures code { (status : Status) × (exit_status result ≡ code_of status) }
 
     // With words: all that `basin_main` promises.
     ensures served { IfOk words (λ w. (status : Status) × (exit_status result ≡ code_of status)
@@ -89,7 +107,7 @@ fn serve<S: Shelf, K: Sink, E: Sink, P: Ledger, M: Ledger>(
     ensures idle { OnErr words (work.new ≡ work.old) }
 {
     match words {
-        Ok(words) => exit(basin_main(alloc, &words, shelf, out, err, work)),
+        Ok(words) => exit(served(alloc, &words, shelf, out, err, work)),
         Err(AllocError) => exit(without_words(err)),
     }
 }
