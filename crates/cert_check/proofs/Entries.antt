@@ -1,7 +1,7 @@
 -- A check state keeps what was read with one more line.
 use Rattle.std.proofs.Common.{◌≡◌, ℕ, ◌+◌, false, refl, sym, ap, ◌∙◌, arith, List, [], ◌∷◌}
 use Rattle.std.proofs.Common.{◌++◌, length, map, take, length-append}
-use Rattle.std.specs.Prelude.{Option, Some, None, IfSome, ◌&&◌, not, is_some, slice_set, slice_get, if◌then◌else◌}
+use Rattle.std.specs.Prelude.{Option, Some, None, ◌&&◌, not, is_some, slice_set, slice_get, if◌then◌else◌}
 use Rattle.std.proofs.lemmas.List.{map-append}
 use Rattle.std.proofs.lemmas.Option.{slice_get_past}
 use Rattle.water_model.proofs.Order.{length-by_seniority}
@@ -20,7 +20,7 @@ use Rattle.water_model.specs.declared.types.Basin.{Basin}
 use Rattle.water_model.specs.declared.types.Inflows.{Inflows}
 use Rattle.result_reader.specs.ReadSoFar.{ReadSoFar, read_item, with_supply}
 use Rattle.cert_check.specs.Checking.{first_row, is_due, callers_due}
-use Rattle.cert_check.specs.Keeping.{AreAnswered, AreLeft, IsTightSet, Keeps, callers_of, is_supplied}
+use Rattle.cert_check.specs.Keeping.{AreAnswered, AreLeft, Keeps, callers_of, is_supplied}
 use Rattle.cert_check.specs.Walks.{IsDueFrom, after}
 use Rattle.cert_check.specs.declared.state.CheckState.{CheckState}
 use Rattle.cert_check.specs.declared.answering.Due.{Due}
@@ -28,7 +28,6 @@ use Rattle.cert_check.proofs.Fitting.{Stays, blank_is, clash, answered_stay, cal
 use Rattle.cert_check.proofs.Fitting.{none_settled, nobody, put_both, record_with, settled_stay, stays, supply_stays}
 use Rattle.cert_check.proofs.Fitting.{with_amount}
 use Rattle.cert_check.proofs.Rows.{good_row}
-use Rattle.cert_check.proofs.TightSets.{none_comes}
 use Rattle.water_model.proofs.Histories.{opens_with_last}
 
 -- the line of an amount
@@ -37,7 +36,6 @@ pub keeps_amount : {b : Basin} {series : Inflows} {a : CheckState} {t : ReadSoFa
       month = with_amount q x amount a.month;
       calling = None;
       has_supply = a.has_supply && not (is_supplied q);
-      tight = None;
     })
     (read_item b series t (line.Amount q x amount))
 keeps_amount {b} {series} {a} {t} q x amount k = record {
@@ -45,7 +43,6 @@ keeps_amount {b} {series} {a} {t} q x amount k = record {
   month = record_with q x amount k.month;
   calling = nobody b (with_amount q x amount a.month).cuts;
   supply = supply_stays b series q x amount a.month t.now a.has_supply k.supply;
-  tight = tt;
   closes = λ e v l. rw so_far.take (k.closes e v l);
   callers = λ e. callers_stay own (k.callers e);
   passed = settled_stay so_far k.passed;
@@ -69,7 +66,6 @@ pub keeps_delivery : {b : Basin} {series : Inflows} {a : CheckState} {t : ReadSo
             { take = slice_set a.month.plan.take x (if is_some (taking_node b x) then amount else 0) };
       };
       calling = None;
-      tight = None;
       has_closes = false;
       has_callers = false;
       passed = 0;
@@ -85,7 +81,6 @@ keeps_delivery {b} {series} {a} x amount want none k = record {
   );
   calling = nobody b a.month.cuts;
   supply = k.supply;
-  tight = tt;
   closes = λ e. clash e;
   callers = λ e. clash e;
   passed = none_settled b _;
@@ -102,7 +97,6 @@ pub keeps_month : {b : Basin} {series : Inflows} {a : CheckState} {t : ReadSoFar
       month = blank_month b a.done month;
       calling = None;
       has_supply = false;
-      tight = None;
       has_closes = false;
       has_callers = false;
       passed = 0;
@@ -113,7 +107,6 @@ keeps_month {b} calendar k = record {
   month = blank_is calendar k.left.done;
   calling = nobody b _;
   supply = λ e. clash e;
-  tight = tt;
   closes = λ e. clash e;
   callers = λ e. clash e;
   passed = none_settled b _;
@@ -121,16 +114,11 @@ keeps_month {b} calendar k = record {
   room = k.room;
 }
 
--- the last set that was found tight stays so where no right's nodes come
-tight_after : {b : Basin} {series : Inflows} {a : CheckState} {t : ReadSoFar} → Keeps b series a t →
-    IfSome a.tight (IsTightSet b (with_supply b series t.now) None)
-tight_after {b} {series} {a} {t} k = none_comes b (with_supply b series t.now) t.calling a.tight k.tight
-
 -- a `called` line, with the number of rights whose callers were read
 pub keeps_called : {b : Basin} {series : Inflows} {a : CheckState} {t : ReadSoFar} (x caller : ℕ) {next : ℕ} →
     AreAnswered b t.now next (t.called + 1) → Keeps b series a t →
     Keeps b series (record a { calling = None; answered = next }) (read_item b series t (line.Called x caller))
-keeps_called {b} {series} {a} x caller answered k = assumption (nobody b a.month.cuts, tight_after k)
+keeps_called {b} {series} {a} x caller answered k = assumption (nobody b a.month.cuts)
 
 -- the deliveries of one more month
 delivered_more : {b : Basin} {series : Inflows} {a : CheckState} {t : ReadSoFar} → Keeps b series a t →
@@ -148,7 +136,7 @@ pub keeps_end : {b : Basin} {series : Inflows} {a : CheckState} {t : ReadSoFar} 
     (record a { done = a.done + 1; lags = lags; opens = a.month.closing; comes = comes; used = used; calling = None })
     (read_item b series t line.End)
 keeps_end {b} {series} {a} {t} {lags} {comes} {used} stands back spent k =
-    assumption (left, nobody b a.month.cuts, tight_after k)
+    assumption (left, nobody b a.month.cuts)
   where
     left : AreLeft b (t.months ++ with_supply b series t.now ∷ []) (a.done + 1) lags a.month.closing comes used
     left = record {

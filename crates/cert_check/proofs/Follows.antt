@@ -7,7 +7,7 @@ use Rattle.std.proofs.lemmas.Bool.{eq-eqb, eqb-true, le-ltb, ltb-false, ltb-true
 use Rattle.water_model.specs.Basin.{taking_node, instream_link, taking_node_of_kind, link_of_kind}
 use Rattle.water_model.specs.Cuts.{IsTight}
 use Rattle.water_model.specs.History.{Follows, cut_of, opening_after}
-use Rattle.water_model.specs.Plans.{carry_of, delivery_by_link, inflow_to, outflow_from, taken_at}
+use Rattle.water_model.specs.Plans.{carry_of, delivery_by_link, coming_to, going_from}
 use Rattle.result_lines.specs.declared.quantity.Quantity.TheVariants as quantity
 use Rattle.water_model.specs.declared.types.Basin.{Basin}
 use Rattle.water_model.specs.declared.types.Inflows.{Inflows}
@@ -74,8 +74,7 @@ follows_good {b} {series} {before} {m} f t = record {
   deliver =
       λ x h. (let l = seniors_below b.rights x h in
       (f.after.want x l, amount_right b m x (instream_link b x) (f.after.plan.wants x l) (f.after.delivered x l)));
-  balance = λ n l. eq-eqb (slice_index m.supply n + inflow_to b m.plan.flow n)
-      (outflow_from b m.plan.flow n + taken_at b m.plan.take n + slice_index m.plan.out n) (f.after.plan.balance n l);
+  balance = λ n l. eq-eqb (coming_to b m.supply m.plan n) (going_from b m.plan n) (f.after.plan.balance n l);
   sets = right_sets f t;
   closing = λ x h. f.closing x (has-with_line b quantity.Closing x h).0;
 }
@@ -183,8 +182,7 @@ good_follows {b} {series} {before} {m} valid a g index month opens = record {
       instream = λ r l e. (right r l).instream e;
       outlets = λ n l e. unlisted quantity.Outflow n
           (λ h. (let both : false ≡ true = sym e ∙ (has-with_line b quantity.Outflow n h).1 in cc));
-      balance = λ n l. eqb-true (slice_index m.supply n + inflow_to b m.plan.flow n)
-          (outflow_from b m.plan.flow n + taken_at b m.plan.take n + slice_index m.plan.out n) (g.balance n l);
+      balance = λ n l. eqb-true (coming_to b m.supply m.plan n) (going_from b m.plan n) (g.balance n l);
     };
     delivered = λ r l. (right r l).delivered;
   };

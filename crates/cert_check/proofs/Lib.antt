@@ -11,7 +11,6 @@ pub mod Follows
 pub mod Verdicts
 pub mod TextVerdicts
 pub mod Feeding
-pub mod GivenSets
 pub mod RunGood
 pub mod Amounts
 pub mod Inverts
@@ -33,11 +32,9 @@ pub mod Even
 pub mod MemberLines
 pub mod FreeOfCalls
 pub mod Standings
-pub mod SetLines
 pub mod ByteLaws
 pub mod Beginnings
 pub mod Audits
 pub mod CallLines
 pub mod AuditLaws
 pub mod AuditKinds
-pub mod TightSets

@@ -1,7 +1,7 @@
 -- A check state keeps the sets that were read, with one more line.
 use Rattle.std.proofs.Common.{◌≡◌, ℕ, ◌<◌, Bool, true, false, refl, sym, ap, subst, ◌∙◌, arith, inl, inr, List, []}
 use Rattle.std.proofs.Common.{◌∷◌, length, replicate, take}
-use Rattle.std.specs.Prelude.{Option, Some, None, IfSome, IsSome, slice_set, option_map}
+use Rattle.std.specs.Prelude.{Option, Some, None, IsSome, slice_set, option_map}
 use Rattle.std.specs.List.{list_any}
 use Rattle.std.proofs.lemmas.Bool.{cases_eq}
 use Rattle.water_model.specs.CutSets.{CutSets, set_of, with_set}
@@ -11,14 +11,12 @@ use Rattle.result_lines.specs.declared.item.Item.TheVariants as line
 use Rattle.water_model.specs.declared.types.Basin.{Basin}
 use Rattle.water_model.specs.declared.types.Inflows.{Inflows}
 use Rattle.water_model.specs.declared.types.MonthRecord.{MonthRecord}
-use Rattle.result_reader.specs.ReadSoFar.{ReadSoFar, read_item, with_member, with_supply}
+use Rattle.result_reader.specs.ReadSoFar.{ReadSoFar, read_item, with_member}
 use Rattle.cut_cert.specs.Callers.{AreCallers}
-use Rattle.cert_check.specs.Keeping.{IsCalling, IsTightSet, Keeps, lacks_call}
+use Rattle.cert_check.specs.Keeping.{IsCalling, Keeps, lacks_call}
 use Rattle.cert_check.specs.declared.state.CheckState.{CheckState}
-use Rattle.cert_check.specs.declared.state.TightSet.{TightSet}
 use Rattle.water_model.proofs.SetEntries.{set_of_with, set_of_other}
 use Rattle.cert_check.proofs.Fitting.{clash, none_answered, put_both}
-use Rattle.cert_check.proofs.TightSets.{tight_with_call, tight_with_node}
 
 -- rights that have their calls have them with one more set
 settled_with : (b : Basin) (m : MonthRecord) {r : ℕ} (set : List Bool) → r < length m.cuts.sets → (xs : List ℕ) →
@@ -34,10 +32,6 @@ has_set cuts {r} set l = rw (set_of_with cuts r (Some set) l) refl
 
 -- A right's set was read, before the `called` lines.
 
--- the check state with the last set that was found tight
-abbrev pub with_tight : CheckState → Option TightSet → CheckState
-with_tight a last = record a { tight = last }
-
 -- the check state with the set, while the nodes of this right come
 abbrev pub with_own : CheckState → ℕ → List Bool → Option ℕ → CheckState
 with_own a r set calling = record a {
@@ -51,16 +45,14 @@ abbrev read_own : ReadSoFar → ℕ → Option (List Bool) → Option ℕ → Re
 read_own t r set due = record t { now = record t.now { cuts = with_set t.now.cuts r set }; calling = due }
 
 keeps_set : {b : Basin} {series : Inflows} {a : CheckState} {t : ReadSoFar} {r : ℕ} (set : List Bool)
-    {calling due : Option ℕ} (last : Option TightSet) → r < length b.rights → t.called ≡ 0 →
-    IsCalling b (with_set a.month.cuts r (Some set)) calling due →
-    IfSome last (IsTightSet b (with_supply b series (read_own t r (Some set) due).now) due) → Keeps b series a t →
-    Keeps b series (with_own (with_tight a last) r set calling) (read_own t r (Some set) due)
-keeps_set {b} {series} {a} {t} {r} set {calling} last l none held tight k = record {
+    {calling due : Option ℕ} → r < length b.rights → t.called ≡ 0 →
+    IsCalling b (with_set a.month.cuts r (Some set)) calling due → Keeps b series a t →
+    Keeps b series (with_own a r set calling) (read_own t r (Some set) due)
+keeps_set {b} {series} {a} {t} {r} set {calling} l none held k = record {
   left = k.left;
   month = assumption (put_both r (Some set) k.month.fits.fits.cuts k.month.shows.sets);
   calling = held;
   supply = k.supply;
-  tight = tight;
   closes = k.closes;
   callers = λ e. clash e;
   passed = record {
@@ -73,17 +65,14 @@ keeps_set {b} {series} {a} {t} {r} set {calling} last l none held tight k = reco
 }
 
 -- a `call` line
-pub keeps_call : {b : Basin} {series : Inflows} {a : CheckState} {t : ReadSoFar} {x : ℕ} (last : Option TightSet) →
-    x < length b.rights → t.called ≡ 0 → cut_of t.now x ≡ None →
-    IfSome last (IsTightSet b (with_supply b series t.now) None) → Keeps b series a t →
-    Keeps b series (with_own (with_tight a last) x (replicate a.month.cuts.nodes false) (Some x))
-    (read_item b series t (line.Call x))
-keeps_call {b} {series} {a} {t} {x} last l none free tight k =
-    subst (λ nodes. Keeps b series (with_own (with_tight a last) x set (Some x))
+pub keeps_call : {b : Basin} {series : Inflows} {a : CheckState} {t : ReadSoFar} {x : ℕ} →
+    x < length b.rights → t.called ≡ 0 → Keeps b series a t →
+    Keeps b series (with_own a x (replicate a.month.cuts.nodes false) (Some x)) (read_item b series t (line.Call x))
+keeps_call {b} {series} {a} {t} {x} l none k =
+    subst (λ nodes. Keeps b series (with_own a x set (Some x))
     (read_own t x (Some (replicate nodes false)) (Some x)))
     k.month.fits.fits.cut_nodes
-    (keeps_set set last l none (record { so_far = refl; held = held })
-    (tight_with_call b (with_supply b series t.now) x None (Some set) last free tight) k)
+    (keeps_set set l none (record { so_far = refl; held = held }) k)
   where
     set : List Bool
     set = replicate a.month.cuts.nodes false
@@ -131,17 +120,11 @@ keeps_member {b} {series} {a} {t} node {right} {set} none own is k = by_call t.c
         same_set : (c d : CutSets) → c.sets ≡ d.sets → set_of d right ≡ set_of c right
         same_set c d e = rw e refl
 
-    still_tight : IfSome a.tight
-        (IsTightSet b (with_supply b series (read_own t right (Some more) t.calling).now) t.calling)
-    still_tight =
-        tight_with_node b (with_supply b series t.now) right t.calling (Some more) a.tight
-        (sym k.calling.so_far ∙ own) k.tight
-
     kept : Keeps b series (with_own a right more a.calling) (read_own t right (Some more) t.calling)
-    kept = keeps_set more a.tight within none (record {
+    kept = keeps_set more within none (record {
       so_far = k.calling.so_far;
       held = λ s h. (let own = k.calling.held s h in (own.0, still s own.1));
-    }) still_tight k
+    }) k
 
     by_call : (o : Option ℕ) → o ≡ Some right → Keeps b series (with_own a right more a.calling) (with_member t o node)
     by_call None e = cc

@@ -13,7 +13,7 @@ use Rattle.water_model.specs.History.{cut_of, opening_after, is_zone_of, calling
 use Rattle.water_model.specs.Hydrology.{in_year, evaporation, returned_at, used_of, want_of}
 use Rattle.water_model.specs.Lookups.{of_entry}
 use Rattle.water_model.specs.Indices.{indices_of, seniors_first, outlets}
-use Rattle.water_model.specs.Plans.{carry_of, inflow_to, outflow_from, taken_at}
+use Rattle.water_model.specs.Plans.{carry_of, coming_to, going_from}
 use Rattle.result_lines.specs.declared.item.Item.{Item}
 use Rattle.result_lines.specs.declared.item.Item.TheVariants as line
 use Rattle.result_lines.specs.declared.quantity.Quantity.{Quantity}
@@ -35,7 +35,7 @@ use Rattle.cert_check.specs.declared.refuted.Refuted.{Refuted}
 abbrev pub is_tight : Basin → MonthRecord → ℕ → List Bool → Bool
 is_tight b m r cut =
     length cut == length b.nodes && separates b (taking_node b r) (instream_link b r) cut
-    && cut_capacity b m.month m.supply cut == slice_index m.delivered r + cut_kept b m.delivered r cut
+    && cut_capacity b (carry_of b m.month) m.supply cut == slice_index m.delivered r + cut_kept b m.delivered r cut
 
 -- whether the lines of a quantity stand after the `call` lines of a month
 abbrev pub is_closing : Quantity → Bool
@@ -103,9 +103,7 @@ delivery_wrong b series t r amount want =
 
 -- whether a node is in balance
 abbrev pub balances : Basin → MonthRecord → ℕ → Bool
-balances b m n =
-    slice_index m.supply n + inflow_to b m.plan.flow n
-    == outflow_from b m.plan.flow n + taken_at b m.plan.take n + slice_index m.plan.out n
+balances b m n = coming_to b m.supply m.plan n == going_from b m.plan n
 
 -- whether some node isn't in balance at the last `out` line, with its amount
 abbrev pub balance_wrong : Basin → Inflows → ReadSoFar → ℕ → Bool

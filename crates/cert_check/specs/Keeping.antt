@@ -1,9 +1,8 @@
 -- What a check state keeps of what lines say.
 use Rattle.std.specs.Prelude.{◌≡◌, ℕ, ◌<◌, ◌≤◌, Bool, true, false, ◌&&◌, List, map, length, take, slice_index}
-use Rattle.std.specs.Prelude.{slice_set, Option, Some, IfSome, IsSome, is_none, ◌≢◌}
+use Rattle.std.specs.Prelude.{slice_set, Option, Some, IsSome, is_none}
 use Rattle.std.specs.List.{list_any, flat_map}
 use Rattle.finite_sums.specs.Sums.{total_where}
-use Rattle.water_model.specs.Cuts.{IsTight}
 use Rattle.water_model.specs.CutSets.{CutSets, set_of}
 use Rattle.water_model.specs.History.{cut_of, opening_after, is_zone_of, calling_right}
 use Rattle.water_model.specs.Indices.{seniors_first}
@@ -13,7 +12,6 @@ use Rattle.water_model.specs.declared.types.Basin.{Basin}
 use Rattle.water_model.specs.declared.types.Inflows.{Inflows}
 use Rattle.water_model.specs.declared.types.MonthRecord.{MonthRecord}
 use Rattle.cut_cert.specs.Callers.{AreCallers, is_short}
-use Rattle.cut_cert.specs.Sets.{cut_at}
 use Rattle.lag_returns.specs.Lags as lag
 use Rattle.lag_returns.specs.Lags.{InTransit, HasReturned}
 use Rattle.month_terms.specs.Terms.{HasUsed}
@@ -21,7 +19,6 @@ use Rattle.result_reader.specs.ReadSoFar.{ReadSoFar, with_supply}
 use Rattle.cert_check.specs.Checking.{caller_due}
 use Rattle.cert_check.specs.Shows.{IsRecordOf}
 use Rattle.cert_check.specs.declared.state.CheckState.{CheckState}
-use Rattle.cert_check.specs.declared.state.TightSet.{TightSet}
 
 -- the record where this amount leaves the basin at a node
 abbrev pub with_outflow : MonthRecord → ℕ → ℕ → MonthRecord
@@ -61,14 +58,6 @@ pub record IsCalling (b : Basin) (cuts : CutSets) (right due : Option ℕ) : Typ
   pub so_far : right ≡ due
   pub held : (r : ℕ) → right ≡ Some r → (r < length b.rights) × IsSome (set_of cuts r)
 
--- the set of a right, which has this place in the order of seniority, is a tight cut of it, and its nodes all came
-pub record IsTightSet (b : Basin) (m : MonthRecord) (due : Option ℕ) (last : TightSet) : Type 0 where
-  pub within : last.at < length (seniors_first b)
-  pub place : slice_index (seniors_first b) last.at ≡ last.right
-  pub held : IsSome (set_of m.cuts last.right)
-  pub whole : due ≢ Some last.right
-  pub tight : IsTight b m.month m.supply m.delivered last.right (cut_at m.cuts last.right)
-
 -- this many rights, the most senior ones, are met or have their `call`
 pub record AreSettled (b : Basin) (m : MonthRecord) (count : ℕ) : Type 0 where
   pub within : count ≤ length b.rights
@@ -91,7 +80,6 @@ pub record Keeps (b : Basin) (series : Inflows) (a : CheckState) (t : ReadSoFar)
   pub month : IsRecordOf b a.month t.now
   pub calling : IsCalling b a.month.cuts a.calling t.calling
   pub supply : a.has_supply ≡ true → a.month.supply ≡ (with_supply b series t.now).supply
-  pub tight : IfSome a.tight (IsTightSet b (with_supply b series t.now) t.calling)
   pub closes : a.has_closes ≡ true → (v : ℕ) → v < length b.reservoirs → slice_index a.closes v
       ≡ total_where (length b.rights) (λ r. is_zone_of b r v) (λ r. slice_index t.now.plan.take r)
   pub callers : a.has_callers ≡ true → AreCallers b a.month a.callers

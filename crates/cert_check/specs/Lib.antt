@@ -15,4 +15,3 @@ pub mod Standing
 pub mod Taking
 pub mod Walks
 pub mod Whole
-pub mod SetLines

@@ -5,7 +5,6 @@ ghost use Rattle.result_reader.specs.ReadSoFar.{nothing_read};
 ghost use Rattle.cert_check.specs.Audit.{IsAuditAnswer};
 ghost use Rattle.cert_check.specs.Auditing.{IsAuditIfAny};
 ghost use Rattle.cert_check.specs.Checking.{verdict, verdict_from};
-ghost use Rattle.cert_check.specs.SetLines.{GivesSet};
 ghost use Rattle.cert_check.specs.Standing.{IsAnswer, IsAudit, IsLineAnswer, CheckerStandsFor, lines_left};
 ghost use Rattle.cert_check.specs.Whole.{pieces_of};
 ghost use Rattle.water_model.specs.Valid.{IsValidBasin, IsSeriesOf};
@@ -13,7 +12,7 @@ ghost use Rattle.water_text.specs.LinesIn.{TakesToFeed};
 
 use crate::audit::{Audit, answer};
 use crate::opening::{context_of, progress_of};
-use crate::progress::{CheckProgress, take_likely, take_likely_set, take_line};
+use crate::progress::{CheckProgress, take_likely, take_line};
 use crate::refuted::{Refuted, RefutedKind};
 use crate::state::Context;
 use std::alloc::{AllocError, Global};
@@ -168,24 +167,6 @@ impl<'b> Checker<'b> {
             Some(text) => Some(text),
             None => None,
         }
-    }
-
-    /// Takes the next lines as `line` does, one after another, as long as some bytes begin with them and they are the
-    /// `in` lines of the last set, and answers how many bytes they are. Else nothing changes.
-    #[inline(always)]
-    pub(crate) fn likely_set(&mut self, piece: &[u8]) -> Option<usize>
-        ensures gives { IfSome result (λ taken. GivesSet self.old self.new piece.now taken) }
-        ensures some { IfSome result (λ taken. 0 < taken) }
-        ensures good { IfSome result (λ taken. self.new.refused ≡ None) }
-        ensures none { IfNone result (self.new ≡ self.old) }
-        ensures basin { self.new.basin ≡ self.old.basin }
-        ensures series { self.new.series ≡ self.old.series }
-        ensures audit { IsAudit self.old → IsAudit self.new }
-    {
-        if self.refused.is_some() {
-            return None;
-        }
-        take_likely_set(&self.context, &mut self.progress, piece)
     }
 
     /// How many lines may still be accepted, at most: for each line that is due one, and for a `call` line one more for

@@ -1,7 +1,7 @@
 //! Enters what a line says into a check state.
 ghost use Rattle.std.specs.Prelude.{ℕ, ◌≡◌, ◌+◌, ◌^◌, ◌<◌, ◌≤◌, ◌&&◌, not, ◌++◌, ◌∷◌, [], List, Some, None, true};
 ghost use Rattle.std.specs.Prelude.{false, Bool, All, Option, IfSome, IsSome, length, replicate, slice_index};
-ghost use Rattle.std.specs.Prelude.{slice_set, fold, is_some, if◌then◌else◌};
+ghost use Rattle.std.specs.Prelude.{slice_set, is_some, if◌then◌else◌};
 ghost use Rattle.cut_cert.specs.Callers.{AreCallers};
 ghost use Rattle.lag_returns.specs.Lags.{HasReturned, return_rows};
 ghost use Rattle.lag_returns.specs.Lags as lag;
@@ -13,7 +13,6 @@ ghost use Rattle.result_lines.specs.Quantities.{amounts_of, with_amounts};
 ghost use Rattle.water_model.specs.Valid.{IsValidBasin};
 ghost use Rattle.result_lines.specs.OfBasin.{IsOfBasin};
 ghost use Rattle.result_lines.specs.declared.item.Item.TheVariants as line;
-ghost use Rattle.result_reader.specs.Members.{members};
 ghost use Rattle.result_reader.specs.ReadSoFar.{ReadSoFar, read_item};
 ghost use Rattle.rights_roll.specs.Rolls.{IsRollOf};
 ghost use Rattle.water_model.specs.History.{FitsBasin};
@@ -22,13 +21,12 @@ ghost use Rattle.cert_check.specs.Coming.{Awaits, MayCome};
 ghost use Rattle.cert_check.specs.Keeping.{Keeps, is_supplied};
 ghost use Rattle.cert_check.specs.Context.{IsContext};
 ghost use Rattle.cert_check.specs.Ready.{IsReadyForCalled};
-ghost use Rattle.cert_check.specs.SetLines.{AwaitsInTurn, MayComeInTurn};
 ghost use Rattle.cert_check.specs.Walks.{IsDueFrom, after};
 ghost use Rattle.cert_check.specs.declared.answering.Due.{Due};
 
 use crate::answering::next_due;
 use crate::noting;
-use crate::state::{CheckState, Context, TightSet};
+use crate::state::{CheckState, Context};
 use month_terms::used::use_month;
 use result_lines::item::Item;
 use result_lines::quantity::Quantity;
@@ -73,7 +71,6 @@ pub fn enter_month(basin: &Basin, state: &mut CheckState, calendar: Month)
       month = blank_month basin.now state.old.done calendar;
       calling = None;
       has_supply = false;
-      tight = None;
       has_closes = false;
       has_callers = false;
       passed = 0;
@@ -83,7 +80,6 @@ pub fn enter_month(basin: &Basin, state: &mut CheckState, calendar: Month)
     blank(basin, &mut state.month, state.done, calendar);
     state.calling = None;
     state.has_supply = false;
-    state.tight = None;
     state.has_closes = false;
     state.has_callers = false;
     state.passed = 0;
@@ -107,13 +103,11 @@ pub fn enter_amount(state: &mut CheckState, quantity: Quantity, entry: u32, amou
       month = with_amounts quantity state.old.month (slice_set (amounts_of quantity state.old.month) entry amount);
       calling = None;
       has_supply = state.old.has_supply && not (is_supplied quantity);
-      tight = None;
     } }
 {
     noting::note_amount(&mut state.month, quantity, entry, amount);
     state.calling = None;
     state.has_supply = state.has_supply && !is_supplied(quantity);
-    state.tight = None;
 }
 
 /// Enters a `deliver` line. It comes before the month's `call` lines, so no right is passed over yet.
@@ -133,7 +127,6 @@ pub fn enter_delivery(basin: &Basin, state: &mut CheckState, right: u32, amount:
         };
       };
       calling = None;
-      tight = None;
       has_closes = false;
       has_callers = false;
       passed = 0;
@@ -142,41 +135,10 @@ pub fn enter_delivery(basin: &Basin, state: &mut CheckState, right: u32, amount:
 {
     noting::note_delivery(basin, &mut state.month, right, amount, want);
     state.calling = None;
-    state.tight = None;
     state.has_closes = false;
     state.has_callers = false;
     state.passed = 0;
     state.answered = 0;
-}
-
-/// A right and its place in the order of seniority, where it stands from a place on. Else None.
-fn place_from(order: &[u32], from: usize, right: u32) -> Option<TightSet>
-    ensures { IfSome result (λ set. (set.right ≡ right) × (set.at < length order.now)
-        × (slice_index order.now set.at ≡ right)) }
-{
-    for at in from..order.len() {
-        if order[at] == right {
-            return Some(TightSet { right, at });
-        }
-    }
-    None
-}
-
-/// Keeps the right whose nodes came as the last one whose set is a tight cut. None is kept where it stands before the
-/// one that was kept.
-fn keep_tight(roll: &Roll, state: &mut CheckState)
-    ensures kept { IfSome state.new.tight (λ last. (state.old.calling ≡ Some last.right)
-        × (last.at < length roll.now.order) × (slice_index roll.now.order last.at ≡ last.right)) }
-    ensures rest { state.new ≡ record state.old { tight = state.new.tight } }
-{
-    let from = match state.tight {
-        Some(last) => last.at,
-        None => 0,
-    };
-    state.tight = match state.calling {
-        Some(right) => place_from(roll.by_seniority(), from, right),
-        None => None,
-    };
 }
 
 /// Enters a `call` line. The right has no set yet.
@@ -235,21 +197,6 @@ pub fn enter_node(context: &Context, state: &mut CheckState, node: u32)
         (read_item context.now.basin.now context.now.series.now t (line.Member node)) }
 {
     enter_member(state, node);
-}
-
-/// Enters the `in` lines of several nodes, one after another, as `enter` does. They may come.
-pub fn enter_nodes(context: &Context, state: &mut CheckState, nodes: &[u32])
-    requires context { IsContext context.now }
-    requires nodes { All (λ n. n < length context.now.basin.now.nodes) nodes.now }
-    requires awaits { AwaitsInTurn context.now.basin.now context.now.series.now state.old nodes.now }
-    ensures { (t : ReadSoFar) → Keeps context.now.basin.now context.now.series.now state.old t →
-        MayComeInTurn context.now.basin.now context.now.series.now t nodes.now →
-        Keeps context.now.basin.now context.now.series.now state.new
-        (fold (read_item context.now.basin.now context.now.series.now) t (members nodes.now)) }
-{
-    for at in 0..nodes.len() {
-        enter_node(context, state, nodes[at]);
-    }
 }
 
 /// Enters a `called` line, which is that of the next right that answers to a caller.
@@ -340,10 +287,7 @@ pub fn enter(context: &Context, state: &mut CheckState, item: &Item)
             amount,
             want,
         } => enter_delivery(context.basin, state, right, amount, want),
-        Item::Call { right } => {
-            keep_tight(&context.roll, state);
-            enter_call(state, right)
-        }
+        Item::Call { right } => enter_call(state, right),
         Item::Member { node } => enter_member(state, node),
         Item::Called { .. } => enter_called(context.basin, &context.roll, state),
         Item::End => enter_end(context.basin, state),

@@ -10,7 +10,6 @@ mod balancing;
 pub mod checker;
 pub mod compare;
 mod entering;
-mod last_set;
 pub mod laws;
 pub mod noting;
 mod opening;

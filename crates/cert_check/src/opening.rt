@@ -16,7 +16,6 @@ ghost use Rattle.cert_check.specs.Keeping.{AreLeft, Keeps};
 ghost use Rattle.cert_check.specs.Standing.{IsProgressOf};
 
 use crate::audit::Audit;
-use crate::last_set::LastSet;
 use crate::progress::CheckProgress;
 use crate::state::{CheckState, Context};
 use cut_cert::rows::NodeRows;
@@ -91,7 +90,6 @@ pub fn blank_state(alloc: Global, basin: &Basin) -> Result<Box<CheckState>, Allo
             month: Box::into_inner(month),
             calling: None,
             has_supply: false,
-            tight: None,
             closes,
             has_closes: false,
             callers: [None; MAX_NODES],
@@ -153,25 +151,24 @@ pub fn context_of<'b>(
     })
 }
 
-/// A check state of no line, room for a set, and a reader that was given no line. AllocError comes where memory is
+/// A check state of no line, and a reader that was given no line. AllocError comes where memory is
 /// lacking.
 fn parts_of<'b>(
     alloc: Global,
     basin: &'b Basin,
     roll: &Roll,
-) -> Result<(Box<CheckState>, LastSet, ResultReader<'b>), AllocError>
+) -> Result<(Box<CheckState>, ResultReader<'b>), AllocError>
     requires basin { IsValidBasin basin.now }
     requires roll { IsRollOf basin.now.rights roll.now }
     ensures state { IfOk result (λ parts. (series : Inflows) →
         Keeps basin.now series parts.0.value (nothing_read basin.now)) }
-    ensures basin { IfOk result (λ parts. parts.2.basin ≡ basin.now) }
-    ensures none { IfOk result (λ parts. ReaderStandsFor parts.2 []) }
-    ensures bounded { IfOk result (λ parts. parts.2.left ≤ 5 * 10 ^ 9) }
+    ensures basin { IfOk result (λ parts. parts.1.basin ≡ basin.now) }
+    ensures none { IfOk result (λ parts. ReaderStandsFor parts.1 []) }
+    ensures bounded { IfOk result (λ parts. parts.1.left ≤ 5 * 10 ^ 9) }
 {
-    let last_set = LastSet::open(alloc, basin)?;
     let state = blank_state(alloc, basin)?;
     let reader = ResultReader::open(alloc, basin, roll)?;
-    Ok((state, last_set, reader))
+    Ok((state, reader))
 }
 
 /// The progress of no line, with this audit of no line if one is asked for. AllocError comes where memory is lacking.
@@ -189,14 +186,13 @@ pub fn progress_of<'b>(
     ensures audit { IfOk result (λ progress. progress.audit ≡ audit) }
 {
     match parts_of(alloc, basin, roll) {
-        Ok((state, last_set, reader)) => Ok(CheckProgress {
+        Ok((state, reader)) => Ok(CheckProgress {
             reader,
             state,
             read: 0,
             last_other: 0,
             ended: false,
             audit,
-            last_set,
         }),
         Err(stop) => {
             drop(audit);

@@ -7,7 +7,6 @@ ghost use Rattle.water_text.specs.LinesIn.{TakesToFeed, is_feed, nothing_held};
 ghost use Rattle.cert_check.specs.Checking.{verdict_from};
 ghost use Rattle.cert_check.specs.Audit.{IsAuditAnswer};
 ghost use Rattle.cert_check.specs.Pieces.{AreGiven, IsAudit, IsPartialLine, StandsForText, bytes_left, room_left};
-ghost use Rattle.cert_check.specs.SetLines.{GivesSet};
 ghost use Rattle.cert_check.specs.Standing as lines;
 ghost use Rattle.cert_check.specs.Standing.{IsAnswer, IsLineAnswer, CheckerStandsFor, lines_left};
 ghost use Rattle.cert_check.specs.Whole.{text_verdict};
@@ -130,28 +129,8 @@ fn give_likely<'a>(checker: &mut Checker, line: &LineIn, rest: &'a [u8]) -> Opti
     }
 }
 
-/// Gives a checker the lines of the last set that some bytes begin with, where no byte is held, and answers how many
-/// bytes they are. Else nothing changes.
-#[inline(always)]
-fn give_set(checker: &mut Checker, line: &LineIn, rest: &[u8]) -> Option<usize>
-    ensures held { IfSome result (λ taken. line.now.bytes ≡ []) }
-    ensures gives { IfSome result (λ taken. GivesSet checker.old checker.new rest.now taken) }
-    ensures some { IfSome result (λ taken. 0 < taken) }
-    ensures good { IfSome result (λ taken. checker.new.refused ≡ None) }
-    ensures none { IfNone result (checker.new ≡ checker.old) }
-    ensures basin { checker.new.basin ≡ checker.old.basin }
-    ensures series { checker.new.series ≡ checker.old.series }
-    ensures audit { lines.IsAudit checker.old → lines.IsAudit checker.new }
-{
-    if line.bytes().is_empty() {
-        checker.likely_set(rest)
-    } else {
-        None
-    }
-}
-
 /// Gives a checker the prefix of some bytes, up to the end of a line if there is one, and answers how many they are.
-/// Where they begin with the lines that are most likely to come, their ends aren't looked for.
+/// Where they begin with the line that is most likely to come, its end isn't looked for.
 fn give_prefix(checker: &mut Checker, line: &mut LineIn, rest: &[u8]) -> Result<usize, Refuted>
     requires line { IsPartialLine line.old }
     requires good { checker.old.refused ≡ None }
@@ -169,9 +148,6 @@ fn give_prefix(checker: &mut Checker, line: &mut LineIn, rest: &[u8]) -> Result<
     ensures series { checker.new.series ≡ checker.old.series }
     ensures audit { lines.IsAudit checker.old → lines.IsAudit checker.new }
 {
-    if let Some(taken) = give_set(checker, line, rest) {
-        return Ok(taken);
-    }
     match give_likely(checker, line, rest) {
         Some(text) => Ok(text.len() + 1),
         None => give_bytes(checker, line, rest),

@@ -1,7 +1,6 @@
 //! What a checker keeps of lines that are good, and how it takes the next.
 ghost use Rattle.std.specs.Prelude.{ℕ, ◌≡◌, ◌+◌, ◌^◌, ◌<◌, ◌++◌, ◌∷◌, [], List, None, Ok, IfNone, IfSome, OnOk};
 ghost use Rattle.std.specs.Prelude.{is_some, length};
-ghost use Rattle.result_reader.specs.Members.{members};
 ghost use Rattle.result_reader.specs.ReadSoFar.{ReadSoFar, read_so_far};
 ghost use Rattle.result_lines.specs.OfBasin.{IsOfBasin};
 ghost use Rattle.result_lines.specs.declared.item.Item.{Item};
@@ -12,14 +11,12 @@ ghost use Rattle.cert_check.specs.Checking.{first_row, named_line};
 ghost use Rattle.cert_check.specs.Coming.{MayCome};
 ghost use Rattle.cert_check.specs.Keeping.{Keeps};
 ghost use Rattle.cert_check.specs.Context.{IsContext};
-ghost use Rattle.cert_check.specs.SetLines.{TakesSet};
 ghost use Rattle.cert_check.specs.Standing.{Counts, IsProgressOf};
 ghost use Rattle.cert_check.specs.Taking.{HasItems, HasLines, IsRead, TakesItem, TakesLine};
 
 use crate::audit::{Audit, audit_item};
 use crate::compare::{is_done, is_member};
-use crate::entering::{enter, enter_node, enter_nodes};
-use crate::last_set::LastSet;
+use crate::entering::{enter, enter_node};
 use crate::ready::make_ready;
 use crate::refusing::first_row;
 use crate::refuted::{Refuted, RefutedKind};
@@ -42,8 +39,6 @@ pub struct CheckProgress<'b> {
     pub ended: bool,
     /// What an audit keeps of the lines, if one was asked for.
     pub audit: Option<Audit>,
-    /// The nodes that most likely come next.
-    pub last_set: LastSet,
 }
 
 /// The number of the line that a row names: for a loose cut its `call` line, and else the next line.
@@ -72,20 +67,6 @@ fn count(progress: &mut CheckProgress, item: &Item)
     if is_done(item) {
         progress.ended = true;
     }
-    progress.last_set.note(item);
-}
-
-/// Counts the `in` lines of several nodes, which are those that most likely come next.
-fn count_members(progress: &mut CheckProgress, count: usize)
-    requires { progress.old.read + count < 2 ^ 64 }
-    ensures counts { (items : List Item) (nodes : List ℕ) → length nodes ≡ count → Counts progress.old items →
-        Counts progress.new (items ++ members nodes) }
-    ensures state { progress.new.state ≡ progress.old.state }
-    ensures reader { progress.new.reader ≡ progress.old.reader }
-    ensures audit { progress.new.audit ≡ progress.old.audit }
-{
-    progress.read += count as u64;
-    progress.last_set.pass(count);
 }
 
 /// Takes a good line into the audit, if one was asked for, before it is entered. It is inlined, so that where none was
@@ -145,51 +126,6 @@ fn take_item(context: &Context, progress: &mut CheckProgress, item: &Item) -> Re
     }
 }
 
-/// Takes what the next line says, as `take_item` does. Most lines that are no `in` lines say an amount or a delivery, and
-/// each of these has an item of its own here, so that what takes it is compiled for such a line alone.
-#[inline(always)]
-fn take_said(context: &Context, progress: &mut CheckProgress, item: Item) -> Result<(), Refuted>
-    requires context { IsContext context.now }
-    requires item { IsOfBasin context.now.basin.now item }
-    requires so_far { HasItems context.now.basin.now context.now.series.now progress.old item }
-    requires room { progress.old.read + 1 < 2 ^ 64 }
-    ensures takes { (items : List Item) → IsRead context.now.basin.now context.now.series.now progress.old items
-        item →
-        TakesItem context.now.basin.now context.now.series.now progress.new items item result }
-    ensures reader { progress.new.reader ≡ progress.old.reader }
-    ensures audited { is_some progress.new.audit ≡ is_some progress.old.audit }
-{
-    match item {
-        Item::Amount {
-            quantity,
-            entry,
-            amount,
-        } => take_item(
-            context,
-            progress,
-            &Item::Amount {
-                quantity,
-                entry,
-                amount,
-            },
-        ),
-        Item::Deliver {
-            right,
-            amount,
-            want,
-        } => take_item(
-            context,
-            progress,
-            &Item::Deliver {
-                right,
-                amount,
-                want,
-            },
-        ),
-        other => take_item(context, progress, &other),
-    }
-}
-
 /// Takes the next line, without its line feed, or refuses it. A refused line leaves check progress that says nothing.
 pub fn take_line(
     context: &Context,
@@ -212,7 +148,7 @@ pub fn take_line(
         });
     }
     match progress.reader.line(text) {
-        Ok(item) => take_said(context, progress, item),
+        Ok(item) => take_item(context, progress, &item),
         Err(_) => Err(Refuted {
             line: next,
             kind: RefutedKind::BadLine,
@@ -267,34 +203,4 @@ pub fn take_likely<'a>(
         }
         None => None,
     }
-}
-
-/// Takes the next lines as `take_line` does, one after another, as long as some bytes begin with them and their line
-/// feeds, and they are the `in` lines of the last set from here on. Answers how many bytes they are. Where not even the
-/// first line is such a line, or an audit was asked for, nothing changes.
-#[inline(always)]
-pub fn take_likely_set(
-    context: &Context,
-    progress: &mut CheckProgress,
-    piece: &[u8],
-) -> Option<usize>
-    requires context { IsContext context.now }
-    requires lines { HasLines context.now.basin.now context.now.series.now progress.old }
-    ensures takes { IfSome result (λ taken.
-        TakesSet context.now.basin.now context.now.series.now progress.old progress.new piece.now taken) }
-    ensures some { IfSome result (λ taken. 0 < taken) }
-    ensures none { IfNone result (progress.new ≡ progress.old) }
-    ensures audited { is_some progress.new.audit ≡ is_some progress.old.audit }
-{
-    if progress.ended || progress.audit.is_some() {
-        return None;
-    }
-    let nodes = progress.last_set.rest();
-    let taken = progress.reader.likely_members(piece, nodes);
-    if taken.count == 0 {
-        return None;
-    }
-    enter_nodes(context, &mut *progress.state, &nodes[..taken.count]);
-    count_members(progress, taken.count);
-    Some(taken.bytes)
 }

@@ -1,6 +1,5 @@
 //! The first row of the verdict that holds of a line, by what was read before it.
 ghost use Rattle.std.specs.Prelude.{◌≡◌, ◌<◌, ◌==◌, ◌&&◌, ◌∷◌, [], true, not, length, nat_lt, slice_get, Some};
-ghost use Rattle.std.specs.Prelude.{IfSome};
 ghost use Rattle.std.specs.List.{list_any};
 ghost use Rattle.result_lines.specs.OfBasin.{IsOfBasin};
 ghost use Rattle.result_reader.specs.ReadSoFar.{ReadSoFar, with_supply};
@@ -22,33 +21,9 @@ use crate::compare;
 use crate::passing::pass_over;
 use crate::refuted::RefutedKind;
 use crate::state::{CheckState, Context};
-use cut_cert::same_set::tight_as_before;
 use cut_cert::tight;
 use result_lines::item::Item;
 use result_lines::quantity::Quantity;
-
-/// Whether the set of the right whose nodes came is a tight cut of it, where the last set that was found tight tells.
-/// Else None.
-fn tight_by_last(context: &Context, state: &CheckState, right: u32) -> Option<bool>
-    requires context { IsContext context.now }
-    requires month { HasMonth context.now.basin.now context.now.series.now state.now }
-    requires calling { state.now.calling ≡ Some right }
-    ensures { (t : ReadSoFar) → Keeps context.now.basin.now context.now.series.now state.now t →
-        IfSome result (λ is_tight. is_tight ≡ checking.has_tight context.now.basin.now
-        (with_supply context.now.basin.now context.now.series.now t.now) right) }
-{
-    let last = state.tight?;
-    let delivered = state.month.delivered.as_slice();
-    tight_as_before(
-        context.basin,
-        &context.roll,
-        delivered,
-        last.right,
-        last.at,
-        right,
-        &state.month.cuts,
-    )
-}
 
 /// Whether the set of the right whose nodes came is no tight cut of it.
 fn is_loose(context: &Context, state: &CheckState, right: u32) -> bool
@@ -60,9 +35,6 @@ fn is_loose(context: &Context, state: &CheckState, right: u32) -> bool
         result ≡ not (checking.has_tight context.now.basin.now
         (with_supply context.now.basin.now context.now.series.now t.now) right) }
 {
-    if let Some(is_tight) = tight_by_last(context, state, right) {
-        return !is_tight;
-    }
     !tight(
         context.basin,
         &context.roll,

@@ -18,13 +18,6 @@ pub struct Context<'b> {
     pub last_outlet: u32,
 }
 
-/// A right whose set was found a tight cut of it, and the right's place in the order of seniority, from 0.
-#[derive(Clone, Copy)]
-pub struct TightSet {
-    pub right: u32,
-    pub at: usize,
-}
-
 /// What is kept of the lines so far: what the months that ended leave to the next one, and what was read of the month
 /// under way. Amounts are in units of 1,000 cubic metres.
 ///
@@ -49,9 +42,6 @@ pub struct CheckState {
     pub calling: Option<u32>,
     /// Whether the record has the supply that was read.
     pub has_supply: bool,
-    /// The last right of the current month whose set was found a tight cut of it when the next `call` line came, if
-    /// there is one. The line of an amount or a delivery leaves none, as the bound of a set is made of these.
-    pub tight: Option<TightSet>,
     /// For each reservoir what its zones take.
     pub closes: Rows<u64>,
     /// Whether these sums are of the takes that were read.

@@ -14,5 +14,6 @@ pub mod Overs
 pub mod RoomLists
 pub mod Lent
 pub mod Cuts
+pub mod WaysOut
 pub mod Unmarked
 pub mod Trails

@@ -198,7 +198,7 @@ no_brought b m right link = by_holder (holder_of b m.delivered link (kept_on b m
     by_holder (Some holder) = one brought (line.Keep link (kept_on b m.delivered right link) holder)
 
 pub brought_is_capacity : (b : Basin) (m : MonthRecord) (right : ℕ) (set : List Bool) →
-    sum_by brought (terms b m right set) ≡ cut_capacity b m.month m.supply set
+    sum_by brought (terms b m right set) ≡ cut_capacity b (carry_of b m.month) m.supply set
 brought_is_capacity b m right set =
     sum_terms brought value b m right set (λ e. (within_amount e).0) each
     ∙ omega (
@@ -244,7 +244,7 @@ kept_is_kept b m right set =
 pub lines_make_bound : LinesMakeBound
 lines_make_bound b m right set =
     ap (λ x. pos x -ℤ pos (sum_by kept (terms b m right set))) (brought_is_capacity b m right set)
-    ∙ ap (λ x. pos (cut_capacity b m.month m.supply set) -ℤ pos x) (kept_is_kept b m right set)
+    ∙ ap (λ x. pos (cut_capacity b (carry_of b m.month) m.supply set) -ℤ pos x) (kept_is_kept b m right set)
 
 pub tight_books_sum_to_delivery : TightBooksSumToDelivery
 tight_books_sum_to_delivery b m right set tight =

@@ -11,6 +11,7 @@ use Rattle.water_model.specs.declared.types.Basin.{Basin}
 use Rattle.water_model.proofs.Seniority.{not_senior_to_itself, senior_trans, senior_total}
 use Rattle.water_model.proofs.Order.{Has, seniors_have, seniors_below, seniors_ordered, find-passes, find-first}
 use Rattle.water_model.proofs.Order.{find-none}
+use Rattle.chains.specs.Chains.{has_key}
 use Rattle.rights_roll.specs.Rolls.{IsNextOn, link_in}
 use Rattle.cut_book.specs.Holders.{holder_of, holds_amount, more_senior}
 
@@ -129,29 +130,13 @@ pub record IsHeldSoFar (b : Basin) (delivered : List ℕ) (link amount : ℕ) (h
   pub at : IsNextOn b.rights link start next
   pub so_far : IsFirstOf b (holds_amount b delivered link amount) start holder
 
-off_link : (b : Basin) (delivered : List ℕ) (link amount s : ℕ) → link_in b.rights s ≢ Some link →
+off_link : (b : Basin) (delivered : List ℕ) (link amount s : ℕ) → has_key (link_in b.rights) link s ≡ false →
     holds_amount b delivered link amount s ≡ false
-off_link b delivered link amount s off = by_link (instream_link b s) refl
-  where
-    by_link : (o : Option ℕ) → instream_link b s ≡ o → is_at o link && slice_index delivered s == amount ≡ false
-    by_link None e = refl
-    by_link (Some at) e = not_at (at == link) refl
-      where
-        same : (x y : ℕ) → x == y ≡ true → x ≡ y
-        same x y h = grind (arith, nat_tests)
+off_link b delivered link amount s off = ap (λ t. t && slice_index delivered s == amount) off
 
-        not_at : (t : Bool) → at == link ≡ t → t && slice_index delivered s == amount ≡ false
-        not_at true h = absurd (off (e ∙ ap Some (same at link h)))
-        not_at false h = refl
-
-on_link : (b : Basin) (delivered : List ℕ) (link amount s : ℕ) → link_in b.rights s ≡ Some link →
+on_link : (b : Basin) (delivered : List ℕ) (link amount s : ℕ) → has_key (link_in b.rights) link s ≡ true →
     holds_amount b delivered link amount s ≡ (slice_index delivered s == amount)
-on_link b delivered link amount s e =
-    ap (λ o. is_at o link && slice_index delivered s == amount) e
-    ∙ ap (λ t. t && slice_index delivered s == amount) (itself link)
-  where
-    itself : (x : ℕ) → x == x ≡ true
-    itself x = grind (arith, nat_tests)
+on_link b delivered link amount s on = ap (λ t. t && slice_index delivered s == amount) on
 
 pub held_start : (b : Basin) (delivered : List ℕ) (link amount : ℕ) (next : Option ℕ) → IsNextOn b.rights link 0 next →
     IsHeldSoFar b delivered link amount None next

@@ -11,6 +11,7 @@ use Rattle.water_text.specs.declared.month.Month.{Month}
 use Rattle.water_model.specs.Basin.{is_at, is_on_link, is_senior, tail_of, head_of, taking_node}
 use Rattle.water_model.specs.Basin.{node_of_reservoir, taking_node_of_kind}
 use Rattle.water_model.specs.Cuts.{enters, leaves, kept_on, node_within, takes_within, cut_capacity, cut_kept}
+use Rattle.water_model.specs.Cuts.{supply_within, carry_into, kept_leaving, kept_within}
 use Rattle.water_model.specs.Lookups.{has}
 use Rattle.water_model.specs.Plans.{carry_of}
 use Rattle.water_model.specs.Valid.{IsValidBasin, IsValidReservoir, HasValidSite}
@@ -103,7 +104,7 @@ taker_inside b valid s v l is = let k = kind_is b valid s l in by_kind k.kind (s
 
 pub carried : (b : Basin) (month : Month) (cut : List Bool) → IsValidBasin b →
     total_where (length b.nodes) (λ n. has cut n) (brought_to b month cut)
-    ≡ total_where (length b.links) (λ e. enters b cut e) (λ e. carry_of b month e)
+    ≡ carry_into b (carry_of b month) cut
 carried b month cut valid =
     by_rows (length b.nodes) (length b.links) cut (ends_at b) (carry_in b month cut)
     (head_inside b valid)
@@ -111,14 +112,14 @@ carried b month cut valid =
     (λ e l. both_tests (has cut (head_of b e)) (not (has cut (tail_of b e))) (carry_of b month e))
 
 pub capacity_by_node : (b : Basin) (month : Month) (supply : List ℕ) (cut : List Bool) → IsValidBasin b →
-    total_where (length b.nodes) (λ n. has cut n) (node_capacity b month supply cut) ≡ cut_capacity b month supply cut
+    total_where (length b.nodes) (λ n. has cut n) (node_capacity b month supply cut)
+    ≡ cut_capacity b (carry_of b month) supply cut
 capacity_by_node b month supply cut valid =
     two_parts (length b.nodes) (λ n. has cut n) (λ n. slice_index supply n) (brought_to b month cut)
-    ∙ ap (λ t. total_where (length b.nodes) (λ n. has cut n) (λ n. slice_index supply n) + t)
-    (carried b month cut valid)
+    ∙ ap (λ t. supply_within b supply cut + t) (carried b month cut valid)
 
 pub capacity_small : (b : Basin) (month : Month) (supply delivered : List ℕ) (cut : List Bool) → IsValidBasin b →
-    IsMonth month → AreAmounts b supply delivered → cut_capacity b month supply cut < 4001 * 10 ^ 15
+    IsMonth month → AreAmounts b supply delivered → cut_capacity b (carry_of b month) supply cut < 4001 * 10 ^ 15
 capacity_small b month supply delivered cut valid is amounts =
     omega (
       arith,
@@ -133,8 +134,7 @@ capacity_small b month supply delivered cut valid is amounts =
 
 pub held_out : (b : Basin) (delivered : List ℕ) (right : ℕ) (cut : List Bool) → IsValidBasin b →
     total_where (length b.nodes) (λ n. has cut n) (kept_from b delivered right cut)
-    ≡ total_where (length b.links) (λ e. leaves b cut e && not (is_on_link b right e))
-    (λ e. kept_on b delivered right e)
+    ≡ kept_leaving b delivered right cut
 held_out b delivered right cut valid =
     by_rows (length b.nodes) (length b.links) cut (begins_at b) (kept_out b delivered right cut)
     (tail_inside b valid)
@@ -148,7 +148,7 @@ held_out b delivered right cut valid =
 
 pub taken_within : (b : Basin) (delivered : List ℕ) (right : ℕ) (cut : List Bool) → IsValidBasin b →
     total_where (length b.nodes) (λ n. has cut n) (taken_at b delivered right)
-    ≡ total_where (length b.rights) (λ s. takes_within b cut s && is_senior b s right) (λ s. slice_index delivered s)
+    ≡ kept_within b delivered right cut
 taken_within b delivered right cut valid =
     by_rows (length b.nodes) (length b.rights) cut (taking_node b) (senior_take b delivered right)
     (taker_inside b valid)

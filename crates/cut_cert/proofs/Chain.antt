@@ -8,6 +8,7 @@ use Rattle.water_model.specs.Basin.{is_on_link, is_senior, is_at, instream_link}
 use Rattle.water_model.specs.Cuts.{kept_on}
 use Rattle.water_model.specs.declared.types.Basin.{Basin}
 use Rattle.rights_roll.specs.Rolls.{IsNextOn, link_in}
+use Rattle.chains.specs.Chains.{has_key}
 
 -- indices that don't pass may be left out
 greatest_skips : (m n : ℕ) (p : ℕ → Bool) (f : ℕ → ℕ) → m ≤ n → ((k : ℕ) → m ≤ k → k < n → p k ≡ false) →
@@ -38,25 +39,8 @@ pub record IsKeptSoFar (b : Basin) (delivered : List ℕ) (right link kept : ℕ
   pub at : IsNextOn b.rights link start next
   pub so_far : kept ≡ greatest_where start (holds b right link) (λ s. slice_index delivered s)
 
-off_link : (b : Basin) (right link s : ℕ) → link_in b.rights s ≢ Some link → holds b right link s ≡ false
-off_link b right link s off = by_link (instream_link b s) refl
-  where
-    by_link : (o : Option ℕ) → instream_link b s ≡ o → is_at o link && is_senior b s right ≡ false
-    by_link None e = refl
-    by_link (Some at) e = not_at (at == link) refl
-      where
-        same : (x y : ℕ) → x == y ≡ true → x ≡ y
-        same x y h = grind (arith, nat_tests)
-
-        not_at : (t : Bool) → at == link ≡ t → t && is_senior b s right ≡ false
-        not_at true h = absurd (off (e ∙ ap Some (same at link h)))
-        not_at false h = refl
-
-on_link : (b : Basin) (s link : ℕ) → link_in b.rights s ≡ Some link → is_on_link b s link ≡ true
-on_link b s link e = ap (λ o. is_at o link) e ∙ itself link
-  where
-    itself : (x : ℕ) → x == x ≡ true
-    itself x = grind (arith, nat_tests)
+off_link : (b : Basin) (right link s : ℕ) → has_key (link_in b.rights) link s ≡ false → holds b right link s ≡ false
+off_link b right link s off = ap (λ t. t && is_senior b s right) off
 
 pub kept_start : (b : Basin) (delivered : List ℕ) (right link : ℕ) (next : Option ℕ) → IsNextOn b.rights link 0 next →
     IsKeptSoFar b delivered right link 0 next
@@ -80,6 +64,9 @@ kept_more b delivered right link kept more holder next so is further = record {
     subst_start : IsNextOn b.rights link (holder + 1) next → IsNextOn b.rights link (suc holder) next
     subst_start h = rw (← add-one) h
 
+    on : is_on_link b holder link ≡ true
+    on = so.at.2
+
     before : greatest_where holder (holds b right link) (λ s. slice_index delivered s) ≡ kept
     before = greatest_skips so.start holder (holds b right link) (λ s. slice_index delivered s) so.at.0
         (λ k l u. off_link b right link k (so.at.3 k l u)) ∙ sym so.so_far
@@ -87,8 +74,8 @@ kept_more b delivered right link kept more holder next so is further = record {
     by_test : (t : Bool) → is_senior b holder right ≡ t → (if t then max kept (slice_index delivered holder) else kept)
         ≡ max (greatest_where holder (holds b right link) (λ s. slice_index delivered s))
         (if holds b right link holder then slice_index delivered holder else 0)
-    by_test true e = rw (before, on_link b holder link so.at.2, e) refl
-    by_test false e = rw (before, on_link b holder link so.at.2, e) (omega arith)
+    by_test true e = rw (before, on, e) refl
+    by_test false e = rw (before, on, e) (omega arith)
 
 -- all rights of the chain
 pub kept_all : (b : Basin) (delivered : List ℕ) (right link kept : ℕ) → IsKeptSoFar b delivered right link kept None →

@@ -1,10 +1,8 @@
 pub mod Bounds
 pub mod Chain
-pub mod RowChains
 pub mod RowSums
 pub mod BoundParts
 pub mod Callers
 pub mod Claims
 pub mod Search
 pub mod Listed
-pub mod SameSets

@@ -10,8 +10,10 @@ use Rattle.finite_sums.specs.Sums.{total, total_where, when}
 use Rattle.finite_sums.proofs.Totals.{total_grows, total_where_start, total_where_more, total_where_most}
 use Rattle.water_model.specs.Basin.{is_at}
 use Rattle.water_model.specs.Lookups.{has}
-use Rattle.cut_cert.specs.Rows.{AreAllChains, BelongBy, IsNextOf}
-use Rattle.cut_cert.specs.declared.rows.Chains.{Chains}
+use Rattle.chains.specs.Chains.{AreChains, IsFirst}
+use Rattle.chains.specs.declared.Chains.{Chains}
+use Rattle.chains.proofs.Walking.{fewer_left, key_is}
+use Rattle.cut_cert.specs.Rows.{BelongBy}
 
 -- indices that don't pass may be left out of a sum
 total_skips : (m n : ℕ) (p : ℕ → Bool) (f : ℕ → ℕ) → m ≤ n → ((k : ℕ) → m ≤ k → k < n → p k ≡ false) →
@@ -28,20 +30,14 @@ total_skips m (suc n) p f h none = elim (at_or_below m n h) [
     at_or_below : (m n : ℕ) → m ≤ suc n → (m ≡ suc n) ⊎ (m ≤ n)
     at_or_below m n h = grind arith
 
--- the answer is the first index from one on, and below a count, that passes a test, or none
-abbrev pub IsNextPassing : (ℕ → Bool) → ℕ → ℕ → Option ℕ → Type 0
-IsNextPassing p count from None = (s : ℕ) → from ≤ s → s < count → p s ≡ false
-IsNextPassing p count from (Some at) =
-    (from ≤ at) × (at < count) × (p at ≡ true) × ((s : ℕ) → from ≤ s → s < at → p s ≡ false)
-
 -- how far a sum has come, at the next index that passes
 pub record IsSummedSoFar (p : ℕ → Bool) (count : ℕ) (f : ℕ → ℕ) (sum : ℕ) (next : Option ℕ) : Type 0 where
   pub start : ℕ
   pub within : start ≤ count
-  pub at : IsNextPassing p count start next
+  pub at : IsFirst p start count next
   pub so_far : sum ≡ total_where start p f
 
-pub sum_start : (p : ℕ → Bool) (count : ℕ) (f : ℕ → ℕ) (next : Option ℕ) → IsNextPassing p count 0 next →
+pub sum_start : (p : ℕ → Bool) (count : ℕ) (f : ℕ → ℕ) (next : Option ℕ) → IsFirst p 0 count next →
     IsSummedSoFar p count f 0 next
 sum_start p count f next at = record {
   start = 0;
@@ -62,7 +58,7 @@ with_next p count f sum at so = total_where_more at p f ∙ rw (before_next p co
 
 -- one index more
 pub sum_more : (p : ℕ → Bool) (count : ℕ) (f : ℕ → ℕ) (sum at one : ℕ) (next : Option ℕ) →
-    IsSummedSoFar p count f sum (Some at) → one ≡ f at → IsNextPassing p count (at + 1) next →
+    IsSummedSoFar p count f sum (Some at) → one ≡ f at → IsFirst p (at + 1) count next →
     IsSummedSoFar p count f (sum + one) next
 sum_more p count f sum at one next so is further = record {
   start = at + 1;
@@ -88,48 +84,10 @@ pub sum_all : (p : ℕ → Bool) (count : ℕ) (f : ℕ → ℕ) (sum : ℕ) →
 sum_all p count f sum so =
     so.so_far ∙ sym (total_skips so.start count p f so.within (λ k l u. so.at k l u))
 
--- there are fewer and fewer indices left
-pub fewer_left : (p : ℕ → Bool) (count at : ℕ) (next : Option ℕ) → at < count → IsNextPassing p count (at + 1) next →
-    count - unwrap_or next count < count - at
-fewer_left p count at None below further = omega arith
-fewer_left p count at (Some further) below next = let after = next.0 in let l = next.1 in omega arith
-
 -- a part of a term is small
 pub when_most : (t : Bool) (x m : ℕ) → x ≤ m → when t x ≤ m
 when_most true x m h = h
 when_most false x m h = omega arith
-
--- Along the chain of a node.
-
-off_node : (o : Option ℕ) (node : ℕ) → o ≢ Some node → is_at o node ≡ false
-off_node None node off = refl
-off_node (Some at) node off = not_same (at == node) refl
-  where
-    same : (x y : ℕ) → x == y ≡ true → x ≡ y
-    same x y h = grind (arith, nat_tests)
-
-    not_same : (t : Bool) → at == node ≡ t → t ≡ false
-    not_same true h = absurd (off (ap Some (same at node h)))
-    not_same false h = refl
-
-at_node : (o : Option ℕ) (node : ℕ) → o ≡ Some node → is_at o node ≡ true
-at_node o node e = ap (λ o. is_at o node) e ∙ itself node
-  where
-    itself : (x : ℕ) → x == x ≡ true
-    itself x = grind (arith, nat_tests)
-
-belongs : (o : Option ℕ) (node : ℕ) → is_at o node ≡ true → o ≡ Some node
-belongs None node h = cc
-belongs (Some at) node h = ap Some (same at node h)
-  where
-    same : (x y : ℕ) → x == y ≡ true → x ≡ y
-    same x y h = grind (arith, nat_tests)
-
-of_chain : (node_of : ℕ → Option ℕ) (count node from : ℕ) (o : Option ℕ) → IsNextOf node_of count node from o →
-    IsNextPassing (λ s. is_at (node_of s) node) count from o
-of_chain node_of count node from None h = λ s l u. off_node (node_of s) node (h s l u)
-of_chain node_of count node from (Some at) h =
-    (h.0, h.1, at_node (node_of at) node h.2, λ s l u. off_node (node_of s) node (h.3 s l u))
 
 -- Over marked nodes.
 
@@ -144,7 +102,7 @@ both false h = h
 of_marks_below : (words : List ℕ) (nodes from : ℕ) (o : Option ℕ) →
     IfSome o (λ p. IsNextInBoth words words from nodes p) →
     IfNone o ((q : ℕ) → from ≤ q → q < nodes → in_both words words q ≡ false) →
-    IsNextPassing (λ n. has (marks nodes words) n) nodes from o
+    IsFirst (λ n. has (marks nodes words) n) from nodes o
 of_marks_below words nodes from None some none = λ q l u.
     get_or-marks nodes words q false u ∙ single (is_marked words q) (none q l u)
 of_marks_below words nodes from (Some p) some none = (
@@ -158,29 +116,21 @@ of_marks_below words nodes from (Some p) some none = (
 pub of_marks : (words : List ℕ) (nodes count from : ℕ) (o : Option ℕ) → nodes ≡ count →
     IfSome o (λ p. IsNextInBoth words words from nodes p) →
     IfNone o ((q : ℕ) → from ≤ q → q < nodes → in_both words words q ≡ false) →
-    IsNextPassing (λ n. has (marks count words) n) count from o
+    IsFirst (λ n. has (marks count words) n) from count o
 of_marks words nodes count from o same some none =
-    subst (λ m. IsNextPassing (λ n. has (marks m words) n) m from o) same (of_marks_below words nodes from o some none)
+    subst (λ m. IsFirst (λ n. has (marks m words) n) from m o) same (of_marks_below words nodes from o some none)
 
--- Along the chain of a node: its first index, and the next ones.
-pub chain_begins : (node_of : ℕ → Option ℕ) (count nodes node : ℕ) (chains : Chains) (f : ℕ → ℕ) (next : Option ℕ) →
-    AreAllChains node_of count nodes chains → node < nodes → next ≡ slice_index_or chains.first.items node None →
-    IsSummedSoFar (λ s. is_at (node_of s) node) count f 0 next
-chain_begins node_of count nodes node chains f next are inside is =
-    sum_start (λ s. is_at (node_of s) node) count f next
-    (of_chain node_of count node 0 next (rw is (are.firsts node inside)))
-
+-- from one index of a node's chain to the next
 pub chain_goes_on : (node_of : ℕ → Option ℕ) (count nodes node : ℕ) (chains : Chains) (f : ℕ → ℕ) (sum at : ℕ)
     (next : Option ℕ) →
-    AreAllChains node_of count nodes chains → IsSummedSoFar (λ s. is_at (node_of s) node) count f sum (Some at) →
-    next ≡ slice_index_or chains.next.items at None → IsNextPassing (λ s. is_at (node_of s) node) count (at + 1) next
+    AreChains node_of count nodes chains → IsSummedSoFar (λ s. is_at (node_of s) node) count f sum (Some at) →
+    next ≡ slice_index_or chains.next.items at None → IsFirst (λ s. is_at (node_of s) node) (at + 1) count next
 chain_goes_on node_of count nodes node chains f sum at next are so is =
-    of_chain node_of count node (at + 1) next
-    (rw is (are.nexts at node (omega arith) so.at.1 (belongs (node_of at) node so.at.2)))
+    rw is (are.nexts at node so.at.1 (key_is (node_of at) node so.at.2))
 
 pub chain_smaller : (node_of : ℕ → Option ℕ) (count nodes node : ℕ) (chains : Chains) (f : ℕ → ℕ) (sum at : ℕ)
     (next : Option ℕ) →
-    AreAllChains node_of count nodes chains → IsSummedSoFar (λ s. is_at (node_of s) node) count f sum (Some at) →
+    AreChains node_of count nodes chains → IsSummedSoFar (λ s. is_at (node_of s) node) count f sum (Some at) →
     next ≡ slice_index_or chains.next.items at None → count - unwrap_or next count < count - at
 chain_smaller node_of count nodes node chains f sum at next are so is =
     fewer_left (λ s. is_at (node_of s) node) count at next so.at.1
@@ -194,22 +144,22 @@ pub record IsRowSum (chains : Chains) (node : ℕ) (is_term : ℕ → ℕ → Ty
   pub most : ℕ
   pub within : sum ≤ most
   pub so_far : IsSummedSoFar (λ s. is_at (node_of s) node) (length chains.next.items) (λ s. 10 ^ 15) most next
-  pub sums : (belongs : ℕ → Option ℕ) (count nodes : ℕ) (f : ℕ → ℕ) → AreAllChains belongs count nodes chains →
+  pub sums : (belongs : ℕ → Option ℕ) (count nodes : ℕ) (f : ℕ → ℕ) → AreChains belongs count nodes chains →
       ((index one : ℕ) → index < count → is_term index one → one ≡ f index) →
       IsSummedSoFar (λ s. is_at (belongs s) node) count f sum next
 
 pub row_start : (chains : Chains) (node : ℕ) (is_term : ℕ → ℕ → Type 0) (next : Option ℕ) →
-    ((node_of : ℕ → Option ℕ) × BelongBy node_of chains) → node < length chains.first.items →
-    next ≡ slice_index_or chains.first.items node None → IsRowSum chains node is_term 0 next
-row_start chains node is_term next are inside is = record {
+    ((node_of : ℕ → Option ℕ) × BelongBy node_of chains) → next ≡ slice_index_or chains.first.items node None →
+    IsRowSum chains node is_term 0 next
+row_start chains node is_term next are is = record {
   node_of = are.0;
   all = are.1;
   most = 0;
   within = omega arith;
-  so_far = chain_begins are.0 (length chains.next.items) (length chains.first.items) node chains (λ s. 10 ^ 15) next
-      are.1 inside is;
-  sums = λ belongs count nodes f all terms. chain_begins belongs count nodes node chains f next all
-      (let sized = all.one_first in omega arith) is;
+  so_far = sum_start (λ s. is_at (are.0 s) node) (length chains.next.items) (λ s. 10 ^ 15) next
+      (rw is (are.1.firsts node));
+  sums = λ belongs count nodes f all terms. sum_start (λ s. is_at (belongs s) node) count f next
+      (rw is (all.firsts node));
 }
 
 pub row_more : (chains : Chains) (node : ℕ) (is_term : ℕ → ℕ → Type 0) (sum at one : ℕ) (next : Option ℕ) →
@@ -227,7 +177,7 @@ row_more chains node is_term sum at one next so is small after = record {
 }
   where
     more : (belongs : ℕ → Option ℕ) (count nodes : ℕ) (f : ℕ → ℕ) (sum one : ℕ) →
-        AreAllChains belongs count nodes chains → IsSummedSoFar (λ s. is_at (belongs s) node) count f sum (Some at) →
+        AreChains belongs count nodes chains → IsSummedSoFar (λ s. is_at (belongs s) node) count f sum (Some at) →
         one ≡ f at → IsSummedSoFar (λ s. is_at (belongs s) node) count f (sum + one) next
     more belongs count nodes f sum one all so is =
         sum_more (λ s. is_at (belongs s) node) count f sum at one next so is

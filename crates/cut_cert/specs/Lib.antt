@@ -1,4 +1,3 @@
 pub mod Sets
 pub mod Callers
 pub mod Rows
-pub mod SameSets

@@ -1,6 +1,8 @@
 -- For each node the links and rights that bound a set which holds it, as chains of rising numbers, and what they add.
 use Rattle.std.specs.Prelude.{◌≡◌, ◌≢◌, ℕ, ◌+◌, ◌<◌, ◌≤◌, ◌&&◌, not, Bool, List, length, slice_index, slice_index_or}
 use Rattle.std.specs.Prelude.{Option, Some, None, is_some, map, if◌then◌else◌}
+use Rattle.chains.specs.Chains.{AreChains}
+use Rattle.chains.specs.declared.Chains.{Chains}
 use Rattle.finite_sums.specs.Sums.{total_where, when}
 use Rattle.water_text.specs.declared.month.Month.{Month}
 use Rattle.water_model.specs.Basin.{is_at, is_on_link, is_senior, tail_of, head_of, taking_node}
@@ -11,38 +13,16 @@ use Rattle.water_model.specs.declared.types.Basin.{Basin}
 use Rattle.water_model.specs.Rights.{priority}
 use Rattle.rights_roll.specs.Priorities.{numbers_of}
 use Rattle.rights_roll.specs.RollView.{RollView}
-use Rattle.cut_cert.specs.declared.rows.Chains.{Chains}
 use Rattle.cut_cert.specs.declared.rows.NodeRows.{NodeRows}
 
--- the answer is the first index from one on, and below a count, that belongs to the node, or none
-abbrev pub IsNextOf : (ℕ → Option ℕ) → ℕ → ℕ → ℕ → Option ℕ → Type 0
-IsNextOf node_of count node from None = (s : ℕ) → from ≤ s → s < count → node_of s ≢ Some node
-IsNextOf node_of count node from (Some at) =
-    (from ≤ at) × (at < count) × (node_of at ≡ Some node)
-    × ((s : ℕ) → from ≤ s → s < at → node_of s ≢ Some node)
-
--- for each node the first index that belongs to it, and for each index the next that belongs to the same node, of the
--- indices from one on
-pub record AreChains (node_of : ℕ → Option ℕ) (count nodes : ℕ) (first next : List (Option ℕ)) (from : ℕ) : Type 0
-  where
-    pub one_first : length first ≡ nodes
-    pub one_next : length next ≡ count
-    pub firsts : (v : ℕ) → v < nodes → IsNextOf node_of count v from (slice_index_or first v None)
-    pub nexts : (s v : ℕ) → from ≤ s → s < count → node_of s ≡ Some v →
-        IsNextOf node_of count v (s + 1) (slice_index_or next s None)
-
--- of all indices
-abbrev pub AreAllChains : (ℕ → Option ℕ) → ℕ → ℕ → Chains → Type 0
-AreAllChains node_of count nodes chains = AreChains node_of count nodes chains.first.items chains.next.items 0
-
--- of as many indices and nodes as there is room for
+-- chains of as many indices and nodes as there is room for
 abbrev pub BelongBy : (ℕ → Option ℕ) → Chains → Type 0
-BelongBy node_of chains = AreAllChains node_of (length chains.next.items) (length chains.first.items) chains
+BelongBy node_of chains = AreChains node_of (length chains.next.items) (length chains.first.items) chains
 
 -- the sum of the terms of the indices that belong to a node, whichever do and whatever the terms are
 abbrev pub IsSumOfRow : Chains → ℕ → (ℕ → ℕ → Type 0) → ℕ → Type 0
 IsSumOfRow chains node is_term sum = (node_of : ℕ → Option ℕ) (count nodes : ℕ) (f : ℕ → ℕ) →
-    AreAllChains node_of count nodes chains → ((index one : ℕ) → index < count → is_term index one → one ≡ f index) →
+    AreChains node_of count nodes chains → ((index one : ℕ) → index < count → is_term index one → one ≡ f index) →
     sum ≡ total_where count (λ s. is_at (node_of s) node) f
 
 -- the nodes at which a link ends and begins, and the latter if the roll has an instream right on the link
@@ -65,9 +45,9 @@ ArePriorities b rows = map numbers_of rows.priorities.items ≡ map priority b.r
 -- the rows of a basin by node: the links that end at each node, those that begin there and have an instream right, and
 -- the diversions and zones that take there; and the tails of links and the priorities of rights
 pub record AreNodeRows (b : Basin) (roll : RollView) (rows : NodeRows) : Type 0 where
-  pub enter : AreAllChains (ends_at b) (length b.links) (length b.nodes) rows.enter
-  pub held : AreAllChains (held_at b roll) (length b.links) (length b.nodes) rows.held
-  pub takers : AreAllChains (taking_node b) (length b.rights) (length b.nodes) rows.takers
+  pub enter : AreChains (ends_at b) (length b.links) (length b.nodes) rows.enter
+  pub held : AreChains (held_at b roll) (length b.links) (length b.nodes) rows.held
+  pub takers : AreChains (taking_node b) (length b.rights) (length b.nodes) rows.takers
   pub tails : AreTails b rows
   pub priorities : ArePriorities b rows
 

@@ -2,7 +2,7 @@
 ghost use Rattle.std.specs.Prelude.{◌≡◌, ℕ, ◌*◌, ◌<◌, ◌≤◌, ◌^◌, Option, length};
 ghost use Rattle.bit_words.specs.Marks.{words_for};
 ghost use Rattle.water_text.specs.Months.{IsMonth, days_of};
-ghost use Rattle.water_model.specs.Plans.{carry_of_kind};
+ghost use Rattle.water_model.specs.Plans.{carry_of, carry_of_kind};
 ghost use Rattle.water_model.specs.Cuts.{cut_capacity, cut_kept};
 ghost use Rattle.water_model.specs.Basin.{tail_of};
 ghost use Rattle.water_model.specs.Valid.{IsValidBasin, IsValidCarry};
@@ -12,9 +12,10 @@ ghost use Rattle.cut_cert.specs.Rows.{AreNodeRows, BelongBy, IsSumOfRow, carry_i
 ghost use Rattle.cut_cert.specs.Rows.{senior_take, ArePriorities};
 
 use crate::marked::is_in;
-use crate::rows::{Chains, NodeRows};
+use crate::rows::NodeRows;
 use crate::{is_on_link, kept_on};
 use bit_words::next_marked_in_both;
+use chains::Chains;
 use rights_roll::roll::Roll;
 use water_model::types::{Basin, Carry};
 use water_text::month::Month;
@@ -104,7 +105,6 @@ fn senior_take(basin: &Basin, rows: &NodeRows, delivered: &[u64], right: u32, ta
 /// The sum of the terms of the indices that belong to a node. Each is at most 10^15.
 fn sum_at<F: Fn(u32) -> u64>(rows: &Chains, node: u32, term: F) -> u64
     requires rows { (node_of : ℕ → Option ℕ) × BelongBy node_of rows.now }
-    requires node { node < length rows.now.first.items }
     requires few { length rows.now.next.items ≤ 4000 }
     requires terms { (index : ℕ) → index < length rows.now.next.items → F.pre term index }
     requires most { (index one : ℕ) → index < length rows.now.next.items → F.post term index one → one ≤ 10 ^ 15 }
@@ -189,7 +189,7 @@ pub fn sides_of(
     requires right { right < length basin.now.rights }
     requires words { length words.now ≡ words_for (length basin.now.nodes) }
     ensures capacity { result.capacity
-        ≡ cut_capacity basin.now month supply.now (marked_nodes basin.now words.now) }
+        ≡ cut_capacity basin.now (carry_of basin.now month) supply.now (marked_nodes basin.now words.now) }
     ensures kept { result.kept ≡ cut_kept basin.now delivered.now right (marked_nodes basin.now words.now) }
     ensures small_capacity { result.capacity < 4001 * 10 ^ 15 }
     ensures small_kept { result.kept ≤ 6000 * 10 ^ 9 }

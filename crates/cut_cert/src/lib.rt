@@ -19,7 +19,6 @@ mod bounding;
 pub mod calls;
 mod marked;
 pub mod rows;
-pub mod same_set;
 
 use crate::bounding::sides_of;
 use crate::marked::words_of;

@@ -1,42 +1,17 @@
 //! For each node what a set that holds it is bounded by: links and rights, in chains.
-ghost use Rattle.std.specs.Prelude.{◌≡◌, ℕ, ◌^◌, ◌<◌, ◌≤◌, length, slice_index_or, None, Option, IfOk, IfSome};
-ghost use Rattle.std.specs.Prelude.{map};
+ghost use Rattle.std.specs.Prelude.{◌≡◌, ◌<◌, length, IfOk, IfSome, map};
 ghost use Rattle.water_model.specs.Basin.{is_senior, tail_of};
 ghost use Rattle.water_model.specs.Rights.{priority};
 ghost use Rattle.water_model.specs.Valid.{IsValidBasin};
 ghost use Rattle.rights_roll.specs.Priorities.{numbers_of};
-ghost use Rattle.cut_cert.specs.Rows.{AreAllChains, AreNodeRows, ArePriorities, AreTails, held_at};
+ghost use Rattle.cut_cert.specs.Rows.{AreNodeRows, ArePriorities, AreTails, held_at};
 
+use chains::{Chains, chains_by};
 use rights_roll::priority::Priority;
 use rights_roll::roll::Roll;
 use std::alloc::{AllocError, Global};
 use water_model::calls::taking_node;
 use water_model::types::Basin;
-
-/// For each node the first index that belongs to it, and for each index the next that belongs to the same node.
-#[derive(Drop)]
-pub struct Chains {
-    pub first: Vec<Option<u32>>,
-    pub next: Vec<Option<u32>>,
-}
-
-impl Chains {
-    /// The first index that belongs to a node, or none.
-    pub fn first_of(&self, node: u32) -> Option<u32>
-        requires { node < length self.now.first.items }
-        ensures { result ≡ slice_index_or self.now.first.items node None }
-    {
-        self.first[node as usize]
-    }
-
-    /// The next index that belongs to the same node, or none.
-    pub fn next_of(&self, index: u32) -> Option<u32>
-        requires { index < length self.now.next.items }
-        ensures { result ≡ slice_index_or self.now.next.items index None }
-    {
-        self.next[index as usize]
-    }
-}
 
 /// The rows of a basin by node.
 #[derive(Drop)]
@@ -51,33 +26,6 @@ pub struct NodeRows {
     /// long.
     pub tails: Vec<u32>,
     pub priorities: Vec<Priority>,
-}
-
-/// The indices below a count in chains, each in that of the node to which it belongs, if to any. They are put in from
-/// the last one back, so each finds the one after it.
-pub fn chains_by<F: Fn(usize) -> Option<u32>>(
-    alloc: Global,
-    nodes: usize,
-    count: usize,
-    node_of: F,
-) -> Result<Chains, AllocError>
-    requires few { count ≤ 2 ^ 32 }
-    requires indices { (index : ℕ) → index < count → F.pre node_of index }
-    requires within { (index : ℕ) (node : Option ℕ) → index < count → F.post node_of index node →
-        IfSome node (λ v. v < nodes) }
-    ensures { (belongs : ℕ → Option ℕ) →
-        ((index : ℕ) (node : Option ℕ) → index < count → F.post node_of index node → node ≡ belongs index) →
-        IfOk result (AreAllChains belongs count nodes) }
-{
-    let mut first = vec![in alloc; None; nodes]?;
-    let mut next = vec![in alloc; None; count]?;
-    for index in (0..count).rev() {
-        if let Some(node) = node_of(index) {
-            next[index] = first[node as usize];
-            first[node as usize] = Some(index as u32);
-        }
-    }
-    Ok(Chains { first, next })
 }
 
 /// The node at which a link begins, if an instream right is on the link.

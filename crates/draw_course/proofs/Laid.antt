@@ -22,7 +22,7 @@ use Rattle.draw_course.specs.declared.arcs.Part.{Part}
 use Rattle.draw_course.specs.declared.draws.DrawNodes.{DrawNodes}
 use Rattle.draw_course.proofs.Parts.{part_link, part_take, part_out, part_draw}
 use Rattle.draw_course.proofs.Parts.{IsArc, is_link, is_take, is_out, is_draw, arc_is}
-use Rattle.draw_course.proofs.Paths.{ranks}
+use Rattle.river_net.proofs.Ranks.{ranks}
 
 -- the ends of an arc by its number
 abbrev pub ends_at : Basin → List DrawNodes → ℕ → Ends

@@ -5,7 +5,6 @@ pub mod Flows
 pub mod Paths
 pub mod Tight
 pub mod Turns
-pub mod Marks
 pub mod Raises
 pub mod Laid
 pub mod Begins

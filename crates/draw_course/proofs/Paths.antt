@@ -2,35 +2,24 @@
 use Rattle.std.proofs.Common.{◌≡◌, ℕ, zero, suc, ◌+◌, ◌^◌, ◌<◌, ◌≤◌, Bool, true, false, refl, sym, ◌∙◌, ap}
 use Rattle.std.proofs.Common.{subst, arith, List, [], ◌∷◌, length, inl, inr}
 use Rattle.std.proofs.lemmas.Bool.{cases_Bool}
-use Rattle.std.proofs.lemmas.Bool.Decides.{nat_tests}
-use Rattle.std.specs.Prelude.{slice_index, ◌&&◌, not, nat_lt, nat_le}
-use Rattle.finite_sums.specs.Sums.{total, greatest_where, when}
-use Rattle.finite_sums.proofs.Totals.{total_same, total_le, total_zero, total_most, term_le_total, term_le_greatest}
+use Rattle.std.specs.Prelude.{slice_index, ◌⊎◌}
+use Rattle.finite_sums.specs.Sums.{total, when}
+use Rattle.finite_sums.proofs.Totals.{total_same, total_zero, total_most}
 use Rattle.water_model.specs.Basin.{head_of, is_outlet}
 use Rattle.water_model.specs.Network.{IsForward, HasRiverOut}
 use Rattle.water_model.specs.Valid.{IsValidBasin}
 use Rattle.water_model.specs.declared.types.Basin.{Basin}
 use Rattle.water_model.proofs.Carries.{river_carry}
 use Rattle.water_model.proofs.Valid.{ends}
-use Rattle.river_net.proofs.Ranks.{forward_numbers}
-use Rattle.circulation.specs.Network.{Network, IsFlow, LeadsOut, enters, leaves}
-use Rattle.circulation.proofs.Cuts.{crossing}
+use Rattle.river_net.proofs.Ranks.{ranks}
+use Rattle.circulation.specs.Network.{Network, IsFlow, enters}
+use Rattle.circulation.proofs.WaysOut.{Rises, LeadsOn, up_to, none_enters, carries_at_most, way_out}
 use Rattle.augment.specs.Raised.{HasPathOut}
 use Rattle.draw_course.specs.Draws.{MonthDraws, AreDraws}
 use Rattle.draw_course.specs.Arcs.{take_arc, out_arc, draw_arc}
 use Rattle.draw_course.specs.MonthNetwork.{IsCourseNetwork}
 use Rattle.draw_course.proofs.Parts.{arcs_total}
 use Rattle.draw_course.proofs.Supplies.{tail_within}
-
--- numbers of the nodes in which each link leads to a greater one
-pub record HasRanks (b : Basin) : Type 0 where
-  pub rank : ℕ → ℕ
-  pub forward : IsForward b.links rank
-
-pub ranks : (b : Basin) → IsValidBasin b → HasRanks b
-ranks b valid =
-    let numbers = forward_numbers b.nodes b.links (record { ends = ends b valid }) valid.network in
-    record { rank = numbers.rank; forward = numbers.forward }
 
 -- a network of little supply, in which draws may have little
 pub record IsLittle (m : MonthDraws) (most : ℕ → ℕ) : Type 0 where
@@ -39,174 +28,106 @@ pub record IsLittle (m : MonthDraws) (most : ℕ → ℕ) : Type 0 where
   pub supply : total (length m.basin.nodes) (λ n. slice_index m.supply n) < 10 ^ 14
   pub small : (k : ℕ) → k < length m.draws → most k ≤ 10 ^ 9
 
--- the nodes that are not after a node
-upstream : (b : Basin) (rank : ℕ → ℕ) (v n : ℕ) → Bool
-upstream b rank v n = nat_lt n (length b.nodes) && nat_le (rank n) (rank v)
+-- an arc that is no draw rises where it leads to a basin node
+arc_rises : (m : MonthDraws) (least most : ℕ → ℕ) (rank : ℕ → ℕ) (w : Network) (a : ℕ) → IsLittle m most →
+    IsCourseNetwork m least most w → IsForward m.basin.links rank → a < w.arcs →
+    (a < length m.basin.links) ⊎ (w.to a ≡ length m.basin.nodes) → Rises w rank a
+arc_rises m least most rank w a little net forward l (inl link) inner =
+    let from = ap rank (net.ends.link_from a link) in
+    let to = ap rank (net.ends.link_to a link) in
+    let tail = tail_within m.basin m.draws w a little.valid little.draws net.ends l in
+    (omega (arith, tail, net.ends.nodes), omega (arith, from, to, forward.runs a link))
+arc_rises m least most rank w a little net forward l (inr out) inner = absurd (omega (arith, inner, out, net.ends.nodes))
 
 -- a link and what leaves the basin carry less than a river can: what comes to the nodes upstream is their supply, and
 -- what draws bring
 flow_small : (m : MonthDraws) (least most : ℕ → ℕ) (rank : ℕ → ℕ) (w : Network) (g : ℕ → ℕ) (a : ℕ) →
     IsLittle m most → IsCourseNetwork m least most w → IsForward m.basin.links rank → IsFlow w g → a < w.arcs →
-    leaves w (upstream m.basin rank (w.from a)) a ≡ true → g a < 10 ^ 15
-unfolding upstream
-flow_small m least most rank w g a little net forward flow l out =
+    (a < length m.basin.links) ⊎ (w.to a ≡ length m.basin.nodes) → g a < 10 ^ 15
+flow_small m least most rank w g a little net forward flow l kind =
     let b = m.basin in
     let count = length m.draws in
-    let cross = crossing w y g basin flow in
-    let entering : (x : ℕ) → ℕ = λ x. when (enters w y x) (g x) in
-    let sum = arcs_total b count entering in
-    let links = total_zero (length b.links) entering (λ e k. link_none e k) in
-    let takes = total_zero (length b.nodes) (λ n. entering (take_arc b n)) (λ n k. outside_none (take_arc b n)
-    (net.ends.take_to n k)) in
-    let outs = total_zero (length b.nodes) (λ n. entering (out_arc b n)) (λ n k. outside_none (out_arc b n)
-    (net.ends.out_to n k)) in
-    let drawn = total_most count (10 ^ 9) (λ k. entering (draw_arc b k)) (λ k j. at_draw k j) in
-    let all = ap (λ n. total n entering) net.ends.arcs in
-    let one = term_le_total w.arcs (λ x. when (leaves w y x) (g x)) a l in
-    let own : when (leaves w y a) (g a) ≡ g a = ap (λ (t : Bool). when t (g a)) out in
-    let some = total_le w.nodes (λ v. when (y v) (w.supply v)) w.supply (λ v k. at_most (y v) (w.supply v)) in
-    let supply = ap (λ n. total n w.supply) net.ends.nodes
-    ∙ total_same (length b.nodes) w.supply (λ n. slice_index m.supply n) net.supplies in
-    omega (arith, cross, sum, links, takes, outs, drawn, all, one, own, some, supply, little.supply, little.draws.count)
+    let entering : (x : ℕ) → ℕ = λ x. when (enters w (up_to w rank (w.from a)) x) (g x) in
+    let none = λ (x : ℕ) (k : x < w.arcs) (is : (x < length b.links) ⊎ (w.to x ≡ length b.nodes)).
+    none_enters w rank g (w.from a) x (λ inner.
+    let up = arc_rises m least most rank w x little net forward k is inner in (up.0, omega (arith, up.1))) in
+    let arcs = net.ends.arcs in
+    let tail = tail_within b m.draws w a little.valid little.draws net.ends l in
+    omega (
+      arith,
+      carries_at_most rank a flow l (omega (arith, tail, net.ends.nodes))
+          (arc_rises m least most rank w a little net forward l kind),
+      arcs_total b count entering,
+      total_zero (length b.links) entering (λ e k. none e (omega arith) (inl k)),
+      total_zero (length b.nodes) (λ n. entering (take_arc b n))
+          (λ n k. none (take_arc b n) (omega arith) (inr (net.ends.take_to n k))),
+      total_zero (length b.nodes) (λ n. entering (out_arc b n))
+          (λ n k. none (out_arc b n) (omega arith) (inr (net.ends.out_to n k))),
+      total_most count (10 ^ 9) (λ k. entering (draw_arc b k)) (λ k j. omega (
+        arith,
+        at_most (enters w (up_to w rank (w.from a)) (draw_arc b k)) (g (draw_arc b k)),
+        flow.high (draw_arc b k) (omega arith),
+        net.draw_upper k j,
+        little.small k j,
+      )),
+      ap (λ n. total n entering) arcs,
+      ap (λ n. total n w.supply) net.ends.nodes
+          ∙ total_same (length b.nodes) w.supply (λ n. slice_index m.supply n) net.supplies,
+      little.supply,
+      little.draws.count,
+    )
   where
-    y : ℕ → Bool
-    y = upstream m.basin rank (w.from a)
-
     at_most : (t : Bool) (x : ℕ) → when t x ≤ x
     at_most true x = omega arith
     at_most false x = omega arith
 
-    beyond : (v n : ℕ) (t : Bool) → n ≤ v → nat_lt v n && t ≡ false
-    beyond v n t k = grind (arith, nat_tests)
-
-    basin : (v : ℕ) → w.nodes ≤ v → y v ≡ false
-    basin v k = beyond v (length m.basin.nodes) (nat_le (rank v) (rank (w.from a)))
-        (let n = net.ends.nodes in omega arith)
-
-    none : (t : Bool) (x : ℕ) → t ≡ false → when t x ≡ 0
-    none t x h = ap (λ (t : Bool). when t x) h
-
-    not_first : (p q : Bool) → p ≡ false → p && q ≡ false
-    not_first p q h = grind (arith, nat_tests)
-
-    outside_none : (x : ℕ) → w.to x ≡ length m.basin.nodes → when (enters w y x) (g x) ≡ 0
-    outside_none x e = none (enters w y x) (g x) (not_first (y (w.to x)) (not (y (w.from x)))
-        (beyond (w.to x) (length m.basin.nodes) (nat_le (rank (w.to x)) (rank (w.from a))) (omega arith)))
-
-    -- where the head is not after, the tail is not after either
-    runs_on : (t n r s q v : ℕ) → r < s → t < n → (nat_lt v n && nat_le s q) && not (nat_lt t n && nat_le r q) ≡ false
-    runs_on t n r s q v h k = grind (arith, nat_tests)
-
-    link_none : (e : ℕ) → e < length m.basin.links → when (enters w y e) (g e) ≡ 0
-    link_none e k =
-        let from = net.ends.link_from e k in
-        let to = net.ends.link_to e k in
-        let up : rank (w.from e) < rank (w.to e) =
-        (let i = ap rank from in let j = ap rank to in let r = forward.runs e k in omega arith) in
-        none (enters w y e) (g e)
-        (runs_on (w.from e) (length m.basin.nodes) (rank (w.from e)) (rank (w.to e)) (rank (w.from a)) (w.to e) up
-        (tail_within m.basin m.draws w e little.valid little.draws net.ends (let n = net.ends.arcs in omega arith)))
-
-    at_draw : (k : ℕ) → k < length m.draws →
-        when (enters w y (draw_arc m.basin k)) (g (draw_arc m.basin k)) ≤ 10 ^ 9
-    at_draw k j = omega (
-      arith,
-      at_most (enters w y (draw_arc m.basin k)) (g (draw_arc m.basin k)),
-      flow.high (draw_arc m.basin k) (let n = net.ends.arcs in omega arith),
-      net.draw_upper k j,
-      little.small k j,
-    )
-
-both : (p q : Bool) → p ≡ true → q ≡ false → p && not q ≡ true
-both p q h i = grind (arith, nat_tests)
-
-here : (v n r : ℕ) → v < n → nat_lt v n && nat_le r r ≡ true
-here v n r k = grind (arith, nat_tests)
-
-after : (v n r q : ℕ) → q < r → nat_lt v n && nat_le r q ≡ false
-after v n r q k = grind (arith, nat_tests)
-
-past : (v n : ℕ) (t : Bool) → n ≤ v → nat_lt v n && t ≡ false
-past v n t k = grind (arith, nat_tests)
-
--- a path of arcs from a node to the outside, each with room in every flow and none of them r
-record IsPath (w : Network) (r v : ℕ) : Type 0 where
-  path : List ℕ
-  leads : LeadsOut w r v path
-
-river_path : (m : MonthDraws) (least most : ℕ → ℕ) (rank : ℕ → ℕ) (w : Network) (r : ℕ) → IsLittle m most →
+-- a river, or what leaves at an outlet, leads on from each node
+leads_on : (m : MonthDraws) (least most : ℕ → ℕ) (rank : ℕ → ℕ) (w : Network) (r v : ℕ) → IsLittle m most →
     IsCourseNetwork m least most w → IsForward m.basin.links rank →
-    length m.basin.links + (length m.basin.nodes + length m.basin.nodes) ≤ r →
-    (fuel v : ℕ) → v < length m.basin.nodes →
-    greatest_where (length m.basin.nodes) (λ n. true) rank < rank v + fuel → IsPath w r v
-unfolding upstream
-river_path m least most rank w r little net forward far zero v l enough =
-    absurd (omega (arith, term_le_greatest (length m.basin.nodes) (λ n. true) rank v l refl))
-river_path m least most rank w r little net forward far (suc fuel) v l enough =
+    length m.basin.links + (length m.basin.nodes + length m.basin.nodes) ≤ r → v < length m.basin.nodes →
+    LeadsOn w r rank v
+leads_on m least most rank w r v little net forward far l =
     elim (cases_Bool (is_outlet m.basin v)) [
       | inl outlet ↦ record {
-        path = out_arc m.basin v ∷ [];
-        leads = (
-          out_in,
-          net.ends.out_from v l,
-          (λ e. absurd (omega arith)),
-          out_room outlet,
-          net.ends.out_to v l ∙ sym net.ends.nodes,
+        arc = out_arc m.basin v;
+        below = out_in;
+        from = net.ends.out_from v l;
+        other = λ e. absurd (omega arith);
+        room = λ g flow. omega (
+          arith,
+          net.out_upper v l,
+          ap (λ (t : Bool). when t (10 ^ 15)) outlet,
+          flow_small m least most rank w g (out_arc m.basin v) little net forward flow out_in
+              (inr (net.ends.out_to v l)),
         );
+        to = inl (net.ends.out_to v l ∙ sym net.ends.nodes);
       }
-      | inr inner ↦ on_river (river_path m least most rank w r little net forward far fuel)
-          (little.valid.network.rivers v l inner)
+      | inr inner ↦ by_river (little.valid.network.rivers v l inner)
     ]
   where
     out_in : out_arc m.basin v < w.arcs
     out_in = let n = net.ends.arcs in omega arith
 
-    out_room : is_outlet m.basin v ≡ true → (g : ℕ → ℕ) → IsFlow w g →
-        g (out_arc m.basin v) < w.upper (out_arc m.basin v)
-    out_room h g flow = omega (
-      arith,
-      net.out_upper v l,
-      ap (λ (t : Bool). when t (10 ^ 15)) h,
-      flow_small m least most rank w g (out_arc m.basin v) little net forward flow out_in
-          (both (upstream m.basin rank (w.from (out_arc m.basin v)) (w.from (out_arc m.basin v)))
-          (upstream m.basin rank (w.from (out_arc m.basin v)) (w.to (out_arc m.basin v)))
-          (here (w.from (out_arc m.basin v)) (length m.basin.nodes) (rank (w.from (out_arc m.basin v)))
-          (let e = net.ends.out_from v l in omega arith))
-          (past (w.to (out_arc m.basin v)) (length m.basin.nodes)
-          (nat_le (rank (w.to (out_arc m.basin v))) (rank (w.from (out_arc m.basin v))))
-          (let e = net.ends.out_to v l in omega arith))),
-    )
-
-    on_river : ((u : ℕ) → u < length m.basin.nodes →
-        greatest_where (length m.basin.nodes) (λ n. true) rank < rank u + fuel → IsPath w r u) →
-        HasRiverOut m.basin.links v → IsPath w r v
-    on_river further river =
+    by_river : HasRiverOut m.basin.links v → LeadsOn w r rank v
+    by_river river =
         let e : ℕ = river.link in
         let k : e < length m.basin.links = river.in_range in
-        let from : w.from e ≡ v = net.ends.link_from e k ∙ river.tail in
-        let to : w.to e ≡ head_of m.basin e = net.ends.link_to e k in
-        let e_in : e < w.arcs = (let n = net.ends.arcs in omega arith) in
-        let up : rank v < rank (head_of m.basin e) =
-        (let f = ap rank river.tail in let s = forward.runs e k in omega arith) in
-        let rest : IsPath w r (head_of m.basin e) = further (head_of m.basin e) (ends m.basin little.valid e k).1
-        (omega arith) in
+        let to = net.ends.link_to e k in
+        let below : e < w.arcs = (let n = net.ends.arcs in omega arith) in
         record {
-          path = e ∷ rest.path;
-          leads = (
-            e_in,
-            from,
-            (λ s. absurd (omega arith)),
-            (λ g flow. omega (
-              arith,
-              net.link_upper e k,
-              river_carry m.basin m.month e river.river,
-              flow_small m least most rank w g e little net forward flow e_in
-                  (both (upstream m.basin rank (w.from e) (w.from e)) (upstream m.basin rank (w.from e) (w.to e))
-                  (here (w.from e) (length m.basin.nodes) (rank (w.from e)) (omega arith))
-                  (after (w.to e) (length m.basin.nodes) (rank (w.to e)) (rank (w.from e))
-                  (let i = ap rank from in let j = ap rank to in omega arith))),
-            )),
-            subst (λ u. LeadsOut w r u rest.path) (sym to) rest.leads,
+          arc = e;
+          below = below;
+          from = net.ends.link_from e k ∙ river.tail;
+          other = λ s. absurd (omega arith);
+          room = λ g flow. omega (
+            arith,
+            net.link_upper e k,
+            river_carry m.basin m.month e river.river,
+            flow_small m least most rank w g e little net forward flow below (inl k),
+          );
+          to = inr (
+            omega (arith, to, (ends m.basin little.valid e k).1, net.ends.nodes),
+            omega (arith, ap rank river.tail, ap rank to, forward.runs e k),
           );
         }
 
@@ -215,8 +136,8 @@ pub path_out : (m : MonthDraws) (least most : ℕ → ℕ) (w : Network) (k : �
     IsCourseNetwork m least most w → w.to (draw_arc m.basin k) < length m.basin.nodes →
     HasPathOut w (draw_arc m.basin k)
 path_out m least most w k little net l =
-    let rank : ℕ → ℕ = (ranks m.basin little.valid).rank in
-    let found : IsPath w (draw_arc m.basin k) (w.to (draw_arc m.basin k)) =
-    river_path m least most rank w (draw_arc m.basin k) little net (ranks m.basin little.valid).forward (omega arith)
-    (suc (greatest_where (length m.basin.nodes) (λ n. true) rank)) (w.to (draw_arc m.basin k)) l (omega arith) in
-    record { path = found.path; leads = found.leads }
+    let ranked = ranks m.basin little.valid in
+    let found = way_out w (draw_arc m.basin k) ranked.rank 0 (λ v inside _. leads_on m least most ranked.rank w
+    (draw_arc m.basin k) v little net ranked.forward (omega arith) (omega (arith, inside, net.ends.nodes)))
+    (w.to (draw_arc m.basin k)) (omega (arith, l, net.ends.nodes)) (omega arith) in
+    record { path = found.0; leads = found.1 }

@@ -14,8 +14,9 @@ use Rattle.circulation.specs.Contents.{Contents, arcs, network, flow_of, held_co
 use Rattle.circulation.specs.Contents.{SameButFlow}
 use Rattle.circulation.specs.Network.{IsFlow, IsTight, IsGreatestCut}
 use Rattle.augment.specs.Raised.{open_arcs, not_reached, CarriesAtMost}
-use Rattle.draw_course.specs.Raising.{IsRaisedDraw, fixed_contents, set_where}
-use Rattle.draw_course.proofs.Marks.{with_twice, set_size, unreached_set}
+use Rattle.draw_course.specs.Raising.{IsRaisedDraw, fixed_contents}
+use Rattle.unreached_sets.specs.Sets.{set_where}
+use Rattle.unreached_sets.proofs.Marks.{with_twice, set_size, unreached_set}
 
 -- no flow is above what an arc may have at most
 pub bounded_small : {c : Contents} (arc : ℕ) → IsCirculation c → arc < arcs c → flow_of c arc ≤ 10 ^ 15

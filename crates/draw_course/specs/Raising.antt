@@ -1,6 +1,5 @@
 -- What raising a draw's arc changes.
 use Rattle.std.specs.Prelude.{◌≡◌, ◌⊎◌, ℕ, ◌+◌, ◌<◌, ◌≤◌, Bool, List, length, map, slice_index, slice_set, Some}
-use Rattle.std.specs.List.{range_with_len}
 use Rattle.water_model.specs.Lookups.{has}
 use Rattle.water_model.specs.CutSets.{CutSets, with_set}
 use Rattle.circulation.specs.Contents.{Contents, network, flow_of, bounded_contents}
@@ -15,10 +14,6 @@ pub record IsHeldFrom (old new : List ℕ) (first : ℕ) (amounts : List ℕ) (c
   pub size : length new ≡ length old
   pub held : (i : ℕ) → i < count → slice_index new (first + i) ≡ slice_index amounts i
   pub others : (a : ℕ) → (a < first) ⊎ (first + count ≤ a) → slice_index new a ≡ slice_index old a
-
--- the set of the nodes below n that pass the test
-abbrev pub set_where : ℕ → (ℕ → Bool) → List Bool
-set_where n y = map y (range_with_len 0 n)
 
 -- the arc is fixed at an amount; besides this only the flow and scratch words changed
 abbrev pub fixed_contents : Contents → Contents → ℕ → ℕ → Contents

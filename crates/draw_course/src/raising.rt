@@ -1,30 +1,16 @@
 //! The turn of one draw in its network.
-ghost use Rattle.std.specs.Prelude.{◌≡◌, ◌+◌, ◌*◌, ◌^◌, ◌<◌, ◌≤◌, length, replicate, false, Some, slice_index, slice_set};
-ghost use Rattle.water_model.specs.CutSets.{set_of, with_set};
+ghost use Rattle.std.specs.Prelude.{◌≡◌, ◌+◌, ◌*◌, ◌^◌, ◌<◌, ◌≤◌, slice_index, slice_set};
 ghost use Rattle.circulation.specs.Contents.{arcs, flow_of, network, bounded_contents, IsCirculation};
-ghost use Rattle.augment.specs.Raised.{HasPathOut, not_reached};
+ghost use Rattle.augment.specs.Raised.{HasPathOut};
 ghost use Rattle.draw_course.specs.Stops.{CanHaveStop};
-ghost use Rattle.draw_course.specs.Raising.{IsRaisedDraw, set_where};
+ghost use Rattle.draw_course.specs.Raising.{IsRaisedDraw};
 
-use augment::{Raised, raise, reached};
+use augment::{Raised, raise};
 use circulation::CirculationMut;
 use std::sync::ledger::Ledger;
 use steps::Steps;
+use unreached_sets::mark;
 use water_model::cut_list::CutList;
-
-/// Adds to a draw's empty set the nodes that the last search did not reach.
-fn mark(circ: &CirculationMut<'_>, draw: u32, stops: &mut CutList)
-    requires draw { draw < length stops.old.sets }
-    requires nodes { stops.old.nodes ≡ circ.now.nodes }
-    requires empty { set_of stops.old draw ≡ Some (replicate stops.old.nodes false) }
-    ensures { stops.new ≡ with_set stops.old draw (Some (set_where circ.now.nodes (not_reached circ.now))) }
-{
-    for node in 0..circ.nodes() {
-        if !reached(circ, node) {
-            stops.add(draw, node);
-        }
-    }
-}
 
 /// Fixes an arc at what it carries, which is the answer.
 fn fix(circ: &mut CirculationMut<'_>, arc: u32) -> u64

@@ -164,7 +164,7 @@ kept_there b c r t delivered given cut strict same served =
 -- In the second basin a right gets no more than in the first, where it is met or has a tight cut, if each of its
 -- seniors there is a right of the second, too, and gets no less: whatever other rights the second basin has.
 pub no_more_there : (b c : Basin) (month : Month) (supply want other delivered given : List ℕ) (q : Plan) (r t : ℕ) →
-    AreStrict b.rights → IsSame b c r t → IsMetOrCut b month supply want delivered r →
+    AreStrict b.rights → IsSame b c r t → IsMetOrCut b (carry_of b month) supply want delivered r →
     slice_index other t ≤ slice_index want r → IsPlan (on_network b c) month supply other q →
     AreDeliveries (on_network b c) other q given → AreServed b c r delivered given →
     slice_index given t ≤ slice_index delivered r
@@ -301,7 +301,7 @@ certified_is : {b : Basin} {month : Month} {supply want delivered : List ℕ} {p
     delivery b want p' r ≡ slice_index delivered r
 certified_is {b} {month} {supply} {want} {delivered} {p} {p'} strict cp gp r l =
     greatest_same b month supply want p' p strict gp
-    (cuts_make_plan_greatest b month supply want delivered p cp.plan cp.deliveries cp.cuts) r l
+    (cuts_make_plan_greatest b (carry_of b month) supply want delivered p cp.plan cp.deliveries cp.cuts) r l
     ∙ sym (cp.deliveries.each r l)
 
 pub greatest_plans_ignore_juniors : GreatestPlansIgnoreJuniors

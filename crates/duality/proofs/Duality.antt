@@ -1,5 +1,5 @@
 -- Weak duality: what a cut allows, over any plan.
-use Rattle.std.proofs.Common.{◌≡◌, ℕ, ◌+◌, ◌<◌, ◌≤◌, Bool, true, refl, ap, arith, List, length}
+use Rattle.std.proofs.Common.{◌≡◌, ℕ, ◌+◌, ◌<◌, ◌≤◌, Bool, true, false, refl, ap, arith, List, length}
 use Rattle.std.proofs.Math.Nat.{le_of_eq}
 use Rattle.std.proofs.lemmas.Bool.{and_parts, and_from}
 use Rattle.std.proofs.lemmas.Bool.Decides.{nat_tests}
@@ -10,7 +10,8 @@ use Rattle.water_model.specs.Lookups.{has}
 use Rattle.water_model.specs.Basin.{taking_node, taking_node_of_kind, instream_link, link_of_kind, is_at, is_on_link}
 use Rattle.water_model.specs.Basin.{is_senior}
 use Rattle.water_model.specs.Plans.{IsFeasible, delivery, delivery_by_link}
-use Rattle.water_model.specs.Cuts.{enters, leaves, takes_within, node_within, kept_on, cut_kept, IsCut, separates}
+use Rattle.water_model.specs.Cuts.{enters, leaves, takes_within, node_within, kept_on, supply_within, cut_capacity}
+use Rattle.water_model.specs.Cuts.{cut_kept, IsCut, separates}
 use Rattle.water_model.specs.declared.types.Basin.{Basin}
 use Rattle.water_model.specs.declared.types.Right.{Right}
 use Rattle.water_model.specs.declared.types.RightKind.{RightKind}
@@ -22,19 +23,23 @@ use Rattle.duality.proofs.CutBalance.{cut_balance}
 use Rattle.water_model.proofs.Seniority.{not_senior_to_itself}
 
 -- a right that takes at a node is on no link
-pub taking_on_no_link : (b : Basin) (cut : List Bool) (r : ℕ) → takes_within b cut r ≡ true → instream_link b r ≡ None
-taking_on_no_link b cut r = of_get (slice_get b.rights r)
+pub taker_on_no_link : (b : Basin) (p : Option ℕ → Bool) (r : ℕ) → p None ≡ false → p (taking_node b r) ≡ true →
+    instream_link b r ≡ None
+taker_on_no_link b p r none = of_get (slice_get b.rights r)
   where
-    of_kind : (k : RightKind) → node_within (taking_node_of_kind b k) cut ≡ true → link_of_kind k ≡ None
+    of_kind : (k : RightKind) → p (taking_node_of_kind b k) ≡ true → link_of_kind k ≡ None
     of_kind (Diversion node) h = refl
     of_kind (Instream link) h = cc
     of_kind (Zone reservoir level) h = refl
 
     of_get : (o : Option Right) →
-        node_within (unwrap_or (option_map (λ x. taking_node_of_kind b x.kind) o) None) cut ≡ true →
+        p (unwrap_or (option_map (λ x. taking_node_of_kind b x.kind) o) None) ≡ true →
         unwrap_or (option_map (λ x. link_of_kind x.kind) o) None ≡ None
-    of_get None h = cc
+    of_get None h = refl
     of_get (Some x) h = of_kind x.kind h
+
+pub taking_on_no_link : (b : Basin) (cut : List Bool) (r : ℕ) → takes_within b cut r ≡ true → instream_link b r ≡ None
+taking_on_no_link b cut r h = taker_on_no_link b (λ o. node_within o cut) r refl h
 
 -- what a right is delivered is at most its take, or the flow on its link
 pub delivery_by_take : (b : Basin) (want : List ℕ) (q : Plan) (s : ℕ) → instream_link b s ≡ None →
@@ -79,12 +84,6 @@ own_part b want q r cut l is_cut =
               link (grind (arith, nat_tests)) (and_from _ _ crosses.1 on_link),
         )
 
--- the most that can come into a set under some carries
-abbrev pub capacity_within : Basin → (ℕ → ℕ) → List ℕ → List Bool → ℕ
-capacity_within b carry supply cut =
-    total_where (length b.nodes) (λ n. has cut n) (λ n. slice_index supply n)
-    + total_where (length b.links) (λ e. enters b cut e) carry
-
 -- what a cut allows: the right's delivery, what is kept for its seniors, the takes of its juniors and the outflow come
 -- in
 pub cut_slack : (b : Basin) (carry : ℕ → ℕ) (supply delivered : List ℕ) (r : ℕ) (cut : List Bool)
@@ -94,8 +93,7 @@ pub cut_slack : (b : Basin) (carry : ℕ → ℕ) (supply delivered : List ℕ) 
     delivery b want' q r + cut_kept b delivered r cut
     + total_where (length b.rights) (λ s. (takes_within b cut s && not (s == r)) && not (is_senior b s r))
     (λ s. slice_index q.take s)
-    + total_where (length b.nodes) (λ n. has cut n) (λ n. slice_index q.out n)
-    ≤ capacity_within b carry supply cut
+    + supply_within b q.out cut ≤ cut_capacity b carry supply cut
 cut_slack b carry supply delivered r cut supply' want' q l is_cut plan agree keeps =
     omega (
       arith,

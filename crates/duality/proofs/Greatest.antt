@@ -9,21 +9,20 @@ use Rattle.std.specs.Prelude.{◌==◌, slice_index, ◌&&◌, not, Option, Some
 use Rattle.finite_sums.specs.Sums.{total_where}
 use Rattle.water_model.specs.Lookups.{has}
 use Rattle.water_model.specs.Basin.{is_senior, instream_link}
-use Rattle.water_model.specs.Plans.{IsPlan, IsFeasible, IsGreatest, IsLexGreatest, DeliversSame, DeliversMore, delivery}
+use Rattle.water_model.specs.Plans.{IsFeasible, IsGreatest, IsLexGreatest, DeliversSame, DeliversMore, delivery}
 use Rattle.water_model.specs.Plans.{delivery_by_link, carry_of}
-use Rattle.water_model.specs.Cuts.{IsCut, cut_kept, cut_capacity, takes_within}
+use Rattle.water_model.specs.Cuts.{supply_within, cut_kept, cut_capacity, takes_within}
 use Rattle.water_model.specs.History.{Follows}
 use Rattle.duality.specs.Laws.{CutBounds, CutsMakeGreatest, CutsLetNobodyGetMore}
 use Rattle.duality.specs.Laws.{TightCutLeavesNothing, GreatestPlansDeliverSame, ReachIsUnique, AreDeliveries}
 use Rattle.duality.specs.Laws.{TightMeansBound, IsMetOrCut}
-use Rattle.water_text.specs.declared.month.Month.{Month}
 use Rattle.water_model.specs.declared.types.Basin.{Basin}
 use Rattle.water_model.specs.declared.types.Inflows.{Inflows}
 use Rattle.water_model.specs.declared.types.MonthRecord.{MonthRecord}
 use Rattle.water_model.specs.declared.types.Plan.{Plan}
 use Rattle.finite_sums.proofs.Totals.{total_where_none}
 use Rattle.water_model.proofs.Sets.{has_below}
-use Rattle.duality.proofs.Duality.{cut_slack, capacity_within}
+use Rattle.duality.proofs.Duality.{cut_slack}
 use Rattle.water_model.proofs.Seniority.{not_senior_to_itself, first_where, IsFirst, senior_trans, senior_total}
 
 pub cut_bounds : CutBounds
@@ -49,8 +48,7 @@ tight_leaves_nothing b month supply want delivered p r cut l plan are tight = re
     slack : delivery b want p r + cut_kept b delivered r cut
         + total_where (length b.rights) (λ s. (takes_within b cut s && not (s == r)) && not (is_senior b s r))
         (λ s. slice_index p.take s)
-        + total_where (length b.nodes) (λ n. has cut n) (λ n. slice_index p.out n)
-        ≤ cut_capacity b month supply cut
+        + supply_within b p.out cut ≤ cut_capacity b (carry_of b month) supply cut
     slack = cut_slack b (carry_of b month) supply delivered r cut supply want p l tight.is_cut plan (λ n k h. refl)
         (λ s k h. le_of_eq (are.each s k))
 
@@ -58,7 +56,7 @@ tight_leaves_nothing b month supply want delivered p r cut l plan are tight = re
         (λ s. slice_index p.take s) ≡ 0
     none_taken = omega (arith, slack, tight.tight, are.each r l)
 
-    none_out : total_where (length b.nodes) (λ n. has cut n) (λ n. slice_index p.out n) ≡ 0
+    none_out : supply_within b p.out cut ≡ 0
     none_out = omega (arith, slack, tight.tight, are.each r l)
 
 -- a plan delivers no more than the want
@@ -70,24 +68,9 @@ delivery_le_want b carry supply want q r l plan = of_link (instream_link b r)
     of_link None = plan.wants r l
     of_link (Some link) = omega arith
 
--- a cut whose bound under some carries is what its right is delivered: a tight one, where these are a month's
-pub record IsFull (b : Basin) (carry : ℕ → ℕ) (supply delivered : List ℕ) (r : ℕ) (cut : List Bool) : Type 0 where
-  pub is_cut : IsCut b r cut
-  pub full : capacity_within b carry supply cut ≡ slice_index delivered r + cut_kept b delivered r cut
-
-abbrev pub IsMetOrFull : Basin → (ℕ → ℕ) → List ℕ → List ℕ → List ℕ → ℕ → Type 0
-IsMetOrFull b carry supply want delivered r =
-    (slice_index want r ≤ slice_index delivered r) ⊎ ((cut : List Bool) × IsFull b carry supply delivered r cut)
-
-pub met_or_full : (b : Basin) (month : Month) (supply want delivered : List ℕ) (r : ℕ) →
-    IsMetOrCut b month supply want delivered r → IsMetOrFull b (carry_of b month) supply want delivered r
-met_or_full b month supply want delivered r (inl met) = inl met
-met_or_full b month supply want delivered r (inr cut) =
-    inr (cut.0, record { is_cut = cut.1.is_cut; full = cut.1.tight })
-
--- what a right is delivered that is met or has such a cut is the most that any plan can that serves its seniors as well
+-- what a right is delivered that is met or has a tight cut is the most that any plan can that serves its seniors as well
 pub gives_most : (b : Basin) (carry : ℕ → ℕ) (supply want delivered : List ℕ) (q : Plan) (r : ℕ) →
-    r < length b.rights → IsFeasible b carry supply want q → IsMetOrFull b carry supply want delivered r →
+    r < length b.rights → IsFeasible b carry supply want q → IsMetOrCut b carry supply want delivered r →
     ((s : ℕ) → s < length b.rights → is_senior b s r ≡ true → slice_index delivered s ≤ delivery b want q s) →
     delivery b want q r ≤ slice_index delivered r
 gives_most b carry supply want delivered q r l plan (inl met) serves =
@@ -95,16 +78,16 @@ gives_most b carry supply want delivered q r l plan (inl met) serves =
 gives_most b carry supply want delivered q r l plan (inr cut) serves =
     omega (
       arith,
-      cut.1.full,
+      cut.1.tight,
       cut_slack b carry supply delivered r cut.0 supply want q l cut.1.is_cut plan (λ n k h. refl) serves,
     )
 
--- a plan in which each right is met or has such a cut is greatest
-pub full_make_greatest : (b : Basin) (carry : ℕ → ℕ) (supply want delivered : List ℕ) (p : Plan) →
+-- a plan in which each right is met or has a tight cut is greatest
+pub cuts_make_plan_greatest : (b : Basin) (carry : ℕ → ℕ) (supply want delivered : List ℕ) (p : Plan) →
     IsFeasible b carry supply want p → AreDeliveries b want p delivered →
-    ((r : ℕ) → r < length b.rights → IsMetOrFull b carry supply want delivered r) →
+    ((r : ℕ) → r < length b.rights → IsMetOrCut b carry supply want delivered r) →
     IsLexGreatest b carry supply want p
-full_make_greatest b carry supply want delivered p plan are full = record { plan = plan; greatest = compare }
+cuts_make_plan_greatest b carry supply want delivered p plan are cuts = record { plan = plan; greatest = compare }
   where
     equal : (x y : ℕ) → not (x == y) ≡ false → x ≡ y
     equal x y h = grind (arith, nat_tests)
@@ -128,7 +111,7 @@ full_make_greatest b carry supply want delivered p plan are full = record { plan
                 arith,
                 are.each r first.below,
                 gives_most b carry supply want delivered q r first.below other
-                    (full r first.below) (λ s k h. le_of_eq (are.each s k ∙ seniors s k h)),
+                    (cuts r first.below) (λ s k h. le_of_eq (are.each s k ∙ seniors s k h)),
               ));
           same_to_seniors = seniors;
         }
@@ -136,16 +119,10 @@ full_make_greatest b carry supply want delivered p plan are full = record { plan
             seniors : (s : ℕ) → s < length b.rights → is_senior b s r ≡ true → delivery b want p s ≡ delivery b want q s
             seniors s k h = equal (delivery b want p s) (delivery b want q s) (first.none_senior s k h)
 
-pub cuts_make_plan_greatest : (b : Basin) (month : Month) (supply want delivered : List ℕ) (p : Plan) →
-    IsPlan b month supply want p → AreDeliveries b want p delivered →
-    ((r : ℕ) → r < length b.rights → IsMetOrCut b month supply want delivered r) → IsGreatest b month supply want p
-cuts_make_plan_greatest b month supply want delivered p plan are cuts =
-    full_make_greatest b (carry_of b month) supply want delivered p plan are
-    (λ r l. met_or_full b month supply want delivered r (cuts r l))
-
 -- in a record each right is met or has a tight cut
 pub met_or_cut : (b : Basin) (series : Inflows) (before : List MonthRecord) (m : MonthRecord) →
-    Follows b series before m → (r : ℕ) → r < length b.rights → IsMetOrCut b m.month m.supply m.want m.delivered r
+    Follows b series before m → (r : ℕ) → r < length b.rights →
+    IsMetOrCut b (carry_of b m.month) m.supply m.want m.delivered r
 met_or_cut b series before m follows r l = elim (cases_lt (slice_index m.delivered r) (slice_index m.want r)) [
   | inl short ↦ let cut = follows.short r l short in inr (cut.0, cut.2)
   | inr met ↦ inl met
@@ -154,7 +131,7 @@ met_or_cut b series before m follows r l = elim (cases_lt (slice_index m.deliver
 pub record_is_greatest : (b : Basin) (series : Inflows) (before : List MonthRecord) (m : MonthRecord) →
     Follows b series before m → IsGreatest b m.month m.supply m.want m.plan
 record_is_greatest b series before m follows =
-    cuts_make_plan_greatest b m.month m.supply m.want m.delivered m.plan follows.after.plan
+    cuts_make_plan_greatest b (carry_of b m.month) m.supply m.want m.delivered m.plan follows.after.plan
     (record { each = follows.after.delivered }) (met_or_cut b series before m follows)
 
 pub cuts_make_greatest : CutsMakeGreatest
@@ -214,5 +191,4 @@ tight_bound b month supply delivered r cut = (
 pub cuts_let_nobody_get_more : CutsLetNobodyGetMore
 cuts_let_nobody_get_more b series records history i m at q plan r l serves =
     gives_most b (carry_of b m.month) m.supply m.want m.delivered q r l plan
-    (met_or_full b m.month m.supply m.want m.delivered r
-    (met_or_cut b series (take i records) m (history.each i m at) r l)) serves.each
+    (met_or_cut b series (take i records) m (history.each i m at) r l) serves.each

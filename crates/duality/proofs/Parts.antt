@@ -13,17 +13,16 @@ use Rattle.water_model.specs.Lookups.{has}
 use Rattle.water_model.specs.Basin.{head_of, tail_of, takes_at, instream_link, is_on_link, is_senior}
 use Rattle.water_model.specs.Plans.{IsFeasible, delivery, delivery_by_link, carry_of, inflow_to, outflow_from, taken_at}
 use Rattle.duality.specs.Parts.{times, in_parts}
-use Rattle.water_model.specs.Cuts.{cut_kept, kept_on, enters, leaves, takes_within}
+use Rattle.water_model.specs.Cuts.{IsTightWithin, cut_capacity, cut_kept, kept_on, enters, leaves, takes_within}
 use Rattle.water_model.specs.History.{Follows}
-use Rattle.duality.specs.Laws.{NoFractionHelps, WholeUnitsAreGreatest, OnePartIsUnit, AreDeliveries}
+use Rattle.duality.specs.Laws.{NoFractionHelps, WholeUnitsAreGreatest, OnePartIsUnit, AreDeliveries, IsMetOrCut}
 use Rattle.water_model.specs.declared.types.Basin.{Basin}
 use Rattle.water_model.specs.declared.types.Inflows.{Inflows}
 use Rattle.water_model.specs.declared.types.MonthRecord.{MonthRecord}
 use Rattle.water_model.specs.declared.types.Plan.{Plan}
 use Rattle.water_model.proofs.Sets.{total_where_same}
 use Rattle.duality.proofs.Stays.{greatest_same_terms}
-use Rattle.duality.proofs.Duality.{capacity_within}
-use Rattle.duality.proofs.Greatest.{IsFull, IsMetOrFull, met_or_full, met_or_cut, gives_most, full_make_greatest}
+use Rattle.duality.proofs.Greatest.{met_or_cut, gives_most, cuts_make_plan_greatest}
 
 -- ---- numbers, sums and greatest values
 
@@ -53,7 +52,7 @@ unfolding total
 total_times zero k f = sym (mul-zero k)
 total_times (suc n) k f = omega (arith, total_times n k f, mul-add k (total n f) (f n))
 
-total_where_times : (n k : ℕ) (p : ℕ → Bool) (f : ℕ → ℕ) → total_where n p (λ j. k * f j) ≡ k * total_where n p f
+pub total_where_times : (n k : ℕ) (p : ℕ → Bool) (f : ℕ → ℕ) → total_where n p (λ j. k * f j) ≡ k * total_where n p f
 total_where_times n k p f =
     total_same _ _ _ (λ j l. term_times k (p j) (f j)) ∙ total_times n k (λ j. if p j then f j else 0)
 
@@ -65,7 +64,7 @@ greatest_times (suc n) k p f =
     ∙ max_times k (greatest_where n p f) (if p n then f n else 0)
 
 -- a sum over amounts of a list
-sum_times : (n k : ℕ) (p : ℕ → Bool) (xs : List ℕ) →
+pub sum_times : (n k : ℕ) (p : ℕ → Bool) (xs : List ℕ) →
     total_where n p (λ j. slice_index (times k xs) j) ≡ k * total_where n p (λ j. slice_index xs j)
 sum_times n k p xs =
     total_where_same n p _ _ (λ j l. times_at k xs j) ∙ total_where_times n k p (λ j. slice_index xs j)
@@ -81,43 +80,66 @@ kept_on_times b k delivered r e =
 kept_times : (b : Basin) (k : ℕ) (delivered : List ℕ) (r : ℕ) (cut : List Bool) →
     cut_kept b (times k delivered) r cut ≡ k * cut_kept b delivered r cut
 kept_times b k delivered r cut =
-    ap₂ ◌+◌
-    (total_where_same (length b.links) (λ e. leaves b cut e && not (is_on_link b r e))
-    (λ e. kept_on b (times k delivered) r e) (λ e. k * kept_on b delivered r e)
-    (λ e l. kept_on_times b k delivered r e)
-    ∙ total_where_times (length b.links) k (λ e. leaves b cut e && not (is_on_link b r e))
-    (λ e. kept_on b delivered r e))
-    (sum_times (length b.rights) k (λ s. takes_within b cut s && is_senior b s r) delivered)
-    ∙ sym (mul-add k _ _)
+    omega (
+      arith,
+      total_where_same (length b.links) (λ e. leaves b cut e && not (is_on_link b r e))
+          (λ e. kept_on b (times k delivered) r e) (λ e. k * kept_on b delivered r e)
+          (λ e l. kept_on_times b k delivered r e),
+      total_where_times (length b.links) k (λ e. leaves b cut e && not (is_on_link b r e)) (kept_on b delivered r),
+      sum_times (length b.rights) k (λ s. takes_within b cut s && is_senior b s r) delivered,
+    )
 
-capacity_times : (b : Basin) (k : ℕ) (carry : ℕ → ℕ) (supply : List ℕ) (cut : List Bool) →
-    capacity_within b (λ e. k * carry e) (times k supply) cut ≡ k * capacity_within b carry supply cut
+pub capacity_times : (b : Basin) (k : ℕ) (carry : ℕ → ℕ) (supply : List ℕ) (cut : List Bool) →
+    cut_capacity b (λ e. k * carry e) (times k supply) cut ≡ k * cut_capacity b carry supply cut
 capacity_times b k carry supply cut =
-    ap₂ ◌+◌ (sum_times (length b.nodes) k (λ n. has cut n) supply)
-    (total_where_times (length b.links) k (λ e. enters b cut e) carry)
-    ∙ sym (mul-add k _ _)
+    omega (
+      arith,
+      sum_times (length b.nodes) k (λ n. has cut n) supply,
+      total_where_times (length b.links) k (λ e. enters b cut e) carry,
+    )
 
--- a cut that is full is so k-fold
-full_times : (b : Basin) (k : ℕ) (carry : ℕ → ℕ) (supply delivered : List ℕ) (r : ℕ) (cut : List Bool) →
-    IsFull b carry supply delivered r cut →
-    IsFull b (λ e. k * carry e) (times k supply) (times k delivered) r cut
-full_times b k carry supply delivered r cut full = record {
-  is_cut = full.is_cut;
-  full = capacity_times b k carry supply cut
-      ∙ (ap (λ x. k * x) full.full
-      ∙ (mul-add k (slice_index delivered r) (cut_kept b delivered r cut)
-      ∙ sym (ap₂ ◌+◌ (times_at k delivered r) (kept_times b k delivered r cut))));
+-- a cut that is tight is so k-fold
+tight_times : (b : Basin) (k : ℕ) (carry : ℕ → ℕ) (supply delivered : List ℕ) (r : ℕ) (cut : List Bool) →
+    IsTightWithin b carry supply delivered r cut →
+    IsTightWithin b (λ e. k * carry e) (times k supply) (times k delivered) r cut
+tight_times b k carry supply delivered r cut tight = record {
+  is_cut = tight.is_cut;
+  tight = omega (
+    arith,
+    capacity_times b k carry supply cut,
+    ap (λ x. k * x) tight.tight,
+    times_at k delivered r,
+    kept_times b k delivered r cut,
+  );
 }
 
-met_or_full_times : (b : Basin) (k : ℕ) (carry : ℕ → ℕ) (supply want delivered : List ℕ) (r : ℕ) →
-    IsMetOrFull b carry supply want delivered r →
-    IsMetOrFull b (λ e. k * carry e) (times k supply) (times k want) (times k delivered) r
-met_or_full_times b k carry supply want delivered r (inl met) =
+met_or_cut_times : (b : Basin) (k : ℕ) (carry : ℕ → ℕ) (supply want delivered : List ℕ) (r : ℕ) →
+    IsMetOrCut b carry supply want delivered r →
+    IsMetOrCut b (λ e. k * carry e) (times k supply) (times k want) (times k delivered) r
+met_or_cut_times b k carry supply want delivered r (inl met) =
     inl (omega (arith, times_at k want r, times_at k delivered r, mul-le-mul_left k met))
-met_or_full_times b k carry supply want delivered r (inr cut) =
-    inr (cut.0, full_times b k carry supply delivered r cut.0 cut.1)
+met_or_cut_times b k carry supply want delivered r (inr cut) =
+    inr (cut.0, tight_times b k carry supply delivered r cut.0 cut.1)
 
 -- ---- plans
+
+pub none_times : (k : ℕ) (xs : List ℕ) (n : ℕ) → slice_index xs n ≡ 0 → slice_index (times k xs) n ≡ 0
+none_times k xs n none = times_at k xs n ∙ (ap (λ x. k * x) none ∙ mul-zero k)
+
+-- the water at a node, where `taken` is what is taken there
+pub balance_times : (b : Basin) (k : ℕ) (supply flow out : List ℕ) (n taken taken' : ℕ) → taken' ≡ k * taken →
+    slice_index supply n + inflow_to b flow n ≡ outflow_from b flow n + taken + slice_index out n →
+    slice_index (times k supply) n + inflow_to b (times k flow) n
+    ≡ outflow_from b (times k flow) n + taken' + slice_index (times k out) n
+balance_times b k supply flow out n taken taken' takes balance =
+    omega (
+      arith,
+      times_at k supply n,
+      sum_times (length b.links) k (λ e. head_of b e == n) flow,
+      ap (λ x. k * x) balance,
+      sum_times (length b.links) k (λ e. tail_of b e == n) flow,
+      times_at k out n,
+    )
 
 feasible_times : (b : Basin) (k : ℕ) (carry : ℕ → ℕ) (supply want : List ℕ) (p : Plan) →
     IsFeasible b carry supply want p →
@@ -128,22 +150,11 @@ feasible_times b k carry supply want p plan = record {
   out_len = length-map p.out (λ x. k * x) ∙ plan.out_len;
   carries = λ e l. omega (arith, times_at k p.flow e, mul-le-mul_left k (plan.carries e l));
   wants = λ r l. omega (arith, times_at k p.take r, times_at k want r, mul-le-mul_left k (plan.wants r l));
-  instream = λ r l on. nothing (slice_index p.take r) (plan.instream r l on) (times_at k p.take r);
-  outlets = λ n l inner. nothing (slice_index p.out n) (plan.outlets n l inner) (times_at k p.out n);
-  balance = λ n l.
-      ap₂ ◌+◌ (times_at k supply n) (sum_times (length b.links) k (λ e. head_of b e == n) p.flow)
-      ∙ (sym (mul-add k (slice_index supply n) (inflow_to b p.flow n))
-      ∙ (ap (λ x. k * x) (plan.balance n l)
-      ∙ (mul-add k (outflow_from b p.flow n + taken_at b p.take n) (slice_index p.out n)
-      ∙ ap₂ ◌+◌
-      (mul-add k (outflow_from b p.flow n) (taken_at b p.take n)
-      ∙ sym (ap₂ ◌+◌ (sum_times (length b.links) k (λ e. tail_of b e == n) p.flow)
-      (sum_times (length b.rights) k (λ r. takes_at b r n) p.take)))
-      (sym (times_at k p.out n)))));
+  instream = λ r l on. none_times k p.take r (plan.instream r l on);
+  outlets = λ n l inner. none_times k p.out n (plan.outlets n l inner);
+  balance = λ n l. balance_times b k supply p.flow p.out n (taken_at b p.take n) (taken_at b (times k p.take) n)
+      (sum_times (length b.rights) k (λ r. takes_at b r n) p.take) (plan.balance n l);
 }
-  where
-    nothing : {x : ℕ} (y : ℕ) → y ≡ 0 → x ≡ k * y → x ≡ 0
-    nothing y none is = is ∙ (ap (λ z. k * z) none ∙ mul-zero k)
 
 delivery_times : (b : Basin) (k : ℕ) (want : List ℕ) (p : Plan) (r : ℕ) →
     delivery b (times k want) (in_parts k p) r ≡ k * delivery b want p r
@@ -165,13 +176,12 @@ deliveries_times b k want p delivered are = record {
 
 -- ---- the laws
 
--- in a record each right is met or has a full cut, k-fold
+-- in a record each right is met or has a tight cut, k-fold
 in_record : (b : Basin) (series : Inflows) (before : List MonthRecord) (m : MonthRecord) → Follows b series before m →
     (k r : ℕ) → r < length b.rights →
-    IsMetOrFull b (λ e. k * carry_of b m.month e) (times k m.supply) (times k m.want) (times k m.delivered) r
+    IsMetOrCut b (λ e. k * carry_of b m.month e) (times k m.supply) (times k m.want) (times k m.delivered) r
 in_record b series before m follows k r l =
-    met_or_full_times b k (carry_of b m.month) m.supply m.want m.delivered r
-    (met_or_full b m.month m.supply m.want m.delivered r (met_or_cut b series before m follows r l))
+    met_or_cut_times b k (carry_of b m.month) m.supply m.want m.delivered r (met_or_cut b series before m follows r l)
 
 pub no_fraction_helps : NoFractionHelps
 no_fraction_helps b series records history i m at k q plan r l serves =
@@ -184,7 +194,7 @@ no_fraction_helps b series records history i m at k q plan r l serves =
 
 pub whole_units_are_greatest : WholeUnitsAreGreatest
 whole_units_are_greatest b series records history i m at k = (
-  full_make_greatest b (λ e. k * carry_of b m.month e) (times k m.supply) (times k m.want) (times k m.delivered)
+  cuts_make_plan_greatest b (λ e. k * carry_of b m.month e) (times k m.supply) (times k m.want) (times k m.delivered)
       (in_parts k m.plan) (feasible_times b k (carry_of b m.month) m.supply m.want m.plan follows.after.plan)
       deliveries (in_record b series (take i records) m follows k),
   deliveries,

@@ -1,7 +1,7 @@
 -- What two basins have in common for a right, and plans that are shown to be greatest by cuts.
 use Rattle.std.specs.Prelude.{◌≡◌, ℕ, ◌<◌, List, length, slice_get, slice_index, IsTrue, ◌⊎◌}
 use Rattle.water_model.specs.Basin.{is_senior, HasStrictPriority}
-use Rattle.water_model.specs.Plans.{IsPlan, IsGreatest, delivery}
+use Rattle.water_model.specs.Plans.{IsPlan, IsGreatest, delivery, carry_of}
 use Rattle.duality.specs.Laws.{AreDeliveries, IsMetOrCut}
 use Rattle.water_text.specs.declared.month.Month.{Month}
 use Rattle.water_model.specs.declared.types.Basin.{Basin}
@@ -29,7 +29,7 @@ pub record HasSameSeniors (first second : Basin) (at : ℕ → ℕ) (right : ℕ
 pub record IsCertified (b : Basin) (month : Month) (supply want delivered : List ℕ) (p : Plan) : Type 0 where
   pub plan : IsPlan b month supply want p
   pub deliveries : AreDeliveries b want p delivered
-  pub cuts : (r : ℕ) → r < length b.rights → IsMetOrCut b month supply want delivered r
+  pub cuts : (r : ℕ) → r < length b.rights → IsMetOrCut b (carry_of b month) supply want delivered r
 
 -- the right and its seniors want the same in both basins
 pub record WantSame (first : Basin) (at : ℕ → ℕ) (right : ℕ) (want other : List ℕ) : Type 0 where

@@ -5,7 +5,7 @@ use Rattle.water_model.specs.Lookups.{has}
 use Rattle.water_model.specs.Basin.{is_senior, HasStrictPriority}
 use Rattle.water_model.specs.Plans.{IsPlan, IsGreatest, DeliversSame, delivery}
 use Rattle.duality.specs.Parts.{times, in_parts, IsPlanInParts, IsGreatestInParts}
-use Rattle.water_model.specs.Cuts.{IsCut, IsTight, IsReach, cut_bound, takes_within}
+use Rattle.water_model.specs.Cuts.{IsCut, IsTightWithin, IsTight, IsReach, cut_bound, takes_within}
 use Rattle.water_model.specs.History.{IsPartialHistory, calls, cut_of}
 use Rattle.water_model.specs.Valid.{IsValidBasin}
 use Rattle.water_text.specs.declared.month.Month.{Month}
@@ -165,7 +165,7 @@ TightStays =
     IsTight b month supply before right cut → IsTight b month supply after right cut
 
 -- a right is met, or has a tight cut
-abbrev pub IsMetOrCut : Basin → Month → List ℕ → List ℕ → List ℕ → ℕ → Type 0
-IsMetOrCut b month supply want delivered right =
+abbrev pub IsMetOrCut : Basin → (ℕ → ℕ) → List ℕ → List ℕ → List ℕ → ℕ → Type 0
+IsMetOrCut b carry supply want delivered right =
     (slice_index want right ≤ slice_index delivered right)
-    ⊎ ((cut : List Bool) × IsTight b month supply delivered right cut)
+    ⊎ ((cut : List Bool) × IsTightWithin b carry supply delivered right cut)

@@ -8,7 +8,6 @@ ghost use Rattle.duality.specs.Laws.{NoFractionHelps, WholeUnitsAreGreatest, One
 ghost use Rattle.duality.specs.Alike.{JuniorsChangeNothing, GreatestPlansIgnoreJuniors};
 
 /// A cut bounds what its right can be delivered.
-#[tactic(auto, using(crate::proofs::Greatest::cut_bounds))]
 pub fn cut_bounds()
     ensures { CutBounds }
 {}

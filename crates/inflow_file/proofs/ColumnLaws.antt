@@ -1,21 +1,17 @@
 -- The indices of columns, and which of them are gauges and wants.
-use Rattle.std.proofs.Common.{◌≡◌, ℕ, zero, suc, ◌+◌, ◌-◌, ◌<◌, ◌≤◌, Bool, true, false, refl, sym, ap, ◌∙◌, arith, List}
-use Rattle.std.proofs.Common.{[], ◌∷◌, ◌++◌, length, get_or, slice_index, filter, if◌then◌else◌, inl, inr, add-one}
-use Rattle.std.proofs.Common.{zero-add}
-use Rattle.std.proofs.lemmas.Bool.{cases_lt, lt-ltb, le-ltb}
-use Rattle.std.proofs.lemmas.List.{get_or_append_left, get_or_push, length-append, get_or_at}
-use Rattle.std.proofs.lemmas.List.Elements.{filter-append, filter_agree}
+use Rattle.inflow_file.proofs.Words.{◌≡◌, ℕ, zero, suc, ◌+◌, ◌-◌, ◌<◌, ◌≤◌, Bool, true, false, refl, sym, ap, ◌∙◌}
+use Rattle.inflow_file.proofs.Words.{arith, List, [], ◌∷◌, ◌++◌, length, get_or, slice_index, filter, if◌then◌else◌}
+use Rattle.inflow_file.proofs.Words.{inl, inr, add-one, zero-add, cases_lt, lt-ltb, le-ltb, get_or_append_left}
+use Rattle.inflow_file.proofs.Words.{get_or_push, length-append, get_or_at, filter-append, filter_agree}
+use Rattle.inflow_file.proofs.Words.{get_or_from_slice_get, index_is, filter_short, Basin, IsColumn, column_numbers}
+use Rattle.inflow_file.proofs.Words.{count_of_both, is_column, right_number, columns_from}
 use Rattle.std.proofs.lemmas.List.Kept.{IsStrictlyIncreasing-filter, AllPairs-from_increasing}
-use Rattle.std.proofs.lemmas.Option.{get_or_from_slice_get}
 use Rattle.std.specs.List.Sorted.{IsStrictlyIncreasing}
 use Rattle.water_model.proofs.Lists.{numbers_more}
-use Rattle.water_model.proofs.Gauges.{index_is, filter_short}
 use Rattle.water_model.proofs.Order.{numbers_from-get, length-numbers_from}
 use Rattle.water_model.specs.Hydrology.{index_in}
 use Rattle.water_model.specs.Indices.{numbers_from}
 use Rattle.water_model.specs.Valid.{is_gauged, gauged_nodes, is_in_series, rights_in_series}
-use Rattle.water_model.specs.declared.types.Basin.{Basin}
-use Rattle.inflow_file.specs.Columns.{IsColumn, column_numbers, count_of_both, is_column, right_number, columns_from}
 
 -- how many of the numbers below another pass a test
 abbrev pub passed_below : (ℕ → Bool) → ℕ → ℕ
@@ -35,18 +31,15 @@ unfolding numbers_from
 numbers_parted from zero c = let start : from ≡ from + zero = omega arith in
     rw zero-add (ap (λ k. numbers_from k c) start)
 numbers_parted from (suc a) c =
-    let more : suc a + c ≡ suc (a + c) = omega arith in
-    let on : suc from + a ≡ from + suc a = omega arith in
+    let more : suc a + c ≡ suc (a + c) = omega arith in let on : suc from + a ≡ from + suc a = omega arith in
     rw more (ap (λ ns. from ∷ ns)
     (numbers_parted (suc from) a c ∙ ap (λ k. numbers_from (suc from) a ++ numbers_from k c) on))
 
 -- those that pass rise
 passed_rise : (p : ℕ → Bool) (n : ℕ) → IsStrictlyIncreasing (filter p (numbers_from 0 n))
 passed_rise p n = IsStrictlyIncreasing-filter p (numbers_from 0 n) (λ k l.
-    let within : k + 1 < n = omega (arith, length-numbers_from 0 n) in
-    let here = read k (omega arith) in
-    let next = read (k + 1) within in
-    omega arith)
+    let within : k + 1 < n = omega (arith, length-numbers_from 0 n) in let here = read k (omega arith) in
+    let next = read (k + 1) within in omega arith)
   where
     read : (k : ℕ) → k < n → get_or (numbers_from 0 n) k 0 ≡ k
     read k l = get_or_from_slice_get (numbers_from 0 n) k k 0 (numbers_from-get 0 n k k l (omega arith))
@@ -63,11 +56,9 @@ stands : (p : ℕ → Bool) (count x : ℕ) → x < count → p x ≡ true →
     (passed_below p x < passed_below p count) × (get_or (filter p (numbers_from 0 count)) (passed_below p x) 0 ≡ x)
 unfolding numbers_from
 stands p count x l h =
-    let rest : ℕ = count - suc x in
-    let all : count ≡ x + suc rest = omega arith in
-    let parted : filter p (numbers_from 0 count) ≡ filter p (numbers_from 0 x) ++ x ∷ filter p
-    (numbers_from (suc x) rest) =
-    ap (λ n. filter p (numbers_from 0 n)) all ∙ ap (filter p) (numbers_parted 0 x (suc rest))
+    let rest : ℕ = count - suc x in let all : count ≡ x + suc rest = omega arith in
+    let parted : filter p (numbers_from 0 count) ≡ filter p (numbers_from 0 x) ++ x ∷ filter p (numbers_from
+    (suc x) rest) = ap (λ n. filter p (numbers_from 0 n)) all ∙ ap (filter p) (numbers_parted 0 x (suc rest))
     ∙ filter-append p (numbers_from 0 x) (numbers_from (0 + x) (suc rest)) ∙ rw (zero-add, h) refl in
     rw parted (
       omega (arith, length-append (filter p (numbers_from 0 x)) (x ∷ filter p (numbers_from (suc x) rest))),
@@ -92,9 +83,8 @@ none_below p = refl
 
 -- the indices of one more number
 pub index_added : (p : ℕ → Bool) (indices : List ℕ) (passing : List ℕ) (n k : ℕ) → length indices ≡ n →
-    passing ≡ filter p (numbers_from 0 n) →
-    ((m : ℕ) → m < n → slice_index indices m ≡ passed_below p m) → k < n + 1 →
-    slice_index (indices ++ length passing ∷ []) k ≡ passed_below p k
+    passing ≡ filter p (numbers_from 0 n) → ((m : ℕ) → m < n → slice_index indices m ≡ passed_below p m) →
+    k < n + 1 → slice_index (indices ++ length passing ∷ []) k ≡ passed_below p k
 index_added p indices passing n k count is each l =
     elim (cases_lt k n) [
       | inl below ↦ get_or_append_left indices (length passing ∷ []) 0 k (omega arith) ∙ each k below
@@ -154,16 +144,13 @@ wants_are b = filter_agree _ _ (λ k. want_column b k) (numbers_from 0 (length b
 pub ruleset filters = (filter_next, none_below)
 
 -- the columns below the number of a right: all gauges, and the wants before it
-below_right : (b : Basin) (right : ℕ) →
-    length (filter (λ n. is_column b n) (numbers_from 0 (right_number b right)))
+below_right : (b : Basin) (right : ℕ) → length (filter (λ n. is_column b n) (numbers_from 0 (right_number b right)))
     ≡ length (gauged_nodes b) + length (filter (λ r. is_in_series b r) (numbers_from 0 right))
 below_right b right =
     let parted : filter (λ n. is_column b n) (numbers_from 0 (length b.nodes + right))
-    ≡ filter (λ n. is_column b n) (numbers_from 0 (length b.nodes)) ++ filter (λ n. is_column b n)
-    (numbers_from (length b.nodes + 0) right) =
-    ap (filter (λ n. is_column b n))
-    (numbers_parted 0 (length b.nodes) right
-    ∙ ap (λ k. numbers_from 0 (length b.nodes) ++ numbers_from k right) start)
+    ≡ filter (λ n. is_column b n) (numbers_from 0 (length b.nodes))
+    ++ filter (λ n. is_column b n) (numbers_from (length b.nodes + 0) right) = ap (filter (λ n. is_column b n))
+    (numbers_parted 0 (length b.nodes) right ∙ ap (λ k. numbers_from 0 (length b.nodes) ++ numbers_from k right) start)
     ∙ filter-append (λ n. is_column b n) (numbers_from 0 (length b.nodes)) (numbers_from (length b.nodes + 0) right) in
     omega (
       arith,
@@ -195,5 +182,4 @@ pub index_of_want : (b : Basin) (right : ℕ) → right < length b.rights → is
 index_of_want b right l h =
     index_passed (λ n. is_column b n) (count_of_both b) (right_number b right) (omega arith) (want_column b right ∙ h)
     ∙ (below_right b right
-    ∙ ap (λ k. length (gauged_nodes b) + k)
-    (sym (index_passed (λ r. is_in_series b r) (length b.rights) right l h)))
+    ∙ ap (λ k. length (gauged_nodes b) + k) (sym (index_passed (λ r. is_in_series b r) (length b.rights) right l h)))

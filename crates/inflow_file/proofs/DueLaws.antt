@@ -1,26 +1,18 @@
 -- What is due, and the amounts that are given for it.
-use Rattle.std.proofs.Common.{◌≡◌, ◌≢◌, ◌⊎◌, ℕ, zero, suc, ◌+◌, ◌*◌, ◌/◌, ◌%◌, ◌<◌, ◌≤◌, Bool, true, false, refl, sym}
-use Rattle.std.proofs.Common.{ap, ◌∙◌, arith, List, [], ◌∷◌, ◌++◌, length, get_or, set, map, replicate, inl, inr}
-use Rattle.std.proofs.Common.{Option, Some, None, if◌then◌else◌, is_some, option_map}
-use Rattle.std.specs.Prelude.{◌==◌, ◌&&◌}
+use Rattle.inflow_file.proofs.Words.{◌≡◌, ◌≢◌, ◌⊎◌, ℕ, zero, suc, ◌+◌, ◌*◌, ◌/◌, ◌%◌, ◌<◌, ◌≤◌, Bool, true, false, refl}
+use Rattle.inflow_file.proofs.Words.{sym, ap, ◌∙◌, arith, List, [], ◌∷◌, ◌++◌, length, get_or, set, map, replicate, inl}
+use Rattle.inflow_file.proofs.Words.{inr, Option, Some, None, if◌then◌else◌, is_some, option_map, option_or, cases_Bool}
+use Rattle.inflow_file.proofs.Words.{cases_eq, false≢true, eqb-true, and_parts, eq-eqb, ext_get_or, length-map}
+use Rattle.inflow_file.proofs.Words.{length-append, length-set, get_or_append_left, get_or-append-add, get_or-map}
+use Rattle.inflow_file.proofs.Words.{get_or-set_same, get_or-set_other, find-append, IsMonth, is_same_month, Month}
+use Rattle.inflow_file.proofs.Words.{Basin, cell_within, IsColumn, column_numbers, count_of_both, is_column, IsEntry}
+use Rattle.inflow_file.proofs.Words.{amount_for, due, months_of, repeats, is_in_run, SeriesRecord}
+use Rattle.std.proofs.Common.{◌==◌, ◌&&◌}
 use Rattle.std.specs.List.{find, flat_map}
-use Rattle.std.specs.Option.{option_or}
-use Rattle.std.proofs.lemmas.Bool.{cases_Bool, cases_eq, false≢true, eqb-true, and_parts, eq-eqb}
-use Rattle.std.proofs.lemmas.List.{ext_get_or, length-map, length-append, length-set, get_or_append_left}
-use Rattle.std.proofs.lemmas.List.{get_or-append-add, get_or-map, get_or-set_same, get_or-set_other}
-use Rattle.std.proofs.lemmas.List.Folds.{find-append}
 use Rattle.std.proofs.lemmas.Nat.{div-add-mod', div_below, mod_below, mul-le}
-use Rattle.water_text.specs.Months.{IsMonth, is_same_month}
-use Rattle.water_text.specs.declared.month.Month.{Month}
 use Rattle.water_model.specs.Hydrology.{run_month, index_in}
 use Rattle.water_model.specs.Valid.{HasBoundedEntries}
-use Rattle.water_model.specs.declared.types.Basin.{Basin}
-use Rattle.water_model.proofs.Gauges.{cell_within}
-use Rattle.inflow_file.specs.Columns.{IsColumn, column_numbers, count_of_both, is_column}
-use Rattle.inflow_file.specs.Entries.{IsEntry}
 use Rattle.inflow_file.specs.Given.{given}
-use Rattle.inflow_file.specs.SeriesFaults.{amount_for, due, months_of, repeats, is_in_run}
-use Rattle.inflow_file.specs.declared.entry.SeriesRecord.{SeriesRecord}
 use Rattle.inflow_file.proofs.ColumnLaws.{passed_most, index_holds, index_of_passing}
 use Rattle.inflow_file.proofs.RunLaws.{length-months, month_there, month_in_run, same_index, same_month_is}
 use Rattle.inflow_file.proofs.RunLaws.{same_month_itself}
@@ -48,8 +40,7 @@ grid_at : (months : List Month) (nodes : List ℕ) (i g : ℕ) (m : Month) (n : 
     get_or (grid months nodes) (i * length nodes + g) (m, n) ≡ (get_or months i m, get_or nodes g n)
 grid_at [] nodes i g m n l k = absurd (omega arith)
 grid_at (first ∷ months) nodes zero g m n l k =
-    let at : zero * length nodes + g ≡ g = omega arith in
-    let len = length-row nodes first in
+    let at : zero * length nodes + g ≡ g = omega arith in let len = length-row nodes first in
     ap (λ j. get_or (grid (first ∷ months) nodes) j (m, n)) at
     ∙ (get_or_append_left (row_of nodes first) (grid months nodes) (m, n) g (omega (arith, len))
     ∙ get_or-map (λ node. (first, node)) nodes g n (m, n) k)
@@ -163,9 +154,8 @@ same_cell b e i k g first l m month h =
     rw (index, gauge) refl
 
 -- an entry for a month of the run adds its amount, where there was none
-added_here : (b : Basin) (earlier : List SeriesRecord) (e : SeriesRecord) (i : ℕ) → IsEntry b e → i < b.months →
-    e.month ≡ run_month b i →
-    amount_for earlier (run_month b i) e.column ≡ None →
+added_here : (b : Basin) (earlier : List SeriesRecord) (e : SeriesRecord) (i : ℕ) →
+    IsEntry b e → i < b.months → e.month ≡ run_month b i → amount_for earlier (run_month b i) e.column ≡ None →
     get_or (given b (earlier ++ e ∷ [])) (index_for b i e.column) None ≡ Some e.amount
 added_here b earlier e i entry l month absent =
     let there = column_there b e.column entry.column in
@@ -175,10 +165,9 @@ added_here b earlier e i entry l month absent =
     ∙ (ap (amount_for (earlier ++ e ∷ []) (run_month b i)) there.1
     ∙ (one_entry_more earlier e (run_month b i) e.column ∙ rw (absent, for_it) refl))
 
-kept_elsewhere : (b : Basin) (earlier : List SeriesRecord) (e : SeriesRecord) (i k n g : ℕ) → IsMonth b.first →
-    e.month ≡ run_month b i →
-    n < b.months → g < width b → n * width b + g ≡ k → k ≢ index_for b i e.column →
-    get_or (given b (earlier ++ e ∷ [])) k None ≡ get_or (given b earlier) k None
+kept_elsewhere : (b : Basin) (earlier : List SeriesRecord) (e : SeriesRecord) (i k n g : ℕ) →
+    IsMonth b.first → e.month ≡ run_month b i → n < b.months → g < width b → n * width b + g ≡ k →
+    k ≢ index_for b i e.column → get_or (given b (earlier ++ e ∷ [])) k None ≡ get_or (given b earlier) k None
 kept_elsewhere b earlier e i k n g first month row gauge cell other =
     let apart : is_for (run_month b n) (get_or (column_numbers b) g 0) e ≡ false =
     elim (cases_Bool (is_for (run_month b n) (get_or (column_numbers b) g 0) e)) [
@@ -190,10 +179,8 @@ kept_elsewhere b earlier e i k n g first month row gauge cell other =
     ∙ (rw apart (or_none (amount_for earlier (run_month b n) (get_or (column_numbers b) g 0)))
     ∙ sym (given_at b earlier n g row gauge))))
 
-pub enters : (b : Basin) (earlier : List SeriesRecord) (e : SeriesRecord) (i : ℕ) → IsMonth b.first → IsEntry b e →
-    i < b.months →
-    e.month ≡ run_month b i →
-    amount_for earlier (run_month b i) e.column ≡ None →
+pub enters : (b : Basin) (earlier : List SeriesRecord) (e : SeriesRecord) (i : ℕ) → IsMonth b.first →
+    IsEntry b e → i < b.months → e.month ≡ run_month b i → amount_for earlier (run_month b i) e.column ≡ None →
     given b (earlier ++ e ∷ []) ≡ set (given b earlier) (index_for b i e.column) (Some e.amount)
 enters b earlier e i first entry l month absent =
     ext_get_or None (given b (earlier ++ e ∷ [])) (set (given b earlier) (index_for b i e.column) (Some e.amount))
@@ -207,9 +194,8 @@ enters b earlier e i first entry l month absent =
         (cell_within i b.months (width b) (index_in (column_numbers b) e.column) l
         (column_there b e.column entry.column).0)
 
-    at : (k : ℕ) → IsSplit b k → (k ≡ index_for b i e.column) ⊎ (k ≡ index_for b i e.column → ⊥) →
-        get_or (given b (earlier ++ e ∷ [])) k None ≡ get_or
-        (set (given b earlier) (index_for b i e.column) (Some e.amount)) k None
+    at : (k : ℕ) → IsSplit b k → (k ≡ index_for b i e.column) ⊎ (k ≡ index_for b i e.column → ⊥) → get_or (given
+        b (earlier ++ e ∷ [])) k None ≡ get_or (set (given b earlier) (index_for b i e.column) (Some e.amount)) k None
     at k s (inl here) =
         ap (λ j. get_or (given b (earlier ++ e ∷ [])) j None) here
         ∙ (added_here b earlier e i entry l month absent
@@ -254,9 +240,8 @@ outside_is b earlier e amounts outside is = (rw outside refl, is ∙ sym (passes
 
 -- where it has a cell in the table, what stands there
 pub stands_there : (b : Basin) (earlier : List SeriesRecord) (e : SeriesRecord) (i : ℕ) (amounts : List (Option ℕ)) →
-    IsEntry b e →
-    i < b.months → e.month ≡ run_month b i → amounts ≡ given b earlier →
-    get_or amounts (index_for b i e.column) None ≡ amount_for earlier e.month e.column
+    IsEntry b e → i < b.months → e.month ≡ run_month b i →
+    amounts ≡ given b earlier → get_or amounts (index_for b i e.column) None ≡ amount_for earlier e.month e.column
 stands_there b earlier e i amounts entry l month is =
     let there = column_there b e.column entry.column in
     ap (λ xs. get_or xs (index_for b i e.column) None) is
@@ -264,16 +249,14 @@ stands_there b earlier e i amounts entry l month is =
     ∙ (ap (amount_for earlier (run_month b i)) there.1 ∙ ap (λ m. amount_for earlier m e.column) (sym month)))
 
 pub repeated_is : (b : Basin) (earlier : List SeriesRecord) (e : SeriesRecord) (i : ℕ) (amounts : List (Option ℕ)) →
-    IsEntry b e →
-    i < b.months → e.month ≡ run_month b i → amounts ≡ given b earlier →
-    is_some (get_or amounts (index_for b i e.column) None) ≡ repeats b earlier e
+    IsEntry b e → i < b.months → e.month ≡ run_month b i →
+    amounts ≡ given b earlier → is_some (get_or amounts (index_for b i e.column) None) ≡ repeats b earlier e
 repeated_is b earlier e i amounts entry l month is =
     let inside : is_in_run b e.month ≡ true = ap (is_in_run b) month ∙ month_in_run b i l in
     rw (inside, stands_there b earlier e i amounts entry l month is) refl
 
 pub entered_is : (b : Basin) (earlier : List SeriesRecord) (e : SeriesRecord) (i : ℕ) (amounts : List (Option ℕ)) →
-    IsMonth b.first →
-    IsEntry b e → i < b.months → e.month ≡ run_month b i →
+    IsMonth b.first → IsEntry b e → i < b.months → e.month ≡ run_month b i →
     amounts ≡ given b earlier → is_some (get_or amounts (index_for b i e.column) None) ≡ false →
     (repeats b earlier e ≡ false) × (set amounts (index_for b i e.column) (Some e.amount) ≡ given b (earlier ++ e ∷ []))
 entered_is b earlier e i amounts first entry l month is free =

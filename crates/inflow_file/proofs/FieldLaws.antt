@@ -1,9 +1,6 @@
 -- The fields of a record.
-use Rattle.std.proofs.Common.{◌≡◌, ◌≢◌, ℕ, refl, arith, List, [], ◌∷◌, length, get_or, ap}
-use Rattle.std.specs.Prelude.{Err}
+use Rattle.inflow_file.proofs.Words.{◌≡◌, ◌≢◌, ℕ, refl, arith, List, [], ◌∷◌, length, get_or, ap, Err, Basin, as_inflow}
 use Rattle.csv.proofs.RecordFacts.{field-get, field-there}
-use Rattle.water_model.specs.declared.types.Basin.{Basin}
-use Rattle.inflow_file.specs.CsvRecords.{as_inflow}
 use Rattle.inflow_file.specs.Entries.{read_record}
 use Rattle.inflow_file.specs.declared.refused.SeriesFault.TheVariants as fault
 

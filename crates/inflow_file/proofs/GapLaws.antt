@@ -1,39 +1,27 @@
 -- The first amount that is missing, and the series where none is.
-use Rattle.std.proofs.Common.{◌≡◌, ℕ, suc, ◌+◌, ◌*◌, ◌/◌, ◌%◌, ◌^◌, ◌<◌, ◌≤◌, Bool, true, false, refl, sym, ap, ◌∙◌}
-use Rattle.std.proofs.Common.{arith, List, [], ◌∷◌, ◌++◌, length, get_or, Option, Some, None, if◌then◌else◌, is_some}
-use Rattle.std.proofs.Common.{option_map, unwrap_or, slice_get, All, Ok, Err, Result, inl, inr, subst}
+use Rattle.inflow_file.proofs.Words.{◌≡◌, ℕ, suc, ◌+◌, ◌*◌, ◌/◌, ◌%◌, ◌^◌, ◌<◌, ◌≤◌, Bool, true, false, refl, sym, ap}
+use Rattle.inflow_file.proofs.Words.{◌∙◌, arith, List, [], ◌∷◌, ◌++◌, length, get_or, Option, Some, None, if◌then◌else◌}
+use Rattle.inflow_file.proofs.Words.{is_some, option_map, unwrap_or, slice_get, All, Ok, Err, Result, inl, inr, subst}
+use Rattle.inflow_file.proofs.Words.{result_ok, cases_lt, false≢true, get_or-map, get_or_append_left, get_or_push}
+use Rattle.inflow_file.proofs.Words.{All-from_get_or, find_at, same_Some, slice_get-get_or, is_same_month, read_month}
+use Rattle.inflow_file.proofs.Words.{Month, Basin, cell_within, IsPart, IsColumn, column_numbers, right_number}
+use Rattle.inflow_file.proofs.Words.{column_of, go_on, need, records_of, Completes, TookTable, given_by, IsRefusalOf}
+use Rattle.inflow_file.proofs.Words.{IsSeriesRefusal, SpellsAmounts, SpellsSeries, amount_for, body_of, series_fault}
+use Rattle.inflow_file.proofs.Words.{due, entries_of, missing, missing_of, SeriesRecord, SeriesFault, SeriesRefused}
 use Rattle.std.specs.Prelude.{◌==◌, ◌&&◌, not, IfOk, IfErr, OnOk}
 use Rattle.std.specs.List.{find, cons_option}
-use Rattle.std.specs.Result.{result_ok}
-use Rattle.std.proofs.lemmas.Bool.{cases_lt, false≢true}
-use Rattle.std.proofs.lemmas.List.{get_or-map, get_or_append_left, get_or_push}
-use Rattle.std.proofs.lemmas.List.Elements.{All-from_get_or}
-use Rattle.std.proofs.lemmas.List.Folds.{find_at}
 use Rattle.std.proofs.lemmas.List.Sums.{position_or_len_is}
 use Rattle.std.proofs.lemmas.Nat.{div-mul-add, mod-mul-add, div_below, mod_below}
-use Rattle.std.proofs.lemmas.Option.{same_Some, slice_get-get_or}
 use Rattle.water_text.specs.Amounts.{read_amount}
-use Rattle.water_text.specs.Months.{is_same_month, read_month}
-use Rattle.water_text.specs.declared.month.Month.{Month}
 use Rattle.water_model.specs.Hydrology.{run_month, index_in, inflow_at, inflow_of_kind, table_at}
 use Rattle.water_model.specs.Valid.{IsSeriesOf, gauged_nodes, is_gauged, is_gauged_kind, is_in_series, rights_in_series}
-use Rattle.water_model.specs.declared.types.Basin.{Basin}
 use Rattle.water_model.specs.declared.types.Inflow.{Inflow}
 use Rattle.water_model.specs.declared.types.Inflow.TheVariants.{Monthly, Gauged}
 use Rattle.water_model.specs.declared.types.Inflows.{Inflows}
 use Rattle.water_model.specs.declared.types.Node.{Node}
 use Rattle.water_text.proofs.AmountLaws.{amount_is_read}
-use Rattle.water_model.proofs.Gauges.{cell_within}
-use Rattle.inflow_file.specs.Cells.{IsPart}
-use Rattle.inflow_file.specs.Columns.{IsColumn, column_numbers, right_number}
-use Rattle.inflow_file.specs.Entries.{column_of, go_on, need, read_record}
-use Rattle.inflow_file.specs.CsvRecords.{records_of}
-use Rattle.inflow_file.specs.Given.{Completes, TookTable, given, given_by}
-use Rattle.inflow_file.specs.SeriesFaults.{IsRefusalOf, IsSeriesRefusal, SpellsAmounts, SpellsSeries, amount_for}
-use Rattle.inflow_file.specs.SeriesFaults.{body_of, series_fault, due, entries_of, missing, missing_of}
-use Rattle.inflow_file.specs.declared.entry.SeriesRecord.{SeriesRecord}
-use Rattle.inflow_file.specs.declared.refused.SeriesFault.{SeriesFault}
-use Rattle.inflow_file.specs.declared.refused.SeriesRefused.{SeriesRefused}
+use Rattle.inflow_file.specs.Entries.{read_record}
+use Rattle.inflow_file.specs.Given.{given}
 use Rattle.inflow_file.proofs.ColumnLaws.{count_of_columns, is_gauge, is_want, index_holds, index_of_gauge}
 use Rattle.inflow_file.proofs.ColumnLaws.{index_of_want}
 use Rattle.inflow_file.proofs.DueLaws.{IsSplit, column_there, due_at, given_at, length-due, length-given, split, width}
@@ -43,8 +31,7 @@ use Rattle.inflow_file.specs.declared.refused.SeriesFault.TheVariants as fault
 
 -- the first element that passes a test, by its index
 find_first : {X : Type 0} (p : X → Bool) (xs : List X) (k : ℕ) (d : X) → k < length xs →
-    ((j : ℕ) → j < k → p (get_or xs j d) ≡ false) →
-    p (get_or xs k d) ≡ true → find p xs ≡ Some (get_or xs k d)
+    ((j : ℕ) → j < k → p (get_or xs j d) ≡ false) → p (get_or xs k d) ≡ true → find p xs ≡ Some (get_or xs k d)
 find_first p xs k d l before here =
     find_at p xs ∙ ap (slice_get xs) (position_or_len_is p xs k d (omega arith) before (λ m. here))
     ∙ slice_get-get_or xs k d l
@@ -74,8 +61,7 @@ none_missing b entries amounts is all =
 
 -- the first that isn't
 pub first_missing : (b : Basin) (entries : List SeriesRecord) (amounts : List (Option ℕ)) (k : ℕ) →
-    amounts ≡ given b entries →
-    k < length amounts →
+    amounts ≡ given b entries → k < length amounts →
     ((j : ℕ) → j < k → is_some (get_or amounts j None) ≡ true) → is_some (get_or amounts k None) ≡ false →
     missing b entries ≡ Some (missing_of b (run_month b (k / width b)) (get_or (column_numbers b) (k % width b) 0))
 first_missing b entries amounts k is l before here =
@@ -129,9 +115,8 @@ small_given b [] month n a e = cc
 small_given b (row ∷ rows) month n a e =
     by_read (read_record b row) (small_record b row) e (small_given b rows month n a)
   where
-    by_test : (t : Bool) (x : SeriesRecord) → x.amount ≤ 10 ^ 9 →
-        option_map (λ (y : SeriesRecord). y.amount) (if t then Some x else find
-        (λ y. is_same_month month y.month && y.column == n) (entries_of b rows)) ≡ Some a →
+    by_test : (t : Bool) (x : SeriesRecord) → x.amount ≤ 10 ^ 9 → option_map (λ (y : SeriesRecord). y.amount)
+        (if t then Some x else find (λ y. is_same_month month y.month && y.column == n) (entries_of b rows)) ≡ Some a →
         (amount_for (entries_of b rows) month n ≡ Some a → a ≤ 10 ^ 9) → a ≤ 10 ^ 9
     by_test true x small h further = rw (← same_Some x.amount a h) small
     by_test false x small h further = further h
@@ -147,9 +132,8 @@ pub inflow_gauged : (b : Basin) (series : Inflows) (node i : ℕ) → is_gauged 
     inflow_at b series node i ≡ table_at series.gauged series.amount i node
 inflow_gauged b series node i h = by_entry (slice_get b.nodes node) h
   where
-    by_entry : (o : Option Node) → unwrap_or (option_map (λ n. is_gauged_kind n.inflow) o) false ≡ true →
-        unwrap_or (option_map (λ n. inflow_of_kind b series node i n.inflow) o) 0 ≡ table_at series.gauged series.amount
-        i node
+    by_entry : (o : Option Node) → unwrap_or (option_map (λ n. is_gauged_kind n.inflow) o) false ≡ true → unwrap_or
+        (option_map (λ n. inflow_of_kind b series node i n.inflow) o) 0 ≡ table_at series.gauged series.amount i node
     by_entry None e = absurd (false≢true e)
     by_entry (Some n) e = by_kind n.inflow e
       where
@@ -167,9 +151,8 @@ some_is None h = absurd (false≢true h)
 some_is (Some n) h = refl
 
 -- one amount more
-pub part_more : (f : ℕ → ℕ) (part : List ℕ) (n k x : ℕ) → length part ≡ n → ((m : ℕ) → m < n → get_or part m 0 ≡ f m) →
-    x ≡ f n → k < n + 1 →
-    get_or (part ++ x ∷ []) k 0 ≡ f k
+pub part_more : (f : ℕ → ℕ) (part : List ℕ) (n k x : ℕ) → length part ≡ n →
+    ((m : ℕ) → m < n → get_or part m 0 ≡ f m) → x ≡ f n → k < n + 1 → get_or (part ++ x ∷ []) k 0 ≡ f k
 part_more f part n k x count each is l =
     elim (cases_lt k n) [
       | inl below ↦ get_or_append_left part (x ∷ []) 0 k (omega arith) ∙ each k below
@@ -180,16 +163,13 @@ part_more f part n k x count each is l =
 pub cell_below : (k all from months count : ℕ) → from + count ≤ all → k < months * count →
     k / count * all + from + k % count < months * all
 cell_below k all from months count h l =
-    let some : 0 < count = some_column k months count l in
-    let row = div_below k count months some l in
+    let some : 0 < count = some_column k months count l in let row = div_below k count months some l in
     let column = mod_below k count some in
-    let cell = cell_within (k / count) months all (from + k % count) row (omega arith) in
-    omega (arith, cell)
+    let cell = cell_within (k / count) months all (from + k % count) row (omega arith) in omega (arith, cell)
 
-part_at : (amounts : List (Option ℕ)) (w from months count : ℕ) (part : List ℕ) (k : ℕ) → AreThere amounts →
-    length amounts ≡ months * w → from + count ≤ w →
-    IsPart amounts w from months count part → k < months * count →
-    get_or amounts (k / count * w + from + k % count) None ≡ Some (get_or part k 0)
+part_at : (amounts : List (Option ℕ)) (w from months count : ℕ) (part : List ℕ) (k : ℕ) →
+    AreThere amounts → length amounts ≡ months * w → from + count ≤ w → IsPart amounts w from months count part →
+    k < months * count → get_or amounts (k / count * w + from + k % count) None ≡ Some (get_or part k 0)
 part_at amounts w from months count part k all cells fits h l =
     let below = cell_below k w from months count fits l in
     some_is (get_or amounts (k / count * w + from + k % count) None)
@@ -214,16 +194,14 @@ small_part b rows amounts from count part is all fits h =
 
 -- what a part says of a column is what the entries say
 part_says : (b : Basin) (rows : List (List (List ℕ))) (amounts : List (Option ℕ)) (from count : ℕ) (part : List ℕ)
-    (i g n : ℕ) → amounts ≡ given_by b rows → AreThere amounts →
-    from + count ≤ width b → IsPart amounts (width b) from b.months count part → i < b.months → g < count →
-    IsColumn b n → index_in (column_numbers b) n ≡ from + g →
+    (i g n : ℕ) → amounts ≡ given_by b rows → AreThere amounts → from + count ≤ width b → IsPart amounts (width b)
+    from b.months count part → i < b.months → g < count → IsColumn b n → index_in (column_numbers b) n ≡ from + g →
     amount_for (entries_of b rows) (run_month b i) n ≡ Some (get_or part (i * count + g) 0)
 part_says b rows amounts from count part i g n is all fits h l k column cell =
     let there = column_there b n column in
     let within : i * count + g < b.months * count = cell_within i b.months count g l k in
-    let at : (i * count + g) / count * width b + from + (i * count + g) % count ≡ i * width b + index_in
-    (column_numbers b) n =
-    rw (div-mul-add i count g k, mod-mul-add i count g k, cell) (omega arith) in
+    let at : (i * count + g) / count * width b + from + (i * count + g) % count ≡ i * width b
+    + index_in (column_numbers b) n = rw (div-mul-add i count g k, mod-mul-add i count g k, cell) (omega arith) in
     ap (amount_for (entries_of b rows) (run_month b i)) (sym there.1)
     ∙ (sym (given_at b (entries_of b rows) i (index_in (column_numbers b) n) l there.0)
     ∙ (ap (λ xs. get_or xs (i * width b + index_in (column_numbers b) n) None) (sym is)
@@ -240,9 +218,8 @@ pub record AreParts (b : Basin) (amounts : List (Option ℕ)) (series : Inflows)
   pub want : IsPart amounts (width b) (length (gauged_nodes b)) b.months (length (rights_in_series b)) series.want
 
 pub complete_series : (b : Basin) (rows : List (List (List ℕ))) (amounts : List (Option ℕ)) (series : Inflows) →
-    amounts ≡ given_by b rows →
-    AreParts b amounts series → (missing b (entries_of b rows) ≡ None) × IsSeriesOf b series ×
-    SpellsAmounts b rows series
+    amounts ≡ given_by b rows → AreParts b amounts series →
+    (missing b (entries_of b rows) ≡ None) × IsSeriesOf b series × SpellsAmounts b rows series
 complete_series b rows amounts series is parts = (
   none_missing b (entries_of b rows) amounts is parts.there,
   record {
@@ -254,17 +231,13 @@ complete_series b rows amounts series is parts = (
     small_wants = small_part b rows amounts _ _ _ is parts.there wants_fit parts.want;
   },
   record {
-    each = λ node i l g m.
-        part_says b rows amounts _ _ _ i _ node is parts.there gauges_fit parts.amount m
-        (index_holds (λ n. is_gauged b n) (length b.nodes) node l g).0 (is_gauge b node l g)
-        (omega (arith, index_of_gauge b node l g))
-        ∙ ap (λ n. Some n)
+    each = λ node i l g m. part_says b rows amounts _ _ _
+        i _ node is parts.there gauges_fit parts.amount m (index_holds (λ n. is_gauged b n) (length b.nodes) node l g).0
+        (is_gauge b node l g) (omega (arith, index_of_gauge b node l g)) ∙ ap (λ n. Some n)
         (sym (inflow_gauged b series node i g ∙ ap (λ xs. table_at xs series.amount i node) parts.gauged));
-    wants = λ right i l w m.
-        part_says b rows amounts _ _ _ i _ (right_number b right) is parts.there wants_fit parts.want m
-        (index_holds (λ r. is_in_series b r) (length b.rights) right l w).0 (is_want b right l w)
-        (index_of_want b right l w)
-        ∙ ap (λ n. Some n) (sym (ap (λ xs. table_at xs series.want i right) parts.wanted));
+    wants = λ right i l w m. part_says b rows amounts _ _ _ i _ (right_number b right) is parts.there
+        wants_fit parts.want m (index_holds (λ r. is_in_series b r) (length b.rights) right l w).0 (is_want b right l w)
+        (index_of_want b right l w) ∙ ap (λ n. Some n) (sym (ap (λ xs. table_at xs series.want i right) parts.wanted));
   },
 )
   where
@@ -275,10 +248,9 @@ complete_series b rows amounts series is parts = (
     wants_fit = omega (arith, count_of_columns b)
 
 pub missing_found : (b : Basin) (rows : List (List (List ℕ))) (amounts : List (Option ℕ)) (k : ℕ) (e : SeriesRefused) →
-    amounts ≡ given_by b rows → k < length amounts →
-    ((j : ℕ) → j < k → is_some (get_or amounts j None) ≡ true) → is_some (get_or amounts k None) ≡ false →
-    e ≡ missing_of b (run_month b (k / width b)) (get_or (column_numbers b) (k % width b) 0) →
-    IsRefusalOf (missing b (entries_of b rows)) e
+    amounts ≡ given_by b rows → k < length amounts → ((j : ℕ) → j < k → is_some (get_or amounts j None) ≡ true) →
+    is_some (get_or amounts k None) ≡ false → e ≡ missing_of b (run_month b (k / width b))
+    (get_or (column_numbers b) (k % width b) 0) → IsRefusalOf (missing b (entries_of b rows)) e
 missing_found b rows amounts k e is l before here found =
     refusal_of _ e (first_missing b (entries_of b rows) amounts k is l before here ∙ ap (λ x. Some x) (sym found))
 
@@ -289,9 +261,8 @@ pub record IsRead (b : Basin) (text : List ℕ) (r : Result Inflows SeriesRefuse
   pub faultless : OnOk r (series_fault b text ≡ None)
   pub refused : IfErr r (λ e. IsSeriesRefusal e b text)
 
-pub series_read : (b c : Basin) (text : List ℕ) (amounts : List (Option ℕ)) (r : Result Inflows SeriesRefused) → c ≡ b →
-    TookTable c (records_of text) amounts →
-    Completes c (body_of c (records_of text)) r → IsRead b text r
+pub series_read : (b c : Basin) (text : List ℕ) (amounts : List (Option ℕ)) (r : Result Inflows SeriesRefused) →
+    c ≡ b → TookTable c (records_of text) amounts → Completes c (body_of c (records_of text)) r → IsRead b text r
 series_read b c text amounts r same took done = subst (λ (x : Basin). IsRead x text r) same (by r done)
   where
     by : (r : Result Inflows SeriesRefused) → Completes c (body_of c (records_of text)) r → IsRead c text r
@@ -301,6 +272,5 @@ series_read b c text amounts r same took done = subst (λ (x : Basin). IsRead x 
           spelled = tt;
           valid = tt;
           faultless = tt;
-          refused =
-              subst (λ (o : Option SeriesRefused). IsRefusalOf o e) (sym took.fault) h;
+          refused = subst (λ (o : Option SeriesRefused). IsRefusalOf o e) (sym took.fault) h;
         }

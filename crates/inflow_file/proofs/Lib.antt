@@ -5,3 +5,4 @@ pub mod GapLaws
 pub mod RecordLaws
 pub mod RunLaws
 pub mod TableLaws
+mod Words

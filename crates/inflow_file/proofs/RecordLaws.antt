@@ -1,20 +1,20 @@
 -- The records of a text, one after the other.
-use Rattle.std.proofs.Common.{◌≡◌, ℕ, zero, suc, ◌+◌, ◌<◌, ◌≤◌, Bool, true, false, refl, ap, ◌∙◌, arith, List, [], ◌∷◌}
-use Rattle.std.proofs.Common.{◌++◌, length, add-one, Option, Some, None, if◌then◌else◌, inl}
-use Rattle.std.specs.Prelude.{◌==◌, ◌||◌, ◌&&◌}
+use Rattle.inflow_file.proofs.Words.{◌≡◌, ℕ, zero, suc, ◌+◌, ◌<◌, ◌≤◌, Bool, true, false, refl, ap, ◌∙◌, arith, List}
+use Rattle.inflow_file.proofs.Words.{[], ◌∷◌, ◌++◌, length, add-one, Option, Some, None, if◌then◌else◌, inl, ◌||◌}
+use Rattle.std.proofs.Common.{◌==◌, ◌&&◌}
 use Rattle.std.specs.Borrow.{Bor}
 use Rattle.csv.specs.Machine.{Read, next_record, step, is_end, ends_at_end, after_end, in_field, start_field}
 use Rattle.csv.specs.Machine.{start_record, fields_after, field_after}
 use Rattle.csv.specs.Reading.{Reached, ReadRecord, default_config, records_from, records_next, strip_bom}
 use Rattle.csv.specs.declared.parser.Action.{Action}
-use Rattle.csv.specs.declared.parser.Action.TheVariants as act
 use Rattle.csv.specs.declared.parser.State.{State}
-use Rattle.csv.specs.declared.parser.State.TheVariants as st
-use Rattle.csv.specs.declared.parser.Terminator.TheVariants as term
 use Rattle.csv.specs.declared.reader.Reader.{Reader}
 use Rattle.csv.proofs.ReadFacts.{rows-more, rows-end}
 use Rattle.inflow_file.specs.CsvRecords.{records_of}
 use Rattle.inflow_file.specs.RecordsLeft.{IsReading, TakesFirst, bytes_left, records_in, records_left}
+use Rattle.csv.specs.declared.parser.Action.TheVariants as act
+use Rattle.csv.specs.declared.parser.State.TheVariants as st
+use Rattle.csv.specs.declared.parser.Terminator.TheVariants as term
 
 -- where the record ends, the reader is between two records
 abbrev EndsBetween : State × Action → Type 0
@@ -38,9 +38,8 @@ end_in_field : (c : ℕ) → EndsBetween (in_field default_config c)
 end_in_field c =
     either (c == 44) (st.StartField, act.EndField)
     (if (c == 13) || (c == 10) then (after_end term.CRLF c, act.EndRecord) else (st.InField, act.Copy))
-    (goes_on (st.StartField, act.EndField) refl)
-    (either ((c == 13) || (c == 10)) (after_end term.CRLF c, act.EndRecord) (st.InField, act.Copy) (λ e. end_of_line c)
-    (goes_on (st.InField, act.Copy) refl))
+    (goes_on (st.StartField, act.EndField) refl) (either ((c == 13) || (c == 10)) (after_end term.CRLF c, act.EndRecord)
+    (st.InField, act.Copy) (λ e. end_of_line c) (goes_on (st.InField, act.Copy) refl))
 
 end_start_field : (c : ℕ) → EndsBetween (start_field default_config c)
 end_start_field c =
@@ -88,9 +87,8 @@ one_byte s fields field c bytes r further =
     (step default_config s c).0 (end_step s c) further
   where
     by_test : (t : Bool) (all : List (List ℕ)) (after : State) {later : Option Read} →
-        (t ≡ true → ends_at_end after ≡ false)
-        → (later ≡ Some r → IsAfter bytes r) → (if t then Some (all, after, bytes) else later) ≡ Some r →
-        IsAfter bytes r
+        (t ≡ true → ends_at_end after ≡ false) →
+        (later ≡ Some r → IsAfter bytes r) → (if t then Some (all, after, bytes) else later) ≡ Some r → IsAfter bytes r
     by_test true all after between further e =
         let same = same_read (all, after, bytes) r e in
         record { fewer = rw (← same) (omega arith); between = rw (← same) (between refl) }
@@ -124,9 +122,8 @@ pub takes_bytes : (s : State) (bytes : List ℕ) (r : Read) → ends_at_end s �
 unfolding next_record
 takes_bytes s [] r between e = let none = rw between at e in cc
 takes_bytes s (c ∷ bytes) r between e =
-    let h = one_byte s [] [] c bytes r
-    (beyond (step default_config s c).0 (fields_after (step default_config s c).1 [] [])
-    (field_after (step default_config s c).1 c []) bytes r) e in
+    let h = one_byte s [] [] c bytes r (beyond (step default_config s c).0
+    (fields_after (step default_config s c).1 [] []) (field_after (step default_config s c).1 c []) bytes r) e in
     record { fewer = omega (arith, h.fewer); between = h.between }
 
 -- more turns than bytes give all records
@@ -149,12 +146,10 @@ enough (suc n) (suc m) s bytes between l k =
 
 -- the records of a text that has one more, and of one that has none
 pub one_more : (s : State) (bytes : List ℕ) (r : Read) → ends_at_end s ≡ false →
-    next_record default_config s [] [] bytes ≡ Some r →
-    records_in s (Some bytes) ≡ r.0 ∷ records_in r.1 (Some r.2)
+    next_record default_config s [] [] bytes ≡ Some r → records_in s (Some bytes) ≡ r.0 ∷ records_in r.1 (Some r.2)
 unfolding records_from
 one_more s bytes r between e =
-    let h = takes_bytes s bytes r between e in
-    let turns : length bytes + 1 ≡ suc (length bytes) = omega arith in
+    let h = takes_bytes s bytes r between e in let turns : length bytes + 1 ≡ suc (length bytes) = omega arith in
     rw (turns, e)
     (ap (λ rows. r.0 ∷ rows) (enough (length bytes) (length r.2 + 1) r.1 r.2 h.between h.fewer (omega arith)))
 
@@ -171,9 +166,8 @@ bounded_from zero s bytes between = omega arith
 bounded_from (suc n) s bytes between = by_read (next_record default_config s [] [] bytes) refl
     (λ t rest. bounded_from n t rest)
   where
-    by_read : (o : Option Read) → next_record default_config s [] [] bytes ≡ o →
-        ((t : State) (rest : List ℕ) → ends_at_end t ≡ false →
-        length (records_from default_config n t rest) ≤ length rest) →
+    by_read : (o : Option Read) → next_record default_config s [] [] bytes ≡ o → ((t : State) (rest : List ℕ) →
+        ends_at_end t ≡ false → length (records_from default_config n t rest) ≤ length rest) →
         length (records_next (records_from default_config n) o) ≤ length bytes
     by_read None e further = omega arith
     by_read (Some r) e further = let h = takes_bytes s bytes r between e in
@@ -196,10 +190,8 @@ bounded_records text =
     omega (arith, strip_shorter text, bounded_from (length (strip_bom text) + 1) st.StartRecord (strip_bom text) refl)
 
 meets : (s after : State) (bytes rest : List ℕ) (fields : List (List ℕ)) (known later : Option (List ℕ)) (p : Read) →
-    known ≡ Some bytes → later ≡ Some rest →
-    fields ≡ p.0 → p.1 ≡ after → p.2 ≡ rest → ends_at_end s ≡ false →
-    next_record default_config s [] [] bytes ≡ Some p →
-    records_in s known ≡ fields ∷ records_in after later
+    known ≡ Some bytes → later ≡ Some rest → fields ≡ p.0 → p.1 ≡ after → p.2 ≡ rest → ends_at_end s ≡ false →
+    next_record default_config s [] [] bytes ≡ Some p → records_in s known ≡ fields ∷ records_in after later
 meets s after bytes rest fields known later p is will first state left between e =
     rw (is, will, first, ← state, ← left) (one_more s bytes p between e)
 
@@ -216,10 +208,8 @@ unfolding Reached records_left
 took_one a b fields reading read =
     let m = rows-more (λ (s : Bor (List ℕ)). Some s.now) a b fields default_config a.state reading.bytes reading.bytes
     [] reading.config reading.known (refl, refl) read in
-    let p = m.2.0 in
-    let h = takes_bytes a.state reading.bytes p reading.between m.2.1 in
-    let state : p.1 ≡ b.state = m.2.3.0 in
-    let rest : p.2 ≡ m.0 = m.2.3.1 in
+    let p = m.2.0 in let h = takes_bytes a.state reading.bytes p reading.between m.2.1 in
+    let state : p.1 ≡ b.state = m.2.3.0 in let rest : p.2 ≡ m.0 = m.2.3.1 in
     record {
       bytes = m.0;
       known = m.1;
@@ -252,7 +242,6 @@ reads_on a b fields reading read began =
     }
 
 pub takes_first : (a b : Reader (Bor (List ℕ))) (found : Bool) (fields : List (List ℕ)) → IsReading a →
-    ReadRecord (λ s. Some s.now) a b found fields →
-    TakesFirst found fields (records_left a) (records_left b)
+    ReadRecord (λ s. Some s.now) a b found fields → TakesFirst found fields (records_left a) (records_left b)
 takes_first a b true fields reading read = (took_one a b fields reading read).takes
 takes_first a b false fields reading read = took_none a b fields reading read

@@ -1,16 +1,12 @@
 -- The months of a run.
-use Rattle.std.proofs.Common.{◌≡◌, ℕ, ◌<◌, true, false, refl, ap, arith, length, get_or, inl, inr, None}
-use Rattle.std.specs.Prelude.{◌==◌}
-use Rattle.std.proofs.lemmas.Bool.{cases_Bool, and_parts, eqb-true, eq-eqb, and_from}
-use Rattle.std.proofs.lemmas.List.Folds.{list_any_none, list_any_at}
+use Rattle.inflow_file.proofs.Words.{◌≡◌, ℕ, ◌<◌, true, false, refl, ap, arith, length, get_or, inl, inr, None}
+use Rattle.inflow_file.proofs.Words.{cases_Bool, and_parts, eqb-true, eq-eqb, and_from, list_any_none, list_any_at}
+use Rattle.inflow_file.proofs.Words.{IsMonth, is_same_month, Month, Basin, is_in_run, months_of}
+use Rattle.std.proofs.Common.{◌==◌}
 use Rattle.std.proofs.lemmas.List.FromFn.{length-map-range_with_len, get_or-map-range_with_len}
-use Rattle.water_text.specs.Months.{IsMonth, is_same_month}
-use Rattle.water_text.specs.declared.month.Month.{Month}
 use Rattle.water_model.specs.Hydrology.{index_in_run, month_number, run_month}
 use Rattle.water_model.specs.Valid.{IsValidBasin}
-use Rattle.water_model.specs.declared.types.Basin.{Basin}
 use Rattle.water_model.proofs.RunMonths.{months_have_their_index, number_after}
-use Rattle.inflow_file.specs.SeriesFaults.{is_in_run, months_of}
 use Rattle.water_text.proofs.MonthLaws.{same_month}
 
 -- months are distinguished by year and month
@@ -24,8 +20,7 @@ same_month_itself m = and_from _ _ (eq-eqb m.year m.year refl) (eq-eqb m.month m
 
 -- the months of a run differ
 pub same_index : (b : Basin) (i k : ℕ) → IsMonth b.first → run_month b i ≡ run_month b k → i ≡ k
-same_index b i k h e =
-    omega (arith, number_after b.first i h, number_after b.first k h, ap month_number e)
+same_index b i k h e = omega (arith, number_after b.first i h, number_after b.first k h, ap month_number e)
 
 pub length-months : (b : Basin) → length (months_of b) ≡ b.months
 length-months b = length-map-range_with_len (λ i. run_month b i) 0 b.months

@@ -1,7 +1,6 @@
 //! The amounts that records give, column by column in each month of the run.
-ghost use Rattle.std.specs.Prelude.{◌≡◌, ◌++◌, ◌∷◌, [], ◌<◌, ◌≤◌, ◌+◌, ◌*◌, ◌/◌, ◌%◌, List, ℕ, length};
-ghost use Rattle.std.specs.Prelude.{slice_index, slice_index_or, is_some, unwrap_or, Some, None};
-ghost use Rattle.std.specs.Prelude.{MatchResult, IfOk, true, false};
+ghost use Rattle.std.specs.Prelude.{◌≡◌, ◌++◌, ◌∷◌, [], ◌<◌, ◌≤◌, ◌+◌, ◌*◌, ◌/◌, ◌%◌, List, ℕ, length, slice_index};
+ghost use Rattle.std.specs.Prelude.{slice_index_or, is_some, unwrap_or, Some, None, MatchResult, IfOk, true, false};
 ghost use Rattle.water_model.specs.Hydrology.{run_month, index_in};
 ghost use Rattle.water_model.specs.Valid.{IsValidBasin};
 ghost use Rattle.inflow_file.specs.Entries.{IsEntry};

@@ -153,9 +153,7 @@ impl<'a> Columns<'a> {
         ensures reads { result ≡ gauge_of self.now.basin.now name.now }
         ensures column { IfOk result (IsColumn self.now.basin.now) }
     {
-        let Some(node) = self.names.node_named(name) else {
-            return Err(SeriesFault::NoSuchNode);
-        };
+        let node = self.names.node_named(name).ok_or(SeriesFault::NoSuchNode)?;
         if !is_gauged(self.basin, node) {
             return Err(SeriesFault::NotGauged);
         }
@@ -203,16 +201,9 @@ impl<'a> Columns<'a> {
         ensures reads { result ≡ read_record self.now.basin.now (month.now ∷ kind.now ∷ name.now ∷ amount.now ∷ []) }
         ensures entry { IfOk result (IsEntry self.now.basin.now) }
     {
-        let Some(month) = Month::read(month) else {
-            return Err(SeriesFault::BadMonth);
-        };
-        let column = match self.column_of(kind, name) {
-            Ok(column) => column,
-            Err(fault) => return Err(fault),
-        };
-        let Some(amount) = read_amount(amount, 1_000_000_000) else {
-            return Err(SeriesFault::BadAmount);
-        };
+        let month = Month::read(month).ok_or(SeriesFault::BadMonth)?;
+        let column = self.column_of(kind, name)?;
+        let amount = read_amount(amount, 1_000_000_000).ok_or(SeriesFault::BadAmount)?;
         Ok(SeriesRecord {
             month,
             column,

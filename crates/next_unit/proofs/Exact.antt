@@ -2,7 +2,7 @@
 use Rattle.std.proofs.Common.{◌≡◌, ℕ, ◌+◌, ◌<◌, ◌≤◌, Bool, true, refl, arith, List, length, false, ◌∙◌, ap, inl, inr}
 use Rattle.std.proofs.lemmas.Bool.{both_ways, and_parts, not-true, true_from_ne_false}
 use Rattle.std.specs.Prelude.{◌↔◌}
-use Rattle.water_model.specs.Cuts.{enters, IsTight}
+use Rattle.water_model.specs.Cuts.{enters, carry_into, IsTight}
 use Rattle.water_model.specs.declared.types.Basin.{Basin}
 use Rattle.water_model.specs.declared.types.MonthRecord.{MonthRecord}
 use Rattle.water_model.specs.Lookups.{has}
@@ -14,7 +14,7 @@ use Rattle.next_unit.proofs.Helps.{supply_in_core_helps}
 use Rattle.next_unit.proofs.Raises.{carry_into_core_helps}
 use Rattle.plan_residual.proofs.Cores.{core_of}
 use Rattle.std.proofs.lemmas.Bool.Decides.{eqb_tells}
-use Rattle.finite_sums.specs.Sums.{total_where, when}
+use Rattle.finite_sums.specs.Sums.{when}
 use Rattle.water_model.specs.Plans.{carry_of}
 use Rattle.duality.proofs.Duality.{cut_slack}
 use Rattle.finite_sums.proofs.Terms.{same_where}
@@ -53,8 +53,7 @@ no_carry_past_tight_cuts_helps b month supply delivered r cut link want q l tigh
       | inr other ↦ omega (arith, ap (λ t. when t 1) other.0)
     ]
 
-    same_capacity : total_where (length b.links) (λ e. enters b cut e) (raised_carry b month link)
-        ≡ total_where (length b.links) (λ e. enters b cut e) (carry_of b month)
+    same_capacity : carry_into b (raised_carry b month link) cut ≡ carry_into b (carry_of b month) cut
     same_capacity = same_where (length b.links) (λ e. enters b cut e) (raised_carry b month link)
         (carry_of b month) (λ e k h. not_raised e h)
 

@@ -21,7 +21,7 @@ use Rattle.next_unit.proofs.Pushes.{own_stays, unmoved}
 use Rattle.water_model.specs.Valid.{IsValidBasin}
 use Rattle.finite_sums.specs.Sums.{greatest_where}
 use Rattle.finite_sums.proofs.Totals.{term_le_greatest}
-use Rattle.river_net.proofs.Ranks.{forward_numbers}
+use Rattle.river_net.proofs.Ranks.{ranks}
 
 -- numbers that rise along links
 pub record HasNumbers (b : Basin) : Type 0 where
@@ -32,7 +32,7 @@ pub record HasNumbers (b : Basin) : Type 0 where
 
 pub numbers_of : (b : Basin) → IsValidBasin b → HasNumbers b
 numbers_of b valid =
-    let numbers = forward_numbers b.nodes b.links (record { ends = ends b valid }) valid.network in
+    let numbers = ranks b valid in
     record {
       number = numbers.rank;
       most = greatest_where (length b.nodes) (λ n. true) numbers.rank;

@@ -7,7 +7,7 @@ use Rattle.std.proofs.lemmas.List.{get_or-set_other}
 use Rattle.std.specs.Prelude.{slice_index, not, Option, Some, None}
 use Rattle.water_model.specs.Lookups.{has}
 use Rattle.water_model.specs.Basin.{head_of, tail_of, taking_node, instream_link, is_senior}
-use Rattle.water_model.specs.Plans.{delivery}
+use Rattle.water_model.specs.Plans.{delivery, carry_of}
 use Rattle.water_model.specs.Cuts.{node_within, IsCut, IsTight, separates, cut_capacity, cut_kept, takes_within}
 use Rattle.water_model.specs.History.{IsShort}
 use Rattle.duality.specs.Laws.{AgreesOn}
@@ -155,7 +155,7 @@ core_is_least_tight_cut b m r core cut given l short tight is_core = record {
 pub nothing_outside_tight_cuts_helps : NothingOutsideTightCutsHelps
 nothing_outside_tight_cuts_helps b month supply delivered r cut node want q l tight out plan serves =
     at_most (delivery b want q r) (slice_index delivered r) (cut_kept b delivered r cut)
-    (cut_capacity b month supply cut)
+    (cut_capacity b (carry_of b month) supply cut)
     tight.tight
     (cut_bounds b month supply delivered r cut (one_more supply node) want q l tight.is_cut plan agrees serves)
   where

@@ -6,39 +6,22 @@ use Rattle.std.proofs.lemmas.Bool.{and_from, and_parts, both_ways, lt-ltb, leb-t
 use Rattle.std.proofs.lemmas.Bool.{false_from_ne_true, not_from_false}
 use Rattle.std.proofs.lemmas.List.FromFn.{length-map-range_with_len, get_or-map-range_with_len}
 use Rattle.std.specs.List.{range_with_len}
-use Rattle.std.specs.Prelude.{nat_le, if◌then◌else◌, slice_index, option_map, unwrap_or}
+use Rattle.std.specs.Prelude.{nat_le, if◌then◌else◌, slice_index}
 use Rattle.finite_sums.specs.Sums.{total}
 use Rattle.finite_sums.proofs.Totals.{total_le, term_le_total_where}
 use Rattle.water_model.specs.Lookups.{has}
-use Rattle.water_model.specs.Network.{is_river_kind}
-use Rattle.water_model.specs.Basin.{head_of, tail_of, is_river}
-use Rattle.water_model.specs.Plans.{carry_of, carry_of_kind, delivery_by_link}
+use Rattle.water_model.specs.Basin.{head_of, tail_of}
+use Rattle.water_model.specs.Plans.{carry_of, delivery_by_link}
 use Rattle.water_model.specs.Cuts.{enters, leaves}
-use Rattle.water_model.specs.Valid.{IsValidBasin, IsValidLink}
-use Rattle.water_text.specs.declared.month.Month.{Month}
 use Rattle.water_model.specs.declared.types.Basin.{Basin}
-use Rattle.water_model.specs.declared.types.Carry.{Carry}
-use Rattle.water_model.specs.declared.types.Carry.TheVariants.{River, Canal}
 use Rattle.water_model.specs.declared.types.MonthRecord.{MonthRecord}
-use Rattle.water_model.proofs.Valid.{ends, entry_holds}
+use Rattle.water_model.proofs.Carries.{river_carry}
+use Rattle.water_model.proofs.Valid.{ends}
 use Rattle.water_model.proofs.Sets.{total_where_none_pass}
 use Rattle.duality.proofs.CutBalance.{cut_balance}
 use Rattle.plan_residual.specs.Residual.{HasPlan}
 use Rattle.next_unit.specs.Laws.{SmallSupplyLeavesRoom}
 use Rattle.next_unit.proofs.Leads.{HasNumbers, RiversCanRise, numbers_of}
-
--- a river carries as much as there may be
-river_carry : (b : Basin) (month : Month) (e : ℕ) → IsValidBasin b → e < length b.links → is_river b e ≡ true →
-    carry_of b month e ≡ 10 ^ 15
-river_carry b month e valid l h =
-    let entry = entry_holds (λ l. IsValidLink b l) b.links e valid.links l in
-    let river : is_river_kind entry.0.carry ≡ true =
-    ap (λ o. unwrap_or (option_map (λ x. is_river_kind x.carry) o) false) (sym entry.1) ∙ h in
-    ap (λ o. unwrap_or (option_map (λ x. carry_of_kind x.carry month) o) 0) entry.1 ∙ of_kind entry.0.carry river
-  where
-    of_kind : (c : Carry) → is_river_kind c ≡ true → carry_of_kind c month ≡ 10 ^ 15
-    of_kind River h = refl
-    of_kind (Canal per_day shut) h = cc
 
 -- the nodes that are not after a node
 up_to : (n : ℕ) → (ℕ → ℕ) → ℕ → List Bool
@@ -99,7 +82,7 @@ flow_le_supply b m e given l =
 pub rivers_can_rise : (b : Basin) (m : MonthRecord) → HasPlan b m →
     total (length b.nodes) (λ n. slice_index m.supply n) < 10 ^ 15 → RiversCanRise b m
 rivers_can_rise b m given small e k river = lt-ltb _ _
-    (omega (arith, flow_le_supply b m e given k, small, river_carry b m.month e given.valid k river))
+    (omega (arith, flow_le_supply b m e given k, small, river_carry b m.month e river))
 
 pub small_supply_leaves_room : SmallSupplyLeavesRoom
 small_supply_leaves_room b m r given l short small fits = record {

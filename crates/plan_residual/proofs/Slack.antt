@@ -87,7 +87,7 @@ takes_split b m r cut given =
 
 -- the slack of a cut, part by part
 slack_parts : (b : Basin) (m : MonthRecord) (r : ℕ) (cut : List Bool) → HasPlan b m → length cut ≡ length b.nodes →
-    cut_capacity b m.month m.supply cut + entering b cut (λ e. slice_index m.plan.flow e)
+    cut_capacity b (carry_of b m.month) m.supply cut + entering b cut (λ e. slice_index m.plan.flow e)
     + over_others b r cut (λ e. kept_on b m.delivered r e)
     ≡ cut_kept b m.delivered r cut + entering b cut (λ e. carry_of b m.month e)
     + over_others b r cut (λ e. slice_index m.plan.flow e)

@@ -3,6 +3,8 @@ use Rattle.std.proofs.Common.{◌≡◌, ℕ, ◌+◌, ◌-◌, ◌<◌, ◌≤�
 use Rattle.std.proofs.Common.{inl, inr}
 use Rattle.std.proofs.lemmas.Bool.{cases_eq, cases_lt, lt-ltb, ltb-true}
 use Rattle.std.specs.Prelude.{Option, Some, None, IfSome, nat_lt, slice_index}
+use Rattle.chains.specs.Chains.{is_before}
+use Rattle.chains.proofs.Walking.{next_has, splits}
 use Rattle.water_model.specs.Lookups.{has}
 use Rattle.water_model.specs.declared.types.Basin.{Basin}
 use Rattle.water_model.specs.declared.types.MonthRecord.{MonthRecord}
@@ -52,10 +54,6 @@ pub followed_stays : (b : Basin) (m : MonthRecord) (r : ℕ) (d : Direction) (s 
     ((v : ℕ) → has seen v ≡ true → has seen' v ≡ true) → IsFollowed b m r d seen s → IsFollowed b m r d seen' s
 followed_stays b m r d s seen seen' grows h = λ room. grows (end_of b s) (h room)
 
-abbrev pub is_before : Option ℕ → ℕ → Bool
-is_before None step = true
-is_before (Some next) step = nat_lt step next
-
 -- since a search had come so far, steps from the first nodes of the queue were followed, and of those from the next
 -- node the ones before a step
 pub record IsSpreading (b : Basin) (m : MonthRecord) (r : ℕ) (d : Direction) (q q' : QueueView) (done : ℕ)
@@ -66,23 +64,11 @@ pub record IsSpreading (b : Basin) (m : MonthRecord) (r : ℕ) (d : Direction) (
   pub followed : (s : ℕ) → s < step_count b → start_of b s ≡ slice_index q'.nodes done → is_before next s ≡ true →
       IsFollowed b m r d q'.seen s
 
--- what a next step says of itself
-next_leaves : (b : Basin) (v from : ℕ) (o : Option ℕ) → IsNextFrom b v from o →
-    IfSome o (λ s. (s < step_count b) × (start_of b s ≡ v))
-next_leaves b v from None h = tt
-next_leaves b v from (Some s) h = (h.1, let at : Some (start_of b s) ≡ Some v = h.2 in cc)
-
 -- a step that leaves the node before the next one is before the number from which that was looked for
 passed : (b : Basin) (v from : ℕ) (o : Option ℕ) → IsNextFrom b v from o → (s : ℕ) → s < step_count b →
     start_of b s ≡ v → is_before o s ≡ true → s < from
-passed b v from None h s l e before = elim (cases_lt s from) [
-  | inl less ↦ less
-  | inr more ↦ absurd (h s more l (ap Some e))
-]
-passed b v from (Some next) h s l e before = elim (cases_lt s from) [
-  | inl less ↦ less
-  | inr more ↦ absurd (h.3 s more (ltb-true s next before) (ap Some e))
-]
+passed b v from o h s l e before =
+    ltb-true s from (sym (splits (start_of b) v from (step_count b) o h s l e) ∙ before)
 
 -- before the first step of the node
 pub spreading_start : (b : Basin) (m : MonthRecord) (r : ℕ) (d : Direction) (q : QueueView) (done : ℕ)
@@ -91,7 +77,7 @@ pub spreading_start : (b : Basin) (m : MonthRecord) (r : ℕ) (d : Direction) (q
 spreading_start b m r d q done next now before first = record {
   grown = grown_none b m r d q now;
   before = before;
-  leaves = next_leaves b (slice_index q.nodes done) 0 next first;
+  leaves = next_has (start_of b) (slice_index q.nodes done) 0 (step_count b) next first;
   followed = λ s l at earlier. absurd (let no = passed b (slice_index q.nodes done) 0 next first s l at earlier in
       omega arith);
 }
@@ -107,7 +93,7 @@ spreading_next {b = b} {m = m} {r = r} {d = d} {one = one} {two = two} {done = d
       before = λ j s l k at room. more.extends.kept (end_of b s)
           (now.before j s l k (at ∙ more.extends.prefix j (omega arith)) room);
       leaves = subst (λ v. IfSome next (λ s. (s < step_count b) × (start_of b s ≡ v))) here
-          (next_leaves b (start_of b step) (step + 1) next further);
+          (next_has (start_of b) (start_of b step) (step + 1) (step_count b) next further);
       followed = λ s l at before room. elim (cases_eq s step) [
         | inl same ↦ subst (λ k. IsFollowed b m r d two.seen k) (sym same) this room
         | inr other ↦ (let less = passed b (start_of b step) (step + 1) next further s l (at ∙ sym here) before in
@@ -145,13 +131,3 @@ pub followed_from_closed : {b : Basin} {m : MonthRecord} {r : ℕ} {d : Directio
 followed_from_closed {b = b} {m = m} {r = r} {d = d} {q = q} {q' = q'} now more closed = λ j s l below at.
     followed_stays b m r d s q.seen q'.seen more.kept
     (closed.steps s below (ap (has q.seen) (at ∙ more.prefix j l) ∙ now.queued j l))
-
--- how many steps there are from the next one on
-abbrev pub steps_left : ℕ → Option ℕ → ℕ
-steps_left steps None = 0
-steps_left steps (Some next) = steps - next
-
-pub fewer_left : (b : Basin) (v step : ℕ) (next : Option ℕ) → step < step_count b → IsNextFrom b v (step + 1) next →
-    steps_left (step_count b) next < steps_left (step_count b) (Some step)
-fewer_left b v step None below further = omega arith
-fewer_left b v step (Some next) below further = let after = further.0 in let within = further.1 in omega arith

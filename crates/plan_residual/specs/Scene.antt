@@ -3,7 +3,7 @@ use Rattle.rights_roll.specs.Rolls.{IsRollOf}
 use Rattle.rights_roll.specs.RollView.{RollView}
 use Rattle.water_model.specs.declared.types.Basin.{Basin}
 use Rattle.water_model.specs.declared.types.MonthRecord.{MonthRecord}
-use Rattle.cut_cert.specs.declared.rows.Chains.{Chains}
+use Rattle.chains.specs.declared.Chains.{Chains}
 use Rattle.plan_residual.specs.Residual.{HasPlan}
 use Rattle.plan_residual.specs.Rows.{AreStepRows}
 

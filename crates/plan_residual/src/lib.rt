@@ -35,7 +35,7 @@ use crate::scene::Scene;
 use crate::steps::start_of;
 use crate::sweep::sweep;
 use crate::visits::Queue;
-use cut_cert::rows::{Chains, chains_by};
+use chains::{Chains, chains_by};
 use rights_roll::roll::Roll;
 use std::alloc::{AllocError, Global};
 use std::marker::Model;

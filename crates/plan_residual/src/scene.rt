@@ -6,7 +6,7 @@ ghost use Rattle.plan_residual.specs.Scene.{IsScene};
 ghost use Rattle.plan_residual.specs.Sweep.{right_at};
 
 use crate::order::right_at;
-use cut_cert::rows::Chains;
+use chains::Chains;
 use rights_roll::roll::Roll;
 use std::marker::Model;
 use water_model::types::{Basin, MonthRecord};

@@ -11,9 +11,6 @@ pub mod StandingLaws
 pub mod LinesLeft
 pub mod Spelled
 mod MemberTexts
-mod MemberBlocks
-mod MembersTaken
-mod DueLines
 mod NodeTexts
 pub mod Accepting
 pub mod Telling

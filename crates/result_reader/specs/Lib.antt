@@ -9,4 +9,3 @@ pub mod ReadSoFar
 pub mod Records
 pub mod Laws
 pub mod NodeLines
-pub mod Members

@@ -1,5 +1,5 @@
 //! The fields of a line.
-ghost use Rattle.std.specs.Prelude.{◌≡◌, ◌++◌, ◌∷◌, IfSome};
+ghost use Rattle.std.specs.Prelude.{◌≡◌};
 ghost use Rattle.std.specs.Result.{result_map_both};
 ghost use Rattle.water_text.specs.Fields.{pieces_after};
 ghost use Rattle.result_reader.specs.Reading as reading;
@@ -9,18 +9,6 @@ use water_text::amount::read_plain;
 use water_text::fields::cut;
 use water_text::month::Month;
 use water_text::name::is_name;
-
-/// What stands after a field and the space behind it, if a text begins with them.
-pub fn after_field<'a>(field: &[u8], text: &'a [u8]) -> Option<&'a [u8]>
-    ensures { IfSome result (λ rest. text.now ≡ field.now ++ (32 ∷ rest.now)) }
-{
-    let end = field.len();
-    if end < text.len() && text[end] == b' ' && &text[..end] == field {
-        Some(&text[end + 1..])
-    } else {
-        None
-    }
-}
 
 /// Makes sure that there is no field.
 pub fn no_field(rest: Option<&[u8]>) -> Result<(), BadLine>

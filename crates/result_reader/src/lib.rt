@@ -7,12 +7,10 @@
 #![tactic(auto)]
 
 mod bad_line;
-mod due_lines;
 mod dues;
 mod fields;
 pub mod laws;
 mod likely;
-mod member_block;
 mod names;
 mod node_lines;
 mod position;
@@ -23,5 +21,5 @@ mod shape;
 mod words;
 
 pub use bad_line::BadLine;
-pub use reader::{MemberLine, MemberLines, ResultReader};
+pub use reader::{MemberLine, ResultReader};
 pub use result_lines::item::Item;

@@ -25,14 +25,6 @@ fn entry_of(shape: &Shape) -> u32 {
     }
 }
 
-/// The line of a month that is due at a position, if one is.
-fn shape_at(dues: &[Shape], position: Position) -> Option<Shape> {
-    match position {
-        Position::Month { at, .. } => dues.get(at).copied(),
-        Position::Title | Position::Run | Position::After => None,
-    }
-}
-
 /// The node that a list has at an index, or 0.
 fn node_at(nodes: &[u32], at: Option<u32>) -> u32 {
     match at {
@@ -48,16 +40,11 @@ pub fn likely_member(followers: &[u32], progress: &Progress) -> u32 {
     node_at(followers, progress.next_member)
 }
 
-/// The line of a month that is due, if one is.
-pub fn due_shape(dues: &[Shape], progress: &Progress) -> Option<Shape> {
-    shape_at(dues, progress.position)
-}
-
-/// The first entry that any other line most likely names: that of the line which is due.
-pub fn likely_entry(due: Option<Shape>) -> u32 {
-    match due {
-        Some(shape) => entry_of(&shape),
-        None => 0,
+/// The first entry that any other line most likely names: that of the line of a month that is due.
+pub fn likely_entry(dues: &[Shape], progress: &Progress) -> u32 {
+    match progress.position {
+        Position::Month { at, .. } if at < dues.len() => entry_of(&dues[at]),
+        _ => 0,
     }
 }
 

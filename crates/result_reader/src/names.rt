@@ -1,12 +1,11 @@
 //! Names, and what they name.
-ghost use Rattle.std.specs.Prelude.{◌≡◌, ◌<◌, ◌++◌, ◌∷◌, true, length, IfOk, IfSome};
+ghost use Rattle.std.specs.Prelude.{◌≡◌, ◌<◌, true, length, IfOk, IfSome};
 ghost use Rattle.water_model.specs.Entries.{count_in, name_in};
 ghost use Rattle.water_model.specs.Valid.{IsValidBasin};
 ghost use Rattle.water_model.specs.declared.space.Space.TheVariants.{Links, Reservoirs};
 ghost use Rattle.basin_names.specs.Named.{named};
 ghost use Rattle.result_reader.specs.NodeLines.{member_text};
 
-use crate::fields::after_field;
 use crate::node_lines::NodeLines;
 use basin_names::{BothNames, SpaceNames};
 use std::alloc::{AllocError, Global};
@@ -53,20 +52,6 @@ impl<'b> Names<'b> {
         ensures same { result ≡ true → name.now ≡ name_in space self.now.basin.now at }
     {
         at < count_in(space, self.basin) && name_in(space, self.basin, at).bytes() == name
-    }
-
-    /// What stands after the name of the entry at an index, which may be any number, and the space behind it, where the
-    /// entry is there and a text begins with them.
-    pub fn after_name<'a>(&self, space: Space, at: u32, text: &'a [u8]) -> Option<&'a [u8]>
-        requires { IsValidBasin self.now.basin.now }
-        ensures within { IfSome result (λ rest. at < count_in space self.now.basin.now) }
-        ensures rest { IfSome result (λ rest. text.now ≡ name_in space self.now.basin.now at ++ (32 ∷ rest.now)) }
-    {
-        if at < count_in(space, self.basin) {
-            after_field(name_in(space, self.basin, at).bytes(), text)
-        } else {
-            None
-        }
     }
 
     /// The `in` line of the node at an index, which may be any number, with its line feed, if there is one.

@@ -1,5 +1,5 @@
 //! The reader of a result text.
-ghost use Rattle.std.specs.Prelude.{◌≡◌, ◌+◌, ◌*◌, ◌^◌, ◌<◌, ◌≤◌, ◌++◌, ◌∷◌, [], List, length, take, All, IfOk};
+ghost use Rattle.std.specs.Prelude.{◌≡◌, ◌+◌, ◌*◌, ◌^◌, ◌<◌, ◌≤◌, ◌++◌, ◌∷◌, [], List, length, IfOk};
 ghost use Rattle.std.specs.Prelude.{IfSome, IfNone, OnOk, OnErr, Ok};
 ghost use Rattle.rights_roll.specs.Rolls.{IsRollOf};
 ghost use Rattle.result_lines.specs.Spelling.{line_of};
@@ -8,20 +8,17 @@ ghost use Rattle.result_lines.specs.declared.item.Item.{Item};
 ghost use Rattle.result_lines.specs.declared.item.Item.TheVariants as line;
 ghost use Rattle.water_text.specs.LinesIn.{TakesToFeed};
 ghost use Rattle.result_reader.specs.Form.{due, due_in_month};
-ghost use Rattle.result_reader.specs.Members.{AreRead, TakesLines, member_lines, members};
 ghost use Rattle.result_reader.specs.OfText.{IsOfText};
 ghost use Rattle.result_reader.specs.Reading.{item_of, read_line};
 ghost use Rattle.result_reader.specs.Standing.{ReaderStandsFor, max_lines};
 
 use crate::bad_line::BadLine;
-use crate::due_lines::due_line;
 use crate::dues::dues_of;
-use crate::likely::{Likely, due_shape, follow, likely_entry, likely_member};
-use crate::member_block::members_at;
+use crate::likely::{Likely, follow, likely_entry, likely_member};
 use crate::names::Names;
 use crate::position::Position;
 use crate::progress::{Progress, go_on, next_member, next_progress};
-use crate::reading::{is_member_line, item_by_fields, member_line};
+use crate::reading::{item_by_fields, member_line};
 use crate::shape::Shape;
 use result_lines::item::Item;
 use rights_roll::roll::Roll;
@@ -34,14 +31,6 @@ use water_model::types::Basin;
 pub struct MemberLine<'a> {
     pub node: u32,
     pub text: &'a [u8],
-}
-
-/// The `in` lines of several nodes that some bytes begin with: how many they are, and how many bytes with their line
-/// feeds.
-#[derive(Clone, Copy)]
-pub struct MemberLines {
-    pub count: usize,
-    pub bytes: usize,
 }
 
 /// Reads the lines of a result text of one basin in order, and accepts those that may come.
@@ -116,22 +105,15 @@ impl<'b> ResultReader<'b> {
         })
     }
 
-    /// What a line says, whatever stands before it. It is inlined, so that the other kinds cost nothing where the item
-    /// is known to be that of an `in` line, as of most lines.
-    #[inline(always)]
+    /// What a line says, whatever stands before it.
     fn item(&self, text: &[u8]) -> Result<Item, BadLine>
         ensures { result ≡ item_of self.now.basin text.now }
     {
-        let member = likely_member(&self.followers, &self.progress);
-        if is_member_line(&self.names, member, text) {
-            return Ok(Item::Member { node: member });
-        }
-        let due = due_shape(&self.dues, &self.progress);
-        if let Some(said) = due_line(&self.names, due, text) {
-            return Ok(said);
-        }
-        let entry = likely_entry(due);
-        item_by_fields(&self.names, Likely { member, entry }, text)
+        let likely = Likely {
+            member: likely_member(&self.followers, &self.progress),
+            entry: likely_entry(&self.dues, &self.progress),
+        };
+        item_by_fields(&self.names, likely, text)
     }
 
     /// Takes the next line, without its line feed, and answers what it says by the numbers of the basin. Amounts are in
@@ -201,43 +183,6 @@ impl<'b> ResultReader<'b> {
                 Some(MemberLine { node, text })
             }
             None => None,
-        }
-    }
-
-    /// Takes the next lines as `line` does, one after another, as long as some bytes begin with them and their line
-    /// feeds, and they are the `in` lines of these nodes in their order. The list may be of any numbers: it ends where
-    /// one isn't above that before it. Where not even the first line is such a line, nothing changes.
-    ///
-    /// Most lines of a text are those of a set that came before. They are only compared, and the reader goes on once,
-    /// after the last of them.
-    #[inline(always)]
-    pub fn likely_members(&mut self, piece: &[u8], nodes: &[u32]) -> MemberLines
-        ensures within { result.count ≤ length nodes.now }
-        ensures takes { TakesLines (member_lines self.old.basin (take result.count nodes.now)) piece.now result.bytes }
-        ensures of_basin { All (λ n. n < length self.old.basin.nodes) (take result.count nodes.now) }
-        ensures answer { (items : List Item) → ReaderStandsFor self.old items →
-            AreRead self.old.basin items (take result.count nodes.now) }
-        ensures accepted { (items : List Item) → ReaderStandsFor self.old items →
-            ReaderStandsFor self.new (items ++ members (take result.count nodes.now)) }
-        ensures none { result.count ≡ 0 → self.new ≡ self.old }
-        ensures basin { self.new.basin ≡ self.old.basin }
-        ensures left { self.new.left + result.count ≡ self.old.left }
-    {
-        let Some(first) = self.progress.next_member else {
-            return MemberLines { count: 0, bytes: 0 };
-        };
-        let block = members_at(&self.names, first, nodes, piece);
-        if block.count > 0 {
-            self.progress = Progress {
-                position: self.progress.position,
-                next_member: Some(block.next),
-                must: false,
-            };
-            self.left -= block.count as u64;
-        }
-        MemberLines {
-            count: block.count,
-            bytes: block.bytes,
         }
     }
 

@@ -1,5 +1,5 @@
 //! What a line says.
-ghost use Rattle.std.specs.Prelude.{◌≡◌, ◌+◌, ◌++◌, ◌∷◌, [], true, codes, drop, length, IfSome, Ok};
+ghost use Rattle.std.specs.Prelude.{◌≡◌, ◌+◌, ◌++◌, [], true, drop, length, IfSome, Ok};
 ghost use Rattle.water_text.specs.Fields.{pieces_after};
 ghost use Rattle.water_text.specs.LinesIn.{TakesToFeed};
 ghost use Rattle.water_model.specs.Valid.{IsValidBasin};
@@ -182,29 +182,6 @@ pub fn item_by_fields(names: &Names, likely: Likely, text: &[u8]) -> Result<Item
     match Word::of(first) {
         Some(word) => item_with(names, likely, word, rest),
         None => Err(BadLine::UnknownWord),
-    }
-}
-
-/// What stands after the word of an `in` line, if a line begins with it.
-fn after_in(text: &[u8]) -> Option<&[u8]>
-    ensures { IfSome result (λ rest. text.now ≡ codes "in " ++ rest.now) }
-{
-    if text.len() > 3 && text[0] == b'i' && text[1] == b'n' && text[2] == b' ' {
-        Some(&text[3..])
-    } else {
-        None
-    }
-}
-
-/// Whether a line is the `in` line of the node at an index, which may be any number. It is compared with the spelling
-/// of that, and its fields aren't looked at.
-pub fn is_member_line(names: &Names, node: u32, text: &[u8]) -> bool
-    requires { IsValidBasin names.now.basin.now }
-    ensures { result ≡ true → reading.item_of names.now.basin.now text.now ≡ Ok (line.Member node) }
-{
-    match after_in(text) {
-        Some(name) => names.has_name(Space::Nodes, node, name),
-        None => false,
     }
 }
 

@@ -1,4 +1,3 @@
-pub mod Chains
 pub mod Parts
 pub mod Indices
 pub mod Ranks

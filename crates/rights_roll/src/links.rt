@@ -1,16 +1,11 @@
 //! The instream rights on each link.
 ghost use Rattle.std.specs.Prelude.{◌≡◌, ℕ, ◌<◌, ◌≤◌, length, Some, IfOk};
-ghost use Rattle.rights_roll.specs.Rolls.{link_in, AreChains};
+ghost use Rattle.chains.specs.Chains.{AreChains};
+ghost use Rattle.rights_roll.specs.Rolls.{link_in};
 
+use chains::{Chains, chains_by};
 use std::alloc::{AllocError, Global};
 use water_model::types::{Right, RightKind};
-
-/// The first instream right on each link, and for each instream right the next one on its link.
-#[derive(Drop)]
-pub struct Chains {
-    pub first_on: Vec<Option<u32>>,
-    pub next_on: Vec<Option<u32>>,
-}
 
 /// The link of an instream right.
 fn link_at(rights: &[Right], at: usize) -> Option<u32>
@@ -36,19 +31,18 @@ fn link_count(rights: &[Right]) -> usize
     count
 }
 
-/// The chains of the instream rights. They are gone through from the last, so each finds the one after it. The tables
-/// have an entry for each link up to the greatest with an instream right, and for each right.
+/// The chains of the instream rights by their links. The tables have an entry for each link up to the greatest with an
+/// instream right, and for each right.
 pub fn chains_of(alloc: Global, rights: &[Right]) -> Result<Chains, AllocError>
     requires { length rights.now ≤ 2000 }
-    ensures { IfOk result (λ chains. AreChains rights.now chains.first_on.items chains.next_on.items) }
+    ensures { IfOk result (λ chains.
+        AreChains (link_in rights.now) (length rights.now) (length chains.first.items) chains) }
 {
-    let mut first_on = vec![in alloc; None; link_count(rights)]?;
-    let mut next_on = vec![in alloc; None; rights.len()]?;
-    for at in (0..rights.len()).rev() {
-        if let Some(link) = link_at(rights, at) {
-            next_on[at] = first_on[link as usize];
-            first_on[link as usize] = Some(at as u32);
-        }
-    }
-    Ok(Chains { first_on, next_on })
+    let chains = chains_by(
+        alloc,
+        link_count(rights),
+        rights.len(),
+        |right| link_at(rights, right),
+    )?;
+    Ok(chains)
 }

@@ -8,9 +8,10 @@ ghost use Rattle.rights_roll.specs.Rolls.{IsRollOf};
 
 use crate::RollRefused;
 use crate::faults::{check_dates, check_parts};
-use crate::links::{Chains, chains_of};
+use crate::links::chains_of;
 use crate::order::order_of;
 use crate::zones::check_zones;
+use chains::Chains;
 use std::alloc::{AllocError, Global};
 use std::marker::Model;
 use water_model::types::{Basin, ReturnRow, Right};
@@ -21,8 +22,7 @@ use water_model::types::{Basin, ReturnRow, Right};
 pub struct Roll {
     order: Vec<u32>,
     wants: Vec<[u64; 12]>,
-    first_on: Vec<Option<u32>>,
-    next_on: Vec<Option<u32>>,
+    on_links: Chains,
 }
 
 impl Model for Roll {
@@ -34,12 +34,12 @@ impl Model for Roll {
     ghost view = { λ r. record {
       order = r.order.items;
       wants = r.wants.items;
-      first_on = r.first_on.items;
+      first_on = r.on_links.first.items;
       next_on =
-          r.next_on.items;
+          r.on_links.next.items;
     } };
 
-    ghost invariant = { λ r. length r.next_on.items ≡ length r.wants.items };
+    ghost invariant = { λ r. length r.on_links.next.items ≡ length r.wants.items };
 }
 
 /// The wants of each right in the twelve months.
@@ -75,12 +75,11 @@ impl Roll {
         check_zones(alloc, rights)?;
         check_parts(alloc, rights, returns)?;
         let wants = wants_of(alloc, rights)?;
-        let Chains { first_on, next_on } = chains_of(alloc, rights)?;
+        let on_links = chains_of(alloc, rights)?;
         Ok(Roll {
             order,
             wants,
-            first_on,
-            next_on,
+            on_links,
         })
     }
 
@@ -117,7 +116,7 @@ impl Roll {
     pub fn first_on(&self, link: u32) -> Option<u32>
         ensures { result ≡ slice_index_or self.now.first_on link None }
     {
-        self.first_on.get(link as usize).copied().flatten()
+        self.on_links.first_of(link)
     }
 
     /// The next instream right on the link of an instream right, or `None` where there is none, or the right is no
@@ -126,6 +125,6 @@ impl Roll {
         requires { right < length self.now.wants }
         ensures { result ≡ slice_index_or self.now.next_on right None }
     {
-        self.next_on[right as usize]
+        self.on_links.next_of(right)
     }
 }

@@ -1,5 +1,4 @@
 pub mod Entries
-pub mod FirstLinks
 pub mod Indices
 pub mod Entering
 pub mod Sorts

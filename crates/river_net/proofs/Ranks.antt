@@ -8,13 +8,15 @@ use Rattle.std.specs.List.{list_any}
 use Rattle.finite_sums.specs.Sums.{count_where}
 use Rattle.finite_sums.proofs.Totals.{total_le, total_first, count_more}
 use Rattle.water_model.specs.Network.{tail_in, head_in, IsForward, IsSoundNetwork}
+use Rattle.water_model.specs.Valid.{IsValidBasin}
+use Rattle.water_model.specs.declared.types.Basin.{Basin}
 use Rattle.water_model.specs.declared.types.Link.{Link}
 use Rattle.water_model.specs.declared.types.Node.{Node}
 use Rattle.river_net.specs.Firsts.{IsWithin}
 use Rattle.river_net.proofs.Chains.{Chain, chain_start, chain_more, chain_turns}
 use Rattle.river_net.proofs.Walks.{any_index, index_any}
 use Rattle.river_net.proofs.Entries.{tail_is, head_is}
-use Rattle.water_model.proofs.Valid.{entry_at}
+use Rattle.water_model.proofs.Valid.{ends, entry_at}
 
 -- whether this many links, one after the other, end at a node
 has_chain : List Link → ℕ → ℕ → Bool
@@ -95,3 +97,7 @@ forward_numbers nodes links within sound = record {
     up zero e l same = let inside = (within.ends e l).0 in absurd (omega arith)
     up (suc n) e l same = rises links n e l (λ h. short (head_in links e) (within.ends e l).1
         (subst (λ m. has_chain links m (head_in links e) ≡ true) same h))
+
+-- so have those of a valid basin
+pub ranks : (b : Basin) → IsValidBasin b → HasNumbers b.links
+ranks b valid = forward_numbers b.nodes b.links record { ends = ends b valid } valid.network

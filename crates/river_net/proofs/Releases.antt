@@ -6,34 +6,13 @@ use Rattle.std.proofs.lemmas.Bool.Decides.{nat_tests}
 use Rattle.std.specs.Prelude.{◌==◌, ◌&&◌, ◌||◌, slice_index, slice_set, nat_lt, if◌then◌else◌, ◌⊎◌, Option, Some, None}
 use Rattle.std.specs.Prelude.{IfSome}
 use Rattle.water_model.specs.Network.{tail_in, head_in}
-use Rattle.river_net.specs.Firsts.{IsWithin, IsFirstFrom, leaves}
+use Rattle.chains.specs.Chains.{is_before}
+use Rattle.chains.proofs.Walking.{next_has, splits}
+use Rattle.river_net.specs.Firsts.{IsNextFrom, IsWithin}
 use Rattle.river_net.specs.GraphView.{GraphView}
 use Rattle.finite_sums.proofs.Totals.{count_at_most}
-use Rattle.river_net.specs.Sorting.{IsPlacing, IsReleased, IsReleasing, is_before}
+use Rattle.river_net.specs.Sorting.{IsPlacing, IsReleased, IsReleasing}
 use Rattle.river_net.proofs.Sorts.{and_link, waits_for, IsSettled, settled}
-
--- what a first link says of itself
-pub first_leaves : (g : GraphView) (node from : ℕ) (next : Option ℕ) →
-    IsFirstFrom (leaves g.links node) from (length g.links) next →
-    IfSome next (λ e. (e < length g.links) × (tail_in g.links e ≡ node))
-first_leaves g node from None first = tt
-first_leaves g node from (Some e) first = (first.1, eqb-true (tail_in g.links e) node first.2)
-
--- of the links that leave the node, those from an index on are those from the next one on
-pub splits : (g : GraphView) (node from : ℕ) (next : Option ℕ) →
-    IsFirstFrom (leaves g.links node) from (length g.links) next →
-    (f : ℕ) → f < length g.links → tail_in g.links f ≡ node → is_before next f ≡ nat_lt f from
-splits g node from None first f l at =
-    below f from (λ more. let no = first f more l in let yes = eq-eqb (tail_in g.links f) node at in cc)
-  where
-    below : (f from : ℕ) → (from ≤ f → ⊥) → true ≡ nat_lt f from
-    below f from h = grind (arith, nat_tests)
-splits g node from (Some e) first f l at =
-    between f from e first.0 (λ more less. let no = first.3 f more less in let yes =
-    eq-eqb (tail_in g.links f) node at in cc)
-  where
-    between : (f from e : ℕ) → from ≤ e → (from ≤ f → f < e → ⊥) → nat_lt f e ≡ nat_lt f from
-    between f from e le h = grind (arith, nat_tests)
 
 -- an order has no more nodes than there are
 pub order_fits : {g : GraphView} {order : List ℕ} {position : ℕ → ℕ} → IsPlacing g order position →
@@ -52,7 +31,7 @@ own_node {g} {order} done v now inside below is = elim (now.each v inside) [
 -- before the first link of the node
 pub release_start : {g : GraphView} {order waits : List ℕ} {done : ℕ} {next : Option ℕ} → IsWithin g.nodes g.links →
     done < length order →
-    IsFirstFrom (leaves g.links (slice_index order done)) 0 (length g.links) next → IsReleased g order waits done →
+    IsNextFrom g.links (slice_index order done) 0 next → IsReleased g order waits done →
     IsReleasing g order waits done (slice_index order done) next
 release_start {g} {order} {waits} {done} {next} within below first now = record {
   position = now.position;
@@ -60,9 +39,9 @@ release_start {g} {order} {waits} {done} {next} within below first now = record 
   sorting = now.sorting;
   within = below;
   at = refl;
-  leaves = first_leaves g (slice_index order done) 0 next first;
+  leaves = next_has (tail_in g.links) (slice_index order done) 0 (length g.links) next first;
   which = λ e l. now.which e l ∙ none_yet (now.position (tail_in g.links e)) done (is_before next e) e (λ is.
-      splits g (slice_index order done) 0 next first e l
+      splits (tail_in g.links) (slice_index order done) 0 (length g.links) next first e l
       (own_node done (tail_in g.links e) now.sorting.placing (within.ends e l).0 below is));
 }
   where
@@ -90,7 +69,7 @@ next_waits {e = e} within now = waits_for e within now.sorting now.leaves.0 (nex
 -- the link at hand is handled
 pub release_next : {g : GraphView} {order waits order' waits' : List ℕ} {done node e : ℕ} {next : Option ℕ} →
     IsWithin g.nodes g.links → IsReleasing g order waits done node (Some e) →
-    IsFirstFrom (leaves g.links (tail_in g.links e)) (e + 1) (length g.links) next →
+    IsNextFrom g.links (tail_in g.links e) (e + 1) next →
     waits' ≡ slice_set waits (head_in g.links e) (slice_index waits (head_in g.links e) - 1) →
     order' ≡ (if slice_index waits (head_in g.links e) == 1 then order ++ head_in g.links e ∷ [] else order) →
     IsReleasing g order' waits' done node next
@@ -101,12 +80,12 @@ release_next {g} {order} {waits} {order'} {waits'} {done} {node} {e} {next} with
       sorting = s.sorting;
       within = (let b = now.within in let m = s.more in omega arith);
       at = s.same done now.within ∙ now.at;
-      leaves = first_leaves g node (e + 1) next on;
+      leaves = next_has (tail_in g.links) node (e + 1) (length g.links) next on;
       which = λ f l. which f l;
     }
   where
-    on : IsFirstFrom (leaves g.links node) (e + 1) (length g.links) next
-    on = subst (λ v. IsFirstFrom (leaves g.links v) (e + 1) (length g.links) next) now.leaves.1 first
+    on : IsNextFrom g.links node (e + 1) next
+    on = subst (λ v. IsNextFrom g.links v (e + 1) next) now.leaves.1 first
 
     s : IsSettled g order waits now.position now.handled e order' waits'
     s = let o = next_open now in let b = now.within in
@@ -132,7 +111,7 @@ release_next {g} {order} {waits} {order'} {waits'} {done} {node} {e} {next} with
         (s.grows (tail_in g.links f) inside) now.within bounded in
         by_index (now.handled f) (is_before next f) (now.position (tail_in g.links f)) done f e
         (λ q. ap (λ x. now.position (tail_in g.links x)) q ∙ (next_open now).1) (now.which f l)
-        (λ is. splits g node (e + 1) next on f l
+        (λ is. splits (tail_in g.links) node (e + 1) (length g.links) next on f l
         (own_node done (tail_in g.links f) now.sorting.placing inside now.within is ∙ now.at))
         ∙ sym (ap (λ t. t || (s.position' (tail_in g.links f) == done && is_before next f)) same.0
         ∙ ap (λ t. nat_lt (now.position (tail_in g.links f)) done || (t && is_before next f)) same.1)

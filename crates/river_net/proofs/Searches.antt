@@ -9,11 +9,11 @@ use Rattle.std.specs.Prelude.{◌==◌, ◌||◌, nat_lt, slice_index, slice_set
 use Rattle.finite_sums.proofs.Totals.{total_same, total_add, total_at, count_at_most}
 use Rattle.water_model.specs.Lookups.{has}
 use Rattle.water_model.specs.Network.{walks, tail_in, head_in}
-use Rattle.river_net.specs.Firsts.{IsWithin, IsFirstFrom, leaves}
+use Rattle.chains.proofs.Walking.{next_has, splits}
+use Rattle.river_net.specs.Firsts.{IsNextFrom, IsWithin}
 use Rattle.river_net.specs.GraphView.{GraphView}
 use Rattle.river_net.specs.Search.{IsSearch, IsExpanded, IsExpanding, reaches_itself}
 use Rattle.finite_sums.proofs.Counts.{at_inside}
-use Rattle.river_net.proofs.Releases.{first_leaves, splits}
 use Rattle.river_net.proofs.Walks.{walk_on, walk_one, walk_within, walk_stays}
 
 -- what a set has with one more node
@@ -93,7 +93,7 @@ pub expand_next : {g : GraphView} {start : ℕ} {seen : List Bool} {queue : List
     IsWithin g.nodes g.links → IsExpanding g start seen queue done node (Some e) → (head_in g.links e ≡ start → ⊥) →
     seen' ≡ slice_set seen (head_in g.links e) true →
     queue' ≡ (if has seen (head_in g.links e) then queue else queue ++ head_in g.links e ∷ []) →
-    IsFirstFrom (leaves g.links (tail_in g.links e)) (e + 1) (length g.links) next →
+    IsNextFrom g.links (tail_in g.links e) (e + 1) next →
     IsExpanding g start seen' queue' done node next
 expand_next {g} {start} {seen} {queue} {done} {node} {e} {seen'} {queue'} {next} within now other seen_is
     queue_is first =
@@ -116,8 +116,8 @@ expand_next {g} {start} {seen} {queue} {done} {node} {e} {seen'} {queue'} {next}
     s : IsSearch g start seen queue
     s = now.expanded.search
 
-    on : IsFirstFrom (leaves g.links node) (e + 1) (length g.links) next
-    on = subst (λ v. IsFirstFrom (leaves g.links v) (e + 1) (length g.links) next) now.leaves.1 first
+    on : IsNextFrom g.links node (e + 1) next
+    on = subst (λ v. IsNextFrom g.links v (e + 1) next) now.leaves.1 first
 
     has_is : (u : ℕ) → has seen' u ≡ (u == h || has seen u)
     has_is u = ap (λ (xs : List Bool). has xs u) seen_is ∙ has_more seen h u (let c = s.count in omega (arith, inside))
@@ -222,7 +222,7 @@ expand_next {g} {start} {seen} {queue} {done} {node} {e} {seen'} {queue'} {next}
       };
       within = (let b = now.within in omega arith);
       at = same done now.within ∙ now.at;
-      leaves = first_leaves g node (e + 1) next on;
+      leaves = next_has (tail_in g.links) node (e + 1) (length g.links) next on;
       followed = λ f l at before. elim (cases_eq f e) [
         | inl here ↦ (
           has_is (head_in g.links f)
@@ -230,7 +230,7 @@ expand_next {g} {start} {seen} {queue} {done} {node} {e} {seen'} {queue'} {next}
           λ q. other (ap (head_in g.links) (sym here) ∙ q),
         )
         | inr apart ↦
-            (let c = now.followed f l at (less f e apart (sym (splits g node (e + 1) next on f l at) ∙ before)) in
+            (let c = now.followed f l at (less f e apart (sym (splits (tail_in g.links) node (e + 1) (length g.links) next on f l at) ∙ before)) in
             (keeps (head_in g.links f) c.0, c.1))
       ];
     }

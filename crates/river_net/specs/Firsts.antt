@@ -1,43 +1,36 @@
 -- First links: of all that leave a node, and of the rivers among them.
-use Rattle.std.specs.Prelude.{◌≡◌, ℕ, ◌+◌, ◌<◌, ◌≤◌, ◌==◌, ◌&&◌, Bool, true, false, List, length, slice_index_or}
-use Rattle.std.specs.Prelude.{Option, Some, None}
+use Rattle.std.specs.Prelude.{◌≡◌, ℕ, ◌<◌, ◌≤◌, List, length, slice_index_or, Option, Some, None, if◌then◌else◌}
+use Rattle.chains.specs.Chains.{AreChains, IsFirst, has_key}
+use Rattle.chains.specs.declared.Chains.{Chains}
 use Rattle.water_model.specs.Network.{tail_in, head_in, is_river_in}
 use Rattle.water_model.specs.declared.types.Link.{Link}
 
--- the first of the indices from, from + 1, .., below a bound, that passes a test, or none
-abbrev pub IsFirstFrom : (ℕ → Bool) → ℕ → ℕ → Option ℕ → Type 0
-IsFirstFrom test from bound None = (k : ℕ) → from ≤ k → k < bound → test k ≡ false
-IsFirstFrom test from bound (Some position) =
-    (from ≤ position) × (position < bound) × (test position ≡ true) ×
-    ((k : ℕ) → from ≤ k → k < position → test k ≡ false)
+-- the node that a link leaves, and the one that it leaves as a river
+abbrev pub left_by : List Link → ℕ → Option ℕ
+left_by links link = Some (tail_in links link)
 
--- whether a link leaves a node, and whether it does so as a river
-abbrev pub leaves : List Link → ℕ → ℕ → Bool
-leaves links node link = tail_in links link == node
+abbrev pub left_by_river : List Link → ℕ → Option ℕ
+left_by_river links link = if is_river_in links link then Some (tail_in links link) else None
 
-abbrev pub leaves_as_river : List Link → ℕ → ℕ → Bool
-leaves_as_river links node link = tail_in links link == node && is_river_in links link
+-- the answer is the first link from an index on that leaves the node, or none, and the first river
+abbrev pub IsNextFrom : List Link → ℕ → ℕ → Option ℕ → Type 0
+IsNextFrom links node from = IsFirst (has_key (left_by links) node) from (length links)
 
--- for each node the first link from the index `from` on that passes its test
-pub record AreFirsts (test : ℕ → ℕ → Bool) (nodes from links : ℕ) (firsts : List (Option ℕ)) : Type 0 where
-  pub count : length firsts ≡ nodes
-  pub each : (v : ℕ) → v < nodes → IsFirstFrom (test v) from links (slice_index_or firsts v None)
+abbrev pub IsFirstRiverFrom : List Link → ℕ → Option ℕ → Type 0
+IsFirstRiverFrom links node = IsFirst (has_key (left_by_river links) node) 0 (length links)
+
+-- for each node the first river that leaves it
+pub record AreFirstRivers (nodes : ℕ) (links : List Link) (rivers : List (Option ℕ)) : Type 0 where
+  pub count : length rivers ≡ nodes
+  pub each : (v : ℕ) → IsFirstRiverFrom links v (slice_index_or rivers v None)
 
 -- the ends of each link are below a number of nodes
 pub record IsWithin (nodes : ℕ) (links : List Link) : Type 0 where
   pub ends : (e : ℕ) → e < length links → (tail_in links e < nodes) × (head_in links e < nodes)
 
--- for each node the first link that leaves it, and for each link the next that leaves the same node, of the links from
--- the index `from` on
-pub record IsLeaving (nodes : ℕ) (links : List Link) (from : ℕ) (first next : List (Option ℕ)) : Type 0 where
-  pub firsts : AreFirsts (leaves links) nodes from (length links) first
-  pub count : length next ≡ length links
-  pub nexts : (e : ℕ) → from ≤ e → e < length links →
-      IsFirstFrom (leaves links (tail_in links e)) (e + 1) (length links) (slice_index_or next e None)
-
 -- what a graph keeps
-pub record IsGraph (links : List Link) (first next : List (Option ℕ)) : Type 0 where
-  pub leaving : IsLeaving (length first) links 0 first next
-  pub within : IsWithin (length first) links
-  pub bounded_nodes : length first ≤ 2000
+pub record IsGraph (links : List Link) (leaving : Chains) : Type 0 where
+  pub chains : AreChains (left_by links) (length links) (length leaving.first.items) leaving
+  pub within : IsWithin (length leaving.first.items) links
+  pub bounded_nodes : length leaving.first.items ≤ 2000
   pub bounded_links : length links ≤ 4000

@@ -4,7 +4,7 @@ use Rattle.finite_sums.specs.Sums.{count_where}
 use Rattle.water_model.specs.Lookups.{has}
 use Rattle.water_model.specs.Network.{walks, tail_in, head_in}
 use Rattle.river_net.specs.GraphView.{GraphView}
-use Rattle.river_net.specs.Sorting.{is_before}
+use Rattle.chains.specs.Chains.{is_before}
 
 -- whether a walk leads from a node back to it
 abbrev pub reaches_itself : GraphView → ℕ → Bool

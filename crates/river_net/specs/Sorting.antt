@@ -1,6 +1,7 @@
 -- How nodes get their positions in an order in which each link runs forward.
 use Rattle.std.specs.Prelude.{◌≡◌, ◌⊎◌, ℕ, ◌<◌, ◌≤◌, ◌==◌, ◌&&◌, ◌||◌, Bool, true, false, not, nat_lt, List, length}
 use Rattle.std.specs.Prelude.{slice_index, Option, Some, None, IfSome}
+use Rattle.chains.specs.Chains.{is_before}
 use Rattle.finite_sums.specs.Sums.{count_where}
 use Rattle.water_model.specs.Network.{tail_in, head_in}
 use Rattle.river_net.specs.GraphView.{GraphView}
@@ -44,10 +45,6 @@ pub record IsReleased (g : GraphView) (order waits : List ℕ) (done : ℕ) : Ty
   pub sorting : IsSorting g order waits position handled g.nodes
   pub within : done ≤ length order
   pub which : (e : ℕ) → e < length g.links → handled e ≡ nat_lt (position (tail_in g.links e)) done
-
-abbrev pub is_before : Option ℕ → ℕ → Bool
-is_before None link = true
-is_before (Some next) link = nat_lt link next
 
 -- so are the links before `next` that leave the node after them
 pub record IsReleasing (g : GraphView) (order waits : List ℕ) (done node : ℕ) (next : Option ℕ) : Type 0 where

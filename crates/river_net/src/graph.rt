@@ -1,21 +1,19 @@
 //! The nodes and links as a graph.
 ghost use Rattle.std.specs.Prelude.{◌≡◌, ◌+◌, ◌<◌, ◌≤◌, All, IfOk, length};
 ghost use Rattle.water_model.specs.Network.{HasNodes, head_in, tail_in};
-ghost use Rattle.river_net.specs.Firsts.{IsFirstFrom, IsWithin, leaves};
+ghost use Rattle.river_net.specs.Firsts.{IsNextFrom, IsWithin};
 ghost use Rattle.river_net.specs.Sorting.{AreEntering};
 
+use chains::{Chains, chains_by};
 use std::alloc::{AllocError, Global};
 use std::marker::Model;
 use water_model::types::{Link, Node};
 
-/// Links between nodes, with the links that leave each node as a list in the order of their indices.
+/// Links between nodes, with those that leave each node as a chain in the order of their indices.
 #[derive(Drop)]
 pub struct Graph<'a> {
     links: &'a [Link],
-    /// For each node the first link that leaves it.
-    first: Vec<Option<u32>>,
-    /// For each link the next that leaves the same node.
-    next: Vec<Option<u32>>,
+    leaving: Chains,
 }
 
 impl<'a> Model for Graph<'a> {
@@ -25,9 +23,19 @@ impl<'a> Model for Graph<'a> {
 
     ghost Value = { GraphView };
 
-    ghost view = { λ g. record { nodes = length g.first.items; links = g.links.now } };
+    ghost view = { λ g. record { nodes = length g.leaving.first.items; links = g.links.now } };
 
-    ghost invariant = { λ g. IsGraph g.links.now g.first.items g.next.items };
+    ghost invariant = { λ g. IsGraph g.links.now g.leaving };
+}
+
+/// The node that a link leaves.
+fn tail(nodes: &[Node], links: &[Link], link: usize) -> u32
+    requires ends { All (λ l. HasNodes nodes.now l) links.now }
+    requires link { link < length links.now }
+    ensures value { result ≡ tail_in links.now link }
+    ensures within { result < length nodes.now }
+{
+    links[link].from
 }
 
 /// For each node how many links lead to it.
@@ -45,7 +53,7 @@ fn count_entering(alloc: Global, nodes: usize, links: &[Link]) -> Result<Vec<u32
 }
 
 impl<'a> Graph<'a> {
-    /// Puts each link into the list of the node that it leaves.
+    /// Puts each link into the chain of the node that it leaves.
     pub fn build(alloc: Global, nodes: &[Node], links: &'a [Link]) -> Result<Graph<'a>, AllocError>
         requires bounded_nodes { length nodes.now ≤ 2000 }
         requires bounded_links { length links.now ≤ 4000 }
@@ -53,14 +61,10 @@ impl<'a> Graph<'a> {
         ensures { IfOk result (λ graph.
             graph ≡ record { nodes = length nodes.now; links = links.now }) }
     {
-        let mut first = vec![in alloc; None; nodes.len()]?;
-        let mut next = vec![in alloc; None; links.len()]?;
-        for position in (0..links.len()).rev() {
-            let from = links[position].from as usize;
-            next[position] = first[from];
-            first[from] = Some(position as u32);
-        }
-        Ok(Graph { links, first, next })
+        let leaving = chains_by(alloc, nodes.len(), links.len(), |link| {
+            Some(tail(nodes, links, link))
+        })?;
+        Ok(Graph { links, leaving })
     }
 
     /// How many nodes there are.
@@ -69,7 +73,7 @@ impl<'a> Graph<'a> {
         ensures bounded { result ≤ 2000 }
         ensures within { IsWithin self.now.nodes self.now.links }
     {
-        self.first.len()
+        self.leaving.first.len()
     }
 
     /// For each node how many links lead to it.
@@ -79,7 +83,7 @@ impl<'a> Graph<'a> {
         ensures within { IsWithin self.now.nodes self.now.links }
         ensures bounded { self.now.nodes ≤ 2000 }
     {
-        count_entering(alloc, self.first.len(), self.links)
+        count_entering(alloc, self.leaving.first.len(), self.links)
     }
 
     /// The node that a link leads to.
@@ -94,18 +98,17 @@ impl<'a> Graph<'a> {
     /// The first link that leaves a node.
     pub fn first(&self, node: u32) -> Option<u32>
         requires { node < self.now.nodes }
-        ensures value { IsFirstFrom (leaves self.now.links node) 0 (length self.now.links) result }
+        ensures value { IsNextFrom self.now.links node 0 result }
         ensures within { IsWithin self.now.nodes self.now.links }
     {
-        self.first[node as usize]
+        self.leaving.first_of(node)
     }
 
     /// The next link that leaves the same node as this one.
     pub fn next(&self, link: u32) -> Option<u32>
         requires { link < length self.now.links }
-        ensures { let links = self.now.links in
-            IsFirstFrom (leaves links (tail_in links link)) (link + 1) (length links) result }
+        ensures { IsNextFrom self.now.links (tail_in self.now.links link) (link + 1) result }
     {
-        self.next[link as usize]
+        self.leaving.next_of(link)
     }
 }

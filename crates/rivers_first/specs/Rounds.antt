@@ -1,6 +1,6 @@
 -- Rounds: closed walks of the residual network that take water off a canal, and give it to rivers.
 use Rattle.std.specs.Prelude.{◌≡◌, ◌≢◌, ◌⊎◌, ℕ, ◌+◌, ◌<◌, ◌≤◌, ◌^◌, true, false, None, All, List, length, map}
-use Rattle.std.specs.Prelude.{slice_index}
+use Rattle.std.specs.Prelude.{slice_index, Option, Some}
 use Rattle.water_model.specs.Basin.{tail_of, head_of, is_river, instream_link}
 use Rattle.water_model.specs.declared.types.Basin.{Basin}
 use Rattle.rivers_first.specs.declared.instream.InstreamSpan.{InstreamSpan}
@@ -19,6 +19,10 @@ links_above b kept = record {
   lower = kept;
   upper = λ e. 10 ^ 15;
 }
+
+-- the node that a step over a link leaves
+abbrev pub starts_at : Basin → ℕ → Option ℕ
+starts_at b step = Some (start_of (links_above b (λ e. 0)) step)
 
 -- the first step goes back over a canal
 pub record BeginsOnCanal (b : Basin) (round : List ℕ) : Type 0 where

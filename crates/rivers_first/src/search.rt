@@ -1,12 +1,14 @@
 //! The search for rounds, breadth first.
 //!
 //! Nothing is proved of the way that a search finds: `is_round` tests it before it is kept.
-ghost use Rattle.std.specs.Prelude.{◌≡◌, ◌<◌, All, length, OnOk, IfOk, IfSome};
+ghost use Rattle.std.specs.Prelude.{◌≡◌, ◌*◌, ◌<◌, All, length, OnOk, IfOk, IfSome, IsSome, [], None, slice_index_or};
+ghost use Rattle.chains.specs.Chains.{AreChains};
 ghost use Rattle.water_model.specs.Valid.{IsValidBasin};
 ghost use Rattle.circulation.specs.Residual.{arc_of};
-ghost use Rattle.rivers_first.specs.Rounds.{IsRound};
+ghost use Rattle.rivers_first.specs.Rounds.{IsRound, starts_at};
 
 use crate::checked::{end_of, is_river, is_round, start_of};
+use chains::{Chains, chains_by};
 use std::alloc::{AllocError, Global};
 use water_model::rows::Rows;
 use water_model::types::Basin;
@@ -17,10 +19,8 @@ const LONGEST: u32 = 64;
 /// The steps over a basin's links, and a search along them.
 #[derive(Drop)]
 pub struct Search {
-    /// For each node the first step that leaves it.
-    first: Vec<Option<u32>>,
-    /// For each step the next one that leaves the same node.
-    next: Vec<Option<u32>>,
+    /// For each node the steps that leave it.
+    steps: Chains,
     /// For each node the step by which water goes on from it to the node that is looked for.
     onward: Vec<Option<u32>>,
     /// The nodes from which it does, in the order in which they were found.
@@ -31,45 +31,33 @@ impl Search {
     /// A search over the links of a basin.
     pub fn open(alloc: Global, basin: &Basin) -> Result<Search, AllocError>
         requires { IsValidBasin basin.now }
+        ensures { let b = basin.now in IfOk result (λ search.
+            AreChains (starts_at b) (2 * length b.links) (length b.nodes) search.steps) }
     {
         let nodes = basin.nodes.len();
-        let mut search = Search {
-            first: vec![in alloc; None; nodes]?,
-            next: vec![in alloc; None; 2 * basin.links.len()]?,
-            onward: vec![in alloc; None; nodes]?,
-            queue: Vec::with_capacity(alloc, nodes)?,
-        };
-        for step in (0..2 * basin.links.len() as u32).rev() {
-            search.put(start_of(basin, step), step);
-        }
-        Ok(search)
-    }
-
-    /// Puts a step before the others that leave its node.
-    fn put(&mut self, node: u32, step: u32) {
-        if (node as usize) < self.first.len() && (step as usize) < self.next.len() {
-            self.next[step as usize] = self.first[node as usize];
-            self.first[node as usize] = Some(step);
-        }
-    }
-
-    /// The first step that leaves a node.
-    fn first_from(&self, node: u32) -> Option<u32> {
-        self.first.get(node as usize).copied().flatten()
-    }
-
-    /// The next step that leaves the same node.
-    fn next_after(&self, step: u32) -> Option<u32> {
-        self.next.get(step as usize).copied().flatten()
+        let steps = chains_by(alloc, nodes, 2 * basin.links.len(), |step| {
+            Some(start_of(basin, step as u32))
+        })?;
+        let onward = vec![in alloc; None; nodes]?;
+        let queue = Vec::with_capacity(alloc, nodes)?;
+        Ok(Search {
+            steps,
+            onward,
+            queue,
+        })
     }
 
     /// The step by which water goes on from a node, if it does.
-    fn onward_from(&self, node: u32) -> Option<u32> {
+    fn onward_from(&self, node: u32) -> Option<u32>
+        ensures { result ≡ slice_index_or self.now.onward.items node None }
+    {
         self.onward.get(node as usize).copied().flatten()
     }
 
     /// Forgets what was noted of the nodes that were found.
-    fn forget(&mut self) {
+    fn forget(&mut self)
+        ensures { self.new.queue.items ≡ [] }
+    {
         for node in &self.queue {
             let at = *node as usize;
             if at < self.onward.len() {
@@ -80,7 +68,10 @@ impl Search {
     }
 
     /// Notes by which step water goes on from a node, unless there is one already.
-    fn note(&mut self, node: u32, step: u32) -> Result<(), AllocError> {
+    fn note(&mut self, node: u32, step: u32) -> Result<(), AllocError>
+        ensures { OnOk result (node < length self.old.onward.items →
+            IsSome (slice_index_or self.new.onward.items node None)) }
+    {
         let at = node as usize;
         if at < self.onward.len() && self.onward[at].is_none() {
             self.onward[at] = Some(step);
@@ -105,13 +96,13 @@ impl Search {
 
     /// Follows each step that leaves a node.
     fn spread(&mut self, basin: &Basin, node: u32, either: bool) -> Result<(), AllocError> {
-        let mut next = self.first_from(node);
-        for _ in 0..self.next.len() {
+        let mut next = self.steps.first_of(node);
+        for _ in 0..self.steps.next.len() {
             let Some(step) = next else {
                 break;
             };
             self.follow(basin, step, either)?;
-            next = self.next_after(step);
+            next = self.steps.next_of(step);
         }
         Ok(())
     }
@@ -230,13 +221,13 @@ impl Search {
         requires { All (IsRound basin.now) rounds.old.items }
         ensures { OnOk result (All (IsRound basin.now) rounds.new.items) }
     {
-        let mut next = self.first_from(node);
-        for _ in 0..self.next.len() {
+        let mut next = self.steps.first_of(node);
+        for _ in 0..self.steps.next.len() {
             let Some(step) = next else {
                 break;
             };
             self.add_round(alloc, basin, step, rounds)?;
-            next = self.next_after(step);
+            next = self.steps.next_of(step);
         }
         Ok(())
     }

@@ -36,7 +36,7 @@ not_in p q h = grind (arith, nat_tests)
 
 pub capacity_same : (b : Basin) (month : Month) (supply want : List ℕ) (w : Network) (cut : List Bool) →
     IsMonthNetwork b month supply want w → length cut ≡ length b.nodes →
-    cut_in w (has cut) ≡ cut_capacity b month supply cut
+    cut_in w (has cut) ≡ cut_capacity b (carry_of b month) supply cut
 capacity_same b month supply want w cut net len =
     omega (
       arith,
@@ -150,14 +150,6 @@ kept_same b month supply want delivered w right cut net holds kind len =
         (ap (has cut) (t refl) ∙ outside_out cut (length b.nodes) (omega arith))
         (ap (λ o. node_within o cut) (f refl)) (h refl)
         (λ e. ap (λ s. is_senior b s right) (n refl e) ∙ not_senior_to_itself b right)
-
--- a set of nodes as a test
-pub has_list : (n : ℕ) (y : ℕ → Bool) → ((v : ℕ) → n ≤ v → y v ≡ false) → (v : ℕ) → has (list_of n y) v ≡ y v
-has_list n y basin v = elim (cases_lt v n) [
-  | inl l ↦ get_or-map-range_with_len y 0 n v v false l (omega arith)
-  | inr l ↦ get_or-eq_default (list_of n y) false (let e = length-map-range_with_len y 0 n in omega arith)
-      ∙ sym (basin v l)
-]
 
 both : (p q : Bool) → p && q ≡ true → (p ≡ true) × (q ≡ true)
 both p q h = grind (arith, nat_tests)

@@ -14,7 +14,7 @@ use Rattle.circulation.specs.Contents.{Contents, network}
 use Rattle.senior_hold.specs.MonthNetwork.{takes, take_arc, out_arc, HasBasinEnds}
 use Rattle.senior_hold.proofs.MonthArcs.{IsKind, on_link, at_node, AreKinds, IsArc, is_link, is_take, is_out, arc_is}
 use Rattle.senior_hold.specs.Arcs.{AreEnds, AreEndsOf}
-use Rattle.senior_hold.proofs.PathOut.{ranks}
+use Rattle.river_net.proofs.Ranks.{ranks}
 use Rattle.senior_hold.proofs.Lists.{get_last, pushed_count}
 use Rattle.senior_hold.proofs.RightKinds.{take_arc_more, out_arc_more}
 use Rattle.water_model.proofs.Lists.{get_before}

@@ -9,8 +9,7 @@ use Rattle.circulation.specs.Network.{IsGreatestCut}
 use Rattle.circulation.specs.Contents.{Contents, network, flow_of, SameButFlow}
 use Rattle.augment.specs.Raised.{not_reached, position_of}
 use Rattle.senior_hold.specs.MonthNetwork.{list_of}
-use Rattle.senior_hold.proofs.Bridge.{has_list}
-use Rattle.senior_hold.proofs.Marks.{with_twice, list_size}
+use Rattle.unreached_sets.proofs.Marks.{set_size, unreached_set, with_twice}
 use Rattle.water_model.specs.Lookups.{has}
 use Rattle.senior_hold.specs.Serving.{IsServed}
 use Rattle.senior_hold.specs.declared.serving.Claim.{Claim}
@@ -49,12 +48,6 @@ served_met old raised new x got cuts after rest held is met same = record {
   outcome = inl (let e = ap (λ (f : ℕ → ℕ). f x.arc) (held_flow raised new x.arc got held) in omega arith, same);
 }
 
-unreached_list : (c : Contents) → has (list_of c.nodes (not_reached c)) ≡ not_reached c
-unreached_list c = fun_ext (has_list c.nodes (not_reached c) (λ v l. outside v c.nodes (position_of c v) l))
-  where
-    outside : (v n p : ℕ) → n ≤ v → nat_lt v n && (p == 0) ≡ false
-    outside v n p l = grind (arith, nat_tests)
-
 pub served_short : (old raised new : Contents) (x : Claim) (got : ℕ) (cuts begun after : CutSets) (empty : List Bool) →
     SameButFlow old raised → new ≡ held_at raised x.arc got → got ≡ min x.want (flow_of raised x.arc) →
     flow_of raised x.arc < x.want → begun ≡ with_set cuts x.right (Some empty) →
@@ -73,10 +66,10 @@ served_short old raised new x got cuts begun after empty rest held is less begin
             done ∙ (ap (λ (d : CutSets). with_set d x.right (Some cut)) begin
                 ∙ with_twice cuts x.right (Some empty) (Some cut)),
             (
-              list_size raised.nodes (not_reached raised) ∙ ap (λ (c : Contents). c.nodes) rest,
+              set_size raised.nodes (not_reached raised) ∙ ap (λ (c : Contents). c.nodes) rest,
               subst (λ (g : ℕ → ℕ). IsGreatestCut (network old) g x.arc (has cut)) (sym flow)
                   (subst (λ (y : ℕ → Bool). IsGreatestCut (network old) (flow_of raised) x.arc y)
-                  (sym (unreached_list raised)) greatest),
+                  (sym (unreached_set raised)) greatest),
             ),
           ),
         ),

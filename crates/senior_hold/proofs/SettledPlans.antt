@@ -10,7 +10,7 @@ use Rattle.finite_sums.specs.Sums.{total, total_where, when}
 use Rattle.finite_sums.proofs.Totals.{total_le, term_le_total_where}
 use Rattle.water_model.specs.Lookups.{has}
 use Rattle.water_model.specs.Basin.{tail_of, head_of, instream_link, taking_node}
-use Rattle.water_model.specs.Cuts.{enters, leaves, cut_capacity, IsTight}
+use Rattle.water_model.specs.Cuts.{enters, leaves, carry_into, cut_capacity, IsTight}
 use Rattle.water_model.specs.CutSets.{CutSets}
 use Rattle.duality.specs.Laws.{AreDeliveries}
 use Rattle.water_model.specs.Plans.{IsPlan, delivery, delivery_by_link, carry_of, taken_at}
@@ -34,14 +34,14 @@ use Rattle.senior_hold.specs.Solved.{IsMetOrReached, IsSolved}
 use Rattle.senior_hold.specs.Spilled.{spilled, spills_of, IsSettledPlan, IsSpilledStart}
 use Rattle.senior_hold.proofs.Swept.{delivered_by, deliveries_by}
 use Rattle.senior_hold.proofs.MonthArcs.{IsKind, on_link, at_node, AreKinds, right_kind}
-use Rattle.senior_hold.proofs.Bridge.{has_list}
-use Rattle.senior_hold.proofs.Marks.{list_size}
+use Rattle.unreached_sets.proofs.Marks.{has_where, set_size}
 use Rattle.senior_hold.proofs.Plans.{list_get, list_len, plan_is}
 use Rattle.senior_hold.proofs.Rivers.{made, river_is}
 use Rattle.senior_hold.proofs.Sweeps.{got, settled_stays}
 use Rattle.senior_hold.proofs.Solves.{IsStanding}
 use Rattle.senior_hold.proofs.SpilledArcs.{spilled_count}
-use Rattle.senior_hold.proofs.PathOut.{ranks, river_carry}
+use Rattle.water_model.proofs.Carries.{river_carry}
+use Rattle.river_net.proofs.Ranks.{ranks}
 
 -- a settled right is met or has a tight cut
 pub met_or_tight : (b : Basin) (month : Month) (supply want d : List ℕ) (cuts : CutSets) (r : ℕ) →
@@ -102,10 +102,10 @@ both_small b month supply want want' p q valid plan_p plan_q e l =
     cut = list_of (length b.nodes) up
 
     size : length cut ≡ length b.nodes
-    size = list_size (length b.nodes) up
+    size = set_size (length b.nodes) up
 
     at : (v : ℕ) → has cut v ≡ up v
-    at v = has_list (length b.nodes) up (λ v k. beyond v (length b.nodes) (nat_le (rank v) (rank (tail_of b e))) k) v
+    at v = has_where (length b.nodes) up (λ v k. beyond v (length b.nodes) (nat_le (rank v) (rank (tail_of b e))) k) v
       where
         beyond : (v n : ℕ) (t : Bool) → n ≤ v → nat_lt v n && t ≡ false
         beyond v n t k = grind (arith, nat_tests)
@@ -198,7 +198,7 @@ settled_plan {b} {month} {supply} {want} {w} {g} {p} valid net flow bounded s = 
           parts e l,
           both_small b month supply want want (plan_of (spilled b) g) (made s.run (replicate (length b.rights) 0) p.out)
               valid before after e l,
-          river_carry b month e valid l first.river,
+          river_carry b month e first.river,
         ))),
       ))
     ]
@@ -220,10 +220,10 @@ spills_bounded {b} {month} {supply} {want} {w} {g} valid net flow bounded =
 
 -- cuts and reaches say nothing of outlets
 capacity_is : (b : Basin) (month : Month) (supply : List ℕ) (cut : List Bool) →
-    cut_capacity (spilled b) month supply cut ≡ cut_capacity b month supply cut
+    cut_capacity (spilled b) (carry_of b month) supply cut ≡ cut_capacity b (carry_of b month) supply cut
 capacity_is b month supply cut =
-    ap (λ k. total_where k (λ n. has cut n) (λ n. slice_index supply n) + total_where (length b.links)
-    (λ e. enters b cut e) (λ e. carry_of b month e)) (spilled_count b)
+    ap (λ k. total_where k (λ n. has cut n) (λ n. slice_index supply n) + carry_into b (carry_of b month) cut)
+    (spilled_count b)
 
 tight_down : (b : Basin) (month : Month) (supply d : List ℕ) (r : ℕ) (cut : List Bool) →
     IsTight (spilled b) month supply d r cut → IsTight b month supply d r cut
@@ -312,7 +312,7 @@ pub sweep_solved : {b : Basin} {month : Month} {supply want order : List ℕ} {c
     IsSettledPlan b (flow_of c) p → (length b.rights ≡ 0 → IsSpilledStart b supply c) →
     IsSolved b month supply want p cuts
 sweep_solved {b} {month} {supply} {want} {order} {c} {cuts} {p} valid o bounded now s start = record {
-  greatest = cuts_make_plan_greatest b month supply want d p plan
+  greatest = cuts_make_plan_greatest b (carry_of b month) supply want d p plan
       (record { each = λ r l. got b want (flow_of c) r l ∙ sym (delivers r l) })
       (λ r l. met_or_tight b month supply want d cuts r (settled r l));
   settled = λ delivered are r l. settled_stays b month supply want d delivered cuts cuts r l (same delivered are r l)

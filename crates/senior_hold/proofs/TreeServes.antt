@@ -17,8 +17,7 @@ use Rattle.residual_tree.proofs.Reaches.{cut_stays_when_held_lem}
 use Rattle.senior_hold.specs.MonthNetwork.{list_of, IsMonthNetwork}
 use Rattle.senior_hold.specs.Serving.{IsServed, IsTreeRaise, held_lower}
 use Rattle.senior_hold.specs.declared.serving.Claim.{Claim}
-use Rattle.senior_hold.proofs.Bridge.{has_list}
-use Rattle.senior_hold.proofs.Marks.{list_size}
+use Rattle.unreached_sets.proofs.Marks.{has_where, set_size}
 use Rattle.senior_hold.proofs.Solves.{changed, net_kept}
 use Rattle.water_model.specs.declared.types.Basin.{Basin}
 use Rattle.water_text.specs.declared.month.Month.{Month}
@@ -75,7 +74,7 @@ served_full {old} {mid} {x} {cuts} kept raised l met = record {
 
 unlabeled_list : (c : Contents) (labels : List ℕ) → has (list_of c.nodes (unlabeled c labels)) ≡ unlabeled c labels
 unlabeled_list c labels = fun_ext
-    (has_list c.nodes (unlabeled c labels) (λ v l. outside v c.nodes (label_of labels v) l))
+    (has_where c.nodes (unlabeled c labels) (λ v l. outside v c.nodes (label_of labels v) l))
   where
     outside : (v n p : ℕ) → n ≤ v → nat_lt v n && (p == 0) ≡ false
     outside v n p l = grind (arith, nat_tests)
@@ -96,7 +95,7 @@ served_unlabeled {old} {mid} {new} labels {x} {cuts} {after} kept raised l short
           (
             done,
             (
-              list_size mid.nodes (unlabeled mid labels) ∙ ap (λ (c : Contents). c.nodes) raised.rest.rest,
+              set_size mid.nodes (unlabeled mid labels) ∙ ap (λ (c : Contents). c.nodes) raised.rest.rest,
               subst (λ (g : ℕ → ℕ). IsGreatestCut (network old) g x.arc (has cut)) (sym flow)
                   (subst (λ (y : ℕ → Bool). IsGreatestCut (network old) (flow_of mid) x.arc y)
                   (sym (unlabeled_list mid labels))

@@ -1,20 +1,19 @@
 //! One right's turn.
 ghost use Rattle.std.specs.Prelude.{◌≡◌, ◌⊎◌, ◌+◌, ◌*◌, ◌<◌, ◌≤◌, length, replicate, false, Some};
-ghost use Rattle.water_model.specs.CutSets.{set_of, with_set};
 ghost use Rattle.circulation.specs.Contents.{network, IsCirculation};
-ghost use Rattle.augment.specs.Raised.{HasPathOut, open_arcs, not_reached};
+ghost use Rattle.augment.specs.Raised.{HasPathOut, open_arcs};
 ghost use Rattle.residual_tree.specs.Raised.{IsRaisedOver};
 ghost use Rattle.residual_tree.specs.Tree.{IsResidualTree};
-ghost use Rattle.senior_hold.specs.MonthNetwork.{list_of};
 ghost use Rattle.senior_hold.specs.Serving.{IsClaim, IsServed, KeepsShape, FillsExit, CanHaveSet};
 
 use crate::sweep::Method;
 use crate::tree_raises::raise_fully;
-use augment::{Raised, raise, reached};
+use augment::{Raised, raise};
 use circulation::CirculationMut;
 use residual_tree::{ResidualTree, TreeRaised};
 use std::sync::ledger::Ledger;
 use steps::Steps;
+use unreached_sets::mark;
 use water_model::cut_list::CutList;
 
 /// What a right wants on its arc, and an arc from the head of that to the outside, unless the head is the outside.
@@ -24,20 +23,6 @@ pub struct Claim {
     pub arc: u32,
     pub exit: u32,
     pub want: u64,
-}
-
-/// Adds to a right's empty set the nodes that the last search did not reach.
-fn mark(circ: &CirculationMut<'_>, right: u32, cuts: &mut CutList)
-    requires right { right < length cuts.old.sets }
-    requires nodes { cuts.old.nodes ≡ circ.now.nodes }
-    requires empty { set_of cuts.old right ≡ Some (replicate cuts.old.nodes false) }
-    ensures { cuts.new ≡ with_set cuts.old right (Some (list_of circ.now.nodes (not_reached circ.now))) }
-{
-    for node in 0..circ.nodes() {
-        if !reached(circ, node) {
-            cuts.add(right, node);
-        }
-    }
 }
 
 /// Raises a right's arc to its want, or as far as it can be; gives a right that stays short the greatest tight cut of

@@ -1,9 +1,9 @@
 -- What accounts hold: the books of a month.
 use Rattle.std.proofs.Common.{◌≡◌, ℕ, zero, suc, ◌+◌, ◌-◌, ◌*◌, ◌/◌, ◌<◌, ◌≤◌, Bool, true, false, refl, sym, ◌∙◌, ap}
 use Rattle.std.proofs.Common.{arith, List, [], ◌∷◌, length, inl, inr, add-zero}
-use Rattle.std.proofs.lemmas.Bool.{cases_lt, cases_Bool}
+use Rattle.std.proofs.lemmas.Bool.{cases_lt, cases_Bool, cond-true, cond-false, eq-eqb, or_left, or_right}
 use Rattle.std.proofs.lemmas.Bool.Decides.{nat_tests}
-use Rattle.std.specs.Prelude.{◌==◌, ◌||◌, if◌then◌else◌, slice_index, Option, Some, None, min}
+use Rattle.std.specs.Prelude.{◌==◌, if◌then◌else◌, slice_index, Option, Some, None, min}
 use Rattle.finite_sums.specs.Sums.{total, when}
 use Rattle.finite_sums.proofs.Totals.{total_same, total_zero, total_first, total_where_le}
 use Rattle.water_model.specs.Basin.{is_at}
@@ -54,25 +54,14 @@ pub at_some : (o : Option ℕ) (n : ℕ) → is_at o n ≡ true → o ≡ Some n
 at_some None n h = cc
 at_some (Some k) n h = let same : k ≡ n = grind (arith, nat_tests) in ap (λ x. Some x) same
 
-either_first : (p q : Bool) → p ≡ true → p || q ≡ true
-either_first true q h = refl
-either_first false q h = cc
-
-either_second : (p q : Bool) → q ≡ true → p || q ≡ true
-either_second true q h = refl
-either_second false q h = h
-
 -- the zone of an account is owned
 pub zone_is_owned : (accounts : List Account) (k zone : ℕ) → zone_of accounts k ≡ Some zone →
     is_owned accounts zone ≡ true
 zone_is_owned [] k zone h = cc
 zone_is_owned (a ∷ accounts) zero zone h =
-    either_first (a.zone == zone) (is_owned accounts zone) (is_it a.zone zone (cc))
-  where
-    is_it : (x y : ℕ) → x ≡ y → (x == y) ≡ true
-    is_it x y e = grind (arith, nat_tests)
+    or_left (a.zone == zone) (is_owned accounts zone) (eq-eqb a.zone zone (cc))
 zone_is_owned (a ∷ accounts) (suc k) zone h =
-    either_second (a.zone == zone) (is_owned accounts zone) (zone_is_owned accounts k zone h)
+    or_right (a.zone == zone) (is_owned accounts zone) (zone_is_owned accounts k zone h)
 
 -- no account is of a zone that is not owned
 pub none_of_zone : (accounts : List Account) (zone : ℕ) → is_owned accounts zone ≡ false → (k : ℕ) →
@@ -93,23 +82,17 @@ zone_shares accounts amount weight zone fits =
     (λ k l. one k)
     ∙ shares_whole (length accounts) (amount zone) (λ j. when (is_of_zone accounts j zone) (weight j)) fits
   where
-    masked : (t : Bool) (x : ℕ) → t ≡ true → (if t then x else 0) ≡ x
-    masked t x e = ap (λ s. if s then x else 0) e
-
-    unmasked : (t : Bool) (x : ℕ) → t ≡ false → (if t then x else 0) ≡ 0
-    unmasked t x e = ap (λ s. if s then x else 0) e
-
     one : (k : ℕ) →
         (if is_of_zone accounts k zone then share_in_zone accounts amount weight (zone_of accounts k) k else 0)
         ≡ share (length accounts) (amount zone) (λ j. when (is_of_zone accounts j zone) (weight j)) k
     one k = elim (cases_Bool (is_of_zone accounts k zone)) [
       | inl of_it ↦
-          masked (is_of_zone accounts k zone) (share_in_zone accounts amount weight (zone_of accounts k) k) of_it
+          cond-true (is_of_zone accounts k zone) (share_in_zone accounts amount weight (zone_of accounts k) k) 0 of_it
           ∙ ap (λ o. share_in_zone accounts amount weight o k) (at_some (zone_of accounts k) zone of_it)
       | inr other ↦
-          unmasked (is_of_zone accounts k zone) (share_in_zone accounts amount weight (zone_of accounts k) k) other
+          cond-false (is_of_zone accounts k zone) (share_in_zone accounts amount weight (zone_of accounts k) k) 0 other
           ∙ sym (share_of_none (length accounts) (amount zone) (λ j. when (is_of_zone accounts j zone) (weight j)) k
-          (unmasked (is_of_zone accounts k zone) (weight k) other))
+          (cond-false (is_of_zone accounts k zone) (weight k) 0 other))
     ]
 
 -- and no account gets more than its weight
@@ -257,27 +240,21 @@ module _ (b : Basin) (accounts : List Account) (draws : List Draw) (opening evap
               one,
         )
       where
-        masked : (t : Bool) (x : ℕ) → t ≡ true → (if t then x else 0) ≡ x
-        masked t x e = ap (λ s. if s then x else 0) e
-
-        unmasked : (t : Bool) (x : ℕ) → t ≡ false → (if t then x else 0) ≡ 0
-        unmasked t x e = ap (λ s. if s then x else 0) e
-
         one : (k : ℕ) → k < length accounts →
             (if is_in_reservoir b accounts k v then slice_index l.lost k else 0)
             ≡ share (suc (length accounts)) (slice_index evaporated v) (loss_weight b accounts opening l.opening v)
             (suc k)
         one k m = elim (cases_Bool (is_in_reservoir b accounts k v)) [
           | inl in_it ↦
-              masked (is_in_reservoir b accounts k v) (slice_index l.lost k) in_it
+              cond-true (is_in_reservoir b accounts k v) (slice_index l.lost k) 0 in_it
               ∙ (is.lost k m
               ∙ ap (λ o. loss_with b accounts opening evaporated l.opening o k)
               (at_some (reservoir_of b accounts k) v in_it))
           | inr other ↦
-              unmasked (is_in_reservoir b accounts k v) (slice_index l.lost k) other
+              cond-false (is_in_reservoir b accounts k v) (slice_index l.lost k) 0 other
               ∙ sym (share_of_none (suc (length accounts)) (slice_index evaporated v)
               (loss_weight b accounts opening l.opening v) (suc k)
-              (unmasked (is_in_reservoir b accounts k v) (slice_index l.opening k) other))
+              (cond-false (is_in_reservoir b accounts k v) (slice_index l.opening k) 0 other))
         ]
 
     carried_in_reservoir : EvaporatesWithin opening evaporated → (v : ℕ) →

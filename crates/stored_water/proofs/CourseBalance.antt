@@ -1,58 +1,34 @@
 -- What comes into a set of nodes is taken there or goes out of it; and what a draw changes.
-use Rattle.std.proofs.Common.{◌≡◌, ℕ, ◌+◌, ◌-◌, ◌<◌, ◌≤◌, Bool, true, false, refl, sym, ◌∙◌, ap, arith, List, length, inl}
-use Rattle.std.proofs.Common.{inr}
+use Rattle.std.proofs.Common.{◌≡◌, ℕ, ◌+◌, ◌-◌, ◌<◌, ◌≤◌, Bool, true, false, refl, sym, ◌∙◌, ap, arith, List}
+use Rattle.std.proofs.Common.{length, inl, inr}
 use Rattle.std.proofs.Math.ListN.{length-set}
-use Rattle.std.proofs.lemmas.Bool.{cases_eq}
+use Rattle.std.proofs.lemmas.Bool.{cases_eq, cond-true, eq-eqb, ne_eqb}
 use Rattle.std.proofs.lemmas.List.{get_or-set_other}
 use Rattle.std.proofs.lemmas.Grind.{get_or-set_at}
 use Rattle.std.specs.Prelude.{◌==◌, ◌≢◌, slice_index, if◌then◌else◌}
-use Rattle.std.proofs.lemmas.Bool.Decides.{nat_tests}
 use Rattle.finite_sums.specs.Sums.{total_where}
 use Rattle.finite_sums.proofs.Totals.{total_change}
 use Rattle.water_model.specs.Lookups.{has}
-use Rattle.water_model.specs.Basin.{head_of, tail_of}
-use Rattle.water_model.specs.Plans.{inflow_to, outflow_from}
-use Rattle.water_model.specs.Cuts.{enters, leaves}
+use Rattle.water_model.specs.Cuts.{leaves, carry_into, supply_within}
 use Rattle.water_model.specs.declared.types.Basin.{Basin}
-use Rattle.water_model.proofs.Sets.{grouped, at_index, total_where_add, total_where_same, total_crossing, total_swap}
+use Rattle.water_model.proofs.Sets.{total_where_add}
 use Rattle.stored_water.specs.Courses.{IsCourseWithin, taken_within, after_draw, with_less}
+use Rattle.duality.proofs.CutBalance.{set_balance}
 
 pub course_balance : (b : Basin) (carry held : ℕ → ℕ) (supply taken flow out : List ℕ) (set : List Bool) →
     IsCourseWithin b carry held supply taken flow out → length set ≡ length b.nodes →
-    total_where (length b.nodes) (λ n. has set n) (λ n. slice_index supply n)
-    + total_where (length b.links) (λ e. enters b set e) (λ e. slice_index flow e)
+    supply_within b supply set + carry_into b (slice_index flow) set
     ≡ total_where (length b.links) (λ e. leaves b set e) (λ e. slice_index flow e)
-    + taken_within b taken set
-    + total_where (length b.nodes) (λ n. has set n) (λ n. slice_index out n)
+    + taken_within b taken set + supply_within b out set
 course_balance b carry held supply taken flow out set course len =
-    let nodes : ℕ = length b.nodes in
-    let links : ℕ = length b.links in
-    let f : ℕ → ℕ = λ e. slice_index flow e in
-    let y : ℕ → Bool = λ n. has set n in
-    let h : ℕ → Bool = λ e. has set (head_of b e) in
-    let t : ℕ → Bool = λ e. has set (tail_of b e) in
-    let sums = total_where_same nodes y
-    (λ n. slice_index supply n + inflow_to b flow n)
-    (λ n. outflow_from b flow n + slice_index taken n + slice_index out n)
-    course.balance in
-    let ins = total_where_add nodes y (λ n. slice_index supply n) (λ n. inflow_to b flow n) in
-    let outs =
-    total_where_add nodes y (λ n. outflow_from b flow n + slice_index taken n) (λ n. slice_index out n) in
-    let outs2 = total_where_add nodes y (λ n. outflow_from b flow n) (λ n. slice_index taken n) in
-    let heads = grouped nodes links y (λ e n. head_of b e == n) h f (λ e x. at_index nodes set len (head_of b e) x) in
-    let tails = grouped nodes links y (λ e n. tail_of b e == n) t f (λ e x. at_index nodes set len (tail_of b e) x) in
-    let cross_in = total_crossing links h t f in
-    let cross_out = total_crossing links t h f in
-    let swap = total_swap links h t f in
-    omega (arith, sums, ins, outs, outs2, heads, tails, cross_in, cross_out, swap)
+    omega (
+      arith,
+      set_balance b flow (slice_index supply) (λ n. slice_index taken n + slice_index out n) set len
+          (λ n l. omega (arith, course.balance n l)),
+      total_where_add (length b.nodes) (λ n. has set n) (slice_index taken) (slice_index out),
+    )
 
 -- ---- what a draw changes
-
-eqb_true : (i k : ℕ) → i ≡ k → (i == k) ≡ true
-eqb_true i k e = grind (arith, nat_tests)
-
-eqb_false : (i k : ℕ) → i ≢ k → (i == k) ≡ false
-eqb_false i k other = grind (arith, nat_tests)
 
 pub length_after : (taken : List ℕ) (from to x : ℕ) → length (after_draw taken from to x) ≡ length taken
 length_after taken from to x =
@@ -100,10 +76,10 @@ after_draw_at taken from to x n l m enough =
     ]
   where
     equal : (i k : ℕ) → i ≡ k → (y : ℕ) → (if i == k then y else 0) ≡ y
-    equal i k e y = ap (λ t. if t then y else 0) (eqb_true i k e)
+    equal i k e y = ap (λ t. if t then y else 0) (eq-eqb i k e)
 
     unequal : (i k : ℕ) → i ≢ k → (y : ℕ) → (if i == k then y else 0) ≡ 0
-    unequal i k other y = ap (λ t. if t then y else 0) (eqb_false i k other)
+    unequal i k other y = ap (λ t. if t then y else 0) (ne_eqb i k other)
 
     of_from : n ≡ from → n ≢ to →
         slice_index (after_draw taken from to x) n + (if from == n then x else 0)
@@ -158,17 +134,14 @@ taken_after b taken from to x set len l drawing storing =
     omega (
       arith,
       total_change (length b.nodes) to after before l agree,
-      masked (has set to) drawing (slice_index (after_draw taken from to x) to),
-      masked (has set to) drawing (slice_index taken to),
+      cond-true (has set to) (slice_index (after_draw taken from to x) to) 0 drawing,
+      cond-true (has set to) (slice_index taken to) 0 drawing,
       after_at_to taken from to x (omega arith),
       less_elsewhere taken from x to apart,
     )
   where
     apart : to ≢ from
     apart e = (let same : has set to ≡ has set from = ap (has set) e in cc)
-
-    masked : (t : Bool) → t ≡ true → (y : ℕ) → (if t then y else 0) ≡ y
-    masked t e y = ap (λ s. if s then y else 0) e
 
     after : ℕ → ℕ
     after n = if has set n then slice_index (after_draw taken from to x) n else 0

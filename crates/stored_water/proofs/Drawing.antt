@@ -1,7 +1,7 @@
 -- The draws of a month, one after another.
 use Rattle.std.proofs.Common.{◌≡◌, ℕ, zero, suc, ◌+◌, ◌-◌, ◌<◌, ◌≤◌, Bool, true, false, refl, sym, ◌∙◌, ap, ap₂, arith}
 use Rattle.std.proofs.Common.{List, [], ◌∷◌, length, inl, inr, subst, min}
-use Rattle.std.proofs.lemmas.Bool.{cases_eq}
+use Rattle.std.proofs.lemmas.Bool.{cases_eq, eq-eqb, ne_eqb}
 use Rattle.std.proofs.lemmas.Bool.Decides.{nat_tests}
 use Rattle.std.proofs.lemmas.Grind.{same_number_lists}
 use Rattle.std.specs.Prelude.{◌==◌, ◌≢◌, ◌&&◌, not, if◌then◌else◌, slice_index, slice_get, Option, Some, None, unwrap_or}
@@ -18,12 +18,6 @@ use Rattle.stored_water.specs.DrawLaws.{DrawsMoveWater, DrawsStayWithinStock, Dr
 use Rattle.stored_water.specs.DrawLaws.{AreCapped, DrawsAddUp, CoursesAndStopsShowDraws}
 use Rattle.stored_water.proofs.CourseBalance.{after_draw_at, length_after}
 use Rattle.stored_water.proofs.Stopping.{greatest_draw_is_one, stops_make_draws_greatest}
-
-eqb_true : (i k : ℕ) → i ≡ k → (i == k) ≡ true
-eqb_true i k e = grind (arith, nat_tests)
-
-eqb_false : (i k : ℕ) → i ≢ k → (i == k) ≡ false
-eqb_false i k other = grind (arith, nat_tests)
 
 -- ---- caps
 
@@ -154,7 +148,7 @@ module _ (b : Basin) (accounts : List Account) (draws : List Draw) (stock : ℕ 
     kept_other k other =
         let none : (if draws_on draws j k then slice_index amounts j else 0) ≡ 0 =
         ap (λ t. if t then slice_index amounts j else 0)
-        (on_it k ∙ eqb_false s.entry.account k (λ e. other (sym e))) in
+        (on_it k ∙ ne_eqb s.entry.account k (λ e. other (sym e))) in
         omega (arith, sum_next j (λ i. draws_on draws i k) (λ i. slice_index amounts i))
 
     kept_own : kept_by draws stock amounts (suc j) s.entry.account + slice_index amounts j
@@ -163,7 +157,7 @@ module _ (b : Basin) (accounts : List Account) (draws : List Draw) (stock : ℕ 
     kept_own =
         let all : (if draws_on draws j s.entry.account then slice_index amounts j else 0) ≡ slice_index amounts j =
         ap (λ t. if t then slice_index amounts j else 0)
-        (on_it s.entry.account ∙ eqb_true s.entry.account s.entry.account refl) in
+        (on_it s.entry.account ∙ eq-eqb s.entry.account s.entry.account refl) in
         omega (arith, fits, sum_next j (λ i. draws_on draws i s.entry.account) (λ i. slice_index amounts i))
 
     -- so the accounts at the reservoir's node hold that much less, and those at other nodes as much
@@ -197,7 +191,7 @@ module _ (b : Basin) (accounts : List Account) (draws : List Draw) (stock : ℕ 
           arith,
           term_le_total_where (length accounts) (λ k. is_at (storing_node b accounts k) s.from)
               (kept_by draws stock amounts j) s.entry.account
-              s.account (ap (λ o. is_at o s.from) stored_at ∙ eqb_true s.from s.from refl),
+              s.account (ap (λ o. is_at o s.from) stored_at ∙ eq-eqb s.from s.from refl),
           kept_own,
         )
 

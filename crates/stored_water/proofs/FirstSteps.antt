@@ -1,7 +1,7 @@
 -- The first step's plan as a course, and the course after all draws as a plan.
-use Rattle.std.proofs.Common.{◌≡◌, ℕ, ◌+◌, ◌-◌, ◌<◌, ◌≤◌, Bool, true, false, refl, ◌∙◌, ap, arith, length}
+use Rattle.std.proofs.Common.{◌≡◌, ℕ, ◌+◌, ◌-◌, ◌<◌, ◌≤◌, true, ◌∙◌, ap, arith, length}
 use Rattle.std.proofs.Common.{min}
-use Rattle.std.proofs.lemmas.Bool.{and_parts}
+use Rattle.std.proofs.lemmas.Bool.{and_parts, not-true}
 use Rattle.std.proofs.lemmas.Bool.Decides.{nat_tests}
 use Rattle.std.specs.Prelude.{◌==◌, ◌&&◌, not, slice_index, Some}
 use Rattle.finite_sums.specs.Sums.{total_where}
@@ -18,10 +18,6 @@ use Rattle.stored_water.specs.Draws.{drawing_node}
 use Rattle.stored_water.specs.DrawLaws.{FirstStepIsCourse, DrawsChangeNoTakes}
 use Rattle.stored_water.proofs.Accounting.{at_some}
 use Rattle.stored_water.proofs.Regrouped.{takes_below, takes_on_no_link, by_zones, by_diversions, diversion_not_owned}
-
-not_true : (t : Bool) → not t ≡ true → t ≡ false
-not_true true h = cc
-not_true false h = refl
 
 pub first_step_is_course : FirstStepIsCourse
 first_step_is_course b month accounts draws l natural supply want delivered amounts taken p plan are adds fills takes =
@@ -108,7 +104,7 @@ draws_change_no_takes b month accounts draws stock supply want delivered amounts
               (λ r. slice_index take r)
               (λ r. slice_index delivered r + drawn_by draws (length draws) amounts r)
               (λ r k h. (let tests = and_parts (takes_at b r n) (not (is_owned accounts r)) h in
-              after.others r n k (not_true (is_owned accounts r) tests.1)
+              after.others r n k (not-true (is_owned accounts r) tests.1)
               (at_some (taking_node b r) n tests.0))),
           total_where_add (length b.rights) (λ r. takes_at b r n && not (is_owned accounts r))
               (λ r. slice_index delivered r) (λ r. drawn_by draws (length draws) amounts r),

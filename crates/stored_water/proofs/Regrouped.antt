@@ -1,23 +1,24 @@
 -- Sums over the rights at a node, of what stands by account or by draw.
-use Rattle.std.proofs.Common.{◌≡◌, ℕ, zero, suc, ◌<◌, Bool, true, false, refl, sym, ap, ◌∙◌, arith, List, [], ◌∷◌, length, inl}
-use Rattle.std.proofs.Common.{inr}
-use Rattle.std.proofs.lemmas.Bool.{and_parts, cases_Bool}
+use Rattle.std.proofs.Common.{◌≡◌, ℕ, zero, suc, ◌<◌, Bool, true, false, refl, sym, ap, ◌∙◌, arith, List}
+use Rattle.std.proofs.Common.{[], ◌∷◌, length, inl, inr}
+use Rattle.std.proofs.lemmas.Bool.{and_parts, cases_Bool, eqb-true, or_cases}
 use Rattle.std.proofs.lemmas.Bool.Decides.{nat_tests}
 use Rattle.std.proofs.lemmas.Option.{slice_get_within}
-use Rattle.std.specs.Prelude.{◌==◌, ◌&&◌, ◌||◌, not, nat_lt, if◌then◌else◌, slice_index, slice_get, Option, Some, None}
+use Rattle.std.specs.Prelude.{◌==◌, ◌&&◌, not, if◌then◌else◌, slice_index, slice_get, Option, Some, None}
 use Rattle.std.specs.Prelude.{unwrap_or, option_map}
 use Rattle.finite_sums.specs.Sums.{total, total_where}
-use Rattle.finite_sums.proofs.Totals.{total_same, total_at, total_zero}
-use Rattle.water_model.specs.Basin.{taking_node, taking_node_of_kind, takes_at, is_at, instream_link, link_of_kind}
+use Rattle.finite_sums.proofs.Totals.{total_same, total_zero}
+use Rattle.water_model.specs.Basin.{taking_node, taking_node_of_kind, takes_at, is_at, instream_link}
 use Rattle.water_model.specs.Basin.{node_of_reservoir}
+use Rattle.water_model.specs.Lookups.{of_entry}
 use Rattle.water_model.specs.History.{is_zone_of, is_zone_of_kind}
 use Rattle.water_model.specs.Valid.{is_diversion, is_diversion_kind}
-use Rattle.water_model.specs.declared.types.Reservoir.{Reservoir}
 use Rattle.water_model.specs.declared.types.Basin.{Basin}
 use Rattle.water_model.specs.declared.types.Right.{Right}
 use Rattle.water_model.specs.declared.types.RightKind.{RightKind}
 use Rattle.water_model.specs.declared.types.RightKind.TheVariants.{Diversion, Instream, Zone}
-use Rattle.water_model.proofs.Sets.{grouped}
+use Rattle.water_model.proofs.Sets.{at_one, grouped}
+use Rattle.duality.proofs.Duality.{taker_on_no_link}
 use Rattle.stored_water.specs.Accounts.{Account, Draw, is_owned, is_of_zone, storing_node, sum_in_zone}
 use Rattle.stored_water.specs.Accounts.{drawn_by, draws_for, reservoir_of_right, reservoir_of_kind, is_in_reservoir}
 use Rattle.stored_water.specs.Accounts.{sum_in_reservoir}
@@ -25,43 +26,21 @@ use Rattle.stored_water.specs.Draws.{drawing_node}
 use Rattle.stored_water.specs.AccountLaws.{AreOfZones}
 use Rattle.stored_water.proofs.Accounting.{zone_is_owned}
 
+-- an index whose entry passes a test is one of the list's
+entry_below : {X Y : Type 0} (xs : List X) (k : ℕ) (f : X → Y) (d : Y) (p : Y → Bool) → p d ≡ false →
+    p (of_entry xs k f d) ≡ true → k < length xs
+entry_below {X} {Y} xs k f d p none = of_get (slice_get xs k) refl
+  where
+    of_get : (o : Option X) → slice_get xs k ≡ o → p (unwrap_or (option_map f o) d) ≡ true → k < length xs
+    of_get None e h = cc
+    of_get (Some x) e h = slice_get_within xs k x e
+
 -- a right that takes at a node is one of the basin's, and is on no link
 pub takes_below : (b : Basin) (r n : ℕ) → takes_at b r n ≡ true → r < length b.rights
-takes_below b r n = of_get (slice_get b.rights r) refl
-  where
-    of_get : (o : Option Right) → slice_get b.rights r ≡ o →
-        is_at (unwrap_or (option_map (λ x. taking_node_of_kind b x.kind) o) None) n ≡ true → r < length b.rights
-    of_get None e h = cc
-    of_get (Some x) e h = slice_get_within b.rights r x e
+takes_below b r n h = entry_below b.rights r (λ x. taking_node_of_kind b x.kind) None (λ o. is_at o n) refl h
 
 pub takes_on_no_link : (b : Basin) (r n : ℕ) → takes_at b r n ≡ true → instream_link b r ≡ None
-takes_on_no_link b r n = of_get (slice_get b.rights r)
-  where
-    of_kind : (k : RightKind) → is_at (taking_node_of_kind b k) n ≡ true → link_of_kind k ≡ None
-    of_kind (Diversion node) h = refl
-    of_kind (Instream link) h = cc
-    of_kind (Zone reservoir level) h = refl
-
-    of_get : (o : Option Right) →
-        is_at (unwrap_or (option_map (λ x. taking_node_of_kind b x.kind) o) None) n ≡ true →
-        unwrap_or (option_map (λ x. link_of_kind x.kind) o) None ≡ None
-    of_get None h = cc
-    of_get (Some x) h = of_kind x.kind h
-
--- one index: what stands where it passes
-at_one : (n : ℕ) (y : ℕ → Bool) (k x : ℕ) → (y k ≡ true → k < n) →
-    total n (λ v. if y v then (if k == v then x else 0) else 0) ≡ (if y k then x else 0)
-at_one n y k x inside =
-    total_same _ _ _ (λ v l. swap_tests y k v x)
-    ∙ (total_at n k (if y k then x else 0) ∙ drop_test k n (y k) x inside)
-  where
-    swap_tests : (y : ℕ → Bool) (k v x : ℕ) →
-        (if y v then (if k == v then x else 0) else 0) ≡ (if k == v then (if y k then x else 0) else 0)
-    swap_tests y k v x = grind (arith, nat_tests)
-
-    drop_test : (k n : ℕ) (b : Bool) (x : ℕ) → (b ≡ true → k < n) →
-        (if nat_lt k n then (if b then x else 0) else 0) ≡ (if b then x else 0)
-    drop_test k n b x h = grind (arith, nat_tests)
+takes_on_no_link b r n h = taker_on_no_link b (λ o. is_at o n) r refl h
 
 no_test : (n : ℕ) (y : ℕ → Bool) → total n (λ v. if y v then 0 else 0) ≡ 0
 no_test n y = total_zero n (λ v. if y v then 0 else 0) (λ v l. same (y v))
@@ -70,14 +49,17 @@ no_test n y = total_zero n (λ v. if y v then 0 else 0) (λ v l. same (y v))
     same true = refl
     same false = refl
 
--- what stands by account at a node is what stands in the owned zones there
-pub by_zones : (b : Basin) (accounts : List Account) (n : ℕ) (f : ℕ → ℕ) →
-    total_where (length b.rights) (λ r. takes_at b r n && is_owned accounts r) (λ r. sum_in_zone accounts f r)
-    ≡ total_where (length accounts) (λ k. is_at (storing_node b accounts k) n) f
-by_zones b accounts n f =
-    grouped (length b.rights) (length accounts) (λ r. takes_at b r n && is_owned accounts r)
-    (λ k r. is_of_zone accounts k r) (λ k. is_at (storing_node b accounts k) n) f
-    (λ k x. one x (slice_get accounts k) (λ zone. zone_is_owned accounts k zone))
+-- what stands by account in some zones is what stands in those of them that are owned
+by_owned : (b : Basin) (accounts : List Account) (in_it : ℕ → Bool) (within : ℕ → Bool) (f : ℕ → ℕ) →
+    ((r : ℕ) → in_it r ≡ true → r < length b.rights) →
+    ((k : ℕ) → within k ≡ of_entry accounts k (λ a. in_it a.zone) false) →
+    total_where (length b.rights) (λ r. in_it r && is_owned accounts r) (λ r. sum_in_zone accounts f r)
+    ≡ total_where (length accounts) within f
+by_owned b accounts in_it within f below same =
+    grouped (length b.rights) (length accounts) (λ r. in_it r && is_owned accounts r)
+    (λ k r. is_of_zone accounts k r) within f
+    (λ k x. one x (slice_get accounts k) (λ zone. zone_is_owned accounts k zone)
+    ∙ ap (λ t. if t then x else 0) (sym (same k)))
   where
     tested : (t o : Bool) (x : ℕ) → o ≡ true → (if t && o then x else 0) ≡ (if t then x else 0)
     tested t o x h = grind (arith, nat_tests)
@@ -85,14 +67,27 @@ by_zones b accounts n f =
     one : (x : ℕ) (o : Option Account) →
         ((zone : ℕ) → unwrap_or (option_map (λ a. Some a.zone) o) None ≡ Some zone → is_owned accounts zone ≡ true) →
         total (length b.rights)
-        (λ r. if takes_at b r n && is_owned accounts r
+        (λ r. if in_it r && is_owned accounts r
         then (if is_at (unwrap_or (option_map (λ a. Some a.zone) o) None) r then x else 0) else 0)
-        ≡ (if is_at (unwrap_or (option_map (λ a. taking_node b a.zone) o) None) n then x else 0)
-    one x None owned = no_test (length b.rights) (λ r. takes_at b r n && is_owned accounts r)
+        ≡ (if unwrap_or (option_map (λ a. in_it a.zone) o) false then x else 0)
+    one x None owned = no_test (length b.rights) (λ r. in_it r && is_owned accounts r)
     one x (Some a) owned =
-        at_one (length b.rights) (λ r. takes_at b r n && is_owned accounts r) a.zone x
-        (λ h. takes_below b a.zone n (and_parts (takes_at b a.zone n) (is_owned accounts a.zone) h).0)
-        ∙ tested (takes_at b a.zone n) (is_owned accounts a.zone) x (owned a.zone refl)
+        at_one (length b.rights) (λ r. in_it r && is_owned accounts r) a.zone x
+        (λ h. below a.zone (and_parts (in_it a.zone) (is_owned accounts a.zone) h).0)
+        ∙ tested (in_it a.zone) (is_owned accounts a.zone) x (owned a.zone refl)
+
+-- so at a node
+pub by_zones : (b : Basin) (accounts : List Account) (n : ℕ) (f : ℕ → ℕ) →
+    total_where (length b.rights) (λ r. takes_at b r n && is_owned accounts r) (λ r. sum_in_zone accounts f r)
+    ≡ total_where (length accounts) (λ k. is_at (storing_node b accounts k) n) f
+by_zones b accounts n f =
+    by_owned b accounts (λ r. takes_at b r n) (λ k. is_at (storing_node b accounts k) n) f
+    (λ r h. takes_below b r n h) (λ k. of_get (slice_get accounts k))
+  where
+    of_get : (o : Option Account) → is_at (unwrap_or (option_map (λ a. taking_node b a.zone) o) None) n
+        ≡ unwrap_or (option_map (λ a. takes_at b a.zone n) o) false
+    of_get None = refl
+    of_get (Some a) = refl
 
 -- what draws bring to a node is what they bring to the diversions there
 pub by_diversions : (b : Basin) (accounts : List Account) (draws : List Draw) (count : ℕ) (amounts : List ℕ) (n : ℕ) →
@@ -150,12 +145,7 @@ zone_test b r v = of_get (slice_get b.rights r)
     of_get (Some x) = of_kind x.kind
 
 zone_below : (b : Basin) (r v : ℕ) → is_zone_of b r v ≡ true → r < length b.rights
-zone_below b r v = of_get (slice_get b.rights r) refl
-  where
-    of_get : (o : Option Right) → slice_get b.rights r ≡ o →
-        unwrap_or (option_map (λ x. is_zone_of_kind x.kind v) o) false ≡ true → r < length b.rights
-    of_get None e h = cc
-    of_get (Some x) e h = slice_get_within b.rights r x e
+zone_below b r v h = entry_below b.rights r (λ x. is_zone_of_kind x.kind v) false (λ t. t) refl h
 
 -- a zone takes at the node of its reservoir
 pub node_via : (b : Basin) (r v : ℕ) → reservoir_of_right b r ≡ Some v → taking_node b r ≡ node_of_reservoir b v
@@ -172,30 +162,16 @@ node_via b r v = of_get (slice_get b.rights r)
     of_get (Some x) h = of_kind x.kind h
 
 reservoir_below : (b : Basin) (v n : ℕ) → is_at (node_of_reservoir b v) n ≡ true → v < length b.reservoirs
-reservoir_below b v n = of_get (slice_get b.reservoirs v) refl
-  where
-    of_get : (o : Option Reservoir) → slice_get b.reservoirs v ≡ o →
-        is_at (unwrap_or (option_map (λ x. Some x.node) o) None) n ≡ true → v < length b.reservoirs
-    of_get None e h = cc
-    of_get (Some x) e h = slice_get_within b.reservoirs v x e
+reservoir_below b v n h = entry_below b.reservoirs v (λ x. Some x.node) None (λ o. is_at o n) refl h
 
 -- an owned zone has an account
 owned_by : (accounts : List Account) (r : ℕ) → is_owned accounts r ≡ true →
     (k : ℕ) × (a : Account) × (slice_get accounts k ≡ Some a) × (a.zone ≡ r)
 owned_by [] r h = cc
-owned_by (a ∷ accounts) r h = elim (cases_Bool (a.zone == r)) [
-  | inl here ↦ (zero, a, refl, is_it a.zone r here)
-  | inr other ↦
-      (let found = owned_by accounts r (second (a.zone == r) (is_owned accounts r) other h) in
-      (suc found.0, found.1, found.2, found.3))
+owned_by (a ∷ accounts) r h = elim (or_cases (a.zone == r) (is_owned accounts r) h) [
+  | inl here ↦ (zero, a, refl, eqb-true a.zone r here)
+  | inr rest ↦ (let found = owned_by accounts r rest in (suc found.0, found.1, found.2, found.3))
 ]
-  where
-    is_it : (x y : ℕ) → (x == y) ≡ true → x ≡ y
-    is_it x y e = grind (arith, nat_tests)
-
-    second : (p q : Bool) → p ≡ false → p || q ≡ true → q ≡ true
-    second true q e h = cc
-    second false q e h = h
 
 -- so no diversion is owned
 pub diversion_not_owned : (b : Basin) (accounts : List Account) (r : ℕ) → AreOfZones b accounts →
@@ -215,25 +191,13 @@ pub by_reservoir_zones : (b : Basin) (accounts : List Account) (v : ℕ) (f : �
     total_where (length b.rights) (λ r. is_zone_of b r v && is_owned accounts r) (λ r. sum_in_zone accounts f r)
     ≡ sum_in_reservoir b accounts f v
 by_reservoir_zones b accounts v f =
-    grouped (length b.rights) (length accounts) (λ r. is_zone_of b r v && is_owned accounts r)
-    (λ k r. is_of_zone accounts k r) (λ k. is_in_reservoir b accounts k v) f
-    (λ k x. one x (slice_get accounts k) (λ zone. zone_is_owned accounts k zone))
+    by_owned b accounts (λ r. is_zone_of b r v) (λ k. is_in_reservoir b accounts k v) f
+    (λ r h. zone_below b r v h) (λ k. of_get (slice_get accounts k))
   where
-    tested : (t o : Bool) (x : ℕ) → o ≡ true → (if t && o then x else 0) ≡ (if t then x else 0)
-    tested t o x h = grind (arith, nat_tests)
-
-    one : (x : ℕ) (o : Option Account) →
-        ((zone : ℕ) → unwrap_or (option_map (λ a. Some a.zone) o) None ≡ Some zone → is_owned accounts zone ≡ true) →
-        total (length b.rights)
-        (λ r. if is_zone_of b r v && is_owned accounts r
-        then (if is_at (unwrap_or (option_map (λ a. Some a.zone) o) None) r then x else 0) else 0)
-        ≡ (if is_at (unwrap_or (option_map (λ a. reservoir_of_right b a.zone) o) None) v then x else 0)
-    one x None owned = no_test (length b.rights) (λ r. is_zone_of b r v && is_owned accounts r)
-    one x (Some a) owned =
-        at_one (length b.rights) (λ r. is_zone_of b r v && is_owned accounts r) a.zone x
-        (λ h. zone_below b a.zone v (and_parts (is_zone_of b a.zone v) (is_owned accounts a.zone) h).0)
-        ∙ (tested (is_zone_of b a.zone v) (is_owned accounts a.zone) x (owned a.zone refl)
-        ∙ ap (λ t. if t then x else 0) (zone_test b a.zone v))
+    of_get : (o : Option Account) → is_at (unwrap_or (option_map (λ a. reservoir_of_right b a.zone) o) None) v
+        ≡ unwrap_or (option_map (λ a. is_zone_of b a.zone v) o) false
+    of_get None = refl
+    of_get (Some a) = sym (zone_test b a.zone v)
 
 -- what stands by account at a node is what stands in the reservoirs there
 pub by_reservoirs : (b : Basin) (accounts : List Account) (n : ℕ) (f : ℕ → ℕ) → AreOfZones b accounts →

@@ -1,6 +1,6 @@
 -- What stands in reservoirs: what accounts carry there, and what reservoirs close with.
-use Rattle.std.proofs.Common.{◌≡◌, ℕ, ◌-◌, ◌<◌, Bool, true, false, refl, sym, ◌∙◌, ap, arith, List, length}
-use Rattle.std.proofs.lemmas.Bool.{and_parts}
+use Rattle.std.proofs.Common.{◌≡◌, ℕ, ◌-◌, ◌<◌, true, false, refl, sym, ◌∙◌, ap, arith, List, length}
+use Rattle.std.proofs.lemmas.Bool.{and_parts, not-true}
 use Rattle.std.proofs.lemmas.Bool.Decides.{nat_tests}
 use Rattle.std.specs.Prelude.{◌==◌, ◌&&◌, not, if◌then◌else◌, slice_index, slice_get, Option, Some, None, unwrap_or}
 use Rattle.std.specs.Prelude.{option_map}
@@ -52,10 +52,6 @@ none_for_zone b draws amounts r v for_diversions zone =
         kinds_apart b r v (sym (ap (is_diversion b) same) ∙ diversions d refl)
         (at_some (reservoir_of_right b r) v (sym (zone_test b r v) ∙ zone))
 
-not_true : (t : Bool) → not t ≡ true → t ≡ false
-not_true true h = cc
-not_true false h = refl
-
 pub closing_is_takes : ClosingIsTakes
 closing_is_takes b accounts draws opening evaporated target delivered amounts take l v is m for_diversions after =
     omega (
@@ -87,7 +83,7 @@ closing_is_takes b accounts draws opening evaporated target delivered amounts ta
         ap (λ o. unwrap_or (option_map (λ (x : Reservoir). Some x.node) o) None) entry.1 in
         omega (
           arith,
-          after.others r entry.0.node k (not_true (is_owned accounts r) tests.1)
+          after.others r entry.0.node k (not-true (is_owned accounts r) tests.1)
               (node_via b r v (at_some (reservoir_of_right b r) v (sym (zone_test b r v) ∙ tests.0)) ∙ at),
           none_for_zone b draws amounts r v for_diversions tests.0,
         )

@@ -5,7 +5,7 @@ use Rattle.finite_sums.specs.Sums.{total_where, greatest_where}
 use Rattle.water_model.specs.Lookups.{has}
 use Rattle.water_model.specs.Basin.{is_outlet, is_on_link}
 use Rattle.water_model.specs.Plans.{carry_of, inflow_to, outflow_from}
-use Rattle.water_model.specs.Cuts.{enters, leaves}
+use Rattle.water_model.specs.Cuts.{cut_capacity, leaves}
 use Rattle.water_text.specs.declared.month.Month.{Month}
 use Rattle.water_model.specs.declared.types.Basin.{Basin}
 
@@ -58,12 +58,7 @@ abbrev pub IsGreatestDraw : Basin → Month → (ℕ → ℕ) → List ℕ → L
 IsGreatestDraw b month held supply taken from to cap amount =
     IsGreatestWithin b (carry_of b month) held supply taken from to cap amount
 
--- the most that can come into a set of nodes; what is held on the links that leave it; and what is taken in it
-abbrev pub coming_in : Basin → (ℕ → ℕ) → List ℕ → List Bool → ℕ
-coming_in b carry supply set =
-    total_where (length b.nodes) (λ n. has set n) (λ n. slice_index supply n)
-    + total_where (length b.links) (λ e. enters b set e) carry
-
+-- what is held on the links that leave a set of nodes, and what is taken in it
 abbrev pub held_leaving : Basin → (ℕ → ℕ) → List Bool → ℕ
 held_leaving b held set = total_where (length b.links) (λ e. leaves b set e) held
 
@@ -78,7 +73,7 @@ pub record IsStopWithin (b : Basin) (carry held : ℕ → ℕ) (supply taken : L
     pub one_each : length set ≡ length b.nodes
     pub drawing : IsTrue (has set to)
     pub storing : has set from ≡ false
-    pub full : coming_in b carry supply set ≡ held_leaving b held set + taken_within b taken set
+    pub full : cut_capacity b carry supply set ≡ held_leaving b held set + taken_within b taken set
 
 abbrev pub IsStop : Basin → Month → (ℕ → ℕ) → List ℕ → List ℕ → ℕ → ℕ → List Bool → Type 0
 IsStop b month held supply taken from to set = IsStopWithin b (carry_of b month) held supply taken from to set

@@ -4,12 +4,13 @@
 ghost use Rattle.std.specs.Prelude.{◌≡◌, ◌<◌};
 
 use basin_cli::{Status, basin_main};
+use memory_edge::{MemoryShelf, MemorySink};
 use month_fold::work::Work;
 use std::alloc::{AllocError, Global};
 use std::marker::Brand;
 use std::sync::ledger::{Blank, Ledger};
 use std::test::Fail;
-use water_edge::{MemoryShelf, MemorySink, Sink};
+use water_edge::Sink;
 
 /// The bytes of the files BASIN, BASIN2, SERIES, RESULT and SCRIPT, how many bytes a part of a file has at most, where
 /// 0 counts as 1, and the numbers of the calls of the shelf, of out and of err that fail.

@@ -6,12 +6,12 @@ use crate::basins::basin_of;
 use edit_script::{ScriptFault, ScriptRefused, read_script};
 use edit_session::put_shows;
 use inflow_file::read_inflows;
+use memory_edge::MemorySink;
 use month_fold::work::Work;
 use std::alloc::Global;
 use std::marker::Brand;
 use std::sync::ledger::{Blank, Ledger};
 use std::test::Fail;
-use water_edge::MemorySink;
 use water_model::types::{Basin, Inflows};
 
 const BASIN: &str = r#"

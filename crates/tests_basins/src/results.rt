@@ -152,7 +152,7 @@ const LINES_OF_RIGHTS: &[(&str, Result<Item, BadLine>)] = &[
     ),
 ];
 
-/// Lines that its reader accepts, up to those of a set.
+/// Lines that its reader accepts, up to those of a second set. The first one begins with `mid`.
 const LINES_TO_SET: &[&str] = &[
     "river-result 1",
     "run 1900-01 1",
@@ -162,20 +162,22 @@ const LINES_TO_SET: &[&str] = &[
     "deliver old 60 60",
     "deliver new 20 50",
     "out mouth 60",
+    "call old",
+    "in mid",
     "call new",
 ];
 
-/// Bytes that the reader is given then, with the node whose line it takes from them. At first the likely node is `top`.
+/// Bytes that the reader is given then, with the node whose line it takes from them. At first the likely node is `mid`.
 const PIECES: &[(&str, Option<u32>)] = &[
     ("", None),
-    ("in top", None),
-    ("in to\n", None),
-    ("in topx\n", None),
-    ("in top \n", None),
-    (" in top\n", None),
-    ("in mid\n", None),
-    ("in top\nin mid\n", Some(0)),
+    ("in mid", None),
+    ("in mi\n", None),
+    ("in midx\n", None),
+    ("in mid \n", None),
+    (" in mid\n", None),
     ("in top\n", None),
+    ("in mid\nin mouth\n", Some(1)),
+    ("in mid\n", None),
 ];
 
 /// Gives a reader a line, and compares its answer.

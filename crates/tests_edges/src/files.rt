@@ -1,12 +1,12 @@
 //! What no clause says: that real files and streams are met, and that a shelf and a sink in memory can be had.
+use memory_edge::{MemoryShelf, MemorySink, WatchedShelf};
 use std::alloc::{AllocError, Global};
 use std::fs::File;
 use std::io::{BufWriter, Write};
+use std::process::Abort;
+use std::rt::Files;
 use std::{fs, io};
-use water_edge::{
-    FileShelf, MemoryShelf, MemorySink, Shelf, ShelfRefused, Sink, SinkFailed, StdSink,
-    WatchedShelf,
-};
+use water_edge::{FileShelf, Shelf, ShelfRefused, Sink, SinkFailed, StdSink};
 
 /// Whether a shelf answered with these bytes, or refused as is wanted.
 fn is_answer(answer: Result<Vec<u8>, ShelfRefused>, want: Result<&[u8], ShelfRefused>) -> bool {
@@ -25,26 +25,24 @@ fn file_bytes(alloc: Global) -> Result<Vec<u8>, AllocError> {
     Ok(bytes)
 }
 
-/// How many reads in turn go as wanted, of a file of these bytes and of one that there isn't.
-fn reads_files(rt: &HostRuntime, bytes: &[u8]) -> u32 {
+/// Reads a file of these bytes, and one that there isn't.
+fn read_files<R: Files + AllocGlobal + Abort>(rt: &R, bytes: &[u8]) {
     let mut shelf = FileShelf::new(rt);
-    let mut reads = 0_u32;
     for (name, limit, want) in [
         ("shelf_test", 8195, Ok(bytes)),
         ("shelf_test", 8194, Err(ShelfRefused::TooLong)),
         ("shelf_test", 0, Err(ShelfRefused::TooLong)),
         ("no_such_file", 8195, Err(ShelfRefused::Failed)),
     ] {
-        if !is_answer(shelf.read_whole(rt.alloc(), name, limit), want) {
-            break;
-        }
-        reads = reads.wrapping_add(1);
+        assert!(rt;
+            is_answer(shelf.read_whole(rt.alloc(), name, limit), want),
+            "{name} {limit}"
+        );
     }
-    reads
 }
 
 /// Whether a shelf answers with this many bytes of the file from an offset on.
-fn is_part(shelf: &mut FileShelf<'_, HostRuntime>, bytes: &[u8], from: u64, want: usize) -> bool {
+fn is_part<R: Files>(shelf: &mut FileShelf<'_, R>, bytes: &[u8], from: u64, want: usize) -> bool {
     let mut part = [0u8; 5000];
     match shelf.read_part("shelf_test", from, &mut part) {
         Ok(count) => {
@@ -55,17 +53,15 @@ fn is_part(shelf: &mut FileShelf<'_, HostRuntime>, bytes: &[u8], from: u64, want
     }
 }
 
-/// How many parts in turn are read as wanted: on from the last one, after the end, back by a seek, and anew.
-fn reads_parts(rt: &HostRuntime, bytes: &[u8]) -> u32 {
+/// Reads parts: on from the last one, after the end, back by a seek, and anew.
+fn read_parts<R: Files + Abort>(rt: &R, bytes: &[u8]) {
     let mut shelf = FileShelf::new(rt);
-    let mut reads = 0_u32;
     for (from, want) in [(0, 5000), (5000, 3195), (8195, 0), (100, 5000), (0, 5000)] {
-        if !is_part(&mut shelf, bytes, from, want) {
-            break;
-        }
-        reads = reads.wrapping_add(1);
+        assert!(rt;
+            is_part(&mut shelf, bytes, from, want),
+            "{want} bytes from {from} on"
+        );
     }
-    reads
 }
 
 /// Files lie in the folder where the tests run, which is theirs alone.
@@ -73,8 +69,8 @@ fn reads_parts(rt: &HostRuntime, bytes: &[u8]) -> u32 {
 fn file_shelf_reads_a_real_file(rt: HostRuntime) -> io::Result<()> {
     let bytes = file_bytes(rt.alloc())?;
     fs::write(&rt, "shelf_test", bytes.as_slice())?;
-    assert_eq!(rt; reads_files(&rt, bytes.as_slice()), 4);
-    assert_eq!(rt; reads_parts(&rt, bytes.as_slice()), 5);
+    read_files(&rt, bytes.as_slice());
+    read_parts(&rt, bytes.as_slice());
     fs::remove_file(&rt, "shelf_test")
 }
 
@@ -124,9 +120,9 @@ fn memory_shelf(alloc: Global) -> Result<MemoryShelf, AllocError> {
     Ok(MemoryShelf::new(files, vec![in alloc; 2]?))
 }
 
-/// How many reads in turn go as wanted, from the shelf of three files.
-fn reads_memory(alloc: Global, shelf: &mut MemoryShelf) -> u32 {
-    let mut reads = 0_u32;
+#[test]
+fn memory_reads(rt: HostRuntime) -> Result<(), AllocError> {
+    let mut shelf = memory_shelf(rt.alloc())?;
     for (name, limit, want) in [
         ("basin", 5, Ok("three".as_bytes())),
         ("basin", 4, Err(ShelfRefused::TooLong)),
@@ -134,42 +130,26 @@ fn reads_memory(alloc: Global, shelf: &mut MemoryShelf) -> u32 {
         ("series", 0, Ok("".as_bytes())),
         ("absent", 5, Err(ShelfRefused::Failed)),
     ] {
-        if !is_answer(shelf.read_whole(alloc, name, limit), want) {
-            break;
-        }
-        reads = reads.wrapping_add(1);
+        assert!(rt;
+            is_answer(shelf.read_whole(rt.alloc(), name, limit), want),
+            "{name} {limit}"
+        );
     }
-    reads
-}
-
-#[test]
-fn memory_reads(rt: HostRuntime) -> Result<(), AllocError> {
-    let mut shelf = memory_shelf(rt.alloc())?;
-    assert_eq!(rt; reads_memory(rt.alloc(), &mut shelf), 5);
     Ok(())
 }
 
-/// How many puts in turn go as wanted, into an empty sink for five bytes whose call 1 fails.
-fn puts_memory(sink: &mut MemorySink) -> u32 {
-    let mut puts = 0_u32;
+/// Call 1 fails.
+#[test]
+fn memory_takes(rt: HostRuntime) -> Result<(), AllocError> {
+    let mut sink = MemorySink::new(rt.alloc(), 5, vec![in rt.alloc(); 1]?)?;
     for (piece, want) in [
         ("ab", Ok(())),
         ("c", Err(SinkFailed)),
         ("cdef", Err(SinkFailed)),
         ("cde", Ok(())),
     ] {
-        if sink.put(piece.as_bytes()) != want {
-            break;
-        }
-        puts = puts.wrapping_add(1);
+        assert_eq!(rt; sink.put(piece.as_bytes()), want, "{piece}");
     }
-    puts
-}
-
-#[test]
-fn memory_takes(rt: HostRuntime) -> Result<(), AllocError> {
-    let mut sink = MemorySink::new(rt.alloc(), 5, vec![in rt.alloc(); 1]?)?;
-    assert_eq!(rt; puts_memory(&mut sink), 4);
     assert!(rt; sink.bytes() == b"abcde".as_slice());
     Ok(())
 }

@@ -1,12 +1,13 @@
 //! What no clause says: which parts of real files and of a pipe are read, when a sink over a writer writes, and what
 //! each call answers where nothing fails.
+use memory_edge::{MemoryShelf, MemorySink};
 use std::alloc::{AllocError, Global};
 use std::io::{PipeReader, Write};
 use std::os::fd::AsRawFd;
+use std::process::Abort;
+use std::rt::Files;
 use std::{fs, io};
-use water_edge::{
-    FileShelf, MemoryShelf, MemorySink, Shelf, ShelfRefused, Sink, SinkFailed, StdSink,
-};
+use water_edge::{FileShelf, Shelf, ShelfRefused, Sink, SinkFailed, StdSink};
 
 /// Whether a read of a part into the first `room` of seven bytes answers `want`, and leaves the seven as `after`.
 fn is_part<S: Shelf>(
@@ -32,92 +33,85 @@ fn digits(alloc: Global, failing: Vec<u64>) -> Result<MemoryShelf, AllocError> {
     Ok(MemoryShelf::new(files, failing))
 }
 
-/// How many reads in turn go as wanted, of parts in memory.
-fn reads_memory(shelf: &mut MemoryShelf) -> u32 {
-    let mut reads = 0_u32;
-    for (from, room, count, after) in [
-        (0, 1, 1, "0......"),
-        (0, 2, 2, "01....."),
-        (0, 7, 7, "0123456"),
-        (9, 1, 1, "9......"),
-        (9, 2, 1, "9......"),
-        (9, 7, 1, "9......"),
-        (10, 1, 0, "......."),
-        (10, 2, 0, "......."),
-        (10, 7, 0, "......."),
-        (11, 1, 0, "......."),
-        (11, 2, 0, "......."),
-        (11, 7, 0, "......."),
-        (5, 0, 0, "......."),
-    ] {
-        if !is_part(shelf, "digits", from, room, Ok(count), after) {
-            break;
-        }
-        reads = reads.wrapping_add(1);
+/// A part that is read: of which file, from which index, into how much room, the answer, and what stands there then.
+type Part<'a> = (&'a str, u64, usize, Result<usize, ShelfRefused>, &'a str);
+
+/// Fails where a part in memory is read otherwise.
+fn expect_in_memory<R: Abort>(rt: &R, shelf: &mut MemoryShelf, parts: &[Part<'_>]) {
+    for (name, from, room, want, after) in parts {
+        assert!(rt;
+            is_part(shelf, name, *from, *room, *want, after),
+            "{name} {from} {room}"
+        );
     }
-    reads
 }
 
 #[test]
 fn memory_shelf_reads_parts(rt: HostRuntime) -> Result<(), AllocError> {
+    let parts = [
+        ("digits", 0, 1, Ok(1), "0......"),
+        ("digits", 0, 2, Ok(2), "01....."),
+        ("digits", 0, 7, Ok(7), "0123456"),
+        ("digits", 9, 1, Ok(1), "9......"),
+        ("digits", 9, 2, Ok(1), "9......"),
+        ("digits", 9, 7, Ok(1), "9......"),
+        ("digits", 10, 1, Ok(0), "......."),
+        ("digits", 10, 2, Ok(0), "......."),
+        ("digits", 10, 7, Ok(0), "......."),
+        ("digits", 11, 1, Ok(0), "......."),
+        ("digits", 11, 2, Ok(0), "......."),
+        ("digits", 11, 7, Ok(0), "......."),
+        ("digits", 5, 0, Ok(0), "......."),
+    ];
     let mut shelf = digits(rt.alloc(), Vec::new(rt.alloc()))?;
-    assert_eq!(rt; reads_memory(&mut shelf), 13);
+    expect_in_memory(&rt, &mut shelf, &parts);
     Ok(())
 }
 
-/// How many reads in turn go as wanted, from a shelf whose call 1 fails.
-fn fails_memory(shelf: &mut MemoryShelf) -> u32 {
-    let mut reads = 0_u32;
-    for (name, want, after) in [
-        ("digits", Ok(2), "89....."),
-        ("digits", Err(ShelfRefused::Failed), "......."),
-        ("digits", Ok(2), "89....."),
-        ("absent", Err(ShelfRefused::Failed), "......."),
-    ] {
-        if !is_part(shelf, name, 8, 3, want, after) {
-            break;
-        }
-        reads = reads.wrapping_add(1);
-    }
-    reads
-}
-
+/// Call 1 fails.
 #[test]
 fn memory_shelf_fails_to_read_parts(rt: HostRuntime) -> Result<(), AllocError> {
+    let parts = [
+        ("digits", 8, 3, Ok(2), "89....."),
+        ("digits", 8, 3, Err(ShelfRefused::Failed), "......."),
+        ("digits", 8, 3, Ok(2), "89....."),
+        ("absent", 8, 3, Err(ShelfRefused::Failed), "......."),
+    ];
     let mut shelf = digits(rt.alloc(), vec![in rt.alloc(); 1]?)?;
-    assert_eq!(rt; fails_memory(&mut shelf), 4);
+    expect_in_memory(&rt, &mut shelf, &parts);
     Ok(())
 }
 
-/// How many reads in turn go as wanted, of parts that have at most three bytes.
-fn reads_pieces(shelf: &mut MemoryShelf) -> u32 {
-    let mut reads = 0_u32;
-    for (from, room, count, after) in [
-        (0, 7, 3, "012...."),
-        (0, 2, 2, "01....."),
-        (8, 7, 2, "89....."),
-        (10, 7, 0, "......."),
-    ] {
-        if !is_part(shelf, "digits", from, room, Ok(count), after) {
-            break;
-        }
-        reads = reads.wrapping_add(1);
-    }
-    reads
-}
-
+/// Parts have at most three bytes.
 #[test]
 fn memory_shelf_reads_in_pieces(rt: HostRuntime) -> Result<(), AllocError> {
+    let parts = [
+        ("digits", 0, 7, Ok(3), "012...."),
+        ("digits", 0, 2, Ok(2), "01....."),
+        ("digits", 8, 7, Ok(2), "89....."),
+        ("digits", 10, 7, Ok(0), "......."),
+    ];
     let mut shelf = digits(rt.alloc(), Vec::new(rt.alloc()))?.in_pieces(3);
-    assert_eq!(rt; reads_pieces(&mut shelf), 4);
+    expect_in_memory(&rt, &mut shelf, &parts);
     Ok(())
 }
 
-/// How many reads in turn go as wanted, of a file of ten bytes and of one that there isn't.
-fn reads_files(rt: &HostRuntime) -> u32 {
+/// Fails where a part of a file is read otherwise.
+fn expect_in_files<R: Files + Abort>(rt: &R, parts: &[Part<'_>]) {
     let mut shelf = FileShelf::new(rt);
-    let mut reads = 0_u32;
-    for (name, from, room, want, after) in [
+    for (name, from, room, want, after) in parts {
+        assert!(rt;
+            is_part(&mut shelf, name, *from, *room, *want, after),
+            "{name} {from} {room}"
+        );
+    }
+}
+
+/// Files lie in the folder where the tests run, which is theirs alone.
+#[test]
+fn file_shelf_reads_parts_of_a_real_file(rt: HostRuntime) -> io::Result<()> {
+    fs::write(&rt, "parts_test", "0123456789")?;
+    let parts = [
         ("parts_test", 0, 7, Ok(7), "0123456"),
         ("parts_test", 7, 7, Ok(3), "789...."),
         ("parts_test", 10, 7, Ok(0), "......."),
@@ -127,40 +121,9 @@ fn reads_files(rt: &HostRuntime) -> u32 {
         ("no_such_file", 0, 1, Err(ShelfRefused::Failed), "......."),
         ("parts_test", 9, 2, Ok(1), "9......"),
         ("parts_test", 0, 2, Ok(2), "01....."),
-    ] {
-        if !is_part(&mut shelf, name, from, room, want, after) {
-            break;
-        }
-        reads = reads.wrapping_add(1);
-    }
-    reads
-}
-
-/// Files lie in the folder where the tests run, which is theirs alone.
-#[test]
-fn file_shelf_reads_parts_of_a_real_file(rt: HostRuntime) -> io::Result<()> {
-    fs::write(&rt, "parts_test", "0123456789")?;
-    assert_eq!(rt; reads_files(&rt), 9);
+    ];
+    expect_in_files(&rt, &parts);
     fs::remove_file(&rt, "parts_test")
-}
-
-/// How many reads in turn go as wanted, of a pipe in which ten bytes lie. It can't go back.
-fn reads_pipe(rt: &HostRuntime, name: &str) -> u32 {
-    let mut shelf = FileShelf::new(rt);
-    let mut reads = 0_u32;
-    for (from, room, want, after) in [
-        (0, 2, Ok(2), "01....."),
-        (2, 7, Ok(7), "2345678"),
-        (9, 7, Ok(1), "9......"),
-        (10, 7, Ok(0), "......."),
-        (3, 1, Err(ShelfRefused::Failed), "......."),
-    ] {
-        if !is_part(&mut shelf, name, from, room, want, after) {
-            break;
-        }
-        reads = reads.wrapping_add(1);
-    }
-    reads
 }
 
 /// A pipe in which ten bytes lie, and no more will come.
@@ -170,11 +133,20 @@ fn filled_pipe(rt: &HostRuntime) -> io::Result<PipeReader> {
     Ok(reader)
 }
 
+/// It can't go back.
 #[test]
 fn file_shelf_reads_a_pipe(rt: HostRuntime) -> io::Result<()> {
     let reader = filled_pipe(&rt)?;
-    let name = format!(in rt.alloc(); "/proc/self/fd/{}", reader.as_raw_fd())?;
-    assert_eq!(rt; reads_pipe(&rt, name.as_str()), 5);
+    let path = format!(in rt.alloc(); "/proc/self/fd/{}", reader.as_raw_fd())?;
+    let name = path.as_str();
+    let parts = [
+        (name, 0, 2, Ok(2), "01....."),
+        (name, 2, 7, Ok(7), "2345678"),
+        (name, 9, 7, Ok(1), "9......"),
+        (name, 10, 7, Ok(0), "......."),
+        (name, 3, 1, Err(ShelfRefused::Failed), "......."),
+    ];
+    expect_in_files(&rt, &parts);
     Ok(())
 }
 
@@ -194,9 +166,8 @@ fn written(alloc: Global, lengths: &[usize], flushes: u32) -> Result<usize, Allo
     Ok(bytes.len())
 }
 
-/// How many sinks in turn write when they should.
-fn writes_at(alloc: Global) -> Result<u32, AllocError> {
-    let mut sinks = 0_u32;
+#[test]
+fn std_sink_gathers_pieces(rt: HostRuntime) -> Result<(), AllocError> {
     for (lengths, flushes, want) in [
         ([0, 0, 0], 1, 0),
         ([100, 65_436, 0], 0, 0),
@@ -210,17 +181,12 @@ fn writes_at(alloc: Global) -> Result<u32, AllocError> {
         ([3, 70_000, 5], 0, 70_003),
         ([3, 70_000, 5], 1, 70_008),
     ] {
-        if written(alloc, &lengths, flushes)? != want {
-            break;
-        }
-        sinks = sinks.wrapping_add(1);
+        assert_eq!(rt;
+            written(rt.alloc(), &lengths, flushes)?,
+            want,
+            "{flushes} flushes"
+        );
     }
-    Ok(sinks)
-}
-
-#[test]
-fn std_sink_gathers_pieces(rt: HostRuntime) -> Result<(), AllocError> {
-    assert_eq!(rt; writes_at(rt.alloc())?, 11);
     Ok(())
 }
 

@@ -3,6 +3,7 @@ ghost use Rattle.std.specs.Prelude.{◌≡◌, ◌<◌, ◌≤◌};
 ghost use Rattle.water_model.specs.Valid.{IsSeriesOf, IsValidBasin};
 
 use basin_gen::make;
+use memory_edge::MemorySink;
 use month_fold::work::Work;
 use reports::{period_report, trial_report};
 use std::alloc::Global;
@@ -10,7 +11,6 @@ use std::marker::Brand;
 use std::process::Abort;
 use std::sync::ledger::{Blank, Ledger};
 use std::test::Fail;
-use water_edge::MemorySink;
 use water_model::types::{Basin, Inflows};
 
 /// Compares the report of a basin.

@@ -13,9 +13,6 @@ IsKnownPrefix-same a = ([], Appends-nil a)
 pub IsKnownPrefix-trans : (a b c : Option (List ℕ)) → IsKnownPrefix a b → IsKnownPrefix b c → IsKnownPrefix a c
 IsKnownPrefix-trans a b c h k = (h.0 ++ k.0, Appends-trans a b c h.0 k.0 h.1 k.1)
 
-pub known_then_kept : (a b c : Option (List ℕ)) → IsKnownPrefix a b → Keeps b c → IsKnownPrefix a c
-known_then_kept a b c h k = (h.0, Appends-kept a b c h.0 h.1 k)
-
 pub Passes-same : (o : Output) → Passes o o
 Passes-same o = record { later = IsKnownPrefix-same o.flushed; within = λ h. h }
 
@@ -53,14 +50,6 @@ pub HasFlushed-later : (old mid new : Output) (bytes : List ℕ) → HasFlushed 
     HasFlushed old new bytes
 HasFlushed-later old mid new bytes h k =
     (h.0, h.1, IsKnownPrefix-trans h.0 mid.flushed new.flushed h.2 k.later)
-
--- a sink that keeps nothing back takes a piece
-pub memory_extends : (old new piece : List ℕ) → new ≡ old ++ piece →
-    Extends (record { taken = Some old; flushed = Some old }) (record { taken = Some new; flushed = Some new }) piece
-memory_extends old new piece is = record {
-  taken = is;
-  passes = record { later = (piece, is); within = λ _. IsKnownPrefix-same (Some new) };
-}
 
 -- A sink over a writer.
 

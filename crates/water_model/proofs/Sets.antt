@@ -32,13 +32,12 @@ grouped n m y p within f one =
     ∙ total_exchange n m (λ v e. if y v then (if p e v then f e else 0) else 0)
     ∙ total_same _ _ _ (λ e l. one e (f e))
 
--- one index: what stands at node k
-pub at_index : (n : ℕ) (set : List Bool) → length set ≡ n → (k x : ℕ) →
-    total n (λ v. if has set v then (if k == v then x else 0) else 0) ≡ (if has set k then x else 0)
-at_index n set len k x =
-    total_same _ _ _ (λ v l. swap_tests (has set) k v x)
-    ∙ (total_at n k (if has set k then x else 0)
-    ∙ drop_test k n (has set k) x (λ h. let l = has_below set k h in omega arith))
+-- one index: what stands where it passes
+pub at_one : (n : ℕ) (y : ℕ → Bool) (k x : ℕ) → (y k ≡ true → k < n) →
+    total n (λ v. if y v then (if k == v then x else 0) else 0) ≡ (if y k then x else 0)
+at_one n y k x inside =
+    total_same _ _ _ (λ v l. swap_tests y k v x)
+    ∙ (total_at n k (if y k then x else 0) ∙ drop_test k n (y k) x inside)
   where
     swap_tests : (y : ℕ → Bool) (k v x : ℕ) →
         (if y v then (if k == v then x else 0) else 0) ≡ (if k == v then (if y k then x else 0) else 0)
@@ -47,6 +46,10 @@ at_index n set len k x =
     drop_test : (k n : ℕ) (b : Bool) (x : ℕ) → (b ≡ true → k < n) →
         (if nat_lt k n then (if b then x else 0) else 0) ≡ (if b then x else 0)
     drop_test k n b x h = grind (arith, nat_tests)
+
+pub at_index : (n : ℕ) (set : List Bool) → length set ≡ n → (k x : ℕ) →
+    total n (λ v. if has set v then (if k == v then x else 0) else 0) ≡ (if has set k then x else 0)
+at_index n set len k x = at_one n (has set) k x (λ h. let l = has_below set k h in omega arith)
 
 -- the same where there may be no index
 pub at_some_index : (n : ℕ) (set : List Bool) → length set ≡ n → (o : Option ℕ) (x : ℕ) →

@@ -1,4 +1,5 @@
--- Cuts of a right, their bounds, and reaches.
+-- Cuts of a right, their bounds, and reaches, under any carries and under those of a month. What can come into a set of
+-- nodes bounds what goes out of it: the cuts of a flow, after Ahuja, Magnanti and Orlin, Network Flows (1993).
 use Rattle.std.specs.Prelude.{◌≡◌, ℕ, ℤ, pos, ◌-ℤ◌, ◌+◌, Bool, false, ◌&&◌, not, List, length, slice_index, Option}
 use Rattle.std.specs.Prelude.{Some, None, IsTrue, nat_lt}
 use Rattle.finite_sums.specs.Sums.{total_where, greatest_where}
@@ -28,22 +29,33 @@ abbrev pub kept_on : Basin → List ℕ → ℕ → ℕ → ℕ
 kept_on b delivered right link =
     greatest_where (length b.rights) (λ s. is_on_link b s link && is_senior b s right) (λ s. slice_index delivered s)
 
--- the supply in a set of nodes and the carry of the links that enter it: the most that can come in
-abbrev pub cut_capacity : Basin → Month → List ℕ → List Bool → ℕ
-cut_capacity b month supply cut =
-    total_where (length b.nodes) (λ n. has cut n) (λ n. slice_index supply n)
-    + total_where (length b.links) (λ e. enters b cut e) (λ e. carry_of b month e)
+-- the supply in a set of nodes, and the carry of the links that enter it
+abbrev pub supply_within : Basin → List ℕ → List Bool → ℕ
+supply_within b supply cut = total_where (length b.nodes) (λ n. has cut n) (λ n. slice_index supply n)
 
--- what is kept for seniors, on the links that leave the set other than the right's own, and by takes in the set
-abbrev pub cut_kept : Basin → List ℕ → ℕ → List Bool → ℕ
-cut_kept b delivered right cut =
+abbrev pub carry_into : Basin → (ℕ → ℕ) → List Bool → ℕ
+carry_into b carry cut = total_where (length b.links) (λ e. enters b cut e) (λ e. carry e)
+
+-- the most that can come in
+abbrev pub cut_capacity : Basin → (ℕ → ℕ) → List ℕ → List Bool → ℕ
+cut_capacity b carry supply cut = supply_within b supply cut + carry_into b carry cut
+
+-- what is kept for seniors on the links that leave the set, other than the right's own, and by takes in the set
+abbrev pub kept_leaving : Basin → List ℕ → ℕ → List Bool → ℕ
+kept_leaving b delivered right cut =
     total_where (length b.links) (λ e. leaves b cut e && not (is_on_link b right e)) (λ e. kept_on b delivered right e)
-    + total_where (length b.rights) (λ s. takes_within b cut s && is_senior b s right) (λ s. slice_index delivered s)
 
--- the most that a right can be delivered beside its seniors
+abbrev pub kept_within : Basin → List ℕ → ℕ → List Bool → ℕ
+kept_within b delivered right cut =
+    total_where (length b.rights) (λ s. takes_within b cut s && is_senior b s right) (λ s. slice_index delivered s)
+
+abbrev pub cut_kept : Basin → List ℕ → ℕ → List Bool → ℕ
+cut_kept b delivered right cut = kept_leaving b delivered right cut + kept_within b delivered right cut
+
+-- the most that a right can be delivered in a month beside its seniors
 abbrev pub cut_bound : Basin → Month → List ℕ → List ℕ → ℕ → List Bool → ℤ
 cut_bound b month supply delivered right cut =
-    pos (cut_capacity b month supply cut) -ℤ pos (cut_kept b delivered right cut)
+    pos (cut_capacity b (carry_of b month) supply cut) -ℤ pos (cut_kept b delivered right cut)
 
 -- whether a set has the node of a diversion or zone, or the tail and not the head of an instream right's link
 abbrev pub separates : Basin → Option ℕ → Option ℕ → List Bool → Bool
@@ -55,12 +67,20 @@ pub record IsCut (b : Basin) (right : ℕ) (cut : List Bool) : Type 0 where
   pub separates : IsTrue (separates b (taking_node b right) (instream_link b right) cut)
 
 -- a cut whose bound is what the right is delivered
-pub record IsTight (b : Basin) (month : Month) (supply delivered : List ℕ) (right : ℕ) (cut : List Bool) : Type 0 where
-  pub is_cut : IsCut b right cut
-  pub tight : cut_capacity b month supply cut ≡ slice_index delivered right + cut_kept b delivered right cut
+pub record IsTightWithin (b : Basin) (carry : ℕ → ℕ) (supply delivered : List ℕ) (right : ℕ) (cut : List Bool) : Type 0
+  where
+    pub is_cut : IsCut b right cut
+    pub tight : cut_capacity b carry supply cut ≡ slice_index delivered right + cut_kept b delivered right cut
+
+abbrev pub IsTight : Basin → Month → List ℕ → List ℕ → ℕ → List Bool → Type 0
+IsTight b month supply delivered right cut = IsTightWithin b (carry_of b month) supply delivered right cut
 
 -- the tight cut that contains every tight cut
-pub record IsReach (b : Basin) (month : Month) (supply delivered : List ℕ) (right : ℕ) (cut : List Bool) : Type 0 where
-  pub is_tight : IsTight b month supply delivered right cut
-  pub contains : (other : List Bool) → IsTight b month supply delivered right other →
-      (n : ℕ) → IsTrue (has other n) → IsTrue (has cut n)
+pub record IsReachWithin (b : Basin) (carry : ℕ → ℕ) (supply delivered : List ℕ) (right : ℕ) (cut : List Bool) : Type 0
+  where
+    pub is_tight : IsTightWithin b carry supply delivered right cut
+    pub contains : (other : List Bool) → IsTightWithin b carry supply delivered right other →
+        (n : ℕ) → IsTrue (has other n) → IsTrue (has cut n)
+
+abbrev pub IsReach : Basin → Month → List ℕ → List ℕ → ℕ → List Bool → Type 0
+IsReach b month supply delivered right cut = IsReachWithin b (carry_of b month) supply delivered right cut

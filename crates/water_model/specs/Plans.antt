@@ -31,6 +31,13 @@ outflow_from b flow node = total_where (length b.links) (λ e. tail_of b e == no
 abbrev pub taken_at : Basin → List ℕ → ℕ → ℕ
 taken_at b take node = total_where (length b.rights) (λ r. takes_at b r node) (λ r. slice_index take r)
 
+-- what comes to a node, its supply and what flows in; and what goes from it: what flows on, is taken or leaves the basin
+abbrev pub coming_to : Basin → List ℕ → Plan → ℕ → ℕ
+coming_to b supply p node = slice_index supply node + inflow_to b p.flow node
+
+abbrev pub going_from : Basin → Plan → ℕ → ℕ
+going_from b p node = outflow_from b p.flow node + taken_at b p.take node + slice_index p.out node
+
 -- a flow in the network that keeps these carries and wants
 pub record IsFeasible (b : Basin) (carry : ℕ → ℕ) (supply want : List ℕ) (p : Plan) : Type 0 where
   pub flow_len : length p.flow ≡ length b.links
@@ -40,9 +47,7 @@ pub record IsFeasible (b : Basin) (carry : ℕ → ℕ) (supply want : List ℕ)
   pub wants : (r : ℕ) → r < length b.rights → slice_index p.take r ≤ slice_index want r
   pub instream : (r : ℕ) → r < length b.rights → taking_node b r ≡ None → slice_index p.take r ≡ 0
   pub outlets : (n : ℕ) → n < length b.nodes → is_outlet b n ≡ false → slice_index p.out n ≡ 0
-  pub balance : (n : ℕ) → n < length b.nodes →
-      slice_index supply n + inflow_to b p.flow n
-      ≡ outflow_from b p.flow n + taken_at b p.take n + slice_index p.out n
+  pub balance : (n : ℕ) → n < length b.nodes → coming_to b supply p n ≡ going_from b p n
 
 -- a plan of the month: one that keeps the month's carries
 abbrev pub IsPlan : Basin → Month → List ℕ → List ℕ → Plan → Type 0

@@ -1,4 +1,5 @@
 use Rattle.std.proofs.Common.{◌+◌, Some}
+use Rattle.chains.proofs.Walking.{key_is}
 use Rattle.rights_roll.specs.Rolls.{IsNextOn}
 use Rattle.cut_cert.proofs.Chain.{IsKeptSoFar, kept_start, kept_more, kept_all}
 use Rattle.cut_cert.proofs.kept_on.Goals as goal
@@ -14,7 +15,7 @@ loop-next-preserved c =
     (Some c.in-Some.holder) =
     rw c.in-Some.is at c.loop-next.invariant in
     let next : IsNextOn c.args.basin.now.rights c.args.link (c.in-Some.holder + 1) c.next_on-next.result =
-    rw c.next_on-next.ensures (c.requires.roll.nexts c.in-Some.holder c.args.link so.at.1 so.at.2) in
+    rw c.next_on-next.ensures (c.requires.roll.nexts c.in-Some.holder c.args.link so.at.1 (key_is _ _ so.at.2)) in
     kept_more c.args.basin.now c.args.delivered.now c.args.right c.args.link c.loop-next.kept c.kept_with-kept.result
     c.in-Some.holder c.next_on-next.result so c.kept_with-kept.ensures next
 

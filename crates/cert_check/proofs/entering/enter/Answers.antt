@@ -1,5 +1,4 @@
-use Rattle.std.proofs.Common.{◌≡◌, ◌^◌, length, refl, sym, ap, subst, ◌∙◌, map, replicate, false, Some, None}
-use Rattle.std.proofs.Common.{arith}
+use Rattle.std.proofs.Common.{◌^◌, length, refl, sym, ap, subst, ◌∙◌, map, arith}
 use Rattle.std.proofs.lemmas.List.{length-map}
 use Rattle.month_terms.proofs.Amounts.{deliveries_small}
 use Rattle.month_terms.proofs.WaterYears.{used_most}
@@ -10,12 +9,8 @@ use Rattle.water_model.specs.declared.types.MonthRecord.{MonthRecord}
 use Rattle.cert_check.specs.Checking.{first_row}
 use Rattle.cert_check.specs.Coming.{is_before_called}
 use Rattle.cert_check.proofs.Entries.{along, keeps_amount, keeps_delivery, keeps_month, keeps_next, keeps_end}
-use Rattle.result_lines.specs.declared.item.Item.{Item}
-use Rattle.result_lines.specs.declared.item.Item.TheVariants as line
-use Rattle.cert_check.specs.declared.state.CheckState.{CheckState}
-use Rattle.cert_check.proofs.SetEntries.{keeps_call, keeps_node, with_own}
+use Rattle.cert_check.proofs.SetEntries.{keeps_call, keeps_node}
 use Rattle.cert_check.proofs.Fitting.{amounts_sized}
-use Rattle.cert_check.proofs.TightSets.{found_tight}
 use Rattle.cert_check.proofs.entering.enter.Goals as goal
 
 pub enter_amount-requires : goal.enter_amount-requires
@@ -34,21 +29,9 @@ returns-in-Deliver c = λ t k m good. along t c.in-Deliver.is c.enter_delivery.e
     c.in-Deliver.amount c.in-Deliver.want (m.uncalled (ap is_before_called c.in-Deliver.is)) k)
 
 pub returns-in-Call : goal.returns-in-Call
-returns-in-Call c = λ t k m good.
-    let right = c.in-Call.right in
-    let last = c.keep_tight.new.state.tight in
-    let placed = c.keep_tight.ensures.kept in
-    let none : first_row c.args.context.now.basin.now c.args.context.now.series.now t (line.Call c.in-Call.right)
-    ≡ None =
-    subst (λ (item : Item). first_row c.args.context.now.basin.now c.args.context.now.series.now t item ≡ None)
-    c.in-Call.is good in
-    along t c.in-Call.is
-    (c.enter_call.ensures
-    ∙ ap (λ (a : CheckState). with_own a c.in-Call.right (replicate a.month.cuts.nodes false) (Some c.in-Call.right))
-    c.keep_tight.ensures.rest)
-    (keeps_call last (subst (λ i. IsOfBasin c.args.context.now.basin.now i) c.in-Call.is c.requires.item)
-    (m.uncalled (ap is_before_called c.in-Call.is)) (m.free right c.in-Call.is)
-    (found_tight right c.args.context.now.roll.order last c.requires.context.roll.order k none placed) k)
+returns-in-Call c = λ t k m good. along t c.in-Call.is c.enter_call.ensures
+    (keeps_call (subst (λ i. IsOfBasin c.args.context.now.basin.now i) c.in-Call.is c.requires.item)
+    (m.uncalled (ap is_before_called c.in-Call.is)) k)
 
 pub returns-in-Member : goal.returns-in-Member
 returns-in-Member c = λ t k m good. along t c.in-Member.is refl (keeps_node c.in-Member.node

@@ -12,7 +12,6 @@ returns c = λ series. subst (λ (a : CheckState). Keeps c.args.basin.now series
       month = rw (c.into_inner.ensures, c.in_ok-month.ensures.blank) (blank_is c.requires.run.first refl);
       calling = nobody c.args.basin.now _;
       supply = λ e. clash e;
-      tight = tt;
       closes = λ e. clash e;
       callers = λ e. clash e;
       passed = none_settled c.args.basin.now _;

@@ -18,8 +18,8 @@ returns-then-progress-clause-takes c = λ lines s. rw s.counts.read
     (judged_ended c.args.context.now.basin.now c.args.context.now.series.now s.items c.args.text.now
     (sym s.counts.ended ∙ c.if-progress.true)))
 
-pub take_said-requires-clause-so_far : goal.take_said-requires-clause-so_far
-take_said-requires-clause-so_far c =
+pub take_item-requires-clause-so_far : goal.take_item-requires-clause-so_far
+take_item-requires-clause-so_far c =
     let s = c.requires.lines.stands in
     let read : read_line c.args.context.now.basin.now s.items c.args.text.now ≡ Ok c.in-Ok.item =
     ap (λ x. read_line x s.items c.args.text.now) (sym s.basin) ∙ sym (c.in-Ok.ensures.answer s.items s.reader) in
@@ -36,20 +36,20 @@ take_said-requires-clause-so_far c =
       };
     }
 
-pub take_said-requires-clause-room : goal.take_said-requires-clause-room
-take_said-requires-clause-room c = bounded_lines c.requires.context.valid c.requires.lines.stands
+pub take_item-requires-clause-room : goal.take_item-requires-clause-room
+take_item-requires-clause-room c = bounded_lines c.requires.context.valid c.requires.lines.stands
 
 pub returns-in-Ok-clause-takes : goal.returns-in-Ok-clause-takes
 returns-in-Ok-clause-takes c = λ lines s.
     let read : read_line c.args.context.now.basin.now s.items c.args.text.now ≡ Ok c.in-Ok.item =
     ap (λ x. read_line x s.items c.args.text.now) (sym s.basin) ∙ sym (c.in-Ok.ensures.answer s.items s.reader) in
-    took c.args.context.now.series.now c.take_said.new.progress lines c.args.text.now
-    c.in-Ok.item c.take_said.result s.verdict
+    took c.args.context.now.series.now c.take_item.new.progress lines c.args.text.now
+    c.in-Ok.item c.take_item.result s.verdict
     (judged_item c.args.context.now.basin.now c.args.context.now.series.now s.items c.args.text.now
     (sym s.counts.ended ∙ c.if-progress.false) read)
-    (ap (λ r. r.basin) c.take_said.ensures.reader ∙ (c.in-Ok.ensures.basin ∙ s.basin))
-    (rw c.take_said.ensures.reader (c.in-Ok.ensures.accepted s.items s.reader))
-    (c.take_said.ensures.takes s.items (record {
+    (ap (λ r. r.basin) c.take_item.ensures.reader ∙ (c.in-Ok.ensures.basin ∙ s.basin))
+    (rw c.take_item.ensures.reader (c.in-Ok.ensures.accepted s.items s.reader))
+    (c.take_item.ensures.takes s.items (record {
       state = s.state;
       counts = record { read = s.counts.read; last_other = s.counts.last_other; ended = s.counts.ended };
       comes = line_comes lines c.args.text.now c.requires.context.valid c.requires.context.series s.verdict read;
@@ -64,5 +64,5 @@ returns-in-Err-clause-takes c = λ lines s. rw s.counts.read
     (sym s.counts.ended ∙ c.if-progress.false)
     (ap (λ x. read_line x s.items c.args.text.now) (sym s.basin) ∙ sym (c.in-Err.ensures.answer s.items s.reader))))
 
-pub take_said-requires-clause-context : goal.take_said-requires-clause-context
-take_said-requires-clause-context c = c.requires.context
+pub take_item-requires-clause-context : goal.take_item-requires-clause-context
+take_item-requires-clause-context c = c.requires.context

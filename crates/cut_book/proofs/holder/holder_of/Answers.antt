@@ -1,4 +1,5 @@
 use Rattle.std.proofs.Common.{◌+◌, Some, ap, subst}
+use Rattle.chains.proofs.Walking.{key_is}
 use Rattle.rights_roll.specs.Rolls.{IsNextOn}
 use Rattle.cut_book.specs.Shortages.{IsShortage}
 use Rattle.cut_book.proofs.Holding.{IsHeldSoFar, held_start, held_more, held_all}
@@ -19,7 +20,7 @@ loop-next-preserved c =
     rw c.in-Some.is at c.loop-next.invariant in
     let next : IsNextOn s.basin.rights c.args.link (c.in-Some.right + 1) c.next_on-next.result =
     rw (c.next_on-next.ensures, ap (λ k. k.roll.next_on) c.shortage.view_is)
-    (short.rolled.nexts c.in-Some.right c.args.link so.at.1 so.at.2) in
+    (short.rolled.nexts c.in-Some.right c.args.link so.at.1 (key_is _ _ so.at.2)) in
     held_more s.basin s.month.delivered c.args.link c.args.amount c.in-Some.right c.loop-next.holder
     c.holder_with-holder.result c.next_on-next.result short.valid.roll.strict so c.holder_with-holder.ensures next
 

@@ -1,11 +1,12 @@
 use Rattle.std.proofs.Common.{◌≡◌, ◌+◌, ◌∙◌, length, Some, arith}
+use Rattle.chains.specs.Chains.{IsFirst}
+use Rattle.water_model.specs.Plans.{carry_of}
 use Rattle.water_model.specs.Cuts.{cut_capacity, cut_kept}
 use Rattle.water_model.specs.Lookups.{has}
 use Rattle.cut_cert.specs.Rows.{node_capacity, node_kept}
 use Rattle.cut_cert.specs.Sets.{marked_nodes}
 use Rattle.cut_cert.proofs.BoundParts.{capacity_by_node, capacity_small, kept_by_node, kept_small}
-use Rattle.cut_cert.proofs.RowSums.{IsNextPassing, IsSummedSoFar, of_marks, sum_all, sum_fits, sum_more}
-use Rattle.cut_cert.proofs.RowSums.{sum_start}
+use Rattle.cut_cert.proofs.RowSums.{IsSummedSoFar, of_marks, sum_all, sum_fits, sum_more, sum_start}
 use Rattle.cut_cert.proofs.bounding.sides_of.Goals as goal
 
 pub loop-next-init : goal.loop-next-init
@@ -13,7 +14,7 @@ loop-next-init c =
     let b = c.args.basin.now in
     let cut = marked_nodes c.args.basin.now c.args.words.now in
     let first = c.next_marked_in_both-next.result in
-    let next : IsNextPassing (λ n. has cut n) (length b.nodes) 0 first =
+    let next : IsFirst (λ n. has cut n) 0 (length b.nodes) first =
     of_marks c.args.words.now c.len-nodes.result (length b.nodes) 0 first c.len-nodes.ensures
     c.next_marked_in_both-next.ensures.some
     c.next_marked_in_both-next.ensures.none in
@@ -62,7 +63,7 @@ loop-next-preserved c =
     let g = node_kept b c.args.delivered.now c.args.right cut in
     let node = c.in-Some.node in
     let further = c.next_marked_in_both-next-in-Some.result in
-    let next : IsNextPassing (λ n. has cut n) (length b.nodes) (node + 1) further =
+    let next : IsFirst (λ n. has cut n) (node + 1) (length b.nodes) further =
     of_marks c.args.words.now c.len-nodes.result (length b.nodes) (node + 1) further c.len-nodes.ensures
     c.next_marked_in_both-next-in-Some.ensures.some
     c.next_marked_in_both-next-in-Some.ensures.none in
@@ -80,7 +81,7 @@ pub returns : goal.returns
 returns c =
     let b = c.args.basin.now in
     let cut = marked_nodes c.args.basin.now c.args.words.now in
-    let capacity : c.loop-next.sides.capacity ≡ cut_capacity b c.args.month c.args.supply.now cut =
+    let capacity : c.loop-next.sides.capacity ≡ cut_capacity b (carry_of b c.args.month) c.args.supply.now cut =
     sum_all (λ n. has cut n) (length b.nodes) (node_capacity b c.args.month c.args.supply.now cut)
     c.loop-next.sides.capacity (rw c.in_default.is at c.loop-next.invariant.capacity)
     ∙ capacity_by_node b c.args.month c.args.supply.now cut c.requires.basin in

@@ -6,7 +6,7 @@ use Rattle.cut_cert.proofs.bounding.sum_at.Goals as goal
 pub loop-next-init : goal.loop-next-init
 loop-next-init g c =
     row_start c.args.rows.now c.args.node (goal.F-post g c.args.term) c.first_of-next.result c.requires.rows
-    c.requires.node c.first_of-next.ensures
+    c.first_of-next.ensures
 
 pub term-sum-requires : goal.term-sum-requires
 term-sum-requires g c =

@@ -1,4 +1,4 @@
-use Rattle.std.proofs.Common.{arith}
+use Rattle.inflow_file.proofs.Words.{arith}
 use Rattle.inflow_file.proofs.DueLaws.{small_index, small_table}
 use Rattle.inflow_file.proofs.cells.cell_of.Goals as goal
 

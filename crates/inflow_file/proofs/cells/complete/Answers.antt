@@ -1,13 +1,11 @@
-use Rattle.std.proofs.Common.{◌≡◌, ◌∙◌, arith, ap, length, rules}
-use Rattle.inflow_file.specs.Columns.{columns_from}
+use Rattle.inflow_file.proofs.Words.{◌≡◌, ◌∙◌, arith, ap, length, rules, columns_from}
 use Rattle.inflow_file.proofs.ColumnLaws.{count_of_columns, gauges_are, wants_are}
 use Rattle.inflow_file.proofs.GapLaws.{complete_series, missing_found}
 use Rattle.inflow_file.proofs.cells.complete.Goals as goal
 
 pub returns-then-gap-amounts : goal.returns-then-gap-amounts
-returns-then-gap-amounts c = λ rows is.
-    missing_found c.args.columns.now.basin.now rows c.args.amounts.now c.first_gap-gap.result c.missing_at.result is
-    c.if-gap-amounts.true
+returns-then-gap-amounts c = λ rows is. missing_found c.args.columns.now.basin.now
+    rows c.args.amounts.now c.first_gap-gap.result c.missing_at.result is c.if-gap-amounts.true
     c.first_gap-gap.ensures.before (c.first_gap-gap.ensures.here c.if-gap-amounts.true) c.missing_at.ensures
 
 pub part_of-requires-clause-columns : goal.part_of-requires-clause-columns

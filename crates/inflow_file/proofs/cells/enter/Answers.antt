@@ -1,5 +1,4 @@
-use Rattle.std.proofs.Common.{◌∙◌, refl, sym, ap, get_or, None, is_some}
-use Rattle.std.specs.Prelude.{slice_set, Some}
+use Rattle.inflow_file.proofs.Words.{◌∙◌, refl, sym, ap, get_or, None, is_some, slice_set, Some}
 use Rattle.water_model.proofs.RunMonths.{months_have_their_index}
 use Rattle.inflow_file.proofs.DueLaws.{outside_is, repeated_is, entered_is}
 use Rattle.inflow_file.proofs.RunLaws.{month_outside}
@@ -24,7 +23,6 @@ pub returns : goal.returns
 returns c = λ earlier is.
     let inside = (months_have_their_index _ _ _ c.requires.basin c.requires.entry.month).0
     (sym c.in-Some.ensures.value) in
-    let h = entered_is _ _ _ _ _ c.requires.basin.run.first c.requires.entry inside.0 inside.1 is
-    (ap (λ k. is_some (get_or c.args.amounts.now k None)) (sym c.cell_of-cell.ensures.cell)
-    ∙ sym c.if-is_some.ensures) in
+    let h = entered_is _ _ _ _ _ c.requires.basin.run.first c.requires.entry inside.0 inside.1 is (ap
+    (λ k. is_some (get_or c.args.amounts.now k None)) (sym c.cell_of-cell.ensures.cell) ∙ sym c.if-is_some.ensures) in
     (h.0, ap (λ k. slice_set c.args.amounts.now k (Some c.args.entry.now.amount)) c.cell_of-cell.ensures.cell ∙ h.1)

@@ -1,4 +1,4 @@
-use Rattle.std.proofs.Common.{◌≡◌, ℕ, ◌<◌, None, true, is_some, slice_index_or}
+use Rattle.inflow_file.proofs.Words.{◌≡◌, ℕ, ◌<◌, None, true, is_some, slice_index_or}
 use Rattle.inflow_file.proofs.cells.first_gap.Given as goal
 
 abbrev pub invariant-loop-cell : goal.invariant-loop-cell

@@ -1,6 +1,4 @@
-use Rattle.std.proofs.Common.{◌∙◌, ◌+◌, ap, arith, length}
-use Rattle.std.proofs.lemmas.List.{length_push}
-use Rattle.inflow_file.specs.Cells.{cell_in}
+use Rattle.inflow_file.proofs.Words.{◌∙◌, ◌+◌, ap, arith, length, length_push, cell_in}
 use Rattle.inflow_file.proofs.DueLaws.{small_table}
 use Rattle.inflow_file.proofs.GapLaws.{cell_below, part_more}
 use Rattle.inflow_file.proofs.cells.part_of.Goals as goal
@@ -20,7 +18,6 @@ loop-cell-preserved c =
     record {
       count = ap length pushed
           ∙ (length_push c.loop-cell.part.items c.cell_in.result ∙ ap (λ n. n + 1) c.loop-cell.invariant.count);
-      each = λ k l. rw pushed
-          (part_more (cell_in c.args.cells.now c.count-width.result c.args.from c.args.count) _ _ _ _
-          c.loop-cell.invariant.count c.loop-cell.invariant.each c.cell_in.ensures l);
+      each = λ k l. rw pushed (part_more (cell_in c.args.cells.now c.count-width.result c.args.from c.args.count)
+          _ _ _ _ c.loop-cell.invariant.count c.loop-cell.invariant.each c.cell_in.ensures l);
     }

@@ -1,5 +1,4 @@
-use Rattle.std.proofs.Common.{◌≡◌, ℕ, ◌<◌, length, slice_index}
-use Rattle.inflow_file.specs.Cells.{cell_in}
+use Rattle.inflow_file.proofs.Words.{◌≡◌, ℕ, ◌<◌, length, slice_index, cell_in}
 use Rattle.inflow_file.proofs.cells.part_of.Given as goal
 
 abbrev pub invariant-loop-cell : goal.invariant-loop-cell

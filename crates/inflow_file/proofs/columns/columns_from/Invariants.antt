@@ -1,5 +1,4 @@
-use Rattle.std.proofs.Common.{◌≡◌}
-use Rattle.inflow_file.specs.Columns.{columns_from}
+use Rattle.inflow_file.proofs.Words.{◌≡◌, columns_from}
 use Rattle.inflow_file.proofs.columns.columns_from.Given as goal
 
 abbrev pub invariant-loop-number : goal.invariant-loop-number

@@ -1,6 +1,5 @@
-use Rattle.std.proofs.Common.{◌≡◌, ◌∙◌, ◌<◌, ◌+◌, ◌++◌, ◌∷◌, [], sym, arith, ap, rules, length}
-use Rattle.std.proofs.lemmas.List.{length_push}
-use Rattle.inflow_file.specs.Columns.{is_column, count_of_both}
+use Rattle.inflow_file.proofs.Words.{◌≡◌, ◌∙◌, ◌<◌, ◌+◌, ◌++◌, ◌∷◌, [], sym, arith, ap, rules, length, length_push}
+use Rattle.inflow_file.proofs.Words.{is_column, count_of_both}
 use Rattle.inflow_file.proofs.ColumnLaws.{none_below, passed_most, filter_next, index_added, index_passed}
 use Rattle.inflow_file.proofs.columns.indices_of.Goals as goal
 
@@ -14,8 +13,7 @@ loop-number-init c = record {
 pub overflow_cast-len : goal.overflow_cast-len
 overflow_cast-len c =
     let most = passed_most (λ n. is_column c.args.basin.now n) c.loop-number.number in
-    let count : c.len.result ≡ length c.loop-number.numbers.items = search rules in
-    let bounded = c.requires.bounded in
+    let count : c.len.result ≡ length c.loop-number.numbers.items = search rules in let bounded = c.requires.bounded in
     omega (arith, most, count, ap length c.loop-number.invariant.numbers, bounded.nodes, bounded.rights)
 
 pub loop-number-preserved : goal.loop-number-preserved

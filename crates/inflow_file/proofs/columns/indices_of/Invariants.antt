@@ -1,6 +1,5 @@
-use Rattle.std.proofs.Common.{◌≡◌, ℕ, ◌<◌, length, slice_index, filter}
+use Rattle.inflow_file.proofs.Words.{◌≡◌, ℕ, ◌<◌, length, slice_index, filter, is_column}
 use Rattle.water_model.specs.Indices.{numbers_from}
-use Rattle.inflow_file.specs.Columns.{is_column}
 use Rattle.inflow_file.proofs.ColumnLaws.{passed_below}
 use Rattle.inflow_file.proofs.columns.indices_of.Given as goal
 

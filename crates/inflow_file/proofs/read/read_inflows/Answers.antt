@@ -2,8 +2,7 @@ use Rattle.inflow_file.proofs.read.read_inflows.Goals as goal
 
 pub returns : goal.returns
 returns c =
-    let read = c.read_with.ensures in
-    let same = c.in_ok-columns.ensures in
+    let read = c.read_with.ensures in let same = c.in_ok-columns.ensures in
     record {
       spelled = rw same at read.spelled;
       valid = rw same at read.valid;

@@ -1,16 +1,12 @@
-use Rattle.std.proofs.Common.{◌∙◌, ap, refl, length}
-use Rattle.inflow_file.specs.CsvRecords.{records_of}
-use Rattle.inflow_file.specs.SeriesFaults.{body_of, entries_of}
+use Rattle.inflow_file.proofs.Words.{◌∙◌, ap, refl, length, records_of, body_of, entries_of}
 use Rattle.inflow_file.proofs.DueLaws.{length-given}
 use Rattle.inflow_file.proofs.GapLaws.{series_read}
 use Rattle.inflow_file.proofs.read.read_with.Goals as goal
 
 pub complete-requires-clause-count : goal.complete-requires-clause-count
 complete-requires-clause-count c =
-    ap length (c.as_slice.ensures.value ∙ c.in_ok-amounts.ensures.ok.given)
-    ∙ length-given c.args.columns.now.basin.now
-    (entries_of c.args.columns.now.basin.now
-    (body_of c.args.columns.now.basin.now (records_of c.args.text.now)))
+    ap length (c.as_slice.ensures.value ∙ c.in_ok-amounts.ensures.ok.given) ∙ length-given c.args.columns.now.basin.now
+    (entries_of c.args.columns.now.basin.now (body_of c.args.columns.now.basin.now (records_of c.args.text.now)))
 
 pub returns : goal.returns
 returns c =

@@ -1,8 +1,5 @@
-use Rattle.std.proofs.Common.{◌∙◌, ◌∷◌, [], ◌++◌, ◌+◌, ap, sym, arith, length, map}
-use Rattle.csv.specs.Records.{fields_of}
-use Rattle.inflow_file.specs.CsvRecords.{with_kind}
-use Rattle.inflow_file.specs.Given.{given_by}
-use Rattle.inflow_file.specs.SeriesFaults.{entries_of}
+use Rattle.inflow_file.proofs.Words.{◌∙◌, ◌∷◌, [], ◌++◌, ◌+◌, ap, sym, arith, length, map, fields_of, with_kind}
+use Rattle.inflow_file.proofs.Words.{given_by, entries_of}
 use Rattle.inflow_file.proofs.DueLaws.{length-given}
 use Rattle.inflow_file.proofs.TableLaws.{fault_here, fault_later, no_fault_left, one_further, none_further}
 use Rattle.inflow_file.proofs.read.take_all.Goals as goal

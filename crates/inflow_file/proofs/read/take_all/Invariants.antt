@@ -1,8 +1,5 @@
-use Rattle.std.proofs.Common.{◌≡◌, ℕ, ◌+◌, ◌++◌, [], List, length, map}
-use Rattle.inflow_file.specs.CsvRecords.{with_kind}
-use Rattle.inflow_file.specs.Given.{given_by}
+use Rattle.inflow_file.proofs.Words.{◌≡◌, ℕ, ◌+◌, ◌++◌, [], List, length, map, with_kind, given_by, first_fault}
 use Rattle.inflow_file.specs.RecordsLeft.{IsReading, records_left}
-use Rattle.inflow_file.specs.SeriesFaults.{first_fault}
 use Rattle.inflow_file.proofs.read.take_all.Given as goal
 
 abbrev pub invariant-rows : goal.invariant-rows

@@ -1,4 +1,4 @@
-use Rattle.std.proofs.Common.{ap, sym, arith, length}
+use Rattle.inflow_file.proofs.Words.{ap, sym, arith, length}
 use Rattle.inflow_file.proofs.TableLaws.{no_header, table_taken}
 use Rattle.inflow_file.proofs.read.take_records.Goals as goal
 

@@ -1,4 +1,4 @@
-use Rattle.std.proofs.Common.{ap, arith, length}
+use Rattle.inflow_file.proofs.Words.{ap, arith, length}
 use Rattle.inflow_file.proofs.RecordLaws.{bounded_records}
 use Rattle.inflow_file.proofs.read.take_table.Goals as goal
 

@@ -1,4 +1,4 @@
-use Rattle.csv.specs.Records.{fields_of}
+use Rattle.inflow_file.proofs.Words.{fields_of}
 use Rattle.inflow_file.proofs.RecordLaws.{reads_on, takes_first}
 use Rattle.inflow_file.proofs.records.read_row.Goals as goal
 
@@ -9,6 +9,5 @@ returns-clause-reading c = λ found.
 
 pub returns-clause-takes : goal.returns-clause-takes
 returns-clause-takes c =
-    takes_first c.args.reader.now c.read_byte_record.new.self c.in-Ok.found (fields_of c.read_byte_record.new.row)
-    c.requires
-    (c.in-Ok.ensures.reads c.requires.trim c.requires.ready)
+    takes_first c.args.reader.now c.read_byte_record.new.self c.in-Ok.found
+    (fields_of c.read_byte_record.new.row) c.requires (c.in-Ok.ensures.reads c.requires.trim c.requires.ready)

@@ -1,5 +1,6 @@
 use Rattle.std.specs.Prelude.{Some}
-use Rattle.plan_residual.proofs.Spreading.{IsSpreading, fewer_left, spreading_start, spreading_next}
+use Rattle.chains.proofs.Walking.{fewer_left}
+use Rattle.plan_residual.proofs.Spreading.{IsSpreading, spreading_start, spreading_next}
 use Rattle.plan_residual.proofs.spread.expand.Goals as goal
 
 pub loop-at-init : goal.loop-at-init
@@ -19,4 +20,4 @@ pub loop-at-smaller : goal.loop-at-smaller
 loop-at-smaller c =
     let now : IsSpreading c.args.scene.now.basin c.args.scene.now.month c.args.right c.args.direction c.args.queue.now
     c.loop-at.queue c.args.done (Some c.in-Some.step) = rw c.in-Some.is at c.loop-at.invariant in
-    rw c.in-Some.is (fewer_left c.args.scene.now.basin _ c.in-Some.step _ now.leaves.0 c.next-at.ensures)
+    rw c.in-Some.is (fewer_left _ _ c.in-Some.step _ now.leaves.0 c.next-at.ensures)

@@ -34,7 +34,13 @@ returns-in_err-check_parts-clause-refused c =
     c.in_err-check_parts.ensures.refused
 
 pub returns-clause-ok : goal.returns-clause-ok
-returns-clause-ok c = assumption (c.in_ok-order.ensures, c.in_ok-wants.ensures, c.in_ok-first_on.ensures)
+returns-clause-ok c = record {
+  order = c.in_ok-order.ensures.order;
+  wants = c.in_ok-wants.ensures;
+  firsts = c.in_ok-on_links.ensures.firsts;
+  nexts = λ right link below on. c.in_ok-on_links.ensures.nexts right link below on;
+  others = c.in_ok-on_links.ensures.others;
+}
 
 pub returns-clause-faultless : goal.returns-clause-faultless
 unfolding roll_fault

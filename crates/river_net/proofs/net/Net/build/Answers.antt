@@ -3,7 +3,7 @@ use Rattle.std.specs.Prelude.{Option}
 use Rattle.std.specs.List.{find, range_with_len}
 use Rattle.water_model.specs.declared.types.Link.{Link}
 use Rattle.water_model.specs.declared.types.Node.{Node}
-use Rattle.river_net.specs.Firsts.{AreFirsts, leaves_as_river}
+use Rattle.river_net.specs.Firsts.{AreFirstRivers}
 use Rattle.river_net.specs.NetFaults.{net_fault, first_without_river, keeps_water}
 use Rattle.river_net.proofs.Builds.{without_river, on_cycle, order_runs, net_is}
 use Rattle.river_net.proofs.NoFault.{faultless_sound}
@@ -21,8 +21,7 @@ returns-in-Some-link_from_outlet-clause-refused c =
 
 -- no node is without a river where none was found
 rivers_lead : (nodes : List Node) (links : List Link) {rivers items : List (Option ℕ)} {o : Option ℕ} →
-    AreFirsts (leaves_as_river links) (length nodes) 0 (length links) rivers →
-    items ≡ rivers → o ≡ find (keeps_water nodes items) (range_with_len 0 (length nodes)) →
+    AreFirstRivers (length nodes) links rivers → items ≡ rivers → o ≡ find (keeps_water nodes items) (range_with_len 0 (length nodes)) →
     first_without_river nodes links ≡ o
 rivers_lead nodes links {rivers} firsts same search = without_river nodes links rivers firsts ∙ sym (rw same at search)
 

@@ -1,6 +1,6 @@
-use Rattle.std.proofs.Common.{length, slice_index}
+use Rattle.std.proofs.Common.{◌-◌, length, slice_index}
+use Rattle.std.specs.Prelude.{unwrap_or}
 use Rattle.river_net.specs.Sorting.{IsReleasing}
-use Rattle.river_net.proofs.FirstLinks.{links_left}
 use Rattle.river_net.proofs.sorting.Sorting.release.Given as goal
 
 abbrev pub invariant-loop-next : goal.invariant-loop-next
@@ -9,4 +9,4 @@ invariant-loop-next l =
     l.next
 
 abbrev pub decreases-loop-next : goal.decreases-loop-next
-decreases-loop-next l = links_left (length l.graph.links) l.next
+decreases-loop-next l = length l.graph.links - unwrap_or l.next (length l.graph.links)

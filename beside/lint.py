@@ -1,0 +1,116 @@
+"""lint BASIN [SERIES]: all that is wrong with a basin file and its series, with line, entry, key, what was found and
+what to do.
+
+Each fault is one line:
+
+    basin.toml:83: diversion 5 (ditch): annual_volume is no key here; did you mean volume? (format 2)  [UnknownKey]
+
+The word in brackets is the program's for the fault: docs/FORMATS.md lists them. The first line is the fault that the
+program names when it refuses the files; the others follow by their lines. Where a basin file has no fault, what
+nobody is likely to mean is a `warning`, and what is only to be known a `note`. SERIES may be `-` or left out, and is
+then not looked at; a mistake that many records share is one line.
+
+    ./basin lint examples/valley.toml examples/valley.csv
+
+Status 3 says that BASIN has a fault, and 4 that only SERIES has one. Whether a file is taken is for the program to say.
+"""
+import collections
+import contextlib
+
+from beside import basin_faults, common, doubts, model, places, series_faults, whole_faults
+
+PASSES = (
+    basin_faults.unknown_keys, basin_faults.missing_keys, basin_faults.wrong_kinds, basin_faults.out_of_range,
+    basin_faults.bad_names,
+    basin_faults.too_many, basin_faults.same_names, basin_faults.no_such_names, basin_faults.outlet_reservoirs,
+    whole_faults.network_faults, whole_faults.right_faults, whole_faults.area_faults,
+)
+# A line of the answer: the program's line for a fault (None for a warning), the file, the line and the column, and what
+# is said.
+Said = collections.namedtuple("Said", "line path place text")
+
+def no_text(data):
+    """The place of the first byte that is no UTF-8, and what to do, or None."""
+    try:
+        data.decode("utf-8")
+        return None
+    except UnicodeDecodeError as error:
+        before = data[:error.start]
+        what = "the file is in UTF-16: save it" if data[:2] in (b"\xff\xfe",
+            b"\xfe\xff") else "a letter here is not in UTF-8: save the file"
+        return (before.count(b"\n") + 1, error.start - before.rfind(b"\n")), what + " as UTF-8"
+
+def entry_words(table, number, name):
+    return "" if table == "top" else f"{table} {number}{f' ({name[:60]})' if name else ''}: "
+
+def basin_faults_of(path, data, is_first=False):
+    """The document, if the bytes are one, and its faults, or the first alone."""
+    odd = no_text(data)
+    if odd:
+        return None, [Said("basin: Toml top 0", path, *odd)]
+    text = data.decode("utf-8").removeprefix("\ufeff")
+    try:
+        d = basin_faults.Document(text, is_first)
+    except places.Wrong as wrong:
+        why, at = wrong.args
+        return None, [Said("basin: Toml top 0", path, (places.line_of(text, at), places.column_of(text, at)), why)]
+    with contextlib.suppress(basin_faults.Enough):
+        for look in PASSES:
+            look(d)
+    return d, [Said(f"basin: {it.kind} {it.table} {it.number}", path, (places.line_of(text, it.at),),
+                    entry_words(it.table, it.number, d.own_name(it.table, d.entry_at[it.table, it.number])) + it.text)
+                    for it in d.found]
+
+def doubts_of(path, d, data):
+    return [Said(None, path, (places.line_of(d.text, doubt.entry.key_at.get(doubt.key, doubt.entry.at)),),
+                 f"{doubt.word}: "
+                 f"{entry_words(doubt.table, doubt.number, d.own_name(doubt.table, doubt.entry))}{doubt.text}")
+            for doubt in doubts.doubts(d, model.Basin(d.tree))]
+
+def said_of(basin, series):
+    """All lines on the two files; of the faults the first is the program's."""
+    data = common.read_bytes(basin)
+    d, found = basin_faults_of(basin, data)
+    lines = found[:1] + sorted(found[1:], key=lambda said: said.place)
+    if series not in (None, "-"):
+        of = series_said(d, series)
+        lines += of[:1] + sorted(of[1:], key=lambda said: said.place)
+    elif not found:
+        lines += due_elsewhere(basin, d, series)
+    return lines + ([] if found else doubts_of(basin, d, data))
+
+def series_said(d, series, is_first=False):
+    """The faults of a series, or the first alone."""
+    return [Said(series_faults.line_of(it), series, (it.at,) if it.at else (), it.text)
+        for it in series_faults.series_faults(d, common.read_bytes(series), is_first)]
+
+def first_of(basin, series):
+    """The first fault of the two files, which the program names, or None. Nothing is looked for after it."""
+    d, found = basin_faults_of(basin, common.read_bytes(basin), is_first=True)
+    if not found and series is not None:
+        found = series_said(d, series, True) if series != "-" else due_elsewhere(basin, d, series)
+    return next((said for said in found if said.line), None)
+
+def due_elsewhere(path, d, series):
+    """What is missing where a basin has gauges or wants in the series, and no series is given."""
+    due = series_faults.Due(d)
+    names = [name for kind in due.names.values() for name, is_due in kind.items() if is_due]
+    if names and series == "-":
+        return [Said(series_faults.line_of(it), path, (), it.text) for it in series_faults.Series(due).missing()]
+    return [Said(None, path, (),
+        f"note: the series was not looked at; it has to give {', '.join(names[:12])}"
+        + (" .." if len(names) > 12 else ""))] if names else []
+
+def written(said):
+    place = "".join(f":{number}" for number in said.place)
+    return common.shown(f"{said.path}{place}: {said.text}" + (f"  [{said.line.split(' ')[1]}]" if said.line else ""))
+
+def main(words: list[str]) -> int:
+    basin, series = [*common.options(words, count=(1, 2))[1], None][:2]
+    lines = said_of(basin, series)
+    print(*map(written, lines), sep="\n", end="\n" * bool(lines))
+    faults = [said.line for said in lines if said.line]
+    warnings = sum(1 for said in lines if said.text.startswith("warning: "))
+    print((common.counted(len(faults), "fault") if faults else "no fault")
+          + (f", {common.counted(warnings, 'warning')}" if warnings else ""))
+    return 0 if not faults else 3 if faults[0].startswith("basin: ") else 4
