@@ -49,12 +49,12 @@ pub enum Raised {
 
 /// Raises the flow on an arc to `want`, or to the greatest that the bounds allow, in units of 1,000 cubic
 /// metres. Supplies and bounds stay. Where the flow is at least `want` already, nothing changes and
-/// the answer is Met. Each search that finds a walk ticks `searches` once, and nothing else does.
+/// the answer is Met. Each search that finds a walk ticks `pushes` once, and nothing else does.
 pub fn raise<L: Ledger>(
     circ: &mut CirculationMut<'_>,
     arc: u32,
     want: u64,
-    searches: &mut Steps<L>,
+    pushes: &mut Steps<L>,
 ) -> Raised
     requires arc { arc < arcs circ.old }
     requires want { want ≤ slice_index circ.old.upper arc }
@@ -63,7 +63,7 @@ pub fn raise<L: Ledger>(
     ensures kept { IsCirculation circ.new }
     ensures rest { SameButFlow circ.old circ.new }
     ensures idle { want ≤ flow_of circ.old arc →
-        (result ≡ Raised.Met) × (circ.new ≡ circ.old) × (searches.new ≡ searches.old) }
+        (result ≡ Raised.Met) × (circ.new ≡ circ.old) × (pushes.new ≡ pushes.old) }
 
     // Met comes exactly where some flow within the bounds has what is wanted on the arc.
     ensures exact { flow_of circ.old arc < want → (result ≡ Raised.Met) ↔ CanCarry (network circ.old) arc want }
@@ -76,13 +76,13 @@ pub fn raise<L: Ledger>(
     ensures cut { result ≡ Raised.Stopped →
         IsGreatestCut (network circ.old) (flow_of circ.new) arc (not_reached circ.new) }
 
-    ensures cost { want ≤ 1000000000 → searches.new ≤ searches.old + 30 * (2 * open_arcs (network circ.old) + 1) }
+    ensures cost { want ≤ 1000000000 → pushes.new ≤ pushes.old + 30 * (2 * open_arcs (network circ.old) + 1) }
 {
     let start = circ.flow(arc);
     if want <= start {
         return Raised::Met;
     }
-    run_phases(circ, arc, want, want - start, searches);
+    run_phases(circ, arc, want, want - start, pushes);
     if circ.flow(arc) < want {
         Raised::Stopped
     } else {

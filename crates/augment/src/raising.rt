@@ -18,7 +18,7 @@ fn round<L: Ledger>(
     arc: u32,
     want: u64,
     least: u64,
-    searches: &mut Steps<L>,
+    pushes: &mut Steps<L>,
 ) -> bool
     requires arc { arc < arcs circ.old }
     requires want { want ≤ slice_index circ.old.upper arc }
@@ -30,10 +30,10 @@ fn round<L: Ledger>(
     ensures rest { SameButFlow circ.old circ.new }
     ensures pushed { result ≡ true →
         (flow_of circ.old arc < flow_of circ.new arc) × (flow_of circ.new arc ≤ want) ×
-        (searches.new ≡ searches.old + 1) }
+        (pushes.new ≡ pushes.old + 1) }
     ensures wide { result ≡ true →
         flow_of circ.old arc + min least (want - flow_of circ.old arc) ≤ flow_of circ.new arc }
-    ensures stopped { result ≡ false → SameButScratch circ.old circ.new × (searches.new ≡ searches.old) }
+    ensures stopped { result ≡ false → SameButScratch circ.old circ.new × (pushes.new ≡ pushes.old) }
     ensures rise { result ≡ false →
         CarriesAtMost (network circ.old) arc (flow_of circ.old arc + open_arcs (network circ.old) * (least - 1)) }
     ensures cut { result ≡ false → least ≡ 1 →
@@ -47,7 +47,7 @@ fn round<L: Ledger>(
     let missing = want - circ.flow(arc);
     let walk = trace(circ, arc, missing);
     let count = 4 * circ.nodes() as usize + 8 - walk.first;
-    circ.push(walk.first, count, walk.amount, searches);
+    circ.push(walk.first, count, walk.amount, pushes);
     true
 }
 
@@ -58,7 +58,7 @@ fn phase<L: Ledger>(
     arc: u32,
     want: u64,
     least: u64,
-    searches: &mut Steps<L>,
+    pushes: &mut Steps<L>,
 )
     requires arc { arc < arcs circ.old }
     requires want { want ≤ slice_index circ.old.upper arc }
@@ -76,10 +76,10 @@ fn phase<L: Ledger>(
         CarriesAtMost (network circ.old) arc (flow_of circ.new arc + open_arcs (network circ.old) * (least - 1)) }
     ensures cut { flow_of circ.new arc < want → least ≡ 1 →
         IsGreatestCut (network circ.old) (flow_of circ.new) arc (not_reached circ.new) }
-    ensures cost { searches.new ≤ searches.old + (2 * open_arcs (network circ.old) + 1) }
+    ensures cost { pushes.new ≤ pushes.old + (2 * open_arcs (network circ.old) + 1) }
 {
     while circ.flow(arc) < want {
-        if !round(circ, arc, want, least, searches) {
+        if !round(circ, arc, want, least, pushes) {
             return;
         }
     }
@@ -109,7 +109,7 @@ pub fn run_phases<L: Ledger>(
     arc: u32,
     want: u64,
     missing: u64,
-    searches: &mut Steps<L>,
+    pushes: &mut Steps<L>,
 )
     requires arc { arc < arcs circ.old }
     requires want { want ≤ slice_index circ.old.upper arc }
@@ -122,12 +122,12 @@ pub fn run_phases<L: Ledger>(
     ensures limit { flow_of circ.new arc ≤ want }
     ensures cut { flow_of circ.new arc < want →
         IsGreatestCut (network circ.old) (flow_of circ.new) arc (not_reached circ.new) }
-    ensures cost { missing ≤ 1000000000 → searches.new ≤ searches.old + 30 * (2 * open_arcs (network circ.old) + 1) }
+    ensures cost { missing ≤ 1000000000 → pushes.new ≤ pushes.old + 30 * (2 * open_arcs (network circ.old) + 1) }
 {
     let (first, count) = first_phase(missing);
     let mut least = first;
     for left in (0..count).rev() {
-        phase(circ, arc, want, least, searches);
+        phase(circ, arc, want, least, pushes);
         least /= 2;
     }
 }

@@ -7,7 +7,7 @@ use Rattle.inflow_file.specs.SeriesFaults.{SpellsSeries}
 use Rattle.water_text.specs.declared.month.Month.{Month}
 use Rattle.water_model.specs.Valid.{IsValidBasin, IsSeriesOf}
 use Rattle.water_model.specs.declared.types.Basin.{Basin}
-use Rattle.water_model.specs.declared.types.Inflows.{Inflows}
+use Rattle.water_model.specs.declared.types.Series.{Series}
 use Rattle.water_model.specs.declared.types.MonthRecord.{MonthRecord}
 use Rattle.basin_cli.specs.declared.ending.Ending.{Ending}
 use Rattle.basin_cli.specs.declared.ending.Ending.TheVariants as ending
@@ -25,7 +25,7 @@ use Rattle.basin_cli.proofs.OneSeries.{one_basin, one_series, same_partial}
 -- After the files.
 
 -- the run has the month of a record
-month_of : (b : Basin) (series : Inflows) (month : Month) (name : List ℕ) (right : ℕ) (m : MonthRecord) →
+month_of : (b : Basin) (series : Series) (month : Month) (name : List ℕ) (right : ℕ) (m : MonthRecord) →
     IsAbout b series month name right m → HasMonth b month
 month_of b series month name right m about =
     let is = about.of_month in
@@ -43,7 +43,7 @@ is_asked month name bytes b spelled has_month has_right =
     record { basin = b; spelled = spelled; holds = (has_month, has_right) }
 
 -- a right that is met in one run of what bytes spell is short in none
-not_short : (month : Month) (name bytes s : List ℕ) (b : Basin) (series : Inflows) (right : ℕ) (m : MonthRecord) →
+not_short : (month : Month) (name bytes s : List ℕ) (b : Basin) (series : Series) (right : ℕ) (m : MonthRecord) →
     IsValidBasin b → AreSpelled bytes s b series →
     IsAbout b series month name right m → slice_index m.want right ≤ slice_index m.delivered right →
     IsShortIn month name bytes s → ⊥
@@ -66,7 +66,7 @@ not_short month name bytes s b series right m valid spelled about met is =
     let short = one_answer b series month name at right last m valid along about is.holds.3 in
     omega (arith, short, met)
 
-module _ (known : KnownFiles) (files : Files) (b : Basin) (series : Inflows) (fits : IsSeriesOf b series)
+module _ (known : KnownFiles) (files : Files) (b : Basin) (series : Series) (fits : IsSeriesOf b series)
     (loaded : AreLoaded known files b series) (month : Month) (name : List ℕ) where
   pub asking_cause : (how : Ending) (read write : Type 0) → IsValidBasin b → EndsAsking b series month name how write →
       HasExplainingCause files month name how known read write

@@ -6,7 +6,7 @@ use Rattle.std.proofs.Math.Nat.{mul-le-mul}
 use Rattle.std.specs.List.{flat_map}
 use Rattle.water_model.specs.Valid.{IsValidBasin}
 use Rattle.water_model.specs.declared.types.Basin.{Basin}
-use Rattle.water_model.specs.declared.types.Inflows.{Inflows}
+use Rattle.water_model.specs.declared.types.Series.{Series}
 use Rattle.water_model.specs.declared.types.MonthRecord.{MonthRecord}
 use Rattle.month_fold.specs.Runs.{RunView, RunStandsFor}
 use Rattle.injury.specs.Common.{common_rights}
@@ -97,7 +97,7 @@ none_compared b c first second bytes same same' stands stands' nothing = record 
 }
 
 -- all months of both runs, and the counts
-pub whole_comparison : (b c : Basin) (series other : Inflows) (first second : RunView) (before after : List ℕ)
+pub whole_comparison : (b c : Basin) (series other : Series) (first second : RunView) (before after : List ℕ)
     (injured : ℕ) →
     first.series ≡ series → second.series ≡ other →
     first.done ≡ b.months → second.done ≡ c.months → AreCompared b c first second before injured →

@@ -11,7 +11,7 @@ use Rattle.edit_script.specs.declared.refused.ScriptFault.{ScriptFault}
 use Rattle.edit_script.specs.declared.refused.ScriptRefused.TheVariants as refused
 use Rattle.water_model.specs.Valid.{IsSeriesOf}
 use Rattle.water_model.specs.declared.types.Basin.{Basin}
-use Rattle.water_model.specs.declared.types.Inflows.{Inflows}
+use Rattle.water_model.specs.declared.types.Series.{Series}
 use Rattle.month_fold.specs.Works.{WorkDone}
 use Rattle.basin_cli.specs.declared.ending.Ending.{Ending}
 use Rattle.basin_cli.specs.declared.ending.Ending.TheVariants as ending
@@ -28,7 +28,7 @@ use Rattle.basin_cli.proofs.Known.{accepted, after, of_both}
 use Rattle.basin_cli.proofs.OneSeries.{one_basin}
 
 -- A script asks for the same of two series of a basin: they have their gauges and wants in the same places.
-module _ (b : Basin) (series other : Inflows) (fits : IsSeriesOf b series) (fits' : IsSeriesOf b other) where
+module _ (b : Basin) (series other : Series) (fits : IsSeriesOf b series) (fits' : IsSeriesOf b other) where
   gauged : series.gauged ≡ other.gauged
   gauged = fits.gauged ∙ sym fits'.gauged
 
@@ -84,7 +84,7 @@ refused_not_good bytes s text fault line refusal script =
     never_ok (Err x) y e h = cc
 
 -- After the files of `edit`.
-module _ (known : KnownFiles) (files : Files) (b : Basin) (series : Inflows) (fits : IsSeriesOf b series)
+module _ (known : KnownFiles) (files : Files) (b : Basin) (series : Series) (fits : IsSeriesOf b series)
     (loaded : AreLoaded known files b series) (script : List ℕ) where
   -- the cause where the script is not read: `since` says that the shelf's count of faults rose since its inputs were
   -- read
@@ -139,10 +139,10 @@ module _ (known : KnownFiles) (files : Files) (b : Basin) (series : Inflows) (fi
     pub editing_solves : (before now : WorkDone) → WorkOfScript b series text before now →
         EditWork known files script before now
     editing_solves before now solves = of_both known files b series fits loaded _ (λ bytes s spelled.
-        is_known (λ t. (c : Basin) (other : Inflows) → AreSpelled bytes s c other → WorkOfScript c other t before now)
+        is_known (λ t. (c : Basin) (other : Series) → AreSpelled bytes s c other → WorkOfScript c other t before now)
         (same bytes s spelled))
       where
-        same : (bytes s : List ℕ) → AreSpelled bytes s b series → (c : Basin) (other : Inflows) →
+        same : (bytes s : List ℕ) → AreSpelled bytes s b series → (c : Basin) (other : Series) →
             AreSpelled bytes s c other → WorkOfScript c other text before now
         same bytes s spelled c other also =
             let one : b ≡ c = one_basin bytes b c spelled.basin_spelled also.basin_spelled in

@@ -20,7 +20,7 @@ use Rattle.water_model.specs.Hydrology.{run_month}
 use Rattle.duality.specs.Laws.{HaveSameOutcome}
 use Rattle.water_model.specs.Valid.{IsSeriesOf, IsValidBasin}
 use Rattle.water_model.specs.declared.types.Basin.{Basin}
-use Rattle.water_model.specs.declared.types.Inflows.{Inflows}
+use Rattle.water_model.specs.declared.types.Series.{Series}
 use Rattle.water_model.specs.declared.types.MonthRecord.{MonthRecord}
 use Rattle.duality.proofs.Outcome.{one_outcome}
 use Rattle.basin_cli.specs.Ending.{status_of}
@@ -33,7 +33,7 @@ use Rattle.basin_cli.specs.declared.explaining.Account.TheVariants as account
 use Rattle.basin_cli.proofs.Asked.{one_index, one_right}
 
 -- the last record of a run is one of the month with its index
-pub last_record : (b : Basin) (series : Inflows) (run : RunView) (index : ℕ) → run.basin ≡ b → run.series ≡ series →
+pub last_record : (b : Basin) (series : Series) (run : RunView) (index : ℕ) → run.basin ≡ b → run.series ≡ series →
     run.done ≡ index + 1 →
     (last : HasLast run) → IsRecordOf b series (run_month b index) run.last
 last_record b series run index same fits done last = record {
@@ -52,18 +52,18 @@ last_record b series run index same fits done last = record {
     follows = last_follows b series last.before run.last partial
 
 -- which has the reaches, and lines that can be written
-pub record_reaches : (b : Basin) (series : Inflows) (month : Month) (m : MonthRecord) → IsRecordOf b series month m →
+pub record_reaches : (b : Basin) (series : Series) (month : Month) (m : MonthRecord) → IsRecordOf b series month m →
     HasReaches b m
 record_reaches b series month m is = is.reaches (length is.before) m (get_after is.before [] m)
 
-pub record_fits : (b : Basin) (series : Inflows) (month : Month) (m : MonthRecord) → IsValidBasin b →
+pub record_fits : (b : Basin) (series : Series) (month : Month) (m : MonthRecord) → IsValidBasin b →
     IsRecordOf b series month m → FitsText b m
 record_fits b series month m valid is =
     FitsText-follows b series is.before m valid (last_follows b series is.before m is.partial)
     (omega (arith, is.partial.within, length-append is.before (m ∷ [])))
 
 -- and a plan
-pub record_plan : (b : Basin) (series : Inflows) (month : Month) (m : MonthRecord) → IsValidBasin b →
+pub record_plan : (b : Basin) (series : Series) (month : Month) (m : MonthRecord) → IsValidBasin b →
     IsSeriesOf b series → IsRecordOf b series month m → HasPlan b m
 record_plan b series month m valid fits is =
     (last_can_be_found b series is.before m valid fits is.partial is.reaches).plan
@@ -107,7 +107,7 @@ explained_leaves m right ending.Met text old new ends put = put
 explained_leaves m right other text old new ends put = absurd ends
 
 -- Two records of a month have one outcome, so a right is short in both or in none.
-pub one_answer : (b : Basin) (series : Inflows) (month : Month) (name : List ℕ) (right other : ℕ) (m n : MonthRecord) →
+pub one_answer : (b : Basin) (series : Series) (month : Month) (name : List ℕ) (right other : ℕ) (m n : MonthRecord) →
     IsValidBasin b →
     IsAbout b series month name right m → IsAbout b series month name other n → IsShort m right → IsShort n other
 one_answer b series month name right other m n valid one two short =

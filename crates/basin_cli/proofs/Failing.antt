@@ -9,7 +9,7 @@ use Rattle.std.proofs.lemmas.Slice.Eq.{bytes_eq-Decides}
 use Rattle.std.specs.Prelude.{Contains, IfSome, bytes_eq}
 use Rattle.water_edge.specs.Edge.{AsksFor, next_count}
 use Rattle.water_model.specs.declared.types.Basin.{Basin}
-use Rattle.water_model.specs.declared.types.Inflows.{Inflows}
+use Rattle.water_model.specs.declared.types.Series.{Series}
 use Rattle.water_text.specs.declared.month.Month.{Month}
 use Rattle.basin_cli.specs.declared.checking.Question.{Question}
 use Rattle.basin_cli.specs.declared.ending.Ending.{Ending}
@@ -147,7 +147,7 @@ module _ (names : File → List (List ℕ)) (old new : AskedCounts) where
   solving_stops ending.OutOfMemory write h = tt
   solving_stops how write h = absurd h
 
-  pub asking_stops : (b : Basin) (series : Inflows) (month : Month) (right : List ℕ) (how : Ending) (write : Type 0) →
+  pub asking_stops : (b : Basin) (series : Series) (month : Month) (right : List ℕ) (how : Ending) (write : Type 0) →
       EndsAsking b series month right how write → AskUpTo names how old new
   asking_stops b series month right ending.Done write h = tt
   asking_stops b series month right ending.Met write h = tt
@@ -156,7 +156,7 @@ module _ (names : File → List (List ℕ)) (old new : AskedCounts) where
   asking_stops b series month right ending.OutOfMemory write h = tt
   asking_stops b series month right how write h = absurd h
 
-  pub editing_stops : (b : Basin) (series : Inflows) (script : List ℕ) (how : Ending) (write : Type 0) →
+  pub editing_stops : (b : Basin) (series : Series) (script : List ℕ) (how : Ending) (write : Type 0) →
       EndsEditing b series script how write → AskUpTo names how old new
   editing_stops b series script ending.Done write h = tt
   editing_stops b series script ending.WriteFault write h = tt
@@ -168,7 +168,7 @@ module _ (names : File → List (List ℕ)) (old new : AskedCounts) where
   stops_at_none how none = subst (λ o. IfSome o (λ file. AskForEach (names file) old new)) (sym none) tt
 
 -- a result is asked for after both inputs
-pub checking_asks : (asked : Question) (files : Files) (result : List ℕ) (b : Basin) (series : Inflows)
+pub checking_asks : (asked : Question) (files : Files) (result : List ℕ) (b : Basin) (series : Series)
     (known : Option (List ℕ)) (how : Ending) (read write : Type 0) (old mid new : AskedCounts) →
     EndsChecking asked b series known how read write → AskForEach (inputs_to files file.Series) old mid →
     ((how ≡ ending.OutOfMemory → ⊥) → AskForEach (result ∷ []) mid new) →

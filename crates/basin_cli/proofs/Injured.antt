@@ -7,7 +7,7 @@ use Rattle.water_edge.specs.Edge.{Output}
 use Rattle.water_model.specs.History.{IsHistory}
 use Rattle.water_model.specs.Valid.{IsValidBasin}
 use Rattle.water_model.specs.declared.types.Basin.{Basin}
-use Rattle.water_model.specs.declared.types.Inflows.{Inflows}
+use Rattle.water_model.specs.declared.types.Series.{Series}
 use Rattle.water_model.specs.declared.types.MonthRecord.{MonthRecord}
 use Rattle.month_fold.specs.Works.{SolvesBoth, WorkDone}
 use Rattle.injury.specs.Injuries.{IsInjury, injuries}
@@ -28,7 +28,7 @@ use Rattle.basin_cli.specs.Pairs.{ArePaired}
 use Rattle.basin_cli.proofs.Known.{both_known, good_second, good_series, spelled_by, spelled_history}
 use Rattle.basin_cli.proofs.OneSeries.{one_basin}
 
-module _ (bytes other_bytes s : List ℕ) (b c : Basin) (series other : Inflows) (records others : List MonthRecord)
+module _ (bytes other_bytes s : List ℕ) (b c : Basin) (series other : Series) (records others : List MonthRecord)
     (valid : IsValidBasin b) (second_valid : IsValidBasin c) (spelled : AreSpelled bytes s b series)
     (second_spelled : AreSpelled other_bytes s c other)
     (history : IsHistory b series records) (second_history : IsHistory c other others) where

@@ -13,7 +13,7 @@ use Rattle.result_lines.specs.Text.{text_bytes}
 use Rattle.water_model.specs.Valid.{IsValidBasin, IsSeriesOf}
 use Rattle.result_lines.specs.declared.item.Item.{Item}
 use Rattle.water_model.specs.declared.types.Basin.{Basin}
-use Rattle.water_model.specs.declared.types.Inflows.{Inflows}
+use Rattle.water_model.specs.declared.types.Series.{Series}
 use Rattle.water_model.specs.declared.types.MonthRecord.{MonthRecord}
 use Rattle.duality.proofs.Greatest.{cuts_make_greatest}
 use Rattle.duality.proofs.Parts.{whole_units_are_greatest}
@@ -36,7 +36,7 @@ use Rattle.basin_cli.proofs.Known.{accepted, after, of_both, spelled_history}
 use Rattle.basin_cli.proofs.OneSeries.{one_basin}
 
 -- the text of a history of what bytes spell
-text_of_history : (bytes s text : List ℕ) (b : Basin) (series : Inflows) (records : List MonthRecord) →
+text_of_history : (bytes s text : List ℕ) (b : Basin) (series : Series) (records : List MonthRecord) →
     AreSpelled bytes s b series → IsHistory b series records → text ≡ text_bytes b records → IsHistoryText bytes s text
 text_of_history bytes s text b series records spelled history same = record {
   basin = b;
@@ -50,7 +50,7 @@ text_of_history bytes s text b series records spelled history same = record {
 }
 
 -- bytes on which the verdict is a yes are such a text
-pub is_text : (bytes s text : List ℕ) (b : Basin) (series : Inflows) → IsValidBasin b → AreSpelled bytes s b series →
+pub is_text : (bytes s text : List ℕ) (b : Basin) (series : Series) → IsValidBasin b → AreSpelled bytes s b series →
     IsOk (text_verdict b series text) →
     IsHistoryText bytes s text
 is_text bytes s text b series valid spelled good =
@@ -58,7 +58,7 @@ is_text bytes s text b series valid spelled good =
     text_of_history bytes s text b series found.0 spelled found.1 found.2
 
 -- and those that are refuted are the text of none
-pub is_no_text : (bytes s text : List ℕ) (b : Basin) (series : Inflows) (refuted : Refuted) → IsValidBasin b →
+pub is_no_text : (bytes s text : List ℕ) (b : Basin) (series : Series) (refuted : Refuted) → IsValidBasin b →
     AreSpelled bytes s b series →
     text_verdict b series text ≡ Err refuted → IsHistoryText bytes s text → ⊥
 is_no_text bytes s text b series refuted valid spelled bad is =
@@ -74,7 +74,7 @@ is_no_text bytes s text b series refuted valid spelled bad is =
     never (Err other) e good = cc
 
 -- bytes that are audited are the text of a history whose sets are the reaches
-pub is_reaches : (bytes s text : List ℕ) (b : Basin) (series : Inflows) → AreSpelled bytes s b series →
+pub is_reaches : (bytes s text : List ℕ) (b : Basin) (series : Series) → AreSpelled bytes s b series →
     IsAuditedText b series text → IsReachesText bytes s text
 unfolding text_of_history
 is_reaches bytes s text b series spelled audited = record {
@@ -83,7 +83,7 @@ is_reaches bytes s text b series spelled audited = record {
 }
 
 -- and those of such a history are audited
-pub is_audited : (bytes s text : List ℕ) (b : Basin) (series : Inflows) → AreSpelled bytes s b series →
+pub is_audited : (bytes s text : List ℕ) (b : Basin) (series : Series) → AreSpelled bytes s b series →
     IsReachesText bytes s text → IsAuditedText b series text
 is_audited bytes s text b series spelled is =
     let of = is.of_history in
@@ -96,7 +96,7 @@ is_audited bytes s text b series spelled is =
     }
 
 -- so those that an audit refutes are the text of none
-pub is_not_audited : (bytes s text : List ℕ) (b : Basin) (series : Inflows) (refuted : Refuted) → IsValidBasin b →
+pub is_not_audited : (bytes s text : List ℕ) (b : Basin) (series : Series) (refuted : Refuted) → IsValidBasin b →
     AreSpelled bytes s b series →
     IsAuditAnswer b series text (Err refuted) → IsReachesText bytes s text → ⊥
 is_not_audited bytes s text b series refuted valid spelled answer is =
@@ -108,12 +108,12 @@ is_not_audited bytes s text b series refuted valid spelled answer is =
     never h = cc
 
 -- what a yes says, and a no
-pub is_yes : (asked : Question) (bytes s text : List ℕ) (b : Basin) (series : Inflows) (months : ℕ) → IsValidBasin b →
+pub is_yes : (asked : Question) (bytes s text : List ℕ) (b : Basin) (series : Series) (months : ℕ) → IsValidBasin b →
     AreSpelled bytes s b series → IsAnswerFor asked b series text (Ok months) → IsYes asked bytes s text
 is_yes question.Check bytes s text b series months valid spelled is = is_text bytes s text b series valid spelled is.0
 is_yes question.Audit bytes s text b series months valid spelled is = is_reaches bytes s text b series spelled is.0
 
-pub is_no : (asked : Question) (bytes s text : List ℕ) (b : Basin) (series : Inflows) (refuted : Refuted) →
+pub is_no : (asked : Question) (bytes s text : List ℕ) (b : Basin) (series : Series) (refuted : Refuted) →
     IsValidBasin b →
     AreSpelled bytes s b series → IsAnswerFor asked b series text (Err refuted) → IsRefuted asked refuted bytes s text
 is_no asked bytes s text b series refuted valid spelled is =
@@ -126,7 +126,7 @@ is_no asked bytes s text b series refuted valid spelled is =
 -- The answer to a result, which is read as it is checked.
 
 -- how a check ends that has an answer
-pub answer_ends : (asked : Question) (b : Basin) (series : Inflows) (known : Option (List ℕ))
+pub answer_ends : (asked : Question) (b : Basin) (series : Series) (known : Option (List ℕ))
     (answer : Result ℕ Refuted)
     (how : Ending) (read write : Type 0) →
     IsAnswerTo asked b series known answer → EndsAnswer answer how write →
@@ -141,7 +141,7 @@ answer_ends asked b series known answer other read write is h =
     by_answer (Err refuted) is = is
 
 -- and what it leaves, as far as the bytes are known
-pub answer_leaves : (asked : Question) (b : Basin) (series : Inflows) (known : Option (List ℕ))
+pub answer_leaves : (asked : Question) (b : Basin) (series : Series) (known : Option (List ℕ))
     (answer : Result ℕ Refuted) (how : Ending) (old new : Output) →
     IsAnswerTo asked b series known answer → Leaves (status_of how) (answered asked answer) old new →
     IfSome known (λ text. MayWrite (status_of how) → LeavesAnswer asked b series text (status_of how) old new)
@@ -149,7 +149,7 @@ answer_leaves asked b series known answer how old new is left =
     IfSome_then known is (λ text answers may. record { answer = answer; is = answers; written = left })
 
 -- a failure that came later
-pub ends_later : (asked : Question) (b : Basin) (series : Inflows) (known : Option (List ℕ)) (how : Ending)
+pub ends_later : (asked : Question) (b : Basin) (series : Series) (known : Option (List ℕ)) (how : Ending)
     (read later write : Type 0) →
     (read → later) →
     EndsChecking asked b series known how read write → EndsChecking asked b series known how later write
@@ -161,7 +161,7 @@ ends_later asked b series known ending.OutOfMemory read later write since h = tt
 ends_later asked b series known other read later write since h = absurd h
 
 -- After the files of a check or an audit, the cause of how it ends.
-module _ (known : KnownFiles) (files : Files) (b : Basin) (series : Inflows) (valid : IsValidBasin b)
+module _ (known : KnownFiles) (files : Files) (b : Basin) (series : Series) (valid : IsValidBasin b)
     (fits : IsSeriesOf b series) (loaded : AreLoaded known files b series) (asked : Question) (result : List ℕ) where
   pub checking_cause : (how : Ending) (read write : Type 0) →
       EndsChecking asked b series (known result) how read write →

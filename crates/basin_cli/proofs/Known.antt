@@ -8,7 +8,7 @@ use Rattle.inflow_file.specs.SeriesFaults.{SpellsSeries}
 use Rattle.water_model.specs.History.{IsHistory}
 use Rattle.water_model.specs.Valid.{IsValidBasin, IsSeriesOf}
 use Rattle.water_model.specs.declared.types.Basin.{Basin}
-use Rattle.water_model.specs.declared.types.Inflows.{Inflows}
+use Rattle.water_model.specs.declared.types.Series.{Series}
 use Rattle.water_model.specs.declared.types.MonthRecord.{MonthRecord}
 use Rattle.basin_cli.specs.Bytes.{AreSpelled, IsGoodSeries, KnownFiles, OfSpelled, known_series}
 use Rattle.basin_cli.specs.Command.{Files}
@@ -29,7 +29,7 @@ both_known None P Q one two = tt
 both_known (Some bytes) P Q one two = (one, two)
 
 -- what a file without a fault spells is valid
-pub spelled_by : (bytes s : List ℕ) (b : Basin) (series : Inflows) → IsSeriesOf b series → IsBasinText b bytes →
+pub spelled_by : (bytes s : List ℕ) (b : Basin) (series : Series) → IsSeriesOf b series → IsBasinText b bytes →
     IsSeriesText b series s →
     AreSpelled bytes s b series
 spelled_by bytes s b series fits basin_text series_text = record {
@@ -42,7 +42,7 @@ spelled_by bytes s b series fits basin_text series_text = record {
     valid : ((c : Basin) × Spells bytes c × IsValidBasin c) → IsValidBasin b
     valid found = subst IsValidBasin (one_basin bytes found.0 b found.1 basin_text.spelled) found.2
 
-pub good_series : (bytes s : List ℕ) (b : Basin) (series : Inflows) → IsBasinText b bytes → IsSeriesText b series s →
+pub good_series : (bytes s : List ℕ) (b : Basin) (series : Series) → IsBasinText b bytes → IsSeriesText b series s →
     IsGoodSeries bytes s
 good_series bytes s b series basin_text series_text =
     record { basin = b; spelled = basin_text.spelled; within = series_text.within; sound = series_text.sound }
@@ -61,7 +61,7 @@ good_second bytes other b c same text other_text = record {
 }
 
 -- a history of what bytes spell is one of any basin and series that they spell
-pub spelled_history : (bytes s : List ℕ) (b c : Basin) (series other : Inflows) (records : List MonthRecord) →
+pub spelled_history : (bytes s : List ℕ) (b c : Basin) (series other : Series) (records : List MonthRecord) →
     AreSpelled bytes s b series → AreSpelled bytes s c other → IsHistory c other records → IsHistory b series records
 spelled_history bytes s b c series other records spelled is history =
     let same : c ≡ b = one_basin bytes c b is.basin_spelled spelled.basin_spelled in
@@ -77,7 +77,7 @@ of_basin known b P text h =
     IfSome_then known text (λ bytes is c spelled. subst P (one_basin bytes b c is.spelled spelled) h)
 
 -- a basin and its series that were read
-module _ (known : KnownFiles) (files : Files) (b : Basin) (series : Inflows) (fits : IsSeriesOf b series)
+module _ (known : KnownFiles) (files : Files) (b : Basin) (series : Series) (fits : IsSeriesOf b series)
     (loaded : AreLoaded known files b series) where
   -- what holds of all bytes that spell them
   pub of_both : (P : List ℕ → List ℕ → Type 0) → ((bytes s : List ℕ) → AreSpelled bytes s b series → P bytes s) →
@@ -87,7 +87,7 @@ module _ (known : KnownFiles) (files : Files) (b : Basin) (series : Inflows) (fi
       holds bytes s (spelled_by bytes s b series fits text table)))
 
   -- and what is so of them both, where it is allowed
-  pub writes : (P : Basin → Inflows → Type 0) (may : Type 0) → (may → P b series) →
+  pub writes : (P : Basin → Series → Type 0) (may : Type 0) → (may → P b series) →
       OfBoth known files (λ bytes s. may → OfSpelled bytes s P)
   writes P may h = of_both _
       (λ bytes s spelled allowed. record { basin = b; series = series; spelled = spelled; holds = h allowed })

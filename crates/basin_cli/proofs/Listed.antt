@@ -15,7 +15,7 @@ use Rattle.water_edge.proofs.Puts.{PutsPrefix}
 use Rattle.water_edge.proofs.Outputs.{Extends-trans}
 use Rattle.water_edge.specs.Edge.{Extends, Output, Puts}
 use Rattle.water_model.specs.declared.types.Basin.{Basin}
-use Rattle.water_model.specs.declared.types.Inflows.{Inflows}
+use Rattle.water_model.specs.declared.types.Series.{Series}
 use Rattle.water_model.specs.declared.types.MonthRecord.{MonthRecord}
 use Rattle.basin_cli.specs.Listed.{IsListed, IsWholeList, StopsListing}
 use Rattle.result_text.proofs.Monthly.{head_prefix, month_begun, month_prefix, tail_prefix}
@@ -50,7 +50,7 @@ head_listed b run start now same stands puts = record {
 }
 
 -- after all months the last line makes the list
-tail_listed : (b : Basin) (series : Inflows) (run : RunView) (start mid now : Output) →
+tail_listed : (b : Basin) (series : Series) (run : RunView) (start mid now : Output) →
     run.series ≡ series → run.done ≡ b.months → IsListed b run start mid → Extends mid now (tail_bytes b) →
     IsWholeList b series start now
 tail_listed b series run start mid now fits all listed puts = record {
@@ -65,7 +65,7 @@ tail_listed b series run start mid now fits all listed puts = record {
 -- Where a put fails.
 
 -- one month more of a run whose lines so far are listed
-module _ (b : Basin) (series : Inflows) (was run : RunView) (e : MonthFound) (start mid now : Output)
+module _ (b : Basin) (series : Series) (was run : RunView) (e : MonthFound) (start mid now : Output)
     (listed : IsListed b was start mid) (same : run.basin ≡ b) (fits : run.series ≡ series)
     (is : IsFoundIn b e.month e.found) (stands : RunStandsFor run (records_of listed.months ++ e.month ∷ [])) where
   -- it stands for them all
@@ -107,7 +107,7 @@ module _ (b : Basin) (series : Inflows) (was run : RunView) (e : MonthFound) (st
   )
   month_put (Err x) at after puts flushed solves = (tt, month_stopped at after puts solves)
 
-pub head_stops : (b : Basin) (series : Inflows) (run : RunView) (start now : Output) (before : WorkDone) →
+pub head_stops : (b : Basin) (series : Series) (run : RunView) (start now : Output) (before : WorkDone) →
     run.basin ≡ b → run.series ≡ series → RunStandsFor run [] → PutsPrefix start now (head_bytes b) →
     StopsListing b series start now before before
 head_stops b series run start now before same fits stands prefix = record {
@@ -120,7 +120,7 @@ head_stops b series run start now before same fits stands prefix = record {
   work = Solves-none b before;
 }
 
-pub tail_stops : (b : Basin) (series : Inflows) (run : RunView) (start mid now : Output) (before after : WorkDone) →
+pub tail_stops : (b : Basin) (series : Series) (run : RunView) (start mid now : Output) (before after : WorkDone) →
     run.series ≡ series → run.done ≡ b.months → IsListed b run start mid →
     PutsPrefix mid now (tail_bytes b) → Solves b.months b before after → StopsListing b series start now before after
 tail_stops b series run start mid now before after fits all listed prefix solves =
@@ -137,7 +137,7 @@ tail_stops b series run start mid now before after fits all listed prefix solves
     }
 
 -- the last line was put, or a prefix of it
-pub tail_put : {E : Type 0} (b : Basin) (series : Inflows) (run : RunView) (start mid now : Output)
+pub tail_put : {E : Type 0} (b : Basin) (series : Series) (run : RunView) (start mid now : Output)
     (r : Result (Unit {0}) E) (before after : WorkDone) → run.series ≡ series → run.done ≡ b.months →
     IsListed b run start mid → Puts mid now r (tail_bytes b) → Solves b.months b before after →
     OnOk r (IsWholeList b series start now) × OnErr r (StopsListing b series start now before after)

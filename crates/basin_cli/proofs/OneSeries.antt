@@ -15,7 +15,7 @@ use Rattle.water_model.specs.Valid.{is_gauged, is_gauged_kind, is_in_series}
 use Rattle.water_model.specs.declared.types.Basin.{Basin}
 use Rattle.water_model.specs.declared.types.Inflow.{Inflow}
 use Rattle.water_model.specs.declared.types.Inflow.TheVariants.{Monthly, Gauged}
-use Rattle.water_model.specs.declared.types.Inflows.{Inflows}
+use Rattle.water_model.specs.declared.types.Series.{Series}
 use Rattle.water_model.specs.declared.types.MonthRecord.{MonthRecord}
 use Rattle.water_model.specs.declared.types.Node.{Node}
 use Rattle.water_model.specs.declared.types.Right.{Right}
@@ -28,12 +28,12 @@ one_basin bytes b c one other =
     one.basin_is ∙ (ap basin_of tree ∙ sym other.basin_is)
 
 -- two series give each node the same inflow, and each right the same want, in each month of the run
-pub record GiveSame (b : Basin) (series other : Inflows) : Type 0 where
+pub record GiveSame (b : Basin) (series other : Series) : Type 0 where
   pub each : (n i : ℕ) → n < length b.nodes → i < b.months → inflow_at b series n i ≡ inflow_at b other n i
   pub wants : (r i used : ℕ) → r < length b.rights → i < b.months → want_of b series r i used ≡ want_of b other r i used
 
 -- and so do the series that the same bytes spell
-pub one_series : (b : Basin) (bytes : List ℕ) (series other : Inflows) → SpellsSeries b bytes series →
+pub one_series : (b : Basin) (bytes : List ℕ) (series other : Series) → SpellsSeries b bytes series →
     SpellsSeries b bytes other → GiveSame b series other
 one_series b bytes series other one two = record {
   each = λ n i l m. by_gauge n i l m (is_gauged b n) refl;
@@ -80,7 +80,7 @@ one_series b bytes series other one two = record {
         cc
 
 -- a partial history with one series is one with the other
-pub same_partial : (b : Basin) (series other : Inflows) (records : List MonthRecord) → GiveSame b series other →
+pub same_partial : (b : Basin) (series other : Series) (records : List MonthRecord) → GiveSame b series other →
     IsPartialHistory b series records → IsPartialHistory b other records
 same_partial b series other records same partial = record {
   within = partial.within;
@@ -100,7 +100,7 @@ same_partial b series other records same partial = record {
     )
 
 -- a history with one series is one with the other
-pub same_history : (b : Basin) (series other : Inflows) (records : List MonthRecord) → GiveSame b series other →
+pub same_history : (b : Basin) (series other : Series) (records : List MonthRecord) → GiveSame b series other →
     IsHistory b series records → IsHistory b other records
 same_history b series other records same history =
     record { partial = same_partial b series other records same history.partial; whole = history.whole }

@@ -9,7 +9,7 @@ use Rattle.cert_check.specs.Whole.{text_verdict}
 use Rattle.cert_check.specs.declared.refuted.Refuted.{Refuted}
 use Rattle.water_edge.specs.Edge.{IsPart}
 use Rattle.water_model.specs.declared.types.Basin.{Basin}
-use Rattle.water_model.specs.declared.types.Inflows.{Inflows}
+use Rattle.water_model.specs.declared.types.Series.{Series}
 use Rattle.basin_cli.specs.Answer.{CanAnswer, IsAnswerFor, IsAnswerTo}
 use Rattle.basin_cli.specs.declared.checking.Question.{Question}
 use Rattle.basin_cli.specs.declared.checking.Question.TheVariants as question
@@ -34,7 +34,7 @@ next_fed (Some whole) c after from count old new some fed part stands = record {
 }
 
 -- a refusal by the verdict is one by a check and by an audit
-refusal_for : (asked : Question) (b : Basin) (series : Inflows) (text : List ℕ) (e : Refuted) →
+refusal_for : (asked : Question) (b : Basin) (series : Series) (text : List ℕ) (e : Refuted) →
     text_verdict b series text ≡ Err e → IsAnswerFor asked b series text (Err e)
 refusal_for question.Check b series text e is = is
 refusal_for question.Audit b series text e is = inl is

@@ -10,7 +10,7 @@ use Rattle.water_edge.specs.declared.shelf.Shelf
 use Rattle.water_edge.specs.declared.sink.Sink
 use Rattle.water_model.specs.Valid.{IsSeriesOf}
 use Rattle.water_model.specs.declared.types.Basin.{Basin}
-use Rattle.water_model.specs.declared.types.Inflows.{Inflows}
+use Rattle.water_model.specs.declared.types.Series.{Series}
 use Rattle.basin_cli.specs.declared.actions.RunText.{RunText}
 use Rattle.basin_cli.specs.declared.actions.RunText.TheVariants as text
 use Rattle.basin_cli.specs.declared.ending.Ending.{Ending}
@@ -36,7 +36,7 @@ solving_prints ending.WriteFault write ends = tt
 solving_prints ending.OutOfMemory write ends = tt
 solving_prints other write ends = absurd ends
 
-module _ (known : KnownFiles) (files : Files) (b : Basin) (series : Inflows) (fits : IsSeriesOf b series)
+module _ (known : KnownFiles) (files : Files) (b : Basin) (series : Series) (fits : IsSeriesOf b series)
     (loaded : AreLoaded known files b series) where
   -- the cause of how it ends
   pub solving_cause : (how : Ending) (read write : Type 0) → HasTrialCause how write →
@@ -69,7 +69,7 @@ module _ {S K : Type 0} (shelf : Shelf.Ghosts S) (sink : Sink.Ghosts K) (files :
     text_stops text.Calls out done h asks prints = search rules
     text_stops text.Report out done h asks prints = search rules
 
-    pub text_served : (kind : RunText) (b : Basin) (series : Inflows) (before after : WorkDone) (out out' : K) →
+    pub text_served : (kind : RunText) (b : Basin) (series : Series) (before after : WorkDone) (out out' : K) →
         IsSeriesOf b series → AreLoaded (shelf.known old) files b series →
         HasTrialCause how (Rose (sink.faults out) (sink.faults out')) →
         ((MayWrite (status_of how) → ⊥) → out' ≡ out) → ((MayWrite (status_of how) → ⊥) → after ≡ before) →

@@ -5,7 +5,7 @@ use Rattle.std.specs.Prelude.{IfSome, IsSome}
 use Rattle.inflow_file.specs.SeriesFaults.{series_fault}
 use Rattle.water_edge.specs.Edge.{Output, Rose}
 use Rattle.water_model.specs.declared.types.Basin.{Basin}
-use Rattle.water_model.specs.declared.types.Inflows.{Inflows}
+use Rattle.water_model.specs.declared.types.Series.{Series}
 use Rattle.basin_cli.specs.declared.ending.Ending.{Ending}
 use Rattle.basin_cli.specs.declared.ending.Ending.TheVariants as ending
 use Rattle.basin_cli.specs.declared.ending.File.TheVariants as file
@@ -28,7 +28,7 @@ same_series known later (Some name) same = same name
 
 -- what was read of a series on a later shelf is so of its known bytes
 pub series_known : (known later : KnownFiles) (name : Option (List ℕ)) (text : List ℕ) (b : Basin)
-    (series : Inflows) → ((n : List ℕ) → later n ≡ known n) →
+    (series : Series) → ((n : List ℕ) → later n ≡ known n) →
     IfSome (known_series later name) (λ bytes. text ≡ bytes) → IsSeriesText b series text →
     IfSome (known_series known name) (IsSeriesText b series)
 series_known known later name text b series same is h =

@@ -8,7 +8,7 @@ use Rattle.result_lines.specs.Spelling.{whole_line}
 use Rattle.result_lines.specs.Text.{items_of_month, items_of_head, items_of_tail}
 use Rattle.water_model.specs.Valid.{IsValidBasin}
 use Rattle.water_model.specs.declared.types.Basin.{Basin}
-use Rattle.water_model.specs.declared.types.Inflows.{Inflows}
+use Rattle.water_model.specs.declared.types.Series.{Series}
 use Rattle.water_model.specs.declared.types.MonthRecord.{MonthRecord}
 use Rattle.water_model.proofs.Histories.{last_follows}
 use Rattle.month_fold.proofs.Whole.{whole_history}
@@ -40,7 +40,7 @@ last_fits b run records m same stands =
     (omega (arith, stands.partial.within, length-append records (m ∷ []))))
 
 -- all months of a run keep the priority of rights
-pub whole_run : (b : Basin) (series : Inflows) (run : RunView) (records : List MonthRecord) → run.basin ≡ b →
+pub whole_run : (b : Basin) (series : Series) (run : RunView) (records : List MonthRecord) → run.basin ≡ b →
     run.series ≡ series → RunStandsFor run records → run.done ≡ b.months → KeepsPriority b series records
 whole_run b series run records same fits stands done =
     let valid : IsValidBasin b = rw (← same) stands.valid in
@@ -97,7 +97,7 @@ stopped (Ok u) P p = tt
 stopped (Err x) P p = p
 
 -- one month more of a run whose lines so far are written
-module _ (b : Basin) (series : Inflows) (was run : RunView) (m : MonthRecord) (start mid now : Output)
+module _ (b : Basin) (series : Series) (was run : RunView) (m : MonthRecord) (start mid now : Output)
     (written : IsWritten b was start mid) (same : run.basin ≡ b) (fits : run.series ≡ series)
     (stands : RunStandsFor run (written.records ++ m ∷ [])) where
   -- a prefix of the month's lines was put
@@ -130,7 +130,7 @@ module _ (b : Basin) (series : Inflows) (was run : RunView) (m : MonthRecord) (s
   )
   month_put (Err e) at after puts flushed solves = (tt, month_stopped at after puts solves)
 
-pub head_stops : (b : Basin) (series : Inflows) (run : RunView) (start now : Output) (before : WorkDone) →
+pub head_stops : (b : Basin) (series : Series) (run : RunView) (start now : Output) (before : WorkDone) →
     run.basin ≡ b →
     run.series ≡ series → RunStandsFor run [] → PutsPrefix start now (flat_map (whole_line b) (items_of_head b)) →
     StopsWriting b series start now before before
@@ -143,7 +143,7 @@ head_stops b series run start now before same fits stands prefix = record {
   work = Solves-none b before;
 }
 
-pub tail_stops : (b : Basin) (series : Inflows) (run : RunView) (start mid now : Output) (before after : WorkDone) →
+pub tail_stops : (b : Basin) (series : Series) (run : RunView) (start mid now : Output) (before after : WorkDone) →
     run.series ≡ series → run.done ≡ b.months → IsWritten b run start mid →
     PutsPrefix mid now (tail_of b) → Solves b.months b before after →
     StopsWriting b series start now before after
@@ -157,7 +157,7 @@ tail_stops b series run start mid now before after fits all written prefix solve
 }
 
 -- the tail was put, which makes the text, or a prefix of it
-pub tail_put : {E : Type 0} (b : Basin) (series : Inflows) (run : RunView) (start mid now : Output)
+pub tail_put : {E : Type 0} (b : Basin) (series : Series) (run : RunView) (start mid now : Output)
     (r : Result (Unit {0}) E) (before after : WorkDone) → run.series ≡ series → run.done ≡ b.months →
     IsWritten b run start mid → Puts mid now r (tail_of b) →
     Solves b.months b before after →

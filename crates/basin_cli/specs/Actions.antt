@@ -10,7 +10,7 @@ use Rattle.reports.specs.Reports.{report_text}
 use Rattle.water_model.specs.History.{IsShort}
 use Rattle.water_model.specs.Hydrology.{run_month}
 use Rattle.water_model.specs.declared.types.Basin.{Basin}
-use Rattle.water_model.specs.declared.types.Inflows.{Inflows}
+use Rattle.water_model.specs.declared.types.Series.{Series}
 use Rattle.water_model.specs.declared.types.MonthRecord.{MonthRecord}
 use Rattle.water_text.specs.declared.month.Month.{Month}
 use Rattle.basin_cli.specs.declared.actions.RunText.{RunText}
@@ -29,21 +29,21 @@ use Rattle.basin_cli.specs.Out.{Leaves, MayWrite}
 use Rattle.basin_cli.specs.Written.{LeavesRun}
 
 -- out was left with a text of a run, or with as much of it as was written
-abbrev pub LeavesText : RunText → Basin → Inflows → Status → Output → Output → WorkDone → WorkDone → Type 0
+abbrev pub LeavesText : RunText → Basin → Series → Status → Output → Output → WorkDone → WorkDone → Type 0
 LeavesText text.Result b series status old new before after = LeavesRun b series status old new before after
 LeavesText text.Calls b series status old new before after = LeavesList b series status old new before after
 LeavesText text.Report b series status old new before after =
     (records : List MonthRecord) × IsRun b series records × Leaves status (report_text b series records) old new
 
 -- out was left with how often each yearly delivery came in some traces, or with a prefix of it
-abbrev pub LeavesTraces : Basin → Inflows → Ending → Output → Output → Type 0
+abbrev pub LeavesTraces : Basin → Series → Ending → Output → Output → Type 0
 LeavesTraces b series how old new =
     MayWrite (status_of how) → (traces : List (List MonthRecord)) × AreTraces b series traces ×
     Leaves (status_of how) (ensemble_text b traces) old new
 
 -- how the checking of a result may end, by the answer to its bytes where they are known. `read` and `write` say that
 -- the shelf's and out's count of faults rose
-abbrev pub EndsChecking : Question → Basin → Inflows → Option (List ℕ) → Ending → Type 0 → Type 0 → Type 0
+abbrev pub EndsChecking : Question → Basin → Series → Option (List ℕ) → Ending → Type 0 → Type 0 → Type 0
 EndsChecking asked b series known ending.Done read write = (months : ℕ) × IsAnswerTo asked b series known (Ok months)
 EndsChecking asked b series known (ending.Refuted refuted) read write = IsAnswerTo asked b series known (Err refuted)
 EndsChecking asked b series known (ending.ReadFault file.Result) read write = read
@@ -52,7 +52,7 @@ EndsChecking asked b series known ending.OutOfMemory read write = ⊤
 EndsChecking asked b series known other read write = ⊥
 
 -- how the answer about a right in the month of this index ends, and what it leaves on out: its text, or a prefix of it
-pub record AnswersAt (asked : Account) (b : Basin) (series : Inflows) (index right : ℕ) (how : Ending) (write : Type 0)
+pub record AnswersAt (asked : Account) (b : Basin) (series : Series) (index right : ℕ) (how : Ending) (write : Type 0)
     (old new : Output) : Type 0 where
   pub last : MonthRecord
   pub of_month : IsRecordOf b series (run_month b index) last
@@ -62,7 +62,7 @@ pub record AnswersAt (asked : Account) (b : Basin) (series : Inflows) (index rig
   pub written : Leaves (status_of how) text old new
 
 -- how the answer to a month and a name may end
-abbrev pub EndsAsking : Basin → Inflows → Month → List ℕ → Ending → Type 0 → Type 0
+abbrev pub EndsAsking : Basin → Series → Month → List ℕ → Ending → Type 0 → Type 0
 EndsAsking b series month name ending.Done write = (right : ℕ) × (m : MonthRecord) ×
     IsAbout b series month name right m × IsShort m right
 EndsAsking b series month name ending.Met write =
@@ -76,7 +76,7 @@ EndsAsking b series month name ending.OutOfMemory write = ⊤
 EndsAsking b series month name other write = ⊥
 
 -- out was left with the answer about a right and a record of the month, or with a prefix of it
-pub record IsAnswered (asked : Account) (b : Basin) (series : Inflows) (month : Month) (name : List ℕ)
+pub record IsAnswered (asked : Account) (b : Basin) (series : Series) (month : Month) (name : List ℕ)
     (status : Status) (old new : Output) : Type 0 where
   pub right : ℕ
   pub last : MonthRecord

@@ -9,7 +9,7 @@ use Rattle.cert_check.specs.Standing.{IsAnswer}
 use Rattle.cert_check.specs.Whole.{text_verdict}
 use Rattle.cert_check.specs.declared.refuted.Refuted.{Refuted}
 use Rattle.water_model.specs.declared.types.Basin.{Basin}
-use Rattle.water_model.specs.declared.types.Inflows.{Inflows}
+use Rattle.water_model.specs.declared.types.Series.{Series}
 use Rattle.basin_cli.specs.declared.checking.Question.{Question}
 use Rattle.basin_cli.specs.declared.checking.Question.TheVariants as question
 use Rattle.basin_cli.specs.declared.ending.Ending.{Ending}
@@ -29,12 +29,12 @@ answered asked (Err refuted) =
     codes "refuted " ++ decimal refuted.line ++ codes " " ++ kind_name refuted.kind ++ codes "\n"
 
 -- the answer to some bytes is that of a check, by the verdict on them, or that of an audit
-abbrev pub IsAnswerFor : Question → Basin → Inflows → List ℕ → Result ℕ Refuted → Type 0
+abbrev pub IsAnswerFor : Question → Basin → Series → List ℕ → Result ℕ Refuted → Type 0
 IsAnswerFor question.Check b series text answer = IsAnswer b answer (text_verdict b series text)
 IsAnswerFor question.Audit b series text answer = IsAuditAnswer b series text answer
 
 -- and so of a text, where its bytes are known
-abbrev pub IsAnswerTo : Question → Basin → Inflows → Option (List ℕ) → Result ℕ Refuted → Type 0
+abbrev pub IsAnswerTo : Question → Basin → Series → Option (List ℕ) → Result ℕ Refuted → Type 0
 IsAnswerTo asked b series known answer = IfSome known (λ text. IsAnswerFor asked b series text answer)
 
 -- a checker can answer the question: for an audit it was opened as one
@@ -43,7 +43,7 @@ CanAnswer question.Check checker = ⊤
 CanAnswer question.Audit checker = IsAudit checker
 
 -- the answer to some bytes is put, or a prefix of its line
-pub record LeavesAnswer (asked : Question) (b : Basin) (series : Inflows) (text : List ℕ) (status : Status)
+pub record LeavesAnswer (asked : Question) (b : Basin) (series : Series) (text : List ℕ) (status : Status)
     (old new : Output) : Type 0 where
   pub answer : Result ℕ Refuted
   pub is : IsAnswerFor asked b series text answer

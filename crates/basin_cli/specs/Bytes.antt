@@ -6,7 +6,7 @@ use Rattle.basin_file.specs.BasinFaults.{Spells, file_fault}
 use Rattle.inflow_file.specs.SeriesFaults.{series_fault, SpellsSeries}
 use Rattle.water_model.specs.Valid.{IsSeriesOf, IsValidBasin}
 use Rattle.water_model.specs.declared.types.Basin.{Basin}
-use Rattle.water_model.specs.declared.types.Inflows.{Inflows}
+use Rattle.water_model.specs.declared.types.Series.{Series}
 use Rattle.water_model.specs.declared.types.MonthRecord.{MonthRecord}
 use Rattle.basin_cli.specs.declared.ending.SeriesFinding.{SeriesFinding}
 use Rattle.basin_cli.specs.Ending.{finding_of}
@@ -45,7 +45,7 @@ pub record IsSeriesRefusedFor (finding : SeriesFinding) (basin_bytes bytes : Lis
   pub first : option_and_then (finding_of basin) (series_fault basin bytes) ≡ Some finding
 
 -- the basin and the series that bytes spell, both valid
-pub record AreSpelled (bytes series_bytes : List ℕ) (basin : Basin) (series : Inflows) : Type 0 where
+pub record AreSpelled (bytes series_bytes : List ℕ) (basin : Basin) (series : Series) : Type 0 where
   pub basin_spelled : Spells bytes basin
   pub series_spelled : SpellsSeries basin series_bytes series
   pub valid : IsValidBasin basin
@@ -58,9 +58,9 @@ pub record OfBasin (bytes : List ℕ) (P : Basin → Type 0) : Type 0 where
   pub holds : P basin
 
 -- bytes spell a basin and a series of which this holds
-pub record OfSpelled (bytes series_bytes : List ℕ) (P : Basin → Inflows → Type 0) : Type 0 where
+pub record OfSpelled (bytes series_bytes : List ℕ) (P : Basin → Series → Type 0) : Type 0 where
   pub basin : Basin
-  pub series : Inflows
+  pub series : Series
   pub spelled : AreSpelled bytes series_bytes basin series
   pub holds : P basin series
 
@@ -75,6 +75,6 @@ known_series known (Some name) = known name
 
 -- the basin and series that bytes spell, and records of a run of them
 pub record IsRunOf (bytes series_bytes : List ℕ) (basin : Basin) (records : List MonthRecord) : Type 0 where
-  pub series : Inflows
+  pub series : Series
   pub spelled : AreSpelled bytes series_bytes basin series
   pub keeps : KeepsPriority basin series records

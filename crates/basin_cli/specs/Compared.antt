@@ -3,7 +3,7 @@ use Rattle.std.specs.Prelude.{◌≡◌, ℕ, List, length, flat_map, ◌==◌, 
 use Rattle.water_edge.specs.Edge.{Output}
 use Rattle.month_fold.specs.Runs.{RunView, RunStandsFor}
 use Rattle.water_model.specs.declared.types.Basin.{Basin}
-use Rattle.water_model.specs.declared.types.Inflows.{Inflows}
+use Rattle.water_model.specs.declared.types.Series.{Series}
 use Rattle.water_model.specs.declared.types.MonthRecord.{MonthRecord}
 use Rattle.injury.specs.Injuries.{injuries, injured_row, comparison_text}
 use Rattle.injury.specs.declared.injuries.Injury.{Injury}
@@ -26,7 +26,7 @@ pub record AreCompared (b c : Basin) (first second : RunView) (bytes : List ℕ)
   pub number : injured ≡ length (injuries b c records others)
 
 -- the bytes are the comparison of two lists of records that keep the priority of rights
-pub record IsTextOfComparison (b c : Basin) (series other : Inflows) (bytes : List ℕ) (injured : ℕ) : Type 0 where
+pub record IsTextOfComparison (b c : Basin) (series other : Series) (bytes : List ℕ) (injured : ℕ) : Type 0 where
   pub records : List MonthRecord
   pub others : List MonthRecord
   pub first_keeps : KeepsPriority b series records
@@ -53,7 +53,7 @@ IsComparedEnd other = ⊥
 
 -- what `compare` leaves on out, and how it ends: the comparison of two lists of records that keep the priority of
 -- rights, and whether somebody is injured in it
-pub record Compares (b c : Basin) (series other : Inflows) (how : Ending) (write : Type 0)
+pub record Compares (b c : Basin) (series other : Series) (how : Ending) (write : Type 0)
     (old new : Output) : Type 0 where
   pub records : List MonthRecord
   pub others : List MonthRecord

@@ -7,7 +7,7 @@ use Rattle.injury.specs.declared.injuries.Injury.{Injury}
 use Rattle.month_fold.specs.Works.{SolvesBoth, WorkDone}
 use Rattle.water_model.specs.History.{IsHistory}
 use Rattle.water_model.specs.declared.types.Basin.{Basin}
-use Rattle.water_model.specs.declared.types.Inflows.{Inflows}
+use Rattle.water_model.specs.declared.types.Series.{Series}
 use Rattle.water_model.specs.declared.types.MonthRecord.{MonthRecord}
 use Rattle.basin_cli.specs.declared.status.Status.{Status}
 use Rattle.basin_cli.specs.declared.status.Status.TheVariants as status
@@ -54,8 +54,8 @@ pub record IsGoodForBoth (bytes second_bytes series_bytes : List ℕ) : Type 0 w
 pub record SomebodyIsInjured (bytes second_bytes series_bytes : List ℕ) : Type 0 where
   pub first : Basin
   pub second : Basin
-  pub series : Inflows
-  pub second_series : Inflows
+  pub series : Series
+  pub second_series : Series
   pub first_spelled : AreSpelled bytes series_bytes first series
   pub second_spelled : AreSpelled second_bytes series_bytes second second_series
   pub records : List MonthRecord

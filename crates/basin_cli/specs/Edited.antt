@@ -10,7 +10,7 @@ use Rattle.edit_session.specs.Shown.{AnswersWhole}
 use Rattle.edit_session.specs.declared.stop.EditStop.TheVariants as stop
 use Rattle.month_fold.specs.Works.{Solves, WorkDone}
 use Rattle.water_model.specs.declared.types.Basin.{Basin}
-use Rattle.water_model.specs.declared.types.Inflows.{Inflows}
+use Rattle.water_model.specs.declared.types.Series.{Series}
 use Rattle.basin_cli.specs.declared.ending.Ending.{Ending}
 use Rattle.basin_cli.specs.declared.ending.Ending.TheVariants as ending
 use Rattle.basin_cli.specs.declared.ending.File.TheVariants as file
@@ -52,21 +52,21 @@ EditsAfter known files script status =
 -- were shown. After a fault of out all months that were shown but the last are left, flushed, and of that one a prefix,
 -- or a prefix of the whole; and where memory ran out the whole lines of the months shown so far, flushed, and nothing
 -- else.
-abbrev pub LeavesShows : Status → Basin → Inflows → List Edit → Output → Output → Type 0
+abbrev pub LeavesShows : Status → Basin → Series → List Edit → Output → Output → Type 0
 LeavesShows Done b series edits old new = AnswersWhole b series edits (Ok tt) old new
 LeavesShows WriteFault b series edits old new = AnswersWhole b series edits (Err stop.SinkFailed) old new
 LeavesShows OutOfMemory b series edits old new = AnswersWhole b series edits (Err stop.OutOfMemory) old new
 LeavesShows status b series edits old new = ⊥
 
 -- out was left with the months that the script shows
-pub record ShowsScript (status : Status) (b : Basin) (series : Inflows) (script : List ℕ)
+pub record ShowsScript (status : Status) (b : Basin) (series : Series) (script : List ℕ)
     (old new : Output) : Type 0 where
   pub edits : List Edit
   pub reads : script_of b series script ≡ Ok edits
   pub written : LeavesShows status b series edits old new
 
 -- what a call that has its files leaves on out: where memory ran out before the script was read, nothing
-abbrev pub LeavesScript : Status → Basin → Inflows → List ℕ → Output → Output → Type 0
+abbrev pub LeavesScript : Status → Basin → Series → List ℕ → Output → Output → Type 0
 LeavesScript OutOfMemory b series script old new = (new ≡ old) ⊎ ShowsScript OutOfMemory b series script old new
 LeavesScript status b series script old new = MayWrite status → ShowsScript status b series script old new
 
@@ -86,24 +86,24 @@ EditWrites known files script status old new =
 
 -- No more months are solved than the script costs: a month before the first change is solved once. For a script that is
 -- refused none is.
-pub record WorkOfScript (b : Basin) (series : Inflows) (script : List ℕ) (before now : WorkDone) : Type 0 where
+pub record WorkOfScript (b : Basin) (series : Series) (script : List ℕ) (before now : WorkDone) : Type 0 where
   pub asked : (edits : List Edit) → script_of b series script ≡ Ok edits → Solves (cost edits) b before now
   pub refused : IsErr (script_of b series script) → now ≡ before
 
 abbrev pub EditWork : KnownFiles → Files → List ℕ → WorkDone → WorkDone → Type 0
 EditWork known files script before now =
     OfBoth known files (λ bytes series. IfSome (known script) (λ text.
-    (b : Basin) (s : Inflows) → AreSpelled bytes series b s → WorkOfScript b s text before now))
+    (b : Basin) (s : Series) → AreSpelled bytes series b s → WorkOfScript b s text before now))
 
 -- how the reading of a script's bytes may end without what they ask for
-abbrev pub ScriptEnds : Basin → Inflows → List ℕ → Ending → Type 0
+abbrev pub ScriptEnds : Basin → Series → List ℕ → Ending → Type 0
 ScriptEnds b series script (ending.ScriptRefused fault line) =
     script_of b series script ≡ Err (refused.Refused fault line)
 ScriptEnds b series script ending.OutOfMemory = ⊤
 ScriptEnds b series script other = ⊥
 
 -- how the answer to a script's bytes may end
-abbrev pub EndsEditing : Basin → Inflows → List ℕ → Ending → Type 0 → Type 0
+abbrev pub EndsEditing : Basin → Series → List ℕ → Ending → Type 0 → Type 0
 EndsEditing b series script ending.Done write = IsOk (script_of b series script)
 EndsEditing b series script ending.WriteFault write = write × IsOk (script_of b series script)
 EndsEditing b series script other write = ScriptEnds b series script other

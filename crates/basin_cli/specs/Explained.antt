@@ -18,7 +18,7 @@ use Rattle.water_model.specs.Basin.{right_name}
 use Rattle.water_model.specs.Cuts.{IsReach, cut_bound}
 use Rattle.water_model.specs.Hydrology.{run_month}
 use Rattle.water_model.specs.declared.types.Basin.{Basin}
-use Rattle.water_model.specs.declared.types.Inflows.{Inflows}
+use Rattle.water_model.specs.declared.types.Series.{Series}
 use Rattle.water_model.specs.declared.types.MonthRecord.{MonthRecord}
 use Rattle.water_text.specs.Months.{month_digits}
 use Rattle.water_text.specs.declared.month.Month.{Month}
@@ -47,14 +47,14 @@ HasRight b name = (right : ℕ) × IsRightNamed b name right
 
 -- a record of the month: the last of a partial history of the basin and its series, with the reaches as the sets of
 -- short rights
-pub record IsRecordOf (b : Basin) (series : Inflows) (month : Month) (m : MonthRecord) : Type 0 where
+pub record IsRecordOf (b : Basin) (series : Series) (month : Month) (m : MonthRecord) : Type 0 where
   pub before : List MonthRecord
   pub partial : IsPartialHistory b series (before ++ m ∷ [])
   pub reaches : HaveReaches b (before ++ m ∷ [])
   pub is : m.month ≡ month
 
 -- what is asked by a month and a name: the right of the name, and a record of the month
-pub record IsAbout (b : Basin) (series : Inflows) (month : Month) (name : List ℕ) (right : ℕ) (m : MonthRecord) : Type 0
+pub record IsAbout (b : Basin) (series : Series) (month : Month) (name : List ℕ) (right : ℕ) (m : MonthRecord) : Type 0
   where
     pub named : IsRightNamed b name right
     pub of_month : IsRecordOf b series month m

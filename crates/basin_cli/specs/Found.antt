@@ -7,7 +7,7 @@ use Rattle.inflow_file.specs.SeriesFaults.{series_fault}
 use Rattle.inflow_file.specs.declared.refused.SeriesRefused.{SeriesRefused}
 use Rattle.result_lines.specs.Text.{text_bytes}
 use Rattle.water_model.specs.declared.types.Basin.{Basin}
-use Rattle.water_model.specs.declared.types.Inflows.{Inflows}
+use Rattle.water_model.specs.declared.types.Series.{Series}
 use Rattle.water_model.specs.declared.types.MonthRecord.{MonthRecord}
 use Rattle.basin_cli.specs.Bytes.{AreSpelled, IsRunOf}
 use Rattle.basin_cli.specs.Outcome.{IsHistoryText, IsReachesText}
@@ -32,7 +32,7 @@ pub record IsFaultySeries (bytes series_bytes : List ℕ) : Type 0 where
 pub record AreFaultless (bytes series_bytes : List ℕ) : Type 0 where
   pub basin_sound : file_fault bytes ≡ None
   pub basin : Basin
-  pub series : Inflows
+  pub series : Series
   pub spelled : AreSpelled bytes series_bytes basin series
   pub series_sound : series_fault basin series_bytes ≡ None
 

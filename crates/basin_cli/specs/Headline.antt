@@ -7,7 +7,7 @@ use Rattle.duality.specs.Laws.{ServesSeniors, AgreesOn, LeavesNothing}
 use Rattle.duality.specs.Parts.{IsGreatestInParts, IsPlanInParts, in_parts, times}
 use Rattle.water_model.specs.Plans.{IsPlan, IsGreatest, delivery}
 use Rattle.water_model.specs.declared.types.Basin.{Basin}
-use Rattle.water_model.specs.declared.types.Inflows.{Inflows}
+use Rattle.water_model.specs.declared.types.Series.{Series}
 use Rattle.water_model.specs.declared.types.MonthRecord.{MonthRecord}
 use Rattle.water_model.specs.declared.types.Plan.{Plan}
 
@@ -60,7 +60,7 @@ HasGreatestPlansInParts b records = (i : ℕ) (m : MonthRecord) → slice_get re
     IsGreatestInParts b k m.month m.supply m.want (in_parts k m.plan)
 
 -- the records of a run of a basin with a series, which keep the priority of rights and lose no water
-pub record KeepsPriority (b : Basin) (series : Inflows) (records : List MonthRecord) : Type 0 where
+pub record KeepsPriority (b : Basin) (series : Series) (records : List MonthRecord) : Type 0 where
   -- every month opens with exactly what the deliveries, evaporation and lags before it leave, and each short right has
   -- a tight cut
   pub history : IsHistory b series records

@@ -6,7 +6,7 @@ use Rattle.month_fold.specs.Runs.{RunView, RunStandsFor}
 use Rattle.month_fold.specs.Works.{Solves, WorkDone}
 use Rattle.water_model.specs.History.{HaveReaches, IsPartialHistory}
 use Rattle.water_model.specs.declared.types.Basin.{Basin}
-use Rattle.water_model.specs.declared.types.Inflows.{Inflows}
+use Rattle.water_model.specs.declared.types.Series.{Series}
 use Rattle.basin_cli.specs.Headline.{KeepsPriority}
 use Rattle.result_text.specs.Begun.{IsPrefixOf}
 use Rattle.basin_cli.specs.declared.status.Status.{Status}
@@ -24,7 +24,7 @@ pub record IsListed (b : Basin) (run : RunView) (old now : Output) : Type 0 wher
 
 -- after what out had taken stands the list of the calls of records that keep the priority of rights. It is determined
 -- by the basin and the series: `call_list` has that as a law
-pub record IsWholeList (b : Basin) (series : Inflows) (old now : Output) : Type 0 where
+pub record IsWholeList (b : Basin) (series : Series) (old now : Output) : Type 0 where
   pub months : List MonthFound
   pub found : AreFoundIn b months
   pub keeps : KeepsPriority b series (records_of months)
@@ -32,7 +32,7 @@ pub record IsWholeList (b : Basin) (series : Inflows) (old now : Output) : Type 
 
 -- Where writing stopped: of the months of a run that were solved all but the last stand after what out had taken, and
 -- of the last one a prefix. No more months are counted than these.
-pub record StopsListing (b : Basin) (series : Inflows) (old now : Output) (before after : WorkDone) : Type 0
+pub record StopsListing (b : Basin) (series : Series) (old now : Output) (before after : WorkDone) : Type 0
   where
     pub months : List MonthFound
     pub found : AreFoundIn b months
@@ -42,7 +42,7 @@ pub record StopsListing (b : Basin) (series : Inflows) (old now : Output) (befor
     pub work : Solves (length months) b before after
 
 -- what a list of calls leaves on out: its whole text, or after a fault of out as far as it was written
-abbrev pub LeavesList : Basin → Inflows → Status → Output → Output → WorkDone → WorkDone → Type 0
+abbrev pub LeavesList : Basin → Series → Status → Output → Output → WorkDone → WorkDone → Type 0
 LeavesList b series Done old new before after = IsWholeList b series old new
 LeavesList b series WriteFault old new before after = StopsListing b series old new before after
 LeavesList b series status old new before after = ⊤

@@ -14,7 +14,7 @@ use Rattle.water_model.specs.History.{HaveReaches, IsHistory, IsShort}
 use Rattle.result_lines.specs.Text.{text_bytes}
 use Rattle.water_model.specs.Valid.{IsSeriesOf}
 use Rattle.water_model.specs.declared.types.Basin.{Basin}
-use Rattle.water_model.specs.declared.types.Inflows.{Inflows}
+use Rattle.water_model.specs.declared.types.Series.{Series}
 use Rattle.water_model.specs.declared.types.MonthRecord.{MonthRecord}
 use Rattle.water_text.specs.declared.month.Month.{Month}
 use Rattle.basin_cli.specs.declared.status.Status.{Status}
@@ -50,7 +50,7 @@ use Rattle.month_fold.specs.Works.{Solves, SolvesRun, WorkDone}
 -- in whole units and in any parts of a unit.
 pub record IsHistoryText (bytes series_bytes result : List ℕ) : Type 0 where
   pub basin : Basin
-  pub series : Inflows
+  pub series : Series
   pub spelled : AreSpelled bytes series_bytes basin series
   pub records : List MonthRecord
   pub history : IsHistory basin series records
@@ -72,7 +72,7 @@ IsYes question.Audit bytes series result = IsReachesText bytes series result
 -- and a no: this is the answer to the bytes of a result, and a yes would be wrong of them
 pub record IsRefuted (asked : Question) (refuted : Refuted) (bytes series_bytes result : List ℕ) : Type 0 where
   pub basin : Basin
-  pub series : Inflows
+  pub series : Series
   pub spelled : AreSpelled bytes series_bytes basin series
   pub answer : IsAnswerFor asked basin series result (Err refuted)
   pub no_text : IsYes asked bytes series_bytes result → ⊥
@@ -240,7 +240,7 @@ WritesReport status bytes series old new = OfSpelled bytes series (λ b s. (reco
 
 -- what `trial` leaves on out: the summary of a run of the basin that the number and the size make
 abbrev pub WritesTrial : Status → ℕ → ℕ → Output → Output → Type 0
-WritesTrial status number size old new = (series : Inflows) × IsSeriesOf (generated number size) series ×
+WritesTrial status number size old new = (series : Series) × IsSeriesOf (generated number size) series ×
     ((records : List MonthRecord) × IsRun (generated number size) series records ×
     Leaves status (trial_text number size (generated number size) series records) old new)
 

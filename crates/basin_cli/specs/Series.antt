@@ -4,7 +4,7 @@ use Rattle.std.specs.Option.{option_and_then}
 use Rattle.basin_file.specs.BasinFaults.{Spells, file_fault}
 use Rattle.inflow_file.specs.SeriesFaults.{series_fault, SpellsSeries}
 use Rattle.water_model.specs.declared.types.Basin.{Basin}
-use Rattle.water_model.specs.declared.types.Inflows.{Inflows}
+use Rattle.water_model.specs.declared.types.Series.{Series}
 use Rattle.basin_cli.specs.declared.ending.Ending.{Ending}
 use Rattle.basin_cli.specs.declared.ending.Ending.TheVariants as ending
 use Rattle.basin_cli.specs.declared.ending.File.{File}
@@ -46,7 +46,7 @@ pub record IsBasinText (b : Basin) (bytes : List ℕ) : Type 0 where
   pub spelled : Spells bytes b
 
 -- the bytes are within the limit, and spell the series of the basin
-pub record IsSeriesText (b : Basin) (series : Inflows) (bytes : List ℕ) : Type 0 where
+pub record IsSeriesText (b : Basin) (series : Series) (bytes : List ℕ) : Type 0 where
   pub within : length bytes ≤ file_limit
   pub sound : series_fault b bytes ≡ None
   pub spelled : SpellsSeries b bytes series
@@ -63,6 +63,6 @@ SeriesReadEnds b name known read ending.OutOfMemory = ⊤
 SeriesReadEnds b name known read other = ⊥
 
 -- the basin and the series are what the known bytes of the files spell
-pub record AreLoaded (known : KnownFiles) (files : Files) (b : Basin) (series : Inflows) : Type 0 where
+pub record AreLoaded (known : KnownFiles) (files : Files) (b : Basin) (series : Series) : Type 0 where
   pub from_basin : IfSome (known files.basin) (IsBasinText b)
   pub from_series : IfSome (known_series known files.series) (IsSeriesText b series)

@@ -36,7 +36,7 @@ use reports::{ReportStop, period_report, trial_report};
 use std::alloc::{AllocError, Global};
 use std::sync::ledger::Ledger;
 use water_edge::Sink;
-use water_model::types::{Basin, Inflows};
+use water_model::types::{Basin, Series};
 use water_text::line::Line;
 
 /// What is written of a run: its result, the list of its calls, or a report on it.
@@ -52,7 +52,7 @@ pub enum RunText {
 fn put_result<K: Sink, P: Ledger, M: Ledger>(
     alloc: Global,
     basin: &Basin,
-    series: &Inflows,
+    series: &Series,
     out: &mut K,
     work: &mut Work<P, M>,
 ) -> Ending
@@ -84,7 +84,7 @@ fn put_found_calls<K: Sink, P: Ledger, M: Ledger>(
     alloc: Global,
     finder: &mut CallFinder,
     basin: &Basin,
-    series: &Inflows,
+    series: &Series,
     out: &mut K,
     work: &mut Work<P, M>,
 ) -> Ending
@@ -116,7 +116,7 @@ fn put_found_calls<K: Sink, P: Ledger, M: Ledger>(
 fn put_calls<K: Sink, P: Ledger, M: Ledger>(
     alloc: Global,
     basin: &Basin,
-    series: &Inflows,
+    series: &Series,
     out: &mut K,
     work: &mut Work<P, M>,
 ) -> Ending
@@ -143,7 +143,7 @@ fn put_calls<K: Sink, P: Ledger, M: Ledger>(
 fn put_report<K: Sink, P: Ledger, M: Ledger>(
     alloc: Global,
     basin: &Basin,
-    series: &Inflows,
+    series: &Series,
     out: &mut K,
     work: &mut Work<P, M>,
 ) -> Ending
@@ -173,7 +173,7 @@ pub fn put_run_text<K: Sink, P: Ledger, M: Ledger>(
     alloc: Global,
     text: RunText,
     basin: &Basin,
-    series: &Inflows,
+    series: &Series,
     out: &mut K,
     work: &mut Work<P, M>,
 ) -> Ending
@@ -198,7 +198,7 @@ pub fn put_run_text<K: Sink, P: Ledger, M: Ledger>(
 pub fn ensemble_basin<K: Sink, P: Ledger, M: Ledger>(
     alloc: Global,
     basin: &Basin,
-    series: &Inflows,
+    series: &Series,
     out: &mut K,
     work: &mut Work<P, M>,
 ) -> Ending
@@ -228,7 +228,7 @@ fn put_trial<K: Sink, P: Ledger, M: Ledger>(
     number: u32,
     size: u32,
     basin: &Basin,
-    series: &Inflows,
+    series: &Series,
     out: &mut K,
     work: &mut Work<P, M>,
 ) -> Ending
@@ -361,7 +361,7 @@ pub fn print_answer<K: Sink>(
 pub fn answer_of(
     alloc: Global,
     basin: &Basin,
-    series: &Inflows,
+    series: &Series,
     text: &[u8],
 ) -> Result<Result<u32, Refuted>, AllocError>
     requires basin { IsValidBasin basin.now }

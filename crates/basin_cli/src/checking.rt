@@ -17,7 +17,7 @@ use crate::ending::{Ending, File};
 use cert_check::{PieceChecker, Refuted};
 use std::alloc::{AllocError, Global};
 use water_edge::{Shelf, Sink};
-use water_model::types::{Basin, Inflows};
+use water_model::types::{Basin, Series};
 
 /// How many bytes of a result are asked for at once.
 const PART: usize = 65_536;
@@ -35,7 +35,7 @@ fn open_checker<'b>(
     alloc: Global,
     question: Question,
     basin: &'b Basin,
-    series: &'b Inflows,
+    series: &'b Series,
 ) -> Result<PieceChecker<'b>, AllocError>
     requires basin { IsValidBasin basin.now }
     requires series { IsSeriesOf basin.now series.now }
@@ -109,7 +109,7 @@ pub fn check_file<S: Shelf, K: Sink>(
     alloc: Global,
     question: Question,
     basin: &Basin,
-    series: &Inflows,
+    series: &Series,
     shelf: &mut S,
     name: &str,
     out: &mut K,

@@ -22,7 +22,7 @@ use month_fold::work::Work;
 use std::alloc::{AllocError, Global};
 use std::sync::ledger::Ledger;
 use water_edge::Sink;
-use water_model::types::{Basin, Inflows, MonthRecord};
+use water_model::types::{Basin, Series, MonthRecord};
 
 /// Appends the rows of a month's injuries and answers their number.
 fn draft_injuries(
@@ -154,7 +154,7 @@ fn draft_beside<P: Ledger, M: Ledger>(
     basin: &Basin,
     other: &Basin,
     first: &mut Run,
-    other_series: &Inflows,
+    other_series: &Series,
     work: &mut Work<P, M>,
 ) -> Result<u32, AllocError>
     requires basin { IsValidBasin basin.now }
@@ -181,8 +181,8 @@ fn draft_comparison<P: Ledger, M: Ledger>(
     pairing: &Pairing,
     basin: &Basin,
     other: &Basin,
-    series: &Inflows,
-    other_series: &Inflows,
+    series: &Series,
+    other_series: &Series,
     work: &mut Work<P, M>,
 ) -> Result<u32, AllocError>
     requires basin { IsValidBasin basin.now }
@@ -216,8 +216,8 @@ pub fn text_of_comparison<P: Ledger, M: Ledger>(
     alloc: Global,
     basin: &Basin,
     other: &Basin,
-    series: &Inflows,
-    other_series: &Inflows,
+    series: &Series,
+    other_series: &Series,
     work: &mut Work<P, M>,
 ) -> Result<(Draft, u32), AllocError>
     requires basin { IsValidBasin basin.now }
@@ -268,8 +268,8 @@ pub fn compare_basins<K: Sink, P: Ledger, M: Ledger>(
     alloc: Global,
     basin: &Basin,
     other: &Basin,
-    series: &Inflows,
-    other_series: &Inflows,
+    series: &Series,
+    other_series: &Series,
     out: &mut K,
     work: &mut Work<P, M>,
 ) -> Ending

@@ -19,13 +19,13 @@ use month_fold::work::Work;
 use std::alloc::Global;
 use std::sync::ledger::Ledger;
 use water_edge::Sink;
-use water_model::types::{Basin, Inflows};
+use water_model::types::{Basin, Series};
 
 /// What the bytes of a script ask for, or how the call ends.
 fn accept_script(
     alloc: Global,
     basin: &Basin,
-    series: &Inflows,
+    series: &Series,
     text: &[u8],
 ) -> Result<Vec<Edit>, Ending>
     requires basin { IsValidBasin basin.now }
@@ -45,7 +45,7 @@ fn accept_script(
 fn answer_edits<K: Sink, P: Ledger, M: Ledger>(
     alloc: Global,
     basin: &Basin,
-    series: &Inflows,
+    series: &Series,
     edits: &[Edit],
     out: &mut K,
     work: &mut Work<P, M>,
@@ -73,7 +73,7 @@ fn answer_edits<K: Sink, P: Ledger, M: Ledger>(
 pub fn edit_basin<K: Sink, P: Ledger, M: Ledger>(
     alloc: Global,
     basin: &Basin,
-    series: &Inflows,
+    series: &Series,
     text: &[u8],
     out: &mut K,
     work: &mut Work<P, M>,

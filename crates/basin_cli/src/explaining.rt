@@ -32,7 +32,7 @@ use std::sync::ledger::Ledger;
 use water_edge::{Sink, SinkFailed};
 use water_model::calls::index_in_run;
 use water_model::space::{Space, name_in};
-use water_model::types::{Basin, Inflows, MonthRecord};
+use water_model::types::{Basin, Series, MonthRecord};
 use water_text::line::Line;
 use water_text::month::Month;
 use water_text::name::Name;
@@ -210,7 +210,7 @@ fn explain_by<K: Sink, P: Ledger, M: Ledger>(
     account: Account,
     finder: &mut HelpFinder,
     basin: &Basin,
-    series: &Inflows,
+    series: &Series,
     index: u32,
     right: u32,
     out: &mut K,
@@ -252,7 +252,7 @@ fn explain_at<K: Sink, P: Ledger, M: Ledger>(
     alloc: Global,
     account: Account,
     basin: &Basin,
-    series: &Inflows,
+    series: &Series,
     index: u32,
     right: u32,
     out: &mut K,
@@ -296,7 +296,7 @@ pub fn explain_right<K: Sink, P: Ledger, M: Ledger>(
     alloc: Global,
     account: Account,
     basin: &Basin,
-    series: &Inflows,
+    series: &Series,
     month: Month,
     name: &[u8],
     out: &mut K,

@@ -22,10 +22,10 @@ use crate::command::Inputs;
 use crate::ending::{Ending, File, SeriesFinding};
 use basin_file::{BasinRefused, read_basin};
 use basin_tree::walk::Finding;
-use inflow_file::{HEADER, SeriesRefused, read_inflows};
+use inflow_file::{HEADER, SeriesRefused, series_of_text};
 use std::alloc::Global;
 use water_edge::{Shelf, ShelfRefused};
-use water_model::types::{Basin, Inflows};
+use water_model::types::{Basin, Series};
 use water_text::month::Month;
 use water_text::name::Name;
 
@@ -126,7 +126,7 @@ fn missing_want(basin: &Basin, month: Month, right: u32) -> Ending
 }
 
 /// The series that the bytes spell for a basin, or how the call ends.
-pub fn accept_series(alloc: Global, basin: &Basin, text: &[u8]) -> Result<Inflows, Ending>
+pub fn accept_series(alloc: Global, basin: &Basin, text: &[u8]) -> Result<Series, Ending>
     requires basin { IsValidBasin basin.now }
     ensures spelled { IfOk result (λ series. SpellsSeries basin.now text.now series) }
     ensures fits { IfOk result (λ series. IsSeriesOf basin.now series) }
@@ -135,7 +135,7 @@ pub fn accept_series(alloc: Global, basin: &Basin, text: &[u8]) -> Result<Inflow
     ensures at { IfErr result (IsAt File.Series) }
     ensures printable { IfErr result CanBePrinted }
 {
-    match read_inflows(alloc, basin, text) {
+    match series_of_text(alloc, basin, text) {
         Ok(series) => Ok(series),
         Err(SeriesRefused::OutOfMemory) => Err(Ending::OutOfMemory),
         Err(SeriesRefused::Record { fault, number }) => {
@@ -195,7 +195,7 @@ fn read_series<S: Shelf>(
     shelf: &mut S,
     name: Option<&str>,
     basin: &Basin,
-) -> Result<Inflows, Ending>
+) -> Result<Series, Ending>
     requires basin { IsValidBasin basin.now }
     requires serves { ServesSeries (S.serves shelf.old) (option_map (λ n. n.now) name) }
     ensures same { SameShelf (S.known shelf.old) (S.known shelf.new) (S.serves shelf.old) (S.serves shelf.new) }
@@ -223,7 +223,7 @@ fn read_series<S: Shelf>(
 #[derive(Drop)]
 pub struct Loaded {
     pub basin: Basin,
-    pub series: Inflows,
+    pub series: Series,
 }
 
 /// The basin and the series of two files, or how the call ends.

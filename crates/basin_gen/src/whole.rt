@@ -11,7 +11,7 @@ use crate::reservoirs::{add_zones, reservoirs};
 use crate::turns::{Made, turns};
 use std::alloc::{AllocError, Global};
 use water_model::rows::Rows;
-use water_model::types::{Basin, Inflows, Link, ReturnRow, Right};
+use water_model::types::{Basin, Series, Link, ReturnRow, Right};
 use water_text::month::Month;
 
 /// The rivers, then the canals.
@@ -88,7 +88,7 @@ fn basin(alloc: Global, number: u32, size: u32) -> Result<Basin, AllocError>
 ///
 /// `AllocError` comes only where memory runs out, and then nothing is left.
 #[tactic(auto, using(crate::proofs::Validity::generated_valid, crate::proofs::Validity::no_series))]
-pub fn make(alloc: Global, number: u32, size: u32) -> Result<(Basin, Inflows), AllocError>
+pub fn make(alloc: Global, number: u32, size: u32) -> Result<(Basin, Series), AllocError>
     requires some { 2 ≤ size }
     requires size { size ≤ 2000 }
     ensures basin { IfOk result (λ made. made.0 ≡ generated number size) }
@@ -96,7 +96,7 @@ pub fn make(alloc: Global, number: u32, size: u32) -> Result<(Basin, Inflows), A
     ensures series { IfOk result (λ made. IsSeriesOf made.0 made.1) }
 {
     let basin = basin(alloc, number, size)?;
-    let inflows = Inflows {
+    let inflows = Series {
         gauged: Rows::new(alloc),
         amount: Rows::new(alloc),
         wanted: Rows::new(alloc),

@@ -3,7 +3,7 @@ use Rattle.std.proofs.Common.{arith, List, [], ◌∷◌, ◌++◌, length, leng
 use Rattle.water_model.specs.History.{IsPartialHistory, HasReaches, HaveReaches}
 use Rattle.water_model.specs.Valid.{IsValidBasin, IsSeriesOf}
 use Rattle.water_model.specs.declared.types.Basin.{Basin}
-use Rattle.water_model.specs.declared.types.Inflows.{Inflows}
+use Rattle.water_model.specs.declared.types.Series.{Series}
 use Rattle.water_model.specs.declared.types.MonthRecord.{MonthRecord}
 use Rattle.water_model.proofs.Histories.{last_follows}
 use Rattle.water_model.proofs.Lists.{get_after}
@@ -21,7 +21,7 @@ pub record CanBeFound (b : Basin) (m : MonthRecord) : Type 0 where
   pub fits : FitsText b m
 
 -- the last month of some that a run went through
-pub last_can_be_found : (b : Basin) (series : Inflows) (before : List MonthRecord) (m : MonthRecord) →
+pub last_can_be_found : (b : Basin) (series : Series) (before : List MonthRecord) (m : MonthRecord) →
     IsValidBasin b → IsSeriesOf b series → IsPartialHistory b series (before ++ m ∷ []) →
     HaveReaches b (before ++ m ∷ []) → CanBeFound b m
 last_can_be_found b series before m valid fits partial reaches = record {

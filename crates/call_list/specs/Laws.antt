@@ -3,7 +3,7 @@ use Rattle.std.specs.Prelude.{◌≡◌, ◌↔◌, ℕ, ◌<◌, List, length, 
 use Rattle.water_model.specs.History.{IsPartialHistory}
 use Rattle.water_model.specs.Valid.{IsValidBasin}
 use Rattle.water_model.specs.declared.types.Basin.{Basin}
-use Rattle.water_model.specs.declared.types.Inflows.{Inflows}
+use Rattle.water_model.specs.declared.types.Series.{Series}
 use Rattle.water_model.specs.declared.types.MonthRecord.{MonthRecord}
 use Rattle.plan_residual.specs.Residual.{HasPlan}
 use Rattle.next_unit.specs.Next.{IsCurtailedFor}
@@ -20,14 +20,14 @@ CurtailedExactly =
 -- of each month, whatever plans they have.
 abbrev pub FoundIsDetermined : Type 0
 FoundIsDetermined =
-    (b : Basin) (series : Inflows) (records others : List MonthRecord) (i : ℕ) (m n : MonthRecord) (f g : Found) →
+    (b : Basin) (series : Series) (records others : List MonthRecord) (i : ℕ) (m n : MonthRecord) (f g : Found) →
     IsValidBasin b → IsPartialHistory b series records → IsPartialHistory b series others →
     slice_get records i ≡ Some m → slice_get others i ≡ Some n → IsFoundIn b m f → IsFoundIn b n g → f ≡ g
 
 -- And so is the list: it has one text.
 abbrev pub ListIsDetermined : Type 0
 ListIsDetermined =
-    (b : Basin) (series : Inflows) (months others : List MonthFound) → IsValidBasin b →
+    (b : Basin) (series : Series) (months others : List MonthFound) → IsValidBasin b →
     IsPartialHistory b series (records_of months) → IsPartialHistory b series (records_of others) →
     length months ≡ length others → AreFoundIn b months → AreFoundIn b others →
     list_bytes b months ≡ list_bytes b others

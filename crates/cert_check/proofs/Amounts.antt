@@ -20,7 +20,7 @@ use Rattle.result_lines.specs.Quantities.{amounts_of}
 use Rattle.result_lines.specs.declared.quantity.Quantity.{Quantity}
 use Rattle.result_lines.specs.declared.quantity.Quantity.TheVariants as quantity
 use Rattle.water_model.specs.declared.types.Basin.{Basin}
-use Rattle.water_model.specs.declared.types.Inflows.{Inflows}
+use Rattle.water_model.specs.declared.types.Series.{Series}
 use Rattle.water_model.specs.declared.types.MonthRecord.{MonthRecord}
 use Rattle.water_model.specs.declared.types.Reservoir as reservoir
 use Rattle.duality.proofs.Balance.{plan_balance}
@@ -34,7 +34,7 @@ all_small xs len h = All-from_get_or (λ x. x ≤ 10 ^ 15) xs 0 (λ k l. h k (om
 
 -- Reservoirs.
 
-closing_small : {b : Basin} {series : Inflows} {before : List MonthRecord} {m : MonthRecord} → IsValidBasin b →
+closing_small : {b : Basin} {series : Series} {before : List MonthRecord} {m : MonthRecord} → IsValidBasin b →
     IsSeriesOf b series → Follows b series before m → (v : ℕ) → v < length b.reservoirs →
     slice_index m.closing v ≤ 10 ^ 15
 closing_small {b} {series} {before} {m} valid fits f v l =
@@ -46,7 +46,7 @@ closing_small {b} {series} {before} {m} valid fits f v l =
           (λ r. slice_index m.plan.take r) (follows_small b series before m valid fits f).takes,
     )
 
-opening_small : {b : Basin} {series : Inflows} {before : List MonthRecord} → IsValidBasin b → IsSeriesOf b series →
+opening_small : {b : Basin} {series : Series} {before : List MonthRecord} → IsValidBasin b → IsSeriesOf b series →
     IsPartialHistory b series before → {v : ℕ} → v < length b.reservoirs →
     slice_index (opening_after b before) v ≤ 10 ^ 15
 opening_small {b} {series} {before} valid fits partial {v} l = by_last (slice_get before (length before - 1)) refl
@@ -75,7 +75,7 @@ opening_small {b} {series} {before} valid fits partial {v} l = by_last (slice_ge
 
 -- what a month supplies is small
 
-whole_supply : {b : Basin} {series : Inflows} {before : List MonthRecord} {m : MonthRecord} → IsValidBasin b →
+whole_supply : {b : Basin} {series : Series} {before : List MonthRecord} {m : MonthRecord} → IsValidBasin b →
     IsSeriesOf b series → IsPartialHistory b series before →
     Follows b series before m → total (length b.nodes) (λ n. slice_index m.supply n) ≤ 36 * 10 ^ 12
 whole_supply {b} {series} {before} {m} valid fits partial f =
@@ -86,7 +86,7 @@ whole_supply {b} {series} {before} {m} valid fits partial f =
     (λ n l. f.after.supply n l ∙ rw (f.after.returned n l, f.opening) refl) in
     omega (arith, small, same)
 
-pub history_amounts : {b : Basin} {series : Inflows} {before : List MonthRecord} {m : MonthRecord} → IsValidBasin b →
+pub history_amounts : {b : Basin} {series : Series} {before : List MonthRecord} {m : MonthRecord} → IsValidBasin b →
     IsSeriesOf b series → IsPartialHistory b series before →
     length before < b.months → Follows b series before m → HasTextAmounts m
 history_amounts {b} {series} {before} {m} valid fits partial left f = record {
@@ -144,7 +144,7 @@ history_amounts {b} {series} {before} {m} valid fits partial left f = record {
     listed quantity.Closing = all_small m.closing f.after.fits.closing (closing_small valid fits f)
 
 -- the records of a history are such as a text gives
-pub history_texts : {b : Basin} {series : Inflows} {records : List MonthRecord} → IsValidBasin b → IsSeriesOf b series →
+pub history_texts : {b : Basin} {series : Series} {records : List MonthRecord} → IsValidBasin b → IsSeriesOf b series →
     IsPartialHistory b series records → AreTextMonths b series records
 history_texts {b} {series} {records} valid fits h = record {
   within = h.within;

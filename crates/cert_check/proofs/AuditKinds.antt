@@ -5,7 +5,7 @@ use Rattle.std.specs.Prelude.{Some, Err, find, option_map}
 use Rattle.result_lines.specs.declared.item.Item.{Item}
 use Rattle.result_lines.specs.declared.quantity.Quantity.{Quantity}
 use Rattle.water_model.specs.declared.types.Basin.{Basin}
-use Rattle.water_model.specs.declared.types.Inflows.{Inflows}
+use Rattle.water_model.specs.declared.types.Series.{Series}
 use Rattle.result_reader.specs.ReadSoFar.{ReadSoFar}
 use Rattle.cert_check.specs.Checking.{Row, first_row, judge, kind_of}
 use Rattle.cert_check.specs.Checking.{own_rows, rows, verdict, verdict_at_end, verdict_from}
@@ -29,21 +29,21 @@ found_other ((own, false) ∷ xs) h e = found_other xs h.1 e
 other_kind : (q : Quantity) → kind_of q ≢ kind.NotReach
 other_kind q = grind arith
 
-own_others : (b : Basin) (series : Inflows) (t : ReadSoFar) (i : Item) → AreOthers (own_rows b series t i)
+own_others : (b : Basin) (series : Series) (t : ReadSoFar) (i : Item) → AreOthers (own_rows b series t i)
 own_others b series t i = grind (arith, other_kind)
 
-row_other : (b : Basin) (series : Inflows) (t : ReadSoFar) (i : Item) {k : RefutedKind} →
+row_other : (b : Basin) (series : Series) (t : ReadSoFar) (i : Item) {k : RefutedKind} →
     first_row b series t i ≡ Some k → k ≢ kind.NotReach
 unfolding first_row
 row_other b series t i h =
     found_other (rows b series t i) (λ e. cc, (λ e. cc, (λ e. cc, (λ e. cc, own_others b series t i)))) h
 
-judged_other : (b : Basin) (series : Inflows) (before : List Item) (bytes : List ℕ) {e : Refuted} →
+judged_other : (b : Basin) (series : Series) (before : List Item) (bytes : List ℕ) {e : Refuted} →
     judge b series before bytes ≡ Err e → e.kind ≢ kind.NotReach
 unfolding judge
 judged_other b series before bytes h = grind (arith, row_other)
 
-from_other : (b : Basin) (series : Inflows) (before : List Item) (lines : List (List ℕ)) {e : Refuted} →
+from_other : (b : Basin) (series : Series) (before : List Item) (lines : List (List ℕ)) {e : Refuted} →
     verdict_from b series before lines ≡ Err e → e.kind ≢ kind.NotReach
 from_other b series before [] h = cc
 from_other b series before (bytes ∷ lines) {e} h =
@@ -53,7 +53,7 @@ end_other : (rest : List ℕ) (items : List Item) (e : Refuted) → verdict_at_e
     e.kind ≢ kind.NotReach
 end_other rest items e h = grind arith
 
-verdict_other : (b : Basin) (series : Inflows) (lines : List (List ℕ)) (rest : List ℕ) {e : Refuted} →
+verdict_other : (b : Basin) (series : Series) (lines : List (List ℕ)) (rest : List ℕ) {e : Refuted} →
     verdict b series lines rest ≡ Err e → e.kind ≢ kind.NotReach
 verdict_other b series lines rest h = grind (arith, from_other, end_other)
 

@@ -8,7 +8,7 @@ use Rattle.water_model.specs.History.{IsHistory, HasReaches, HaveReaches}
 use Rattle.result_lines.specs.Text.{items_of, text_bytes}
 use Rattle.water_model.specs.Valid.{IsValidBasin, IsSeriesOf}
 use Rattle.water_model.specs.declared.types.Basin.{Basin}
-use Rattle.water_model.specs.declared.types.Inflows.{Inflows}
+use Rattle.water_model.specs.declared.types.Series.{Series}
 use Rattle.water_model.specs.declared.types.MonthRecord.{MonthRecord}
 use Rattle.water_model.proofs.Seniority.{senior_total}
 use Rattle.plan_residual.specs.Reaches.{IsFirstOther}
@@ -35,7 +35,7 @@ use Rattle.cert_check.proofs.Standings.{good_is}
 use Rattle.cert_check.proofs.Verdicts.{yes_says}
 
 -- a text that is accepted
-accepted_answer : (b : Basin) (series : Inflows) (text : List ℕ) (lines : List (List ℕ)) (rest : List ℕ)
+accepted_answer : (b : Basin) (series : Series) (text : List ℕ) (lines : List (List ℕ)) (rest : List ℕ)
     (items : List Item) (a : Audit) → IsValidBasin b → IsSeriesOf b series → pieces_of text ≡ lines ++ rest ∷ [] →
     verdict b series lines rest ≡ Ok items → IsAuditOf b (read_so_far b series items) items a →
     IsAuditAnswer b series text (audit_answer a.other b.months)
@@ -102,7 +102,7 @@ never_ok : {X : Type 0} (e : Refuted) → IsOk {T = ℕ} {E = Refuted} (Err e) �
 never_ok e h = clash h
 
 -- the records of one text are the same
-one_history : {b : Basin} {series : Inflows} {bytes : List ℕ} {records others : List MonthRecord} → IsValidBasin b →
+one_history : {b : Basin} {series : Series} {bytes : List ℕ} {records others : List MonthRecord} → IsValidBasin b →
     IsSeriesOf b series → IsHistory b series records → IsHistory b series others → bytes ≡ text_bytes b records →
     bytes ≡ text_bytes b others → records ≡ others
 one_history {b} {series} {bytes} {records} {others} valid fits h k e f =
@@ -117,7 +117,7 @@ not_reaches b m r first reaches =
     (sym (ap (λ (o : Option (List Bool)). unwrap_or o []) cut.1)) cut.2))
 
 -- a text of a history is not refuted by the verdict
-never_refuted : {X : Type 0} (b : Basin) (series : Inflows) (bytes : List ℕ) (records : List MonthRecord)
+never_refuted : {X : Type 0} (b : Basin) (series : Series) (bytes : List ℕ) (records : List MonthRecord)
     (e : Refuted) → IsValidBasin b → IsSeriesOf b series → IsHistory b series records → bytes ≡ text_bytes b records →
     text_verdict b series bytes ≡ Err e → X
 never_refuted b series bytes records e valid fits h text refuted =
@@ -125,7 +125,7 @@ never_refuted b series bytes records e valid fits h text refuted =
     (yes_exactly_for_histories b series bytes valid fits).1 (records, h, text) in
     clash (sym (ap is_ok refuted) ∙ accepts)
 
-other_unaudited : {X : Type 0} (b : Basin) (series : Inflows) (bytes : List ℕ) (e : Refuted) → IsValidBasin b →
+other_unaudited : {X : Type 0} (b : Basin) (series : Series) (bytes : List ℕ) (e : Refuted) → IsValidBasin b →
     IsSeriesOf b series → IsOtherText b series bytes e → IsAuditedText b series bytes → X
 other_unaudited b series bytes e valid fits o a =
     let same = one_history valid fits a.history o.history a.text o.text in
@@ -202,7 +202,7 @@ same_refusal line kind = rw (← line, ← kind) refl
 
 -- Two answers.
 
-one_error : (b : Basin) (series : Inflows) (bytes : List ℕ) {e f : Refuted} → text_verdict b series bytes ≡ Err e →
+one_error : (b : Basin) (series : Series) (bytes : List ℕ) {e f : Refuted} → text_verdict b series bytes ≡ Err e →
     text_verdict b series bytes ≡ Err f → e ≡ f
 one_error b series bytes one other = cc
 

@@ -16,7 +16,7 @@ use Rattle.result_lines.specs.declared.item.Item.{Item}
 use Rattle.result_lines.specs.declared.item.Item.TheVariants as line
 use Rattle.result_lines.specs.declared.quantity.Quantity.{Quantity}
 use Rattle.water_model.specs.declared.types.Basin.{Basin}
-use Rattle.water_model.specs.declared.types.Inflows.{Inflows}
+use Rattle.water_model.specs.declared.types.Series.{Series}
 use Rattle.water_model.specs.declared.types.MonthRecord.{MonthRecord}
 use Rattle.water_model.proofs.Histories.{at_end}
 use Rattle.water_model.proofs.Lists.{get_before, get_after}
@@ -80,7 +80,7 @@ never_some : {X : Type 0} {Y : Type 0} (o : Option X) → o ≡ None → IsSome 
 never_some None e h = cc
 never_some (Some x) e h = cc
 
-kept_free : {b : Basin} {series : Inflows} {a : CheckState} {t : ReadSoFar} → Keeps b series a t → {r : ℕ} →
+kept_free : {b : Basin} {series : Series} {a : CheckState} {t : ReadSoFar} → Keeps b series a t → {r : ℕ} →
     cut_of t.now r ≡ None → IsFree r t
 kept_free {b} {series} {a} {t} k {r} none = record {
   none = none;
@@ -115,7 +115,7 @@ calm_more {b} {t} {u} {items} {item} {a} calm h = record {
 }
 
 -- a `month` line
-begun_more : {b : Basin} (series : Inflows) {t : ReadSoFar} {items : List Item} {a : Audit}
+begun_more : {b : Basin} (series : Series) {t : ReadSoFar} {items : List Item} {a : Audit}
     {u : ReadSoFar} (item : Item) → u.months ≡ t.months → is_end item ≡ false → ((r : ℕ) → cut_of u.now r ≡ None) →
     IsAuditOf b t items a → IsAuditOf b u (items ++ item ∷ []) a
 begun_more {b} series {t} {items} {a} {u} item months no_end none h = record {
@@ -127,7 +127,7 @@ begun_more {b} series {t} {items} {a} {u} item months no_end none h = record {
 }
 
 -- a `call` line
-call_more : {b : Basin} (series : Inflows) {t : ReadSoFar} {items : List Item} {x : ℕ} {a : Audit} →
+call_more : {b : Basin} (series : Series) {t : ReadSoFar} {items : List Item} {x : ℕ} {a : Audit} →
     x < length b.rights → IsAuditOf b t items a →
     IsAuditOf b (read_item b series t (line.Call x)) (items ++ line.Call x ∷ [])
     (record a { call_lines = slice_set a.call_lines x (length items + 1) })
@@ -160,7 +160,7 @@ call_more {b} series {t} {items} {x} {a} l h = record {
 
 -- An `end` line.
 
-has_reaches : {b : Basin} {series : Inflows} {before : List MonthRecord} {m : MonthRecord} → Follows b series before m →
+has_reaches : {b : Basin} {series : Series} {before : List MonthRecord} {m : MonthRecord} → Follows b series before m →
     IsFirstOther b m None → HasReaches b m
 has_reaches {b} {series} {before} {m} f none = record {
   short = λ r l short. (let cut = f.short r l short in (
@@ -179,7 +179,7 @@ reaches_more {b} months {m} h own i k e = elim (at_end months m k i e) [
   | inr last ↦ subst (HasReaches b) last.1 own
 ]
 
-first_here : {b : Basin} {series : Inflows} (t : ReadSoFar) {items : List Item} (lines : List ℕ) {r : ℕ} →
+first_here : {b : Basin} {series : Series} (t : ReadSoFar) {items : List Item} (lines : List ℕ) {r : ℕ} →
     t.now.index ≡ length t.months → HasCallLines t items lines → HaveReaches b t.months → MonthFollows b series t →
     IsFirstOther b (with_supply b series t.now) (Some r) →
     IsFirstOtherLine b (t.months ++ with_supply b series t.now ∷ []) (items ++ line.End ∷ []) (slice_index lines r)
@@ -200,7 +200,7 @@ first_here {b} {series} t {items} lines {r} index has reaches follows first =
     some_of None set e = cc
     some_of (Some s) set e = refl
 
-end_found : {b : Basin} (series : Inflows) (t : ReadSoFar) (items : List Item) (lines : List ℕ) (old new : Option ℕ) →
+end_found : {b : Basin} (series : Series) (t : ReadSoFar) (items : List Item) (lines : List ℕ) (old new : Option ℕ) →
     t.now.index ≡ length t.months → HasCallLines t items lines → IsFound b t.months items old →
     MonthFollows b series t → IsAsked b (with_supply b series t.now) lines old new →
     IsFound b (t.months ++ with_supply b series t.now ∷ []) (items ++ line.End ∷ []) new
@@ -214,7 +214,7 @@ end_found {b} series t items lines None new index has found follows (Some r, fir
     subst (IsFound b (t.months ++ with_supply b series t.now ∷ []) (items ++ line.End ∷ [])) (sym is)
     (first_here t lines index has found follows first)
 
-end_more : {b : Basin} {series : Inflows} {t : ReadSoFar} {items : List Item} {old new : Audit} →
+end_more : {b : Basin} {series : Series} {t : ReadSoFar} {items : List Item} {old new : Audit} →
     t.now.index ≡ length t.months → MonthFollows b series t → AsksMonth b (with_supply b series t.now) old new →
     IsAuditOf b t items old → IsAuditOf b (read_item b series t line.End) (items ++ line.End ∷ []) new
 end_more {b} {series} {t} {items} {old} {new} index follows asks h = record {
@@ -231,7 +231,7 @@ end_more {b} {series} {t} {items} {old} {new} index follows asks h = record {
 
 -- Any line.
 
-calm_amount : (b : Basin) (series : Inflows) (t : ReadSoFar) (q : Quantity) (entry amount : ℕ) →
+calm_amount : (b : Basin) (series : Series) (t : ReadSoFar) (q : Quantity) (entry amount : ℕ) →
     (read_item b series t (line.Amount q entry amount)).now.index ≡ t.now.index
 calm_amount b series t q entry amount = grind arith
 
@@ -239,7 +239,7 @@ member_calm : (t : ReadSoFar) (o : Option ℕ) (n : ℕ) → ((with_member t o n
     ((with_member t o n).now.index ≡ t.now.index)
 member_calm t o n = grind arith
 
-pub audit_more : {b : Basin} {series : Inflows} {a : CheckState} {t : ReadSoFar} {items : List Item} (item : Item)
+pub audit_more : {b : Basin} {series : Series} {a : CheckState} {t : ReadSoFar} {items : List Item} (item : Item)
     {old new : Audit} → IsOfBasin b item → Keeps b series a t → MayCome b series t item → IsAuditOf b t items old →
     (item ≡ line.End → MonthFollows b series t) → TakesAudit b series t item (length items + 1) old new →
     IsAuditOf b (read_item b series t item) (items ++ item ∷ []) new
@@ -286,7 +286,7 @@ audit_more {b} {series} {a} {t} {items} (line.Done months) own k comes h ends ta
     (record { months = refl; index = refl; sets = λ r none. none; no_end = refl }) h)
 
 -- a line that was read, where no row holds of it
-pub audit_taken : {b : Basin} {series : Inflows} {k : CheckProgress} {items : List Item} {item : Item} {old new : Audit}
+pub audit_taken : {b : Basin} {series : Series} {k : CheckProgress} {items : List Item} {item : Item} {old new : Audit}
     → IsOfBasin b item → IsRead b series k items item → first_row b series (read_so_far b series items) item ≡ None →
     k.audit ≡ Some old → TakesAudit b series (read_so_far b series items) item (k.read + 1) old new →
     IsAuditOf b (read_so_far b series (items ++ item ∷ [])) (items ++ item ∷ []) new

@@ -10,7 +10,7 @@ use Rattle.std.proofs.lemmas.List.Elements.{filter-append}
 use Rattle.water_model.proofs.Lists.{numbers_more}
 use Rattle.water_model.specs.Indices.{numbers_from}
 use Rattle.water_model.specs.declared.types.Basin.{Basin}
-use Rattle.water_model.specs.declared.types.Inflows.{Inflows}
+use Rattle.water_model.specs.declared.types.Series.{Series}
 use Rattle.result_reader.specs.Standing as reader
 use Rattle.result_reader.specs.ReadSoFar.{nothing_read}
 use Rattle.cert_check.specs.Auditing.{IsAuditIfAny}
@@ -50,7 +50,7 @@ most_more true l = omega arith
 most_more false l = omega arith
 
 -- check progress of no line
-pub first_book : {b : Basin} {series : Inflows} {k : CheckProgress} → k.reader.basin ≡ b →
+pub first_book : {b : Basin} {series : Series} {k : CheckProgress} → k.reader.basin ≡ b →
     reader.ReaderStandsFor k.reader [] → Keeps b series k.state.value (nothing_read b) → k.read ≡ 0 → k.last_other ≡ 0 →
     k.ended ≡ false → IsAuditIfAny b (nothing_read b) [] k.audit → IsProgressOf b series k []
 first_book basin stands state read last ended audit = grind (arith, nat_tests)

@@ -9,7 +9,7 @@ use Rattle.water_model.specs.History.{IsPartialHistory, opening_after}
 use Rattle.water_model.specs.Hydrology.{inflow_at, returned_at, stored_at}
 use Rattle.water_model.specs.Valid.{IsValidBasin, IsSeriesOf}
 use Rattle.water_model.specs.declared.types.Basin.{Basin}
-use Rattle.water_model.specs.declared.types.Inflows.{Inflows}
+use Rattle.water_model.specs.declared.types.Series.{Series}
 use Rattle.water_model.specs.declared.types.MonthRecord.{MonthRecord}
 use Rattle.month_terms.proofs.Amounts.{supply_small}
 use Rattle.result_reader.specs.ReadSoFar.{ReadSoFar, with_supply}
@@ -20,13 +20,13 @@ use Rattle.water_model.specs.Indices.{indices_of}
 use Rattle.water_model.proofs.Order.{length-numbers_from}
 use Rattle.cert_check.proofs.Follows.{map_at}
 
-pub length-supply : (b : Basin) (series : Inflows) (m : MonthRecord) →
+pub length-supply : (b : Basin) (series : Series) (m : MonthRecord) →
     length (with_supply b series m).supply ≡ length b.nodes
 length-supply b series m = length-map (indices_of b.nodes)
     (λ n. inflow_at b series n m.index + slice_index m.returned n + stored_at b m.opening m.evaporated n)
     ∙ length-numbers_from 0 (length b.nodes)
 
-pub supply_at : (b : Basin) (series : Inflows) (m : MonthRecord) {n : ℕ} → n < length b.nodes →
+pub supply_at : (b : Basin) (series : Series) (m : MonthRecord) {n : ℕ} → n < length b.nodes →
     slice_index (with_supply b series m).supply n ≡ inflow_at b series n m.index + slice_index m.returned n + stored_at
     b m.opening m.evaporated n
 supply_at b series m {n} l =
@@ -38,7 +38,7 @@ supply_at b series m {n} l =
     zero_more : (n : ℕ) → 0 + n ≡ n
     zero_more n = omega arith
 
-pub supply_is : (b : Basin) (series : Inflows) (m : MonthRecord) {supply : List ℕ} → length supply ≡ length b.nodes →
+pub supply_is : (b : Basin) (series : Series) (m : MonthRecord) {supply : List ℕ} → length supply ≡ length b.nodes →
     ((n : ℕ) → n < length b.nodes → slice_index supply n ≡ inflow_at b series n m.index + slice_index m.returned n +
     stored_at b m.opening m.evaporated n) → supply ≡ (with_supply b series m).supply
 supply_is b series m {supply} len each = grind (arith, same_number_lists, with_supply, length-supply, supply_at)
@@ -56,7 +56,7 @@ stored_most b opening opens evaporated n h =
     less : (x y z : ℕ) → x ≤ z → x - y ≤ z - 0
     less x y z k = omega arith
 
-pub read_small : {b : Basin} {series : Inflows} {t : ReadSoFar} → IsValidBasin b → IsSeriesOf b series →
+pub read_small : {b : Basin} {series : Series} {t : ReadSoFar} → IsValidBasin b → IsSeriesOf b series →
     IsPartialHistory b series t.months → IsWithinMonth b series t → total (length b.nodes)
     (λ n. inflow_at b series n t.now.index + slice_index t.now.returned n + stored_at b t.now.opening
     t.now.evaporated n) ≤ 36 * 10 ^ 12
@@ -87,14 +87,14 @@ read_small {b} {series} {t} valid fits partial way =
         )
 
 -- so is what a record shows
-pub shown_small : {b : Basin} {series : Inflows} {m : MonthRecord} {t : ReadSoFar} → IsValidBasin b →
+pub shown_small : {b : Basin} {series : Series} {m : MonthRecord} {t : ReadSoFar} → IsValidBasin b →
     IsSeriesOf b series → IsPartialHistory b series t.months → IsWithinMonth b series t → Shows m t.now →
     total (length b.nodes)
     (λ n. inflow_at b series n m.index + slice_index m.returned n + stored_at b m.opening m.evaporated n) ≤ 36 * 10 ^ 12
 shown_small valid fits partial way s =
     rw (s.index, s.returned, s.opening, s.evaporated) (read_small valid fits partial way)
 
-pub node_small : {b : Basin} {series : Inflows} {m : MonthRecord} {t : ReadSoFar} {n : ℕ} → IsValidBasin b →
+pub node_small : {b : Basin} {series : Series} {m : MonthRecord} {t : ReadSoFar} {n : ℕ} → IsValidBasin b →
     IsSeriesOf b series → IsPartialHistory b series t.months → IsWithinMonth b series t → Shows m t.now →
     n < length b.nodes →
     inflow_at b series n m.index + slice_index m.returned n + stored_at b m.opening m.evaporated n ≤ 36 * 10 ^ 12
@@ -105,7 +105,7 @@ node_small {b} {series} {m} {t} {n} valid fits partial way s l =
     omega (arith, one, shown_small valid fits partial way s)
 
 -- the supply that was read
-pub supplies_small : {b : Basin} {series : Inflows} {t : ReadSoFar} {supply : List ℕ} → IsValidBasin b →
+pub supplies_small : {b : Basin} {series : Series} {t : ReadSoFar} {supply : List ℕ} → IsValidBasin b →
     IsSeriesOf b series → IsPartialHistory b series t.months → IsWithinMonth b series t →
     supply ≡ (with_supply b series t.now).supply → total (length b.nodes) (λ n. slice_index supply n) ≤ 36 * 10 ^ 12
 supplies_small {b} {series} {t} {supply} valid fits partial way is =

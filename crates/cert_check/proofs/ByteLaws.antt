@@ -12,7 +12,7 @@ use Rattle.water_model.specs.Valid.{IsValidBasin, IsSeriesOf}
 use Rattle.result_lines.specs.declared.item.Item.{Item}
 use Rattle.result_lines.specs.declared.item.Item.TheVariants as line
 use Rattle.water_model.specs.declared.types.Basin.{Basin}
-use Rattle.water_model.specs.declared.types.Inflows.{Inflows}
+use Rattle.water_model.specs.declared.types.Series.{Series}
 use Rattle.water_model.specs.declared.types.MonthRecord.{MonthRecord}
 use Rattle.result_reader.proofs.OfTexts.{records_of_text}
 use Rattle.result_reader.proofs.OneReading.{lines_of_bytes}
@@ -27,12 +27,12 @@ use Rattle.cert_check.proofs.TextVerdicts.{after_last-end, long_rest, short_rest
 use Rattle.cert_check.proofs.RunSound.{yes_gives_history}
 
 -- the bytes are those of the text of a history
-abbrev AreOfHistory : Basin → Inflows → List ℕ → Type 0
+abbrev AreOfHistory : Basin → Series → List ℕ → Type 0
 AreOfHistory b series bytes = (records : List MonthRecord) × IsHistory b series records × (bytes ≡ text_bytes b records)
 
 -- The text of a history is accepted.
 
-accepted : {b : Basin} {series : Inflows} {bytes : List ℕ} → IsValidBasin b → IsSeriesOf b series →
+accepted : {b : Basin} {series : Series} {bytes : List ℕ} → IsValidBasin b → IsSeriesOf b series →
     AreOfHistory b series bytes → IsOk (text_verdict b series bytes)
 accepted {b} {series} {bytes} valid fits h =
     let items = items_of b h.0 in
@@ -92,7 +92,7 @@ some_end : (pieces : List (List ℕ)) → 0 < length pieces → HasEnd pieces
 some_end [] h = absurd (omega arith)
 some_end (piece ∷ pieces) h = end_of piece pieces
 
-of_history : {b : Basin} {series : Inflows} {bytes : List ℕ} → IsValidBasin b → IsOk (text_verdict b series bytes) →
+of_history : {b : Basin} {series : Series} {bytes : List ℕ} → IsValidBasin b → IsOk (text_verdict b series bytes) →
     AreOfHistory b series bytes
 of_history {b} {series} {bytes} valid h =
     by_rest (some_end (pieces_of bytes) (omega (arith, length-slice_split (λ byte. byte == 10) bytes)))

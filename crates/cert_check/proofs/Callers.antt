@@ -12,7 +12,7 @@ use Rattle.result_lines.specs.declared.item.Item.{Item}
 use Rattle.result_lines.specs.declared.item.Item.TheVariants as line
 use Rattle.result_lines.specs.declared.quantity.Quantity.TheVariants as quantity
 use Rattle.water_model.specs.declared.types.Basin.{Basin}
-use Rattle.water_model.specs.declared.types.Inflows.{Inflows}
+use Rattle.water_model.specs.declared.types.Series.{Series}
 use Rattle.water_model.specs.declared.types.MonthRecord.{MonthRecord}
 use Rattle.result_reader.specs.ReadSoFar.{ReadSoFar, read_item}
 use Rattle.cut_cert.specs.Callers.{is_short}
@@ -35,12 +35,12 @@ called_lines f [] = refl
 called_lines f (x ∷ xs) = grind (arith, called_lines f xs)
 
 -- each short right has its set, and the open one is settled
-pub record AllCalled (b : Basin) (series : Inflows) (t : ReadSoFar) : Type 0 where
+pub record AllCalled (b : Basin) (series : Series) (t : ReadSoFar) : Type 0 where
   pub settled : IsSettled b series t
   pub none_left : (r : ℕ) → r < length b.rights → is_short t.now r ≡ true → cut_of t.now r ≡ None → ⊥
 
 -- the number of `called` lines so far, of those that are due
-pub record Callers (b : Basin) (series : Inflows) (dues before : List (ℕ × ℕ)) (t : ReadSoFar) : Type 0 where
+pub record Callers (b : Basin) (series : Series) (dues before : List (ℕ × ℕ)) (t : ReadSoFar) : Type 0 where
   pub all : AllCalled b series t
   pub due : callers_due b t.now ≡ dues
   pub count : t.called ≡ length before
@@ -56,7 +56,7 @@ pub at_length : (before : List (ℕ × ℕ)) (due : ℕ × ℕ) (others : List (
 at_length [] due others = refl
 at_length (x ∷ before) due others = at_length before due others
 
-pub called_good : {b : Basin} {series : Inflows} {dues : List (ℕ × ℕ)} (others : List (ℕ × ℕ)) {before : List (ℕ × ℕ)}
+pub called_good : {b : Basin} {series : Series} {dues : List (ℕ × ℕ)} (others : List (ℕ × ℕ)) {before : List (ℕ × ℕ)}
     {t : ReadSoFar} → Callers b series dues before t → dues ≡ before ++ others →
     AreGood b series t (map called_line others) × Callers b series dues dues
     (fold (read_item b series) t (map called_line others))
@@ -90,11 +90,11 @@ not_less : (n : ℕ) → nat_lt n n ≡ false
 not_less n = grind (arith, nat_tests)
 
 -- what stays after them
-pub record After (b : Basin) (series : Inflows) (dues : List (ℕ × ℕ)) (take : List ℕ) (t : ReadSoFar) : Type 0 where
+pub record After (b : Basin) (series : Series) (dues : List (ℕ × ℕ)) (take : List ℕ) (t : ReadSoFar) : Type 0 where
   pub callers : Callers b series dues dues t
   pub take_is : t.now.plan.take ≡ take
 
-pub closings : (b : Basin) (series : Inflows) (dues : List (ℕ × ℕ)) (take : List ℕ) (a : ℕ → ℕ) →
+pub closings : (b : Basin) (series : Series) (dues : List (ℕ × ℕ)) (take : List ℕ) (a : ℕ → ℕ) →
     Section b series (After b series dues take)
     (λ x. a x ≡ total_where (length b.rights) (λ r. is_zone_of b r x) (λ r. slice_index take r))
     (λ x. line.Amount quantity.Closing x (a x))
@@ -113,14 +113,14 @@ closings b series dues take a = record {
   };
 }
 
-pub end_good : {b : Basin} {series : Inflows} {dues : List (ℕ × ℕ)} {t : ReadSoFar} → Callers b series dues dues t →
+pub end_good : {b : Basin} {series : Series} {dues : List (ℕ × ℕ)} {t : ReadSoFar} → Callers b series dues dues t →
     NoneHolds (rows b series t line.End)
 end_good {b} {series} {dues} {t} c = grind (arith, nat_tests, loose_fails, settled, missing_fails, not_less)
 
 -- The converse.
 
 -- `called` lines that are not refuted are those that are due
-pub record AreCalled (b : Basin) (series : Inflows) (others rest : List (ℕ × ℕ)) (t : ReadSoFar) : Type 0 where
+pub record AreCalled (b : Basin) (series : Series) (others rest : List (ℕ × ℕ)) (t : ReadSoFar) : Type 0 where
   pub more : List (ℕ × ℕ)
   pub are : rest ≡ others ++ more
   pub called : (fold (read_item b series) t (map called_line others)).called ≡ t.called + length others
@@ -140,7 +140,7 @@ due_at [] (x ∷ rest) {r} {c} h = (rest, ap (λ y. y ∷ rest) (pair x (both (x
     pair (i, j) k = rw (eqb-true i r k.0, eqb-true j c k.1) refl
 due_at (x ∷ before) rest {r} {c} h = due_at before rest h
 
-pub called_read : {b : Basin} {series : Inflows} (others : List (ℕ × ℕ)) {rest : List (ℕ × ℕ)} (before : List (ℕ × ℕ))
+pub called_read : {b : Basin} {series : Series} (others : List (ℕ × ℕ)) {rest : List (ℕ × ℕ)} (before : List (ℕ × ℕ))
     {t : ReadSoFar} → AreGood b series t (map called_line others) → callers_due b t.now ≡ before ++ rest →
     t.called ≡ length before → AreCalled b series others rest t
 called_read {b} {series} [] {rest} before g is count =
@@ -159,23 +159,23 @@ called_read {b} {series} ((r, c) ∷ xs) {rest} before {t} g is count =
     }
 
 -- the open set is settled by the first `called` line, or after them
-pub settled_called : (b : Basin) (series : Inflows) (others : List (ℕ × ℕ)) (t : ReadSoFar) →
+pub settled_called : (b : Basin) (series : Series) (others : List (ℕ × ℕ)) (t : ReadSoFar) →
     AreGood b series t (map called_line others) →
     IsSettled b series (fold (read_item b series) t (map called_line others)) → IsSettled b series t
 settled_called b series [] t g h = h
 settled_called b series (x ∷ xs) t g h = settled b series t (called_line x) refl g.0.0
 
 -- what a line after the calls says
-pub record IsPast (b : Basin) (series : Inflows) (t : ReadSoFar) : Type 0 where
+pub record IsPast (b : Basin) (series : Series) (t : ReadSoFar) : Type 0 where
   pub all : AllCalled b series t
   pub count : length (callers_due b t.now) ≤ t.called
 
 at_most : {n k : ℕ} → nat_lt k n ≡ false → n ≤ k
 at_most h = grind (arith, nat_tests)
 
-pub closing_past : {b : Basin} {series : Inflows} {t : ReadSoFar} (v amount : ℕ) →
+pub closing_past : {b : Basin} {series : Series} {t : ReadSoFar} (v amount : ℕ) →
     NoneHolds (rows b series t (line.Amount quantity.Closing v amount)) → IsPast b series t
 closing_past {b} {series} {t} v amount n = grind (arith, nat_tests, settled, none_missing, at_most)
 
-pub end_past : {b : Basin} {series : Inflows} {t : ReadSoFar} → NoneHolds (rows b series t line.End) → IsPast b series t
+pub end_past : {b : Basin} {series : Series} {t : ReadSoFar} → NoneHolds (rows b series t line.End) → IsPast b series t
 end_past {b} {series} {t} n = grind (arith, nat_tests, settled, none_missing, at_most)

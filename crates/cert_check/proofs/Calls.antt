@@ -13,7 +13,7 @@ use Rattle.result_lines.specs.Text.{call_items}
 use Rattle.result_lines.specs.declared.item.Item.{Item}
 use Rattle.result_lines.specs.declared.item.Item.TheVariants as line
 use Rattle.water_model.specs.declared.types.Basin.{Basin}
-use Rattle.water_model.specs.declared.types.Inflows.{Inflows}
+use Rattle.water_model.specs.declared.types.Series.{Series}
 use Rattle.water_model.specs.declared.types.MonthRecord.{MonthRecord}
 use Rattle.water_model.proofs.Seniority.{not_senior_to_itself, senior_trans}
 use Rattle.water_model.proofs.Order.{Has, IsOrdered, numbers_from-has, numbers_from-below}
@@ -29,7 +29,7 @@ pub clash : {X : Type 0} → true ≡ false → X
 clash h = cc
 
 -- what does not change by `call`, `in` and `called` lines
-pub record Sees (b : Basin) (series : Inflows) (m : MonthRecord) (now : MonthRecord) : Type 0 where
+pub record Sees (b : Basin) (series : Series) (m : MonthRecord) (now : MonthRecord) : Type 0 where
   pub month : now.month ≡ m.month
   pub delivered : now.delivered ≡ m.delivered
   pub want : now.want ≡ m.want
@@ -37,23 +37,23 @@ pub record Sees (b : Basin) (series : Inflows) (m : MonthRecord) (now : MonthRec
   pub sets : length now.cuts.sets ≡ length b.rights
 
 -- the set is a tight cut, by what was read
-pub read_tight : {b : Basin} {series : Inflows} {m now : MonthRecord} (r : ℕ) {set : List Bool} → Sees b series m now →
+pub read_tight : {b : Basin} {series : Series} {m now : MonthRecord} (r : ℕ) {set : List Bool} → Sees b series m now →
     cut_of now r ≡ Some set → has_tight b (with_supply b series now) r ≡ is_tight b m r set
 read_tight r s e = rw (e, s.supply, s.month, s.delivered) refl
 
-pub read_short : {b : Basin} {series : Inflows} {m now : MonthRecord} (r : ℕ) → Sees b series m now →
+pub read_short : {b : Basin} {series : Series} {m now : MonthRecord} (r : ℕ) → Sees b series m now →
     is_short now r ≡ is_short m r
 read_short r s = rw (s.delivered, s.want) refl
 
 -- the set of the open call is a tight cut
-abbrev pub IsSettled : Basin → Inflows → ReadSoFar → Type 0
+abbrev pub IsSettled : Basin → Series → ReadSoFar → Type 0
 IsSettled b series t = (r : ℕ) → t.calling ≡ Some r → has_tight b (with_supply b series t.now) r ≡ true
 
-pub loose_fails : (b : Basin) (series : Inflows) (t : ReadSoFar) (i : Item) → IsSettled b series t →
+pub loose_fails : (b : Basin) (series : Series) (t : ReadSoFar) (i : Item) → IsSettled b series t →
     not (is_member i) && option_map_or (λ r. not (has_tight b (with_supply b series t.now) r)) t.calling false ≡ false
 loose_fails b series t i h = grind arith
 
-pub settled : (b : Basin) (series : Inflows) (t : ReadSoFar) (i : Item) → is_member i ≡ false →
+pub settled : (b : Basin) (series : Series) (t : ReadSoFar) (i : Item) → is_member i ≡ false →
     not (is_member i) && option_map_or (λ r. not (has_tight b (with_supply b series t.now) r)) t.calling false ≡ false →
     IsSettled b series t
 settled b series t i other h r e = not-false (has_tight b (with_supply b series t.now) r) (rw (other, e) at h)
@@ -73,14 +73,14 @@ none_missing b t i h {r} l short passed = (let fails =
 
 -- A right's call.
 
-call_good : (b : Basin) (series : Inflows) (t : ReadSoFar) (r : ℕ) → IsSettled b series t → is_short t.now r ≡ true →
+call_good : (b : Basin) (series : Series) (t : ReadSoFar) (r : ℕ) → IsSettled b series t → is_short t.now r ≡ true →
     ((s : ℕ) → s < length b.rights → is_short t.now s ≡ true → cut_of t.now s ≡ None → is_senior b s r ≡ true → ⊥) →
     NoneHolds (rows b series t (line.Call r))
 call_good b series t r settled short passed =
     (loose_fails b series t (line.Call r) settled, (missing_fails b t (line.Call r) passed, (ap not short, (refl, tt))))
 
 -- what stays from call to call: the sets of the rights that had their turn
-pub record Calling (b : Basin) (series : Inflows) (m : MonthRecord) (xs : List ℕ) (t : ReadSoFar) : Type 0 where
+pub record Calling (b : Basin) (series : Series) (m : MonthRecord) (xs : List ℕ) (t : ReadSoFar) : Type 0 where
   pub sees : Sees b series m t.now
   pub settled : IsSettled b series t
   pub sets : (r : ℕ) → r < length b.rights → (Has xs r → ⊥) → cut_of t.now r ≡ cut_of m r
@@ -94,14 +94,14 @@ pub record HasRightSets (b : Basin) (m : MonthRecord) : Type 0 where
   pub met : (r : ℕ) → r < length b.rights → is_short m r ≡ false → cut_of m r ≡ None
 
 -- what was read after a right's call
-pub sees_more : {b : Basin} {series : Inflows} {m : MonthRecord} (t : ReadSoFar) (r : ℕ) (set : List Bool) →
+pub sees_more : {b : Basin} {series : Series} {m : MonthRecord} (t : ReadSoFar) (r : ℕ) (set : List Bool) →
     Sees b series m t.now → Sees b series m (put_cut t r set).now
 sees_more t r set s = assumption (length-set t.now.cuts.sets r (Some set) ∙ s.sets)
 
 abbrev pub after_call : ReadSoFar → ℕ → List Bool → ReadSoFar
 after_call t r set = record (put_cut t r set) { calling = Some r }
 
-calling_more : {b : Basin} {series : Inflows} {m : MonthRecord} {r : ℕ} {rs : List ℕ} {set : List Bool} {t : ReadSoFar}
+calling_more : {b : Basin} {series : Series} {m : MonthRecord} {r : ℕ} {rs : List ℕ} {set : List Bool} {t : ReadSoFar}
     → r < length b.rights → (Has rs r → ⊥) → cut_of m r ≡ Some set → is_tight b m r set ≡ true →
     Calling b series m (r ∷ rs) t → Calling b series m rs (after_call t r set)
 calling_more {b} {series} {m} {r} {rs} {set} {t} l once e tight c = record {
@@ -134,7 +134,7 @@ pub once_in_order : (b : Basin) (r : ℕ) (rs : List ℕ) → IsOrdered b.rights
 once_in_order b r rs o h = clash (sym (o.0 r h) ∙ not_senior_to_itself b r)
 
 -- the `call` lines of right sets are not refuted
-pub calls_good : (b : Basin) (series : Inflows) (m : MonthRecord) → HasRightSets b m → (xs : List ℕ) →
+pub calls_good : (b : Basin) (series : Series) (m : MonthRecord) → HasRightSets b m → (xs : List ℕ) →
     IsOrdered b.rights xs → ((r : ℕ) → Has xs r → r < length b.rights) → (t : ReadSoFar) → Calling b series m xs t →
     AreGood b series t (flat_map (λ r. call_items r (cut_of m r)) xs) ×
     Calling b series m [] (fold (read_item b series) t (flat_map (λ r. call_items r (cut_of m r)) xs))
@@ -208,7 +208,7 @@ calls_good b series m right (r ∷ rs) o below t c =
 -- The converse: what `call` lines say that are not refuted.
 
 -- the set that is open before some calls is settled by the first of them, or after them
-settled_before : (b : Basin) (series : Inflows) (cut : ℕ → Option (List Bool)) (xs : List ℕ) (t : ReadSoFar) →
+settled_before : (b : Basin) (series : Series) (cut : ℕ → Option (List Bool)) (xs : List ℕ) (t : ReadSoFar) →
     AreGood b series t (flat_map (λ r. call_items r (cut r)) xs) →
     IsSettled b series (fold (read_item b series) t (flat_map (λ r. call_items r (cut r)) xs)) → IsSettled b series t
 settled_before b series cut [] t g h = h
@@ -222,7 +222,7 @@ settled_before b series cut (r ∷ rs) t g h = by_set (cut r) (settled_before b 
     by_set None further g h = further g h
     by_set (Some set) further g h = settled b series t (line.Call r) refl g.0.0
 
-pub calls_read : {b : Basin} {series : Inflows} {m : MonthRecord} →
+pub calls_read : {b : Basin} {series : Series} {m : MonthRecord} →
     ((r : ℕ) (set : List Bool) → cut_of m r ≡ Some set → length set ≡ length b.nodes) →
     (xs : List ℕ) → ((r : ℕ) → Has xs r → r < length b.rights) → (t : ReadSoFar) → Sees b series m t.now →
     AreGood b series t (flat_map (λ r. call_items r (cut_of m r)) xs) →

@@ -17,7 +17,7 @@ use Rattle.result_lines.specs.declared.item.Item.{Item}
 use Rattle.result_lines.specs.declared.item.Item.TheVariants as line
 use Rattle.result_lines.specs.declared.quantity.Quantity.{Quantity}
 use Rattle.water_model.specs.declared.types.Basin.{Basin}
-use Rattle.water_model.specs.declared.types.Inflows.{Inflows}
+use Rattle.water_model.specs.declared.types.Series.{Series}
 use Rattle.result_reader.specs.ReadSoFar.{ReadSoFar, read_item, with_supply}
 use Rattle.cert_check.specs.Checking.{first_row, is_due, callers_due}
 use Rattle.cert_check.specs.Keeping.{AreAnswered, AreLeft, Keeps, callers_of, is_supplied}
@@ -31,7 +31,7 @@ use Rattle.cert_check.proofs.Rows.{good_row}
 use Rattle.water_model.proofs.Histories.{opens_with_last}
 
 -- the line of an amount
-pub keeps_amount : {b : Basin} {series : Inflows} {a : CheckState} {t : ReadSoFar} (q : Quantity) (x amount : ℕ) →
+pub keeps_amount : {b : Basin} {series : Series} {a : CheckState} {t : ReadSoFar} (q : Quantity) (x amount : ℕ) →
     Keeps b series a t → Keeps b series (record a {
       month = with_amount q x amount a.month;
       calling = None;
@@ -57,7 +57,7 @@ keeps_amount {b} {series} {a} {t} q x amount k = record {
     so_far = stays q x amount t.now
 
 -- a `deliver` line, before the `called` lines
-pub keeps_delivery : {b : Basin} {series : Inflows} {a : CheckState} {t : ReadSoFar} (x amount want : ℕ) →
+pub keeps_delivery : {b : Basin} {series : Series} {a : CheckState} {t : ReadSoFar} (x amount want : ℕ) →
     t.called ≡ 0 → Keeps b series a t → Keeps b series (record a {
       month = record a.month {
         delivered = slice_set a.month.delivered x amount;
@@ -92,7 +92,7 @@ keeps_delivery {b} {series} {a} x amount want none k = record {
     taken = if is_some (taking_node b x) then amount else 0
 
 -- a `month` line
-pub keeps_month : {b : Basin} {series : Inflows} {a : CheckState} {t : ReadSoFar} {month : Month} → IsMonth month →
+pub keeps_month : {b : Basin} {series : Series} {a : CheckState} {t : ReadSoFar} {month : Month} → IsMonth month →
     Keeps b series a t → Keeps b series (record a {
       month = blank_month b a.done month;
       calling = None;
@@ -115,20 +115,20 @@ keeps_month {b} calendar k = record {
 }
 
 -- a `called` line, with the number of rights whose callers were read
-pub keeps_called : {b : Basin} {series : Inflows} {a : CheckState} {t : ReadSoFar} (x caller : ℕ) {next : ℕ} →
+pub keeps_called : {b : Basin} {series : Series} {a : CheckState} {t : ReadSoFar} (x caller : ℕ) {next : ℕ} →
     AreAnswered b t.now next (t.called + 1) → Keeps b series a t →
     Keeps b series (record a { calling = None; answered = next }) (read_item b series t (line.Called x caller))
 keeps_called {b} {series} {a} x caller answered k = assumption (nobody b a.month.cuts)
 
 -- the deliveries of one more month
-delivered_more : {b : Basin} {series : Inflows} {a : CheckState} {t : ReadSoFar} → Keeps b series a t →
+delivered_more : {b : Basin} {series : Series} {a : CheckState} {t : ReadSoFar} → Keeps b series a t →
     map (λ m. m.delivered) (t.months ++ with_supply b series t.now ∷ []) ≡ map (λ m. m.delivered)
     t.months ++ a.month.delivered ∷ []
 delivered_more {b} {series} {a} {t} k = map-append (λ m. m.delivered) t.months (with_supply b series t.now ∷ [])
     ∙ ap (λ xs. map (λ m. m.delivered) t.months ++ xs ∷ []) (sym k.month.shows.delivered)
 
 -- an `end` line
-pub keeps_end : {b : Basin} {series : Inflows} {a : CheckState} {t : ReadSoFar} {lags : List InTransit}
+pub keeps_end : {b : Basin} {series : Series} {a : CheckState} {t : ReadSoFar} {lags : List InTransit}
     {comes used : List ℕ} →
     lag.LagsStandFor lags b.returns (map (λ m. m.delivered) t.months ++ a.month.delivered ∷ []) →
     HasReturned b (map (λ m. m.delivered) t.months ++ a.month.delivered ∷ []) comes →
@@ -149,13 +149,13 @@ keeps_end {b} {series} {a} {t} {lags} {comes} {used} stands back spent k =
     }
 
 -- the callers that were read are those of the check state's record
-pub callers_read : {b : Basin} {series : Inflows} {a : CheckState} {t : ReadSoFar} → Keeps b series a t →
+pub callers_read : {b : Basin} {series : Series} {a : CheckState} {t : ReadSoFar} → Keeps b series a t →
     (xs : List ℕ) → callers_of b a.month xs ≡ callers_of b t.now xs
 callers_read {b} {series} {a} {t} k xs = callers_same b a.month t.now k.month.shows.delivered k.month.shows.want
     k.month.shows.sets xs
 
 -- a good `called` line is that of the next right that answers to a caller
-pub keeps_next : {b : Basin} {series : Inflows} {a : CheckState} {t : ReadSoFar} (x caller : ℕ) (due : Option Due) →
+pub keeps_next : {b : Basin} {series : Series} {a : CheckState} {t : ReadSoFar} (x caller : ℕ) (due : Option Due) →
     Keeps b series a t → first_row b series t (line.Called x caller) ≡ None → IsDueFrom b a.month a.answered due →
     Keeps b series (record a { calling = None; answered = after a.answered due })
     (read_item b series t (line.Called x caller))
@@ -185,6 +185,6 @@ keeps_next {b} {series} {a} {t} x caller (Some due) k good next =
         ∙ ap (λ xs. xs ++ (due.right, due.caller) ∷ []) (callers_read k (take a.answered (seniors_first b))))
 
 -- the same, where the line and the check state are known by an equation
-pub along : {b : Basin} {series : Inflows} (t : ReadSoFar) {a c : CheckState} {x y : Item} → x ≡ y → c ≡ a →
+pub along : {b : Basin} {series : Series} (t : ReadSoFar) {a c : CheckState} {x y : Item} → x ≡ y → c ≡ a →
     Keeps b series a (read_item b series t y) → Keeps b series c (read_item b series t x)
 along t e f k = rw (e, f) k

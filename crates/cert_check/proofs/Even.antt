@@ -6,7 +6,7 @@ use Rattle.std.specs.List.{list_all, list_any}
 use Rattle.std.proofs.lemmas.Bool.{le-leb, or_right}
 use Rattle.water_model.specs.Indices.{indices_of, outlets}
 use Rattle.water_model.specs.declared.types.Basin.{Basin}
-use Rattle.water_model.specs.declared.types.Inflows.{Inflows}
+use Rattle.water_model.specs.declared.types.Series.{Series}
 use Rattle.water_model.proofs.Order.{Has, numbers_from-has, numbers_from-below}
 use Rattle.result_reader.specs.ReadSoFar.{ReadSoFar, with_supply}
 use Rattle.cert_check.specs.Checking.{balances}
@@ -16,18 +16,18 @@ use Rattle.cert_check.proofs.Rows.{none_holds}
 
 -- Balances.
 
-read_balances : {b : Basin} {series : Inflows} {a : CheckState} {t : ReadSoFar} (n amount v : ℕ) → Keeps b series a t →
+read_balances : {b : Basin} {series : Series} {a : CheckState} {t : ReadSoFar} (n amount v : ℕ) → Keeps b series a t →
     a.has_supply ≡ true →
     balances b (with_outflow a.month n amount) v ≡ balances b (with_supply b series (with_outflow t.now n amount)) v
 read_balances n amount v k has = rw (k.supply has, k.month.shows.flow, k.month.shows.take, k.month.shows.out) refl
 
-pub all_even : {b : Basin} {series : Inflows} {a : CheckState} {t : ReadSoFar} (n amount : ℕ) → Keeps b series a t →
+pub all_even : {b : Basin} {series : Series} {a : CheckState} {t : ReadSoFar} (n amount : ℕ) → Keeps b series a t →
     a.has_supply ≡ true → ((v : ℕ) → v < length b.nodes → balances b (with_outflow a.month n amount) v ≡ true) →
     list_any (λ v. not (balances b (with_supply b series (with_outflow t.now n amount)) v)) (indices_of b.nodes) ≡ false
 all_even {b} n amount k has even = none_holds (indices_of b.nodes) (λ v h. ap not (sym (read_balances n amount v k has)
     ∙ even v (let l = (numbers_from-below 0 (length b.nodes) v h).1 in omega arith)))
 
-pub some_uneven : {b : Basin} {series : Inflows} {a : CheckState} {t : ReadSoFar} (n amount : ℕ) → Keeps b series a t →
+pub some_uneven : {b : Basin} {series : Series} {a : CheckState} {t : ReadSoFar} (n amount : ℕ) → Keeps b series a t →
     a.has_supply ≡ true → (v : ℕ) × (v < length b.nodes) × (balances b (with_outflow a.month n amount) v ≡ false) →
     list_any (λ v. not (balances b (with_supply b series (with_outflow t.now n amount)) v)) (indices_of b.nodes) ≡ true
 some_uneven {b} {series} {a} {t} n amount k has (v, l, fails) =
@@ -40,7 +40,7 @@ some_uneven {b} {series} {a} {t} n amount k has (v, l, fails) =
     over (x ∷ xs) (inr m) =
         or_right (not (balances b (with_supply b series (with_outflow t.now n amount)) x)) _ (over xs m)
 
-pub uneven_is : {b : Basin} {series : Inflows} {a : CheckState} {t : ReadSoFar} (n amount : ℕ) (even : Bool) →
+pub uneven_is : {b : Basin} {series : Series} {a : CheckState} {t : ReadSoFar} (n amount : ℕ) (even : Bool) →
     Keeps b series a t → a.has_supply ≡ true →
     (even ≡ true → (v : ℕ) → v < length b.nodes → balances b (with_outflow a.month n amount) v ≡ true) →
     (even ≡ false → (v : ℕ) × (v < length b.nodes) × (balances b (with_outflow a.month n amount) v ≡ false)) →

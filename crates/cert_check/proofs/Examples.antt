@@ -13,7 +13,7 @@ use Rattle.water_model.specs.History.{calls, calling_right}
 use Rattle.result_lines.specs.Text.{month_lines}
 use Rattle.result_lines.specs.declared.item.Item.{Item}
 use Rattle.water_model.specs.declared.types.Basin.{Basin}
-use Rattle.water_model.specs.declared.types.Inflows.{Inflows}
+use Rattle.water_model.specs.declared.types.Series.{Series}
 use Rattle.water_model.proofs.Worked.{stream, old, new, no_series}
 use Rattle.result_reader.specs.Form.{is_same_shape, fits, due_in_month, due}
 use Rattle.result_reader.specs.Reading.{item_with, item_of, read_line}
@@ -36,7 +36,7 @@ at n kind = Some (record { line = n; kind = kind })
 abbrev pub Case : Type 0
 Case = List (List ℕ) × Option Refuted
 
-abbrev pub Answers : Basin → Inflows → List Case → Type 0
+abbrev pub Answers : Basin → Series → List Case → Type 0
 Answers b series cases = map (λ (c : Case). refusal (verdict b series c.0 [])) cases ≡ map (λ (c : Case). c.1) cases
 
 -- a text with other lines in place of n of its own, from line k on

@@ -11,7 +11,7 @@ use Rattle.std.proofs.lemmas.List.Splits.{slice_split_none, slice_split_at}
 use Rattle.water_text.specs.LinesIn.{LineHeld, Takes, TakesAll, TakesToFeed, TakesToFull, is_feed, nothing_held}
 use Rattle.result_lines.specs.declared.item.Item.{Item}
 use Rattle.water_model.specs.declared.types.Basin.{Basin}
-use Rattle.water_model.specs.declared.types.Inflows.{Inflows}
+use Rattle.water_model.specs.declared.types.Series.{Series}
 use Rattle.result_reader.specs.Reading.{item_of, read_line}
 use Rattle.result_reader.specs.declared.bad_line.BadLine.TheVariants as bad
 use Rattle.cert_check.specs.Checking.{judge, is_whole, ok_then, verdict, verdict_at_end, verdict_from}
@@ -96,19 +96,19 @@ long_refusal items = record {
   kind = if is_whole items then kind.AfterEnd else kind.BadLine;
 }
 
-long_judged : (b : Basin) (series : Inflows) (items : List Item) (bytes : List ℕ) → 128 < length bytes →
+long_judged : (b : Basin) (series : Series) (items : List Item) (bytes : List ℕ) → 128 < length bytes →
     judge b series items bytes ≡ Err (long_refusal items)
 long_judged b series items bytes long =
     (let read = long_read b items bytes long in grind (arith, judged_ended, judged_bad))
 
-long_verdict : (b : Basin) (series : Inflows) (lines : List (List ℕ)) (bytes : List ℕ) {items : List Item} →
+long_verdict : (b : Basin) (series : Series) (lines : List (List ℕ)) (bytes : List ℕ) {items : List Item} →
     verdict_from b series [] lines ≡ Ok items → 128 < length bytes →
     verdict_from b series [] (lines ++ bytes ∷ []) ≡ Err (long_refusal items)
 long_verdict b series lines bytes {items} good long =
     line_judged b series lines bytes good (long_judged b series items bytes long)
 
 -- A text with such a line in it is refused where its prefix is, though the line may go on.
-long_prefix : (b : Basin) (series : Inflows) (bytes : List ℕ) (lines : List (List ℕ)) (long : List ℕ)
+long_prefix : (b : Basin) (series : Series) (bytes : List ℕ) (lines : List (List ℕ)) (long : List ℕ)
     (others : List (List ℕ)) {e : Refuted} → pieces_of bytes ≡ lines ++ long ∷ others → 128 < length long →
     verdict_from b series [] (lines ++ long ∷ []) ≡ Err e → text_verdict b series bytes ≡ Err e
 long_prefix b series bytes lines long [] is more h =
@@ -311,7 +311,7 @@ given_on text piece at taken given =
     rw (take-add at taken piece, ← append_assoc text (take at piece) (take taken (drop at piece)))
     (rw (take_rest piece at) at given)
 
-pub refused_on : (b : Basin) (series : Inflows) (text piece more : List ℕ) (at : ℕ) (e : Refuted) →
+pub refused_on : (b : Basin) (series : Series) (text piece more : List ℕ) (at : ℕ) (e : Refuted) →
     text_verdict b series ((text ++ take at piece) ++ slice_range piece at (length piece) ++ more) ≡ Err e →
     text_verdict b series (text ++ piece ++ more) ≡ Err e
 refused_on b series text piece more at e h =

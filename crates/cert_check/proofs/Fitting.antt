@@ -15,7 +15,7 @@ use Rattle.water_model.specs.History.{calls, calling_right}
 use Rattle.water_model.specs.Indices.{seniors_first}
 use Rattle.result_lines.specs.declared.quantity.Quantity.{Quantity}
 use Rattle.water_model.specs.declared.types.Basin.{Basin}
-use Rattle.water_model.specs.declared.types.Inflows.{Inflows}
+use Rattle.water_model.specs.declared.types.Series.{Series}
 use Rattle.water_model.specs.declared.types.MonthRecord.{MonthRecord}
 use Rattle.result_reader.specs.ReadSoFar.{with_supply}
 use Rattle.cert_check.specs.Keeping.{AreAnswered, AreSettled, IsCalling, callers_of, is_supplied}
@@ -93,7 +93,7 @@ pub answered_stay : {b : Basin} {m n : MonthRecord} {count lines : ℕ} → Stay
 answered_stay {b} {m} {n} {count} s k = grind (arith, callers_same, take, seniors_first)
 
 -- the supply that is made stays so, unless it is made of the quantity
-pub supply_stays : (b : Basin) (series : Inflows) (q : Quantity) (entry amount : ℕ) (m now : MonthRecord)
+pub supply_stays : (b : Basin) (series : Series) (q : Quantity) (entry amount : ℕ) (m now : MonthRecord)
     (made : Bool) → (made ≡ true → m.supply ≡ (with_supply b series now).supply) → made && not (is_supplied q) ≡ true →
     (with_amount q entry amount m).supply ≡ (with_supply b series (with_amount q entry amount now)).supply
 supply_stays b series q entry amount m now made h e = grind arith

@@ -10,7 +10,7 @@ use Rattle.water_model.specs.History.{Follows, cut_of, opening_after}
 use Rattle.water_model.specs.Plans.{carry_of, delivery_by_link, coming_to, going_from}
 use Rattle.result_lines.specs.declared.quantity.Quantity.TheVariants as quantity
 use Rattle.water_model.specs.declared.types.Basin.{Basin}
-use Rattle.water_model.specs.declared.types.Inflows.{Inflows}
+use Rattle.water_model.specs.declared.types.Series.{Series}
 use Rattle.water_model.specs.declared.types.MonthRecord.{MonthRecord}
 use Rattle.water_model.proofs.Order.{seniors_below, Has, filter-has, has-filter, length-numbers_from, seniors_have}
 use Rattle.result_lines.proofs.Quantities.{has-with_line, with_line-has}
@@ -47,7 +47,7 @@ pub is_tight_is : {b : Basin} (m : MonthRecord) {r : ℕ} {cut : List Bool} → 
     IsTight b m.month m.supply m.delivered r cut
 is_tight_is m h = grind (arith, nat_tests)
 
-right_sets : {b : Basin} {series : Inflows} {before : List MonthRecord} {m : MonthRecord} → Follows b series before m →
+right_sets : {b : Basin} {series : Series} {before : List MonthRecord} {m : MonthRecord} → Follows b series before m →
     IsTextMonth b series before m → HasRightSets b m
 right_sets {b} {series} {before} {m} f t = record {
   sized = λ r set e. (has_set b series before m t r set e).1;
@@ -62,7 +62,7 @@ amount_right : (b : Basin) (m : MonthRecord) (r : ℕ) (link : Option ℕ) →
     amount_wrong link m.plan.flow (slice_index m.delivered r) (slice_index m.want r) ≡ false
 amount_right b m r link most e = grind (arith, nat_tests)
 
-pub follows_good : {b : Basin} {series : Inflows} {before : List MonthRecord} {m : MonthRecord} →
+pub follows_good : {b : Basin} {series : Series} {before : List MonthRecord} {m : MonthRecord} →
     Follows b series before m → IsTextMonth b series before m → IsGoodMonth b series before m
 follows_good {b} {series} {before} {m} f t = record {
   opening = λ x h. ap (λ xs. slice_index xs x) f.opening;
@@ -140,7 +140,7 @@ served : {b : Basin} {m : MonthRecord} {r : ℕ} (taking link : Option ℕ) → 
 unfolding TakesOrStays
 served taking link t l s take right = grind (arith, nat_tests)
 
-pub good_follows : {b : Basin} {series : Inflows} {before : List MonthRecord} {m : MonthRecord} → IsValidBasin b →
+pub good_follows : {b : Basin} {series : Series} {before : List MonthRecord} {m : MonthRecord} → IsValidBasin b →
     IsAllRead b series m → IsGoodMonth b series before m → m.index ≡ length before → m.month ≡ run_month b m.index →
     length (opening_after b before) ≡ length b.reservoirs → Follows b series before m
 good_follows {b} {series} {before} {m} valid a g index month opens = record {

@@ -5,7 +5,7 @@ use Rattle.std.proofs.Math.Bool.{and-false}
 use Rattle.water_model.specs.History.{cut_of}
 use Rattle.water_model.specs.Indices.{indices_of}
 use Rattle.water_model.specs.declared.types.Basin.{Basin}
-use Rattle.water_model.specs.declared.types.Inflows.{Inflows}
+use Rattle.water_model.specs.declared.types.Series.{Series}
 use Rattle.cut_cert.specs.Callers.{is_short}
 use Rattle.result_lines.specs.declared.item.Item.{Item}
 use Rattle.result_lines.specs.declared.item.Item.TheVariants as line
@@ -26,7 +26,7 @@ none_missing b t (line.Deliver r amount want) h =
     none_holds (indices_of b.rights) (λ r m. and-false (is_short t.now r && is_none (cut_of t.now r)))
 none_missing b t other h = grind arith
 
-pub no_call_row : (b : Basin) (series : Inflows) (t : ReadSoFar) (i : Item) → t.calling ≡ None →
+pub no_call_row : (b : Basin) (series : Series) (t : ReadSoFar) (i : Item) → t.calling ≡ None →
     is_before_calls i ≡ true → first_of (call_rows b series t i) ≡ None
 no_call_row b series t i none before = grind (arith, none_missing, not_after)
 

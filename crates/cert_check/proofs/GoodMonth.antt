@@ -8,7 +8,7 @@ use Rattle.result_lines.specs.Quantities.{entries_with_line}
 use Rattle.result_lines.specs.declared.item.Item.TheVariants as line
 use Rattle.result_lines.specs.declared.quantity.Quantity.TheVariants as quantity
 use Rattle.water_model.specs.declared.types.Basin.{Basin}
-use Rattle.water_model.specs.declared.types.Inflows.{Inflows}
+use Rattle.water_model.specs.declared.types.Series.{Series}
 use Rattle.water_model.specs.declared.types.MonthRecord.{MonthRecord}
 use Rattle.water_model.proofs.Order.{seniors_have, seniors_below, seniors_ordered}
 use Rattle.result_reader.specs.ReadSoFar.{ReadSoFar, read_item}
@@ -29,12 +29,12 @@ use Rattle.cert_check.proofs.Month.{after_used, after_flow, after_deliver, after
 use Rattle.water_model.specs.Rights.{AreStrict}
 use Rattle.water_model.proofs.SetEntries.{no_sets}
 
-out_balance : {b : Basin} {series : Inflows} {m : MonthRecord} (t : ReadSoFar) → IsAllRead b series m →
+out_balance : {b : Basin} {series : Series} {m : MonthRecord} (t : ReadSoFar) → IsAllRead b series m →
     t.now ≡ with_out b m → ((n : ℕ) → n < length b.nodes → balances b m n ≡ true) → IsInBalance b series t.now
 unfolding IsInBalance
 out_balance t a is h n l = read_balance n a is ∙ h n l
 
-calls_begin : {b : Basin} {series : Inflows} {before : List MonthRecord} {m : MonthRecord} {t : ReadSoFar} →
+calls_begin : {b : Basin} {series : Series} {before : List MonthRecord} {m : MonthRecord} {t : ReadSoFar} →
     IsAllRead b series m → At b before (with_out b m) t → Calling b series m (seniors_first b) t
 calls_begin {b} a at = record {
   sees = read_sees a at.now_is;
@@ -43,7 +43,7 @@ calls_begin {b} a at = record {
   free = λ r h. ap (λ k. cut_of k r) at.now_is ∙ no_sets (length b.rights) r;
 }
 
-callers_begin : {b : Basin} {series : Inflows} {before : List MonthRecord} {m : MonthRecord} {t : ReadSoFar} →
+callers_begin : {b : Basin} {series : Series} {before : List MonthRecord} {m : MonthRecord} {t : ReadSoFar} →
     HasRightSets b m → AfterCalls b before m t → Calling b series m [] t → Callers b series (callers_due b m) [] t
 callers_begin {b} {series} {before} {m} {t} right at c = record {
   all = record { settled = c.settled; none_left = λ r l short free. unset r l short free };
@@ -56,12 +56,12 @@ callers_begin {b} {series} {before} {m} {t} right at c = record {
         let own = right.short r l (sym (read_short r c.sees) ∙ short) in
         let never : None ≡ Some own.0 = sym free ∙ (c.sets r l (λ h. h) ∙ own.1) in cc
 
-called_stays : (b : Basin) (series : Inflows) (dues : List (ℕ × ℕ)) (t : ReadSoFar) →
+called_stays : (b : Basin) (series : Series) (dues : List (ℕ × ℕ)) (t : ReadSoFar) →
     (fold (read_item b series) t (due_lines dues)).now ≡ t.now
 called_stays b series [] t = refl
 called_stays b series (x ∷ xs) t = called_stays b series xs (read_item b series t (called_line x))
 
-pub inner_good : {b : Basin} {series : Inflows} {before : List MonthRecord} {m : MonthRecord} → AreStrict b.rights →
+pub inner_good : {b : Basin} {series : Series} {before : List MonthRecord} {m : MonthRecord} → AreStrict b.rights →
     IsAllRead b series m → IsGoodMonth b series before m →
     {t : ReadSoFar} → At b before (begun b m) t → AreGood b series t (inner_lines b m (callers_due b m))
 inner_good {b} {series} {before} {m} strict a good {t} at =
@@ -125,7 +125,7 @@ inner_good {b} {series} {before} {m} strict a good {t} at =
 
 -- A month whose lines are not refuted is good.
 
-balance_out : {b : Basin} {series : Inflows} {m : MonthRecord} (t : ReadSoFar) → IsAllRead b series m →
+balance_out : {b : Basin} {series : Series} {m : MonthRecord} (t : ReadSoFar) → IsAllRead b series m →
     t.now ≡ with_out b m → IsInBalance b series t.now → (n : ℕ) → n < length b.nodes → balances b m n ≡ true
 unfolding IsInBalance
 balance_out {b} {series} {m} t a is h n l = sym (read_balance n a is) ∙ h n l
@@ -136,7 +136,7 @@ pub record HasOutlet (b : Basin) : Type 0 where
   pub others : List ℕ
   pub are : outlets b ≡ first ∷ others
 
-outflows_balance : {b : Basin} (series : Inflows) (a : ℕ → ℕ) (t : ReadSoFar) → HasOutlet b →
+outflows_balance : {b : Basin} (series : Series) (a : ℕ → ℕ) (t : ReadSoFar) → HasOutlet b →
     AreGood b series t (map (λ n. line.Amount quantity.Outflow n (a n)) (outlets b)) →
     IsInBalance b series (fold (read_item b series) t (map (λ n. line.Amount quantity.Outflow n (a n)) (outlets b))).now
 outflows_balance {b} series a t h g = subst (λ (xs : List ℕ). IsInBalance b series
@@ -144,7 +144,7 @@ outflows_balance {b} series a t h g = subst (λ (xs : List ℕ). IsInBalance b s
     (outflows_read b series a h.first h.others [] t h.are
     (subst (λ (xs : List ℕ). AreGood b series t (map (λ n. line.Amount quantity.Outflow n (a n)) xs)) h.are g))
 
-past_of : {b : Basin} {series : Inflows} (a : ℕ → ℕ) (xs : List ℕ) {t : ReadSoFar} →
+past_of : {b : Basin} {series : Series} (a : ℕ → ℕ) (xs : List ℕ) {t : ReadSoFar} →
     AreGood b series t (map (λ x. line.Amount quantity.Closing x (a x)) xs ++ line.End ∷ []) → IsPast b series t
 past_of a [] g = end_past g.0
 past_of a (x ∷ xs) g = closing_past x (a x) g.0
@@ -154,7 +154,7 @@ nothing_more : {xs : List (ℕ × ℕ)} (more : List (ℕ × ℕ)) {dues : List 
 nothing_more {xs} [] is l = is ∙ append-nil xs
 nothing_more {xs} (x ∷ more) is l = absurd (omega (arith, ap length is, length-append xs (x ∷ more)))
 
-right_sets : {b : Basin} {series : Inflows} {m : MonthRecord} (t : ReadSoFar) {u : ReadSoFar} → IsAllRead b series m →
+right_sets : {b : Basin} {series : Series} {m : MonthRecord} (t : ReadSoFar) {u : ReadSoFar} → IsAllRead b series m →
     t.now ≡ with_out b m → AreGood b series t (call_lines b m) → u.now ≡ with_calls b m →
     IsSettled b series (fold (read_item b series) t (call_lines b m)) → AllCalled b series u → HasRightSets b m
 right_sets {b} {series} {m} t {u} a is g now settled all = record {
@@ -184,7 +184,7 @@ right_sets {b} {series} {m} t {u} a is g now settled all = record {
     unset r l met None e = e
     unset r l met (Some set) e = let no_call : false ≡ true = sym met ∙ (so_far r set l e).0 in cc
 
-called_now : {b : Basin} {series : Inflows} {before : List MonthRecord} {m : MonthRecord} {dues : List (ℕ × ℕ)}
+called_now : {b : Basin} {series : Series} {before : List MonthRecord} {m : MonthRecord} {dues : List (ℕ × ℕ)}
     {t : ReadSoFar} → AfterCalls b before m t → AreGood b series t (due_lines dues) →
     IsPast b series (fold (read_item b series) t (due_lines dues)) →
     ((fold (read_item b series) t (due_lines dues)).now ≡ with_calls b m) × (callers_due b m ≡ dues) ×
@@ -199,7 +199,7 @@ called_now {b} {series} {before} {m} {dues} {t} at g past =
     (omega (arith, past.count, ap length same, c.called, at.called)) in
     (now, dues_are, omega (arith, c.called, at.called, ap length dues_are))
 
-pub inner_is_good : {b : Basin} {series : Inflows} {before : List MonthRecord} {m : MonthRecord} {dues : List (ℕ × ℕ)} →
+pub inner_is_good : {b : Basin} {series : Series} {before : List MonthRecord} {m : MonthRecord} {dues : List (ℕ × ℕ)} →
     HasOutlet b → IsAllRead b series m → {t : ReadSoFar} → At b before (begun b m) t →
     AreGood b series t (inner_lines b m dues) → IsGoodMonth b series before m × (callers_due b m ≡ dues)
 inner_is_good {b} {series} {before} {m} {dues} outlet a {t} at g =

@@ -4,7 +4,7 @@ use Rattle.std.specs.Prelude.{None, ◌&&◌, is_none}
 use Rattle.water_model.specs.History.{cut_of}
 use Rattle.water_model.specs.Indices.{indices_of}
 use Rattle.water_model.specs.declared.types.Basin.{Basin}
-use Rattle.water_model.specs.declared.types.Inflows.{Inflows}
+use Rattle.water_model.specs.declared.types.Series.{Series}
 use Rattle.cut_cert.specs.Callers.{is_short}
 use Rattle.result_lines.specs.declared.item.Item.{Item}
 use Rattle.result_lines.specs.declared.item.Item.TheVariants as line
@@ -21,7 +21,7 @@ none_missing : (b : Basin) (t : ReadSoFar) (n : ℕ) → cut_missing b t (line.M
 none_missing b t n =
     none_holds (indices_of b.rights) (λ r m. and-false (is_short t.now r && is_none (cut_of t.now r)))
 
-pub no_row : (b : Basin) (series : Inflows) (t : ReadSoFar) (i : Item) → is_member i ≡ true →
+pub no_row : (b : Basin) (series : Series) (t : ReadSoFar) (i : Item) → is_member i ≡ true →
     first_row b series t i ≡ None
 no_row b series t i h = grind (arith, first_is, none_missing)
 

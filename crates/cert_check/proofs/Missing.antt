@@ -11,7 +11,7 @@ use Rattle.water_model.specs.Indices.{seniors_first}
 use Rattle.water_model.specs.Valid.{IsValidBasin}
 use Rattle.result_lines.specs.declared.item.Item.{Item}
 use Rattle.water_model.specs.declared.types.Basin.{Basin}
-use Rattle.water_model.specs.declared.types.Inflows.{Inflows}
+use Rattle.water_model.specs.declared.types.Series.{Series}
 use Rattle.water_model.proofs.Order.{Has, IsOrdered, seniors_have, seniors_below, seniors_ordered}
 use Rattle.water_model.proofs.Seniority.{senior_trans}
 use Rattle.result_reader.specs.ReadSoFar.{ReadSoFar}
@@ -46,11 +46,11 @@ not_passed : (b : Basin) (item : Item) {x y : ℕ} → passes b item x ≡ false
 not_passed b item h e = grind (arith, senior_trans)
 
 -- rights that lack their calls by what was read do so by the check state's record
-pub lacks_read : {b : Basin} {series : Inflows} {a : CheckState} {t : ReadSoFar} → Keeps b series a t → (xs : List ℕ) →
+pub lacks_read : {b : Basin} {series : Series} {a : CheckState} {t : ReadSoFar} → Keeps b series a t → (xs : List ℕ) →
     list_any (lacks_call a.month) xs ≡ list_any (lacks_call t.now) xs
 lacks_read k xs = rw (k.month.shows.delivered, k.month.shows.want, k.month.shows.sets) refl
 
-pub none_missed : {b : Basin} {series : Inflows} {a : CheckState} {t : ReadSoFar} {item : Item} {count : ℕ} →
+pub none_missed : {b : Basin} {series : Series} {a : CheckState} {t : ReadSoFar} {item : Item} {count : ℕ} →
     IsValidBasin b → Keeps b series a t → ArePassed b a.month item count → cut_missing b t item ≡ false
 none_missed {b} {series} {a} {t} {item} {count} valid k p = missing_fails b t item
     (λ r l short free passed. missed r short free passed
@@ -68,7 +68,7 @@ none_missed {b} {series} {a} {t} {item} {count} valid k p = missing_fails b t it
         let position = after_index b (seniors_first b) count (seniors_ordered b.rights valid.roll.strict) after in
         clash (sym passed ∙ not_passed b item (p.next position.0) position.1)
 
-pub some_missed : {b : Basin} {series : Inflows} {a : CheckState} {t : ReadSoFar} {item : Item} → Keeps b series a t →
+pub some_missed : {b : Basin} {series : Series} {a : CheckState} {t : ReadSoFar} {item : Item} → Keeps b series a t →
     IsMissed b a.month item → cut_missing b t item ≡ true
 some_missed {b} {series} {a} {t} {item} k m = elim (cases_Bool (cut_missing b t item)) [
   | inl yes' ↦ yes'

@@ -23,7 +23,7 @@ use Rattle.result_lines.specs.declared.item.TheConstants.{SECTIONS}
 use Rattle.result_lines.specs.declared.quantity.Quantity.{Quantity}
 use Rattle.result_lines.specs.declared.quantity.Quantity.TheVariants as quantity
 use Rattle.water_model.specs.declared.types.Basin.{Basin}
-use Rattle.water_model.specs.declared.types.Inflows.{Inflows}
+use Rattle.water_model.specs.declared.types.Series.{Series}
 use Rattle.water_model.specs.declared.types.MonthRecord.{MonthRecord}
 use Rattle.water_model.proofs.Order.{Has, seniors_below}
 use Rattle.result_lines.proofs.Quantities.{amount_lines, flat_map_one}
@@ -61,20 +61,20 @@ pub record At (b : Basin) (before : List MonthRecord) (now : MonthRecord) (t : R
   pub now_is : t.now ≡ now
   pub called : t.called ≡ 0
 
-same_called : (b : Basin) (series : Inflows) (item : ℕ → Item) →
+same_called : (b : Basin) (series : Series) (item : ℕ → Item) →
     ((x : ℕ) (t : ReadSoFar) → (read_item b series t (item x)).called ≡ t.called) →
     (xs : List ℕ) (t : ReadSoFar) → (fold (read_item b series) t (map item xs)).called ≡ t.called
 same_called b series item h [] t = refl
 same_called b series item h (x ∷ xs) t = same_called b series item h xs (read_item b series t (item x)) ∙ h x t
 
-no_calling : (b : Basin) (series : Inflows) (item : ℕ → Item) →
+no_calling : (b : Basin) (series : Series) (item : ℕ → Item) →
     ((x : ℕ) (t : ReadSoFar) → (read_item b series t (item x)).calling ≡ None) →
     (xs : List ℕ) (t : ReadSoFar) → t.calling ≡ None → (fold (read_item b series) t (map item xs)).calling ≡ None
 no_calling b series item h [] t c = c
 no_calling b series item h (x ∷ xs) t c = no_calling b series item h xs (read_item b series t (item x)) (h x t)
 
 -- a section makes of the month what it makes of any
-stage : {b : Basin} {series : Inflows} {before : List MonthRecord} {now next : MonthRecord} (item : ℕ → Item)
+stage : {b : Basin} {series : Series} {before : List MonthRecord} {now next : MonthRecord} (item : ℕ → Item)
     (xs : List ℕ) (f : MonthRecord → MonthRecord) →
     ((x : ℕ) (t : ReadSoFar) → (read_item b series t (item x)).called ≡ t.called) →
     ((x : ℕ) (t : ReadSoFar) → (read_item b series t (item x)).calling ≡ None) → Makes b series (map item xs) f →
@@ -120,7 +120,7 @@ with_out b m = with_amounts quantity.Outflow (with_deliver b m) m.plan.out
 abbrev pub lines_of : Basin → MonthRecord → Quantity → List Item
 lines_of b m q = map (λ x. line.Amount q x (slice_index (amounts_of q m) x)) (entries_with_line b q)
 
-amount_stage : {b : Basin} {series : Inflows} {before : List MonthRecord} {m : MonthRecord} → IsAllRead b series m →
+amount_stage : {b : Basin} {series : Series} {before : List MonthRecord} {m : MonthRecord} → IsAllRead b series m →
     (q : Quantity) {now : MonthRecord} → amounts_of q now ≡ replicate (count_in (space_of q) b) 0 → {t : ReadSoFar} →
     At b before now t → At b before (with_amounts q now (amounts_of q m)) (fold (read_item b series) t (lines_of b m q))
 amount_stage {b} {series} {before} {m} a q {now} none {t} at = stage
@@ -132,7 +132,7 @@ amount_stage {b} {series} {before} {m} a q {now} none {t} at = stage
 abbrev pub deliver_lines : Basin → MonthRecord → List Item
 deliver_lines b m = map (λ x. line.Deliver x (slice_index m.delivered x) (slice_index m.want x)) (seniors_first b)
 
-deliver_stage : {b : Basin} {series : Inflows} {before : List MonthRecord} {m : MonthRecord} → IsAllRead b series m →
+deliver_stage : {b : Basin} {series : Series} {before : List MonthRecord} {m : MonthRecord} → IsAllRead b series m →
     {t : ReadSoFar} → At b before (with_flow b m) t → At b before (with_deliver b m)
     (fold (read_item b series) t (deliver_lines b m))
 deliver_stage {b} {series} {before} {m} a {t} at = stage
@@ -197,38 +197,38 @@ month_is b m caller_of = ap (λ xs. line.Month m.month ∷ xs)
     (section_lines b m (flat_map (λ r. caller_due r (caller_of r)) (seniors_first b)))
     (section_is b m caller_of) SECTIONS (line.End ∷ []))
 
-abbrev pub after_opening : Basin → Inflows → MonthRecord → ReadSoFar → ReadSoFar
+abbrev pub after_opening : Basin → Series → MonthRecord → ReadSoFar → ReadSoFar
 after_opening b series m t = fold (read_item b series) t (opening_lines b m)
 
-abbrev pub after_evaporated : Basin → Inflows → MonthRecord → ReadSoFar → ReadSoFar
+abbrev pub after_evaporated : Basin → Series → MonthRecord → ReadSoFar → ReadSoFar
 after_evaporated b series m t = fold (read_item b series) (after_opening b series m t) (evaporated_lines b m)
 
-abbrev pub after_returned : Basin → Inflows → MonthRecord → ReadSoFar → ReadSoFar
+abbrev pub after_returned : Basin → Series → MonthRecord → ReadSoFar → ReadSoFar
 after_returned b series m t = fold (read_item b series) (after_evaporated b series m t) (returned_lines b m)
 
-abbrev pub after_used : Basin → Inflows → MonthRecord → ReadSoFar → ReadSoFar
+abbrev pub after_used : Basin → Series → MonthRecord → ReadSoFar → ReadSoFar
 after_used b series m t = fold (read_item b series) (after_returned b series m t) (used_lines b m)
 
-abbrev pub after_flow : Basin → Inflows → MonthRecord → ReadSoFar → ReadSoFar
+abbrev pub after_flow : Basin → Series → MonthRecord → ReadSoFar → ReadSoFar
 after_flow b series m t = fold (read_item b series) (after_used b series m t) (flow_lines b m)
 
-abbrev pub after_deliver : Basin → Inflows → MonthRecord → ReadSoFar → ReadSoFar
+abbrev pub after_deliver : Basin → Series → MonthRecord → ReadSoFar → ReadSoFar
 after_deliver b series m t = fold (read_item b series) (after_flow b series m t) (deliver_lines b m)
 
-abbrev pub after_out : Basin → Inflows → MonthRecord → ReadSoFar → ReadSoFar
+abbrev pub after_out : Basin → Series → MonthRecord → ReadSoFar → ReadSoFar
 after_out b series m t = fold (read_item b series) (after_deliver b series m t) (out_lines b m)
 
-abbrev pub after_calls : Basin → Inflows → MonthRecord → ReadSoFar → ReadSoFar
+abbrev pub after_calls : Basin → Series → MonthRecord → ReadSoFar → ReadSoFar
 after_calls b series m t = fold (read_item b series) (after_out b series m t) (call_lines b m)
 
-abbrev pub after_called : Basin → Inflows → MonthRecord → List (ℕ × ℕ) → ReadSoFar → ReadSoFar
+abbrev pub after_called : Basin → Series → MonthRecord → List (ℕ × ℕ) → ReadSoFar → ReadSoFar
 after_called b series m dues t = fold (read_item b series) (after_calls b series m t) (due_lines dues)
 
-abbrev pub after_closing : Basin → Inflows → MonthRecord → List (ℕ × ℕ) → ReadSoFar → ReadSoFar
+abbrev pub after_closing : Basin → Series → MonthRecord → List (ℕ × ℕ) → ReadSoFar → ReadSoFar
 after_closing b series m dues t = fold (read_item b series) (after_called b series m dues t) (closing_lines b m)
 
 -- what stands after each of the sections
-pub record Stages (b : Basin) (series : Inflows) (before : List MonthRecord) (m : MonthRecord) (t : ReadSoFar) : Type 0
+pub record Stages (b : Basin) (series : Series) (before : List MonthRecord) (m : MonthRecord) (t : ReadSoFar) : Type 0
   where
     pub opening : At b before (with_opening b m) (after_opening b series m t)
     pub evaporated : At b before (with_evaporated b m) (after_evaporated b series m t)
@@ -238,7 +238,7 @@ pub record Stages (b : Basin) (series : Inflows) (before : List MonthRecord) (m 
     pub deliver : At b before (with_deliver b m) (after_deliver b series m t)
     pub out : At b before (with_out b m) (after_out b series m t)
 
-pub stages : {b : Basin} {series : Inflows} {before : List MonthRecord} {m : MonthRecord} → IsAllRead b series m →
+pub stages : {b : Basin} {series : Series} {before : List MonthRecord} {m : MonthRecord} → IsAllRead b series m →
     {t : ReadSoFar} → At b before (begun b m) t → Stages b series before m t
 stages a at =
     let s0 = amount_stage a quantity.Opening refl at in
@@ -259,7 +259,7 @@ stages a at =
     }
 
 -- what a month's record has to keep, by the records before it, so that its lines are not refuted
-pub record IsGoodMonth (b : Basin) (series : Inflows) (before : List MonthRecord) (m : MonthRecord) : Type 0 where
+pub record IsGoodMonth (b : Basin) (series : Series) (before : List MonthRecord) (m : MonthRecord) : Type 0 where
   pub opening : (x : ℕ) → Has (entries_with_line b quantity.Opening) x →
       slice_index m.opening x ≡ slice_index (opening_after b before) x
   pub evaporated : (x : ℕ) → Has (entries_with_line b quantity.Evaporated) x → slice_index m.evaporated x
@@ -280,11 +280,11 @@ pub record IsGoodMonth (b : Basin) (series : Inflows) (before : List MonthRecord
       ≡ total_where (length b.rights) (λ r. is_zone_of b r x) (λ r. slice_index m.plan.take r)
 
 -- the balance of a month, by what was read
-pub read_balance : {b : Basin} {series : Inflows} {m now : MonthRecord} (n : ℕ) → IsAllRead b series m →
+pub read_balance : {b : Basin} {series : Series} {m now : MonthRecord} (n : ℕ) → IsAllRead b series m →
     now ≡ with_out b m → balances b (with_supply b series now) n ≡ balances b m n
 read_balance {b} {series} n a is = ap (λ k. balances b (with_supply b series k) n) is ∙ rw (a.supply) refl
 
-pub read_sees : {b : Basin} {series : Inflows} {m now : MonthRecord} → IsAllRead b series m → now ≡ with_out b m →
+pub read_sees : {b : Basin} {series : Series} {m now : MonthRecord} → IsAllRead b series m → now ≡ with_out b m →
     Sees b series m now
 read_sees {b} {series} a is = grind (arith, with_supply, length-replicate)
 
@@ -297,7 +297,7 @@ pub record AfterCalls (b : Basin) (before : List MonthRecord) (m : MonthRecord) 
   pub months : t.months ≡ before
   pub called : t.called ≡ 0
 
-calls_called : {b : Basin} {series : Inflows} {m : MonthRecord} →
+calls_called : {b : Basin} {series : Series} {m : MonthRecord} →
     ((r : ℕ) (set : List Bool) → cut_of m r ≡ Some set → length set ≡ length b.nodes) → (xs : List ℕ) →
     ((r : ℕ) → Has xs r → r < length b.rights) → (t : ReadSoFar) → Sees b series m t.now →
     (fold (read_item b series) t (flat_map (λ r. call_items r (cut_of m r)) xs)).called ≡ t.called
@@ -315,7 +315,7 @@ calls_called {b} {series} {m} sized (x ∷ xs) below t s =
         (tell_call b series x set t (omega (arith, below x (inl refl), s.sets)) (sized x set e))
         ∙ further (after_call t x set) (sees_more t x set s))
 
-pub calls_stage : {b : Basin} {series : Inflows} {before : List MonthRecord} {m : MonthRecord} → IsAllRead b series m →
+pub calls_stage : {b : Basin} {series : Series} {before : List MonthRecord} {m : MonthRecord} → IsAllRead b series m →
     {t : ReadSoFar} → At b before (with_out b m) t →
     AfterCalls b before m (fold (read_item b series) t (call_lines b m))
 calls_stage {b} {series} {before} {m} a {t} at =

@@ -10,7 +10,7 @@ use Rattle.water_model.specs.Indices.{numbers_from, indices_of, outlets}
 use Rattle.result_lines.specs.declared.item.Item.TheVariants as line
 use Rattle.result_lines.specs.declared.quantity.Quantity.TheVariants as quantity
 use Rattle.water_model.specs.declared.types.Basin.{Basin}
-use Rattle.water_model.specs.declared.types.Inflows.{Inflows}
+use Rattle.water_model.specs.declared.types.Series.{Series}
 use Rattle.water_model.specs.declared.types.MonthRecord.{MonthRecord}
 use Rattle.water_model.proofs.Order.{Has, filter-has, numbers_from-has, numbers_from-below}
 use Rattle.result_reader.specs.ReadSoFar.{ReadSoFar, read_item, with_supply}
@@ -54,7 +54,7 @@ all_at_most [] h = refl
 all_at_most (z ∷ xs) {x} h = rw (le-leb z x (h z (inl refl)), all_at_most xs (λ y m. h y (inr m))) refl
 
 -- every node is in balance, by what was read
-unfoldable pub IsInBalance : Basin → Inflows → MonthRecord → Type 0
+unfoldable pub IsInBalance : Basin → Series → MonthRecord → Type 0
 IsInBalance b series now = (n : ℕ) → n < length b.nodes → balances b (with_supply b series now) n ≡ true
 
 none_fails : (b : Basin) (m : MonthRecord) (xs : List ℕ) → ((n : ℕ) → Has xs n → balances b m n ≡ true) →
@@ -65,7 +65,7 @@ fails_none : (b : Basin) (m : MonthRecord) (xs : List ℕ) → list_any (λ n. n
     Has xs n → balances b m n ≡ true
 fails_none b m xs h n k = not-false (balances b m n) (each_fails (λ n. not (balances b m n)) xs h k)
 
-out_good : (b : Basin) (series : Inflows) (t : ReadSoFar) (n amount : ℕ) → t.calling ≡ None →
+out_good : (b : Basin) (series : Series) (t : ReadSoFar) (n amount : ℕ) → t.calling ≡ None →
     list_all (λ other. nat_le other n) (outlets b) && list_any (λ node. not (balances b
     (with_supply b series (read_item b series t (line.Amount quantity.Outflow n amount)).now) node))
     (indices_of b.nodes) ≡ false → NoneHolds (rows b series t (line.Amount quantity.Outflow n amount))
@@ -73,7 +73,7 @@ out_good b series t n amount h balance =
     early_good b series t (line.Amount quantity.Outflow n amount) h (λ r. refl) refl refl (balance, tt)
 
 -- `out` lines aren't refuted where all nodes are in balance after them
-pub outflows_good : (b : Basin) (series : Inflows) (a : ℕ → ℕ) (xs done : List ℕ) (t : ReadSoFar) →
+pub outflows_good : (b : Basin) (series : Series) (a : ℕ → ℕ) (xs done : List ℕ) (t : ReadSoFar) →
     outlets b ≡ done ++ xs → Rises xs → t.calling ≡ None →
     IsInBalance b series (fold (read_item b series) t (map (λ n. line.Amount quantity.Outflow n (a n)) xs)).now →
     AreGood b series t (map (λ n. line.Amount quantity.Outflow n (a n)) xs)
@@ -102,7 +102,7 @@ outflows_good b series a (x ∷ y ∷ ys) done t is rises h balance = (
     not_last = greater_fails (outlets b) (rw is (has_after done (x ∷ y ∷ ys) y (inr (inl refl)))) (rises.0 y (inl refl))
 
 -- and where they aren't refuted, all nodes are in balance after the last
-pub outflows_read : (b : Basin) (series : Inflows) (a : ℕ → ℕ) (x : ℕ) (xs done : List ℕ) (t : ReadSoFar) →
+pub outflows_read : (b : Basin) (series : Series) (a : ℕ → ℕ) (x : ℕ) (xs done : List ℕ) (t : ReadSoFar) →
     outlets b ≡ done ++ (x ∷ xs) → AreGood b series t (map (λ n. line.Amount quantity.Outflow n (a n)) (x ∷ xs)) →
     IsInBalance b series (fold (read_item b series) t (map (λ n. line.Amount quantity.Outflow n (a n)) (x ∷ xs))).now
 unfolding IsInBalance

@@ -17,7 +17,7 @@ use Rattle.result_lines.specs.declared.item.Item.TheVariants as line
 use Rattle.result_lines.specs.declared.quantity.Quantity.{Quantity}
 use Rattle.result_lines.specs.declared.quantity.Quantity.TheVariants as quantity
 use Rattle.water_model.specs.declared.types.Basin.{Basin}
-use Rattle.water_model.specs.declared.types.Inflows.{Inflows}
+use Rattle.water_model.specs.declared.types.Series.{Series}
 use Rattle.water_model.specs.declared.types.MonthRecord.{MonthRecord}
 use Rattle.water_model.proofs.Histories.{nothing_is_partial}
 use Rattle.water_model.proofs.Order.{Has}
@@ -244,7 +244,7 @@ last_amid {b} valid s dues =
     (prefix, are, (stands_amid valid s dues prefix line.End [] are).amid)
 
 -- what was read when a line of a month may come
-within_month : {b : Basin} → IsValidBasin b → {series : Inflows} → IsSeriesOf b series →
+within_month : {b : Basin} → IsValidBasin b → {series : Series} → IsSeriesOf b series →
     {before : List MonthRecord} {i : ℕ} {t : ReadSoFar} (s : Sheet) (dues : List (ℕ × ℕ)) (xs : List Item) {item : Item}
     (ys : List Item) → i ≡ length before → i < b.months → AfterMonths b series before t →
     sheet_lines b s dues ≡ xs ++ item ∷ ys → AreGood b series (read_item b series t (line.Month (run_month b i))) xs →
@@ -274,7 +274,7 @@ within_month {b} valid {series} fits {before} {i} {t} s dues xs {item} ys at lef
     none_calls r c = cc
 
 -- what was read when a line between the months may come
-between_months : {b : Basin} {series : Inflows} {before : List MonthRecord} {t : ReadSoFar} {item : Item} →
+between_months : {b : Basin} {series : Series} {before : List MonthRecord} {t : ReadSoFar} {item : Item} →
     is_within item ≡ false → is_before_called item ≡ false → AfterMonths b series before t → MayCome b series t item
 between_months {b} {series} outer prefix stands = record {
   partial = subst (IsPartialHistory b series) (sym stands.months) stands.partial;
@@ -284,7 +284,7 @@ between_months {b} {series} outer prefix stands = record {
   free = λ r is. clash (sym prefix ∙ ap is_before_called is);
 }
 
-months_prefix : {b : Basin} → IsValidBasin b → {series : Inflows} → IsSeriesOf b series →
+months_prefix : {b : Basin} → IsValidBasin b → {series : Series} → IsSeriesOf b series →
     (n : ℕ) {i : ℕ} {before : List MonthRecord} {t : ReadSoFar} (items : List Item) {item : Item} (rest : List Item) →
     i ≡ length before → i + n ≡ b.months → AfterMonths b series before t →
     Fills b (from_month b i n) (items ++ item ∷ rest) → AreGood b series t items →
@@ -353,7 +353,7 @@ months_prefix {b} valid {series} fits (suc n) {i} {before} {t} items {item} rest
         (by_index xs good_month further (stands_in (sheet_lines b o.sheet o.dues) xs tail))
 
 -- what was read when a line may come after the good lines of a text
-pub may_come : {b : Basin} → IsValidBasin b → {series : Inflows} → IsSeriesOf b series →
+pub may_come : {b : Basin} → IsValidBasin b → {series : Series} → IsSeriesOf b series →
     (items : List Item) {item : Item} → AreGood b series (nothing_read b) items → IsPrefix b (items ++ item ∷ []) →
     MayCome b series (fold (read_item b series) (nothing_read b) items) item
 unfolding due

@@ -10,7 +10,7 @@ use Rattle.water_model.specs.Indices.{indices_of}
 use Rattle.result_lines.specs.declared.item.Item.{Item}
 use Rattle.result_lines.specs.declared.item.Item.TheVariants as line
 use Rattle.water_model.specs.declared.types.Basin.{Basin}
-use Rattle.water_model.specs.declared.types.Inflows.{Inflows}
+use Rattle.water_model.specs.declared.types.Series.{Series}
 use Rattle.water_model.proofs.Order.{Has}
 use Rattle.result_reader.specs.Due.{is_member}
 use Rattle.result_reader.specs.ReadSoFar.{ReadSoFar, read_item}
@@ -36,47 +36,47 @@ found_none [] h = refl
 found_none ((kind, holds) ∷ xs) h = rw (h.0) (found_none xs h.1)
 
 -- Lines after others, of which no row holds.
-abbrev pub AreGood : Basin → Inflows → ReadSoFar → List Item → Type 0
+abbrev pub AreGood : Basin → Series → ReadSoFar → List Item → Type 0
 AreGood b series t [] = Unit {0}
 AreGood b series t (i ∷ is) = NoneHolds (rows b series t i) × AreGood b series (read_item b series t i) is
 
-pub good_row : (b : Basin) (series : Inflows) (t : ReadSoFar) (i : Item) → first_row b series t i ≡ None →
+pub good_row : (b : Basin) (series : Series) (t : ReadSoFar) (i : Item) → first_row b series t i ≡ None →
     NoneHolds (rows b series t i)
 unfolding first_row
 good_row b series t i h = none_found (rows b series t i) h
 
-pub row_good : (b : Basin) (series : Inflows) (t : ReadSoFar) (i : Item) → NoneHolds (rows b series t i) →
+pub row_good : (b : Basin) (series : Series) (t : ReadSoFar) (i : Item) → NoneHolds (rows b series t i) →
     first_row b series t i ≡ None
 unfolding first_row
 row_good b series t i h = found_none (rows b series t i) h
 
-pub good_both : (b : Basin) (series : Inflows) (t : ReadSoFar) (xs ys : List Item) → AreGood b series t xs →
+pub good_both : (b : Basin) (series : Series) (t : ReadSoFar) (xs ys : List Item) → AreGood b series t xs →
     AreGood b series (fold (read_item b series) t xs) ys → AreGood b series t (xs ++ ys)
 good_both b series t [] ys g k = k
 good_both b series t (x ∷ xs) ys g k = (g.0, good_both b series (read_item b series t x) xs ys g.1 k)
 
-pub good_first : (b : Basin) (series : Inflows) (t : ReadSoFar) (xs ys : List Item) → AreGood b series t (xs ++ ys) →
+pub good_first : (b : Basin) (series : Series) (t : ReadSoFar) (xs ys : List Item) → AreGood b series t (xs ++ ys) →
     AreGood b series t xs
 good_first b series t [] ys g = tt
 good_first b series t (x ∷ xs) ys g = (g.0, good_first b series (read_item b series t x) xs ys g.1)
 
-pub good_rest : (b : Basin) (series : Inflows) (t : ReadSoFar) (xs ys : List Item) → AreGood b series t (xs ++ ys) →
+pub good_rest : (b : Basin) (series : Series) (t : ReadSoFar) (xs ys : List Item) → AreGood b series t (xs ++ ys) →
     AreGood b series (fold (read_item b series) t xs) ys
 good_rest b series t [] ys g = g
 good_rest b series t (x ∷ xs) ys g = good_rest b series (read_item b series t x) xs ys g.1
 
-pub good_parts : (b : Basin) (series : Inflows) (t : ReadSoFar) (xs ys : List Item) → AreGood b series t (xs ++ ys) →
+pub good_parts : (b : Basin) (series : Series) (t : ReadSoFar) (xs ys : List Item) → AreGood b series t (xs ++ ys) →
     AreGood b series t xs × AreGood b series (fold (read_item b series) t xs) ys
 good_parts b series t xs ys g = (good_first b series t xs ys g, good_rest b series t xs ys g)
 
 -- Lines, one for each index, after which something that the row of an index needs stays.
-pub record Section (b : Basin) (series : Inflows) (P : ReadSoFar → Type 0) (good : ℕ → Type 0) (item : ℕ →
+pub record Section (b : Basin) (series : Series) (P : ReadSoFar → Type 0) (good : ℕ → Type 0) (item : ℕ →
     Item) : Type 0 where
   pub makes : (x : ℕ) (t : ReadSoFar) → P t → good x → NoneHolds (rows b series t (item x))
   pub reads : (x : ℕ) (t : ReadSoFar) → P t → NoneHolds (rows b series t (item x)) → good x
   pub keeps : (x : ℕ) (t : ReadSoFar) → P t → P (read_item b series t (item x))
 
-pub section_good : {b : Basin} {series : Inflows} {P : ReadSoFar → Type 0} {good : ℕ → Type 0} {item : ℕ → Item} →
+pub section_good : {b : Basin} {series : Series} {P : ReadSoFar → Type 0} {good : ℕ → Type 0} {item : ℕ → Item} →
     Section b series P good item →
     (xs : List ℕ) {t : ReadSoFar} → P t → ((x : ℕ) → Has xs x → good x) → AreGood b series t (map item xs)
 section_good s [] p h = tt
@@ -86,7 +86,7 @@ section_good {b} {series} {P} {good} {item} s (x ∷ xs) {t} p h = (
       (λ y m. h y (inr m)),
 )
 
-pub good_section : {b : Basin} {series : Inflows} {P : ReadSoFar → Type 0} {good : ℕ → Type 0} {item : ℕ → Item} →
+pub good_section : {b : Basin} {series : Series} {P : ReadSoFar → Type 0} {good : ℕ → Type 0} {item : ℕ → Item} →
     Section b series P good item →
     (xs : List ℕ) (t : ReadSoFar) → P t → AreGood b series t (map item xs) → (x : ℕ) → Has xs x → good x
 good_section s [] t p g y m = absurd m
@@ -97,7 +97,7 @@ good_section {b} {series} {P} {good} s (x ∷ xs) t p g y (inl is) = subst_good 
 good_section {b} {series} {P} {good} {item} s (x ∷ xs) t p g y (inr m) =
     good_section s xs (read_item b series t (item x)) (s.keeps x t p) g.1 y m
 
-pub section_keeps : {b : Basin} {series : Inflows} {P : ReadSoFar → Type 0} {good : ℕ → Type 0} {item : ℕ → Item} →
+pub section_keeps : {b : Basin} {series : Series} {P : ReadSoFar → Type 0} {good : ℕ → Type 0} {item : ℕ → Item} →
     Section b series P good item → (xs : List ℕ) {t : ReadSoFar} → P t → P (fold (read_item b series) t (map item xs))
 section_keeps s [] p = p
 section_keeps {b} {series} {P} {good} {item} s (x ∷ xs) {t} p = section_keeps s xs (s.keeps x t p)
@@ -118,7 +118,7 @@ nothing_passed : (b : Basin) (t : ReadSoFar) (i : Item) → ((r : ℕ) → passe
 nothing_passed b t i h xs = none_holds xs (λ r m. rw (h r) (and-false (is_short t.now r && is_none (cut_of t.now r))))
 
 -- of a line before the `call` lines only the row of its own kind can hold
-pub early_good : (b : Basin) (series : Inflows) (t : ReadSoFar) (i : Item) → t.calling ≡ None →
+pub early_good : (b : Basin) (series : Series) (t : ReadSoFar) (i : Item) → t.calling ≡ None →
     ((r : ℕ) → passes b i r ≡ false) → cut_needless t i ≡ false → called_wrong b t i ≡ false →
     NoneHolds (own_rows b series t i) → NoneHolds (rows b series t i)
 early_good b series t i none passed needless called own =
@@ -132,11 +132,11 @@ pub same_is : {x y : ℕ} → x ≡ y → not (x == y) ≡ false
 same_is h = grind (arith, nat_tests)
 
 -- an `in` line is never refuted
-pub member_good : (b : Basin) (series : Inflows) (t : ReadSoFar) (n : ℕ) → NoneHolds (rows b series t (line.Member n))
+pub member_good : (b : Basin) (series : Series) (t : ReadSoFar) (n : ℕ) → NoneHolds (rows b series t (line.Member n))
 member_good b series t n =
     (refl, (nothing_passed b t (line.Member n) (λ r. refl) (indices_of b.rights), (refl, (refl, tt))))
 
-pub members_good : (b : Basin) (series : Inflows) (xs : List ℕ) (t : ReadSoFar) →
+pub members_good : (b : Basin) (series : Series) (xs : List ℕ) (t : ReadSoFar) →
     AreGood b series t (map (λ n. line.Member n) xs)
 members_good b series [] t = tt
 members_good b series (x ∷ xs) t =
@@ -149,7 +149,7 @@ found [] = refl
 found ((kind, true) ∷ xs) = refl
 found ((kind, false) ∷ xs) = found xs
 
-pub first_is : (b : Basin) (series : Inflows) (t : ReadSoFar) (i : Item) →
+pub first_is : (b : Basin) (series : Series) (t : ReadSoFar) (i : Item) →
     first_row b series t i ≡ first_of (rows b series t i)
 unfolding first_row
 first_is b series t i = found (rows b series t i)

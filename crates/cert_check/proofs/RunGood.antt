@@ -21,7 +21,7 @@ use Rattle.result_lines.specs.declared.item.Section.{Section}
 use Rattle.result_lines.specs.declared.item.Section.TheVariants as section
 use Rattle.result_lines.specs.declared.item.TheConstants.{SECTIONS}
 use Rattle.water_model.specs.declared.types.Basin.{Basin}
-use Rattle.water_model.specs.declared.types.Inflows.{Inflows}
+use Rattle.water_model.specs.declared.types.Series.{Series}
 use Rattle.water_model.specs.declared.types.MonthRecord.{MonthRecord}
 use Rattle.result_reader.specs.Records.{AreTextMonths}
 use Rattle.result_reader.specs.ReadSoFar.{ReadSoFar, read_item, nothing_read}
@@ -41,35 +41,35 @@ use Rattle.cert_check.specs.Laws.{HistoriesGiveYes}
 use Rattle.cert_check.proofs.Amounts.{history_texts}
 
 -- after the last line of a month no call is open
-unfoldable pub Calm : Basin → Inflows → List Item → Type 0
+unfoldable pub Calm : Basin → Series → List Item → Type 0
 Calm b series items = (t : ReadSoFar) → (fold (read_item b series) t items).calling ≡ None
 
-calm_after : (b : Basin) (series : Inflows) (xs ys : List Item) → Calm b series ys → Calm b series (xs ++ ys)
+calm_after : (b : Basin) (series : Series) (xs ys : List Item) → Calm b series ys → Calm b series (xs ++ ys)
 unfolding Calm
 calm_after b series xs ys h t = ap (λ u. u.calling) (fold-both (read_item b series) t xs ys) ∙
     h (fold (read_item b series) t xs)
 
-end_calm : (b : Basin) (series : Inflows) → Calm b series (line.End ∷ [])
+end_calm : (b : Basin) (series : Series) → Calm b series (line.End ∷ [])
 unfolding Calm
 end_calm b series t = refl
 
-calm_onto : (b : Basin) (series : Inflows) (f : Section → List Item) (ks : List Section) (ys : List Item) →
+calm_onto : (b : Basin) (series : Series) (f : Section → List Item) (ks : List Section) (ys : List Item) →
     Calm b series ys → Calm b series (onto f ks ys)
 calm_onto b series f [] ys h = h
 calm_onto b series f (k ∷ ks) ys h = calm_after b series (f k) (onto f ks ys) (calm_onto b series f ks ys h)
 
-pub inner_calm : (b : Basin) (series : Inflows) (m : MonthRecord) (dues : List (ℕ × ℕ)) →
+pub inner_calm : (b : Basin) (series : Series) (m : MonthRecord) (dues : List (ℕ × ℕ)) →
     Calm b series (inner_lines b m dues)
 inner_calm b series m dues = calm_onto b series (section_lines b m dues) SECTIONS (line.End ∷ []) (end_calm b series)
 
-pub calm : (b : Basin) (series : Inflows) (items : List Item) (t : ReadSoFar) → Calm b series items →
+pub calm : (b : Basin) (series : Series) (items : List Item) (t : ReadSoFar) → Calm b series items →
     (fold (read_item b series) t items).calling ≡ None
 unfolding Calm
 calm b series items t h = h t
 
 -- The months of a history.
 
-pub follows_of : {b : Basin} {series : Inflows} {records before : List MonthRecord} (ms : List MonthRecord)
+pub follows_of : {b : Basin} {series : Series} {records before : List MonthRecord} (ms : List MonthRecord)
     {m : MonthRecord} → IsPartialHistory b series records → records ≡ before ++ m ∷ ms → Follows b series before m
 follows_of {b} {series} {records} {before} ms {m} h is = subst (λ (xs : List MonthRecord). Follows b series xs m)
     (ap (take (length before)) is ∙ take-append_seam before (m ∷ ms))
@@ -79,7 +79,7 @@ pub items_are : (b : Basin) (m : MonthRecord) →
     items_of_month b m ≡ line.Month m.month ∷ inner_lines b m (callers_due b m)
 items_are b m = month_is b m (calling_right b m)
 
-months_good : {b : Basin} {series : Inflows} {records before : List MonthRecord} (ms : List MonthRecord) →
+months_good : {b : Basin} {series : Series} {records before : List MonthRecord} (ms : List MonthRecord) →
     IsValidBasin b → IsPartialHistory b series records → AreTextMonths b series records → records ≡ before ++ ms →
     AreAllRead b series (length before) ms → (t : ReadSoFar) → t.calling ≡ None → t.months ≡ before →
     AreGood b series t (flat_map (items_of_month b) ms) ×
@@ -115,7 +115,7 @@ months_good {b} {series} {records} {before} (m ∷ ms) valid history texts is so
           rest.1,
     )
 
-run_items_good : {b : Basin} {series : Inflows} {records : List MonthRecord} → IsValidBasin b →
+run_items_good : {b : Basin} {series : Series} {records : List MonthRecord} → IsValidBasin b →
     IsPartialHistory b series records → AreTextMonths b series records →
     AreGood b series (nothing_read b) (items_of b records)
 run_items_good {b} {series} {records} valid history texts =
@@ -186,7 +186,7 @@ ends_whole : (xs : List Item) (n : ℕ) → is_whole (xs ++ line.Done n ∷ []) 
 ends_whole xs n = list_any-append is_done xs (line.Done n ∷ []) ∙ or-true (is_whole xs)
 
 -- the verdict on the text of records of a history
-pub text_good : {b : Basin} {series : Inflows} {records : List MonthRecord} → IsValidBasin b →
+pub text_good : {b : Basin} {series : Series} {records : List MonthRecord} → IsValidBasin b →
     IsHistory b series records → AreTextMonths b series records →
     verdict b series (map (line_of b) (items_of b records)) [] ≡ Ok (items_of b records)
 text_good {b} {series} {records} valid history texts = says_yes b series (map (line_of b) (items_of b records))

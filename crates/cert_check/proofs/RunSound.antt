@@ -15,7 +15,7 @@ use Rattle.water_model.specs.Valid.{IsValidBasin}
 use Rattle.result_lines.specs.declared.item.Item.{Item}
 use Rattle.result_lines.specs.declared.item.Item.TheVariants as line
 use Rattle.water_model.specs.declared.types.Basin.{Basin}
-use Rattle.water_model.specs.declared.types.Inflows.{Inflows}
+use Rattle.water_model.specs.declared.types.Series.{Series}
 use Rattle.water_model.specs.declared.types.MonthRecord.{MonthRecord}
 use Rattle.water_model.proofs.Histories.{nothing_is_partial, one_month_more, opens_with_last}
 use Rattle.result_reader.specs.Form.{Fills, IsPrefix, due, due_in_month, due_for_month}
@@ -87,7 +87,7 @@ last_line b {items} h =
     last.are ∙ (ap (λ ms. line.Done b.months ∷ (ms ++ last.others)) last.followed
     ∙ ap (λ ys. line.Done b.months ∷ ys) last.rest)
 
-months_end : {b : Basin} → IsValidBasin b → (series : Inflows) (n i : ℕ) {items : List Item} →
+months_end : {b : Basin} → IsValidBasin b → (series : Series) (n i : ℕ) {items : List Item} →
     Fills b (from_month b i n) items → Ends b.months items
 unfolding numbers_from
 months_end {b} valid series zero i h = record { prefix = []; are = last_line b h; open_yet = refl }
@@ -120,21 +120,21 @@ nothing_after (x ∷ xs) (i ∷ items) {rest} d e none some =
 -- The months.
 
 -- what stands after some months that are not refuted
-pub record AfterMonths (b : Basin) (series : Inflows) (before : List MonthRecord) (t : ReadSoFar) : Type 0 where
+pub record AfterMonths (b : Basin) (series : Series) (before : List MonthRecord) (t : ReadSoFar) : Type 0 where
   pub calling : t.calling ≡ None
   pub months : t.months ≡ before
   pub partial : IsPartialHistory b series before
   pub opens : length (opening_after b before) ≡ length b.reservoirs
 
 -- one more month that is not refuted
-pub record NextMonth (b : Basin) (series : Inflows) (before : List MonthRecord) (t : ReadSoFar) (i : ℕ) (s : Sheet)
+pub record NextMonth (b : Basin) (series : Series) (before : List MonthRecord) (t : ReadSoFar) (i : ℕ) (s : Sheet)
     (dues : List (ℕ × ℕ)) : Type 0 where
   pub lines_are : line.Month (run_month b i) ∷ sheet_lines b s dues ≡ items_of_month b (record_of b series i s)
   pub after : AfterMonths b series (before ++ record_of b series i s ∷ [])
       (fold (read_item b series) t (items_of_month b (record_of b series i s)))
 
 pub next_month : {b : Basin} → IsValidBasin b →
-    {series : Inflows} {before : List MonthRecord} {t : ReadSoFar} (i : ℕ) (s : Sheet) (dues : List (ℕ × ℕ)) →
+    {series : Series} {before : List MonthRecord} {t : ReadSoFar} (i : ℕ) (s : Sheet) (dues : List (ℕ × ℕ)) →
     ((r : ℕ) (set : List Bool) → s.cut r ≡ Some set → length set ≡ length b.nodes) → i ≡ length before → i < b.months →
     AfterMonths b series before t →
     AreGood b series t (line.Month (run_month b i) ∷ sheet_lines b s dues) → NextMonth b series before t i s dues
@@ -179,14 +179,14 @@ next_month {b} valid {series} {before} {t} i s dues sized at left stands g =
     follows = good_follows valid so_far good.0 at refl stands.opens
 
 -- the months of a text that is not refuted are those of a history
-record Months (b : Basin) (series : Inflows) (before : List MonthRecord) (n : ℕ) (items : List Item) : Type 0 where
+record Months (b : Basin) (series : Series) (before : List MonthRecord) (n : ℕ) (items : List Item) : Type 0 where
   records : List MonthRecord
   count : length records ≡ n
   partial : IsPartialHistory b series (before ++ records)
   are : items ≡ flat_map (items_of_month b) records ++ line.Done b.months ∷ []
 
 months_sound : {b : Basin} → IsValidBasin b →
-    {series : Inflows} (n : ℕ) {i : ℕ} {before : List MonthRecord} {t : ReadSoFar} {items : List Item} →
+    {series : Series} (n : ℕ) {i : ℕ} {before : List MonthRecord} {t : ReadSoFar} {items : List Item} →
     i ≡ length before → i + n ≡ b.months → AfterMonths b series before t → Fills b (from_month b i n) items →
     AreGood b series t items → Months b series before n items
 unfolding numbers_from
@@ -222,7 +222,7 @@ record Head (b : Basin) (items : List Item) : Type 0 where
   others : List Item
   first : Item
   not_done : is_done first ≡ false
-  is_run : (t : ReadSoFar) (series : Inflows) → NoneHolds (rows b series t first) → first ≡ line.Run b.first b.months
+  is_run : (t : ReadSoFar) (series : Series) → NoneHolds (rows b series t first) → first ≡ line.Run b.first b.months
   are : items ≡ line.Title ∷ first ∷ others
   rest : Fills b (from_month b 0 b.months) others
 
@@ -242,7 +242,7 @@ head_of {b} {items} h =
     }
 
 -- the last line of a whole text is `done`
-pub ends_with_done : {b : Basin} → IsValidBasin b → Inflows → {items : List Item} → Fills b (due b) items →
+pub ends_with_done : {b : Basin} → IsValidBasin b → Series → {items : List Item} → Fills b (due b) items →
     (prefix : List Item) × (items ≡ prefix ++ line.Done b.months ∷ [])
 ends_with_done {b} valid series h =
     let head = head_of h in
@@ -252,7 +252,7 @@ ends_with_done {b} valid series h =
     )
 
 -- lines that begin a whole text, and have its last line, are one
-whole_fills : {b : Basin} → IsValidBasin b → Inflows → {items : List Item} → is_whole items ≡ true → IsPrefix b items →
+whole_fills : {b : Basin} → IsValidBasin b → Series → {items : List Item} → is_whole items ≡ true → IsPrefix b items →
     Fills b (due b) items
 whole_fills {b} valid series {items} whole prefix =
     let head = head_of prefix.whole in
@@ -271,12 +271,12 @@ whole_fills {b} valid series {items} whole prefix =
     head_open h = h.not_done
 
 -- a yes is for the text of a history
-pub record IsOfHistory (b : Basin) (series : Inflows) (items : List Item) : Type 0 where
+pub record IsOfHistory (b : Basin) (series : Series) (items : List Item) : Type 0 where
   pub records : List MonthRecord
   pub history : IsHistory b series records
   pub are : items ≡ items_of b records
 
-pub items_sound : {b : Basin} → IsValidBasin b → {series : Inflows} {items : List Item} → is_whole items ≡ true →
+pub items_sound : {b : Basin} → IsValidBasin b → {series : Series} {items : List Item} → is_whole items ≡ true →
     IsPrefix b items → AreGood b series (nothing_read b) items → IsOfHistory b series items
 items_sound {b} valid {series} whole prefix g =
     let head = head_of (whole_fills valid series whole prefix) in

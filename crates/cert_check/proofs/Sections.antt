@@ -12,7 +12,7 @@ use Rattle.water_model.specs.Plans.{carry_of}
 use Rattle.result_lines.specs.declared.item.Item.TheVariants as line
 use Rattle.result_lines.specs.declared.quantity.Quantity.TheVariants as quantity
 use Rattle.water_model.specs.declared.types.Basin.{Basin}
-use Rattle.water_model.specs.declared.types.Inflows.{Inflows}
+use Rattle.water_model.specs.declared.types.Series.{Series}
 use Rattle.water_model.specs.declared.types.MonthRecord.{MonthRecord}
 use Rattle.result_reader.specs.ReadSoFar.{ReadSoFar}
 use Rattle.cert_check.specs.Checking.{rows, amount_wrong}
@@ -36,7 +36,7 @@ abbrev pub Flows : ℕ → List ℕ → List ℕ → ReadSoFar → Type 0
 Flows index used flow t = (t.calling ≡ None) × (t.now.index ≡ index) × (t.now.used ≡ used) × (t.now.plan.flow ≡ flow)
 
 -- An `open` line is refuted for its amount alone, and so are the lines after it.
-pub openings : (b : Basin) (series : Inflows) (before : List MonthRecord) (a : ℕ → ℕ) → Section b series (After before)
+pub openings : (b : Basin) (series : Series) (before : List MonthRecord) (a : ℕ → ℕ) → Section b series (After before)
     (λ x. a x ≡ slice_index (opening_after b before) x) (λ x. line.Amount quantity.Opening x (a x))
 openings b series before a = record {
   makes = λ x t p g. early_good b series t (line.Amount quantity.Opening x (a x)) p.0 (λ r. refl) refl refl (
@@ -50,7 +50,7 @@ openings b series before a = record {
 }
 
 -- `evap` lines
-pub evaporations : (b : Basin) (series : Inflows) (index : ℕ) (opening : List ℕ) (a : ℕ → ℕ) →
+pub evaporations : (b : Basin) (series : Series) (index : ℕ) (opening : List ℕ) (a : ℕ → ℕ) →
     Section b series (Opened index opening) (λ x. a x ≡ of_entry b.reservoirs x
     (λ r. evaporation r.area (slice_index opening x) (slice_index r.rate (in_year b index))) 0)
     (λ x. line.Amount quantity.Evaporated x (a x))
@@ -66,7 +66,7 @@ evaporations b series index opening a = record {
 }
 
 -- `return` lines
-pub returns : (b : Basin) (series : Inflows) (before : List MonthRecord) (index : ℕ) (a : ℕ → ℕ) →
+pub returns : (b : Basin) (series : Series) (before : List MonthRecord) (index : ℕ) (a : ℕ → ℕ) →
     Section b series (AfterAt before index) (λ x. a x ≡ returned_at b (map (λ m. m.delivered) before) x index)
     (λ x. line.Amount quantity.Returned x (a x))
 returns b series before index a = record {
@@ -78,7 +78,7 @@ returns b series before index a = record {
 }
 
 -- `used` lines
-pub uses : (b : Basin) (series : Inflows) (before : List MonthRecord) (index : ℕ) (a : ℕ → ℕ) →
+pub uses : (b : Basin) (series : Series) (before : List MonthRecord) (index : ℕ) (a : ℕ → ℕ) →
     Section b series (AfterAt before index) (λ x. a x ≡ used_of b (map (λ m. m.delivered) before) x index)
     (λ x. line.Amount quantity.Used x (a x))
 uses b series before index a = record {
@@ -90,7 +90,7 @@ uses b series before index a = record {
 }
 
 -- `flow` lines
-pub flows : (b : Basin) (series : Inflows) (month : Month) (a : ℕ → ℕ) → Section b series (InMonth month)
+pub flows : (b : Basin) (series : Series) (month : Month) (a : ℕ → ℕ) → Section b series (InMonth month)
     (λ x. nat_lt (carry_of b month x) (a x) ≡ false) (λ x. line.Amount quantity.Flow x (a x))
 flows b series month a = record {
   makes = λ x t p g. early_good b series t (line.Amount quantity.Flow x (a x)) p.0 (λ r. refl) refl refl
@@ -100,7 +100,7 @@ flows b series month a = record {
 }
 
 -- `deliver` lines
-pub deliveries : (b : Basin) (series : Inflows) (index : ℕ) (used flow : List ℕ) (a w : ℕ → ℕ) →
+pub deliveries : (b : Basin) (series : Series) (index : ℕ) (used flow : List ℕ) (a w : ℕ → ℕ) →
     Section b series (Flows index used flow) (λ x. (w x ≡ want_of b series x index (slice_index used x))
     × (amount_wrong (instream_link b x) flow (a x) (w x) ≡ false)) (λ x. line.Deliver x (a x) (w x))
 deliveries b series index used flow a w = record {
@@ -119,19 +119,19 @@ deliveries b series index used flow a w = record {
   keeps = λ x t p. (refl, p.1, p.2, p.3);
 }
 
-pub title_good : (b : Basin) (series : Inflows) (t : ReadSoFar) → t.calling ≡ None →
+pub title_good : (b : Basin) (series : Series) (t : ReadSoFar) → t.calling ≡ None →
     NoneHolds (rows b series t (line.Title))
 title_good b series t h = early_good b series t (line.Title) h (λ r. refl) refl refl tt
 
-pub month_good : (b : Basin) (series : Inflows) (t : ReadSoFar) (month : Month) → t.calling ≡ None →
+pub month_good : (b : Basin) (series : Series) (t : ReadSoFar) (month : Month) → t.calling ≡ None →
     NoneHolds (rows b series t (line.Month month))
 month_good b series t month h = early_good b series t (line.Month month) h (λ r. refl) refl refl tt
 
-pub last_good : (b : Basin) (series : Inflows) (t : ReadSoFar) (months : ℕ) → t.calling ≡ None →
+pub last_good : (b : Basin) (series : Series) (t : ReadSoFar) (months : ℕ) → t.calling ≡ None →
     NoneHolds (rows b series t (line.Done months))
 last_good b series t months h = early_good b series t (line.Done months) h (λ r. refl) refl refl tt
 
-pub run_good : (b : Basin) (series : Inflows) (t : ReadSoFar) → t.calling ≡ None →
+pub run_good : (b : Basin) (series : Series) (t : ReadSoFar) → t.calling ≡ None →
     NoneHolds (rows b series t (line.Run b.first b.months))
 run_good b series t h = early_good b series t (line.Run b.first b.months) h (λ r. refl) refl refl
     (run_same b.first.year b.first.month b.months, tt)
@@ -139,6 +139,6 @@ run_good b series t h = early_good b series t (line.Run b.first b.months) h (λ 
     run_same : (y m n : ℕ) → not (y == y && m == m && n == n) ≡ false
     run_same y m n = grind (arith, nat_tests)
 
-pub head_is : (b : Basin) (series : Inflows) (t : ReadSoFar) {first : Month} {months : ℕ} →
+pub head_is : (b : Basin) (series : Series) (t : ReadSoFar) {first : Month} {months : ℕ} →
     NoneHolds (rows b series t (line.Run first months)) → (first ≡ b.first) × (months ≡ b.months)
 head_is b series t n = (let h = n.1.1.1.1.0 in grind (arith, nat_tests, same_month))

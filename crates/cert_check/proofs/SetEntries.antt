@@ -9,7 +9,7 @@ use Rattle.water_model.specs.History.{cut_of}
 use Rattle.water_model.specs.Indices.{seniors_first}
 use Rattle.result_lines.specs.declared.item.Item.TheVariants as line
 use Rattle.water_model.specs.declared.types.Basin.{Basin}
-use Rattle.water_model.specs.declared.types.Inflows.{Inflows}
+use Rattle.water_model.specs.declared.types.Series.{Series}
 use Rattle.water_model.specs.declared.types.MonthRecord.{MonthRecord}
 use Rattle.result_reader.specs.ReadSoFar.{ReadSoFar, read_item, with_member}
 use Rattle.cut_cert.specs.Callers.{AreCallers}
@@ -44,7 +44,7 @@ with_own a r set calling = record a {
 abbrev read_own : ReadSoFar → ℕ → Option (List Bool) → Option ℕ → ReadSoFar
 read_own t r set due = record t { now = record t.now { cuts = with_set t.now.cuts r set }; calling = due }
 
-keeps_set : {b : Basin} {series : Inflows} {a : CheckState} {t : ReadSoFar} {r : ℕ} (set : List Bool)
+keeps_set : {b : Basin} {series : Series} {a : CheckState} {t : ReadSoFar} {r : ℕ} (set : List Bool)
     {calling due : Option ℕ} → r < length b.rights → t.called ≡ 0 →
     IsCalling b (with_set a.month.cuts r (Some set)) calling due → Keeps b series a t →
     Keeps b series (with_own a r set calling) (read_own t r (Some set) due)
@@ -65,7 +65,7 @@ keeps_set {b} {series} {a} {t} {r} set {calling} l none held k = record {
 }
 
 -- a `call` line
-pub keeps_call : {b : Basin} {series : Inflows} {a : CheckState} {t : ReadSoFar} {x : ℕ} →
+pub keeps_call : {b : Basin} {series : Series} {a : CheckState} {t : ReadSoFar} {x : ℕ} →
     x < length b.rights → t.called ≡ 0 → Keeps b series a t →
     Keeps b series (with_own a x (replicate a.month.cuts.nodes false) (Some x)) (read_item b series t (line.Call x))
 keeps_call {b} {series} {a} {t} {x} l none k =
@@ -82,7 +82,7 @@ keeps_call {b} {series} {a} {t} {x} l none k =
         rw (← is) (l, has_set a.month.cuts set (omega (arith, l, k.month.fits.fits.cuts)))
 
 -- an `in` line, after no `call`
-keeps_stray : {b : Basin} {series : Inflows} {a : CheckState} {t : ReadSoFar} (node : ℕ) → t.called ≡ 0 →
+keeps_stray : {b : Basin} {series : Series} {a : CheckState} {t : ReadSoFar} (node : ℕ) → t.called ≡ 0 →
     a.calling ≡ None → Keeps b series a t →
     Keeps b series (record a { has_callers = false; answered = 0 }) (read_item b series t (line.Member node))
 keeps_stray {b} {series} {a} {t} node none stray k = by_call t.calling (sym k.calling.so_far ∙ stray)
@@ -96,7 +96,7 @@ keeps_stray {b} {series} {a} {t} node none stray k = by_call t.calling (sym k.ca
     by_call (Some r) e = cc
 
 -- an `in` line of the right whose nodes come
-keeps_member : {b : Basin} {series : Inflows} {a : CheckState} {t : ReadSoFar} (node : ℕ) {right : ℕ}
+keeps_member : {b : Basin} {series : Series} {a : CheckState} {t : ReadSoFar} (node : ℕ) {right : ℕ}
     {set : List Bool} → t.called ≡ 0 → a.calling ≡ Some right → set_of a.month.cuts right ≡ Some set →
     Keeps b series a t →
     Keeps b series (with_own a right (slice_set set node true) a.calling) (read_item b series t (line.Member node))
@@ -133,7 +133,7 @@ keeps_member {b} {series} {a} {t} node {right} {set} none own is k = by_call t.c
         (read_own t right (option_map (λ old. slice_set old node true) o) t.calling)) (sym so_far) kept)
 
 -- an `in` line, whether or not it comes after a `call`
-pub keeps_node : {b : Basin} {series : Inflows} {a after : CheckState} {t : ReadSoFar} (node : ℕ) → t.called ≡ 0 →
+pub keeps_node : {b : Basin} {series : Series} {a after : CheckState} {t : ReadSoFar} (node : ℕ) → t.called ≡ 0 →
     (a.calling ≡ None → after ≡ record a { has_callers = false; answered = 0 }) →
     ((right : ℕ) (set : List Bool) → a.calling ≡ Some right → set_of a.month.cuts right ≡ Some set →
     after ≡ with_own a right (slice_set set node true) a.calling) →

@@ -23,7 +23,7 @@ use Rattle.result_lines.specs.declared.quantity.Quantity.{Quantity}
 use Rattle.result_lines.specs.declared.quantity.Quantity.TheVariants as quantity
 use Rattle.water_model.specs.declared.space.Space.{Space}
 use Rattle.water_model.specs.declared.types.Basin.{Basin}
-use Rattle.water_model.specs.declared.types.Inflows.{Inflows}
+use Rattle.water_model.specs.declared.types.Series.{Series}
 use Rattle.water_model.specs.declared.types.MonthRecord.{MonthRecord}
 use Rattle.water_model.proofs.Order.{Has, IsOrdered, filter-has, numbers_from-below, seniors_have, seniors_below}
 use Rattle.water_model.proofs.Order.{flat_same, map_same, seniors_ordered}
@@ -83,7 +83,7 @@ sheet_lines b s dues = onto (sheet_section b s dues) SECTIONS (line.End ∷ [])
 abbrev pub zeros : ℕ → List ℕ
 zeros n = replicate n 0
 
-abbrev pub supplied : Basin → Inflows → MonthRecord → MonthRecord
+abbrev pub supplied : Basin → Series → MonthRecord → MonthRecord
 supplied b series m =
     record m {
       supply = map (λ n. inflow_at b series n m.index + slice_index m.returned n + stored_at b m.opening m.evaporated n)
@@ -93,7 +93,7 @@ supplied b series m =
 abbrev pub listed : Basin → Sheet → Quantity → List ℕ
 listed b s q = set_all (entries_with_line b q) (s.amount q) (zeros (count_in (space_of q) b))
 
-abbrev pub record_of : Basin → Inflows → ℕ → Sheet → MonthRecord
+abbrev pub record_of : Basin → Series → ℕ → Sheet → MonthRecord
 record_of b series i s = supplied b series (record {
   index = i;
   month = run_month b i;
@@ -113,7 +113,7 @@ record_of b series i s = supplied b series (record {
   closing = listed b s quantity.Closing;
 })
 
-pub amounts_are : (b : Basin) (series : Inflows) (i : ℕ) (s : Sheet) (q : Quantity) →
+pub amounts_are : (b : Basin) (series : Series) (i : ℕ) (s : Sheet) (q : Quantity) →
     amounts_of q (record_of b series i s) ≡ listed b s q
 amounts_are b series i s quantity.Opening = refl
 amounts_are b series i s quantity.Evaporated = refl
@@ -144,7 +144,7 @@ cut_is b cut {k} h =
     (omega (arith, length-replicate {A = Option (List Bool)} (length b.rights) None)) (no_sets (length b.rights) k) h)
 
 -- all of a sheet's record is read
-pub record_read : {b : Basin} (series : Inflows) (i : ℕ) (s : Sheet) →
+pub record_read : {b : Basin} (series : Series) (i : ℕ) (s : Sheet) →
     ((r : ℕ) (set : List Bool) → s.cut r ≡ Some set → length set ≡ length b.nodes) →
     IsAllRead b series (record_of b series i s)
 record_read {b} series i s sized = record {
@@ -180,7 +180,7 @@ record_read {b} series i s sized = record {
     ]
 
 -- and its lines are those of the sheet
-pub record_lines : (b : Basin) (series : Inflows) (i : ℕ) (s : Sheet) (dues : List (ℕ × ℕ)) →
+pub record_lines : (b : Basin) (series : Series) (i : ℕ) (s : Sheet) (dues : List (ℕ × ℕ)) →
     sheet_lines b s dues ≡ inner_lines b (record_of b series i s) dues
 record_lines b series i s dues =
     onto_same (sheet_section b s dues) (section_lines b (record_of b series i s) dues) by_section SECTIONS

@@ -10,7 +10,7 @@ use Rattle.result_lines.specs.declared.item.Item.{Item}
 use Rattle.result_lines.specs.declared.item.Item.TheVariants as line
 use Rattle.water_model.proofs.Histories.{last_follows}
 use Rattle.water_model.specs.declared.types.Basin.{Basin}
-use Rattle.water_model.specs.declared.types.Inflows.{Inflows}
+use Rattle.water_model.specs.declared.types.Series.{Series}
 use Rattle.result_reader.specs.Due.{Due, all_due, due_after, is_call, step}
 use Rattle.result_reader.specs.Form.{due, due_in_month, Fills, IsPrefix}
 use Rattle.result_reader.specs.Reading.{read_line}
@@ -70,14 +70,14 @@ bounded_items {b} r items valid is reads =
         let all : count * (1 + dues + rights * nodes) ≤ 1200 * (1 + 50000 + 2000 * 2000) = mul-le-mul m month in
         omega arith
 
-pub bounded_lines : {b : Basin} {series : Inflows} {k : CheckProgress} {lines : List (List ℕ)} → IsValidBasin b →
+pub bounded_lines : {b : Basin} {series : Series} {k : CheckProgress} {lines : List (List ℕ)} → IsValidBasin b →
     IsProgressOf b series k lines → k.read + 1 < 2 ^ 64
 bounded_lines {b} {series} {k} valid s =
     omega (arith, bounded_items k.reader s.items valid s.basin s.reader, s.counts.read)
 
 -- The verdict with one more line.
 
-one_more : (b : Basin) (series : Inflows) (before : List Item) (lines : List (List ℕ)) (bytes : List ℕ) →
+one_more : (b : Basin) (series : Series) (before : List Item) (lines : List (List ℕ)) (bytes : List ℕ) →
     verdict_from b series before (lines ++ bytes ∷ [])
     ≡ ok_then (λ items. ok_then (λ item. Ok (items ++ item ∷ [])) (judge b series items bytes))
     (verdict_from b series before lines)
@@ -85,12 +85,12 @@ one_more b series before [] bytes = refl
 one_more b series before (line ∷ lines) bytes =
     (let further = λ (item : Item). one_more b series (before ++ item ∷ []) lines bytes in grind arith)
 
-pub still_refused : (b : Basin) (series : Inflows) (lines : List (List ℕ)) (bytes : List ℕ) {e : Refuted} →
+pub still_refused : (b : Basin) (series : Series) (lines : List (List ℕ)) (bytes : List ℕ) {e : Refuted} →
     verdict_from b series [] lines ≡ Err e → verdict_from b series [] (lines ++ bytes ∷ []) ≡ Err e
 still_refused b series lines bytes h = one_more b series [] lines bytes
     ∙ ap (ok_then (λ items. ok_then (λ item. Ok (items ++ item ∷ [])) (judge b series items bytes))) h
 
-pub line_judged : (b : Basin) (series : Inflows) (lines : List (List ℕ)) (bytes : List ℕ) {items : List Item}
+pub line_judged : (b : Basin) (series : Series) (lines : List (List ℕ)) (bytes : List ℕ) {items : List Item}
     {r : Result Item Refuted} → verdict_from b series [] lines ≡ Ok items → judge b series items bytes ≡ r →
     verdict_from b series [] (lines ++ bytes ∷ []) ≡ ok_then (λ item. Ok (items ++ item ∷ [])) r
 line_judged b series lines bytes {items} h j = one_more b series [] lines bytes
@@ -98,25 +98,25 @@ line_judged b series lines bytes {items} h j = one_more b series [] lines bytes
     ∙ ap (ok_then (λ item. Ok (items ++ item ∷ []))) j)
 
 -- what a line is judged by
-pub judged_ended : (b : Basin) (series : Inflows) (items : List Item) (bytes : List ℕ) → is_whole items ≡ true →
+pub judged_ended : (b : Basin) (series : Series) (items : List Item) (bytes : List ℕ) → is_whole items ≡ true →
     judge b series items bytes ≡ Err (record { line = length items + 1; kind = kind.AfterEnd })
 unfolding judge
 judged_ended b series items bytes whole = rw whole refl
 
-pub judged_bad : (b : Basin) (series : Inflows) (items : List Item) (bytes : List ℕ) {why : BadLine} →
+pub judged_bad : (b : Basin) (series : Series) (items : List Item) (bytes : List ℕ) {why : BadLine} →
     is_whole items ≡ false → read_line b items bytes ≡ Err why →
     judge b series items bytes ≡ Err (record { line = length items + 1; kind = kind.BadLine })
 unfolding judge
 judged_bad b series items bytes open_yet read = rw (open_yet, read) refl
 
-pub judged_item : (b : Basin) (series : Inflows) (items : List Item) (bytes : List ℕ) {item : Item} →
+pub judged_item : (b : Basin) (series : Series) (items : List Item) (bytes : List ℕ) {item : Item} →
     is_whole items ≡ false → read_line b items bytes ≡ Ok item →
     judge b series items bytes ≡ judge_row items item (first_row b series (read_so_far b series items) item)
 unfolding judge
 judged_item b series items bytes open_yet read = rw (open_yet, read) refl
 
 -- what is known of a line that is read
-pub line_comes : {b : Basin} {series : Inflows} (lines : List (List ℕ)) (bytes : List ℕ) {items : List Item}
+pub line_comes : {b : Basin} {series : Series} (lines : List (List ℕ)) (bytes : List ℕ) {items : List Item}
     {item : Item} → IsValidBasin b → IsSeriesOf b series → verdict_from b series [] lines ≡ Ok items →
     read_line b items bytes ≡ Ok item → MayCome b series (read_so_far b series items) item
 line_comes {b} {series} lines bytes {items} {item} valid fits h read =
@@ -133,7 +133,7 @@ last_same (x ∷ z ∷ xs) [] e = cc
 last_same (x ∷ xs) (y ∷ ys) {i} {j} e = let tail : xs ++ i ∷ [] ≡ ys ++ j ∷ [] = cc in last_same xs ys tail
 
 -- the month that a good `end` line ends follows those before it
-pub line_ends : {b : Basin} {series : Inflows} (lines : List (List ℕ)) (bytes : List ℕ) {items : List Item}
+pub line_ends : {b : Basin} {series : Series} (lines : List (List ℕ)) (bytes : List ℕ) {items : List Item}
     {item : Item} → IsValidBasin b → IsSeriesOf b series → verdict_from b series [] lines ≡ Ok items →
     read_line b items bytes ≡ Ok item → item ≡ line.End → first_row b series (read_so_far b series items) item ≡ None →
     MonthFollows b series (read_so_far b series items)
@@ -173,7 +173,7 @@ line_ends {b} {series} lines bytes {items} {item} valid fits h read is none =
         })).partial
 
 -- a line that is taken, or refused by a row
-pub took : {b : Basin} (series : Inflows) (k : CheckProgress) (lines : List (List ℕ)) (bytes : List ℕ)
+pub took : {b : Basin} (series : Series) (k : CheckProgress) (lines : List (List ℕ)) (bytes : List ℕ)
     {items : List Item} (item : Item) (result : Result (Unit {0}) Refuted) → verdict_from b series [] lines ≡ Ok items →
     judge b series items bytes ≡ judge_row items item (first_row b series (read_so_far b series items) item) →
     k.reader.basin ≡ b → reader.ReaderStandsFor k.reader (items ++ item ∷ []) → TakesItem b series k items item result →
@@ -191,7 +191,7 @@ took {b} series k lines bytes item (Err e) good judged basin stands refuted =
     line_judged b series lines bytes good (judged ∙ refuted)
 
 -- check progress after a line that may be taken
-pub lines_after : {T : Type 0} {b : Basin} {series : Inflows} {k after : CheckProgress} (o : Option T)
+pub lines_after : {T : Type 0} {b : Basin} {series : Series} {k after : CheckProgress} (o : Option T)
     (now : T → List ℕ) → IfSome o (λ text. (lines : List (List ℕ)) → IsProgressOf b series k lines → IsProgressOf b
     series after (lines ++ now text ∷ [])) → IfNone o (after ≡ k) → HasLines b series k → HasLines b series after
 lines_after {T} {b} {series} None now taken none h = subst (λ (k : CheckProgress). HasLines b series k) (sym none) h

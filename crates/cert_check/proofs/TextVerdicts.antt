@@ -6,20 +6,20 @@ use Rattle.std.proofs.Math.Seq.{take-append_seam, take-append-add}
 use Rattle.std.proofs.lemmas.Bool.Decides.{nat_tests}
 use Rattle.result_lines.specs.declared.item.Item.{Item}
 use Rattle.water_model.specs.declared.types.Basin.{Basin}
-use Rattle.water_model.specs.declared.types.Inflows.{Inflows}
+use Rattle.water_model.specs.declared.types.Series.{Series}
 use Rattle.cert_check.specs.Checking.{ok_then, verdict, verdict_at_end, verdict_from}
 use Rattle.cert_check.specs.Whole.{pieces_of, after_last, is_line, lines_of_pieces, rest_of_pieces, text_verdict}
 use Rattle.cert_check.specs.declared.refuted.Refuted.{Refuted}
 
 -- A refusal stands, whatever lines come after.
 
-refused : (b : Basin) (series : Inflows) (before : List Item) (xs ys : List (List ℕ)) {e : Refuted} →
+refused : (b : Basin) (series : Series) (before : List Item) (xs ys : List (List ℕ)) {e : Refuted} →
     verdict_from b series before xs ≡ Err e → verdict_from b series before (xs ++ ys) ≡ Err e
 refused b series before [] ys {e} h = let never : Ok before ≡ Err e = h in cc
 refused b series before (x ∷ xs) ys {e} h =
     (let further = λ (i : Item). refused b series (before ++ i ∷ []) xs ys {e = e} in grind arith)
 
-pub refused_text : (b : Basin) (series : Inflows) (xs ys : List (List ℕ)) (rest : List ℕ) {e : Refuted} →
+pub refused_text : (b : Basin) (series : Series) (xs ys : List (List ℕ)) (rest : List ℕ) {e : Refuted} →
     verdict_from b series [] xs ≡ Err e → verdict b series (xs ++ ys) rest ≡ Err e
 refused_text b series xs ys rest h = ap (ok_then (verdict_at_end rest)) (refused b series [] xs ys h)
 
@@ -39,7 +39,7 @@ prefix-end : (xs : List (List ℕ)) (x : List ℕ) → take (length (xs ++ x ∷
 prefix-end xs x = ap (λ n. take n (xs ++ x ∷ [])) (one_less xs x) ∙ take-append_seam xs (x ∷ [])
 
 -- a rest that counts as a line
-pub long_rest : (b : Basin) (series : Inflows) (lines : List (List ℕ)) (rest : List ℕ) → 128 < length rest →
+pub long_rest : (b : Basin) (series : Series) (lines : List (List ℕ)) (rest : List ℕ) → 128 < length rest →
     verdict b series (lines_of_pieces (lines ++ rest ∷ [])) (rest_of_pieces (lines ++ rest ∷ [])) ≡ verdict b series
     (lines ++ rest ∷ []) []
 long_rest b series lines rest h =
@@ -51,7 +51,7 @@ long_rest b series lines rest h =
     passes n h = grind (arith, nat_tests)
 
 -- and one that doesn't
-pub short_rest : (b : Basin) (series : Inflows) (lines : List (List ℕ)) (rest : List ℕ) → length rest ≤ 128 →
+pub short_rest : (b : Basin) (series : Series) (lines : List (List ℕ)) (rest : List ℕ) → length rest ≤ 128 →
     verdict b series (lines_of_pieces (lines ++ rest ∷ [])) (rest_of_pieces (lines ++ rest ∷ [])) ≡ verdict b series
     lines rest
 short_rest b series lines rest h =
@@ -79,7 +79,7 @@ prefix_lines prefix more some = by_test (is_line (after_last (prefix ++ more)))
     by_test false = (take (length more - 1) more, cut)
 
 -- a text is refused where lines in its prefix are
-pub prefix_refused : (b : Basin) (series : Inflows) (bytes : List ℕ) (prefix more : List (List ℕ)) {e : Refuted} →
+pub prefix_refused : (b : Basin) (series : Series) (bytes : List ℕ) (prefix more : List (List ℕ)) {e : Refuted} →
     pieces_of bytes ≡ prefix ++ more → 0 < length more → verdict_from b series [] prefix ≡ Err e →
     text_verdict b series bytes ≡ Err e
 prefix_refused b series bytes prefix more is some h =

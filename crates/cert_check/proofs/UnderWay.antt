@@ -18,7 +18,7 @@ use Rattle.result_lines.specs.declared.item.Item.{Item}
 use Rattle.result_lines.specs.declared.item.Item.TheVariants as line
 use Rattle.result_lines.specs.declared.quantity.Quantity.TheVariants as quantity
 use Rattle.water_model.specs.declared.types.Basin.{Basin}
-use Rattle.water_model.specs.declared.types.Inflows.{Inflows}
+use Rattle.water_model.specs.declared.types.Series.{Series}
 use Rattle.water_model.specs.declared.types.MonthRecord.{MonthRecord}
 use Rattle.water_model.proofs.Histories.{IsMonth-run_month}
 use Rattle.result_reader.specs.ReadSoFar.{ReadSoFar, read_item, with_member}
@@ -76,7 +76,7 @@ carried_most {b} valid {i} e l = elim (cases_lt e (length b.links)) [
   | inr past ↦ rw (slice_get_past b.links e past) (omega arith)
 ]
 
-wanted_most : {b : Basin} → IsValidBasin b → {series : Inflows} → IsSeriesOf b series → (i r used : ℕ) →
+wanted_most : {b : Basin} → IsValidBasin b → {series : Series} → IsSeriesOf b series → (i r used : ℕ) →
     want_of b series r i used ≤ 10 ^ 9
 wanted_most {b} valid {series} fits i r used = elim (cases_lt r (length b.rights)) [
   | inl within ↦ want_most b series r i used valid fits within
@@ -95,7 +95,7 @@ both_fail : (p q : Bool) → not p || q ≡ false → (p ≡ true) × (q ≡ fal
 both_fail p q h = let two = or_parts (not p) q h in (not-false p two.0, two.1)
 
 -- one more line
-pub in_month_more : {b : Basin} → IsValidBasin b → {series : Inflows} → IsSeriesOf b series →
+pub in_month_more : {b : Basin} → IsValidBasin b → {series : Series} → IsSeriesOf b series →
     {before : List MonthRecord} {i : ℕ} → i ≡ length before → i < b.months → (t : ReadSoFar) (item : Item) →
     is_amid item ≡ true → NoneHolds (rows b series t item) → InMonth b before i t →
     InMonth b before i (read_item b series t item)
@@ -158,7 +158,7 @@ in_month_more valid fits at l t line.End h n m = (let never : false ≡ true = h
 in_month_more valid fits at l t (line.Done months) h n m = m
 
 -- all lines of a month so far
-pub in_month : {b : Basin} → IsValidBasin b → {series : Inflows} → IsSeriesOf b series →
+pub in_month : {b : Basin} → IsValidBasin b → {series : Series} → IsSeriesOf b series →
     (before : List MonthRecord) (i : ℕ) → i ≡ length before → i < b.months → (xs : List Item) (t : ReadSoFar) →
     list_all is_amid xs ≡ true → AreGood b series t xs → InMonth b before i t →
     InMonth b before i (fold (read_item b series) t xs)
@@ -169,17 +169,17 @@ in_month {b} valid {series} fits before i at l (x ∷ xs) t h g m =
     (in_month_more valid fits at l t x two.0 g.0 m)
 
 -- a month begins
-pub month_begins : (b : Basin) (series : Inflows) {before : List MonthRecord} {i : ℕ} (t : ReadSoFar) →
+pub month_begins : (b : Basin) (series : Series) {before : List MonthRecord} {i : ℕ} (t : ReadSoFar) →
     i ≡ length before → t.months ≡ before → InMonth b before i (read_item b series t (line.Month (run_month b i)))
 month_begins b series t at months = grind (arith, nat_tests, no_numbers)
 
 -- No `called` line so far.
 
-uncalled_more : (b : Basin) (series : Inflows) (t : ReadSoFar) (item : Item) → is_before_called item ≡ true →
+uncalled_more : (b : Basin) (series : Series) (t : ReadSoFar) (item : Item) → is_before_called item ≡ true →
     (read_item b series t item).called ≡ t.called
 uncalled_more b series t item h = grind arith
 
-pub uncalled : (b : Basin) (series : Inflows) (xs : List Item) (t : ReadSoFar) → list_all is_before_called xs ≡ true →
+pub uncalled : (b : Basin) (series : Series) (xs : List Item) (t : ReadSoFar) → list_all is_before_called xs ≡ true →
     (fold (read_item b series) t xs).called ≡ t.called
 uncalled b series [] t h = refl
 uncalled b series (x ∷ xs) t h =
@@ -196,11 +196,11 @@ pub record IsFree (r : ℕ) (t : ReadSoFar) : Type 0 where
   pub none : cut_of t.now r ≡ None
   pub other : t.calling ≡ Some r → ⊥
 
-free_more : (b : Basin) (series : Inflows) {r : ℕ} {t : ReadSoFar} (item : Item) → no_call r item ≡ true → IsFree r t →
+free_more : (b : Basin) (series : Series) {r : ℕ} {t : ReadSoFar} (item : Item) → no_call r item ≡ true → IsFree r t →
     IsFree r (read_item b series t item)
 free_more b series item h f = grind (arith, nat_tests, no_sets, set_of_other, cuts_with)
 
-pub free : (b : Basin) (series : Inflows) {r : ℕ} (xs : List Item) {t : ReadSoFar} → list_all (no_call r) xs ≡ true →
+pub free : (b : Basin) (series : Series) {r : ℕ} (xs : List Item) {t : ReadSoFar} → list_all (no_call r) xs ≡ true →
     IsFree r t → IsFree r (fold (read_item b series) t xs)
 free b series [] h f = f
 free b series {r} (x ∷ xs) {t} h f =

@@ -6,7 +6,7 @@ use Rattle.result_lines.specs.Spelling.{line_of}
 use Rattle.water_model.specs.Valid.{IsValidBasin}
 use Rattle.result_lines.specs.declared.item.Item.{Item}
 use Rattle.water_model.specs.declared.types.Basin.{Basin}
-use Rattle.water_model.specs.declared.types.Inflows.{Inflows}
+use Rattle.water_model.specs.declared.types.Series.{Series}
 use Rattle.result_reader.specs.Form.{IsPrefix}
 use Rattle.result_reader.specs.Reading.{read_line}
 use Rattle.result_reader.specs.ReadSoFar.{ReadSoFar, read_item, read_so_far, nothing_read}
@@ -17,19 +17,19 @@ use Rattle.cert_check.specs.Checking.{verdict, is_whole}
 use Rattle.cert_check.specs.declared.refuted.Refuted.{Refuted}
 use Rattle.cert_check.proofs.Rows.{AreGood, good_row, row_good}
 
-pub read_more : (b : Basin) (series : Inflows) (before : List Item) (i : Item) →
+pub read_more : (b : Basin) (series : Series) (before : List Item) (i : Item) →
     read_so_far b series (before ++ i ∷ []) ≡ read_item b series (read_so_far b series before) i
 read_more b series before i = fold-both (read_item b series) (nothing_read b) before (i ∷ [])
 
 -- Lines that are read, and that no row holds of, are good.
 
-judged_good : (b : Basin) (series : Inflows) (before : List Item) (bytes : List ℕ) {i : Item} →
+judged_good : (b : Basin) (series : Series) (before : List Item) (bytes : List ℕ) {i : Item} →
     is_whole before ≡ false → read_line b before bytes ≡ Ok i →
     first_row b series (read_so_far b series before) i ≡ None → judge b series before bytes ≡ Ok i
 unfolding judge
 judged_good b series before bytes open_yet read none = rw (open_yet, read, none) refl
 
-pub verdict_good : (b : Basin) (series : Inflows) {all : List Item} (items before : List Item) → all ≡ before ++ items →
+pub verdict_good : (b : Basin) (series : Series) {all : List Item} (items before : List Item) → all ≡ before ++ items →
     ((x y : List Item) (i : Item) → all ≡ x ++ i ∷ y → read_line b x (line_of b i) ≡ Ok i) →
     ((x y : List Item) (i : Item) → all ≡ x ++ i ∷ y → is_whole x ≡ false) →
     AreGood b series (read_so_far b series before) items → verdict_from b series before (map (line_of b) items) ≡ Ok all
@@ -43,18 +43,18 @@ verdict_good b series {all} (i ∷ items) before is read none g =
 
 -- The converse.
 
-pub record IsJudged (b : Basin) (series : Inflows) (before : List Item) (bytes : List ℕ) (i : Item) : Type 0 where
+pub record IsJudged (b : Basin) (series : Series) (before : List Item) (bytes : List ℕ) (i : Item) : Type 0 where
   pub open_yet : is_whole before ≡ false
   pub read : read_line b before bytes ≡ Ok i
   pub none : first_row b series (read_so_far b series before) i ≡ None
 
-judged : {b : Basin} {series : Inflows} {before : List Item} {bytes : List ℕ} {i : Item} →
+judged : {b : Basin} {series : Series} {before : List Item} {bytes : List ℕ} {i : Item} →
     judge b series before bytes ≡ Ok i → IsJudged b series before bytes i
 unfolding judge
 judged h = grind arith
 
 -- what a good verdict says of lines after others
-pub record AreJudged (b : Basin) (series : Inflows) (before items : List Item) (lines : List (List ℕ)) : Type 0 where
+pub record AreJudged (b : Basin) (series : Series) (before items : List Item) (lines : List (List ℕ)) : Type 0 where
   pub more : List Item
   pub are : items ≡ before ++ more
   pub spelled : lines ≡ map (line_of b) more
@@ -67,7 +67,7 @@ through f (Ok x) y h = (x, refl, h)
 through f (Err e) y h = let never : Err e ≡ Ok y = h in cc
 
 pub verdict_says : {b : Basin} → IsValidBasin b →
-    {series : Inflows} (before : List Item) {items : List Item} (lines : List (List ℕ)) →
+    {series : Series} (before : List Item) {items : List Item} (lines : List (List ℕ)) →
     verdict_from b series before lines ≡ Ok items → AreJudged b series before items lines
 verdict_says {b} valid {series} before {items} [] h =
     let same : Ok before ≡ Ok items = h in
@@ -100,16 +100,16 @@ verdict_says {b} valid {series} before {items} (bytes ∷ lines) h =
         (sym (are ∙ (ap (λ ys. (before ++ i ∷ []) ++ ys) none ∙ append-nil (before ++ i ∷ [])))) own
 
 -- a yes to a whole text
-pub record IsYes (b : Basin) (series : Inflows) (lines : List (List ℕ)) (rest : List ℕ) (items : List Item) : Type 0
+pub record IsYes (b : Basin) (series : Series) (lines : List (List ℕ)) (rest : List ℕ) (items : List Item) : Type 0
   where
     pub lines_good : verdict_from b series [] lines ≡ Ok items
     pub whole : is_whole items ≡ true
     pub no_rest : rest ≡ []
 
-pub yes_says : {b : Basin} {series : Inflows} {lines : List (List ℕ)} {rest : List ℕ} {items : List Item} →
+pub yes_says : {b : Basin} {series : Series} {lines : List (List ℕ)} {rest : List ℕ} {items : List Item} →
     verdict b series lines rest ≡ Ok items → IsYes b series lines rest items
 yes_says h = grind arith
 
-pub says_yes : (b : Basin) (series : Inflows) (lines : List (List ℕ)) {items : List Item} →
+pub says_yes : (b : Basin) (series : Series) (lines : List (List ℕ)) {items : List Item} →
     verdict_from b series [] lines ≡ Ok items → is_whole items ≡ true → verdict b series lines [] ≡ Ok items
 says_yes b series lines good whole = rw (good, whole) refl

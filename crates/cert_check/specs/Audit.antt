@@ -6,7 +6,7 @@ use Rattle.result_lines.specs.Text.{items_of, text_bytes}
 use Rattle.result_lines.specs.declared.item.Item.{Item}
 use Rattle.result_lines.specs.declared.item.Item.TheVariants as line
 use Rattle.water_model.specs.declared.types.Basin.{Basin}
-use Rattle.water_model.specs.declared.types.Inflows.{Inflows}
+use Rattle.water_model.specs.declared.types.Series.{Series}
 use Rattle.water_model.specs.declared.types.MonthRecord.{MonthRecord}
 use Rattle.plan_residual.specs.Reaches.{IsFirstOther}
 use Rattle.cert_check.specs.Whole.{text_verdict}
@@ -14,7 +14,7 @@ use Rattle.cert_check.specs.declared.refuted.Refuted.{Refuted}
 use Rattle.cert_check.specs.declared.refuted.RefutedKind.TheVariants as kind
 
 -- the bytes are the text of a history in which the set of each short right is its reach
-pub record IsAuditedText (b : Basin) (series : Inflows) (bytes : List ℕ) : Type 0 where
+pub record IsAuditedText (b : Basin) (series : Series) (bytes : List ℕ) : Type 0 where
   pub records : List MonthRecord
   pub history : IsHistory b series records
   pub reaches : HaveReaches b records
@@ -48,7 +48,7 @@ pub record IsFirstOtherLine (b : Basin) (records : List MonthRecord) (items : Li
   pub call : IsCallLine items month right number
 
 -- the bytes are the text of a history, but a set isn't a reach: the first such `call` line is named
-pub record IsOtherText (b : Basin) (series : Inflows) (bytes : List ℕ) (refused : Refuted) : Type 0 where
+pub record IsOtherText (b : Basin) (series : Series) (bytes : List ℕ) (refused : Refuted) : Type 0 where
   pub records : List MonthRecord
   pub history : IsHistory b series records
   pub text : bytes ≡ text_bytes b records
@@ -57,7 +57,7 @@ pub record IsOtherText (b : Basin) (series : Inflows) (bytes : List ℕ) (refuse
 
 -- the answer of an audit: the number of the run's months where the text is audited, the refusal that the verdict on it
 -- is, or the first set that isn't a reach
-abbrev pub IsAuditAnswer : Basin → Inflows → List ℕ → Result ℕ Refuted → Type 0
+abbrev pub IsAuditAnswer : Basin → Series → List ℕ → Result ℕ Refuted → Type 0
 IsAuditAnswer b series bytes (Ok months) = IsAuditedText b series bytes × (months ≡ b.months)
 IsAuditAnswer b series bytes (Err refused) =
     (text_verdict b series bytes ≡ Err refused) ⊎ IsOtherText b series bytes refused

@@ -5,7 +5,7 @@ use Rattle.water_model.specs.History.{Follows, HaveReaches, IsPartialHistory, cu
 use Rattle.result_lines.specs.declared.item.Item.{Item}
 use Rattle.result_lines.specs.declared.item.Item.TheVariants as line
 use Rattle.water_model.specs.declared.types.Basin.{Basin}
-use Rattle.water_model.specs.declared.types.Inflows.{Inflows}
+use Rattle.water_model.specs.declared.types.Series.{Series}
 use Rattle.water_model.specs.declared.types.MonthRecord.{MonthRecord}
 use Rattle.plan_residual.specs.Reaches.{IsFirstOther}
 use Rattle.plan_residual.specs.Rows.{IsSearchOf}
@@ -47,11 +47,11 @@ IsAuditIfAny b t items None = Unit {0}
 IsAuditIfAny b t items (Some a) = IsAuditOf b t items a
 
 -- the month that was read is one of a history
-abbrev pub MonthFollows : Basin → Inflows → ReadSoFar → Type 0
+abbrev pub MonthFollows : Basin → Series → ReadSoFar → Type 0
 MonthFollows b series t = Follows b series t.months (with_supply b series t.now)
 
 -- a check state keeps what some lines say, and the month that was read may end
-pub record MonthEnds (b : Basin) (series : Inflows) (a : CheckState) : Type 0 where
+pub record MonthEnds (b : Basin) (series : Series) (a : CheckState) : Type 0 where
   pub so_far : ReadSoFar
   pub keeps : Keeps b series a so_far
   pub partial : IsPartialHistory b series so_far.months
@@ -71,7 +71,7 @@ pub record AsksMonth (b : Basin) (m : MonthRecord) (old new : Audit) : Type 0 wh
   pub other : IsAsked b m old.call_lines old.other new.other
 
 -- the number of a `call` line is kept, and at an `end` line the month is asked
-abbrev pub TakesAudit : Basin → Inflows → ReadSoFar → Item → ℕ → Audit → Audit → Type 0
+abbrev pub TakesAudit : Basin → Series → ReadSoFar → Item → ℕ → Audit → Audit → Type 0
 TakesAudit b series t (line.Call r) number old new =
     new ≡ record old { call_lines = slice_set old.call_lines r number }
 TakesAudit b series t line.End number old new =

@@ -19,7 +19,7 @@ use Rattle.result_lines.specs.declared.item.Item.TheVariants as line
 use Rattle.result_lines.specs.declared.quantity.Quantity.{Quantity}
 use Rattle.result_lines.specs.declared.quantity.Quantity.TheVariants as quantity
 use Rattle.water_model.specs.declared.types.Basin.{Basin}
-use Rattle.water_model.specs.declared.types.Inflows.{Inflows}
+use Rattle.water_model.specs.declared.types.Series.{Series}
 use Rattle.water_model.specs.declared.types.MonthRecord.{MonthRecord}
 use Rattle.cut_cert.specs.Callers.{is_short}
 use Rattle.result_reader.specs.Due.{is_member}
@@ -58,7 +58,7 @@ passes b other right = is_after_calls other
 abbrev pub has_tight : Basin → MonthRecord → ℕ → Bool
 has_tight b m r = option_map_or (λ cut. is_tight b m r cut) (cut_of m r) false
 
-abbrev pub cut_loose : Basin → Inflows → ReadSoFar → Item → Bool
+abbrev pub cut_loose : Basin → Series → ReadSoFar → Item → Bool
 cut_loose b series t item =
     not (is_member item) && option_map_or (λ r. not (has_tight b (with_supply b series t.now) r)) t.calling false
 
@@ -96,7 +96,7 @@ abbrev pub amount_wrong : Option ℕ → List ℕ → ℕ → ℕ → Bool
 amount_wrong None flow amount want = nat_lt want amount
 amount_wrong (Some link) flow amount want = not (amount == min want (slice_index flow link))
 
-abbrev pub delivery_wrong : Basin → Inflows → ReadSoFar → ℕ → ℕ → ℕ → Bool
+abbrev pub delivery_wrong : Basin → Series → ReadSoFar → ℕ → ℕ → ℕ → Bool
 delivery_wrong b series t r amount want =
     not (want == want_of b series r t.now.index (slice_index t.now.used r))
     || amount_wrong (instream_link b r) t.now.plan.flow amount want
@@ -106,13 +106,13 @@ abbrev pub balances : Basin → MonthRecord → ℕ → Bool
 balances b m n = coming_to b m.supply m.plan n == going_from b m.plan n
 
 -- whether some node isn't in balance at the last `out` line, with its amount
-abbrev pub balance_wrong : Basin → Inflows → ReadSoFar → ℕ → Bool
+abbrev pub balance_wrong : Basin → Series → ReadSoFar → ℕ → Bool
 balance_wrong b series with_line n =
     list_all (λ other. nat_le other n) (outlets b)
     && list_any (λ node. not (balances b (with_supply b series with_line.now) node)) (indices_of b.nodes)
 
 -- whether the amount of an entry is wrong
-abbrev pub quantity_wrong : Basin → Inflows → ReadSoFar → Quantity → ℕ → ℕ → Bool
+abbrev pub quantity_wrong : Basin → Series → ReadSoFar → Quantity → ℕ → ℕ → Bool
 quantity_wrong b series t quantity.Opening v amount = not (amount == slice_index (opening_after b t.months) v)
 quantity_wrong b series t quantity.Evaporated v amount =
     not (amount == of_entry b.reservoirs v
@@ -141,24 +141,24 @@ abbrev pub Row : Type 0
 Row = RefutedKind × Bool
 
 -- the row of a line's own kind, if it has one
-abbrev pub own_rows : Basin → Inflows → ReadSoFar → Item → List Row
+abbrev pub own_rows : Basin → Series → ReadSoFar → Item → List Row
 own_rows b series t (line.Run first months) = (kind.Head, head_wrong b first months) ∷ []
 own_rows b series t (line.Amount q entry amount) = (kind_of q, quantity_wrong b series t q entry amount) ∷ []
 own_rows b series t (line.Deliver r amount want) = (kind.Delivery, delivery_wrong b series t r amount want) ∷ []
 own_rows b series t other = []
 
 -- the rows of the calls, which hold of any line
-abbrev pub call_rows : Basin → Inflows → ReadSoFar → Item → List Row
+abbrev pub call_rows : Basin → Series → ReadSoFar → Item → List Row
 call_rows b series t item =
     (kind.CutLoose, cut_loose b series t item) ∷ (kind.CutMissing, cut_missing b t item)
     ∷ (kind.CutNeedless, cut_needless t item) ∷ (kind.Called, called_wrong b t item) ∷ []
 
 -- the rows in their order
-abbrev pub rows : Basin → Inflows → ReadSoFar → Item → List Row
+abbrev pub rows : Basin → Series → ReadSoFar → Item → List Row
 rows b series t item = call_rows b series t item ++ own_rows b series t item
 
 -- the first row that holds of a line, by what the lines before it say
-unfoldable pub first_row : Basin → Inflows → ReadSoFar → Item → Option RefutedKind
+unfoldable pub first_row : Basin → Series → ReadSoFar → Item → Option RefutedKind
 first_row b series t item = option_map (λ row. row.0) (find (λ row. row.1) (rows b series t item))
 
 -- how many lines stand after the last `call`
@@ -184,11 +184,11 @@ abbrev pub judge_row : List Item → Item → Option RefutedKind → Result Item
 judge_row before item None = Ok item
 judge_row before item (Some kind) = Err (record { line = named_line before kind; kind = kind })
 
-abbrev pub judge_read : {E : Type 0} → Basin → Inflows → List Item → Result Item E → Result Item Refuted
+abbrev pub judge_read : {E : Type 0} → Basin → Series → List Item → Result Item E → Result Item Refuted
 judge_read b series before (Ok item) = judge_row before item (first_row b series (read_so_far b series before) item)
 judge_read b series before (Err why) = Err (record { line = length before + 1; kind = kind.BadLine })
 
-unfoldable pub judge : Basin → Inflows → List Item → List ℕ → Result Item Refuted
+unfoldable pub judge : Basin → Series → List Item → List ℕ → Result Item Refuted
 judge b series before bytes =
     if is_whole before then Err (record { line = length before + 1; kind = kind.AfterEnd })
     else judge_read b series before (read_line b before bytes)
@@ -199,7 +199,7 @@ ok_then f (Ok x) = f x
 ok_then f (Err e) = Err e
 
 -- the verdict on the lines after some that are good: the items of all, or the first line at fault with its first row
-abbrev pub verdict_from : Basin → Inflows → List Item → List (List ℕ) → Result (List Item) Refuted
+abbrev pub verdict_from : Basin → Series → List Item → List (List ℕ) → Result (List Item) Refuted
 verdict_from b series before [] = Ok before
 verdict_from b series before (bytes ∷ lines) =
     ok_then (λ item. verdict_from b series (before ++ item ∷ []) lines) (judge b series before bytes)
@@ -212,5 +212,5 @@ verdict_at_end rest items =
     Err (record { line = length items + 1; kind = if is_whole items then kind.AfterEnd else kind.EarlyEnd })
 
 -- the verdict on a text: its lines, and its rest
-abbrev pub verdict : Basin → Inflows → List (List ℕ) → List ℕ → Result (List Item) Refuted
+abbrev pub verdict : Basin → Series → List (List ℕ) → List ℕ → Result (List Item) Refuted
 verdict b series lines rest = ok_then (verdict_at_end rest) (verdict_from b series [] lines)

@@ -5,7 +5,7 @@ use Rattle.water_model.specs.Hydrology.{run_month, returned_at}
 use Rattle.result_lines.specs.declared.item.Item.{Item}
 use Rattle.result_lines.specs.declared.item.Item.TheVariants as line
 use Rattle.water_model.specs.declared.types.Basin.{Basin}
-use Rattle.water_model.specs.declared.types.Inflows.{Inflows}
+use Rattle.water_model.specs.declared.types.Series.{Series}
 use Rattle.water_model.specs.declared.types.MonthRecord.{MonthRecord}
 use Rattle.result_reader.specs.ReadSoFar.{ReadSoFar}
 use Rattle.cert_check.specs.Checking.{is_closing}
@@ -38,14 +38,14 @@ pub record IsBounded (b : Basin) (before : List MonthRecord) (now : MonthRecord)
   pub delivered : (r : ℕ) → slice_index now.delivered r ≤ 10 ^ 9
 
 -- a month of the run is under way
-pub record IsWithinMonth (b : Basin) (series : Inflows) (t : ReadSoFar) : Type 0 where
+pub record IsWithinMonth (b : Basin) (series : Series) (t : ReadSoFar) : Type 0 where
   pub index : t.now.index ≡ length t.months
   pub in_run : t.now.index < b.months
   pub month : t.now.month ≡ run_month b t.now.index
   pub bounded : IsBounded b t.months t.now
 
 -- what was read when a line may come
-pub record MayCome (b : Basin) (series : Inflows) (t : ReadSoFar) (item : Item) : Type 0 where
+pub record MayCome (b : Basin) (series : Series) (t : ReadSoFar) (item : Item) : Type 0 where
   pub partial : IsPartialHistory b series t.months
   pub outer : is_within item ≡ false → t.calling ≡ None
   pub inner : is_within item ≡ true → IsWithinMonth b series t
@@ -53,19 +53,19 @@ pub record MayCome (b : Basin) (series : Inflows) (t : ReadSoFar) (item : Item) 
   pub free : (r : ℕ) → item ≡ line.Call r → cut_of t.now r ≡ None
 
 -- a check state keeps what some lines say, after which this one may come
-pub record Awaits (b : Basin) (series : Inflows) (a : CheckState) (item : Item) : Type 0 where
+pub record Awaits (b : Basin) (series : Series) (a : CheckState) (item : Item) : Type 0 where
   pub so_far : ReadSoFar
   pub keeps : Keeps b series a so_far
   pub comes : MayCome b series so_far item
 
 -- a check state keeps what some lines say, within a month of the run
-pub record HasMonth (b : Basin) (series : Inflows) (a : CheckState) : Type 0 where
+pub record HasMonth (b : Basin) (series : Series) (a : CheckState) : Type 0 where
   pub so_far : ReadSoFar
   pub keeps : Keeps b series a so_far
   pub partial : IsPartialHistory b series so_far.months
   pub under_way : IsWithinMonth b series so_far
 
 -- a check state keeps what some lines say
-pub record HasRead (b : Basin) (series : Inflows) (a : CheckState) : Type 0 where
+pub record HasRead (b : Basin) (series : Series) (a : CheckState) : Type 0 where
   pub so_far : ReadSoFar
   pub keeps : Keeps b series a so_far

@@ -9,7 +9,7 @@ use Rattle.water_model.specs.Indices.{seniors_first}
 use Rattle.result_lines.specs.declared.quantity.Quantity.{Quantity}
 use Rattle.result_lines.specs.declared.quantity.Quantity.TheVariants as quantity
 use Rattle.water_model.specs.declared.types.Basin.{Basin}
-use Rattle.water_model.specs.declared.types.Inflows.{Inflows}
+use Rattle.water_model.specs.declared.types.Series.{Series}
 use Rattle.water_model.specs.declared.types.MonthRecord.{MonthRecord}
 use Rattle.cut_cert.specs.Callers.{AreCallers, is_short}
 use Rattle.lag_returns.specs.Lags as lag
@@ -75,7 +75,7 @@ pub record HasRoom (b : Basin) (zones inflows outflows : List ℕ) : Type 0 wher
   pub out_of : length outflows ≡ length b.nodes
 
 -- the check state keeps what was read, and what follows from it
-pub record Keeps (b : Basin) (series : Inflows) (a : CheckState) (t : ReadSoFar) : Type 0 where
+pub record Keeps (b : Basin) (series : Series) (a : CheckState) (t : ReadSoFar) : Type 0 where
   pub left : AreLeft b t.months a.done a.lags a.opens a.comes a.used
   pub month : IsRecordOf b a.month t.now
   pub calling : IsCalling b a.month.cuts a.calling t.calling

@@ -2,7 +2,7 @@
 use Rattle.std.specs.Prelude.{◌≡◌, ℕ, ◌+◌, ◌-◌, ◌*◌, ◌≤◌, false, List, [], ◌∷◌, ◌++◌, length, Option, None, IsSome}
 use Rattle.water_text.specs.LinesIn.{LineHeld}
 use Rattle.water_model.specs.declared.types.Basin.{Basin}
-use Rattle.water_model.specs.declared.types.Inflows.{Inflows}
+use Rattle.water_model.specs.declared.types.Series.{Series}
 use Rattle.cert_check.specs.Standing.{CheckerView, CheckerStandsFor, lines_left}
 use Rattle.cert_check.specs.Whole.{pieces_of}
 use Rattle.cert_check.specs.declared.progress.CheckProgress.{CheckProgress}
@@ -31,7 +31,7 @@ room_left checker line = 129 * lines_left checker + (128 - length line.bytes)
 -- way
 pub record PiecesView : Type 0 where
   pub basin : Basin
-  pub series : Inflows
+  pub series : Series
   pub progress : CheckProgress
   pub refused : Option Refuted
   pub line : LineHeld

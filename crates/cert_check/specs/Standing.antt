@@ -2,7 +2,7 @@
 use Rattle.std.specs.Prelude.{◌≡◌, ℕ, ◌-◌, List, [], length, reverse, Option, Some, None, Result, Ok, Err, IsOk, IsSome}
 use Rattle.result_lines.specs.declared.item.Item.{Item}
 use Rattle.water_model.specs.declared.types.Basin.{Basin}
-use Rattle.water_model.specs.declared.types.Inflows.{Inflows}
+use Rattle.water_model.specs.declared.types.Series.{Series}
 use Rattle.result_reader.specs.Standing as reader
 use Rattle.result_reader.specs.ReadSoFar.{read_so_far}
 use Rattle.cert_check.specs.Auditing.{IsAuditIfAny}
@@ -20,7 +20,7 @@ pub record Counts (k : CheckProgress) (items : List Item) : Type 0 where
 
 -- no line is at fault so far. The reader accepted what the lines say, the check state keeps it, and an audit found the
 -- first set that isn't a reach
-pub record IsProgressOf (b : Basin) (series : Inflows) (k : CheckProgress) (lines : List (List ℕ)) : Type 0 where
+pub record IsProgressOf (b : Basin) (series : Series) (k : CheckProgress) (lines : List (List ℕ)) : Type 0 where
   pub items : List Item
   pub verdict : verdict_from b series [] lines ≡ Ok items
   pub basin : k.reader.basin ≡ b
@@ -33,7 +33,7 @@ pub record IsProgressOf (b : Basin) (series : Inflows) (k : CheckProgress) (line
 -- line was at fault
 pub record CheckerView : Type 0 where
   pub basin : Basin
-  pub series : Inflows
+  pub series : Series
   pub progress : CheckProgress
   pub refused : Option Refuted
 

@@ -3,7 +3,7 @@ use Rattle.std.specs.Prelude.{ℕ, ◌-◌, ◌==◌, Bool, List, [], length, ta
 use Rattle.std.specs.List.{slice_split}
 use Rattle.result_lines.specs.declared.item.Item.{Item}
 use Rattle.water_model.specs.declared.types.Basin.{Basin}
-use Rattle.water_model.specs.declared.types.Inflows.{Inflows}
+use Rattle.water_model.specs.declared.types.Series.{Series}
 use Rattle.cert_check.specs.Checking.{verdict}
 use Rattle.cert_check.specs.declared.refuted.Refuted.{Refuted}
 
@@ -27,5 +27,5 @@ abbrev pub rest_of_pieces : List (List ℕ) → List ℕ
 rest_of_pieces pieces = if is_line (after_last pieces) then [] else after_last pieces
 
 -- the verdict on the bytes of a text
-abbrev pub text_verdict : Basin → Inflows → List ℕ → Result (List Item) Refuted
+abbrev pub text_verdict : Basin → Series → List ℕ → Result (List Item) Refuted
 text_verdict b series bytes = verdict b series (lines_of_pieces (pieces_of bytes)) (rest_of_pieces (pieces_of bytes))

@@ -17,7 +17,7 @@ use crate::refuted::{Refuted, RefutedKind};
 use crate::state::Context;
 use std::alloc::{AllocError, Global};
 use std::marker::Model;
-use water_model::types::{Basin, Inflows};
+use water_model::types::{Basin, Series};
 
 /// Checks the lines of a result text of a basin and its series, one after the other, and refutes the first that is at
 /// fault.
@@ -47,7 +47,7 @@ impl<'b> Checker<'b> {
     fn open_with(
         alloc: Global,
         basin: &'b Basin,
-        series: &'b Inflows,
+        series: &'b Series,
         audit: Option<Audit>,
     ) -> Result<Checker<'b>, AllocError>
         requires basin { IsValidBasin basin.now }
@@ -84,7 +84,7 @@ impl<'b> Checker<'b> {
     pub fn open(
         alloc: Global,
         basin: &'b Basin,
-        series: &'b Inflows,
+        series: &'b Series,
     ) -> Result<Checker<'b>, AllocError>
         requires basin { IsValidBasin basin.now }
         requires series { IsSeriesOf basin.now series.now }
@@ -102,7 +102,7 @@ impl<'b> Checker<'b> {
     pub fn open_audit(
         alloc: Global,
         basin: &'b Basin,
-        series: &'b Inflows,
+        series: &'b Series,
     ) -> Result<Checker<'b>, AllocError>
         requires basin { IsValidBasin basin.now }
         requires series { IsSeriesOf basin.now series.now }

@@ -10,7 +10,7 @@ ghost use Rattle.water_model.specs.Basin.{instream_link};
 ghost use Rattle.water_model.specs.History.{FitsBasin};
 ghost use Rattle.water_model.specs.Hydrology.{evaporation, run_month};
 ghost use Rattle.water_model.specs.Lookups.{of_entry};
-ghost use Rattle.water_model.specs.declared.types.Inflows.{Inflows};
+ghost use Rattle.water_model.specs.declared.types.Series.{Series};
 ghost use Rattle.water_model.specs.Valid.{IsValidBasin, IsSeriesOf};
 ghost use Rattle.cert_check.specs.Checking as checking;
 ghost use Rattle.cert_check.specs.Ready.{is_before_calls};
@@ -21,7 +21,7 @@ use reservoirs::AreaTable;
 use result_lines::item::Item;
 use result_lines::quantity::Quantity;
 use water_model::calls::{carry_of, want_of};
-use water_model::types::{Basin, Inflows, MonthRecord, RightKind};
+use water_model::types::{Basin, Series, MonthRecord, RightKind};
 use water_text::month::Month;
 
 /// Whether a line is an `in` line.
@@ -121,7 +121,7 @@ pub fn flow_wrong(basin: &Basin, month: &MonthRecord, link: u32, amount: u64) ->
     requires basin { IsValidBasin basin.now }
     requires month { IsMonth month.now.month }
     requires link { link < length basin.now.links }
-    ensures { (series : Inflows) (t : ReadSoFar) → Shows month.now t.now →
+    ensures { (series : Series) (t : ReadSoFar) → Shows month.now t.now →
         result ≡ checking.quantity_wrong basin.now series t Quantity.Flow link amount }
 {
     carry_of(basin, link, month.month) < amount
@@ -159,7 +159,7 @@ pub fn evaporation_wrong(
     requires calendar { IsMonth month.now.month }
     requires month { month.now.month ≡ run_month basin.now month.now.index }
     requires reservoir { reservoir < length basin.now.reservoirs }
-    ensures { (series : Inflows) (t : ReadSoFar) → Shows month.now t.now →
+    ensures { (series : Series) (t : ReadSoFar) → Shows month.now t.now →
         result ≡ checking.quantity_wrong basin.now series t Quantity.Evaporated reservoir amount }
 {
     let position = month.month.month as usize - 1;
@@ -185,7 +185,7 @@ fn amount_wrong(basin: &Basin, flow: &[u64], right: u32, amount: u64, want: u64)
 /// Whether this isn't the right's want, or what it is delivered is wrong by it.
 pub fn delivery_wrong(
     basin: &Basin,
-    series: &Inflows,
+    series: &Series,
     month: &MonthRecord,
     right: u32,
     amount: u64,

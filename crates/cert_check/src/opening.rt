@@ -9,7 +9,7 @@ ghost use Rattle.rights_roll.specs.Rolls.{IsRollOf};
 ghost use Rattle.water_model.specs.Basin.{is_outlet};
 ghost use Rattle.water_model.specs.Indices.{outlets};
 ghost use Rattle.water_model.specs.Valid.{IsValidBasin, IsSeriesOf};
-ghost use Rattle.water_model.specs.declared.types.Inflows.{Inflows};
+ghost use Rattle.water_model.specs.declared.types.Series.{Series};
 ghost use Rattle.cert_check.specs.Auditing.{IsAuditIfAny};
 ghost use Rattle.cert_check.specs.Context.{IsContext};
 ghost use Rattle.cert_check.specs.Keeping.{AreLeft, Keeps};
@@ -27,7 +27,7 @@ use rights_roll::roll::Roll;
 use std::alloc::{AllocError, Global};
 use water_model::blank::zeros;
 use water_model::rows::Rows;
-use water_model::types::{Basin, Inflows, MAX_NODES};
+use water_model::types::{Basin, Series, MAX_NODES};
 
 /// What comes back to each node in the first month.
 fn first_comes(alloc: Global, basin: &Basin, lags: &Lags) -> Result<Rows<u64>, AllocError>
@@ -72,7 +72,7 @@ fn left_of_none(
 /// A check state of no line.
 pub fn blank_state(alloc: Global, basin: &Basin) -> Result<Box<CheckState>, AllocError>
     requires { IsValidBasin basin.now }
-    ensures { IfOk result (λ state. (series : Inflows) →
+    ensures { IfOk result (λ state. (series : Series) →
         Keeps basin.now series state.value (nothing_read basin.now)) }
 {
     let sums = room_for_sums(alloc, basin)?;
@@ -130,7 +130,7 @@ pub fn last_outlet(basin: &Basin) -> u32
 pub fn context_of<'b>(
     alloc: Global,
     basin: &'b Basin,
-    series: &'b Inflows,
+    series: &'b Series,
 ) -> Result<Context<'b>, AllocError>
     requires basin { IsValidBasin basin.now }
     requires series { IsSeriesOf basin.now series.now }
@@ -160,7 +160,7 @@ fn parts_of<'b>(
 ) -> Result<(Box<CheckState>, ResultReader<'b>), AllocError>
     requires basin { IsValidBasin basin.now }
     requires roll { IsRollOf basin.now.rights roll.now }
-    ensures state { IfOk result (λ parts. (series : Inflows) →
+    ensures state { IfOk result (λ parts. (series : Series) →
         Keeps basin.now series parts.0.value (nothing_read basin.now)) }
     ensures basin { IfOk result (λ parts. parts.1.basin ≡ basin.now) }
     ensures none { IfOk result (λ parts. ReaderStandsFor parts.1 []) }
@@ -181,7 +181,7 @@ pub fn progress_of<'b>(
     requires basin { IsValidBasin basin.now }
     requires roll { IsRollOf basin.now.rights roll.now }
     requires audit { IsAuditIfAny basin.now (nothing_read basin.now) [] audit }
-    ensures none { IfOk result (λ progress. (series : Inflows) → IsProgressOf basin.now series progress []) }
+    ensures none { IfOk result (λ progress. (series : Series) → IsProgressOf basin.now series progress []) }
     ensures bounded { IfOk result (λ progress. progress.reader.left ≤ 5 * 10 ^ 9) }
     ensures audit { IfOk result (λ progress. progress.audit ≡ audit) }
 {

@@ -16,7 +16,7 @@ use crate::refuted::Refuted;
 use memchr::memchr;
 use std::alloc::{AllocError, Global};
 use std::marker::Model;
-use water_model::types::{Basin, Inflows};
+use water_model::types::{Basin, Series};
 use water_text::line_in::LineIn;
 
 /// Gives a checker the line that is held, and clears it.
@@ -208,7 +208,7 @@ impl<'b> PieceChecker<'b> {
     pub fn open(
         alloc: Global,
         basin: &'b Basin,
-        series: &'b Inflows,
+        series: &'b Series,
     ) -> Result<PieceChecker<'b>, AllocError>
         requires basin { IsValidBasin basin.now }
         requires series { IsSeriesOf basin.now series.now }
@@ -229,7 +229,7 @@ impl<'b> PieceChecker<'b> {
     pub fn open_audit(
         alloc: Global,
         basin: &'b Basin,
-        series: &'b Inflows,
+        series: &'b Series,
     ) -> Result<PieceChecker<'b>, AllocError>
         requires basin { IsValidBasin basin.now }
         requires series { IsSeriesOf basin.now series.now }

@@ -4,14 +4,14 @@ use lag_returns::Lags;
 use reservoirs::AreaTable;
 use rights_roll::roll::Roll;
 use water_model::rows::Rows;
-use water_model::types::{Basin, Inflows, MAX_NODES, MonthRecord};
+use water_model::types::{Basin, Series, MAX_NODES, MonthRecord};
 
 /// A basin and its series, and what is derived from the basin once: the roll of its rights, its rows by node, the area
 /// table of each reservoir, and the last outlet in the order of the file.
 #[derive(Drop)]
 pub struct Context<'b> {
     pub basin: &'b Basin,
-    pub series: &'b Inflows,
+    pub series: &'b Series,
     pub roll: Roll,
     pub rows: NodeRows,
     pub tables: Vec<AreaTable>,

@@ -6,12 +6,12 @@ ghost use Rattle.water_model.specs.Hydrology.{inflow_at, stored_at};
 ghost use Rattle.water_model.specs.Valid.{IsValidBasin, IsSeriesOf};
 
 use month_terms::supply::{add_stored, read_inflows};
-use water_model::types::{Basin, Inflows, MonthRecord};
+use water_model::types::{Basin, Series, MonthRecord};
 
 /// Writes what flows in, what comes back and what is stored at each node.
 fn sum_supply(
     basin: &Basin,
-    series: &Inflows,
+    series: &Series,
     index: u32,
     returned: &[u64],
     opening: &[u64],
@@ -40,7 +40,7 @@ fn sum_supply(
 }
 
 /// Makes in a record the supply of each node, by what was read of the month's reservoirs and returns.
-pub fn make_supply(basin: &Basin, series: &Inflows, month: &mut MonthRecord)
+pub fn make_supply(basin: &Basin, series: &Series, month: &mut MonthRecord)
     requires basin { IsValidBasin basin.now }
     requires series { IsSeriesOf basin.now series.now }
     requires fits { FitsRecord basin.now month.old }

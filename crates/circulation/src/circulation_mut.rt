@@ -210,7 +210,7 @@ impl CirculationMut<'_> {
         first: usize,
         count: usize,
         amount: u64,
-        searches: &mut Steps<L>,
+        pushes: &mut Steps<L>,
     )
         requires fits { first + count ≤ 4 * self.old.nodes + 8 }
         requires walk { IsClosedWalk (network self.old) (flow_of self.old) (step_of self.old)
@@ -219,7 +219,7 @@ impl CirculationMut<'_> {
         ensures pushed { IsPushed (flow_of self.old) (flow_of self.new) (step_of self.old)
             first (first + count) amount }
         ensures kept { IsCirculation self.new }
-        ensures ticked { searches.new ≡ searches.old + 1 }
+        ensures ticked { pushes.new ≡ pushes.old + 1 }
     {
         // The number of nodes bounds the sum.
         let _nodes = self.nodes;
@@ -227,7 +227,7 @@ impl CirculationMut<'_> {
             let step = self.scratch[at];
             move_room(self.rooms, step as usize, amount);
         }
-        searches.tick();
+        pushes.tick();
     }
 
     /// The index at which the row of a node begins: the steps that leave the node, backward over the arcs that enter

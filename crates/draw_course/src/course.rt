@@ -57,13 +57,13 @@ fn is_at_reservoir(draws: &Rows<DrawNodes>, draw: u32) -> bool
 impl Course<'_, '_> {
     /// Draws as much as can be, up to the cap, beside what was drawn before, and answers how much that is. A draw below
     /// its cap is given a stop as its set. A draw has one turn. Each search that finds a walk ticks
-    /// `searches` once. All amounts are in units of 1,000 cubic metres.
+    /// `pushes` once. All amounts are in units of 1,000 cubic metres.
     pub fn draw<L: Ledger>(
         &mut self,
         draw: u32,
         cap: u64,
         stops: &mut CutList,
-        searches: &mut Steps<L>,
+        pushes: &mut Steps<L>,
     ) -> u64
         requires draw { draw < length self.old.draws }
         requires turn { slice_index self.old.drawn draw ≡ 0 }
@@ -72,15 +72,15 @@ impl Course<'_, '_> {
         ensures drawn { self.new ≡ with_draw self.old draw result }
         ensures greatest { IsGreatestDraw self.old draw cap result }
         ensures outcome { IsFullOrStopped self.new draw cap result stops.old stops.new }
-        ensures cost { searches.new ≤
-            searches.old + 30 * (2 * arc_count self.old.basin (length self.old.draws) + 1) }
+        ensures cost { pushes.new ≤
+            pushes.old + 30 * (2 * arc_count self.old.basin (length self.old.draws) + 1) }
     {
         if is_at_reservoir(self.draws, draw) {
             self.drawn[draw as usize] = cap;
             return cap;
         }
         let arc = draw_arc(self.basin, draw);
-        let amount = raise_draw(&mut self.circ, arc, draw, cap, stops, searches);
+        let amount = raise_draw(&mut self.circ, arc, draw, cap, stops, pushes);
         self.drawn[draw as usize] = amount;
         amount
     }

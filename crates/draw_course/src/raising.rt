@@ -36,7 +36,7 @@ pub fn raise_draw<L: Ledger>(
     draw: u32,
     cap: u64,
     stops: &mut CutList,
-    searches: &mut Steps<L>,
+    pushes: &mut Steps<L>,
 ) -> u64
     requires arc { arc < arcs circ.old }
     requires shut { slice_index circ.old.upper arc ≡ 0 }
@@ -45,12 +45,12 @@ pub fn raise_draw<L: Ledger>(
     requires set { CanHaveStop circ.old.nodes stops.old draw }
     ensures kept { IsCirculation circ.new }
     ensures raised { IsRaisedDraw circ.old circ.new arc draw cap result stops.old stops.new }
-    ensures cost { searches.new ≤ searches.old + 30 * (2 * arcs circ.old + 1) }
+    ensures cost { pushes.new ≤ pushes.old + 30 * (2 * arcs circ.old + 1) }
 {
     // This call says that the circulation is kept.
     let _nodes = circ.nodes();
     circ.bound(arc, cap);
-    if raise(circ, arc, cap, searches) == Raised::Stopped {
+    if raise(circ, arc, cap, pushes) == Raised::Stopped {
         stops.begin(draw);
         mark(circ, draw, stops);
     }

@@ -20,7 +20,7 @@ use Rattle.duality.specs.Alike.{HaveOneNetwork, IsUpTo, HasSameSeniors, IsCertif
 use Rattle.duality.specs.Alike.{JuniorsChangeNothing, GreatestPlansIgnoreJuniors}
 use Rattle.water_text.specs.declared.month.Month.{Month}
 use Rattle.water_model.specs.declared.types.Basin.{Basin}
-use Rattle.water_model.specs.declared.types.Inflows.{Inflows}
+use Rattle.water_model.specs.declared.types.Series.{Series}
 use Rattle.water_model.specs.declared.types.MonthRecord.{MonthRecord}
 use Rattle.water_model.specs.declared.types.Plan.{Plan}
 use Rattle.water_model.specs.declared.types.Right.{Right}
@@ -287,7 +287,7 @@ juniors_change_nothing first second at right month supply want other delivered g
     (subst (λ c. IsCertified c month supply other given q) (network_is first second net) cq)
 
 -- the plan of a record is certified by its sets
-pub record_is_certified : (b : Basin) (series : Inflows) (before : List MonthRecord) (m : MonthRecord) →
+pub record_is_certified : (b : Basin) (series : Series) (before : List MonthRecord) (m : MonthRecord) →
     Follows b series before m → IsCertified b m.month m.supply m.want m.delivered m.plan
 record_is_certified b series before m follows = record {
   plan = follows.after.plan;

@@ -19,7 +19,7 @@ use Rattle.water_model.specs.Valid.{IsValidBasin, HasValidSite, is_diversion, is
 use Rattle.duality.specs.Balance.{HistoriesAreBalanced, IsBalanced, total_inflow, diverted}
 use Rattle.water_text.specs.declared.month.Month.{Month}
 use Rattle.water_model.specs.declared.types.Basin.{Basin}
-use Rattle.water_model.specs.declared.types.Inflows.{Inflows}
+use Rattle.water_model.specs.declared.types.Series.{Series}
 use Rattle.water_model.specs.declared.types.MonthRecord.{MonthRecord}
 use Rattle.water_model.specs.declared.types.Plan.{Plan}
 use Rattle.water_model.specs.declared.types.Reservoir.{Reservoir}
@@ -74,7 +74,7 @@ plan_balance b month supply want p valid plan =
         of_kind (Zone reservoir level) e h = rw (e, at_reservoir b valid reservoir h.0) refl
 
 -- what a right takes is a diversion's delivery or goes into the closing of a zone's reservoir
-take_goes : (b : Basin) (series : Inflows) (before : List MonthRecord) (m : MonthRecord) → IsValidBasin b →
+take_goes : (b : Basin) (series : Series) (before : List MonthRecord) (m : MonthRecord) → IsValidBasin b →
     Follows b series before m →
     (r : ℕ) → r < length b.rights →
     slice_index m.plan.take r
@@ -116,7 +116,7 @@ pub sum_of : (xs : List ℕ) (n : ℕ) → length xs ≡ n → sum xs ≡ total 
 sum_of xs n e = sum_total xs ∙ ap (λ k. total k (λ i. slice_index xs i)) e
 
 -- the balance of a month
-pub month_balance : (b : Basin) (series : Inflows) (before : List MonthRecord) (m : MonthRecord) → IsValidBasin b →
+pub month_balance : (b : Basin) (series : Series) (before : List MonthRecord) (m : MonthRecord) → IsValidBasin b →
     Follows b series before m →
     sum m.opening + total_inflow b series m.index + sum m.returned
     ≡ sum m.closing + sum m.evaporated + diverted b m + sum m.plan.out
@@ -204,7 +204,7 @@ opening_after_more b records i m l e =
     ap (slice_get (take (suc i) records)) last ∙ (slice_get-take records i ∙ e) in
     ap (λ o. unwrap_or (option_map (λ m. m.closing) o) (map (λ v. v.opening) b.reservoirs)) at
 
-balanced_up_to : (b : Basin) (series : Inflows) (records : List MonthRecord) → IsValidBasin b →
+balanced_up_to : (b : Basin) (series : Series) (records : List MonthRecord) → IsValidBasin b →
     IsPartialHistory b series records →
     (i : ℕ) → i ≤ length records → IsBalanced b series (take i records)
 balanced_up_to b series records valid partial zero l = omega arith

@@ -17,7 +17,7 @@ use Rattle.duality.specs.Laws.{CutBounds, CutsMakeGreatest, CutsLetNobodyGetMore
 use Rattle.duality.specs.Laws.{TightCutLeavesNothing, GreatestPlansDeliverSame, ReachIsUnique, AreDeliveries}
 use Rattle.duality.specs.Laws.{TightMeansBound, IsMetOrCut}
 use Rattle.water_model.specs.declared.types.Basin.{Basin}
-use Rattle.water_model.specs.declared.types.Inflows.{Inflows}
+use Rattle.water_model.specs.declared.types.Series.{Series}
 use Rattle.water_model.specs.declared.types.MonthRecord.{MonthRecord}
 use Rattle.water_model.specs.declared.types.Plan.{Plan}
 use Rattle.finite_sums.proofs.Totals.{total_where_none}
@@ -120,7 +120,7 @@ cuts_make_plan_greatest b carry supply want delivered p plan are cuts = record {
             seniors s k h = equal (delivery b want p s) (delivery b want q s) (first.none_senior s k h)
 
 -- in a record each right is met or has a tight cut
-pub met_or_cut : (b : Basin) (series : Inflows) (before : List MonthRecord) (m : MonthRecord) →
+pub met_or_cut : (b : Basin) (series : Series) (before : List MonthRecord) (m : MonthRecord) →
     Follows b series before m → (r : ℕ) → r < length b.rights →
     IsMetOrCut b (carry_of b m.month) m.supply m.want m.delivered r
 met_or_cut b series before m follows r l = elim (cases_lt (slice_index m.delivered r) (slice_index m.want r)) [
@@ -128,7 +128,7 @@ met_or_cut b series before m follows r l = elim (cases_lt (slice_index m.deliver
   | inr met ↦ inl met
 ]
 
-pub record_is_greatest : (b : Basin) (series : Inflows) (before : List MonthRecord) (m : MonthRecord) →
+pub record_is_greatest : (b : Basin) (series : Series) (before : List MonthRecord) (m : MonthRecord) →
     Follows b series before m → IsGreatest b m.month m.supply m.want m.plan
 record_is_greatest b series before m follows =
     cuts_make_plan_greatest b (carry_of b m.month) m.supply m.want m.delivered m.plan follows.after.plan

@@ -12,7 +12,7 @@ use Rattle.duality.specs.Laws.{HaveSameOutcome, HistoriesHaveOneOutcome}
 use Rattle.water_model.specs.Valid.{IsValidBasin}
 use Rattle.water_text.specs.declared.month.Month.{Month}
 use Rattle.water_model.specs.declared.types.Basin.{Basin}
-use Rattle.water_model.specs.declared.types.Inflows.{Inflows}
+use Rattle.water_model.specs.declared.types.Series.{Series}
 use Rattle.water_model.specs.declared.types.MonthRecord.{MonthRecord}
 use Rattle.water_model.specs.declared.types.Plan.{Plan}
 use Rattle.water_model.specs.declared.types.Right.{Right}
@@ -65,7 +65,7 @@ pub record BeginAlike (m n : MonthRecord) : Type 0 where
 
 -- a month of a basin begins as one of the basin with other rights, after as many months that leave the same storage,
 -- where the same comes back and flows in
-pub begin_alike : (b : Basin) (rights : List Right) (series other : Inflows) (before others : List MonthRecord)
+pub begin_alike : (b : Basin) (rights : List Right) (series other : Series) (before others : List MonthRecord)
     (m n : MonthRecord) → length before ≡ length others → opening_after b before ≡ opening_after b others →
     ((k : ℕ) → returned_at b (map (λ k. k.delivered) before) k m.index
     ≡ returned_at (record b { rights = rights }) (map (λ k. k.delivered) others) k m.index) →
@@ -96,7 +96,7 @@ begin_alike b rights series other before others m n count storage returns inflow
         (λ k l. f.after.returned k l ∙ (returns k ∙ rw index (sym (g.after.returned k l))))
 
 -- one month
-same_month : (b : Basin) (series : Inflows) (before others : List MonthRecord) (m n : MonthRecord) → IsValidBasin b →
+same_month : (b : Basin) (series : Series) (before others : List MonthRecord) (m n : MonthRecord) → IsValidBasin b →
     SameBefore b before others → Follows b series before m → Follows b series others n → HaveSameOutcome m n
 same_month b series before others m n valid same f g = record {
   index = alike.index;
@@ -152,7 +152,7 @@ map_take_suc f (y ∷ ys) zero x e = ap (λ o. f (unwrap_or o x) ∷ []) e
 map_take_suc f (y ∷ ys) (suc i) x e = ap (λ t. f y ∷ t) (map_take_suc f ys i x e)
 
 -- by the months before
-same_before : (b : Basin) (series : Inflows) (records others : List MonthRecord) → IsValidBasin b →
+same_before : (b : Basin) (series : Series) (records others : List MonthRecord) → IsValidBasin b →
     IsPartialHistory b series records → IsPartialHistory b series others → length records ≡ length others →
     (i : ℕ) → i ≤ length records → SameBefore b (take i records) (take i others)
 same_before b series records others valid f g len zero l = record { count = refl; storage = refl; deliveries = refl }

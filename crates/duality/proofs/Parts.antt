@@ -17,7 +17,7 @@ use Rattle.water_model.specs.Cuts.{IsTightWithin, cut_capacity, cut_kept, kept_o
 use Rattle.water_model.specs.History.{Follows}
 use Rattle.duality.specs.Laws.{NoFractionHelps, WholeUnitsAreGreatest, OnePartIsUnit, AreDeliveries, IsMetOrCut}
 use Rattle.water_model.specs.declared.types.Basin.{Basin}
-use Rattle.water_model.specs.declared.types.Inflows.{Inflows}
+use Rattle.water_model.specs.declared.types.Series.{Series}
 use Rattle.water_model.specs.declared.types.MonthRecord.{MonthRecord}
 use Rattle.water_model.specs.declared.types.Plan.{Plan}
 use Rattle.water_model.proofs.Sets.{total_where_same}
@@ -177,7 +177,7 @@ deliveries_times b k want p delivered are = record {
 -- ---- the laws
 
 -- in a record each right is met or has a tight cut, k-fold
-in_record : (b : Basin) (series : Inflows) (before : List MonthRecord) (m : MonthRecord) → Follows b series before m →
+in_record : (b : Basin) (series : Series) (before : List MonthRecord) (m : MonthRecord) → Follows b series before m →
     (k r : ℕ) → r < length b.rights →
     IsMetOrCut b (λ e. k * carry_of b m.month e) (times k m.supply) (times k m.want) (times k m.delivered) r
 in_record b series before m follows k r l =

@@ -11,13 +11,13 @@ use Rattle.water_model.specs.Cuts.{IsTight, takes_within}
 use Rattle.water_model.specs.History.{Follows, calls, cut_of}
 use Rattle.duality.specs.Laws.{LeavesNothing, HistoriesLeaveNothing, CalledRightsGetNothing, CutsLetNothingOutsideHelp}
 use Rattle.water_model.specs.declared.types.Basin.{Basin}
-use Rattle.water_model.specs.declared.types.Inflows.{Inflows}
+use Rattle.water_model.specs.declared.types.Series.{Series}
 use Rattle.water_model.specs.declared.types.MonthRecord.{MonthRecord}
 use Rattle.duality.proofs.Duality.{cut_slack, taking_on_no_link, delivery_by_take}
 use Rattle.duality.proofs.Greatest.{tight_leaves_nothing}
 
 -- the set that a record has of a right is a tight cut of it
-pub set_is_tight : {b : Basin} {series : Inflows} {before : List MonthRecord} {m : MonthRecord} →
+pub set_is_tight : {b : Basin} {series : Series} {before : List MonthRecord} {m : MonthRecord} →
     Follows b series before m → (r : ℕ) → r < length b.rights → (cut : List Bool) → cut_of m r ≡ Some cut →
     IsTight b m.month m.supply m.delivered r cut
 set_is_tight {b} {series} {before} {m} follows r l cut is =
@@ -28,7 +28,7 @@ set_is_tight {b} {series} {before} {m} follows r l cut is =
       | inr met ↦ absurd (cc (follows.met r l met, is))
     ]
 
-pub record_leaves_nothing : {b : Basin} {series : Inflows} {before : List MonthRecord} {m : MonthRecord} →
+pub record_leaves_nothing : {b : Basin} {series : Series} {before : List MonthRecord} {m : MonthRecord} →
     Follows b series before m → (r : ℕ) → r < length b.rights → (cut : List Bool) → cut_of m r ≡ Some cut →
     LeavesNothing b m.plan r cut
 record_leaves_nothing {b} {series} {before} {m} follows r l cut is =
@@ -38,7 +38,7 @@ record_leaves_nothing {b} {series} {before} {m} follows r l cut is =
 pub histories_leave_nothing : HistoriesLeaveNothing
 histories_leave_nothing b series records history i m at = record_leaves_nothing (history.each i m at)
 
-called_in_record : {b : Basin} {series : Inflows} {before : List MonthRecord} {m : MonthRecord} →
+called_in_record : {b : Basin} {series : Series} {before : List MonthRecord} {m : MonthRecord} →
     Follows b series before m → (r caller : ℕ) → r < length b.rights → caller < length b.rights →
     calls b m r caller ≡ true → slice_index m.delivered r ≡ 0
 unfolding calls

@@ -6,11 +6,11 @@ use Rattle.water_model.specs.Hydrology.{inflow_at, returned_by, delivered_before
 use Rattle.water_model.specs.History.{opening_after, IsPartialHistory}
 use Rattle.water_model.specs.Valid.{IsValidBasin, is_diversion}
 use Rattle.water_model.specs.declared.types.Basin.{Basin}
-use Rattle.water_model.specs.declared.types.Inflows.{Inflows}
+use Rattle.water_model.specs.declared.types.Series.{Series}
 use Rattle.water_model.specs.declared.types.MonthRecord.{MonthRecord}
 
 -- the inflow to all nodes in month i
-abbrev pub total_inflow : Basin → Inflows → ℕ → ℕ
+abbrev pub total_inflow : Basin → Series → ℕ → ℕ
 total_inflow b series i = total (length b.nodes) (λ n. inflow_at b series n i)
 
 -- what a record delivers to all diversions
@@ -19,7 +19,7 @@ diverted b m = total_where (length b.rights) (λ r. is_diversion b r) (λ r. sli
 
 -- what came in over the records, with what was stored before the first, is what went out, with what is stored after the
 -- last
-abbrev pub IsBalanced : Basin → Inflows → List MonthRecord → Type 0
+abbrev pub IsBalanced : Basin → Series → List MonthRecord → Type 0
 IsBalanced b series records =
     sum (map (λ v. v.opening) b.reservoirs)
     + sum_by (λ m. total_inflow b series m.index) records
@@ -32,7 +32,7 @@ IsBalanced b series records =
 -- Balance. No water is made or lost over a partial history.
 abbrev pub HistoriesAreBalanced : Type 0
 HistoriesAreBalanced =
-    (b : Basin) (series : Inflows) (records : List MonthRecord) → IsValidBasin b →
+    (b : Basin) (series : Series) (records : List MonthRecord) → IsValidBasin b →
     IsPartialHistory b series records → IsBalanced b series records
 
 -- what a diversion's return rows brought in the months before month n

@@ -10,7 +10,7 @@ use Rattle.water_model.specs.History.{IsPartialHistory, calls, cut_of}
 use Rattle.water_model.specs.Valid.{IsValidBasin}
 use Rattle.water_text.specs.declared.month.Month.{Month}
 use Rattle.water_model.specs.declared.types.Basin.{Basin}
-use Rattle.water_model.specs.declared.types.Inflows.{Inflows}
+use Rattle.water_model.specs.declared.types.Series.{Series}
 use Rattle.water_model.specs.declared.types.MonthRecord.{MonthRecord}
 use Rattle.water_model.specs.declared.types.Plan.{Plan}
 
@@ -40,14 +40,14 @@ CutBounds =
 -- Cuts make plans greatest. In a partial history, and so in a history, each month's plan is greatest.
 abbrev pub CutsMakeGreatest : Type 0
 CutsMakeGreatest =
-    (b : Basin) (series : Inflows) (records : List MonthRecord) → IsPartialHistory b series records →
+    (b : Basin) (series : Series) (records : List MonthRecord) → IsPartialHistory b series records →
     (i : ℕ) (m : MonthRecord) → slice_get records i ≡ Some m → IsGreatest b m.month m.supply m.want m.plan
 
 -- Cuts let nobody get more. In any plan of a month that delivers at least as much to each right senior to a right, the
 -- right gets no more than it got: no water of a junior could lessen a senior's shortage.
 abbrev pub CutsLetNobodyGetMore : Type 0
 CutsLetNobodyGetMore =
-    (b : Basin) (series : Inflows) (records : List MonthRecord) → IsPartialHistory b series records →
+    (b : Basin) (series : Series) (records : List MonthRecord) → IsPartialHistory b series records →
     (i : ℕ) (m : MonthRecord) → slice_get records i ≡ Some m → (q : Plan) → IsPlan b m.month m.supply m.want q →
     (right : ℕ) → right < length b.rights → ServesSeniors b m.delivered m.want q right →
     delivery b m.want q right ≤ slice_index m.delivered right
@@ -56,7 +56,7 @@ CutsLetNobodyGetMore =
 -- to each right senior to a right, the right gets at most k times what it got.
 abbrev pub NoFractionHelps : Type 0
 NoFractionHelps =
-    (b : Basin) (series : Inflows) (records : List MonthRecord) → IsPartialHistory b series records →
+    (b : Basin) (series : Series) (records : List MonthRecord) → IsPartialHistory b series records →
     (i : ℕ) (m : MonthRecord) → slice_get records i ≡ Some m → (k : ℕ) (q : Plan) →
     IsPlanInParts b k m.month m.supply m.want q → (right : ℕ) → right < length b.rights →
     ServesSeniors b (times k m.delivered) (times k m.want) q right →
@@ -66,7 +66,7 @@ NoFractionHelps =
 -- times what the record has.
 abbrev pub WholeUnitsAreGreatest : Type 0
 WholeUnitsAreGreatest =
-    (b : Basin) (series : Inflows) (records : List MonthRecord) → IsPartialHistory b series records →
+    (b : Basin) (series : Series) (records : List MonthRecord) → IsPartialHistory b series records →
     (i : ℕ) (m : MonthRecord) → slice_get records i ≡ Some m → (k : ℕ) →
     IsGreatestInParts b k m.month m.supply m.want (in_parts k m.plan)
     × AreDeliveries b (times k m.want) (in_parts k m.plan) (times k m.delivered)
@@ -94,14 +94,14 @@ TightCutLeavesNothing =
 -- takes, and no outlet lets water out.
 abbrev pub HistoriesLeaveNothing : Type 0
 HistoriesLeaveNothing =
-    (b : Basin) (series : Inflows) (records : List MonthRecord) → IsPartialHistory b series records →
+    (b : Basin) (series : Series) (records : List MonthRecord) → IsPartialHistory b series records →
     (i : ℕ) (m : MonthRecord) → slice_get records i ≡ Some m → (right : ℕ) → right < length b.rights →
     (cut : List Bool) → cut_of m right ≡ Some cut → LeavesNothing b m.plan right cut
 
 -- A right that answers to a caller gets nothing.
 abbrev pub CalledRightsGetNothing : Type 0
 CalledRightsGetNothing =
-    (b : Basin) (series : Inflows) (records : List MonthRecord) → IsPartialHistory b series records →
+    (b : Basin) (series : Series) (records : List MonthRecord) → IsPartialHistory b series records →
     (i : ℕ) (m : MonthRecord) → slice_get records i ≡ Some m → (right caller : ℕ) → right < length b.rights →
     caller < length b.rights → IsTrue (calls b m right caller) → slice_index m.delivered right ≡ 0
 
@@ -110,7 +110,7 @@ CalledRightsGetNothing =
 -- it got.
 abbrev pub CutsLetNothingOutsideHelp : Type 0
 CutsLetNothingOutsideHelp =
-    (b : Basin) (series : Inflows) (records : List MonthRecord) → IsPartialHistory b series records →
+    (b : Basin) (series : Series) (records : List MonthRecord) → IsPartialHistory b series records →
     (i : ℕ) (m : MonthRecord) → slice_get records i ≡ Some m → (right : ℕ) → right < length b.rights →
     (cut : List Bool) → cut_of m right ≡ Some cut → (other_supply other_want : List ℕ) (q : Plan) →
     IsPlan b m.month other_supply other_want q → AgreesOn cut m.supply other_supply →
@@ -145,7 +145,7 @@ pub record HaveSameOutcome (m n : MonthRecord) : Type 0 where
 -- One outcome. Two partial histories of one length agree month by month.
 abbrev pub HistoriesHaveOneOutcome : Type 0
 HistoriesHaveOneOutcome =
-    (b : Basin) (series : Inflows) (records others : List MonthRecord) → IsValidBasin b →
+    (b : Basin) (series : Series) (records others : List MonthRecord) → IsValidBasin b →
     IsPartialHistory b series records → IsPartialHistory b series others → length records ≡ length others →
     (i : ℕ) (m n : MonthRecord) → slice_get records i ≡ Some m → slice_get others i ≡ Some n → HaveSameOutcome m n
 

@@ -3,7 +3,7 @@ use Rattle.std.proofs.Common.{◌≡◌, ℕ, ◌≤◌, Bool, arith, List, leng
 use Rattle.water_model.specs.Indices.{numbers_from}
 use Rattle.water_model.specs.Valid.{IsValidBasin, IsSeriesOf, is_gauged, is_in_series}
 use Rattle.water_model.specs.declared.types.Basin.{Basin}
-use Rattle.water_model.specs.declared.types.Inflows.{Inflows}
+use Rattle.water_model.specs.declared.types.Series.{Series}
 use Rattle.water_model.proofs.Order.{length-numbers_from}
 use Rattle.water_model.proofs.Gauges.{filter_short}
 
@@ -12,11 +12,11 @@ bounded_columns : (p : ℕ → Bool) (count : ℕ) (keys : List ℕ) → keys �
 bounded_columns p count keys e =
     rw e (omega (arith, filter_short p (numbers_from 0 count), length-numbers_from 0 count))
 
-pub bounded_gauges : (b : Basin) (series : Inflows) → IsValidBasin b → IsSeriesOf b series → length series.gauged ≤ 2000
+pub bounded_gauges : (b : Basin) (series : Series) → IsValidBasin b → IsSeriesOf b series → length series.gauged ≤ 2000
 bounded_gauges b series valid fits =
     omega (arith, bounded_columns (λ n. is_gauged b n) (length b.nodes) series.gauged fits.gauged, valid.bounded.nodes)
 
-pub bounded_wants : (b : Basin) (series : Inflows) → IsValidBasin b → IsSeriesOf b series → length series.wanted ≤ 2000
+pub bounded_wants : (b : Basin) (series : Series) → IsValidBasin b → IsSeriesOf b series → length series.wanted ≤ 2000
 bounded_wants b series valid fits =
     omega (
       arith,

@@ -6,7 +6,7 @@ use Rattle.std.specs.Prelude.{◌==◌, codes, Result, Ok, Err, MatchResult, Vec
 use Rattle.std.specs.List.{slice_split, onto_first}
 use Rattle.std.specs.Str.{bytes_eq}
 use Rattle.water_model.specs.declared.types.Basin.{Basin}
-use Rattle.water_model.specs.declared.types.Inflows.{Inflows}
+use Rattle.water_model.specs.declared.types.Series.{Series}
 use Rattle.edit_script.specs.Lines.{edit_of}
 use Rattle.edit_script.specs.Scripts.{IsRefusalOf, Reading, ended, edits_from, edits_of_lines, in_prefix, lines_of}
 use Rattle.edit_script.specs.Scripts.{numbered, script_of}
@@ -27,7 +27,7 @@ after_more edits e (Ok more) = ap (λ (es : List Edit). Ok es) (sym (append_asso
 after_more edits e (Err why) = refl
 
 -- one line that is followed by others
-one_line : (b : Basin) (series : Inflows) (number : ℕ) (line text : List ℕ) → bytes_eq line (codes "done") ≡ false →
+one_line : (b : Basin) (series : Series) (number : ℕ) (line text : List ℕ) → bytes_eq line (codes "done") ≡ false →
     edits_from b series number (line ∷ lines_of text) ≡ in_prefix (numbered number (edit_of b series line))
     (edits_from b series (number + 1) (lines_of text))
 unfolding edits_from
@@ -35,7 +35,7 @@ one_line b series number line text other =
     let found = some_piece (λ byte. byte == 10) text in
     rw (found.2, other) refl
 
-last_line : (b : Basin) (series : Inflows) (number : ℕ) (line text : List ℕ) → bytes_eq line (codes "done") ≡ true →
+last_line : (b : Basin) (series : Series) (number : ℕ) (line text : List ℕ) → bytes_eq line (codes "done") ≡ true →
     edits_from b series number (line ∷ lines_of text) ≡ ended [] (number + 1) (lines_of text)
 unfolding edits_from
 last_line b series number line text done =
@@ -43,7 +43,7 @@ last_line b series number line text done =
     rw (found.2, done) refl
 
 -- the whole reading, by what was read, the answer to a line, and what is to come
-pub line_taken : (b : Basin) (series : Inflows) (whole : Reading) (edits : List Edit) (number : ℕ)
+pub line_taken : (b : Basin) (series : Series) (whole : Reading) (edits : List Edit) (number : ℕ)
     (rest line text : List ℕ) (r : Result Edit ScriptRefused) →
     whole ≡ after edits (edits_from b series number (lines_of rest)) → lines_of rest ≡ line ∷ lines_of text →
     bytes_eq line (codes "done") ≡ false → r ≡ numbered number (edit_of b series line) →
@@ -62,7 +62,7 @@ ended_after edits number ([] ∷ []) = ap (λ (es : List Edit). Ok es) (append-n
 ended_after edits number ([] ∷ (line ∷ lines)) = refl
 ended_after edits number ((c ∷ cs) ∷ lines) = refl
 
-pub end_taken : (b : Basin) (series : Inflows) (whole : Reading) (edits : List Edit) (number : ℕ)
+pub end_taken : (b : Basin) (series : Series) (whole : Reading) (edits : List Edit) (number : ℕ)
     (rest line text : List ℕ) →
     whole ≡ after edits (edits_from b series number (lines_of rest)) → lines_of rest ≡ line ∷ lines_of text →
     bytes_eq line (codes "done") ≡ true →
@@ -74,7 +74,7 @@ end_taken b series whole edits number rest line text so_far at done =
     ∙ ended_after edits (number + 1) (lines_of text)
 
 -- where no line feed comes any more
-pub early_end : (b : Basin) (series : Inflows) (whole : Reading) (edits : List Edit) (number : ℕ) (rest : List ℕ) →
+pub early_end : (b : Basin) (series : Series) (whole : Reading) (edits : List Edit) (number : ℕ) (rest : List ℕ) →
     whole ≡ after edits (edits_from b series number (lines_of rest)) → lines_of rest ≡ rest ∷ [] →
     whole ≡ Err (refused.Refused fault.EarlyEnd number)
 unfolding edits_from
@@ -107,7 +107,7 @@ answered whole part (Ok edits) e h = e ∙ h
 answered whole part (Err why) e h = refusal_of whole why (e ∙ h)
 
 -- the first line
-pub first_good : (b : Basin) (series : Inflows) (text first after : List ℕ) → lines_of text ≡ first ∷ lines_of after →
+pub first_good : (b : Basin) (series : Series) (text first after : List ℕ) → lines_of text ≡ first ∷ lines_of after →
     bytes_eq first (codes "river-edit 1") ≡ true →
     script_of b series text ≡ edits_from b series 2 (lines_of after)
 unfolding script_of
@@ -115,7 +115,7 @@ first_good b series text first after at good =
     let found = some_piece (λ byte. byte == 10) after in
     ap (edits_of_lines b series) at ∙ rw (found.2, good) refl
 
-pub first_bad : (b : Basin) (series : Inflows) (text first after : List ℕ) → lines_of text ≡ first ∷ lines_of after →
+pub first_bad : (b : Basin) (series : Series) (text first after : List ℕ) → lines_of text ≡ first ∷ lines_of after →
     bytes_eq first (codes "river-edit 1") ≡ false →
     script_of b series text ≡ Err (refused.Refused fault.BadLine 1)
 unfolding script_of
@@ -123,7 +123,7 @@ first_bad b series text first after at bad =
     let found = some_piece (λ byte. byte == 10) after in
     ap (edits_of_lines b series) at ∙ rw (found.2, bad) refl
 
-pub no_first : (b : Basin) (series : Inflows) (text : List ℕ) → lines_of text ≡ text ∷ [] →
+pub no_first : (b : Basin) (series : Series) (text : List ℕ) → lines_of text ≡ text ∷ [] →
     script_of b series text ≡ Err (refused.Refused fault.EarlyEnd 1)
 unfolding script_of
 no_first b series text at = ap (edits_of_lines b series) at

@@ -8,7 +8,7 @@ use Rattle.water_text.specs.Names.{is_name}
 use Rattle.water_model.specs.Hydrology.{index_in, index_in_run}
 use Rattle.water_model.specs.Valid.{is_gauged, is_in_series}
 use Rattle.water_model.specs.declared.types.Basin.{Basin}
-use Rattle.water_model.specs.declared.types.Inflows.{Inflows}
+use Rattle.water_model.specs.declared.types.Series.{Series}
 use Rattle.basin_names.specs.Named.{node_named, right_named}
 use Rattle.edit_script.specs.declared.edit.Edit.{Edit}
 use Rattle.edit_script.specs.declared.edit.Edit.TheVariants as edit
@@ -41,7 +41,7 @@ numbers_of b month name amount =
     else Err fault.BadLine)
 
 -- what a line `inflow MONTH NODE AMOUNT` asks for
-unfoldable pub inflow_of : Basin → Inflows → List ℕ → List ℕ → List ℕ → Result Edit ScriptFault
+unfoldable pub inflow_of : Basin → Series → List ℕ → List ℕ → List ℕ → Result Edit ScriptFault
 inflow_of b series month name amount =
     given (numbers_of b month name amount) (λ numbers.
     need fault.NoSuchName (node_named b name) (λ node.
@@ -49,7 +49,7 @@ inflow_of b series month name amount =
     else Err fault.NotSeries))
 
 -- what a line `want MONTH RIGHT AMOUNT` asks for
-unfoldable pub want_of : Basin → Inflows → List ℕ → List ℕ → List ℕ → Result Edit ScriptFault
+unfoldable pub want_of : Basin → Series → List ℕ → List ℕ → List ℕ → Result Edit ScriptFault
 want_of b series month name amount =
     given (numbers_of b month name amount) (λ numbers.
     need fault.NoSuchName (right_named b name) (λ right.
@@ -57,12 +57,12 @@ want_of b series month name amount =
     else Err fault.NotSeries))
 
 -- what a line of these fields asks for, or its first fault
-abbrev pub edit_in : Basin → Inflows → List (List ℕ) → Result Edit ScriptFault
+abbrev pub edit_in : Basin → Series → List (List ℕ) → Result Edit ScriptFault
 edit_in b series (word ∷ month ∷ []) = if bytes_eq word (codes "show") then show_of b month else Err fault.BadLine
 edit_in b series (word ∷ month ∷ name ∷ amount ∷ []) =
     if bytes_eq word (codes "inflow") then inflow_of b series month name amount
     else (if bytes_eq word (codes "want") then want_of b series month name amount else Err fault.BadLine)
 edit_in b series _ = Err fault.BadLine
 
-unfoldable pub edit_of : Basin → Inflows → List ℕ → Result Edit ScriptFault
+unfoldable pub edit_of : Basin → Series → List ℕ → Result Edit ScriptFault
 edit_of b series line = edit_in b series (pieces_of line)

@@ -3,7 +3,7 @@ use Rattle.std.specs.Prelude.{◌≡◌, ℕ, ◌+◌, List, [], ◌∷◌, code
 use Rattle.std.specs.List.{slice_split}
 use Rattle.std.specs.Str.{bytes_eq}
 use Rattle.water_model.specs.declared.types.Basin.{Basin}
-use Rattle.water_model.specs.declared.types.Inflows.{Inflows}
+use Rattle.water_model.specs.declared.types.Series.{Series}
 use Rattle.edit_script.specs.Lines.{edit_of}
 use Rattle.edit_script.specs.declared.edit.Edit.{Edit}
 use Rattle.edit_script.specs.declared.refused.ScriptFault.{ScriptFault}
@@ -36,7 +36,7 @@ ended edits number ([] ∷ []) = Ok edits
 ended edits number _ = Err (refused.Refused fault.AfterEnd number)
 
 -- the lines from this number on, which end with `done`
-unfoldable pub edits_from : Basin → Inflows → ℕ → List (List ℕ) → Reading
+unfoldable pub edits_from : Basin → Series → ℕ → List (List ℕ) → Reading
 edits_from b series number [] = Err (refused.Refused fault.EarlyEnd number)
 edits_from b series number (rest ∷ []) = Err (refused.Refused fault.EarlyEnd number)
 edits_from b series number (line ∷ next ∷ lines) =
@@ -44,7 +44,7 @@ edits_from b series number (line ∷ next ∷ lines) =
     else in_prefix (numbered number (edit_of b series line)) (edits_from b series (number + 1) (next ∷ lines))
 
 -- the first line says what the text is
-abbrev pub edits_of_lines : Basin → Inflows → List (List ℕ) → Reading
+abbrev pub edits_of_lines : Basin → Series → List (List ℕ) → Reading
 edits_of_lines b series [] = Err (refused.Refused fault.EarlyEnd 1)
 edits_of_lines b series (rest ∷ []) = Err (refused.Refused fault.EarlyEnd 1)
 edits_of_lines b series (line ∷ next ∷ lines) =
@@ -52,7 +52,7 @@ edits_of_lines b series (line ∷ next ∷ lines) =
     else Err (refused.Refused fault.BadLine 1)
 
 -- what a script asks for, or its first line at fault
-unfoldable pub script_of : Basin → Inflows → List ℕ → Reading
+unfoldable pub script_of : Basin → Series → List ℕ → Reading
 script_of b series text = edits_of_lines b series (lines_of text)
 
 -- a refusal is that of the reading, or want of memory

@@ -2,7 +2,7 @@
 ghost use Rattle.std.specs.Prelude.{◌≡◌, ◌<◌, ◌≤◌, ◌^◌, ◌∷◌, IfOk};
 ghost use Rattle.water_text.specs.Fields.{pieces_of};
 ghost use Rattle.water_model.specs.Valid.{IsValidBasin, IsSeriesOf};
-ghost use Rattle.water_model.specs.declared.types.Inflows.{Inflows};
+ghost use Rattle.water_model.specs.declared.types.Series.{Series};
 ghost use Rattle.edit_script.specs.Edits.{IsValidEdit};
 ghost use Rattle.edit_script.specs.Lines.{edit_in, edit_of, inflow_of, numbers_of, show_of, want_of};
 
@@ -10,7 +10,7 @@ use crate::edit::Edit;
 use crate::refused::ScriptFault;
 use basin_names::BothNames;
 use water_model::calls::{index_in_run, index_of, is_gauged, is_in_series};
-use water_model::types::{Basin, Inflows};
+use water_model::types::{Basin, Series};
 use water_text::amount::read_plain;
 use water_text::fields::cut;
 use water_text::month::Month;
@@ -21,7 +21,7 @@ use water_text::name::is_name;
 fn read_show(basin: &Basin, month: &[u8]) -> Result<Edit, ScriptFault>
     requires { IsValidBasin basin.now }
     ensures reads { result ≡ show_of basin.now month.now }
-    ensures placed { IfOk result (λ e. (series : Inflows) → IsValidEdit basin.now series e) }
+    ensures placed { IfOk result (λ e. (series : Series) → IsValidEdit basin.now series e) }
 {
     let Some(month) = Month::read(month) else {
         return Err(ScriptFault::BadLine);
@@ -64,7 +64,7 @@ fn read_numbers(
 #[tactic(auto, unfolding(crate::specs::Lines::inflow_of))]
 fn read_inflow(
     names: &BothNames,
-    series: &Inflows,
+    series: &Series,
     month: &[u8],
     name: &[u8],
     amount: &[u8],
@@ -93,7 +93,7 @@ fn read_inflow(
 #[tactic(auto, unfolding(crate::specs::Lines::want_of))]
 fn read_want(
     names: &BothNames,
-    series: &Inflows,
+    series: &Series,
     month: &[u8],
     name: &[u8],
     amount: &[u8],
@@ -121,7 +121,7 @@ fn read_want(
 /// What a line with a third field asks for: its word, its month and what is after them.
 fn read_change(
     names: &BothNames,
-    series: &Inflows,
+    series: &Series,
     word: &[u8],
     month: &[u8],
     after: &[u8],
@@ -150,7 +150,7 @@ fn read_change(
 
 /// What a line between the first and the last asks for, or its first fault.
 #[tactic(auto, unfolding(crate::specs::Lines::edit_of))]
-pub fn read_edit(names: &BothNames, series: &Inflows, line: &[u8]) -> Result<Edit, ScriptFault>
+pub fn read_edit(names: &BothNames, series: &Series, line: &[u8]) -> Result<Edit, ScriptFault>
     requires basin { IsValidBasin names.now.basin.now }
     requires series { IsSeriesOf names.now.basin.now series.now }
     ensures reads { result ≡ edit_of names.now.basin.now series.now line.now }

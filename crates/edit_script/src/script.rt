@@ -10,7 +10,7 @@ use crate::lines::read_edit;
 use crate::refused::{ScriptFault, ScriptRefused};
 use basin_names::BothNames;
 use std::alloc::Global;
-use water_model::types::{Basin, Inflows};
+use water_model::types::{Basin, Series};
 use water_text::line_in::first_feed;
 
 /// The first line of a text and what is after its line feed, if there is a line feed.
@@ -28,7 +28,7 @@ fn first_line(text: &[u8]) -> Option<(&[u8], &[u8])>
 /// What the line of this number asks for, or the refusal of the script.
 fn read_numbered(
     names: &BothNames,
-    series: &Inflows,
+    series: &Series,
     line: &[u8],
     number: u64,
 ) -> Result<Edit, ScriptRefused>
@@ -65,7 +65,7 @@ fn end_of(edits: Vec<Edit>, number: u64, after: &[u8]) -> Result<Vec<Edit>, Scri
 fn read_edits(
     alloc: Global,
     names: &BothNames,
-    series: &Inflows,
+    series: &Series,
     text: &[u8],
 ) -> Result<Vec<Edit>, ScriptRefused>
     requires basin { IsValidBasin names.now.basin.now }
@@ -99,7 +99,7 @@ fn read_edits(
 pub fn read_script(
     alloc: Global,
     basin: &Basin,
-    series: &Inflows,
+    series: &Series,
     text: &[u8],
 ) -> Result<Vec<Edit>, ScriptRefused>
     requires basin { IsValidBasin basin.now }

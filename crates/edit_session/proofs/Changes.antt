@@ -12,7 +12,7 @@ use Rattle.water_model.specs.Valid.{IsSeriesOf, is_gauged, is_gauged_kind, is_in
 use Rattle.water_model.specs.declared.types.Basin.{Basin}
 use Rattle.water_model.specs.declared.types.Inflow.TheVariants.{Monthly, Gauged}
 use Rattle.water_model.specs.declared.types.Inflow as inflow
-use Rattle.water_model.specs.declared.types.Inflows.{Inflows}
+use Rattle.water_model.specs.declared.types.Series.{Series}
 use Rattle.water_model.specs.declared.types.MonthRecord.{MonthRecord}
 use Rattle.water_model.proofs.Gauges.{gauge_within, wanted_within, cell_within}
 use Rattle.edit_script.specs.Edits.{edited_by, kept_by, IsValidEdit, with_inflow, with_want}
@@ -31,7 +31,7 @@ use Rattle.edit_session.specs.Shown.{AgreesWithRuns}
 use Rattle.duality.proofs.Balance.{slice_get-take}
 
 -- The prefix of a partial history is one, also of a series that agrees with its own up to there.
-pub prefix_partial : (b : Basin) (series other : Inflows) (records : List MonthRecord) (month : ℕ) →
+pub prefix_partial : (b : Basin) (series other : Series) (records : List MonthRecord) (month : ℕ) →
     AgreeBefore b series other month →
     IsPartialHistory b series records → IsPartialHistory b other (take month records)
 prefix_partial b series other records month agree h = record {
@@ -85,7 +85,7 @@ earlier_stays keys cells i index column key amount l within =
     other e = let below = cell_within i index (length keys) (index_in keys key) l within in omega arith
 
 -- series agree before a month where their tables do
-tables_agree : (b : Basin) (series other : Inflows) (month : ℕ) →
+tables_agree : (b : Basin) (series other : Series) (month : ℕ) →
     ((node i : ℕ) → node < length b.nodes → i < month → is_gauged b node ≡ true →
     table_at series.gauged series.amount i node ≡ table_at other.gauged other.amount i node) →
     ((right i : ℕ) → right < length b.rights → i < month → is_in_series b right ≡ true →
@@ -115,11 +115,11 @@ tables_agree b series other month amounts wants = record {
     by_test false x y z same = refl
 
 -- a series agrees with itself
-same_series : (b : Basin) (series : Inflows) (month : ℕ) → AgreeBefore b series series month
+same_series : (b : Basin) (series : Series) (month : ℕ) → AgreeBefore b series series month
 same_series b series month = record { inflows = λ node i l m. refl; wants = λ right i used l m. refl }
 
 -- the months that are kept over a change are before it
-edited_agrees : (b : Basin) (series : Inflows) (count : ℕ) (e : Edit) → IsSeriesOf b series →
+edited_agrees : (b : Basin) (series : Series) (count : ℕ) (e : Edit) → IsSeriesOf b series →
     AgreeBefore b series (edited_by series e) (kept_by count e)
 edited_agrees b series count (Inflow index gauge amount) fits =
     tables_agree b series (with_inflow series index gauge amount) (min count index)
@@ -156,7 +156,7 @@ stays_ready old new e ready placed engine series kept = record {
 }
 
 -- a month that a session keeps agrees with that of a fresh run
-pub runs_agree : (b : Basin) (series : Inflows) (index : ℕ) (months : List MonthRecord) (m : MonthRecord) →
+pub runs_agree : (b : Basin) (series : Series) (index : ℕ) (months : List MonthRecord) (m : MonthRecord) →
     IsValidBasin b →
     HasKeptMonths (record { basin = b; series = series; kept = months }) → slice_get months index ≡ Some m →
     AgreesWithRuns b series index m

@@ -10,7 +10,7 @@ use Rattle.water_edge.specs.declared.sink.Sink
 use Rattle.water_edge.proofs.Outputs.{Extends-nil, Extends-trans}
 use Rattle.water_model.specs.Valid.{IsValidBasin}
 use Rattle.water_model.specs.declared.types.Basin.{Basin}
-use Rattle.water_model.specs.declared.types.Inflows.{Inflows}
+use Rattle.water_model.specs.declared.types.Series.{Series}
 use Rattle.water_model.specs.declared.types.MonthRecord.{MonthRecord}
 use Rattle.result_text.specs.Range.{FitsText}
 use Rattle.water_edge.proofs.Puts.{PutsPrefix}
@@ -69,7 +69,7 @@ module _ {K : Type 0} (sink : Sink.Ghosts K) (b : Basin) where
   some_flushed (x ∷ xs) old new h some = h
 
 -- a change moves no index
-placed_by : (b : Basin) (series : Inflows) (d e : Edit) → IsValidEdit b series e → IsValidEdit b (edited_by series d) e
+placed_by : (b : Basin) (series : Series) (d e : Edit) → IsValidEdit b series e → IsValidEdit b (edited_by series d) e
 placed_by b series (Inflow index gauge amount) (Inflow i g a) h = h
 placed_by b series (Inflow index gauge amount) (Want i p a) h = h
 placed_by b series (Inflow index gauge amount) (Show i) h = h
@@ -79,19 +79,19 @@ placed_by b series (Want index place amount) (Show i) h = h
 placed_by b series (Show index) e h = h
 
 -- a first line, and then others
-shown_then : (b : Basin) (series : Inflows) (e : Edit) (es : List Edit) (xs ys : List MonthRecord) →
+shown_then : (b : Basin) (series : Series) (e : Edit) (es : List Edit) (xs ys : List MonthRecord) →
     AreShown b series (e ∷ []) xs → AreShown b (edited_by series e) es ys → AreShown b series (e ∷ es) (xs ++ ys)
 shown_then b series (Inflow index gauge amount) es xs ys h k = rw h k
 shown_then b series (Want index place amount) es xs ys h k = rw h k
 shown_then b series (Show index) es [] ys h k = absurd h
 shown_then b series (Show index) es (x ∷ xs) ys h k = (h.0, rw h.1 k)
 
-have_then : (b : Basin) (series : Inflows) (e : Edit) (es : List Edit) (xs ys : List MonthRecord) →
+have_then : (b : Basin) (series : Series) (e : Edit) (es : List Edit) (xs ys : List MonthRecord) →
     AreShown b series (e ∷ []) xs → HaveShown b (edited_by series e) es ys → HaveShown b series (e ∷ es) (xs ++ ys)
 have_then b series e es xs ys h k =
     record { count = suc k.count; are = shown_then b series e (take k.count es) xs ys h k.are }
 
-answers_then : {K : Type 0} (sink : Sink.Ghosts K) (b : Basin) (series : Inflows) (e : Edit) (es : List Edit)
+answers_then : {K : Type 0} (sink : Sink.Ghosts K) (b : Basin) (series : Series) (e : Edit) (es : List Edit)
     (u : Unit {0}) (r : Result (Unit {0}) EditStop) (old mid new : K) → Answers sink b series (e ∷ []) (Ok u) old mid →
     Answers sink b (edited_by series e) es r mid new → Answers sink b series (e ∷ es) r old new
 answers_then sink b series e es u (Ok v) old mid new h k =
@@ -108,7 +108,7 @@ answers_then sink b series e es u (Err stop.OutOfMemory) old mid new h k =
     (h.0 ++ k.0, have_then b series e es h.0 k.0 h.1 k.1, put_then sink b h.0 k.0 old mid new h.2 k.2)
 
 -- a first line that stops
-have_first : (b : Basin) (series : Inflows) (e : Edit) (es : List Edit) (xs : List MonthRecord) →
+have_first : (b : Basin) (series : Series) (e : Edit) (es : List Edit) (xs : List MonthRecord) →
     HaveShown b series (e ∷ []) xs → HaveShown b series (e ∷ es) xs
 have_first b series e [] xs h = h
 have_first b series e (f ∷ es) xs h = by_count h.count h.are
@@ -118,7 +118,7 @@ have_first b series e (f ∷ es) xs h = by_count h.count h.are
     by_count (suc zero) are = record { count = 1; are = are }
     by_count (suc (suc n)) are = record { count = 1; are = are }
 
-answers_first : {K : Type 0} (sink : Sink.Ghosts K) (b : Basin) (series : Inflows) (e : Edit) (es : List Edit)
+answers_first : {K : Type 0} (sink : Sink.Ghosts K) (b : Basin) (series : Series) (e : Edit) (es : List Edit)
     (why : EditStop) (old new : K) → Answers sink b series (e ∷ []) (Err why) old new →
     Answers sink b series (e ∷ es) (Err why) old new
 answers_first sink b series e es stop.SinkFailed old new h = record {
@@ -132,7 +132,7 @@ answers_first sink b series e es stop.SinkFailed old new h = record {
 answers_first sink b series e es stop.OutOfMemory old new h = (h.0, have_first b series e es h.0 h.1, h.2)
 
 -- lines were answered: an answer to the others is one to all, and their work that of all
-pub record IsPlayed {K : Type 0} (sink : Sink.Ghosts K) (b : Basin) (series now : Inflows) (edits rest : List Edit)
+pub record IsPlayed {K : Type 0} (sink : Sink.Ghosts K) (b : Basin) (series now : Series) (edits rest : List Edit)
     (old mid : K) (held kept : ℕ) (start before : WorkDone) : Type 0 where
   pub placed : (e : Edit) → IsValidEdit b series e → IsValidEdit b now e
   pub answers : (r : Result (Unit {0}) EditStop) (new : K) → Answers sink b now rest r mid new →
@@ -140,7 +140,7 @@ pub record IsPlayed {K : Type 0} (sink : Sink.Ghosts K) (b : Basin) (series now 
   pub work : (after : WorkDone) → Solves (cost_from kept rest) b before after →
       Solves (cost_from held edits) b start after
 
-pub played_more : {K : Type 0} {sink : Sink.Ghosts K} {b : Basin} {series now : Inflows} {edits es : List Edit}
+pub played_more : {K : Type 0} {sink : Sink.Ghosts K} {b : Basin} {series now : Series} {edits es : List Edit}
     {old mid : K} {held kept : ℕ} {start before : WorkDone} (c : Basin) (e : Edit) (u : Unit {0}) (new : K)
     (after : WorkDone) → IsPlayed sink b series now edits (e ∷ es) old mid held kept start before → c ≡ b →
     Answers sink c now (e ∷ []) (Ok u) mid new →
@@ -153,7 +153,7 @@ played_more {sink = sink} {b} {now = now} {es = es} {old} {mid} {kept = kept} c 
   work = λ then' k. so.work then' (Solves-then (solved_by kept e) _ b _ after then' work k);
 }
 
-pub played_stops : {K : Type 0} {sink : Sink.Ghosts K} {b : Basin} {series now : Inflows} {edits es : List Edit}
+pub played_stops : {K : Type 0} {sink : Sink.Ghosts K} {b : Basin} {series now : Series} {edits es : List Edit}
     {old mid : K} {held kept : ℕ} {start before : WorkDone} (c : Basin) (e : Edit) (why : EditStop) (new : K) →
     IsPlayed sink b series now edits (e ∷ es) old mid held kept start before → c ≡ b →
     Answers sink c now (e ∷ []) (Err why) mid new → Answers sink b series edits (Err why) old new
@@ -161,7 +161,7 @@ played_stops {sink = sink} {b} {series} {now} {edits} {es} {old} {mid} c e why n
     so.answers (Err why) new (answers_first sink b now e es why mid new
     (subst (λ (x : Basin). Answers sink x now (e ∷ []) (Err why) mid new) same h))
 
-pub works_stop : {K : Type 0} {sink : Sink.Ghosts K} {b : Basin} {series now : Inflows} {edits es : List Edit}
+pub works_stop : {K : Type 0} {sink : Sink.Ghosts K} {b : Basin} {series now : Series} {edits es : List Edit}
     {old mid : K} {held kept : ℕ} {start before : WorkDone} (e : Edit) (after : WorkDone) →
     IsPlayed sink b series now edits (e ∷ es) old mid held kept start before →
     Solves (solved_by kept e) b before after →
@@ -178,21 +178,21 @@ pub lines_from : (edits : List Edit) (i : ℕ) → i < length edits →
 lines_from edits i l = rw add-one (drop-cons edits i (Inflow 0 0 0) l)
 
 -- a month that a session keeps
-pub month_kept : {b : Basin} {s : SessionView} {series : Inflows} {index : ℕ} {m : MonthRecord} → IsValidBasin b →
+pub month_kept : {b : Basin} {s : SessionView} {series : Series} {index : ℕ} {m : MonthRecord} → IsValidBasin b →
     s.basin ≡ b → s.series ≡ series → HasKeptMonths s → slice_get s.kept index ≡ Some m → IsMonthOf b series index m
 month_kept {b} {s} {series} {index} {m} valid e f kept at =
     let here : HasKeptMonths (record { basin = b; series = series; kept = s.kept }) =
     record { partial = rw (← e, ← f) kept.partial; reaches = rw (← e) kept.reaches } in
     record { months = s.kept; kept = here; here = at; agrees = runs_agree b series index s.kept m valid here at }
 
-pub month_fits : {b : Basin} {series : Inflows} {index : ℕ} {m : MonthRecord} → IsValidBasin b → index < b.months →
+pub month_fits : {b : Basin} {series : Series} {index : ℕ} {m : MonthRecord} → IsValidBasin b → index < b.months →
     IsMonthOf b series index m → FitsText b m
 month_fits {b} {series} {index} {m} valid l is =
     FitsText-follows b series (take index is.months) m valid (is.kept.partial.each index m is.here)
     (omega (arith, length-take index is.months))
 
 -- it is shown, or a prefix of its lines
-module _ {K : Type 0} (sink : Sink.Ghosts K) {b : Basin} {series : Inflows} {index : ℕ} {m : MonthRecord}
+module _ {K : Type 0} (sink : Sink.Ghosts K) {b : Basin} {series : Series} {index : ℕ} {m : MonthRecord}
     (old new : K) (is : IsMonthOf b series index m) where
   pub show_put : (u : Unit {0}) → Extends (sink.output old) (sink.output new) (lines_of b m) →
       (sink.output new).flushed ≡ (sink.output new).taken → Answers sink b series (Show index ∷ []) (Ok u) old new
@@ -211,19 +211,19 @@ module _ {K : Type 0} (sink : Sink.Ghosts K) {b : Basin} {series : Inflows} {ind
   }
 
 -- no line shows no month
-none_shown : (b : Basin) (series : Inflows) (edits : List Edit) → HaveShown b series edits []
+none_shown : (b : Basin) (series : Series) (edits : List Edit) → HaveShown b series edits []
 none_shown b series edits = record { count = 0; are = none edits }
   where
     none : (es : List Edit) → AreShown b series (take 0 es) []
     none [] = refl
     none (e ∷ es) = refl
 
-pub nothing_shown : {K : Type 0} (sink : Sink.Ghosts K) (b : Basin) (series : Inflows) (edits : List Edit) (old : K) →
+pub nothing_shown : {K : Type 0} (sink : Sink.Ghosts K) (b : Basin) (series : Series) (edits : List Edit) (old : K) →
     Answers sink b series edits (Err stop.OutOfMemory) old old
 nothing_shown sink b series edits old = ([], none_shown b series edits, none_put sink b old)
 
 -- The whole answer, with its last line.
-module _ {K : Type 0} (sink : Sink.Ghosts K) (b : Basin) (series : Inflows) (edits : List Edit) where
+module _ {K : Type 0} (sink : Sink.Ghosts K) (b : Basin) (series : Series) (edits : List Edit) where
   pub whole_stops : (why : EditStop) (old new : K) → Answers sink b series edits (Err why) old new →
       AnswersWhole b series edits (Err why) (sink.output old) (sink.output new)
   whole_stops stop.SinkFailed old new h =

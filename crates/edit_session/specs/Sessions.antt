@@ -3,7 +3,7 @@ use Rattle.std.specs.Prelude.{List, map, Box}
 use Rattle.std.specs.Global.{Global}
 use Rattle.water_model.specs.History.{IsPartialHistory, HaveReaches}
 use Rattle.water_model.specs.declared.types.Basin.{Basin}
-use Rattle.water_model.specs.declared.types.Inflows.{Inflows}
+use Rattle.water_model.specs.declared.types.Series.{Series}
 use Rattle.water_model.specs.declared.types.MonthRecord.{MonthRecord}
 
 -- the records that boxes hold
@@ -13,7 +13,7 @@ records_of boxes = map (λ m. m.value) boxes
 -- a session: its basin, its series as it is now, and the records of the first months
 pub record SessionView : Type 0 where
   pub basin : Basin
-  pub series : Inflows
+  pub series : Series
   pub kept : List MonthRecord
 
 -- what is kept is a partial history of the basin and the series as it is now, with the reaches as the sets of short

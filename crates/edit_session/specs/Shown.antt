@@ -10,7 +10,7 @@ use Rattle.duality.specs.Laws.{HaveSameOutcome}
 use Rattle.result_lines.specs.Spelling.{whole_line}
 use Rattle.result_lines.specs.Text.{items_of_month}
 use Rattle.water_model.specs.declared.types.Basin.{Basin}
-use Rattle.water_model.specs.declared.types.Inflows.{Inflows}
+use Rattle.water_model.specs.declared.types.Series.{Series}
 use Rattle.water_model.specs.declared.types.MonthRecord.{MonthRecord}
 use Rattle.edit_script.specs.Edits.{with_inflow, with_want}
 use Rattle.edit_script.specs.declared.edit.Edit.{Edit}
@@ -21,7 +21,7 @@ use Rattle.edit_session.specs.declared.stop.EditStop.TheVariants as stop
 
 -- in each run of the basin and the series whose sets are the reaches, the month of this index agrees with this one in
 -- all but flows and single outflows, and has the same sets
-abbrev pub AgreesWithRuns : Basin → Inflows → ℕ → MonthRecord → Type 0
+abbrev pub AgreesWithRuns : Basin → Series → ℕ → MonthRecord → Type 0
 AgreesWithRuns b series index m =
     (records : List MonthRecord) (n : MonthRecord) → HasKeptMonths
     (record { basin = b; series = series; kept = records }) →
@@ -29,14 +29,14 @@ AgreesWithRuns b series index m =
 
 -- the record is that of a month in some partial history of the basin and the series, with the reaches as the sets of
 -- short rights, and agrees with that of a fresh run
-pub record IsMonthOf (b : Basin) (series : Inflows) (index : ℕ) (m : MonthRecord) : Type 0 where
+pub record IsMonthOf (b : Basin) (series : Series) (index : ℕ) (m : MonthRecord) : Type 0 where
   pub months : List MonthRecord
   pub kept : HasKeptMonths (record { basin = b; series = series; kept = months })
   pub here : slice_get months index ≡ Some m
   pub agrees : AgreesWithRuns b series index m
 
 -- The months that a script shows, in order: each is one of the basin and of the series as it is by then.
-abbrev pub AreShown : Basin → Inflows → List Edit → List MonthRecord → Type 0
+abbrev pub AreShown : Basin → Series → List Edit → List MonthRecord → Type 0
 AreShown b series [] shown = shown ≡ []
 AreShown b series (Inflow index gauge amount ∷ edits) shown =
     AreShown b (with_inflow series index gauge amount) edits shown
@@ -45,7 +45,7 @@ AreShown b series (Show index ∷ edits) [] = ⊥
 AreShown b series (Show index ∷ edits) (m ∷ shown) = IsMonthOf b series index m × AreShown b series edits shown
 
 -- the months that the first lines of a script show
-pub record HaveShown (b : Basin) (series : Inflows) (edits : List Edit) (shown : List MonthRecord) : Type 0 where
+pub record HaveShown (b : Basin) (series : Series) (edits : List Edit) (shown : List MonthRecord) : Type 0 where
   pub count : ℕ
   pub are : AreShown b series (take count edits) shown
 
@@ -83,7 +83,7 @@ pub record ArePut {K : Type 0} (sink : Sink.Ghosts K) (b : Basin) (shown : List 
   pub flushed : AreFlushed shown old new (sink.output new)
 
 -- The months of some lines were put, and of the next one a prefix.
-pub record StopsShowing {K : Type 0} (sink : Sink.Ghosts K) (b : Basin) (series : Inflows) (edits : List Edit)
+pub record StopsShowing {K : Type 0} (sink : Sink.Ghosts K) (b : Basin) (series : Series) (edits : List Edit)
     (old new : K) : Type 0 where
   pub shown : List MonthRecord
   pub next : MonthRecord
@@ -95,7 +95,7 @@ pub record StopsShowing {K : Type 0} (sink : Sink.Ghosts K) (b : Basin) (series 
 
 -- The months that are shown are put. A failure of the sink stops at one of them; where memory is lacking those shown so
 -- far stand.
-abbrev pub Answers : {K : Type 0} → Sink.Ghosts K → Basin → Inflows → List Edit → Result (Unit {0}) EditStop → K → K →
+abbrev pub Answers : {K : Type 0} → Sink.Ghosts K → Basin → Series → List Edit → Result (Unit {0}) EditStop → K → K →
     Type 0
 Answers sink b series edits (Ok _) old new =
     (shown : List MonthRecord) × AreShown b series edits shown × ArePut sink b shown old new
@@ -106,7 +106,7 @@ Answers sink b series edits (Err stop.OutOfMemory) old new =
 -- The lines of all months that are shown and the last line are appended and flushed. After a failure of the sink all
 -- months that were shown but the last stand, and are flushed, and of that one a prefix; or all months with a prefix of
 -- the last line. Where memory is lacking the whole lines of the months shown so far stand, all flushed.
-abbrev pub AnswersWhole : Basin → Inflows → List Edit → Result (Unit {0}) EditStop → Output → Output →
+abbrev pub AnswersWhole : Basin → Series → List Edit → Result (Unit {0}) EditStop → Output → Output →
     Type 0
 AnswersWhole b series edits (Ok _) old new =
     (shown : List MonthRecord) × AreShown b series edits shown ×

@@ -15,7 +15,7 @@ use std::alloc::{AllocError, Global};
 use std::marker::Model;
 use std::sync::ledger::Ledger;
 use water_model::rows::Rows;
-use water_model::types::{Basin, Inflows, MonthRecord};
+use water_model::types::{Basin, Series, MonthRecord};
 
 /// Changes a number of a month in a table with one column for each of the keys, and keeps the months before, and no
 /// other.
@@ -45,7 +45,7 @@ fn change(
 #[derive(Drop)]
 pub struct Session<'b> {
     engine: Engine<'b>,
-    series: Inflows,
+    series: Series,
     kept: Vec<Box<MonthRecord>>,
 }
 
@@ -66,7 +66,7 @@ impl<'b> Session<'b> {
     pub fn open(
         alloc: Global,
         basin: &'b Basin,
-        series: &Inflows,
+        series: &Series,
     ) -> Result<Session<'b>, AllocError>
         requires basin { IsValidBasin basin.now }
         requires series { IsSeriesOf basin.now series.now }

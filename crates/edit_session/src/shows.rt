@@ -15,7 +15,7 @@ use month_fold::work::Work;
 use std::alloc::Global;
 use std::sync::ledger::Ledger;
 use water_edge::{Sink, SinkFailed};
-use water_model::types::{Basin, Inflows};
+use water_model::types::{Basin, Series};
 use water_text::line::Line;
 
 /// Answers line after line.
@@ -105,7 +105,7 @@ fn put_answers<K: Sink, P: Ledger, M: Ledger>(
 pub fn put_shows<K: Sink, P: Ledger, M: Ledger>(
     alloc: Global,
     basin: &Basin,
-    series: &Inflows,
+    series: &Series,
     edits: &[Edit],
     out: &mut K,
     work: &mut Work<P, M>,

@@ -9,7 +9,7 @@ use month_fold::engine::Engine;
 use month_fold::work::Work;
 use std::alloc::{AllocError, Global};
 use std::sync::ledger::Ledger;
-use water_model::types::{Inflows, MonthRecord};
+use water_model::types::{Series, MonthRecord};
 
 /// Keeps a copy of a record after those that are kept. After an AllocError those before are kept.
 fn keep(
@@ -32,7 +32,7 @@ fn keep(
 fn add_month<P: Ledger, M: Ledger>(
     alloc: Global,
     engine: &mut Engine,
-    series: &Inflows,
+    series: &Series,
     index: u32,
     kept: &mut Vec<Box<MonthRecord>>,
     work: &mut Work<P, M>,
@@ -57,7 +57,7 @@ fn add_month<P: Ledger, M: Ledger>(
 pub fn solve_months<P: Ledger, M: Ledger>(
     alloc: Global,
     engine: &mut Engine,
-    series: &Inflows,
+    series: &Series,
     count: u32,
     kept: &mut Vec<Box<MonthRecord>>,
     work: &mut Work<P, M>,

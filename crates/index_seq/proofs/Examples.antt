@@ -5,7 +5,7 @@ use Rattle.std.specs.Fmt.{digits}
 use Rattle.std.specs.List.{flat_map}
 use Rattle.water_model.specs.Indices.{numbers_from, by_seniority}
 use Rattle.water_model.specs.declared.types.Basin.{Basin}
-use Rattle.water_model.specs.declared.types.Inflows.{Inflows}
+use Rattle.water_model.specs.declared.types.Series.{Series}
 use Rattle.water_model.specs.declared.types.RightKind.TheVariants.{Diversion}
 use Rattle.water_model.proofs.Worked.{gauge, outlet, river, steady}
 use Rattle.index_seq.specs.Entries.{whole_line, fields_of}
@@ -13,7 +13,7 @@ use Rattle.index_seq.specs.Text.{ensemble_lines}
 use Rattle.index_seq.specs.Traces.{begun_after}
 
 -- a gauge that reads 4 in each month of one year and 12 in each month of the next
-abbrev two_years : Inflows
+abbrev two_years : Series
 two_years = record { gauged = 0 ∷ []; amount = replicate 12 4 ++ replicate 12 12; wanted = []; want = [] }
 
 -- begun in the second year

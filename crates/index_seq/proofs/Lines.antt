@@ -6,7 +6,7 @@ use Rattle.std.specs.List.Sorted.{IsNonDecreasingBy, IsPermutation}
 use Rattle.water_edge.specs.Edge.{Extends, Output}
 use Rattle.water_model.specs.Indices.{seniors_first}
 use Rattle.water_model.specs.declared.types.Basin.{Basin}
-use Rattle.water_model.specs.declared.types.Inflows.{Inflows}
+use Rattle.water_model.specs.declared.types.Series.{Series}
 use Rattle.water_model.proofs.Order.{seniors_below, flat_same}
 use Rattle.index_seq.specs.Ends.{HaveLines}
 use Rattle.index_seq.specs.Sums.{HaveSums}
@@ -20,7 +20,7 @@ use Rattle.index_seq.specs.declared.entry.EnsembleLine.TheVariants as line
 use Rattle.index_seq.proofs.Counting.{same_lines}
 use Rattle.index_seq.proofs.Running.{traces_whole, sums_whole}
 
-pub sorted_lines : (b : Basin) (series : Inflows) (sums amounts : List (List ℕ)) → HaveSums b series (years_of b) sums →
+pub sorted_lines : (b : Basin) (series : Series) (sums amounts : List (List ℕ)) → HaveSums b series (years_of b) sums →
     length amounts ≡ length sums →
     ((r : ℕ) → IsPermutation (slice_index_or sums r []) (slice_index_or amounts r [])) →
     ((r : ℕ) → IsNonDecreasingBy (λ x. x) (slice_index_or amounts r [])) →
@@ -38,7 +38,7 @@ sorted_lines b series sums amounts h count moved sorted = record {
 }
 
 -- these lines are the text of the traces
-pub text_whole : (b : Basin) (series : Inflows) (amounts : List (List ℕ)) (old new : Output) →
+pub text_whole : (b : Basin) (series : Series) (amounts : List (List ℕ)) (old new : Output) →
     HaveLines b series amounts →
     Extends old new (flat_map (whole_line b) (ensemble_lines b (λ r. slice_index_or amounts r []))) →
     (traces : List (List MonthRecord)) × AreTraces b series traces × Extends old new (ensemble_text b traces)
@@ -46,7 +46,7 @@ text_whole b series amounts old new h whole =
     (h.traces, h.whole, subst (λ (ls : List EnsembleLine). Extends old new (flat_map (whole_line b) ls)) h.lines whole)
 
 -- a prefix of these lines is a prefix of the text of the traces
-pub text_cut : (b : Basin) (series : Inflows) (amounts : List (List ℕ)) (old new : Output) →
+pub text_cut : (b : Basin) (series : Series) (amounts : List (List ℕ)) (old new : Output) →
     HaveLines b series amounts →
     PutsPrefix old new (flat_map (whole_line b) (ensemble_lines b (λ r. slice_index_or amounts r []))) →
     (traces : List (List MonthRecord)) × AreTraces b series traces × PutsPrefix old new (ensemble_text b traces)

@@ -11,7 +11,7 @@ use Rattle.water_model.specs.Indices.{indices_of}
 use Rattle.water_model.specs.Valid.{IsValidBasin, IsSeriesOf, is_gauged}
 use Rattle.water_model.proofs.Order.{length-numbers_from}
 use Rattle.water_model.specs.declared.types.Basin.{Basin}
-use Rattle.water_model.specs.declared.types.Inflows.{Inflows}
+use Rattle.water_model.specs.declared.types.Series.{Series}
 use Rattle.index_seq.specs.Traces.{years_of, begun_after, IsBegunAfter, IsRotationOf}
 use Rattle.water_model.proofs.Gauges.{filter_short}
 
@@ -65,7 +65,7 @@ row_further xs rows n shift i column count low inside col = elim (cases_lt (i + 
         ap (λ m. m % rows) sum ∙ (add-mod_left rows k ∙ mod-eq_of_lt less)
 
 -- what is begun some years later has the amounts of as many years later
-pub begun_is : (b : Basin) (series : Inflows) (years : ℕ) → IsSeriesOf b series → years < years_of b →
+pub begun_is : (b : Basin) (series : Series) (years : ℕ) → IsSeriesOf b series → years < years_of b →
     IsBegunAfter b series years (begun_after series years)
 begun_is b series years fits h = record {
   gauged = refl;
@@ -76,7 +76,7 @@ begun_is b series years fits h = record {
 }
 
 -- and is a series of the basin
-pub begun_fits : (b : Basin) (series : Inflows) (years : ℕ) → IsSeriesOf b series → years < years_of b →
+pub begun_fits : (b : Basin) (series : Series) (years : ℕ) → IsSeriesOf b series → years < years_of b →
     IsSeriesOf b (begun_after series years)
 begun_fits b series years fits h =
     assumption (
@@ -91,11 +91,11 @@ begun_fits b series years fits h =
     all_parted P xs at h = All-append P (drop at xs) (take at xs) (All-drop P at xs h) (All-take P at xs h)
 
 -- an equal series differs in nothing
-pub turn_of_same : (series begun : Inflows) → begun ≡ series → IsRotationOf series begun
+pub turn_of_same : (series begun : Series) → begun ≡ series → IsRotationOf series begun
 turn_of_same series begun e = rw e record { rest = refl; count = refl }
 
 -- gauges are nodes, so the index is small
-pub small_place : (b : Basin) (series : Inflows) (years : ℕ) → IsValidBasin b → IsSeriesOf b series →
+pub small_place : (b : Basin) (series : Series) (years : ℕ) → IsValidBasin b → IsSeriesOf b series →
     years < years_of b → 12 * years * length series.gauged ≤ 1200 * 2000
 small_place b series years valid fits h =
     let gauges : length series.gauged ≤ 2000 =

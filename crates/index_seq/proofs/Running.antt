@@ -15,7 +15,7 @@ use Rattle.water_model.specs.History.{IsPartialHistory, IsHistory}
 use Rattle.water_model.specs.Indices.{numbers_from}
 use Rattle.water_model.specs.Valid.{IsValidBasin, IsSeriesOf}
 use Rattle.water_model.specs.declared.types.Basin.{Basin}
-use Rattle.water_model.specs.declared.types.Inflows.{Inflows}
+use Rattle.water_model.specs.declared.types.Series.{Series}
 use Rattle.water_model.specs.declared.types.MonthRecord.{MonthRecord}
 use Rattle.index_seq.specs.Sums.{IsEmptyYear, IsWithinTrace, HaveSums}
 use Rattle.index_seq.specs.Traces.{begun_after, delivered_in_year, yearly_deliveries, years_of, HasWholeYears}
@@ -48,20 +48,20 @@ map_more f from (suc n) =
     omega arith in is)
 
 -- the month that follows
-pub partial_next : (b : Basin) (series : Inflows) (next : RunView) (records : List MonthRecord) (m : MonthRecord) →
+pub partial_next : (b : Basin) (series : Series) (next : RunView) (records : List MonthRecord) (m : MonthRecord) →
     next.basin ≡ b → next.series ≡ series → m ≡ next.last →
     RunStandsFor next (records ++ next.last ∷ []) → IsPartialHistory b series (records ++ m ∷ [])
 partial_next b series next records m same fits last stands = rw (← same, ← fits, last) stands.partial
 
 -- it has a delivery for each right
-pub month_fits : (b : Basin) (series : Inflows) (records : List MonthRecord) (m : MonthRecord) (so_far : List ℕ) →
+pub month_fits : (b : Basin) (series : Series) (records : List MonthRecord) (m : MonthRecord) (so_far : List ℕ) →
     length so_far ≡ length b.rights →
     IsPartialHistory b series (records ++ m ∷ []) → length so_far ≡ length m.delivered
 month_fits b series records m so_far count partial =
     count ∙ sym (last_follows b series records m partial).after.fits.delivered
 
 -- there is room for it
-pub month_room : (b : Basin) (series : Inflows) (trace years months : ℕ) (run : RunView) (all : List (List ℕ))
+pub month_room : (b : Basin) (series : Series) (trace years months : ℕ) (run : RunView) (all : List (List ℕ))
     (so_far : List ℕ) (m : MonthRecord) → IsValidBasin b →
     IsSeriesOf b (begun_after series trace) → (u : IsWithinTrace b series trace years months run all so_far) →
     IsPartialHistory b (begun_after series trace) (u.records ++ m ∷ []) →
@@ -80,7 +80,7 @@ month_room b series trace years months run all so_far m valid fits u partial r l
     )
 
 -- with it the trace is under way by one month more
-pub month_more : (b : Basin) (series : Inflows) (trace years months : ℕ) (run next : RunView) (all : List (List ℕ))
+pub month_more : (b : Basin) (series : Series) (trace years months : ℕ) (run next : RunView) (all : List (List ℕ))
     (so_far more : List ℕ) (m : MonthRecord) →
     (u : IsWithinTrace b series trace years months run all so_far) → next.basin ≡ run.basin → next.series ≡ run.series →
     RunStandsFor next (u.records ++ m ∷ []) →
@@ -119,7 +119,7 @@ month_more b series trace years months run next all so_far more m u same fits st
         ∙ sum_by_push (λ k. slice_index k.delivered r) (drop (12 * years) u.records) m
 
 -- when a year is over, its sums stand after those before, and another year begins
-pub year_more : (b : Basin) (series : Inflows) (trace years : ℕ) (run : RunView) (all more : List (List ℕ))
+pub year_more : (b : Basin) (series : Series) (trace years : ℕ) (run : RunView) (all more : List (List ℕ))
     (so_far none : List ℕ) →
     IsWithinTrace b series trace years 12 run all so_far → length more ≡ length all →
     ((r : ℕ) → r < length all → slice_index_or more r [] ≡ slice_index_or all r [] ++ slice_index so_far r ∷ []) →
@@ -171,7 +171,7 @@ unfolding numbers_from
 no_years f xs = sym (append-nil xs)
 
 -- a trace begins where those before it are whole
-pub trace_start : (b : Basin) (series : Inflows) (trace : ℕ) (run : RunView) (all : List (List ℕ)) (none : List ℕ) →
+pub trace_start : (b : Basin) (series : Series) (trace : ℕ) (run : RunView) (all : List (List ℕ)) (none : List ℕ) →
     (h : HaveSums b series trace all) →
     run.basin ≡ b → run.series ≡ begun_after series trace → RunStandsFor run [] → IsEmptyYear b none →
     IsWithinTrace b series trace 0 0 run all none
@@ -189,7 +189,7 @@ trace_start b series trace run all none h same fits stands empty = record {
 }
 
 -- and when all its years are over, it is whole too
-pub trace_over : (b : Basin) (series : Inflows) (trace : ℕ) (run : RunView) (all : List (List ℕ)) (none : List ℕ) →
+pub trace_over : (b : Basin) (series : Series) (trace : ℕ) (run : RunView) (all : List (List ℕ)) (none : List ℕ) →
     IsWithinTrace b series trace (years_of b) 0 run all none →
     HasWholeYears b → HaveSums b series (trace + 1) all
 trace_over b series trace run all none u whole = record {
@@ -227,7 +227,7 @@ trace_over b series trace run all none u whole = record {
         ∙ no_years (delivered_in_year [] r) (yearly_deliveries b (u.traces ++ u.records ∷ []) r))
 
 -- the year after its last one is empty
-pub year_over : (b : Basin) (series : Inflows) (trace : ℕ) (run : RunView) (all : List (List ℕ)) (none : List ℕ) →
+pub year_over : (b : Basin) (series : Series) (trace : ℕ) (run : RunView) (all : List (List ℕ)) (none : List ℕ) →
     IsWithinTrace b series trace (years_of b) 0 run all none →
     IsEmptyYear b none
 year_over b series trace run all none u = record {
@@ -238,7 +238,7 @@ year_over b series trace run all none u = record {
 }
 
 -- before the first trace
-pub sums_start : (b : Basin) (series : Inflows) (all : List (List ℕ)) → length all ≡ length b.rights →
+pub sums_start : (b : Basin) (series : Series) (all : List (List ℕ)) → length all ≡ length b.rights →
     ((r : ℕ) → slice_index_or all r [] ≡ []) → HaveSums b series 0 all
 sums_start b series all count empty = record {
   traces = [];
@@ -248,11 +248,11 @@ sums_start b series all count empty = record {
 }
 
 -- and after the last
-pub traces_whole : (b : Basin) (series : Inflows) (all : List (List ℕ)) → (h : HaveSums b series (years_of b) all) →
+pub traces_whole : (b : Basin) (series : Series) (all : List (List ℕ)) → (h : HaveSums b series (years_of b) all) →
     AreTraces b series h.traces
 traces_whole b series all h = record { count = h.number; each = h.first.each }
 
-pub sums_whole : (b : Basin) (series : Inflows) (all : List (List ℕ)) → (h : HaveSums b series (years_of b) all) →
+pub sums_whole : (b : Basin) (series : Series) (all : List (List ℕ)) → (h : HaveSums b series (years_of b) all) →
     (r : ℕ) → r < length b.rights →
     slice_index_or all r [] ≡ yearly_deliveries b h.traces r
 sums_whole b series all h r l =

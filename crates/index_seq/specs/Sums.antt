@@ -5,7 +5,7 @@ use Rattle.month_fold.specs.Runs.{RunView, RunStandsFor}
 use Rattle.water_model.specs.History.{IsHistory}
 use Rattle.water_model.specs.Indices.{numbers_from}
 use Rattle.water_model.specs.declared.types.Basin.{Basin}
-use Rattle.water_model.specs.declared.types.Inflows.{Inflows}
+use Rattle.water_model.specs.declared.types.Series.{Series}
 use Rattle.water_model.specs.declared.types.MonthRecord.{MonthRecord}
 use Rattle.index_seq.specs.Traces.{begun_after, delivered_in_year, yearly_deliveries}
 
@@ -29,12 +29,12 @@ pub record IsEmptyYear (b : Basin) (year : List ℕ) : Type 0 where
   pub zeros : (r : ℕ) → r < length b.rights → slice_index year r ≡ 0
 
 -- the first traces of a record
-pub record AreFirst (b : Basin) (series : Inflows) (traces : List (List MonthRecord)) : Type 0 where
+pub record AreFirst (b : Basin) (series : Series) (traces : List (List MonthRecord)) : Type 0 where
   pub each : (y : ℕ) (records : List MonthRecord) → slice_get traces y ≡ Some records →
       IsHistory b (begun_after series y) records
 
 -- a trace is under way, after whole years and some months of one more; its number is that of the traces before it
-pub record IsWithinTrace (b : Basin) (series : Inflows) (trace years months : ℕ) (run : RunView) (all : List (List ℕ))
+pub record IsWithinTrace (b : Basin) (series : Series) (trace years months : ℕ) (run : RunView) (all : List (List ℕ))
     (so_far : List ℕ) : Type 0 where
   pub traces : List (List MonthRecord)
   pub number : length traces ≡ trace
@@ -48,7 +48,7 @@ pub record IsWithinTrace (b : Basin) (series : Inflows) (trace years months : �
   pub year : IsYear b records years so_far
 
 -- the sums of some whole traces
-pub record HaveSums (b : Basin) (series : Inflows) (trace : ℕ) (all : List (List ℕ)) : Type 0 where
+pub record HaveSums (b : Basin) (series : Series) (trace : ℕ) (all : List (List ℕ)) : Type 0 where
   pub traces : List (List MonthRecord)
   pub number : length traces ≡ trace
   pub first : AreFirst b series traces

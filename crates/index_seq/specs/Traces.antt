@@ -5,7 +5,7 @@ use Rattle.std.specs.List.{flat_map}
 use Rattle.water_model.specs.History.{IsHistory}
 use Rattle.water_model.specs.Indices.{numbers_from}
 use Rattle.water_model.specs.declared.types.Basin.{Basin}
-use Rattle.water_model.specs.declared.types.Inflows.{Inflows}
+use Rattle.water_model.specs.declared.types.Series.{Series}
 use Rattle.water_model.specs.declared.types.MonthRecord.{MonthRecord}
 
 -- a run of whole years, and how many they are
@@ -16,7 +16,7 @@ abbrev pub years_of : Basin → ℕ
 years_of b = b.months / 12
 
 -- the series whose gauges' record begins `years` years later; what stood before comes last
-abbrev pub begun_after : Inflows → ℕ → Inflows
+abbrev pub begun_after : Series → ℕ → Series
 begun_after series years =
     record series {
       amount = drop (12 * years * length series.gauged) series.amount ++ take (12 * years * length series.gauged)
@@ -24,13 +24,13 @@ begun_after series years =
     }
 
 -- a series that differs from another at most in the gauges' amounts, of which it has as many
-pub record IsRotationOf (series begun : Inflows) : Type 0 where
+pub record IsRotationOf (series begun : Series) : Type 0 where
   pub rest : begun ≡ record series { amount = begun.amount }
   pub count : length begun.amount ≡ length series.amount
 
 -- the amount of each gauge in a month is that of `years` years later, counted on from the beginning past the end.
 -- The wants stay
-pub record IsBegunAfter (b : Basin) (series : Inflows) (years : ℕ) (begun : Inflows) : Type 0 where
+pub record IsBegunAfter (b : Basin) (series : Series) (years : ℕ) (begun : Series) : Type 0 where
   pub gauged : begun.gauged ≡ series.gauged
   pub amount : (i gauge : ℕ) → i < b.months → gauge < length series.gauged →
       slice_index begun.amount (i * length series.gauged + gauge)
@@ -39,7 +39,7 @@ pub record IsBegunAfter (b : Basin) (series : Inflows) (years : ℕ) (begun : In
   pub want : begun.want ≡ series.want
 
 -- one history for each year of the record, of the series begun in that year
-pub record AreTraces (b : Basin) (series : Inflows) (traces : List (List MonthRecord)) : Type 0 where
+pub record AreTraces (b : Basin) (series : Series) (traces : List (List MonthRecord)) : Type 0 where
   pub count : length traces ≡ years_of b
   pub each : (y : ℕ) (records : List MonthRecord) → slice_get traces y ≡ Some records →
       IsHistory b (begun_after series y) records

@@ -4,7 +4,7 @@ ghost use Rattle.water_model.specs.Valid.{IsValidBasin, IsSeriesOf};
 ghost use Rattle.index_seq.specs.Traces.{HasWholeYears, years_of, begun_after, IsBegunAfter, IsRotationOf};
 
 use std::alloc::{AllocError, Global};
-use water_model::types::{Basin, Inflows};
+use water_model::types::{Basin, Series};
 
 /// Writes the amounts from an index on, and then those before it.
 fn rotate_one(amounts: &[u64], at: usize, into: &mut [u64])
@@ -19,7 +19,7 @@ fn rotate_one(amounts: &[u64], at: usize, into: &mut [u64])
 
 /// Writes into `begun` the series whose gauges' record begins `years` years later and is wrapped round at its end.
 /// `begun` differs from the series only in what the gauges measured, as it did before.
-pub fn rotate_series(basin: &Basin, series: &Inflows, years: u32, begun: &mut Inflows)
+pub fn rotate_series(basin: &Basin, series: &Series, years: u32, begun: &mut Series)
     requires basin { IsValidBasin basin.now }
     requires whole { HasWholeYears basin.now }
     requires series { IsSeriesOf basin.now series.now }
@@ -37,9 +37,9 @@ pub fn rotate_series(basin: &Basin, series: &Inflows, years: u32, begun: &mut In
 pub fn rotate(
     alloc: Global,
     basin: &Basin,
-    series: &Inflows,
+    series: &Series,
     years: u32,
-) -> Result<Inflows, AllocError>
+) -> Result<Series, AllocError>
     requires basin { IsValidBasin basin.now }
     requires whole { HasWholeYears basin.now }
     requires series { IsSeriesOf basin.now series.now }

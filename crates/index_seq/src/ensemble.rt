@@ -18,10 +18,10 @@ use std::alloc::{AllocError, Global};
 use std::sync::ledger::Ledger;
 use water_edge::Sink;
 use water_model::rows::Rows;
-use water_model::types::{Basin, Inflows};
+use water_model::types::{Basin, Series};
 
 /// Puts the sums of all traces in order, right by right.
-fn put_in_order(basin: &Basin, series: &Inflows, sums: &mut [Rows<u64>])
+fn put_in_order(basin: &Basin, series: &Series, sums: &mut [Rows<u64>])
     requires { HaveSums basin.now series.now (years_of basin.now) sums.old }
     ensures { HaveLines basin.now series.now sums.new }
 {
@@ -33,7 +33,7 @@ fn put_in_order(basin: &Basin, series: &Inflows, sums: &mut [Rows<u64>])
 fn sorted_amounts<'b, P: Ledger, M: Ledger>(
     alloc: Global,
     basin: &'b Basin,
-    series: &Inflows,
+    series: &Series,
     work: &mut Work<P, M>,
 ) -> Result<EnsembleState<'b>, AllocError>
     requires basin { IsValidBasin basin.now }
@@ -57,7 +57,7 @@ fn sorted_amounts<'b, P: Ledger, M: Ledger>(
 fn put_amounts<'b, K: Sink>(
     sink: &mut K,
     basin: &Basin,
-    series: &Inflows,
+    series: &Series,
     all: &EnsembleState<'b>,
 ) -> Result<(), EnsembleStop>
     requires basin { IsValidBasin basin.now }
@@ -81,7 +81,7 @@ fn put_amounts<'b, K: Sink>(
 pub fn ensemble_report<K: Sink, P: Ledger, M: Ledger>(
     alloc: Global,
     basin: &Basin,
-    series: &Inflows,
+    series: &Series,
     sink: &mut K,
     work: &mut Work<P, M>,
 ) -> Result<(), EnsembleStop>

@@ -14,7 +14,7 @@ use std::alloc::{AllocError, Global};
 use std::sync::ledger::Ledger;
 use water_model::blank::zeros;
 use water_model::rows::Rows;
-use water_model::types::{Basin, Inflows};
+use water_model::types::{Basin, Series};
 
 /// Where the traces stand: how many are whole, and how many years of the next, and how many months of its next year.
 #[derive(Clone, Copy)]
@@ -27,7 +27,7 @@ struct Position {
 /// Solves the next month of a trace and adds it to the year.
 fn run_month<P: Ledger, M: Ledger>(
     basin: &Basin,
-    series: &Inflows,
+    series: &Series,
     at: Position,
     run: &mut Run,
     sums: &[Rows<u64>],
@@ -47,7 +47,7 @@ fn run_month<P: Ledger, M: Ledger>(
 /// Solves the months of the next year of a trace and sums them up.
 fn run_year<P: Ledger, M: Ledger>(
     basin: &Basin,
-    series: &Inflows,
+    series: &Series,
     trace: u32,
     years: u32,
     run: &mut Run,
@@ -74,7 +74,7 @@ fn run_year<P: Ledger, M: Ledger>(
 /// Solves the next year of a trace and adds it to the sums. AllocError comes where memory is lacking.
 fn next_year<P: Ledger, M: Ledger>(
     basin: &Basin,
-    series: &Inflows,
+    series: &Series,
     trace: u32,
     years: u32,
     run: &mut Run,
@@ -97,7 +97,7 @@ fn next_year<P: Ledger, M: Ledger>(
 /// Solves all years of a trace that had none yet. AllocError comes where memory is lacking.
 fn run_years<P: Ledger, M: Ledger>(
     basin: &Basin,
-    series: &Inflows,
+    series: &Series,
     trace: u32,
     run: &mut Run,
     sums: &mut [Rows<u64>],
@@ -122,10 +122,10 @@ fn run_years<P: Ledger, M: Ledger>(
 /// with the trace's series. AllocError comes where memory is lacking.
 fn run_trace<'b, P: Ledger, M: Ledger>(
     basin: &Basin,
-    series: &Inflows,
+    series: &Series,
     trace: u32,
     engine: Engine<'b>,
-    begun: &mut Inflows,
+    begun: &mut Series,
     sums: &mut [Rows<u64>],
     year: &mut [u64],
     work: &mut Work<P, M>,
@@ -154,9 +154,9 @@ fn run_trace<'b, P: Ledger, M: Ledger>(
 /// where memory is lacking.
 fn run_each<'b, P: Ledger, M: Ledger>(
     basin: &Basin,
-    series: &Inflows,
+    series: &Series,
     mut engine: Engine<'b>,
-    begun: &mut Inflows,
+    begun: &mut Series,
     sums: &mut [Rows<u64>],
     year: &mut [u64],
     work: &mut Work<P, M>,
@@ -192,11 +192,11 @@ pub struct EnsembleState<'b> {
 struct TraceRoom {
     amounts: Rows<Rows<u64>>,
     year: Rows<u64>,
-    begun: Inflows,
+    begun: Series,
 }
 
 /// Room for the traces of a basin, in which none was run yet. AllocError comes where memory is lacking.
-fn room_for_traces(alloc: Global, basin: &Basin, series: &Inflows) -> Result<TraceRoom, AllocError>
+fn room_for_traces(alloc: Global, basin: &Basin, series: &Series) -> Result<TraceRoom, AllocError>
     requires { IsValidBasin basin.now }
     ensures sums { IfOk result (λ room. HaveSums basin.now series.now 0 room.amounts) }
     ensures year { IfOk result (λ room. IsEmptyYear basin.now room.year) }
@@ -228,7 +228,7 @@ fn state_of<'b>(engine: Engine<'b>, room: TraceRoom) -> EnsembleState<'b>
 /// Runs all traces in one engine and one room, in which none was run yet. AllocError comes where memory is lacking.
 fn run_in_room<'b, P: Ledger, M: Ledger>(
     basin: &Basin,
-    series: &Inflows,
+    series: &Series,
     engine: Engine<'b>,
     mut room: TraceRoom,
     work: &mut Work<P, M>,
@@ -261,7 +261,7 @@ fn run_in_room<'b, P: Ledger, M: Ledger>(
 pub fn run_traces<'b, P: Ledger, M: Ledger>(
     alloc: Global,
     basin: &Basin,
-    series: &Inflows,
+    series: &Series,
     engine: Engine<'b>,
     work: &mut Work<P, M>,
 ) -> Result<EnsembleState<'b>, AllocError>

@@ -17,7 +17,7 @@ use Rattle.water_model.specs.Hydrology.{run_month, index_in, inflow_at, inflow_o
 use Rattle.water_model.specs.Valid.{IsSeriesOf, gauged_nodes, is_gauged, is_gauged_kind, is_in_series, rights_in_series}
 use Rattle.water_model.specs.declared.types.Inflow.{Inflow}
 use Rattle.water_model.specs.declared.types.Inflow.TheVariants.{Monthly, Gauged}
-use Rattle.water_model.specs.declared.types.Inflows.{Inflows}
+use Rattle.water_model.specs.declared.types.Series.{Series}
 use Rattle.water_model.specs.declared.types.Node.{Node}
 use Rattle.water_text.proofs.AmountLaws.{amount_is_read}
 use Rattle.inflow_file.specs.Entries.{read_record}
@@ -128,7 +128,7 @@ small_given b (row ∷ rows) month n a e =
     by_read (Err f) small h further = further h
 
 -- the inflow of a gauged node
-pub inflow_gauged : (b : Basin) (series : Inflows) (node i : ℕ) → is_gauged b node ≡ true →
+pub inflow_gauged : (b : Basin) (series : Series) (node i : ℕ) → is_gauged b node ≡ true →
     inflow_at b series node i ≡ table_at series.gauged series.amount i node
 inflow_gauged b series node i h = by_entry (slice_get b.nodes node) h
   where
@@ -210,14 +210,14 @@ part_says b rows amounts from count part i g n is all fits h l k column cell =
     (ap length is ∙ length-given b (entries_of b rows)) fits h within)))
 
 -- a table of all amounts is the series of a faultless one
-pub record AreParts (b : Basin) (amounts : List (Option ℕ)) (series : Inflows) : Type 0 where
+pub record AreParts (b : Basin) (amounts : List (Option ℕ)) (series : Series) : Type 0 where
   pub there : AreThere amounts
   pub gauged : series.gauged ≡ gauged_nodes b
   pub wanted : series.wanted ≡ rights_in_series b
   pub amount : IsPart amounts (width b) 0 b.months (length (gauged_nodes b)) series.amount
   pub want : IsPart amounts (width b) (length (gauged_nodes b)) b.months (length (rights_in_series b)) series.want
 
-pub complete_series : (b : Basin) (rows : List (List (List ℕ))) (amounts : List (Option ℕ)) (series : Inflows) →
+pub complete_series : (b : Basin) (rows : List (List (List ℕ))) (amounts : List (Option ℕ)) (series : Series) →
     amounts ≡ given_by b rows → AreParts b amounts series →
     (missing b (entries_of b rows) ≡ None) × IsSeriesOf b series × SpellsAmounts b rows series
 complete_series b rows amounts series is parts = (
@@ -255,17 +255,17 @@ missing_found b rows amounts k e is l before here found =
     refusal_of _ e (first_missing b (entries_of b rows) amounts k is l before here ∙ ap (λ x. Some x) (sym found))
 
 -- what a table is read as
-pub record IsRead (b : Basin) (text : List ℕ) (r : Result Inflows SeriesRefused) : Type 0 where
+pub record IsRead (b : Basin) (text : List ℕ) (r : Result Series SeriesRefused) : Type 0 where
   pub spelled : IfOk r (SpellsSeries b text)
   pub valid : IfOk r (IsSeriesOf b)
   pub faultless : OnOk r (series_fault b text ≡ None)
   pub refused : IfErr r (λ e. IsSeriesRefusal e b text)
 
-pub series_read : (b c : Basin) (text : List ℕ) (amounts : List (Option ℕ)) (r : Result Inflows SeriesRefused) →
+pub series_read : (b c : Basin) (text : List ℕ) (amounts : List (Option ℕ)) (r : Result Series SeriesRefused) →
     c ≡ b → TookTable c (records_of text) amounts → Completes c (body_of c (records_of text)) r → IsRead b text r
 series_read b c text amounts r same took done = subst (λ (x : Basin). IsRead x text r) same (by r done)
   where
-    by : (r : Result Inflows SeriesRefused) → Completes c (body_of c (records_of text)) r → IsRead c text r
+    by : (r : Result Series SeriesRefused) → Completes c (body_of c (records_of text)) r → IsRead c text r
     by (Ok series) h = record { spelled = h.2; valid = h.1; faultless = took.fault ∙ h.0; refused = tt }
     by (Err e) h =
         record {

@@ -2,7 +2,7 @@
 use Rattle.std.specs.Prelude.{◌≡◌, ℕ, ◌++◌, ◌∷◌, [], List, map, Option, Some, None, Result, Ok, Err, MatchResult}
 use Rattle.water_model.specs.Valid.{IsSeriesOf}
 use Rattle.water_model.specs.declared.types.Basin.{Basin}
-use Rattle.water_model.specs.declared.types.Inflows.{Inflows}
+use Rattle.water_model.specs.declared.types.Series.{Series}
 use Rattle.inflow_file.specs.SeriesFaults.{IsRefusalOf, SpellsAmounts, amount_for, body_of, due, entries_of}
 use Rattle.inflow_file.specs.SeriesFaults.{first_fault, missing, record_fault, table_fault}
 use Rattle.inflow_file.specs.declared.entry.SeriesRecord.{SeriesRecord}
@@ -40,7 +40,7 @@ TakesTable b table new (Ok done) = TookTable b table new
 TakesTable b table new (Err e) = IsRefusalOf (table_fault b table) e
 
 -- the series of the records after the header is complete, or an amount is missing
-abbrev pub Completes : Basin → List (List (List ℕ)) → Result Inflows SeriesRefused → Type 0
+abbrev pub Completes : Basin → List (List (List ℕ)) → Result Series SeriesRefused → Type 0
 Completes b rows (Ok series) = (missing b (entries_of b rows) ≡ None) × IsSeriesOf b series ×
     SpellsAmounts b rows series
 Completes b rows (Err e) = IsRefusalOf (missing b (entries_of b rows)) e

@@ -9,7 +9,7 @@ use Rattle.water_text.specs.declared.month.Month.{Month}
 use Rattle.water_model.specs.Hydrology.{run_month, inflow_at, table_at}
 use Rattle.water_model.specs.Valid.{is_gauged, is_in_series}
 use Rattle.water_model.specs.declared.types.Basin.{Basin}
-use Rattle.water_model.specs.declared.types.Inflows.{Inflows}
+use Rattle.water_model.specs.declared.types.Series.{Series}
 use Rattle.inflow_file.specs.Columns.{column_numbers, right_number}
 use Rattle.inflow_file.specs.CsvRecords.{records_of, is_header, is_kind_header, with_kind}
 use Rattle.inflow_file.specs.Entries.{read_record}
@@ -101,12 +101,12 @@ IsSeriesRefusal e b text = IsRefusalOf (series_fault b text) e
 
 -- in each month of the run the inflow of each gauged node, and the want of each right in the series, is the amount that
 -- the records after the header give
-pub record SpellsAmounts (b : Basin) (rows : List (List (List ℕ))) (series : Inflows) : Type 0 where
+pub record SpellsAmounts (b : Basin) (rows : List (List (List ℕ))) (series : Series) : Type 0 where
   pub each : (node i : ℕ) → node < length b.nodes → is_gauged b node ≡ true → i < b.months →
       amount_for (entries_of b rows) (run_month b i) node ≡ Some (inflow_at b series node i)
   pub wants : (right i : ℕ) → right < length b.rights → is_in_series b right ≡ true → i < b.months →
       amount_for (entries_of b rows) (run_month b i) (right_number b right) ≡ Some
       (table_at series.wanted series.want i right)
 
-abbrev pub SpellsSeries : Basin → List ℕ → Inflows → Type 0
+abbrev pub SpellsSeries : Basin → List ℕ → Series → Type 0
 SpellsSeries b text series = SpellsAmounts b (body_of b (records_of text)) series

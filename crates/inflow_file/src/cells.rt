@@ -16,7 +16,7 @@ use crate::refused::{SeriesFault, SeriesRefused};
 use std::alloc::{AllocError, Global};
 use water_model::calls::{index_in_run, month_at};
 use water_model::rows::Rows;
-use water_model::types::{Basin, Inflows};
+use water_model::types::{Basin, Series};
 use water_text::month::Month;
 
 /// The cell of a column's amount in the month with this index.
@@ -147,7 +147,7 @@ pub(crate) fn complete(
     alloc: Global,
     columns: &Columns,
     amounts: &[Option<u64>],
-) -> Result<Inflows, SeriesRefused>
+) -> Result<Series, SeriesRefused>
     requires basin { IsValidBasin columns.now.basin.now }
     requires count { length amounts.now ≡ columns.now.basin.now.months * length (column_numbers columns.now.basin.now) }
     ensures { (rows : List (List (List ℕ))) → amounts.now ≡ given_by columns.now.basin.now rows →
@@ -165,7 +165,7 @@ pub(crate) fn complete(
     let wants = wanted.len();
     let amount = part_of(alloc, columns, amounts, 0, gauges)?;
     let want = part_of(alloc, columns, amounts, gauges, wants)?;
-    Ok(Inflows {
+    Ok(Series {
         gauged: Rows::from_vec(gauged),
         amount: Rows::from_vec(amount),
         wanted: Rows::from_vec(wanted),

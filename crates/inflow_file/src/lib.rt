@@ -9,5 +9,5 @@ mod read;
 mod records;
 mod refused;
 
-pub use read::{HEADER, read_inflows};
+pub use read::{HEADER, series_of_text};
 pub use refused::{SeriesFault, SeriesRefused};

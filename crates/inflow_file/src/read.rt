@@ -14,7 +14,7 @@ use crate::records::{is_header, is_kind_header, read_row, reader_of};
 use crate::refused::{SeriesFault, SeriesRefused};
 use csv::{ByteRecord, Reader};
 use std::alloc::{AllocError, Global};
-use water_model::types::{Basin, Inflows};
+use water_model::types::{Basin, Series};
 
 /// Takes a record after the header, unless it is at fault.
 fn take(
@@ -147,7 +147,7 @@ fn read_amounts(
 }
 
 /// The series of the columns' basin that a table spells, or the first fault in the table.
-fn read_with(alloc: Global, columns: &Columns, text: &[u8]) -> Result<Inflows, SeriesRefused>
+fn read_with(alloc: Global, columns: &Columns, text: &[u8]) -> Result<Series, SeriesRefused>
     requires { IsValidBasin columns.now.basin.now }
     ensures spelled { IfOk result (SpellsSeries columns.now.basin.now text.now) }
     ensures valid { IfOk result (IsSeriesOf columns.now.basin.now) }
@@ -167,7 +167,7 @@ pub const HEADER: &[u8] = b"month,node,amount\n";
 ///
 /// A record takes the time of a look-up by name. The memory is that of the series and of a mark for each of its
 /// amounts: records aren't kept.
-pub fn read_inflows(alloc: Global, basin: &Basin, text: &[u8]) -> Result<Inflows, SeriesRefused>
+pub fn series_of_text(alloc: Global, basin: &Basin, text: &[u8]) -> Result<Series, SeriesRefused>
     requires { IsValidBasin basin.now }
     ensures spelled { IfOk result (SpellsSeries basin.now text.now) }
     ensures valid { IfOk result (IsSeriesOf basin.now) }

@@ -9,7 +9,7 @@ use Rattle.water_model.specs.Basin.{instream_link, link_of_kind, is_senior, HasS
 use Rattle.duality.specs.Alike.{IsUpTo, HasSameSeniors}
 use Rattle.water_model.specs.History.{IsPartialHistory, Follows, is_zone_of, is_zone_of_kind}
 use Rattle.water_model.specs.declared.types.Basin.{Basin}
-use Rattle.water_model.specs.declared.types.Inflows.{Inflows}
+use Rattle.water_model.specs.declared.types.Series.{Series}
 use Rattle.water_model.specs.declared.types.MonthRecord.{MonthRecord}
 use Rattle.water_model.specs.declared.types.Right.{Right}
 use Rattle.water_model.specs.declared.types.RightKind.{RightKind}
@@ -97,13 +97,13 @@ module _ (b : Basin) (rights : List Right) (changed : ℕ → Bool)
   pub are_retained : AreRetained b rights (λ s. s) (IsSeniorToChange b (with_rights b rights) changed)
   are_retained = record { alike = stands_alike; closed = λ s r l is h. senior_too r is s l h }
 
-  pub give_alike : (series other : Inflows) → GiveUnchanged b changed series other →
+  pub give_alike : (series other : Series) → GiveUnchanged b changed series other →
       GiveAlike b (λ s. s) (IsSeniorToChange b (with_rights b rights) changed) series other
   give_alike series other give =
       record { amounts = give.amounts; wants = λ r i is listed l. give.wants r i is.unchanged listed l }
 
   -- where the change spares what is carried over, a month in which its seniors are delivered the same leaves the same
-  pub leaves_same : (series other : Inflows) (before others : List MonthRecord) (m n : MonthRecord) →
+  pub leaves_same : (series other : Series) (before others : List MonthRecord) (m n : MonthRecord) →
       SparesCarryover b (with_rights b rights) changed →
       Follows b series before m → Follows (with_rights b rights) other others n →
       ((r : ℕ) → IsSeniorToChange b (with_rights b rights) changed r →

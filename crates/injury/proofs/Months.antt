@@ -16,7 +16,7 @@ use Rattle.water_model.specs.Valid.{is_gauged, is_gauged_kind, is_in_series}
 use Rattle.water_model.specs.declared.types.Basin.{Basin}
 use Rattle.water_model.specs.declared.types.Inflow.{Inflow}
 use Rattle.water_model.specs.declared.types.Inflow.TheVariants.{Monthly, Gauged}
-use Rattle.water_model.specs.declared.types.Inflows.{Inflows}
+use Rattle.water_model.specs.declared.types.Series.{Series}
 use Rattle.water_model.specs.declared.types.MonthRecord.{MonthRecord}
 use Rattle.water_model.specs.declared.types.Node.{Node}
 use Rattle.water_model.specs.declared.types.ReturnRow.{ReturnRow}
@@ -53,7 +53,7 @@ delivered_more (x ∷ xs) (y ∷ ys) (suc i) m n r s at at' same before (suc j) 
 
 -- what a right wants that stands in both basins
 module _ (b : Basin) (rights : List Right) (r u : ℕ) (same : IsSame b (with_rights b rights) r u)
-    (series other : Inflows) (i : ℕ)
+    (series other : Series) (i : ℕ)
     (wants : is_in_series b r ≡ true →
     table_at series.wanted series.want i r ≡ table_at other.wanted other.want i u) where
   number_same : of_entry b.rights r (λ y. number_of b series r i y) 0
@@ -103,7 +103,7 @@ used_same b rights r u same ds es alike i =
     (λ y. used_by_volume y.volume (used_in_year (with_rights b rights) es u i)) 0 r u same)
 
 -- what flows in at a node
-inflow_same : (b : Basin) (rights : List Right) (series other : Inflows) (k i : ℕ) →
+inflow_same : (b : Basin) (rights : List Right) (series other : Series) (k i : ℕ) →
     (is_gauged b k ≡ true →
     table_at series.gauged series.amount i k ≡ table_at other.gauged other.amount i k) →
     inflow_at b series k i ≡ inflow_at (with_rights b rights) other k i
@@ -156,7 +156,7 @@ pub record AreRetained (b : Basin) (rights : List Right) (at : ℕ → ℕ) (S :
   pub closed : (s r : ℕ) → s < length b.rights → S r → is_senior b s r ≡ true → S s
 
 -- two series give each gauged node and each of them the same
-pub record GiveAlike (b : Basin) (at : ℕ → ℕ) (S : ℕ → Type 0) (series other : Inflows) : Type 0 where
+pub record GiveAlike (b : Basin) (at : ℕ → ℕ) (S : ℕ → Type 0) (series other : Series) : Type 0 where
   pub amounts : (n i : ℕ) → is_gauged b n ≡ true → i < b.months →
       table_at series.gauged series.amount i n ≡ table_at other.gauged other.amount i n
   pub wants : (r i : ℕ) → S r → is_in_series b r ≡ true → i < b.months →
@@ -174,7 +174,7 @@ pub record AreAlike (b : Basin) (at : ℕ → ℕ) (S : ℕ → Type 0) (before 
 
 module _ (b : Basin) (rights : List Right) (at : ℕ → ℕ) (S : ℕ → Type 0)
     (retained : AreRetained b rights at S) (strict : HasStrictPriority b)
-    (strict' : HasStrictPriority (with_rights b rights)) (series other : Inflows)
+    (strict' : HasStrictPriority (with_rights b rights)) (series other : Series)
     (give : GiveAlike b at S series other) where
   -- one month
   pub month_alike : (before others : List MonthRecord) (m n : MonthRecord) →

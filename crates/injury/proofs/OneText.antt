@@ -5,7 +5,7 @@ use Rattle.water_model.specs.History.{IsHistory}
 use Rattle.duality.specs.Laws.{HaveSameOutcome}
 use Rattle.water_model.specs.Valid.{IsValidBasin}
 use Rattle.water_model.specs.declared.types.Basin.{Basin}
-use Rattle.water_model.specs.declared.types.Inflows.{Inflows}
+use Rattle.water_model.specs.declared.types.Series.{Series}
 use Rattle.water_model.specs.declared.types.MonthRecord.{MonthRecord}
 use Rattle.duality.proofs.Outcome.{one_outcome}
 use Rattle.injury.specs.Common.{common_rights}
@@ -39,7 +39,7 @@ same_injuries first second (m ∷ ms) (m' ∷ ms') (n ∷ ns) (n' ∷ ns') e f h
     (same_injuries first second ms ms' ns ns' (omega arith) (omega arith) (λ i. h (suc i)) (λ i. k (suc i)))
 
 -- two runs of two basins have one list of injuries
-pub one_list : (first second : Basin) (series other : Inflows) (records records' others others' : List MonthRecord) →
+pub one_list : (first second : Basin) (series other : Series) (records records' others others' : List MonthRecord) →
     IsValidBasin first → IsValidBasin second →
     IsHistory first series records → IsHistory first series records' → IsHistory second other others →
     IsHistory second other others' →

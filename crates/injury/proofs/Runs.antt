@@ -7,7 +7,7 @@ use Rattle.water_model.specs.Basin.{is_senior, right_name}
 use Rattle.water_model.specs.History.{IsPartialHistory, Follows, is_zone_of, is_zone_of_kind}
 use Rattle.water_model.specs.Valid.{IsValidBasin, IsValidReturn}
 use Rattle.water_model.specs.declared.types.Basin.{Basin}
-use Rattle.water_model.specs.declared.types.Inflows.{Inflows}
+use Rattle.water_model.specs.declared.types.Series.{Series}
 use Rattle.water_model.specs.declared.types.MonthRecord.{MonthRecord}
 use Rattle.water_model.specs.declared.types.ReturnRow.{ReturnRow}
 use Rattle.water_model.specs.declared.types.Right.{Right}
@@ -58,7 +58,7 @@ module _ (b : Basin) (at : ℕ) (x : Right) (more : HasOneMore b (with_right b a
           )
 
   -- a month in which they are delivered the same leaves the same
-  leaves_same : (series other : Inflows) (before others : List MonthRecord) (m n : MonthRecord) → IsValidBasin b →
+  leaves_same : (series other : Series) (before others : List MonthRecord) (m n : MonthRecord) → IsValidBasin b →
       Follows b series before m → Follows (with_right b at x) other others n →
       ((r : ℕ) → r < length b.rights → slice_index m.delivered r ≡ slice_index n.delivered (moved at r)) →
       LeaveSame b m n

@@ -5,7 +5,7 @@ use Rattle.water_model.specs.History.{is_zone_of}
 use Rattle.water_model.specs.Hydrology.{table_at}
 use Rattle.water_model.specs.Valid.{is_gauged, is_in_series}
 use Rattle.water_model.specs.declared.types.Basin.{Basin}
-use Rattle.water_model.specs.declared.types.Inflows.{Inflows}
+use Rattle.water_model.specs.declared.types.Series.{Series}
 use Rattle.water_model.specs.declared.types.MonthRecord.{MonthRecord}
 use Rattle.water_model.specs.declared.types.ReturnRow.{ReturnRow}
 
@@ -24,7 +24,7 @@ pub record IsSeniorToChange (first second : Basin) (changed : ℕ → Bool) (rig
   pub after : (c : ℕ) → c < length first.rights → changed c ≡ true → IsTrue (is_senior second right c)
 
 -- the two series give each gauged node, and each right that is not changed, the same amounts
-pub record GiveUnchanged (first : Basin) (changed : ℕ → Bool) (series other : Inflows) : Type 0 where
+pub record GiveUnchanged (first : Basin) (changed : ℕ → Bool) (series other : Series) : Type 0 where
   pub amounts : (n i : ℕ) → is_gauged first n ≡ true → i < first.months →
       table_at series.gauged series.amount i n ≡ table_at other.gauged other.amount i n
   pub wants : (r i : ℕ) → changed r ≡ false → is_in_series first r ≡ true → i < first.months →

@@ -3,7 +3,7 @@ use Rattle.std.specs.Prelude.{◌≡◌, ℕ, ◌<◌, Bool, List, [], slice_get
 use Rattle.water_model.specs.History.{IsPartialHistory, IsHistory}
 use Rattle.water_model.specs.Valid.{IsValidBasin}
 use Rattle.water_model.specs.declared.types.Basin.{Basin}
-use Rattle.water_model.specs.declared.types.Inflows.{Inflows}
+use Rattle.water_model.specs.declared.types.Series.{Series}
 use Rattle.water_model.specs.declared.types.MonthRecord.{MonthRecord}
 use Rattle.water_model.specs.declared.types.Right.{Right}
 use Rattle.injury.specs.Common.{HaveOneName, common_rights}
@@ -28,7 +28,7 @@ InjuriesAreAllListed =
 -- A comparison has one text. Which of several histories of the two basins are taken does not show in it.
 abbrev pub ComparisonsHaveOneText : Type 0
 ComparisonsHaveOneText =
-    (first second : Basin) (series other : Inflows) (records records' others others' : List MonthRecord) →
+    (first second : Basin) (series other : Series) (records records' others others' : List MonthRecord) →
     IsValidBasin first → IsValidBasin second →
     IsHistory first series records → IsHistory first series records' →
     IsHistory second other others → IsHistory second other others' →
@@ -38,7 +38,7 @@ ComparisonsHaveOneText =
 -- each common right is delivered the same in every month of any history of the one and of the other.
 abbrev pub JuniorInjuresNobody : Type 0
 JuniorInjuresNobody =
-    (first second : Basin) (at : ℕ) (right : Right) (series other : Inflows) (records others : List MonthRecord) →
+    (first second : Basin) (at : ℕ) (right : Right) (series other : Series) (records others : List MonthRecord) →
     IsValidBasin first → IsValidBasin second → HasOneMore first second at right → GiveSame first at series other →
     IsPartialHistory first series records → IsPartialHistory second other others →
     (i : ℕ) (m n : MonthRecord) → slice_get records i ≡ Some m → slice_get others i ≡ Some n →
@@ -47,7 +47,7 @@ JuniorInjuresNobody =
 -- so that a comparison has no injury
 abbrev pub JuniorLeavesNoInjury : Type 0
 JuniorLeavesNoInjury =
-    (first second : Basin) (at : ℕ) (right : Right) (series other : Inflows) (records others : List MonthRecord) →
+    (first second : Basin) (at : ℕ) (right : Right) (series other : Series) (records others : List MonthRecord) →
     IsValidBasin first → IsValidBasin second → HasOneMore first second at right → GiveSame first at series other →
     IsPartialHistory first series records → IsPartialHistory second other others →
     injuries first second records others ≡ []
@@ -56,7 +56,7 @@ JuniorLeavesNoInjury =
 -- of what comes back, a right that is senior to each changed right is delivered the same in histories of both basins.
 abbrev pub ChangeInjuresJuniorsAlone : Type 0
 ChangeInjuresJuniorsAlone =
-    (first second : Basin) (changed : ℕ → Bool) (series other : Inflows) (records others : List MonthRecord) →
+    (first second : Basin) (changed : ℕ → Bool) (series other : Series) (records others : List MonthRecord) →
     IsValidBasin first → IsValidBasin second → HasChanged first second changed →
     GiveUnchanged first changed series other →
     IsPartialHistory first series records → IsPartialHistory second other others →
@@ -70,7 +70,7 @@ ChangeInjuresJuniorsAlone =
 -- it.
 abbrev pub ChangeInjuresNoSenior : Type 0
 ChangeInjuresNoSenior =
-    (first second : Basin) (changed : ℕ → Bool) (series other : Inflows) (records others : List MonthRecord) →
+    (first second : Basin) (changed : ℕ → Bool) (series other : Series) (records others : List MonthRecord) →
     IsValidBasin first → IsValidBasin second → HasChanged first second changed →
     GiveUnchanged first changed series other → SparesCarryover first second changed →
     IsPartialHistory first series records → IsPartialHistory second other others →

@@ -6,7 +6,7 @@ use Rattle.water_model.specs.Rights.{is_lower, priority}
 use Rattle.water_model.specs.Hydrology.{table_at}
 use Rattle.water_model.specs.Valid.{rank_of_kind, is_gauged}
 use Rattle.water_model.specs.declared.types.Basin.{Basin}
-use Rattle.water_model.specs.declared.types.Inflows.{Inflows}
+use Rattle.water_model.specs.declared.types.Series.{Series}
 use Rattle.water_model.specs.declared.types.Right.{Right}
 
 -- the basin with one more right, which stands at this index; all else is the same
@@ -28,7 +28,7 @@ pub record HasOneMore (first second : Basin) (at : ℕ) (right : Right) : Type 0
   pub most_junior : All (λ r. IsTrue (is_lower (priority r) (priority right))) first.rights
 
 -- the two series give each gauged node and each right of the first basin the same amounts
-pub record GiveSame (first : Basin) (at : ℕ) (series other : Inflows) : Type 0 where
+pub record GiveSame (first : Basin) (at : ℕ) (series other : Series) : Type 0 where
   pub amounts : (n i : ℕ) → is_gauged first n ≡ true → i < first.months →
       table_at series.gauged series.amount i n ≡ table_at other.gauged other.amount i n
   pub wants : (r i : ℕ) → of_entry first.rights r (λ right. right.series) false ≡ true → i < first.months →

@@ -9,7 +9,7 @@ use Rattle.water_model.specs.History.{IsPartialHistory, Follows, opening_after}
 use Rattle.water_model.specs.Hydrology.{inflow_at, returned_at, stored_at, used_of}
 use Rattle.water_model.specs.Valid.{IsValidBasin, IsSeriesOf}
 use Rattle.water_model.specs.declared.types.Basin.{Basin}
-use Rattle.water_model.specs.declared.types.Inflows.{Inflows}
+use Rattle.water_model.specs.declared.types.Series.{Series}
 use Rattle.water_model.specs.declared.types.MonthRecord.{MonthRecord}
 use Rattle.water_model.specs.declared.types.Plan.{Plan}
 use Rattle.month_terms.specs.Terms.{FitsRecord, HasUsed, IsSettled, IsConcluded}
@@ -23,14 +23,14 @@ use Rattle.lag_returns.specs.Lags.{HasReturned}
 use Rattle.water_model.proofs.SetEntries.{emptied}
 
 -- a record in which the next month begins, after these records
-pub record IsBegun (b : Basin) (series : Inflows) (records : List MonthRecord) (m : MonthRecord) : Type 0 where
+pub record IsBegun (b : Basin) (series : Series) (records : List MonthRecord) (m : MonthRecord) : Type 0 where
   pub partial : IsPartialHistory b series records
   pub stored : m.closing ≡ opening_after b records
   pub returned : HasReturned b (map (λ k. k.delivered) records) m.returned
   pub used : HasUsed b (map (λ k. k.delivered) records) m.used
 
 -- what is supplied to a node, by the records before
-supplied_to : (b : Basin) (series : Inflows) (records : List MonthRecord) (m : MonthRecord) (i : ℕ)
+supplied_to : (b : Basin) (series : Series) (records : List MonthRecord) (m : MonthRecord) (i : ℕ)
     (evaporated : List ℕ) (n : ℕ) → IsBegun b series records m → i ≡ length records → n < length b.nodes →
     inflow_at b series n i + slice_index m.returned n + stored_at b m.closing evaporated n ≡ inflow_at b series n i +
     returned_at b (map (λ k. k.delivered) records) n i + stored_at b (opening_after b records) evaporated n
@@ -41,7 +41,7 @@ supplied_to b series records m i evaporated n begun at l =
     rw (begun.stored, back) refl
 
 -- what is supplied to a node is within the whole supply of the month
-pub node_small : (b : Basin) (series : Inflows) (records : List MonthRecord) (m : MonthRecord) (i : ℕ)
+pub node_small : (b : Basin) (series : Series) (records : List MonthRecord) (m : MonthRecord) (i : ℕ)
     (evaporated : List ℕ) (n : ℕ) → IsValidBasin b →
     IsSeriesOf b series → IsBegun b series records m → i ≡ length records → n < length b.nodes →
     inflow_at b series n i + slice_index m.returned n + stored_at b m.closing evaporated n < 2 ^ 64
@@ -53,7 +53,7 @@ node_small b series records m i evaporated n valid fits begun at l =
     omega (arith, whole, one, supplied_to b series records m i evaporated n begun at l)
 
 -- the whole supply that is settled is less than a river can carry
-pub supplies_given : (b : Basin) (series : Inflows) (records : List MonthRecord) (m settled : MonthRecord) (i : ℕ) →
+pub supplies_given : (b : Basin) (series : Series) (records : List MonthRecord) (m settled : MonthRecord) (i : ℕ) →
     IsValidBasin b →
     IsSeriesOf b series → IsBegun b series records m → i ≡ length records → IsSettled b series i m settled →
     AreSupplies b settled.supply
@@ -71,7 +71,7 @@ supplies_given b series records m settled i valid fits begun at is = record {
 }
 
 -- a record that was settled, got a plan and cuts, and was concluded
-pub record IsMade (b : Basin) (series : Inflows) (i : ℕ) (begun settled : MonthRecord) (plan : Plan) (cuts : CutSets)
+pub record IsMade (b : Basin) (series : Series) (i : ℕ) (begun settled : MonthRecord) (plan : Plan) (cuts : CutSets)
     (made : MonthRecord) : Type 0
   where
     pub fits : FitsRecord b begun
@@ -81,7 +81,7 @@ pub record IsMade (b : Basin) (series : Inflows) (i : ℕ) (begun settled : Mont
     pub is_concluded : IsConcluded b (record settled { plan = plan; cuts = cuts }) made
 
 -- what became of each field
-made_of : {b : Basin} {series : Inflows} {i : ℕ} {begun settled made : MonthRecord} {plan : Plan} {cuts : CutSets} →
+made_of : {b : Basin} {series : Series} {i : ℕ} {begun settled made : MonthRecord} {plan : Plan} {cuts : CutSets} →
     IsMade b series i begun settled plan cuts made → made ≡ record begun {
       index = i;
       month = settled.month;
@@ -96,7 +96,7 @@ made_of : {b : Basin} {series : Inflows} {i : ℕ} {begun settled made : MonthRe
     }
 made_of is = rw (is.is_settled.rest, is.is_settled.index_is) at is.is_concluded.rest
 
-pub made_follows : (b : Basin) (series : Inflows) (records : List MonthRecord) (i : ℕ)
+pub made_follows : (b : Basin) (series : Series) (records : List MonthRecord) (i : ℕ)
     (begun settled : MonthRecord) (plan : Plan) (cuts : CutSets) (made : MonthRecord) → IsValidBasin b →
     IsSeriesOf b series → IsBegun b series records begun → i ≡ length records →
     IsMade b series i begun settled plan cuts made → IsNext b series records made
@@ -142,7 +142,7 @@ made_follows b series records i begun settled plan cuts made valid fits starts a
     met r l h = elim (settled_right r l) [ inl has ↦ has.1 | inr short ↦ absurd (omega (arith, short.0, h)) ]
 
 -- the wants that are settled are small, and of no instream right more than its link carries
-pub wants_given : (b : Basin) (series : Inflows) (i : ℕ) (m settled : MonthRecord) → IsValidBasin b →
+pub wants_given : (b : Basin) (series : Series) (i : ℕ) (m settled : MonthRecord) → IsValidBasin b →
     IsSeriesOf b series →
     IsSettled b series i m settled → AreWants b settled.month settled.want
 wants_given b series i m settled valid fits is = record {
@@ -151,7 +151,7 @@ wants_given b series i m settled valid fits is = record {
   instream = λ r e l on. rw (is.want.each r l, is.month) (want_carried b series r i (slice_index m.used r) e on);
 }
 
-pub settled_given : (b : Basin) (series : Inflows) (records : List MonthRecord) (i : ℕ) (m settled : MonthRecord)
+pub settled_given : (b : Basin) (series : Series) (records : List MonthRecord) (i : ℕ) (m settled : MonthRecord)
     (cuts : CutSets) → IsValidBasin b →
     IsSeriesOf b series → IsBegun b series records m → i ≡ length records → FitsRecord b m →
     IsSettled b series i m settled →
@@ -176,7 +176,7 @@ settled_given b series records i m settled cuts valid fits begun at shape is non
     nothing = None
 
 -- what is planned takes little
-pub planned_small : (b : Basin) (series : Inflows) (i : ℕ) (m settled : MonthRecord) (plan : Plan) (cuts : CutSets) →
+pub planned_small : (b : Basin) (series : Series) (i : ℕ) (m settled : MonthRecord) (plan : Plan) (cuts : CutSets) →
     IsValidBasin b → IsSeriesOf b series →
     IsSettled b series i m settled → IsSolved b settled.month settled.supply settled.want plan cuts →
     (r : ℕ) → r < length b.rights → slice_index plan.take r ≤ 10 ^ 9
@@ -184,14 +184,14 @@ planned_small b series i m settled plan cuts valid fits is solved r l =
     omega (arith, solved.greatest.plan.wants r l, (wants_given b series i m settled valid fits is).small r l)
 
 -- and delivers little
-pub deliveries_small : (b : Basin) (series : Inflows) (before : List MonthRecord) (m : MonthRecord) → IsValidBasin b →
+pub deliveries_small : (b : Basin) (series : Series) (before : List MonthRecord) (m : MonthRecord) → IsValidBasin b →
     IsSeriesOf b series →
     Follows b series before m → All (λ n. n ≤ 10 ^ 9) m.delivered
 deliveries_small b series before m valid fits follows =
     λ k d l. rw (get_or_default m.delivered k d 0 l)
     ((follows_small b series before m valid fits follows).delivered k)
 
-pub next_small : (b : Basin) (series : Inflows) (records : List MonthRecord) (m : MonthRecord) → IsValidBasin b →
+pub next_small : (b : Basin) (series : Series) (records : List MonthRecord) (m : MonthRecord) → IsValidBasin b →
     IsSeriesOf b series →
     IsNext b series records m → All (λ n. n ≤ 10 ^ 9) m.delivered
 next_small b series records m valid fits next = deliveries_small b series records m valid fits next.follows

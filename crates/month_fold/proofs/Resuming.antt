@@ -9,7 +9,7 @@ use Rattle.water_model.specs.Hydrology.{delivered_in, used_of}
 use Rattle.water_model.proofs.Valid.{entry_at}
 use Rattle.water_model.specs.Valid.{IsValidBasin, IsSeriesOf}
 use Rattle.water_model.specs.declared.types.Basin.{Basin}
-use Rattle.water_model.specs.declared.types.Inflows.{Inflows}
+use Rattle.water_model.specs.declared.types.Series.{Series}
 use Rattle.water_model.specs.declared.types.MonthRecord.{MonthRecord}
 use Rattle.month_terms.specs.Terms.{HasUsed}
 use Rattle.month_fold.specs.Uses.{HasDeliveries, StateUse}
@@ -20,7 +20,7 @@ use Rattle.month_fold.proofs.Following.{deliveries_small}
 use Rattle.water_model.proofs.Lists.{no_numbers}
 
 -- what each month delivered
-pub have_deliveries : {X : Type 0} (f : X → MonthRecord) (b : Basin) (series : Inflows) (xs : List X) → IsValidBasin b →
+pub have_deliveries : {X : Type 0} (f : X → MonthRecord) (b : Basin) (series : Series) (xs : List X) → IsValidBasin b →
     IsSeriesOf b series → IsPartialHistory b series (map f xs) → All (λ x. HasDeliveries b (f x)) xs
 have_deliveries f b series xs valid fits partial = λ k d l.
     let follows =
@@ -40,7 +40,7 @@ delivered_prefix (m ∷ ms) zero r j = omega arith
 delivered_prefix (m ∷ ms) (suc i) r zero = omega arith
 delivered_prefix (m ∷ ms) (suc i) r (suc j) = delivered_prefix ms i r j
 
-pub state_use : (b : Basin) (series : Inflows) (records : List MonthRecord) → IsValidBasin b → IsSeriesOf b series →
+pub state_use : (b : Basin) (series : Series) (records : List MonthRecord) → IsValidBasin b → IsSeriesOf b series →
     IsPartialHistory b series records → StateUse b records
 state_use b series records valid fits partial i m at =
     let follows = partial.each i m at in
@@ -130,7 +130,7 @@ used_little run records went r l = omega (
 )
 
 -- what is stored
-pub stored_count : (b : Basin) (series : Inflows) (records : List MonthRecord) → IsPartialHistory b series records →
+pub stored_count : (b : Basin) (series : Series) (records : List MonthRecord) → IsPartialHistory b series records →
     length (opening_after b records) ≡ length b.reservoirs
 stored_count b series records partial = by_last (slice_get records (length records - 1)) refl
   where

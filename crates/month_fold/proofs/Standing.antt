@@ -5,7 +5,7 @@ use Rattle.std.proofs.lemmas.List.{map-append}
 use Rattle.lag_returns.specs.Lags.{InTransit}
 use Rattle.lag_returns.specs.Lags as lag
 use Rattle.water_model.specs.declared.types.Basin.{Basin}
-use Rattle.water_model.specs.declared.types.Inflows.{Inflows}
+use Rattle.water_model.specs.declared.types.Series.{Series}
 use Rattle.water_model.specs.declared.types.MonthRecord.{MonthRecord}
 use Rattle.water_model.proofs.Histories.{at_end, one_month_more, opens_with_last}
 use Rattle.month_terms.specs.Terms.{HasUsed}
@@ -21,7 +21,7 @@ pub went_through : (run : RunView) (records : List MonthRecord) → RunStandsFor
 went_through run records stands = assumption
 
 -- what is lent of an engine is what the engine keeps
-pub went_lent : (engine : EngineView) (series : Inflows) (done : ℕ) (records : List MonthRecord) (last : MonthRecord)
+pub went_lent : (engine : EngineView) (series : Series) (done : ℕ) (records : List MonthRecord) (last : MonthRecord)
     (used : List ℕ) → last ≡ engine.last → used ≡ engine.used → WentThrough (run_with engine series done) records →
     WentThrough (run_with (record engine { last = last; used = used }) series done) records
 went_lent engine series done records last used same_last same_used went =

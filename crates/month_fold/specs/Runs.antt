@@ -6,7 +6,7 @@ use Rattle.water_model.specs.History.{IsPartialHistory, Follows, opening_after, 
 use Rattle.month_terms.specs.Terms.{HasUsed}
 use Rattle.water_model.specs.Valid.{IsValidBasin, IsSeriesOf}
 use Rattle.water_model.specs.declared.types.Basin.{Basin}
-use Rattle.water_model.specs.declared.types.Inflows.{Inflows}
+use Rattle.water_model.specs.declared.types.Series.{Series}
 use Rattle.water_model.specs.declared.types.MonthRecord.{MonthRecord}
 
 -- a run of a basin and a series: how many months are done, the record of the last one, what is on its way back to the
@@ -14,7 +14,7 @@ use Rattle.water_model.specs.declared.types.MonthRecord.{MonthRecord}
 -- nothing but the closing storage, which is the basin's opening
 pub record RunView : Type 0 where
   pub basin : Basin
-  pub series : Inflows
+  pub series : Series
   pub done : ℕ
   pub last : MonthRecord
   pub lags : List InTransit
@@ -28,7 +28,7 @@ pub record EngineView : Type 0 where
   pub used : List ℕ
 
 -- the run that it makes of a series, after `done` months
-abbrev pub run_with : EngineView → Inflows → ℕ → RunView
+abbrev pub run_with : EngineView → Series → ℕ → RunView
 run_with engine series done = record {
   basin = engine.basin;
   series = series;
@@ -71,7 +71,7 @@ pub record HasMonths (run : RunView) : Type 0 where
   pub stands : RunStandsFor run records
 
 -- the record follows these, and its sets are the reaches of its short rights
-pub record IsNext (b : Basin) (series : Inflows) (records : List MonthRecord) (m : MonthRecord) : Type 0 where
+pub record IsNext (b : Basin) (series : Series) (records : List MonthRecord) (m : MonthRecord) : Type 0 where
   pub follows : Follows b series records m
   pub reaches : HasReaches b m
 

@@ -3,7 +3,7 @@ ghost use Rattle.std.specs.Prelude.{List, ◌≡◌, ◌+◌, ◌*◌, ◌<◌, 
 ghost use Rattle.rights_roll.specs.Rolls.{IsRollOf};
 ghost use Rattle.water_model.specs.History.{IsPartialHistory, opening_after, HaveReaches, HasReaches};
 ghost use Rattle.water_model.specs.Valid.{IsValidBasin, IsSeriesOf};
-ghost use Rattle.water_model.specs.declared.types.Inflows.{Inflows};
+ghost use Rattle.water_model.specs.declared.types.Series.{Series};
 ghost use Rattle.water_model.specs.declared.types.MonthRecord.{MonthRecord};
 ghost use Rattle.month_fold.specs.Uses.{HasDeliveries, StateUse};
 ghost use Rattle.month_fold.specs.Runs.{RunStandsFor, WentThrough, HasRecords, run_with};
@@ -24,7 +24,7 @@ use std::marker::Model;
 use std::sync::ledger::Ledger;
 use water_model::blank::zeros;
 use water_model::rows::Rows;
-use water_model::types::{Basin, Inflows, MonthRecord};
+use water_model::types::{Basin, Series, MonthRecord};
 
 /// What a run of a basin is made with, apart from its series: the solver, the calendar and the area tables, and the
 /// memory for what is on its way, what was used of volumes and the record of the last month. One engine serves one run
@@ -95,10 +95,10 @@ impl<'b> Engine<'b> {
         requires stored { length (opening_after self.old.basin (map (λ m. m.value) months.now))
             ≡ length self.old.basin.reservoirs }
         ensures basin { self.new.basin ≡ self.old.basin }
-        ensures went { (series : Inflows) → IsSeriesOf self.new.basin series →
+        ensures went { (series : Series) → IsSeriesOf self.new.basin series →
             IsPartialHistory self.new.basin series (map (λ m. m.value) months.now) →
             WentThrough (run_with self.new series (length months.now)) (map (λ m. m.value) months.now) }
-        ensures stands { (series : Inflows) → IsSeriesOf self.new.basin series →
+        ensures stands { (series : Series) → IsSeriesOf self.new.basin series →
             IsPartialHistory self.new.basin series (map (λ m. m.value) months.now) →
             HaveReaches self.new.basin (map (λ m. m.value) months.now) →
             RunStandsFor (run_with self.new series (length months.now)) (map (λ m. m.value) months.now) }
@@ -140,7 +140,7 @@ impl<'b> Engine<'b> {
 
     /// Solves the month after the first `done` of a series; `month` then gives its record. `work` counts each search
     /// that finds a walk, and the month.
-    pub fn step<P: Ledger, M: Ledger>(&mut self, series: &Inflows, done: u32, work: &mut Work<P, M>)
+    pub fn step<P: Ledger, M: Ledger>(&mut self, series: &Series, done: u32, work: &mut Work<P, M>)
         requires left { done < self.old.basin.months }
         requires months { HasRecords (run_with self.old series.now done) }
         ensures basin { self.new.basin ≡ self.old.basin }

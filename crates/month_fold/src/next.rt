@@ -19,7 +19,7 @@ use senior_hold::Solver;
 use std::sync::ledger::Ledger;
 use steps::Steps;
 use water_model::rows::Rows;
-use water_model::types::{Basin, Inflows, MonthRecord};
+use water_model::types::{Basin, Series, MonthRecord};
 
 /// Writes what comes back to each node this month into its record, and what each right used of its volume before.
 fn write_returns(basin: &Basin, lags: &Lags, used: &[u64], month: &mut MonthRecord)
@@ -58,10 +58,10 @@ pub fn use_volumes(basin: &Basin, index: u32, month: &MonthRecord, used: &mut Ro
 
 /// Solves the month with this index in a record that has the closing storage of the month before. `calendar` is the
 /// basin's, `tables` has the area table of each reservoir, and `used` what each right used of its volume before in the
-/// water year. Each search that finds a walk ticks `searches` once. It takes no memory.
+/// water year. Each search that finds a walk ticks `pushes` once. It takes no memory.
 pub fn next_month<L: Ledger>(
     basin: &Basin,
-    series: &Inflows,
+    series: &Series,
     calendar: &Calendar,
     tables: &[AreaTable],
     lags: &Lags,
@@ -69,7 +69,7 @@ pub fn next_month<L: Ledger>(
     solver: &mut Solver,
     index: u32,
     month: &mut MonthRecord,
-    searches: &mut Steps<L>,
+    pushes: &mut Steps<L>,
 )
     requires calendar { IsCalendar basin.now calendar.now }
     requires tables { tables.now ≡ map (λ v. v.area) basin.now.reservoirs }
@@ -85,7 +85,7 @@ pub fn next_month<L: Ledger>(
         WentThrough (run_with
         (record { basin = basin.now; last = month.old; lags = lags.now; used = used.now }) series.now index) records →
         IsNext basin.now series.now records month.new }
-    ensures pushes { searches.new ≤ searches.old + month_pushes basin.now }
+    ensures pushes { pushes.new ≤ pushes.old + month_pushes basin.now }
 {
     write_returns(basin, lags, used, month);
     settle(calendar, basin, series, tables, index, month);
@@ -96,7 +96,7 @@ pub fn next_month<L: Ledger>(
         month.want.as_slice(),
         &mut month.plan,
         &mut month.cuts,
-        searches,
+        pushes,
     );
     conclude(calendar, basin, month);
 }

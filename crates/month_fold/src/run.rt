@@ -13,7 +13,7 @@ use rights_roll::roll::Roll;
 use std::alloc::{AllocError, Global};
 use std::marker::Model;
 use std::sync::ledger::Ledger;
-use water_model::types::{Basin, Inflows, MonthRecord};
+use water_model::types::{Basin, Series, MonthRecord};
 
 /// A run of a basin with a series of inflows.
 ///
@@ -22,7 +22,7 @@ use water_model::types::{Basin, Inflows, MonthRecord};
 #[derive(Drop)]
 pub struct Run<'b, 's> {
     engine: Engine<'b>,
-    series: &'s Inflows,
+    series: &'s Series,
     done: u32,
 }
 
@@ -43,7 +43,7 @@ impl<'b, 's> Run<'b, 's> {
     pub fn open(
         alloc: Global,
         basin: &'b Basin,
-        series: &'s Inflows,
+        series: &'s Series,
     ) -> Result<Run<'b, 's>, AllocError>
         requires basin { IsValidBasin basin.now }
         requires series { IsSeriesOf basin.now series.now }
@@ -56,7 +56,7 @@ impl<'b, 's> Run<'b, 's> {
 
     /// A run before its first month, in the memory of an engine: it takes none. The engine may have served other runs,
     /// and nothing of them is left.
-    pub fn begin(mut engine: Engine<'b>, series: &'s Inflows) -> Run<'b, 's>
+    pub fn begin(mut engine: Engine<'b>, series: &'s Series) -> Run<'b, 's>
         requires { IsSeriesOf engine.basin series.now }
         ensures basin { result.basin ≡ engine.entry.basin }
         ensures series { result.series ≡ series.now }
@@ -88,7 +88,7 @@ impl<'b, 's> Run<'b, 's> {
     pub fn resume(
         alloc: Global,
         basin: &'b Basin,
-        series: &'s Inflows,
+        series: &'s Series,
         months: &[Box<MonthRecord>],
     ) -> Result<Run<'b, 's>, AllocError>
         requires basin { IsValidBasin basin.now }
@@ -118,7 +118,7 @@ impl<'b, 's> Run<'b, 's> {
     }
 
     /// The series, which is one of the basin.
-    pub fn series(&self) -> &'s Inflows
+    pub fn series(&self) -> &'s Series
         ensures value { result.now ≡ self.now.series }
         ensures fits { IsSeriesOf self.now.basin result.now }
     {

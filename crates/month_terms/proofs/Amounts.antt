@@ -14,7 +14,7 @@ use Rattle.water_model.specs.Hydrology.{inflow_at, returned_at, stored_at, deliv
 use Rattle.water_model.specs.History.{IsPartialHistory, Follows, opening_after}
 use Rattle.water_model.specs.Valid.{IsValidBasin, IsValidReservoir, IsSeriesOf}
 use Rattle.water_model.specs.declared.types.Basin.{Basin}
-use Rattle.water_model.specs.declared.types.Inflows.{Inflows}
+use Rattle.water_model.specs.declared.types.Series.{Series}
 use Rattle.water_model.specs.declared.types.MonthRecord.{MonthRecord}
 use Rattle.water_model.proofs.Lists.{prefix_partial}
 use Rattle.water_model.proofs.Valid.{entry_holds}
@@ -26,7 +26,7 @@ pub record IsSmall (b : Basin) (m : MonthRecord) : Type 0 where
   pub takes : (r : ℕ) → r < length b.rights → slice_index m.plan.take r ≤ 10 ^ 9
   pub delivered : (r : ℕ) → slice_index m.delivered r ≤ 10 ^ 9
 
-pub follows_small : (b : Basin) (series : Inflows) (before : List MonthRecord) (m : MonthRecord) → IsValidBasin b →
+pub follows_small : (b : Basin) (series : Series) (before : List MonthRecord) (m : MonthRecord) → IsValidBasin b →
     IsSeriesOf b series → Follows b series before m → IsSmall b m
 follows_small b series before m valid fits follows = record { takes = takes; delivered = delivered }
   where
@@ -50,7 +50,7 @@ follows_small b series before m valid fits follows = record { takes = takes; del
     ]
 
 -- what holds of each month that follows a partial history holds of all months of one
-pub each_month : (P : MonthRecord → Type 0) (b : Basin) (series : Inflows) (records : List MonthRecord) →
+pub each_month : (P : MonthRecord → Type 0) (b : Basin) (series : Series) (records : List MonthRecord) →
     IsPartialHistory b series records →
     ((before : List MonthRecord) (m : MonthRecord) → IsPartialHistory b series before → Follows b series before m →
     P m) → All P records
@@ -59,7 +59,7 @@ each_month P b series records partial h =
     (partial.each k (get_or records k d) (slice_get-get_or records k d l))
 
 -- what a right was delivered in all months
-pub delivered_small : (b : Basin) (series : Inflows) (records : List MonthRecord) (r : ℕ) → IsValidBasin b →
+pub delivered_small : (b : Basin) (series : Series) (records : List MonthRecord) (r : ℕ) → IsValidBasin b →
     IsSeriesOf b series → IsPartialHistory b series records →
     sum_by (λ m. slice_index m.delivered r) records ≤ length records * 10 ^ 9
 delivered_small b series records r valid fits partial =
@@ -67,7 +67,7 @@ delivered_small b series records r valid fits partial =
     (each_month _ b series records partial
     (λ before m prefix follows. (follows_small b series before m valid fits follows).delivered r))
 
-pub deliveries_small : (b : Basin) (series : Inflows) (records : List MonthRecord) → IsValidBasin b →
+pub deliveries_small : (b : Basin) (series : Series) (records : List MonthRecord) → IsValidBasin b →
     IsSeriesOf b series →
     IsPartialHistory b series records → (r j : ℕ) → delivered_in (map (λ m. m.delivered) records) r j ≤ 10 ^ 9
 deliveries_small b series records valid fits partial r j =
@@ -80,7 +80,7 @@ deliveries_small b series records valid fits partial r j =
     of_month (Some m) e = (follows_small b series (take j records) m valid fits (partial.each j m e)).delivered r
 
 -- what the reservoirs hold when a month opens
-pub stored_small : (b : Basin) (series : Inflows) (records : List MonthRecord) (evaporated : List ℕ) → IsValidBasin b →
+pub stored_small : (b : Basin) (series : Series) (records : List MonthRecord) (evaporated : List ℕ) → IsValidBasin b →
     IsSeriesOf b series →
     IsPartialHistory b series records →
     total (length b.nodes) (λ n. stored_at b (opening_after b records) evaporated n) ≤ 32 * 10 ^ 12
@@ -107,7 +107,7 @@ stored_small b series records evaporated valid fits partial = by_last (slice_get
         rw (ap opens e) (omega (arith, most))
 
 -- the whole supply of a month
-pub supply_small : (b : Basin) (series : Inflows) (records : List MonthRecord) (evaporated : List ℕ) (i : ℕ) →
+pub supply_small : (b : Basin) (series : Series) (records : List MonthRecord) (evaporated : List ℕ) (i : ℕ) →
     IsValidBasin b → IsSeriesOf b series →
     IsPartialHistory b series records →
     total (length b.nodes)

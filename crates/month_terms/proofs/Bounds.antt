@@ -17,7 +17,7 @@ use Rattle.water_model.specs.Valid.{IsValidBasin, IsValidNode, IsValidInflow, Is
 use Rattle.water_model.specs.declared.types.Basin.{Basin}
 use Rattle.water_model.specs.declared.types.Inflow.{Inflow}
 use Rattle.water_model.specs.declared.types.Inflow.TheVariants.{Monthly, Gauged}
-use Rattle.water_model.specs.declared.types.Inflows.{Inflows}
+use Rattle.water_model.specs.declared.types.Series.{Series}
 use Rattle.water_model.specs.declared.types.ReturnRow.{ReturnRow}
 use Rattle.water_model.specs.declared.types.Right.{Right}
 use Rattle.water_model.specs.declared.types.RightKind.{RightKind}
@@ -27,7 +27,7 @@ use Rattle.water_model.proofs.Valid.{entry_holds}
 use Rattle.water_model.proofs.Wants.{entry_most}
 
 -- no inflow is more than 10^9
-pub inflow_most : (b : Basin) (series : Inflows) (n i : ℕ) → IsValidBasin b → IsSeriesOf b series → n < length b.nodes →
+pub inflow_most : (b : Basin) (series : Series) (n i : ℕ) → IsValidBasin b → IsSeriesOf b series → n < length b.nodes →
     inflow_at b series n i ≤ 10 ^ 9
 inflow_most b series n i valid fits l =
     let entry = entry_holds IsValidNode b.nodes n valid.nodes l in
@@ -69,7 +69,7 @@ spread_whole n m key f h =
     ∙ total_same m (λ e. total n (λ v. if key e == v then f e else 0)) f (λ e l. at_one_inside n (key e) (f e) (h e l))
 
 -- what flows in at all nodes
-pub inflows_small : (b : Basin) (series : Inflows) (i : ℕ) → IsValidBasin b → IsSeriesOf b series →
+pub inflows_small : (b : Basin) (series : Series) (i : ℕ) → IsValidBasin b → IsSeriesOf b series →
     total (length b.nodes) (λ n. inflow_at b series n i) ≤ 2 * 10 ^ 12
 inflows_small b series i valid fits =
     let most =

@@ -19,7 +19,7 @@ use Rattle.water_model.specs.Valid.{IsValidBasin, IsSeriesOf, HasValidSite, is_g
 use Rattle.water_model.specs.declared.types.Basin.{Basin}
 use Rattle.water_model.specs.declared.types.Inflow.{Inflow}
 use Rattle.water_model.specs.declared.types.Inflow.TheVariants.{Monthly, Gauged}
-use Rattle.water_model.specs.declared.types.Inflows.{Inflows}
+use Rattle.water_model.specs.declared.types.Series.{Series}
 use Rattle.water_model.specs.declared.types.Plan.{Plan}
 use Rattle.water_model.specs.declared.types.Right.{Right}
 use Rattle.water_model.specs.declared.types.RightKind.{RightKind}
@@ -130,7 +130,7 @@ month_number f xs numbers n x are at =
     ap (λ ys. slice_index ys n) are
     ∙ get_or_from_slice_get (map f xs) n (f x) 0 (slice_get-map f xs n ∙ ap (option_map f) at)
 
-inflow_by_entry : (b : Basin) (series : Inflows) (n i : ℕ) → n < length b.nodes →
+inflow_by_entry : (b : Basin) (series : Series) (n i : ℕ) → n < length b.nodes →
     (kind : Inflow) × (inflow_at b series n i ≡ inflow_of_kind b series n i kind)
     × (is_gauged b n ≡ is_gauged_kind kind)
     × ((p : ℕ) (m : CalendarMonth) → IsCalendarMonth b p m → slice_index m.inflows n ≡ monthly_inflow kind p)
@@ -143,7 +143,7 @@ inflow_by_entry b series n i l =
     )
 
 -- at no node more than this month's
-pub inflow_within : (b : Basin) (series : Inflows) (n i p : ℕ) (m : CalendarMonth) → IsCalendarMonth b p m →
+pub inflow_within : (b : Basin) (series : Series) (n i p : ℕ) (m : CalendarMonth) → IsCalendarMonth b p m →
     p ≡ in_year b i → n < length b.nodes → slice_index m.inflows n ≤ inflow_at b series n i
 inflow_within b series n i p m is at l =
     let entry = inflow_by_entry b series n i l in
@@ -154,7 +154,7 @@ inflow_within b series n i p m is at l =
     by_kind Gauged = omega arith
 
 -- and all of it where no gauge is
-pub inflow_is : (b : Basin) (series : Inflows) (n i p : ℕ) (m : CalendarMonth) → IsCalendarMonth b p m →
+pub inflow_is : (b : Basin) (series : Series) (n i p : ℕ) (m : CalendarMonth) → IsCalendarMonth b p m →
     p ≡ in_year b i → n < length b.nodes → is_gauged b n ≡ false → slice_index m.inflows n ≡ inflow_at b series n i
 inflow_is b series n i p m is at l no_gauge =
     let entry = inflow_by_entry b series n i l in
@@ -166,12 +166,12 @@ inflow_is b series n i p m is at l no_gauge =
 
 -- A gauge of the series: its node, and where its amount of a month stands.
 
-pub record IsGauge (b : Basin) (series : Inflows) (i gauge node : ℕ) : Type 0 where
+pub record IsGauge (b : Basin) (series : Series) (i gauge node : ℕ) : Type 0 where
   pub within : node < length b.nodes
   pub cell : i * length series.gauged + gauge < length series.amount
   pub amount : slice_index series.amount (i * length series.gauged + gauge) ≡ inflow_at b series node i
 
-pub gauge_is : (b : Basin) (series : Inflows) (i gauge node : ℕ) → IsSeriesOf b series → i < b.months →
+pub gauge_is : (b : Basin) (series : Series) (i gauge node : ℕ) → IsSeriesOf b series → i < b.months →
     slice_get series.gauged gauge ≡ Some node → IsGauge b series i gauge node
 gauge_is b series i gauge node fits l at = record {
   within = inside;
@@ -211,7 +211,7 @@ gauge_is b series i gauge node fits l at = record {
     by_kind Gauged h = refl
 
 -- a month's amounts stand within a list in memory
-pub row_small : (b : Basin) (series : Inflows) (i : ℕ) → IsValidBasin b → IsSeriesOf b series → i < b.months →
+pub row_small : (b : Basin) (series : Series) (i : ℕ) → IsValidBasin b → IsSeriesOf b series → i < b.months →
     (i * length series.gauged ≤ 2400000) × (length series.gauged ≤ 2000)
 row_small b series i valid fits l =
     let few : length series.gauged ≤ 2000 =
@@ -228,7 +228,7 @@ row_small b series i valid fits l =
 
 -- What rights want.
 
-pub want_is : (b : Basin) (series : Inflows) (r i p used : ℕ) (m : CalendarMonth) → IsCalendarMonth b p m →
+pub want_is : (b : Basin) (series : Series) (r i p used : ℕ) (m : CalendarMonth) → IsCalendarMonth b p m →
     p ≡ in_year b i → r < length b.rights → of_entry b.rights r wants_otherwise false ≡ false →
     slice_index m.wants r ≡ want_of b series r i used
 want_is b series r i p used m is at l plain =
@@ -260,7 +260,7 @@ want_is b series r i p used m is at l plain =
     by false None None t x h = refl
 
 -- the want of a right without a volume and without wants in the series
-pub want_stands : (b : Basin) (series : Inflows) (r i p used number : ℕ) (x : Right) → slice_get b.rights r ≡ Some x →
+pub want_stands : (b : Basin) (series : Series) (r i p used number : ℕ) (x : Right) → slice_get b.rights r ≡ Some x →
     x.series ≡ false → is_some x.volume ≡ false → p ≡ in_year b i →
     number ≡ cap_by_link b (run_month b i) (link_of_kind x.kind) (slice_index x.want p) →
     number ≡ want_of b series r i used

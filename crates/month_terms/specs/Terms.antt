@@ -7,7 +7,7 @@ use Rattle.water_model.specs.History.{FitsBasin, is_zone_of}
 use Rattle.water_model.specs.Plans.{delivery}
 use Rattle.finite_sums.specs.Sums.{total_where}
 use Rattle.water_model.specs.declared.types.Basin.{Basin}
-use Rattle.water_model.specs.declared.types.Inflows.{Inflows}
+use Rattle.water_model.specs.declared.types.Series.{Series}
 use Rattle.water_model.specs.declared.types.MonthRecord.{MonthRecord}
 
 -- what evaporates from each reservoir in the month with this index, of what it holds when the month opens
@@ -18,7 +18,7 @@ pub record HasEvaporated (b : Basin) (index : ℕ) (opening evaporated : List �
       0
 
 -- the supply of each node: what flows in, what comes back, and what its reservoir holds after evaporation
-pub record HasSupply (b : Basin) (series : Inflows) (index : ℕ) (opening evaporated returned supply : List ℕ) : Type 0
+pub record HasSupply (b : Basin) (series : Series) (index : ℕ) (opening evaporated returned supply : List ℕ) : Type 0
   where
     pub count : length supply ≡ length b.nodes
     pub each : (n : ℕ) → n < length b.nodes → slice_index supply n
@@ -30,7 +30,7 @@ pub record HasUsed (b : Basin) (deliveries : List (List ℕ)) (used : List ℕ) 
   pub each : (r : ℕ) → r < length b.rights → slice_index used r ≡ used_of b deliveries r (length deliveries)
 
 -- the want of each right, by what it used
-pub record HasWants (b : Basin) (series : Inflows) (index : ℕ) (used want : List ℕ) : Type 0 where
+pub record HasWants (b : Basin) (series : Series) (index : ℕ) (used want : List ℕ) : Type 0 where
   pub count : length want ≡ length b.rights
   pub each : (r : ℕ) → r < length b.rights → slice_index want r ≡ want_of b series r index (slice_index used r)
 
@@ -43,7 +43,7 @@ pub record FitsRecord (b : Basin) (m : MonthRecord) : Type 0 where
 
 -- a record's opening, evaporation, supply and wants are settled, by the closing of the month before, by what comes back
 -- and by what was used. All else stays
-pub record IsSettled (b : Basin) (series : Inflows) (index : ℕ) (old new : MonthRecord) : Type 0 where
+pub record IsSettled (b : Basin) (series : Series) (index : ℕ) (old new : MonthRecord) : Type 0 where
   pub index_is : new.index ≡ index
   pub month : new.month ≡ run_month b index
   pub calendar : IsMonth new.month

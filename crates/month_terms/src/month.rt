@@ -12,7 +12,7 @@ use crate::supply::{add_stored, write_inflows};
 use crate::want::{write_deliveries, write_wants};
 use reservoirs::AreaTable;
 use water_model::calls::month_at;
-use water_model::types::{Basin, Inflows, MonthRecord};
+use water_model::types::{Basin, Series, MonthRecord};
 
 /// Settles in a record what is known of the month with this index before its plan: its opening, evaporation, supply and
 /// wants. The record still has the closing storage of the month before, and already what comes back to each node and
@@ -20,7 +20,7 @@ use water_model::types::{Basin, Inflows, MonthRecord};
 pub fn settle(
     calendar: &Calendar,
     basin: &Basin,
-    series: &Inflows,
+    series: &Series,
     tables: &[AreaTable],
     index: u32,
     month: &mut MonthRecord,

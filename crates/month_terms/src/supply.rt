@@ -7,13 +7,13 @@ ghost use Rattle.month_terms.specs.Calendars.{IsCalendar};
 use crate::add::add_at;
 use crate::calendar::Calendar;
 use water_model::calls::{inflow_of, month_at};
-use water_model::types::{Basin, Inflow, Inflows};
+use water_model::types::{Basin, Inflow, Series};
 
 /// What flows in at a node in the month with this index, in units of 1,000 cubic metres. `position` is that of its
 /// calendar month in a list of twelve: it is the same for all nodes, and so the caller finds it once.
 pub fn inflow_in_year(
     basin: &Basin,
-    series: &Inflows,
+    series: &Series,
     node: usize,
     index: u32,
     position: usize,
@@ -34,7 +34,7 @@ pub fn inflow_in_year(
 /// Writes what flows in and what comes back at each node in the month with this index.
 pub fn read_inflows(
     basin: &Basin,
-    series: &Inflows,
+    series: &Series,
     index: u32,
     returned: &[u64],
     supply: &mut [u64],
@@ -72,7 +72,7 @@ fn write_sums(first: &[u64], second: &[u64], sums: &mut [u64])
 
 /// Writes what flows in and what comes back at each gauged node in the month with this index. All else stays: it has
 /// this already at the other nodes.
-fn write_gauged(basin: &Basin, series: &Inflows, index: u32, returned: &[u64], supply: &mut [u64])
+fn write_gauged(basin: &Basin, series: &Series, index: u32, returned: &[u64], supply: &mut [u64])
     requires basin { IsValidBasin basin.now }
     requires series { IsSeriesOf basin.now series.now }
     requires index { index < basin.now.months }
@@ -99,7 +99,7 @@ fn write_gauged(basin: &Basin, series: &Inflows, index: u32, returned: &[u64], s
 pub fn write_inflows(
     calendar: &Calendar,
     basin: &Basin,
-    series: &Inflows,
+    series: &Series,
     index: u32,
     returned: &[u64],
     supply: &mut [u64],

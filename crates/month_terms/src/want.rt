@@ -8,14 +8,14 @@ ghost use Rattle.month_terms.specs.Calendars.{IsCalendar};
 
 use crate::calendar::{Calendar, InstreamPlace};
 use water_model::calls::{carry_of, month_at, want_of};
-use water_model::types::{Basin, Inflows, Plan, RightKind};
+use water_model::types::{Basin, Series, Plan, RightKind};
 use water_text::month::Month;
 
 /// The want of a right in the month with this index, which is `month`. `position` is that of its calendar month in a
 /// list of twelve. Both are the same for all rights, and most of them want what stands there.
 fn want_in_year(
     basin: &Basin,
-    series: &Inflows,
+    series: &Series,
     right: u32,
     index: u32,
     month: Month,
@@ -47,7 +47,7 @@ fn want_in_year(
 pub fn write_wants(
     calendar: &Calendar,
     basin: &Basin,
-    series: &Inflows,
+    series: &Series,
     index: u32,
     used: &[u64],
     want: &mut [u64],

@@ -16,7 +16,7 @@ use Rattle.water_model.specs.Lookups.{of_entry}
 use Rattle.water_model.specs.Valid.{IsValidBasin, IsSeriesOf}
 use Rattle.water_text.specs.declared.month.Month.{Month}
 use Rattle.water_model.specs.declared.types.Basin.{Basin}
-use Rattle.water_model.specs.declared.types.Inflows.{Inflows}
+use Rattle.water_model.specs.declared.types.Series.{Series}
 use Rattle.water_model.specs.declared.types.MonthRecord.{MonthRecord}
 use Rattle.water_model.specs.declared.types.Plan.{Plan}
 use Rattle.water_model.proofs.Histories.{IsMonth-run_month}
@@ -40,7 +40,7 @@ use Rattle.next_unit.proofs.Next.{HaveTightCuts, goes_to_one, goes_to_nobody, go
 use Rattle.next_unit.proofs.Next.{caller_short, shown_by_core, first_core_is_decided, short_takers_have_first_cores}
 
 -- an instream right wants no more than its link carries
-want_carried : (b : Basin) (series : Inflows) (before : List MonthRecord) (m : MonthRecord) (r e : ℕ) →
+want_carried : (b : Basin) (series : Series) (before : List MonthRecord) (m : MonthRecord) (r e : ℕ) →
     IsNextMonth b series before m → r < length b.rights → instream_link b r ≡ Some e →
     slice_index m.want r ≤ carry_of b m.month e
 want_carried b series before m r e after l is =
@@ -64,7 +64,7 @@ want_carried b series before m r e after l is =
         capped x c = omega arith
 
 -- a month of a history
-module _ (b : Basin) (series : Inflows) (records : List MonthRecord) (i : ℕ) (m : MonthRecord) where
+module _ (b : Basin) (series : Series) (records : List MonthRecord) (i : ℕ) (m : MonthRecord) where
   -- what a month of a history is
   pub record IsMonthOf : Type 0 where
     pub follows : Follows b series (take i records) m
@@ -140,7 +140,7 @@ histories_show_where_carry_helps b series records i m r core reach link valid fi
     ((has_room b series records i m valid fits month).each r l short) is_core below
 
 -- the right to which a unit would go, or that it is free, is what the cores show
-shown_in_month : (b : Basin) (series : Inflows) (records : List MonthRecord) (i : ℕ) (m : MonthRecord) (node : ℕ)
+shown_in_month : (b : Basin) (series : Series) (records : List MonthRecord) (i : ℕ) (m : MonthRecord) (node : ℕ)
     (o : Option ℕ) → IsValidBasin b → IsSeriesOf b series → IsPartialHistory b series records →
     slice_get records i ≡ Some m → IsNextOrFree b m node o ↔ IsFirstCoreOrNone b m node o
 shown_in_month b series records i m node o valid fits partial at =

@@ -11,7 +11,7 @@ use Rattle.duality.specs.Laws.{ServesSeniors, AreDeliveries}
 use Rattle.water_model.specs.Valid.{IsValidBasin, IsSeriesOf}
 use Rattle.water_text.specs.declared.month.Month.{Month}
 use Rattle.water_model.specs.declared.types.Basin.{Basin}
-use Rattle.water_model.specs.declared.types.Inflows.{Inflows}
+use Rattle.water_model.specs.declared.types.Series.{Series}
 use Rattle.water_model.specs.declared.types.MonthRecord.{MonthRecord}
 use Rattle.water_model.specs.declared.types.Plan.{Plan}
 use Rattle.plan_residual.specs.Residual.{HasPlan}
@@ -102,7 +102,7 @@ SmallSupplyLeavesRoom =
 -- In a month of a history: one more unit of supply at a node helps a short right exactly in its core.
 abbrev pub HistoriesShowWhereSupplyHelps : Type 0
 HistoriesShowWhereSupplyHelps =
-    (b : Basin) (series : Inflows) (records : List MonthRecord) (i : ℕ) (m : MonthRecord) (right : ℕ)
+    (b : Basin) (series : Series) (records : List MonthRecord) (i : ℕ) (m : MonthRecord) (right : ℕ)
     (core : List Bool) (node : ℕ) → IsValidBasin b → IsSeriesOf b series → IsPartialHistory b series records →
     slice_get records i ≡ Some m → right < length b.rights → IsShort m right → IsCore b m right core →
     HelpsRight b m (one_more m.supply node) right ↔ IsTrue (has core node)
@@ -110,7 +110,7 @@ HistoriesShowWhereSupplyHelps =
 -- And one more unit of carry on a link exactly where it leads from outside the right's reach into its core.
 abbrev pub HistoriesShowWhereCarryHelps : Type 0
 HistoriesShowWhereCarryHelps =
-    (b : Basin) (series : Inflows) (records : List MonthRecord) (i : ℕ) (m : MonthRecord) (right : ℕ)
+    (b : Basin) (series : Series) (records : List MonthRecord) (i : ℕ) (m : MonthRecord) (right : ℕ)
     (core reach : List Bool) (link : ℕ) → IsValidBasin b → IsSeriesOf b series → IsPartialHistory b series records →
     slice_get records i ≡ Some m → right < length b.rights → IsShort m right → IsCore b m right core →
     IsReach b m.month m.supply m.delivered right reach → link < length b.links →
@@ -120,14 +120,14 @@ HistoriesShowWhereCarryHelps =
 -- right whose core holds the node.
 abbrev pub NextIsFirstCore : Type 0
 NextIsFirstCore =
-    (b : Basin) (series : Inflows) (records : List MonthRecord) (i : ℕ) (m : MonthRecord) (node right : ℕ) →
+    (b : Basin) (series : Series) (records : List MonthRecord) (i : ℕ) (m : MonthRecord) (node right : ℕ) →
     IsValidBasin b → IsSeriesOf b series → IsPartialHistory b series records → slice_get records i ≡ Some m →
     IsNextAt b m node right ↔ IsFirstCoreAt b m node right
 
 -- And it would help nobody exactly where no core of a short right holds the node.
 abbrev pub FreeIsInNoCore : Type 0
 FreeIsInNoCore =
-    (b : Basin) (series : Inflows) (records : List MonthRecord) (i : ℕ) (m : MonthRecord) (node : ℕ) →
+    (b : Basin) (series : Series) (records : List MonthRecord) (i : ℕ) (m : MonthRecord) (node : ℕ) →
     IsValidBasin b → IsSeriesOf b series → IsPartialHistory b series records → slice_get records i ≡ Some m →
     IsFreeAt b m node ↔ IsInNoCore b m node
 
@@ -140,7 +140,7 @@ FirstCoreIsDecided =
 -- One more unit at a node would help nobody, or it is a right's.
 abbrev pub NextUnitIsDecided : Type 0
 NextUnitIsDecided =
-    (b : Basin) (series : Inflows) (records : List MonthRecord) (i : ℕ) (m : MonthRecord) (node : ℕ) →
+    (b : Basin) (series : Series) (records : List MonthRecord) (i : ℕ) (m : MonthRecord) (node : ℕ) →
     IsValidBasin b → IsSeriesOf b series → IsPartialHistory b series records → slice_get records i ≡ Some m →
     IsFreeAt b m node ⊎ ((right : ℕ) × IsNextAt b m node right)
 
@@ -148,7 +148,7 @@ NextUnitIsDecided =
 -- unit to the most senior right that it would help, and to each senior of that right what it got.
 abbrev pub NextUnitGoesToOne : Type 0
 NextUnitGoesToOne =
-    (b : Basin) (series : Inflows) (records : List MonthRecord) (i : ℕ) (m : MonthRecord) (node right : ℕ)
+    (b : Basin) (series : Series) (records : List MonthRecord) (i : ℕ) (m : MonthRecord) (node right : ℕ)
     (q : Plan) → IsValidBasin b → IsPartialHistory b series records → slice_get records i ≡ Some m →
     IsNextAt b m node right →
     IsGreatest b m.month (one_more m.supply node) m.want q → GivesOneMore b m q right
@@ -156,7 +156,7 @@ NextUnitGoesToOne =
 -- Where it would help nobody, it delivers to every right what it got.
 abbrev pub NextUnitGoesToNobody : Type 0
 NextUnitGoesToNobody =
-    (b : Basin) (series : Inflows) (records : List MonthRecord) (i : ℕ) (m : MonthRecord) (node : ℕ) (q : Plan) →
+    (b : Basin) (series : Series) (records : List MonthRecord) (i : ℕ) (m : MonthRecord) (node : ℕ) (q : Plan) →
     IsValidBasin b → IsSeriesOf b series → IsPartialHistory b series records → slice_get records i ≡ Some m →
     node < length b.nodes → IsFreeAt b m node → IsGreatest b m.month (one_more m.supply node) m.want q →
     AreDeliveries b m.want q m.delivered
@@ -164,7 +164,7 @@ NextUnitGoesToNobody =
 -- So that right is exactly the most senior one to which it delivers otherwise. Juniors of that right may gain or lose.
 abbrev pub FirstChangedIsNext : Type 0
 FirstChangedIsNext =
-    (b : Basin) (series : Inflows) (records : List MonthRecord) (i : ℕ) (m : MonthRecord) (node right : ℕ)
+    (b : Basin) (series : Series) (records : List MonthRecord) (i : ℕ) (m : MonthRecord) (node right : ℕ)
     (q : Plan) → IsValidBasin b → IsSeriesOf b series → IsPartialHistory b series records →
     slice_get records i ≡ Some m → node < length b.nodes →
     IsGreatest b m.month (one_more m.supply node) m.want q → IsNextAt b m node right ↔ IsFirstChanged b m q right
@@ -173,7 +173,7 @@ FirstChangedIsNext =
 -- one more unit for that right, and the same for its seniors.
 abbrev pub NextUnitShowsInHistories : Type 0
 NextUnitShowsInHistories =
-    (b : Basin) (series other : Inflows) (records others : List MonthRecord) (i : ℕ) (m n : MonthRecord)
+    (b : Basin) (series other : Series) (records others : List MonthRecord) (i : ℕ) (m n : MonthRecord)
     (node right : ℕ) → IsValidBasin b → IsPartialHistory b series records → IsPartialHistory b other others →
     slice_get records i ≡ Some m → slice_get others i ≡ Some n → n.supply ≡ one_more m.supply node →
     n.want ≡ m.want → IsNextAt b m node right →
@@ -184,14 +184,14 @@ NextUnitShowsInHistories =
 -- A right that is curtailed for a senior got nothing.
 abbrev pub CurtailedGetNothing : Type 0
 CurtailedGetNothing =
-    (b : Basin) (series : Inflows) (records : List MonthRecord) (i : ℕ) (m : MonthRecord) (right caller : ℕ) →
+    (b : Basin) (series : Series) (records : List MonthRecord) (i : ℕ) (m : MonthRecord) (right caller : ℕ) →
     IsValidBasin b → IsPartialHistory b series records → slice_get records i ≡ Some m →
     IsCurtailedFor b m right caller → slice_index m.delivered right ≡ 0
 
 -- The right for which another is curtailed calls it.
 abbrev pub CurtailedAreCalled : Type 0
 CurtailedAreCalled =
-    (b : Basin) (series : Inflows) (records : List MonthRecord) (i : ℕ) (m : MonthRecord) (right caller : ℕ) →
+    (b : Basin) (series : Series) (records : List MonthRecord) (i : ℕ) (m : MonthRecord) (right caller : ℕ) →
     IsValidBasin b → IsPartialHistory b series records → slice_get records i ≡ Some m →
     IsCurtailedFor b m right caller → IsTrue (calls b m right caller)
 
@@ -205,7 +205,7 @@ ShortTakersHaveFirstCores =
 -- A short diversion or zone is curtailed for a senior, or the next unit at its node is its own.
 abbrev pub ShortTakersAreCurtailedOrNext : Type 0
 ShortTakersAreCurtailedOrNext =
-    (b : Basin) (series : Inflows) (records : List MonthRecord) (i : ℕ) (m : MonthRecord) (right node : ℕ) →
+    (b : Basin) (series : Series) (records : List MonthRecord) (i : ℕ) (m : MonthRecord) (right node : ℕ) →
     IsValidBasin b → IsSeriesOf b series → IsPartialHistory b series records → slice_get records i ≡ Some m →
     right < length b.rights → IsShort m right → taking_node b right ≡ Some node →
     ((caller : ℕ) × IsCurtailedFor b m right caller) ⊎ IsNextAt b m node right

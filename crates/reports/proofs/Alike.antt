@@ -14,7 +14,7 @@ use Rattle.water_model.specs.Cuts.{IsReach}
 use Rattle.duality.specs.Laws.{HaveSameOutcome}
 use Rattle.water_model.specs.Indices.{indices_of, seniors_first}
 use Rattle.water_model.specs.declared.types.Basin.{Basin}
-use Rattle.water_model.specs.declared.types.Inflows.{Inflows}
+use Rattle.water_model.specs.declared.types.Series.{Series}
 use Rattle.water_model.specs.declared.types.MonthRecord.{MonthRecord}
 use Rattle.duality.proofs.Greatest.{reach_unique}
 use Rattle.water_model.proofs.Order.{Has, flat_same, seniors_below}
@@ -157,7 +157,7 @@ one_row b right records others are =
     ) refl
 
 -- the water
-one_water : (b : Basin) (series : Inflows) (records others : List MonthRecord) → AreAlike b records others →
+one_water : (b : Basin) (series : Series) (records others : List MonthRecord) → AreAlike b records others →
     length records ≡ length others →
     waters_of b series records ≡ waters_of b series others
 unfolding waters_of

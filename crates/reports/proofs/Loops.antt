@@ -3,7 +3,7 @@ use Rattle.std.proofs.Common.{◌≡◌, List, [], ◌∷◌, ◌++◌}
 use Rattle.month_fold.specs.Runs.{GoesOn, RunView, RunStandsFor}
 use Rattle.month_fold.proofs.Whole.{whole_history}
 use Rattle.water_model.specs.declared.types.Basin.{Basin}
-use Rattle.water_model.specs.declared.types.Inflows.{Inflows}
+use Rattle.water_model.specs.declared.types.Series.{Series}
 use Rattle.water_model.specs.declared.types.MonthRecord.{MonthRecord}
 use Rattle.reports.specs.Ends.{IsRun}
 use Rattle.reports.specs.Tallies.{IsKeptBefore, IsKeptOf, IsKeptOfRun}
@@ -18,7 +18,7 @@ whole_run run records stands done = record {
   balanced = figures_balanced run.basin run.series records stands.valid stands.partial;
 }
 
-module _ {Kept : Type 0} (IsOf : Basin → Inflows → List MonthRecord → Kept → Type 0) where
+module _ {Kept : Type 0} (IsOf : Basin → Series → List MonthRecord → Kept → Type 0) where
   module _ (run next : RunView) (kept : Kept) (goes : GoesOn run next) (of : IsKeptOf IsOf run kept) where
     -- what is kept before the next month, and with it
     module _ (more : (records : List MonthRecord) → RunStandsFor run records →

@@ -15,7 +15,7 @@ use Rattle.water_model.specs.History.{IsPartialHistory}
 use Rattle.water_model.specs.Indices.{indices_of, seniors_first}
 use Rattle.water_model.specs.Valid.{IsValidBasin, IsSeriesOf}
 use Rattle.water_model.specs.declared.types.Basin.{Basin}
-use Rattle.water_model.specs.declared.types.Inflows.{Inflows}
+use Rattle.water_model.specs.declared.types.Series.{Series}
 use Rattle.water_model.specs.declared.types.MonthRecord.{MonthRecord}
 use Rattle.water_model.proofs.Order.{seniors_below, flat_same}
 use Rattle.result_text.proofs.Whole.{FitsText-follows}
@@ -63,7 +63,7 @@ end_is : (b : Basin) (w : Waters) → flat_map (whole_line b) (end_lines w) ≡ 
 unfolding whole_line row
 end_is b w = simp (append_assoc, append-nil)
 
-pub report_is : (b : Basin) (series : Inflows) (records : List MonthRecord) (t : Tally) → IsTally b series records t →
+pub report_is : (b : Basin) (series : Series) (records : List MonthRecord) (t : Tally) → IsTally b series records t →
     flat_map (whole_line b)
     (line.Report ∷ ((flat_map (right_lines t.rights) (seniors_first b) ++ []) ++ end_lines t.waters))
     ≡ report_text b series records
@@ -87,7 +87,7 @@ find_holds P p (x ∷ xs) all = by_test (p x) (find_holds P p xs (All-tail P x x
     by_test true further = all 0 x (omega arith)
     by_test false further = further
 
-pub are_rights : (b : Basin) (series : Inflows) (records : List MonthRecord) (t : Tally) → IsValidBasin b →
+pub are_rights : (b : Basin) (series : Series) (records : List MonthRecord) (t : Tally) → IsValidBasin b →
     IsPartialHistory b series records → IsTally b series records t → AreRights (rights_seen b t.rights)
 unfolding figures_of
 are_rights b series records t valid partial is = record {
@@ -118,7 +118,7 @@ sum_mapped f g (n ∷ ns) =
     sum_by-cons f (g n) (map g ns) ∙ (ap (λ k. f (g n) + k) (sum_mapped f g ns) ∙ sym (sum_by-cons (λ k. f (g k)) n ns))
 
 -- which fit
-pub totals_room : (b : Basin) (series : Inflows) (records : List MonthRecord) (t : Tally) → IsValidBasin b →
+pub totals_room : (b : Basin) (series : Series) (records : List MonthRecord) (t : Tally) → IsValidBasin b →
     IsSeriesOf b series → IsPartialHistory b series records →
     IsTally b series records t → AreBounded t.rights
 unfolding figures_of
@@ -176,7 +176,7 @@ totals_room b series records t valid fits partial is = record {
     given r l = omega (arith, months, delivered_small b series records r valid fits partial)
 
 -- the summary by what is kept
-pub summary_is : (number size : ℕ) (b : Basin) (series : Inflows) (records : List MonthRecord) (t : Trial)
+pub summary_is : (number size : ℕ) (b : Basin) (series : Series) (records : List MonthRecord) (t : Trial)
     (totals : Totals) → IsTrial b series records t →
     totals.short_months ≡ sum_by (λ f. f.short_months) t.tally.rights →
     totals.wanted ≡ sum_by (λ f. f.wanted) t.tally.rights →

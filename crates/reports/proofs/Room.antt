@@ -11,7 +11,7 @@ use Rattle.water_model.specs.Hydrology.{returned_at}
 use Rattle.water_model.specs.Indices.{indices_of}
 use Rattle.water_model.specs.Valid.{IsValidBasin, IsSeriesOf}
 use Rattle.water_model.specs.declared.types.Basin.{Basin}
-use Rattle.water_model.specs.declared.types.Inflows.{Inflows}
+use Rattle.water_model.specs.declared.types.Series.{Series}
 use Rattle.water_model.specs.declared.types.MonthRecord.{MonthRecord}
 use Rattle.duality.proofs.Balance.{balanced, month_balance}
 use Rattle.water_model.proofs.Sets.{sum_total}
@@ -27,7 +27,7 @@ use Rattle.reports.specs.declared.waters.Waters.{Waters}
 use Rattle.reports.proofs.Sums.{openings_small}
 
 -- the figures of a right
-pub wanted_small : (b : Basin) (series : Inflows) (records : List MonthRecord) (r : ℕ) → IsValidBasin b →
+pub wanted_small : (b : Basin) (series : Series) (records : List MonthRecord) (r : ℕ) → IsValidBasin b →
     IsSeriesOf b series →
     IsPartialHistory b series records → r < length b.rights → wanted records r ≤ length records * 10 ^ 9
 wanted_small b series records r valid fits partial l =
@@ -39,7 +39,7 @@ wanted_small b series records r valid fits partial l =
         rw (follows.after.want r l) (want_most b series r m.index (slice_index m.used r) valid fits l)
 
 -- there is room for one month more
-pub right_room : (b : Basin) (series : Inflows) (records : List MonthRecord) (m : MonthRecord) (r : ℕ)
+pub right_room : (b : Basin) (series : Series) (records : List MonthRecord) (m : MonthRecord) (r : ℕ)
     (f : RightFigures) → IsValidBasin b → IsSeriesOf b series →
     IsPartialHistory b series (records ++ m ∷ []) → r < length b.rights → f ≡ figures_of records r → HasRoom f m r
 unfolding figures_of
@@ -73,14 +73,14 @@ right_room b series records m r f valid fits partial l is = record {
     months = omega (arith, partial.within, valid.run.months.1)
 
 -- what comes in over the months
-inflows_all_small : (b : Basin) (series : Inflows) (records : List MonthRecord) → IsValidBasin b → IsSeriesOf b series →
+inflows_all_small : (b : Basin) (series : Series) (records : List MonthRecord) → IsValidBasin b → IsSeriesOf b series →
     IsPartialHistory b series records →
     sum_by (λ m. total_inflow b series m.index) records ≤ length records * (2 * 10 ^ 12)
 inflows_all_small b series records valid fits partial =
     sum_by-le (λ m. total_inflow b series m.index) (2 * 10 ^ 12) records
     (λ k d l. inflows_small b series (get_or records k d).index valid fits)
 
-returns_all_small : (b : Basin) (series : Inflows) (records : List MonthRecord) → IsValidBasin b → IsSeriesOf b series →
+returns_all_small : (b : Basin) (series : Series) (records : List MonthRecord) → IsValidBasin b → IsSeriesOf b series →
     IsPartialHistory b series records →
     sum_by (λ m. sum m.returned) records ≤ length records * (2 * 10 ^ 12)
 returns_all_small b series records valid fits partial =
@@ -114,11 +114,11 @@ pub record AreSmall (w : Waters) : Type 0 where
 opening_small : (b : Basin) → IsValidBasin b → sum (map (λ v. v.opening) b.reservoirs) ≤ 32 * 10 ^ 12
 opening_small b valid = omega (arith, sum-map (λ v. v.opening) b.reservoirs, openings_small b valid)
 
-few_months : (b : Basin) (series : Inflows) (records : List MonthRecord) → IsValidBasin b →
+few_months : (b : Basin) (series : Series) (records : List MonthRecord) → IsValidBasin b →
     IsPartialHistory b series records → length records ≤ 1200
 few_months b series records valid partial = omega (arith, partial.within, valid.run.months.1)
 
-waters_small : (b : Basin) (series : Inflows) (records : List MonthRecord) → IsValidBasin b → IsSeriesOf b series →
+waters_small : (b : Basin) (series : Series) (records : List MonthRecord) → IsValidBasin b → IsSeriesOf b series →
     IsPartialHistory b series records →
     AreSmall (waters_of b series records)
 unfolding waters_of
@@ -146,7 +146,7 @@ waters_small b series records valid fits partial = record {
     months : length records ≤ 1200
     months = few_months b series records valid partial
 
-pub month_room : (b : Basin) (series : Inflows) (records : List MonthRecord) (m : MonthRecord) (w : Waters) →
+pub month_room : (b : Basin) (series : Series) (records : List MonthRecord) (m : MonthRecord) (w : Waters) →
     IsValidBasin b → IsSeriesOf b series →
     IsPartialHistory b series (records ++ m ∷ []) → w ≡ waters_of b series records → HasRoomForMonth b series w m
 unfolding waters_of

@@ -7,7 +7,7 @@ use Rattle.duality.specs.Balance.{total_inflow, diverted}
 use Rattle.water_model.specs.History.{opening_after, calling_right}
 use Rattle.water_model.specs.Indices.{indices_of}
 use Rattle.water_model.specs.declared.types.Basin.{Basin}
-use Rattle.water_model.specs.declared.types.Inflows.{Inflows}
+use Rattle.water_model.specs.declared.types.Series.{Series}
 use Rattle.water_model.specs.declared.types.MonthRecord.{MonthRecord}
 use Rattle.cut_cert.specs.Callers.{is_short}
 use Rattle.reports.specs.declared.waters.Waters.{Waters}
@@ -35,7 +35,7 @@ worst_month records right =
     records)
 
 -- the water of a run
-unfoldable pub waters_of : Basin → Inflows → List MonthRecord → Waters
+unfoldable pub waters_of : Basin → Series → List MonthRecord → Waters
 waters_of b series records = record {
   opening = sum (map (λ v. v.opening) b.reservoirs);
   inflows = sum_by (λ m. total_inflow b series m.index) records;

@@ -7,7 +7,7 @@ use Rattle.water_text.specs.declared.month.Month.{Month}
 use Rattle.water_model.specs.Basin.{right_name}
 use Rattle.water_model.specs.Indices.{seniors_first}
 use Rattle.water_model.specs.declared.types.Basin.{Basin}
-use Rattle.water_model.specs.declared.types.Inflows.{Inflows}
+use Rattle.water_model.specs.declared.types.Series.{Series}
 use Rattle.water_model.specs.declared.types.MonthRecord.{MonthRecord}
 use Rattle.reports.specs.Figures.{waters_of, short_months, wanted, delivered, worst_month, short_count, called_count}
 use Rattle.reports.specs.Figures.{all_wanted, all_delivered}
@@ -39,7 +39,7 @@ abbrev pub done_row : Basin → List ℕ
 done_row b = row (codes "done" ∷ decimal b.months ∷ [])
 
 -- the report of a run: a row for each right, seniors first, and the balance
-unfoldable pub report_text : Basin → Inflows → List MonthRecord → List ℕ
+unfoldable pub report_text : Basin → Series → List MonthRecord → List ℕ
 report_text b series records =
     row (codes "report" ∷ month_digits b.first ∷ decimal b.months ∷ [])
     ++ flat_map (right_row b records) (seniors_first b)
@@ -47,7 +47,7 @@ report_text b series records =
     ++ done_row b
 
 -- the summary of a trial: what was made, sums over all rights and months, and the balance
-unfoldable pub trial_text : ℕ → ℕ → Basin → Inflows → List MonthRecord → List ℕ
+unfoldable pub trial_text : ℕ → ℕ → Basin → Series → List MonthRecord → List ℕ
 trial_text number size b series records =
     row (codes "trial" ∷ decimal number ∷ decimal size ∷ [])
     ++ row (codes "size" ∷ decimal (length b.nodes) ∷ decimal (length b.links) ∷ decimal (length b.rights) ∷ decimal

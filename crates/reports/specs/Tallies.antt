@@ -5,7 +5,7 @@ use Rattle.duality.specs.Balance.{total_inflow, diverted}
 use Rattle.water_model.specs.History.{IsPartialHistory}
 use Rattle.water_model.specs.Indices.{indices_of}
 use Rattle.water_model.specs.declared.types.Basin.{Basin}
-use Rattle.water_model.specs.declared.types.Inflows.{Inflows}
+use Rattle.water_model.specs.declared.types.Series.{Series}
 use Rattle.water_model.specs.declared.types.MonthRecord.{MonthRecord}
 use Rattle.reports.specs.Ends.{IsRun}
 use Rattle.reports.specs.Figures.{shortage, short_months, wanted, delivered, worst_month, waters_of, called_count}
@@ -30,32 +30,32 @@ figures_of records right = record {
 }
 
 -- a tally of some months: the figures of each right, and the water
-pub record IsTally (b : Basin) (series : Inflows) (records : List MonthRecord) (t : Tally) : Type 0 where
+pub record IsTally (b : Basin) (series : Series) (records : List MonthRecord) (t : Tally) : Type 0 where
   pub rights : t.rights ≡ map (figures_of records) (indices_of b.rights)
   pub waters : t.waters ≡ waters_of b series records
 
 -- a tally of some months, and of how many right-months of them had a calling right
-pub record IsTrial (b : Basin) (series : Inflows) (records : List MonthRecord) (t : Trial) : Type 0 where
+pub record IsTrial (b : Basin) (series : Series) (records : List MonthRecord) (t : Trial) : Type 0 where
   pub tally : IsTally b series records t.tally
   pub called : t.called ≡ called_count b records
 
 -- What is kept of months, a tally or a trial, is of the months before a month. `IsOf` says what it is to be of some.
-pub record IsKeptBefore {Kept : Type 0} (IsOf : Basin → Inflows → List MonthRecord → Kept → Type 0) (b : Basin)
-    (series : Inflows) (kept : Kept) (m : MonthRecord) : Type 0 where
+pub record IsKeptBefore {Kept : Type 0} (IsOf : Basin → Series → List MonthRecord → Kept → Type 0) (b : Basin)
+    (series : Series) (kept : Kept) (m : MonthRecord) : Type 0 where
   pub records : List MonthRecord
   pub partial : IsPartialHistory b series (records ++ m ∷ [])
   pub is : IsOf b series records kept
 
 -- it is of the months that a run went through
-pub record IsKeptOf {Kept : Type 0} (IsOf : Basin → Inflows → List MonthRecord → Kept → Type 0) (run : RunView)
+pub record IsKeptOf {Kept : Type 0} (IsOf : Basin → Series → List MonthRecord → Kept → Type 0) (run : RunView)
     (kept : Kept) : Type 0 where
   pub records : List MonthRecord
   pub stands : RunStandsFor run records
   pub is : IsOf run.basin run.series records kept
 
 -- it is of a whole run
-pub record IsKeptOfRun {Kept : Type 0} (IsOf : Basin → Inflows → List MonthRecord → Kept → Type 0) (b : Basin)
-    (series : Inflows) (kept : Kept) : Type 0 where
+pub record IsKeptOfRun {Kept : Type 0} (IsOf : Basin → Series → List MonthRecord → Kept → Type 0) (b : Basin)
+    (series : Series) (kept : Kept) : Type 0 where
   pub records : List MonthRecord
   pub run : IsRun b series records
   pub is : IsOf b series records kept
@@ -67,7 +67,7 @@ pub record HasRoom (f : RightFigures) (m : MonthRecord) (right : ℕ) : Type 0 w
   pub delivered : f.delivered + slice_index m.delivered right < 2 ^ 64
 
 -- and those of the water, and what came into the month is what is left of it and went out
-pub record HasRoomForMonth (b : Basin) (series : Inflows) (w : Waters) (m : MonthRecord) : Type 0 where
+pub record HasRoomForMonth (b : Basin) (series : Series) (w : Waters) (m : MonthRecord) : Type 0 where
   pub inflows : w.inflows + total_inflow b series m.index < 2 ^ 64
   pub returns : w.returns + sum m.returned < 2 ^ 64
   pub closing : sum m.closing < 2 ^ 64

@@ -13,7 +13,7 @@ use crate::tally::Tally;
 use cut_cert::calls::{callers_by_node, calling_right};
 use rights_roll::roll::Roll;
 use std::alloc::{AllocError, Global};
-use water_model::types::{Basin, Inflows, MonthRecord};
+use water_model::types::{Basin, Series, MonthRecord};
 
 /// A tally, and how often a right had a calling right in a month.
 #[derive(Drop)]
@@ -61,7 +61,7 @@ impl Kept for Trial {
         Ok(Trial { tally, called: 0 })
     }
 
-    fn add(&mut self, basin: &Basin, series: &Inflows, roll: &Roll, month: &MonthRecord) {
+    fn add(&mut self, basin: &Basin, series: &Series, roll: &Roll, month: &MonthRecord) {
         self.called += called_in(basin, roll, month);
         self.tally.add(basin, series, roll, month);
     }

@@ -5,7 +5,7 @@ ghost use Rattle.month_fold.specs.Works.{Solves, SolvesRun};
 ghost use Rattle.rights_roll.specs.Rolls.{IsRollOf};
 ghost use Rattle.water_model.specs.Valid.{IsValidBasin, IsSeriesOf};
 ghost use Rattle.water_model.specs.declared.types.Basin.{Basin};
-ghost use Rattle.water_model.specs.declared.types.Inflows.{Inflows};
+ghost use Rattle.water_model.specs.declared.types.Series.{Series};
 ghost use Rattle.water_model.specs.declared.types.MonthRecord.{MonthRecord};
 ghost use Rattle.reports.specs.Tallies.{IsKeptBefore, IsKeptOf, IsKeptOfRun};
 
@@ -14,20 +14,20 @@ use month_fold::work::Work;
 use rights_roll::roll::Roll;
 use std::alloc::{AllocError, Global};
 use std::sync::ledger::Ledger;
-use water_model::types::{Basin, Inflows, MonthRecord};
+use water_model::types::{Basin, Series, MonthRecord};
 
 /// What is kept of the months of a run, instead of the months.
 pub trait Kept: Sized {
     /// It is of these months of a basin with a series.
-    ghost is_of: { Basin → Inflows → List MonthRecord → Self → Type 0 };
+    ghost is_of: { Basin → Series → List MonthRecord → Self → Type 0 };
 
     /// What is kept before the first month. AllocError comes where memory is lacking.
     fn open(alloc: Global, basin: &Basin) -> Result<Self, AllocError>
         requires { IsValidBasin basin.now }
-        ensures { IfOk result (λ kept. (series : Inflows) → is_of basin.now series [] kept) };
+        ensures { IfOk result (λ kept. (series : Series) → is_of basin.now series [] kept) };
 
     /// Adds the month that follows those so far.
-    fn add(&mut self, basin: &Basin, series: &Inflows, roll: &Roll, month: &MonthRecord)
+    fn add(&mut self, basin: &Basin, series: &Series, roll: &Roll, month: &MonthRecord)
         requires basin { IsValidBasin basin.now }
         requires series { IsSeriesOf basin.now series.now }
         requires roll { IsRollOf basin.now.rights roll.now }
@@ -67,7 +67,7 @@ fn keep_months<T: Kept, P: Ledger, M: Ledger>(kept: &mut T, run: &mut Run, work:
 fn opened<'b, 's, T: Kept>(
     alloc: Global,
     basin: &'b Basin,
-    series: &'s Inflows,
+    series: &'s Series,
 ) -> Result<(T, Run<'b, 's>), AllocError>
     requires basin { IsValidBasin basin.now }
     requires series { IsSeriesOf basin.now series.now }
@@ -93,7 +93,7 @@ fn opened<'b, 's, T: Kept>(
 pub fn kept_of<'b, 's, T: Kept, P: Ledger, M: Ledger>(
     alloc: Global,
     basin: &'b Basin,
-    series: &'s Inflows,
+    series: &'s Series,
     work: &mut Work<P, M>,
 ) -> Result<(T, Run<'b, 's>), AllocError>
     requires basin { IsValidBasin basin.now }

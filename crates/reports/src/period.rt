@@ -18,14 +18,14 @@ use rights_roll::roll::Roll;
 use std::alloc::Global;
 use std::sync::ledger::Ledger;
 use water_edge::Sink;
-use water_model::types::{Basin, Inflows};
+use water_model::types::{Basin, Series};
 
 /// Puts the report of a run, whose roll this is, by the tally of its months.
 ///
 /// SinkFailed comes only where the sink counted a fault, and a prefix of the text stands. OutOfMemory never comes.
 fn put_tally<K: Sink>(
     basin: &Basin,
-    series: &Inflows,
+    series: &Series,
     sink: &mut K,
     roll: &Roll,
     tally: &Tally,
@@ -52,7 +52,7 @@ fn put_tally<K: Sink>(
 pub fn period_report<K: Sink, P: Ledger, M: Ledger>(
     alloc: Global,
     basin: &Basin,
-    series: &Inflows,
+    series: &Series,
     sink: &mut K,
     work: &mut Work<P, M>,
 ) -> Result<(), ReportStop>

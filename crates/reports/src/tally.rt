@@ -9,7 +9,7 @@ use crate::waters::Waters;
 use rights_roll::roll::Roll;
 use std::alloc::{AllocError, Global};
 use water_model::rows::Rows;
-use water_model::types::{Basin, Inflows, MonthRecord};
+use water_model::types::{Basin, Series, MonthRecord};
 
 /// The figures of each right, indexed by right, and the water of the months so far.
 #[derive(Drop)]
@@ -60,7 +60,7 @@ impl Kept for Tally {
         })
     }
 
-    fn add(&mut self, basin: &Basin, series: &Inflows, _roll: &Roll, month: &MonthRecord) {
+    fn add(&mut self, basin: &Basin, series: &Series, _roll: &Roll, month: &MonthRecord) {
         add_rights(&mut self.rights, month);
         self.waters = self.waters.with_month(basin, series, month);
     }

@@ -4,7 +4,7 @@ ghost use Rattle.rights_roll.specs.Rolls.{IsRollOf};
 ghost use Rattle.water_edge.specs.Edge.{HasCause, Puts};
 ghost use Rattle.water_model.specs.Valid.{IsValidBasin};
 ghost use Rattle.water_model.specs.declared.space.Space.TheVariants.{Rights};
-ghost use Rattle.water_model.specs.declared.types.Inflows.{Inflows};
+ghost use Rattle.water_model.specs.declared.types.Series.{Series};
 ghost use Rattle.water_model.specs.declared.types.MonthRecord.{MonthRecord};
 ghost use Rattle.reports.specs.Reports.{report_text, trial_text};
 ghost use Rattle.reports.specs.Tallies.{AreBounded, IsTally, IsTrial};
@@ -85,7 +85,7 @@ pub fn put_report<K: Sink>(
 ) -> Result<(), SinkFailed>
     requires roll { IsRollOf basin.now.rights roll.now }
     requires rights { AreRights (rights_seen basin.now tally.now.rights) }
-    ensures text { (series : Inflows) (records : List MonthRecord) → IsTally basin.now series records tally.now →
+    ensures text { (series : Series) (records : List MonthRecord) → IsTally basin.now series records tally.now →
         Puts (K.output sink.old) (K.output sink.new) result (report_text basin.now series records) }
     ensures cause { HasCause (K.faults sink.old) (K.faults sink.new) (IsErr result) }
 {
@@ -115,7 +115,7 @@ pub fn put_summary<K: Sink>(
 ) -> Result<(), SinkFailed>
     requires basin { IsValidBasin basin.now }
     requires bounded { AreBounded trial.now.tally.rights }
-    ensures text { (series : Inflows) (records : List MonthRecord) → IsTrial basin.now series records trial.now →
+    ensures text { (series : Series) (records : List MonthRecord) → IsTrial basin.now series records trial.now →
         Puts (K.output sink.old) (K.output sink.new) result (trial_text number size basin.now series records) }
     ensures cause { HasCause (K.faults sink.old) (K.faults sink.new) (IsErr result) }
 {

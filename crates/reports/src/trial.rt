@@ -16,7 +16,7 @@ use month_fold::work::Work;
 use std::alloc::Global;
 use std::sync::ledger::Ledger;
 use water_edge::Sink;
-use water_model::types::{Basin, Inflows};
+use water_model::types::{Basin, Series};
 
 /// Puts the summary of a run by what is kept of its months.
 ///
@@ -25,7 +25,7 @@ fn put_trial<K: Sink>(
     number: u32,
     size: u32,
     basin: &Basin,
-    series: &Inflows,
+    series: &Series,
     sink: &mut K,
     trial: &Trial,
 ) -> Result<(), ReportStop>
@@ -53,7 +53,7 @@ pub fn trial_report<K: Sink, P: Ledger, M: Ledger>(
     number: u32,
     size: u32,
     basin: &Basin,
-    series: &Inflows,
+    series: &Series,
     sink: &mut K,
     work: &mut Work<P, M>,
 ) -> Result<(), ReportStop>

@@ -8,7 +8,7 @@ ghost use Rattle.water_model.specs.declared.types.MonthRecord.{MonthRecord};
 ghost use Rattle.reports.specs.Figures.{waters_of};
 ghost use Rattle.reports.specs.Tallies.{HasRoomForMonth};
 
-use water_model::types::{Basin, Inflows, MonthRecord, RightKind};
+use water_model::types::{Basin, Series, MonthRecord, RightKind};
 
 /// The water of a run: what was stored before its first month, flowed in and came back, and what is stored after its
 /// last month, evaporated, was delivered to diversions and flowed out.
@@ -75,7 +75,7 @@ impl Waters {
     #[tactic(auto, unfolding(crate::specs::Figures::waters_of))]
     pub fn first(basin: &Basin) -> Waters
         requires { IsValidBasin basin.now }
-        ensures { (series : Inflows) → result ≡ waters_of basin.now series [] }
+        ensures { (series : Series) → result ≡ waters_of basin.now series [] }
     {
         let opening = opening(basin);
         Waters {
@@ -91,7 +91,7 @@ impl Waters {
 
     /// The water with that of one month more.
     #[tactic(auto, unfolding(crate::specs::Figures::waters_of), using(crate::proofs::Growth::waters_more))]
-    pub fn with_month(&self, basin: &Basin, series: &Inflows, month: &MonthRecord) -> Waters
+    pub fn with_month(&self, basin: &Basin, series: &Series, month: &MonthRecord) -> Waters
         requires basin { IsValidBasin basin.now }
         requires series { IsSeriesOf basin.now series.now }
         requires index { month.now.index < basin.now.months }

@@ -23,7 +23,7 @@ fn round<L: Ledger>(
     exit: u32,
     most: u64,
     artificial: u64,
-    searches: &mut Steps<L>,
+    pushes: &mut Steps<L>,
 ) -> bool
     requires arc { arc < arcs circ.old }
     requires positive { 0 < most }
@@ -41,9 +41,9 @@ fn round<L: Ledger>(
     ensures tree { result ≡ true → IsResidualTree circ.new tree.new }
     ensures pushed { result ≡ true →
         (flow_of circ.old arc < flow_of circ.new arc) × (flow_of circ.new arc ≤ flow_of circ.old arc + most) ×
-        (searches.new ≡ searches.old + 1) }
+        (pushes.new ≡ pushes.old + 1) }
     ensures stopped { result ≡ false →
-        SameButScratch circ.old circ.new × (tree.new ≡ tree.old) × (searches.new ≡ searches.old) }
+        SameButScratch circ.old circ.new × (tree.new ≡ tree.old) × (pushes.new ≡ pushes.old) }
     ensures full { result ≡ false → (slice_index circ.old.to arc ≢ circ.old.nodes) × IsFull circ.new exit }
 {
     let walk = trace(circ, tree, arc, exit, most);
@@ -51,7 +51,7 @@ fn round<L: Ledger>(
         return false;
     }
     let count = 4 * circ.nodes() as usize + 8 - walk.first;
-    circ.push(walk.first, count, walk.amount, searches);
+    circ.push(walk.first, count, walk.amount, pushes);
     let flow = circ.flow(arc);
     circ.hold(arc, flow);
     circ.scratch_set(walk.full, artificial);
@@ -67,7 +67,7 @@ fn raise_labeled<L: Ledger>(
     exit: u32,
     want: u64,
     max_pushes: u32,
-    searches: &mut Steps<L>,
+    pushes: &mut Steps<L>,
 )
     requires arc { arc < arcs circ.old }
     requires want { want ≤ slice_index circ.old.upper arc }
@@ -82,13 +82,13 @@ fn raise_labeled<L: Ledger>(
     ensures tree { IsResidualTree circ.new tree.new }
     ensures rises { flow_of circ.old arc ≤ flow_of circ.new arc }
     ensures limit { flow_of circ.new arc ≤ want }
-    ensures cost { searches.new ≤ searches.old + max_pushes }
-    ensures each { flow_of circ.old arc + (searches.new - searches.old) ≤ flow_of circ.new arc }
+    ensures cost { pushes.new ≤ pushes.old + max_pushes }
+    ensures each { flow_of circ.old arc + (pushes.new - pushes.old) ≤ flow_of circ.new arc }
     ensures why { flow_of circ.new arc < want → IsLabeled tree.new (slice_index circ.old.from arc) →
-        (searches.new ≡ searches.old + max_pushes) ⊎
+        (pushes.new ≡ pushes.old + max_pushes) ⊎
         ((slice_index circ.old.to arc ≢ circ.old.nodes) × IsFull circ.new exit) }
-    ensures count { searches.old ≤ searches.new }
-    ensures still { searches.new ≡ searches.old → SameButScratch circ.old circ.new }
+    ensures count { pushes.old ≤ pushes.new }
+    ensures still { pushes.new ≡ pushes.old → SameButScratch circ.old circ.new }
 {
     let tail = circ.ends(arc).from;
     for _pushes in 0..max_pushes {
@@ -100,7 +100,7 @@ fn raise_labeled<L: Ledger>(
             return;
         }
         let artificial = 2 * u64::from(arc);
-        if !round(circ, tree, arc, exit, want - flow, artificial, searches) {
+        if !round(circ, tree, arc, exit, want - flow, artificial, pushes) {
             return;
         }
     }
@@ -118,7 +118,7 @@ pub enum TreeRaised {
 }
 
 /// Raises the flow on an arc towards `want`, in units of 1,000 cubic metres, by at most `max_pushes` pushes along the
-/// tree, each of which ticks `searches` once. The flow on the arc is held as it rises. Where the head of the arc is not
+/// tree, each of which ticks `pushes` once. The flow on the arc is held as it rises. Where the head of the arc is not
 /// the outside, `exit` is an arc from there to the outside. Each push costs about as much as the walk is long, and as
 /// there are arcs at the nodes below the steps that it fills.
 pub fn raise_by_tree<L: Ledger>(
@@ -128,7 +128,7 @@ pub fn raise_by_tree<L: Ledger>(
     exit: u32,
     want: u64,
     max_pushes: u32,
-    searches: &mut Steps<L>,
+    pushes: &mut Steps<L>,
 ) -> TreeRaised
     requires arc { arc < arcs circ.old }
     requires want { want ≤ slice_index circ.old.upper arc }
@@ -151,19 +151,19 @@ pub fn raise_by_tree<L: Ledger>(
 
     // Each push raises the flow, and Unfinished comes only where all pushes were made, or where the head is not the
     // outside and the exit is full.
-    ensures count { searches.old ≤ searches.new }
-    ensures cost { searches.new ≤ searches.old + max_pushes }
-    ensures each { flow_of circ.old arc + (searches.new - searches.old) ≤ flow_of circ.new arc }
-    ensures unfinished { result ≡ TreeRaised.Unfinished → (searches.new ≡ searches.old + max_pushes) ⊎
+    ensures count { pushes.old ≤ pushes.new }
+    ensures cost { pushes.new ≤ pushes.old + max_pushes }
+    ensures each { flow_of circ.old arc + (pushes.new - pushes.old) ≤ flow_of circ.new arc }
+    ensures unfinished { result ≡ TreeRaised.Unfinished → (pushes.new ≡ pushes.old + max_pushes) ⊎
         ((slice_index circ.old.to arc ≢ circ.old.nodes) × IsFull circ.new exit) }
 
     // Without a push, all but scratch words stays as it was, where the arc was held at its flow.
-    ensures still { searches.new ≡ searches.old → flow_of circ.old arc ≡ slice_index circ.old.lower arc →
+    ensures still { pushes.new ≡ pushes.old → flow_of circ.old arc ≡ slice_index circ.old.lower arc →
         SameButScratch circ.old circ.new }
 {
     let start = circ.flow(arc);
     tree.hold(circ, arc, start);
-    raise_labeled(circ, tree, arc, exit, want, max_pushes, searches);
+    raise_labeled(circ, tree, arc, exit, want, max_pushes, pushes);
     if circ.flow(arc) == want {
         return TreeRaised::Met;
     }
@@ -183,7 +183,7 @@ pub fn raise_take<L: Ledger>(
     arc: u32,
     want: u64,
     left: &mut u32,
-    searches: &mut Steps<L>,
+    pushes: &mut Steps<L>,
 ) -> TreeRaised
     requires arc { arc < arcs circ.old }
     requires want { want ≤ slice_index circ.old.upper arc }
@@ -206,12 +206,12 @@ pub fn raise_take<L: Ledger>(
         IsGreatestCut (network circ.new) (flow_of circ.new) arc (unlabeled circ.new tree.new) }
 
     // Each push raises the flow, and Unfinished comes only where all pushes were made.
-    ensures count { searches.old ≤ searches.new }
-    ensures each { flow_of circ.old arc + (searches.new - searches.old) ≤ flow_of circ.new arc }
-    ensures cost { searches.new + left.new ≤ searches.old + left.old }
-    ensures used { searches.old + left.old ≤ searches.new + left.new + 1 }
-    ensures pushed { searches.old < searches.new → searches.new + left.new ≡ searches.old + left.old }
-    ensures unfinished { result ≡ TreeRaised.Unfinished → searches.old + left.old ≤ searches.new }
+    ensures count { pushes.old ≤ pushes.new }
+    ensures each { flow_of circ.old arc + (pushes.new - pushes.old) ≤ flow_of circ.new arc }
+    ensures cost { pushes.new + left.new ≤ pushes.old + left.old }
+    ensures used { pushes.old + left.old ≤ pushes.new + left.new + 1 }
+    ensures pushed { pushes.old < pushes.new → pushes.new + left.new ≡ pushes.old + left.old }
+    ensures unfinished { result ≡ TreeRaised.Unfinished → pushes.old + left.old ≤ pushes.new }
 {
     let tail = circ.ends(arc).from;
     let most = *left;
@@ -225,7 +225,7 @@ pub fn raise_take<L: Ledger>(
     let mut got = circ.flow(arc);
     for _pushes in 0..most {
         let artificial = 2 * u64::from(arc);
-        let pushed = round(circ, tree, arc, arc, want - got, artificial, searches);
+        let pushed = round(circ, tree, arc, arc, want - got, artificial, pushes);
         // There is room, as the head is the outside.
         prove!(pushed);
         *left -= 1;
@@ -251,7 +251,7 @@ pub fn raise_within_unlabeled<L: Ledger>(
     exit: u32,
     want: u64,
     max_pushes: u32,
-    searches: &mut Steps<L>,
+    pushes: &mut Steps<L>,
 ) -> TreeRaised
     requires arc { arc < arcs circ.old }
     requires want { want ≤ slice_index circ.old.upper arc }
@@ -277,12 +277,12 @@ pub fn raise_within_unlabeled<L: Ledger>(
 
     // Each push raises the flow, and Unfinished comes only where all pushes were made, the exit is full, or the head is
     // labeled. Before the first push the head is as it was at first.
-    ensures count { searches.old ≤ searches.new }
-    ensures cost { searches.new ≤ searches.old + max_pushes }
-    ensures each { flow_of circ.old arc + (searches.new - searches.old) ≤ flow_of circ.new arc }
-    ensures unfinished { result ≡ TreeRaised.Unfinished → (searches.new ≡ searches.old + max_pushes) ⊎
+    ensures count { pushes.old ≤ pushes.new }
+    ensures cost { pushes.new ≤ pushes.old + max_pushes }
+    ensures each { flow_of circ.old arc + (pushes.new - pushes.old) ≤ flow_of circ.new arc }
+    ensures unfinished { result ≡ TreeRaised.Unfinished → (pushes.new ≡ pushes.old + max_pushes) ⊎
         (IsFull circ.new exit ⊎ IsLabeled tree.new (slice_index circ.old.to arc)) }
-    ensures at_first { result ≡ TreeRaised.Unfinished → searches.new ≡ searches.old → 0 < max_pushes →
+    ensures at_first { result ≡ TreeRaised.Unfinished → pushes.new ≡ pushes.old → 0 < max_pushes →
         IsFull circ.new exit ⊎ IsLabeled tree.old (slice_index circ.old.to arc) }
 {
     let ends = circ.ends(arc);
@@ -299,7 +299,7 @@ pub fn raise_within_unlabeled<L: Ledger>(
             return TreeRaised::Stopped;
         }
         let artificial = 2 * u64::from(exit) + 1;
-        if !round(circ, tree, arc, exit, want - flow, artificial, searches) {
+        if !round(circ, tree, arc, exit, want - flow, artificial, pushes) {
             tree.drop_artificial(circ, exit);
             return TreeRaised::Unfinished;
         }

@@ -16,7 +16,7 @@ use Rattle.water_model.specs.declared.types.Basin.{Basin}
 use Rattle.water_model.specs.declared.types.Carry.{Carry}
 use Rattle.water_model.specs.declared.types.Carry.TheVariants.{River, Canal}
 use Rattle.water_model.specs.declared.types.Inflow.TheVariants.{Monthly}
-use Rattle.water_model.specs.declared.types.Inflows.{Inflows}
+use Rattle.water_model.specs.declared.types.Series.{Series}
 use Rattle.water_model.specs.declared.types.Link.{Link}
 use Rattle.water_model.specs.declared.types.MonthRecord.{MonthRecord}
 use Rattle.water_model.specs.declared.types.Node.{Node}
@@ -40,7 +40,7 @@ flow_on b supply e = if is_first_river b.links e then water b.links supply (leng
 abbrev outflow_at : Basin → (ℕ → ℕ) → ℕ → ℕ
 outflow_at b supply n = if is_outlet_in b.nodes n then water b.links supply (length b.nodes) n else 0
 
-abbrev no_series : Inflows
+abbrev no_series : Series
 no_series = record { gauged = []; amount = []; wanted = []; want = [] }
 
 -- the record of month i in a basin of nodes and links alone

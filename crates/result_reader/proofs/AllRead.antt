@@ -23,7 +23,7 @@ use Rattle.result_lines.specs.Quantities.{amounts_of, entries_with_line, has_lin
 use Rattle.water_model.specs.Plans.{delivery_by_link}
 use Rattle.result_lines.specs.declared.quantity.Quantity.{Quantity}
 use Rattle.water_model.specs.declared.types.Basin.{Basin}
-use Rattle.water_model.specs.declared.types.Inflows.{Inflows}
+use Rattle.water_model.specs.declared.types.Series.{Series}
 use Rattle.water_model.specs.declared.types.MonthRecord.{MonthRecord}
 use Rattle.result_reader.specs.Records.{IsTextMonth, AreTextMonths}
 use Rattle.result_reader.proofs.MonthRead.{take_of}
@@ -99,7 +99,7 @@ no_link b r node h = grind arith
 -- The record of a month.
 
 -- a set is that of a short right
-pub has_set : (b : Basin) (series : Inflows) (before : List MonthRecord) (m : MonthRecord) →
+pub has_set : (b : Basin) (series : Series) (before : List MonthRecord) (m : MonthRecord) →
     IsTextMonth b series before m → (r : ℕ) (set : List Bool) → cut_of m r ≡ Some set →
     (r < length b.rights) × (length set ≡ length b.nodes) × (list_any (λ in_set. in_set) set ≡ true)
 has_set b series before m t r set e = by_range (cases_lt r (length b.rights))
@@ -120,17 +120,17 @@ has_set b series before m t r set e = by_range (cases_lt r (length b.rights))
     ]
 
 -- each list has a number for each entry
-pub amounts_sized : (b : Basin) (series : Inflows) (before : List MonthRecord) (m : MonthRecord) →
+pub amounts_sized : (b : Basin) (series : Series) (before : List MonthRecord) (m : MonthRecord) →
     IsNextMonth b series before m → (q : Quantity) → length (amounts_of q m) ≡ count_in (space_of q) b
 amounts_sized b series before m t q = grind arith
 
 -- where a month has no line, the amount is 0
-none_unlisted : (b : Basin) (series : Inflows) (before : List MonthRecord) (m : MonthRecord) →
+none_unlisted : (b : Basin) (series : Series) (before : List MonthRecord) (m : MonthRecord) →
     IsNextMonth b series before m → (q : Quantity) (k : ℕ) → k < count_in (space_of q) b → has_line b q k ≡ false →
     slice_index (amounts_of q m) k ≡ 0
 none_unlisted b series before m t q k l h = grind (arith, nothing_returns, nothing_used)
 
-all_read : (b : Basin) (series : Inflows) (before : List MonthRecord) (m : MonthRecord) →
+all_read : (b : Basin) (series : Series) (before : List MonthRecord) (m : MonthRecord) →
     IsTextMonth b series before m → IsAllRead b series m
 all_read b series before m t = record {
   listed = λ q. read_list (entries_with_line b q) (amounts_of q m) (count_in (space_of q) b)
@@ -174,14 +174,14 @@ all_read b series before m t = record {
 
 -- Records one after another.
 
-pub month_of : (b : Basin) (series : Inflows) (records before ms : List MonthRecord) (m : MonthRecord) →
+pub month_of : (b : Basin) (series : Series) (records before ms : List MonthRecord) (m : MonthRecord) →
     AreTextMonths b series records → records ≡ before ++ m ∷ ms → IsTextMonth b series before m
 month_of b series records before ms m are is =
     subst (λ (xs : List MonthRecord). IsTextMonth b series xs m)
     (ap (take (length before)) is ∙ take-append_seam before (m ∷ ms))
     (are.each (length before) m (ap (λ xs. slice_get xs (length before)) is ∙ get_after before ms m))
 
-all_from : (b : Basin) (series : Inflows) (records before ms : List MonthRecord) → AreTextMonths b series records →
+all_from : (b : Basin) (series : Series) (records before ms : List MonthRecord) → AreTextMonths b series records →
     records ≡ before ++ ms → AreAllRead b series (length before) ms
 all_from b series records before [] are is = tt
 all_from b series records before (m ∷ ms) are is =
@@ -192,6 +192,6 @@ all_from b series records before (m ∷ ms) are is =
           (all_from b series records (before ++ m ∷ []) ms are (is ∙ sym (append_assoc before (m ∷ []) ms))),
     )
 
-pub are_all_read : (b : Basin) (series : Inflows) (records : List MonthRecord) → AreTextMonths b series records →
+pub are_all_read : (b : Basin) (series : Series) (records : List MonthRecord) → AreTextMonths b series records →
     AreAllRead b series 0 records
 are_all_read b series records are = all_from b series records [] records are refl

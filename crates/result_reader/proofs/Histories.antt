@@ -8,7 +8,7 @@ use Rattle.water_model.specs.Cuts.{separates}
 use Rattle.water_model.specs.History.{Follows}
 use Rattle.water_model.specs.Lookups.{has}
 use Rattle.water_model.specs.declared.types.Basin.{Basin}
-use Rattle.water_model.specs.declared.types.Inflows.{Inflows}
+use Rattle.water_model.specs.declared.types.Series.{Series}
 use Rattle.water_model.specs.declared.types.MonthRecord.{MonthRecord}
 use Rattle.result_reader.specs.Records.{HasTextAmounts, IsTextMonth}
 
@@ -26,7 +26,7 @@ cut_has_some b (Some node) None cut h = has_some cut node h
 cut_has_some b taking (Some link) cut h = grind (arith, has_some, and_parts)
 
 -- a record that follows others is one that a text gives, if its amounts are those of a text
-pub IsTextMonth-Follows : (b : Basin) (series : Inflows) (before : List MonthRecord) (m : MonthRecord) →
+pub IsTextMonth-Follows : (b : Basin) (series : Series) (before : List MonthRecord) (m : MonthRecord) →
     Follows b series before m → HasTextAmounts m → IsTextMonth b series before m
 IsTextMonth-Follows b series before m f amounts = record {
   month = f.after;

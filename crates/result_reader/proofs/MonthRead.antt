@@ -15,7 +15,7 @@ use Rattle.result_lines.specs.declared.item.Section.{Section}
 use Rattle.result_lines.specs.declared.item.Section.TheVariants as section
 use Rattle.result_lines.specs.declared.quantity.Quantity.{Quantity}
 use Rattle.water_model.specs.declared.types.Basin.{Basin}
-use Rattle.water_model.specs.declared.types.Inflows.{Inflows}
+use Rattle.water_model.specs.declared.types.Series.{Series}
 use Rattle.water_model.specs.declared.types.MonthRecord.{MonthRecord}
 use Rattle.result_lines.proofs.Quantities.{amount_lines, amounts_with, cuts_with, flat_map_one, with_own, with_twice}
 use Rattle.result_reader.specs.ReadSoFar.{ReadSoFar, read_item, with_now}
@@ -23,16 +23,16 @@ use Rattle.result_reader.proofs.Sets.{put_sets, length-put_sets}
 use Rattle.result_reader.proofs.Telling.{set_all, fold-both, tell_call, put_cut}
 
 -- what lines make of the current month. They end no month
-pub record Reads (b : Basin) (series : Inflows) (t : ReadSoFar) (items : List Item) (now : MonthRecord) : Type 0 where
+pub record Reads (b : Basin) (series : Series) (t : ReadSoFar) (items : List Item) (now : MonthRecord) : Type 0 where
   pub now_is : (fold (read_item b series) t items).now ≡ now
   pub months_are : (fold (read_item b series) t items).months ≡ t.months
 
 -- lines that make the same of each month
-abbrev pub Makes : Basin → Inflows → List Item → (MonthRecord → MonthRecord) → Type 0
+abbrev pub Makes : Basin → Series → List Item → (MonthRecord → MonthRecord) → Type 0
 Makes b series items f = (t : ReadSoFar) → Reads b series t items (f t.now)
 
 -- lines that set one list each
-makes_each : (b : Basin) (series : Inflows) (item : ℕ → Item) (f : ℕ → MonthRecord → MonthRecord) →
+makes_each : (b : Basin) (series : Series) (item : ℕ → Item) (f : ℕ → MonthRecord → MonthRecord) →
     ((x : ℕ) (t : ReadSoFar) → read_item b series t (item x) ≡ with_now t (f x t.now)) → (xs : List ℕ) →
     Makes b series (map item xs) (λ m. fold (λ n x. f x n) m xs)
 makes_each b series item f h [] t = record { now_is = refl; months_are = refl }
@@ -54,7 +54,7 @@ read_list q a (x ∷ xs) m =
     ∙ (ap (λ zs. with_amounts q (with_amounts q m ys) (set_all xs a zs)) (amounts_with q m ys)
     ∙ with_twice q m ys (set_all xs a ys))
 
-pub makes_amounts : (b : Basin) (series : Inflows) (q : Quantity) (a : ℕ → ℕ) (xs : List ℕ) →
+pub makes_amounts : (b : Basin) (series : Series) (q : Quantity) (a : ℕ → ℕ) (xs : List ℕ) →
     Makes b series (map (λ x. line.Amount q x (a x)) xs) (λ m. with_amounts q m (set_all xs a (amounts_of q m)))
 makes_amounts b series q a xs t =
     let h = makes_each b series (λ x. line.Amount q x (a x))
@@ -64,7 +64,7 @@ makes_amounts b series q a xs t =
 abbrev pub with_sets : MonthRecord → List (Option (List Bool)) → MonthRecord
 with_sets m sets = record m { cuts = record m.cuts { sets = sets } }
 
-pub reads_calls : (b : Basin) (series : Inflows) (cut : ℕ → Option (List Bool)) →
+pub reads_calls : (b : Basin) (series : Series) (cut : ℕ → Option (List Bool)) →
     ((r : ℕ) (set : List Bool) → cut r ≡ Some set → length set ≡ length b.nodes) → (xs : List ℕ) (t : ReadSoFar) →
     ((r : ℕ) (set : List Bool) → cut r ≡ Some set → r < length t.now.cuts.sets) →
     Reads b series t (flat_map (λ r. call_items r (cut r)) xs) (with_sets t.now (put_sets xs cut t.now.cuts.sets))
@@ -96,7 +96,7 @@ reads_calls b series cut sized (r ∷ rs) t within =
         })
 
 -- `called` lines change nothing of the month
-pub makes_called : (b : Basin) (series : Inflows) (caller_of : ℕ → Option ℕ) (xs : List ℕ) →
+pub makes_called : (b : Basin) (series : Series) (caller_of : ℕ → Option ℕ) (xs : List ℕ) →
     Makes b series (flat_map (λ r. called_items r (caller_of r)) xs) (λ m. m)
 makes_called b series caller_of [] t = record { now_is = refl; months_are = refl }
 makes_called b series caller_of (r ∷ rs) t = by_caller (caller_of r) refl (λ u. makes_called b series caller_of rs u)
@@ -120,7 +120,7 @@ with_delivered b a w xs m = record m {
   plan = record m.plan { take = set_all xs (take_of b a) m.plan.take };
 }
 
-pub makes_deliveries : (b : Basin) (series : Inflows) (a w : ℕ → ℕ) (xs : List ℕ) →
+pub makes_deliveries : (b : Basin) (series : Series) (a w : ℕ → ℕ) (xs : List ℕ) →
     Makes b series (map (λ r. line.Deliver r (a r) (w r)) xs) (with_delivered b a w xs)
 makes_deliveries b series a w [] t = record { now_is = refl; months_are = refl }
 makes_deliveries b series a w (x ∷ xs) t =
@@ -147,7 +147,7 @@ sets_stay b m section.Deliveries now = refl
 sets_stay b m section.Calls now = length-put_sets (seniors_first b) (λ r. cut_of m r) now.cuts.sets
 sets_stay b m section.Called now = refl
 
-section_read : (b : Basin) (series : Inflows) (m : MonthRecord) (caller_of : ℕ → Option ℕ) →
+section_read : (b : Basin) (series : Series) (m : MonthRecord) (caller_of : ℕ → Option ℕ) →
     ((r : ℕ) (set : List Bool) → cut_of m r ≡ Some set → length set ≡ length b.nodes) →
     (k : Section) (t : ReadSoFar) → HasRoom m t.now →
     Reads b series t (lines_in k b m caller_of) (with_section b m k t.now)
@@ -163,7 +163,7 @@ section_read b series m caller_of sized section.Calls t room =
     reads_calls b series (λ r. cut_of m r) sized (seniors_first b) t room
 section_read b series m caller_of sized section.Called t room = makes_called b series caller_of (seniors_first b) t
 
-pub sections_read : (b : Basin) (series : Inflows) (m : MonthRecord) (caller_of : ℕ → Option ℕ) →
+pub sections_read : (b : Basin) (series : Series) (m : MonthRecord) (caller_of : ℕ → Option ℕ) →
     ((r : ℕ) (set : List Bool) → cut_of m r ≡ Some set → length set ≡ length b.nodes) →
     (ks : List Section) (t : ReadSoFar) → HasRoom m t.now →
     Reads b series t (flat_map (λ k. lines_in k b m caller_of) ks) (fold (λ now k. with_section b m k now) t.now ks)

@@ -20,7 +20,7 @@ use Rattle.result_lines.specs.declared.item.Section.{Section}
 use Rattle.result_lines.specs.declared.item.Section.TheVariants as section
 use Rattle.result_lines.specs.declared.item.TheConstants.{SECTIONS}
 use Rattle.water_model.specs.declared.types.Basin.{Basin}
-use Rattle.water_model.specs.declared.types.Inflows.{Inflows}
+use Rattle.water_model.specs.declared.types.Series.{Series}
 use Rattle.water_model.specs.declared.types.MonthRecord.{MonthRecord}
 use Rattle.result_reader.specs.OfText.{IsOfText}
 use Rattle.result_reader.specs.Records.{IsTextMonth, AreTextMonths, AreTextAmounts}
@@ -61,7 +61,7 @@ unfolding calling_right
 caller_below b m r caller e =
     seniors_below b.rights caller (find-passes (λ c. calls b m r c) (seniors_first b) caller e).1
 
-call_of_text : (b : Basin) (series : Inflows) (before : List MonthRecord) (m : MonthRecord) →
+call_of_text : (b : Basin) (series : Series) (before : List MonthRecord) (m : MonthRecord) →
     IsTextMonth b series before m → (r : ℕ) → r < length b.rights → AreOfText b (call_items r (cut_of m r))
 call_of_text b series before m t r below = by_set (cut_of m r) refl
   where
@@ -84,7 +84,7 @@ called_of_text b m r below = by_caller (calling_right b m r) refl
     by_caller (Some caller) e = (record { of_basin = (below, caller_below b m r caller e); numbers = tt }, tt)
 
 -- the lines of an entry of a section
-entry_of_text : (b : Basin) (series : Inflows) (before : List MonthRecord) (m : MonthRecord) →
+entry_of_text : (b : Basin) (series : Series) (before : List MonthRecord) (m : MonthRecord) →
     IsTextMonth b series before m → (k : Section) (x : ℕ) → x < count_in (section_space k) b →
     AreOfText b (lines_at k b m (calling_right b m) x)
 entry_of_text b series before m t (section.Amounts q) x l = by_test (has_line b q x)
@@ -112,7 +112,7 @@ entry_of_text b series before m t section.Deliveries r l = (
 entry_of_text b series before m t section.Calls r l = call_of_text b series before m t r l
 entry_of_text b series before m t section.Called r l = called_of_text b m r l
 
-sections_of_text : (b : Basin) (series : Inflows) (before : List MonthRecord) (m : MonthRecord) →
+sections_of_text : (b : Basin) (series : Series) (before : List MonthRecord) (m : MonthRecord) →
     IsTextMonth b series before m → (ks : List Section) →
     AreOfText b (flat_map (λ k. lines_in k b m (calling_right b m)) ks)
 sections_of_text b series before m t [] = tt
@@ -122,7 +122,7 @@ sections_of_text b series before m t (k ∷ ks) =
     (λ x h. entry_of_text b series before m t k x (in_order-below (section_space k) b x h)))
     (sections_of_text b series before m t ks)
 
-month_of_text : (b : Basin) (series : Inflows) (before : List MonthRecord) (m : MonthRecord) → IsValidBasin b →
+month_of_text : (b : Basin) (series : Series) (before : List MonthRecord) (m : MonthRecord) → IsValidBasin b →
     IsTextMonth b series before m → length before < b.months → AreOfText b (items_of_month b m)
 unfolding month_lines
 month_of_text b series before m valid t l = (
@@ -134,7 +134,7 @@ month_of_text b series before m valid t l = (
     month : IsMonth m.month
     month = subst IsMonth (sym t.month.month) (IsMonth-run_month b m.index valid.run (omega (arith, t.month.index)))
 
-months_of_text : (b : Basin) (series : Inflows) (records before ms : List MonthRecord) → IsValidBasin b →
+months_of_text : (b : Basin) (series : Series) (records before ms : List MonthRecord) → IsValidBasin b →
     AreTextMonths b series records → records ≡ before ++ ms → AreOfText b (flat_map (items_of_month b) ms)
 months_of_text b series records before [] valid are is = tt
 months_of_text b series records before (m ∷ ms) valid are is =
@@ -145,7 +145,7 @@ months_of_text b series records before (m ∷ ms) valid are is =
     bounded : length before < b.months
     bounded = omega (arith, are.within, ap length is, length-append before (m ∷ ms))
 
-pub records_of_text : (b : Basin) (series : Inflows) (records : List MonthRecord) → IsValidBasin b →
+pub records_of_text : (b : Basin) (series : Series) (records : List MonthRecord) → IsValidBasin b →
     AreTextMonths b series records → AreOfText b (items_of b records)
 records_of_text b series records valid are = (
   record { of_basin = tt; numbers = tt },

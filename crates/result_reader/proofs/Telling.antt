@@ -7,7 +7,7 @@ use Rattle.std.proofs.lemmas.Bool.{cases_eq}
 use Rattle.std.proofs.lemmas.List.{get_or-set_other}
 use Rattle.std.proofs.lemmas.Grind.{get_or-set_at, same_number_lists}
 use Rattle.water_model.specs.declared.types.Basin.{Basin}
-use Rattle.water_model.specs.declared.types.Inflows.{Inflows}
+use Rattle.water_model.specs.declared.types.Series.{Series}
 use Rattle.water_model.specs.Indices.{members_from}
 use Rattle.result_lines.specs.Text.{call_items}
 use Rattle.result_reader.specs.ReadSoFar.{ReadSoFar, read_item}
@@ -71,7 +71,7 @@ abbrev pub put_cut : ReadSoFar → ℕ → List Bool → ReadSoFar
 put_cut t right set = record t { now = record t.now { cuts = with_set t.now.cuts right (Some set) } }
 
 -- the `in` lines of a set, after those of its prefix
-tell_members : (b : Basin) (series : Inflows) (right : ℕ) (set prefix : List Bool) (k : ℕ) (t : ReadSoFar) →
+tell_members : (b : Basin) (series : Series) (right : ℕ) (set prefix : List Bool) (k : ℕ) (t : ReadSoFar) →
     t.calling ≡ Some right → length prefix ≡ k →
     right < length t.now.cuts.sets → set_of t.now.cuts right ≡ Some (prefix ++ replicate (length set) false) →
     fold (read_item b series) t (map (λ n. line.Member n) (members_from k set)) ≡ put_cut t right (prefix ++ set)
@@ -99,7 +99,7 @@ tell_members b series right (false ∷ set) prefix k t c n l h =
     ∙ ap (λ xs. put_cut t right xs) (append_assoc prefix (false ∷ []) set)
 
 -- the lines of one right's set
-pub tell_call : (b : Basin) (series : Inflows) (right : ℕ) (set : List Bool) (t : ReadSoFar) →
+pub tell_call : (b : Basin) (series : Series) (right : ℕ) (set : List Bool) (t : ReadSoFar) →
     right < length t.now.cuts.sets → length set ≡ length b.nodes →
     fold (read_item b series) t (call_items right (Some set)) ≡ record (put_cut t right set) { calling = Some right }
 tell_call b series right set t l sized =

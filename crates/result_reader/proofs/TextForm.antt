@@ -20,7 +20,7 @@ use Rattle.result_lines.specs.declared.item.Section.{Section}
 use Rattle.result_lines.specs.declared.item.Section.TheVariants as section
 use Rattle.result_lines.specs.declared.item.TheConstants.{SECTIONS}
 use Rattle.water_model.specs.declared.types.Basin.{Basin}
-use Rattle.water_model.specs.declared.types.Inflows.{Inflows}
+use Rattle.water_model.specs.declared.types.Series.{Series}
 use Rattle.water_model.specs.declared.types.MonthRecord.{MonthRecord}
 use Rattle.result_reader.specs.Form.{shape_of, is_allowed, fits, IsFollowedBy, Fills, shapes_at, shapes_in}
 use Rattle.result_reader.specs.Form.{due_in_month, due_for_month, due}
@@ -140,7 +140,7 @@ unfolding calling_right calls
 called_senior b m r caller e =
     let passes = (find-passes (λ c. calls b m r c) (seniors_first b) caller e).0 in grind arith
 
-has_calls : (b : Basin) (series : Inflows) (before : List MonthRecord) (m : MonthRecord) →
+has_calls : (b : Basin) (series : Series) (before : List MonthRecord) (m : MonthRecord) →
     IsTextMonth b series before m → HasCalls b m (calling_right b m)
 unfolding calling_right
 has_calls b series before m t = record {
@@ -152,7 +152,7 @@ has_calls b series before m t = record {
 
 -- The run.
 
-months_fill : (b : Basin) (series : Inflows) (records before ms : List MonthRecord) → AreTextMonths b series records →
+months_fill : (b : Basin) (series : Series) (records before ms : List MonthRecord) → AreTextMonths b series records →
     records ≡ before ++ ms →
     Fills b (flat_map (due_for_month b) (numbers_from (length before) (length ms))) (flat_map (items_of_month b) ms)
 unfolding numbers_from
@@ -171,7 +171,7 @@ months_fill b series records before (m ∷ ms) are is =
     longer : (before : List MonthRecord) (m : MonthRecord) → length (before ++ m ∷ []) ≡ suc (length before)
     longer before m = omega (arith, length-append before (m ∷ []))
 
-pub text_fills : (b : Basin) (series : Inflows) (records : List MonthRecord) → AreTextMonths b series records →
+pub text_fills : (b : Basin) (series : Series) (records : List MonthRecord) → AreTextMonths b series records →
     length records ≡ b.months → Fills b (due b) (items_of b records)
 unfolding due
 text_fills b series records are all =

@@ -16,7 +16,7 @@ use Rattle.result_lines.specs.declared.item.TheConstants.{SECTIONS}
 use Rattle.result_lines.specs.declared.quantity.Quantity.{Quantity}
 use Rattle.result_lines.specs.declared.quantity.Quantity.TheVariants as quantity
 use Rattle.water_model.specs.declared.types.Basin.{Basin}
-use Rattle.water_model.specs.declared.types.Inflows.{Inflows}
+use Rattle.water_model.specs.declared.types.Series.{Series}
 use Rattle.water_model.specs.declared.types.MonthRecord.{MonthRecord}
 use Rattle.result_reader.specs.ReadSoFar.{ReadSoFar, read_item, read_so_far, with_supply}
 use Rattle.result_reader.proofs.Telling.{set_all, fold-both}
@@ -24,7 +24,7 @@ use Rattle.result_reader.proofs.MonthRead.{Reads, sections_read, take_of, with_s
 use Rattle.result_reader.proofs.Sets.{put_sets}
 
 -- the numbers of the record are all read, and what is not read is 0
-pub record IsAllRead (b : Basin) (series : Inflows) (m : MonthRecord) : Type 0 where
+pub record IsAllRead (b : Basin) (series : Series) (m : MonthRecord) : Type 0 where
   pub listed : (q : Quantity) →
       set_all (entries_with_line b q) (λ x. slice_index (amounts_of q m) x) (replicate (count_in (space_of q) b) 0)
       ≡ amounts_of q m
@@ -46,7 +46,7 @@ abbrev before_end : Basin → MonthRecord → MonthRecord
 before_end b m = fold (λ now k. with_section b m k now) (blank_month b m.index m.month) SECTIONS
 
 -- the record is whole at its end
-end_is : (b : Basin) (series : Inflows) (m : MonthRecord) → IsAllRead b series m →
+end_is : (b : Basin) (series : Series) (m : MonthRecord) → IsAllRead b series m →
     with_supply b series (before_end b m) ≡ m
 end_is b series m a =
     rw (
@@ -65,7 +65,7 @@ end_is b series m a =
       ← a.nodes,
     ) refl
 
-pub month_read : (b : Basin) (series : Inflows) (m : MonthRecord) (caller_of : ℕ → Option ℕ) (t : ReadSoFar) →
+pub month_read : (b : Basin) (series : Series) (m : MonthRecord) (caller_of : ℕ → Option ℕ) (t : ReadSoFar) →
     m.index ≡ length t.months → IsAllRead b series m →
     (fold (read_item b series) t (month_lines b m caller_of)).months ≡ t.months ++ m ∷ []
 unfolding month_lines
@@ -89,11 +89,11 @@ month_read b series m caller_of t i a =
         so_far.now_is ∙ ap (λ n. fold (λ now k. with_section b m k now) (blank_month b n m.month) SECTIONS) (sym i)
 
 -- each record is the next month's, and all of it was read
-abbrev pub AreAllRead : Basin → Inflows → ℕ → List MonthRecord → Type 0
+abbrev pub AreAllRead : Basin → Series → ℕ → List MonthRecord → Type 0
 AreAllRead b series i [] = Unit {0}
 AreAllRead b series i (m ∷ ms) = (m.index ≡ i) × IsAllRead b series m × AreAllRead b series (i + 1) ms
 
-months_read : (b : Basin) (series : Inflows) (records : List MonthRecord) (t : ReadSoFar) →
+months_read : (b : Basin) (series : Series) (records : List MonthRecord) (t : ReadSoFar) →
     AreAllRead b series (length t.months) records →
     (fold (read_item b series) t (flat_map (items_of_month b) records)).months ≡ t.months ++ records
 months_read b series [] t h = sym (append-nil t.months)
@@ -110,12 +110,12 @@ months_read b series (m ∷ ms) t h =
     longer = ap length first ∙ length-append t.months (m ∷ [])
 
 -- the text's items give the records
-pub records_read : (b : Basin) (series : Inflows) (records : List MonthRecord) → AreAllRead b series 0 records →
+pub records_read : (b : Basin) (series : Series) (records : List MonthRecord) → AreAllRead b series 0 records →
     (read_so_far b series (items_of b records)).months ≡ records
 records_read b series records h = grind (arith, fold-both, months_read)
 
 -- Records whose items are the same are the same.
-pub one_reading_of_items : (b : Basin) (series : Inflows) (records others : List MonthRecord) →
+pub one_reading_of_items : (b : Basin) (series : Series) (records others : List MonthRecord) →
     AreAllRead b series 0 records → AreAllRead b series 0 others →
     items_of b records ≡ items_of b others → records ≡ others
 one_reading_of_items b series records others h k e = grind (arith, records_read)

@@ -5,7 +5,7 @@ use Rattle.result_lines.specs.Text.{items_of, text_bytes}
 use Rattle.water_model.specs.Valid.{IsValidBasin}
 use Rattle.result_lines.specs.declared.item.Item.{Item}
 use Rattle.water_model.specs.declared.types.Basin.{Basin}
-use Rattle.water_model.specs.declared.types.Inflows.{Inflows}
+use Rattle.water_model.specs.declared.types.Series.{Series}
 use Rattle.water_model.specs.declared.types.MonthRecord.{MonthRecord}
 use Rattle.result_reader.specs.Due.{Due, all_due, due_after}
 use Rattle.result_reader.specs.Form.{IsPrefix}
@@ -43,7 +43,7 @@ OthersAreOutOfPlace =
 -- What is written can be read. Each line of the text of records of all months is accepted after those before it.
 abbrev pub TextsAreAccepted : Type 0
 TextsAreAccepted =
-    (b : Basin) (series : Inflows) (records : List MonthRecord) (before after : List Item) (item : Item) →
+    (b : Basin) (series : Series) (records : List MonthRecord) (before after : List Item) (item : Item) →
     IsValidBasin b →
     AreTextMonths b series records → length records ≡ b.months → items_of b records ≡ before ++ item ∷ after →
     read_line b before (line_of b item) ≡ Ok item
@@ -51,6 +51,6 @@ TextsAreAccepted =
 -- One spelling. Records of one basin and one series whose texts have the same bytes are the same.
 abbrev pub TextsHaveOneReading : Type 0
 TextsHaveOneReading =
-    (b : Basin) (series : Inflows) (records others : List MonthRecord) → IsValidBasin b →
+    (b : Basin) (series : Series) (records others : List MonthRecord) → IsValidBasin b →
     AreTextMonths b series records → AreTextMonths b series others → text_bytes b records ≡ text_bytes b others →
     records ≡ others

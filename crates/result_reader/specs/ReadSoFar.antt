@@ -11,7 +11,7 @@ use Rattle.result_lines.specs.Quantities.{amounts_of, with_amounts}
 use Rattle.result_lines.specs.declared.item.Item.{Item}
 use Rattle.result_lines.specs.declared.item.Item.TheVariants as line
 use Rattle.water_model.specs.declared.types.Basin.{Basin}
-use Rattle.water_model.specs.declared.types.Inflows.{Inflows}
+use Rattle.water_model.specs.declared.types.Series.{Series}
 use Rattle.water_model.specs.declared.types.MonthRecord.{MonthRecord}
 
 -- What lines say: the records of the months that ended, that of the current month, the right whose `in` lines come, and
@@ -26,7 +26,7 @@ abbrev pub nothing_read : Basin → ReadSoFar
 nothing_read b = record { months = []; now = blank_month b 0 b.first; calling = None; called = 0 }
 
 -- the supply follows from the lines of the reservoirs and returns
-abbrev pub with_supply : Basin → Inflows → MonthRecord → MonthRecord
+abbrev pub with_supply : Basin → Series → MonthRecord → MonthRecord
 with_supply b series m = record m {
   supply = map (λ n. inflow_at b series n m.index + slice_index m.returned n + stored_at b m.opening m.evaporated n)
       (indices_of b.nodes);
@@ -47,7 +47,7 @@ with_member t (Some right) node =
     }
 
 -- what was read with one more line
-abbrev pub read_item : Basin → Inflows → ReadSoFar → Item → ReadSoFar
+abbrev pub read_item : Basin → Series → ReadSoFar → Item → ReadSoFar
 read_item b series t line.Title = t
 read_item b series t (line.Run first months) = t
 read_item b series t (line.Month month) =
@@ -71,5 +71,5 @@ read_item b series t line.End = record t { months = t.months ++ with_supply b se
 read_item b series t (line.Done months) = t
 
 -- what lines say
-abbrev pub read_so_far : Basin → Inflows → List Item → ReadSoFar
+abbrev pub read_so_far : Basin → Series → List Item → ReadSoFar
 read_so_far b series items = fold (read_item b series) (nothing_read b) items

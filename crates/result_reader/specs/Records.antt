@@ -6,7 +6,7 @@ use Rattle.water_model.specs.History.{IsNextMonth, IsShort, cut_of}
 use Rattle.result_lines.specs.Quantities.{amounts_of}
 use Rattle.result_lines.specs.declared.quantity.Quantity.{Quantity}
 use Rattle.water_model.specs.declared.types.Basin.{Basin}
-use Rattle.water_model.specs.declared.types.Inflows.{Inflows}
+use Rattle.water_model.specs.declared.types.Series.{Series}
 use Rattle.water_model.specs.declared.types.MonthRecord.{MonthRecord}
 
 -- each short right has a set with at least one node, and every other right has none
@@ -25,12 +25,12 @@ pub record HasTextAmounts (m : MonthRecord) : Type 0 where
   pub delivered : AreTextAmounts m.delivered
   pub want : AreTextAmounts m.want
 
-pub record IsTextMonth (b : Basin) (series : Inflows) (before : List MonthRecord) (m : MonthRecord) : Type 0 where
+pub record IsTextMonth (b : Basin) (series : Series) (before : List MonthRecord) (m : MonthRecord) : Type 0 where
   pub month : IsNextMonth b series before m
   pub sets : HasSets b m
   pub amounts : HasTextAmounts m
 
 -- records of the run's months, one after another
-pub record AreTextMonths (b : Basin) (series : Inflows) (records : List MonthRecord) : Type 0 where
+pub record AreTextMonths (b : Basin) (series : Series) (records : List MonthRecord) : Type 0 where
   pub within : length records ≤ b.months
   pub each : (i : ℕ) (m : MonthRecord) → slice_get records i ≡ Some m → IsTextMonth b series (take i records) m

@@ -13,7 +13,7 @@ use Rattle.result_lines.specs.Spelling.{whole_line}
 use Rattle.result_lines.specs.Text.{items_of_head, items_of_month, items_of_tail, text_bytes}
 use Rattle.water_model.specs.Valid.{IsValidBasin}
 use Rattle.water_model.specs.declared.types.Basin.{Basin}
-use Rattle.water_model.specs.declared.types.Inflows.{Inflows}
+use Rattle.water_model.specs.declared.types.Series.{Series}
 use Rattle.water_model.specs.declared.types.MonthRecord.{MonthRecord}
 use Rattle.water_model.proofs.Histories.{IsMonth-run_month}
 use Rattle.result_text.specs.Begun.{begun_bytes}
@@ -66,7 +66,7 @@ Puts-tail b records old mid new r begun h =
     (Puts-then old mid new r (begun_bytes b records) (flat_map (whole_line b) (items_of_tail b)) begun h)
 
 -- the sets of such a record are sets of nodes
-sets_sized : (b : Basin) (series : Inflows) (before : List MonthRecord) (m : MonthRecord) → Follows b series before m →
+sets_sized : (b : Basin) (series : Series) (before : List MonthRecord) (m : MonthRecord) → Follows b series before m →
     (right : ℕ) →
     IfSome (cut_of m right) (λ set. length set ≡ length b.nodes)
 sets_sized b series before m f right = by_range (cases_lt right (length b.rights))
@@ -94,7 +94,7 @@ sets_sized b series before m f right = by_range (cases_lt right (length b.rights
     ]
 
 -- a record that follows others in the run has a text
-pub FitsText-follows : (b : Basin) (series : Inflows) (before : List MonthRecord) (m : MonthRecord) → IsValidBasin b →
+pub FitsText-follows : (b : Basin) (series : Series) (before : List MonthRecord) (m : MonthRecord) → IsValidBasin b →
     Follows b series before m →
     length before < b.months → FitsText b m
 FitsText-follows b series before m valid f l = record {

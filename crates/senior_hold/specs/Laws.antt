@@ -8,7 +8,7 @@ use Rattle.water_model.specs.Hydrology.{run_month, want_of}
 use Rattle.duality.specs.Laws.{AreDeliveries}
 use Rattle.water_model.specs.Valid.{IsValidBasin, IsSeriesOf}
 use Rattle.water_model.specs.declared.types.Basin.{Basin}
-use Rattle.water_model.specs.declared.types.Inflows.{Inflows}
+use Rattle.water_model.specs.declared.types.Series.{Series}
 use Rattle.water_model.specs.declared.types.Plan.{Plan}
 use Rattle.senior_hold.specs.Solved.{AreWants, IsSolved}
 
@@ -16,7 +16,7 @@ use Rattle.senior_hold.specs.Solved.{AreWants, IsSolved}
 -- be given.
 abbrev pub WantsAreWithin : Type 0
 WantsAreWithin =
-    (b : Basin) (series : Inflows) (index : ℕ) (used want : List ℕ) → IsValidBasin b → IsSeriesOf b series →
+    (b : Basin) (series : Series) (index : ℕ) (used want : List ℕ) → IsValidBasin b → IsSeriesOf b series →
     length want ≡ length b.rights →
     ((r : ℕ) → r < length b.rights → slice_index want r ≡ want_of b series r index (slice_index used r)) →
     AreWants b (run_month b index) want

@@ -65,7 +65,7 @@ pub fn sweep<L: Ledger>(
     places: &Places,
     plan: &mut Plan,
     cuts: &mut CutList,
-    searches: &mut Steps<L>,
+    pushes: &mut Steps<L>,
 ) -> Sweep
     requires givens { IsGivens givens.now }
     requires room { FitsRoom givens.now.basin.now room.old }
@@ -73,7 +73,7 @@ pub fn sweep<L: Ledger>(
     requires begin { CanBegin givens.now plan.old cuts.old }
     ensures room { FitsRoom givens.now.basin.now room.new }
     ensures places { HasPlaces givens.now.basin.now region.new places.now }
-    ensures swept { IsSweep givens.now plan.new cuts.new searches.old searches.new result }
+    ensures swept { IsSweep givens.now plan.new cuts.new pushes.old pushes.new result }
 {
     let circ = &places.circ;
     let both = Place {
@@ -84,6 +84,6 @@ pub fn sweep<L: Ledger>(
     let (held, tree) = words.split_at_mut(circ.place.len);
     let (fixed, moving) = held.split_at_mut(circ.fixed());
     sweep_month(
-        givens, room, circ, fixed, moving, tree, plan, cuts, searches,
+        givens, room, circ, fixed, moving, tree, plan, cuts, pushes,
     )
 }

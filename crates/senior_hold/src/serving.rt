@@ -31,7 +31,7 @@ fn serve<L: Ledger>(
     circ: &mut CirculationMut<'_>,
     claim: Claim,
     cuts: &mut CutList,
-    searches: &mut Steps<L>,
+    pushes: &mut Steps<L>,
 )
     requires claim { IsClaim circ.old claim }
     requires set { CanHaveSet circ.old cuts.old claim }
@@ -39,7 +39,7 @@ fn serve<L: Ledger>(
     ensures served { IsServed circ.old circ.new claim cuts.old cuts.new }
     ensures kept { IsCirculation circ.new }
     ensures shape { KeepsShape cuts.old cuts.new }
-    ensures cost { searches.new ≤ searches.old + 30 * (2 * open_arcs (network circ.old) + 1) }
+    ensures cost { pushes.new ≤ pushes.old + 30 * (2 * open_arcs (network circ.old) + 1) }
 {
     let Claim {
         right,
@@ -47,7 +47,7 @@ fn serve<L: Ledger>(
         want,
         ..
     } = claim;
-    let raised = raise(circ, arc, want, searches);
+    let raised = raise(circ, arc, want, pushes);
     if raised == Raised::Stopped {
         cuts.begin(right);
         mark(circ, right, cuts);
@@ -75,7 +75,7 @@ pub fn serve_by<L: Ledger>(
     claim: Claim,
     cuts: &mut CutList,
     left: &mut u32,
-    searches: &mut Steps<L>,
+    pushes: &mut Steps<L>,
 ) -> Turn
     requires claim { IsClaim circ.old claim }
     requires set { CanHaveSet circ.old cuts.old claim }
@@ -86,17 +86,17 @@ pub fn serve_by<L: Ledger>(
     ensures raised { result ≡ Turn.GaveUp → IsRaisedOver circ.old circ.new claim.arc }
     ensures kept { IsCirculation circ.new }
     ensures shape { KeepsShape cuts.old cuts.new }
-    ensures cost { method ≡ Method.Tree → searches.new + left.new ≤ searches.old + left.old }
+    ensures cost { method ≡ Method.Tree → pushes.new + left.new ≤ pushes.old + left.old }
     ensures used { method ≡ Method.Tree →
-        (searches.old + left.old ≤ searches.new + left.new + 1) ⊎ FillsExit circ.old claim }
-    ensures gave_up { result ≡ Turn.GaveUp → (searches.old + left.old ≤ searches.new) ⊎ FillsExit circ.old claim }
+        (pushes.old + left.old ≤ pushes.new + left.new + 1) ⊎ FillsExit circ.old claim }
+    ensures gave_up { result ≡ Turn.GaveUp → (pushes.old + left.old ≤ pushes.new) ⊎ FillsExit circ.old claim }
     ensures searched { method ≡ Method.Searches → result ≡ Turn.Served }
     ensures search_cost { method ≡ Method.Searches →
-        searches.new ≤ searches.old + 30 * (2 * open_arcs (network circ.old) + 1) }
+        pushes.new ≤ pushes.old + 30 * (2 * open_arcs (network circ.old) + 1) }
 {
     match method {
         Method::Searches => {
-            serve(circ, claim, cuts, searches);
+            serve(circ, claim, cuts, pushes);
             Turn::Served
         }
         Method::Tree => {
@@ -104,7 +104,7 @@ pub fn serve_by<L: Ledger>(
                 tree.hold(circ, claim.arc, claim.want);
                 return Turn::Served;
             }
-            match raise_fully(circ, tree, claim, left, searches) {
+            match raise_fully(circ, tree, claim, left, pushes) {
                 TreeRaised::Met => Turn::Served,
                 TreeRaised::Unfinished => Turn::GaveUp,
                 TreeRaised::Stopped => {

@@ -163,7 +163,7 @@ impl<'b> Solver<'b> {
         want: &'m [u64],
         plan: &mut Plan,
         cuts: &mut CutList,
-        searches: &mut Steps<L>,
+        pushes: &mut Steps<L>,
     ) -> Sweep
         requires month { IsMonth month }
         requires given { IsGiven self.old month supply.now want.now plan.old cuts.old }
@@ -174,11 +174,11 @@ impl<'b> Solver<'b> {
         ensures cuts { FitsCuts self.old cuts.new }
         ensures plan { IsPlan self.old month supply.now want.now plan.new }
         ensures solved { result ≡ Sweep.Solved → IsSolved self.old month supply.now want.now plan.new cuts.new }
-        ensures pushes { method ≡ Method.Tree → searches.new ≤ searches.old + 30 * length self.old.rights }
-        ensures gave_up { result ≡ Sweep.GaveUp → searches.old + 29 * length self.old.rights < searches.new }
+        ensures pushes { method ≡ Method.Tree → pushes.new ≤ pushes.old + 30 * length self.old.rights }
+        ensures gave_up { result ≡ Sweep.GaveUp → pushes.old + 29 * length self.old.rights < pushes.new }
         ensures searched { method ≡ Method.Searches → result ≡ Sweep.Solved }
         ensures search_pushes { method ≡ Method.Searches →
-            searches.new ≤ searches.old + length self.old.rights * (30 * (2 * arc_count self.old + 1)) }
+            pushes.new ≤ pushes.old + length self.old.rights * (30 * (2 * arc_count self.old + 1)) }
     {
         let givens = Givens {
             method,
@@ -195,7 +195,7 @@ impl<'b> Solver<'b> {
             &self.places,
             plan,
             cuts,
-            searches,
+            pushes,
         );
         if swept == Sweep::GaveUp || self.basin.rights.len() == 0 || !self.reads_flows {
             return swept;
@@ -207,7 +207,7 @@ impl<'b> Solver<'b> {
     /// Writes the plan of a month that serves seniors first, and gives each right that is short its reach as its set.
     /// The supply is indexed by node, the want by right, both in units of 1,000 cubic metres. Without rights the plan
     /// is the run of the river; else its water goes by rivers where it need not go through a canal, unless flows are
-    /// left open. Each search that finds a walk, and each push along the tree, ticks `searches` once. It refuses nothing and takes no memory.
+    /// left open. Each search that finds a walk, and each push along the tree, ticks `pushes` once. It refuses nothing and takes no memory.
     pub fn solve_month<L: Ledger>(
         &mut self,
         month: Month,
@@ -215,7 +215,7 @@ impl<'b> Solver<'b> {
         want: &[u64],
         plan: &mut Plan,
         cuts: &mut CutList,
-        searches: &mut Steps<L>,
+        pushes: &mut Steps<L>,
     )
         requires month { IsMonth month }
         requires given { IsGiven self.old month supply.now want.now plan.old cuts.old }
@@ -223,12 +223,12 @@ impl<'b> Solver<'b> {
         ensures plan { FitsPlan self.old plan.new }
         ensures cuts { FitsCuts self.old cuts.new }
         ensures solved { IsSolved self.old month supply.now want.now plan.new cuts.new }
-        ensures pushes { searches.new ≤ searches.old + month_pushes self.old }
+        ensures pushes { pushes.new ≤ pushes.old + month_pushes self.old }
     {
-        let swept = self.sweep(Method::Tree, month, supply, want, plan, cuts, searches);
+        let swept = self.sweep(Method::Tree, month, supply, want, plan, cuts, pushes);
         if swept == Sweep::GaveUp {
             cuts.clear();
-            self.sweep(Method::Searches, month, supply, want, plan, cuts, searches);
+            self.sweep(Method::Searches, month, supply, want, plan, cuts, pushes);
         }
     }
 }

@@ -38,7 +38,7 @@ const PUSHES_PER_RIGHT: u32 = 30;
 pub enum Method {
     /// By the residual tree, with at most 30 pushes for each right on average.
     Tree,
-    /// By searches, beginning with a plan of the month.
+    /// By pushes, beginning with a plan of the month.
     Searches,
 }
 
@@ -193,7 +193,7 @@ pub fn sweep_month<L: Ledger>(
     words: &mut [u64],
     plan: &mut Plan,
     cuts: &mut CutList,
-    searches: &mut Steps<L>,
+    pushes: &mut Steps<L>,
 ) -> Sweep
     requires givens { IsGivens givens.now }
     requires room { FitsRoom givens.now.basin.now room.old }
@@ -201,7 +201,7 @@ pub fn sweep_month<L: Ledger>(
     requires size { length words.old ≡ tree_words (length givens.now.basin.now.nodes) }
     requires begin { CanBegin givens.now plan.old cuts.old }
     ensures room { FitsRoom givens.now.basin.now room.new }
-    ensures swept { IsSweep givens.now plan.new cuts.new searches.old searches.new result }
+    ensures swept { IsSweep givens.now plan.new cuts.new pushes.old pushes.new result }
 {
     let mut circ = begin(givens, room, held, fixed, moving, plan);
     let mut tree = ResidualTree::plant(&circ, givens.layout.net.order(), words);
@@ -216,7 +216,7 @@ pub fn sweep_month<L: Ledger>(
             claim,
             cuts,
             &mut left,
-            searches,
+            pushes,
         );
         if turn == Turn::GaveUp {
             settle_plan(givens, room, &circ, plan);

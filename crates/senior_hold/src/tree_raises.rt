@@ -17,7 +17,7 @@ fn raise_once<L: Ledger>(
     circ: &mut CirculationMut<'_>,
     tree: &mut ResidualTree<'_>,
     claim: Claim,
-    searches: &mut Steps<L>,
+    pushes: &mut Steps<L>,
 ) -> TreeRaised
     requires claim { IsClaim circ.old claim }
     requires less { flow_of circ.old claim.arc ≤ claim.want }
@@ -26,10 +26,10 @@ fn raise_once<L: Ledger>(
     ensures raised { IsTreeRaise circ.old circ.new claim }
     ensures met { (result ≡ TreeRaised.Met) ↔ (flow_of circ.new claim.arc ≡ claim.want) }
     ensures leaves { LeavesTree circ.new tree.new claim result }
-    ensures count { searches.old ≤ searches.new }
-    ensures cost { searches.new ≤ searches.old + 1 }
+    ensures count { pushes.old ≤ pushes.new }
+    ensures cost { pushes.new ≤ pushes.old + 1 }
     ensures unfinished { result ≡ TreeRaised.Unfinished →
-        (searches.new ≡ searches.old + 1) ⊎ IsFull circ.new claim.exit }
+        (pushes.new ≡ pushes.old + 1) ⊎ IsFull circ.new claim.exit }
 {
     let Claim {
         arc,
@@ -39,9 +39,9 @@ fn raise_once<L: Ledger>(
     } = claim;
     let ends = circ.ends(arc);
     if tree.is_unlabeled(ends.from) && tree.is_unlabeled(ends.to) {
-        return raise_within_unlabeled(circ, tree, arc, exit, want, 1, searches);
+        return raise_within_unlabeled(circ, tree, arc, exit, want, 1, pushes);
     }
-    let pulled = raise_by_tree(circ, tree, arc, exit, want, 1, searches);
+    let pulled = raise_by_tree(circ, tree, arc, exit, want, 1, pushes);
     if pulled == TreeRaised::Stopped && tree.is_unlabeled(ends.to) {
         TreeRaised::Unfinished
     } else {
@@ -57,7 +57,7 @@ pub fn raise_fully<L: Ledger>(
     tree: &mut ResidualTree<'_>,
     claim: Claim,
     left: &mut u32,
-    searches: &mut Steps<L>,
+    pushes: &mut Steps<L>,
 ) -> TreeRaised
     requires claim { IsClaim circ.old claim }
     requires less { flow_of circ.old claim.arc ≤ claim.want }
@@ -66,21 +66,21 @@ pub fn raise_fully<L: Ledger>(
     ensures met { result ≢ TreeRaised.Unfinished →
         (result ≡ TreeRaised.Met) ↔ (flow_of circ.new claim.arc ≡ claim.want) }
     ensures leaves { LeavesTree circ.new tree.new claim result }
-    ensures cost { searches.new + left.new ≤ searches.old + left.old }
-    ensures used { (searches.old + left.old ≤ searches.new + left.new + 1) ⊎ FillsExit circ.old claim }
+    ensures cost { pushes.new + left.new ≤ pushes.old + left.old }
+    ensures used { (pushes.old + left.old ≤ pushes.new + left.new + 1) ⊎ FillsExit circ.old claim }
     ensures gave_up { result ≡ TreeRaised.Unfinished →
-        (searches.old + left.old ≤ searches.new) ⊎ FillsExit circ.old claim }
+        (pushes.old + left.old ≤ pushes.new) ⊎ FillsExit circ.old claim }
 {
     let flow = circ.flow(claim.arc);
     tree.hold(circ, claim.arc, flow);
     // Where the head is the outside, one call makes all pushes.
     if flow < claim.want && circ.ends(claim.arc).to == circ.nodes() {
-        return raise_take(circ, tree, claim.arc, claim.want, left, searches);
+        return raise_take(circ, tree, claim.arc, claim.want, left, pushes);
     }
     let most = *left;
     for _pushes in 0..most {
         *left -= 1;
-        let pulled = raise_once(circ, tree, claim, searches);
+        let pulled = raise_once(circ, tree, claim, pushes);
         if pulled != TreeRaised::Unfinished {
             return pulled;
         }

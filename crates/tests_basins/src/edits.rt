@@ -5,14 +5,14 @@ ghost use Rattle.water_model.specs.Valid.{IsSeriesOf, IsValidBasin};
 use crate::basins::basin_of;
 use edit_script::{ScriptFault, ScriptRefused, read_script};
 use edit_session::put_shows;
-use inflow_file::read_inflows;
+use inflow_file::series_of_text;
 use memory_edge::MemorySink;
 use month_fold::work::Work;
 use std::alloc::Global;
 use std::marker::Brand;
 use std::sync::ledger::{Blank, Ledger};
 use std::test::Fail;
-use water_model::types::{Basin, Inflows};
+use water_model::types::{Basin, Series};
 
 const BASIN: &str = r#"
 format = 1
@@ -30,7 +30,7 @@ const SERIES: &[u8] = b"month,node,amount\n1900-01,head,10\n1900-02,head,10\n190
 fn answer_over<P: Ledger, M: Ledger>(
     alloc: Global,
     basin: &Basin,
-    series: &Inflows,
+    series: &Series,
     script: &[u8],
     work: &mut Work<P, M>,
 ) -> Result<Result<MemorySink, ScriptRefused>, Fail>
@@ -61,7 +61,7 @@ fn answered<P: Ledger, M: Ledger>(
     requires months_some { 0 < M.parts }
 {
     let basin = basin_of(alloc, BASIN)?;
-    let series = read_inflows(alloc, &basin, SERIES)?;
+    let series = series_of_text(alloc, &basin, SERIES)?;
     let mut work = Work::<P, M>::new(pushes, months);
     answer_over(alloc, &basin, &series, script, &mut work)
 }

@@ -5,11 +5,11 @@ ghost use Rattle.water_model.specs.Valid.{IsSeriesOf, IsValidBasin};
 
 use crate::basins::basin_of;
 use cert_check::{Checker, PieceChecker, Refuted, RefutedKind, check_text};
-use inflow_file::{HEADER, read_inflows};
+use inflow_file::{HEADER, series_of_text};
 use std::alloc::{AllocError, Global};
 use std::process::Abort;
 use std::test::Fail;
-use water_model::types::{Basin, Inflows};
+use water_model::types::{Basin, Series};
 
 /// A spring above an outlet, and a river between them.
 const BASIN: &str = r#"
@@ -78,7 +78,7 @@ fn feed_pieces(checker: &mut PieceChecker, text: &str, length: usize) -> Result<
 fn answer_in_pieces(
     alloc: Global,
     basin: &Basin,
-    series: &Inflows,
+    series: &Series,
     text: &str,
     length: usize,
 ) -> Result<Result<u32, Refuted>, AllocError>
@@ -96,7 +96,7 @@ fn answer_in_pieces(
 fn answer_whole(
     alloc: Global,
     basin: &Basin,
-    series: &Inflows,
+    series: &Series,
     text: &str,
 ) -> Result<Result<u32, Refuted>, AllocError>
     requires basin { IsValidBasin basin.now }
@@ -113,7 +113,7 @@ fn expect_answer<R: Abort>(
     rt: &R,
     alloc: Global,
     basin: &Basin,
-    series: &Inflows,
+    series: &Series,
     text: &str,
     want: Result<u32, Refuted>,
 ) -> Result<(), AllocError>
@@ -134,7 +134,7 @@ fn expect_answers<R: Abort>(
     rt: &R,
     alloc: Global,
     basin: &Basin,
-    series: &Inflows,
+    series: &Series,
 ) -> Result<(), AllocError>
     requires basin { IsValidBasin basin.now }
     requires series { IsSeriesOf basin.now series.now }
@@ -154,7 +154,7 @@ fn expect_answers<R: Abort>(
 fn answers_the_same_in_pieces(rt: HostRuntime) -> Result<(), Fail> {
     let alloc = rt.alloc();
     let basin = basin_of(alloc, BASIN)?;
-    let series = read_inflows(alloc, &basin, HEADER)?;
+    let series = series_of_text(alloc, &basin, HEADER)?;
     expect_answers(&rt, alloc, &basin, &series)?;
     Ok(())
 }
@@ -172,7 +172,7 @@ fn count_lines<R: Abort>(rt: &R, checker: &mut Checker)
 fn counts_the_lines_that_are_left(rt: HostRuntime) -> Result<(), Fail> {
     let alloc = rt.alloc();
     let basin = basin_of(alloc, BASIN)?;
-    let series = read_inflows(alloc, &basin, HEADER)?;
+    let series = series_of_text(alloc, &basin, HEADER)?;
     let mut checker = Checker::open(alloc, &basin, &series)?;
     count_lines(&rt, &mut checker);
     drop(checker);

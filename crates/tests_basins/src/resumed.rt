@@ -5,7 +5,7 @@ ghost use Rattle.water_model.specs.History.{IsPartialHistory};
 ghost use Rattle.water_model.specs.Valid.{IsSeriesOf, IsValidBasin};
 
 use crate::basins::basin_of;
-use inflow_file::{HEADER, read_inflows};
+use inflow_file::{HEADER, series_of_text};
 use month_fold::run::Run;
 use month_fold::work::Work;
 use std::alloc::{AllocError, Global};
@@ -14,7 +14,7 @@ use std::process::Abort;
 use std::sync::ledger::{Blank, Ledger};
 use std::test::Fail;
 use water_model::rows::Rows;
-use water_model::types::{Basin, Inflows, MonthRecord};
+use water_model::types::{Basin, Series, MonthRecord};
 
 /// A lake from which a farm may take 30 in a water year, and a third of it comes back below a month later.
 const BASIN: &str = r#"format = 2
@@ -95,7 +95,7 @@ fn record_of<R: Abort, P: Ledger, M: Ledger>(
     rt: &R,
     alloc: Global,
     basin: &Basin,
-    series: &Inflows,
+    series: &Series,
     work: &mut Work<P, M>,
 ) -> Result<Box<MonthRecord>, AllocError>
     requires basin { IsValidBasin basin.now }
@@ -113,7 +113,7 @@ fn solve_later<R: Abort, P: Ledger, M: Ledger>(
     rt: &R,
     alloc: Global,
     basin: &Basin,
-    series: &Inflows,
+    series: &Series,
     months: &[Box<MonthRecord>],
     work: &mut Work<P, M>,
 ) -> Result<(), AllocError>
@@ -135,7 +135,7 @@ fn go_on<R: Abort, P: Ledger, M: Ledger>(
     pushes: Blank,
     months: Blank,
     basin: &Basin,
-    series: &Inflows,
+    series: &Series,
 ) -> Result<(), Fail>
     requires pushes_name { pushes.name ≡ P.name }
     requires pushes_parts { pushes.parts ≡ P.parts }
@@ -156,7 +156,7 @@ fn go_on<R: Abort, P: Ledger, M: Ledger>(
 /// Does so with one counter of pushes and one of months.
 fn go_on_alone<R: Abort>(rt: &R, alloc: Global) -> Result<(), Fail> {
     let basin = basin_of(alloc, BASIN)?;
-    let series = read_inflows(alloc, &basin, HEADER)?;
+    let series = series_of_text(alloc, &basin, HEADER)?;
     go_on::<R, Brand, Brand>(rt, alloc, Blank::new(1), Blank::new(1), &basin, &series)
 }
 

@@ -2,10 +2,10 @@
 ghost use Rattle.water_model.specs.Valid.{IsValidBasin};
 
 use crate::basins::basin_of;
-use inflow_file::{HEADER, SeriesFault, SeriesRefused, read_inflows};
+use inflow_file::{HEADER, SeriesFault, SeriesRefused, series_of_text};
 use std::alloc::{AllocError, Global};
 use std::process::Abort;
-use water_model::types::{Basin, Inflows};
+use water_model::types::{Basin, Series};
 use water_text::month::Month;
 
 /// Two months. The nodes `top` and `hill` are gauged, and `mouth` isn't.
@@ -191,7 +191,7 @@ static SPELLED: [(&[u8], [u64; 4]); 5] = [
 fn refusal(alloc: Global, basin: &Basin, text: &[u8]) -> Option<SeriesRefused>
     requires { IsValidBasin basin.now }
 {
-    read_inflows(alloc, basin, text).err()
+    series_of_text(alloc, basin, text).err()
 }
 
 fn expect_refused<R: Abort + AllocGlobal>(
@@ -235,7 +235,7 @@ fn names_the_first_gap(rt: HostRuntime) -> Result<(), AllocError> {
 }
 
 /// Whether a series is of the gauges `top` and `hill` and has these amounts.
-fn has_amounts(series: &Inflows, want: &[u64; 4]) -> bool {
+fn has_amounts(series: &Series, want: &[u64; 4]) -> bool {
     series.gauged.as_slice() == [0, 2].as_slice() && series.amount.as_slice() == want.as_slice()
 }
 
@@ -243,7 +243,7 @@ fn has_amounts(series: &Inflows, want: &[u64; 4]) -> bool {
 fn expect_amounts<R: Abort>(rt: &R, alloc: Global, basin: &Basin, text: &[u8], want: &[u64; 4])
     requires { IsValidBasin basin.now }
 {
-    match read_inflows(alloc, basin, text) {
+    match series_of_text(alloc, basin, text) {
         Ok(series) => assert!(rt; has_amounts(&series, want), "other amounts than {want:?}"),
         Err(e) => panic!(rt; "a series is refused: {e:?}"),
     }

@@ -4,11 +4,11 @@ ghost use Rattle.water_model.specs.Valid.{IsValidBasin};
 
 use crate::basins::basin_of;
 use index_seq::rotate;
-use inflow_file::read_inflows;
+use inflow_file::series_of_text;
 use std::alloc::{AllocError, Global};
 use std::process::Abort;
 use std::test::Fail;
-use water_model::types::{Basin, Inflows};
+use water_model::types::{Basin, Series};
 
 /// Two gauges over two years from October on.
 const BASIN: &str = r#"format = 1
@@ -41,7 +41,7 @@ fn record(alloc: Global) -> Result<String, Fail> {
 }
 
 /// The amounts of a month of the run are those of this index in the record.
-fn expect_month<R: Abort>(rt: &R, series: &Inflows, month: usize, place: u64) {
+fn expect_month<R: Abort>(rt: &R, series: &Series, month: usize, place: u64) {
     let amounts = series.amount.as_slice();
     assert!(rt; month < 24);
     assert_eq!(rt; amounts.get(2 * month), Some(&place));
@@ -77,11 +77,11 @@ fn begun_of<R: Abort>(
     alloc: Global,
     basin: &Basin,
     text: &str,
-) -> Result<Inflows, AllocError>
+) -> Result<Series, AllocError>
     requires basin { IsValidBasin basin.now }
     requires months { basin.now.months ≡ 24 }
 {
-    let Ok(series) = read_inflows(alloc, basin, text.as_bytes()) else {
+    let Ok(series) = series_of_text(alloc, basin, text.as_bytes()) else {
         panic!(rt; "the record is refused");
     };
     let begun = rotate(alloc, basin, &series, 1);
@@ -90,7 +90,7 @@ fn begun_of<R: Abort>(
 }
 
 /// A series has the wet year first, and then the dry one.
-fn expect_wet_first<R: Abort>(rt: &R, begun: &Inflows) {
+fn expect_wet_first<R: Abort>(rt: &R, begun: &Series) {
     assert_eq!(rt; begun.amount.len(), 24);
     for month in 0..12usize {
         assert_eq!(rt; begun.amount.as_slice().get(month), Some(&12));
@@ -110,7 +110,7 @@ fn begins_with_the_wet_year(rt: HostRuntime) -> Result<(), Fail> {
 }
 
 /// A series has the indices 21 to 32 of the record, and then 9 to 20.
-fn expect_second_first<R: Abort>(rt: &R, begun: &Inflows) {
+fn expect_second_first<R: Abort>(rt: &R, begun: &Series) {
     for month in 0..12usize {
         expect_month(rt, begun, month, month as u64 + 21);
         expect_month(rt, begun, month + 12, month as u64 + 9);

@@ -3,12 +3,12 @@ ghost use Rattle.std.specs.Prelude.{IfOk};
 ghost use Rattle.water_model.specs.Valid.{IsValidBasin, IsSeriesOf};
 
 use crate::basins::basin_of;
-use inflow_file::{HEADER, read_inflows};
+use inflow_file::{HEADER, series_of_text};
 use std::alloc::{AllocError, Global};
 use std::process::Abort;
 use std::test::Fail;
 use water_model::calls::{begins_year, want_of};
-use water_model::types::{Basin, Inflows};
+use water_model::types::{Basin, Series};
 
 /// A farm that wants 10 and may take 25 in a water year, which begins with March, and a town without a volume.
 const BASIN: &str = r#"format = 2
@@ -35,18 +35,18 @@ const WANTS: [(u64, u64); 7] = [
 ];
 
 /// The series of a basin that has nothing in it.
-fn series_of(alloc: Global, basin: &Basin) -> Result<Inflows, AllocError>
+fn series_of(alloc: Global, basin: &Basin) -> Result<Series, AllocError>
     requires { IsValidBasin basin.now }
     ensures { IfOk result (IsSeriesOf basin.now) }
 {
-    match read_inflows(alloc, basin, HEADER) {
+    match series_of_text(alloc, basin, HEADER) {
         Ok(series) => Ok(series),
         Err(_) => Err(AllocError),
     }
 }
 
 /// Compares the wants of the farm and of the town.
-fn expect_wants<R: Abort>(rt: &R, basin: &Basin, series: &Inflows)
+fn expect_wants<R: Abort>(rt: &R, basin: &Basin, series: &Series)
     requires basin { IsValidBasin basin.now }
     requires series { IsSeriesOf basin.now series.now }
 {

@@ -18,13 +18,13 @@ fn play<L: Ledger, R: Abort>(
     circ: &mut CirculationMut<'_>,
     turn: &Turn,
     name: &str,
-    searches: &mut Steps<L>,
+    pushes: &mut Steps<L>,
 ) {
     let Turn(arc, want, raised, flow) = turn;
     assert!(rt; *arc < circ.arcs());
     assert!(rt; leads_outside(circ, *arc));
     assert!(rt; *want <= circ.flow(*arc) + circ.room(*arc, true));
-    assert!(rt; raise(circ, *arc, *want, searches) == *raised, "{name}");
+    assert!(rt; raise(circ, *arc, *want, pushes) == *raised, "{name}");
     assert!(rt; circ.flow(*arc) == *flow, "the flow of {name}");
     hold(rt, circ, *arc, *flow);
 }
@@ -34,10 +34,10 @@ fn play_all<L: Ledger, R: Abort>(
     rt: &R,
     circ: &mut CirculationMut<'_>,
     case: &Case,
-    searches: &mut Steps<L>,
+    pushes: &mut Steps<L>,
 ) {
     for turn in case.turns {
-        play(rt, circ, turn, case.name, searches);
+        play(rt, circ, turn, case.name, pushes);
     }
 }
 
@@ -59,11 +59,11 @@ fn play_from_start<L: Ledger, R: Abort>(
     alloc: Global,
     circ: &mut CirculationMut<'_>,
     case: &Case,
-    searches: &mut Steps<L>,
+    pushes: &mut Steps<L>,
 ) -> Result<(), AllocError> {
     begin(rt, alloc, circ, case)?;
     hold_all(rt, circ, case);
-    play_all(rt, circ, case, searches);
+    play_all(rt, circ, case, pushes);
     compare_reached(rt, circ, case);
     compare_flows(rt, circ, case);
     Ok(())
@@ -83,8 +83,8 @@ fn run<L: Ledger, R: Abort>(
     let mut laid = open(rt, alloc, case)?;
     let place = laid.circ.place;
     let mut circ = lend(&laid.circ, laid.region.words_mut(place));
-    let mut searches: Steps<L> = Steps::new(blank);
-    let played = play_from_start(rt, alloc, &mut circ, case, &mut searches);
+    let mut pushes: Steps<L> = Steps::new(blank);
+    let played = play_from_start(rt, alloc, &mut circ, case, &mut pushes);
     drop(laid);
     played
 }

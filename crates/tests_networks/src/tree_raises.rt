@@ -26,7 +26,7 @@ fn pull<L: Ledger, R: Abort>(
     tree: &mut ResidualTree<'_>,
     turn: &Turn,
     max_pushes: u32,
-    searches: &mut Steps<L>,
+    pushes: &mut Steps<L>,
 ) -> TreeRaised
     requires { IsResidualTree circ.old tree.old }
     ensures { IsResidualTree circ.new tree.new }
@@ -40,7 +40,7 @@ fn pull<L: Ledger, R: Abort>(
         tree.hold(circ, *arc, flow);
         return TreeRaised::Met;
     }
-    raise_by_tree(circ, tree, *arc, *arc, *want, max_pushes, searches)
+    raise_by_tree(circ, tree, *arc, *arc, *want, max_pushes, pushes)
 }
 
 /// The flow on the arc of a turn.
@@ -73,14 +73,14 @@ fn play<L: Ledger, R: Abort>(
     turn: &Turn,
     name: &str,
     max_pushes: u32,
-    searches: &mut Steps<L>,
+    pushes: &mut Steps<L>,
 ) -> u32
     requires { IsResidualTree circ.old tree.old }
     ensures { IsResidualTree circ.new tree.new }
 {
     for raises in 0..MAX_RAISES {
         let before = flow(rt, circ, turn);
-        let pulled = pull(rt, circ, tree, turn, max_pushes, searches);
+        let pulled = pull(rt, circ, tree, turn, max_pushes, pushes);
         // Each push raises the flow, and nothing else does.
         let pushed = before < flow(rt, circ, turn);
         if pulled != TreeRaised::Unfinished {
@@ -99,14 +99,14 @@ fn play_all<L: Ledger, R: Abort>(
     tree: &mut ResidualTree<'_>,
     case: &Case,
     max_pushes: u32,
-    searches: &mut Steps<L>,
+    pushes: &mut Steps<L>,
 ) -> u32
     requires { IsResidualTree circ.old tree.old }
     ensures { IsResidualTree circ.new tree.new }
 {
     let mut raises: u32 = 0;
     for turn in case.turns {
-        let more = play(rt, circ, tree, turn, case.name, max_pushes, searches);
+        let more = play(rt, circ, tree, turn, case.name, max_pushes, pushes);
         raises = raises.saturating_add(more);
     }
     raises
@@ -139,13 +139,13 @@ fn play_over<L: Ledger, R: Abort>(
     words: &mut [u64],
     case: &Case,
     max_pushes: u32,
-    searches: &mut Steps<L>,
+    pushes: &mut Steps<L>,
 ) -> u32
     requires { length words.old ≡ tree_words circ.old.nodes }
 {
     // Months are planted in the order of the network; without an order all steps are looked at.
     let mut tree = ResidualTree::plant(circ, &[], words);
-    let raises = play_all(rt, circ, &mut tree, case, max_pushes, searches);
+    let raises = play_all(rt, circ, &mut tree, case, max_pushes, pushes);
     compare_unlabeled(rt, circ, &tree, case);
     compare_flows(rt, circ, case);
     raises
@@ -158,12 +158,12 @@ fn play_from_start<L: Ledger, R: Abort>(
     circ: &mut CirculationMut<'_>,
     case: &Case,
     max_pushes: u32,
-    searches: &mut Steps<L>,
+    pushes: &mut Steps<L>,
 ) -> Result<u32, AllocError> {
     begin(rt, alloc, circ, case)?;
     hold_all(rt, circ, case);
     let mut words = vec![in alloc; 0; tree_words(circ.nodes())]?;
-    let raises = play_over(rt, circ, &mut words, case, max_pushes, searches);
+    let raises = play_over(rt, circ, &mut words, case, max_pushes, pushes);
     drop(words);
     Ok(raises)
 }
@@ -183,8 +183,8 @@ fn run<L: Ledger, R: Abort>(
     let mut laid = open(rt, alloc, case)?;
     let place = laid.circ.place;
     let mut circ = lend(&laid.circ, laid.region.words_mut(place));
-    let mut searches: Steps<L> = Steps::new(blank);
-    let raises = play_from_start(rt, alloc, &mut circ, case, max_pushes, &mut searches);
+    let mut pushes: Steps<L> = Steps::new(blank);
+    let raises = play_from_start(rt, alloc, &mut circ, case, max_pushes, &mut pushes);
     drop(laid);
     raises
 }

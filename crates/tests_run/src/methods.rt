@@ -1,4 +1,4 @@
-//! A month that ends by the tree, and one that ends by searches: the same deliveries and the same reach, and other
+//! A month that ends by the tree, and one that ends by pushes: the same deliveries and the same reach, and other
 //! flows.
 //!
 //! Forty springs of 1 each run into a fork. From there a canal, which the file lists first, and 65 rivers, one after
@@ -127,7 +127,7 @@ fn expect_result(alloc: Global, late: &str, flows: (u64, u64), juniors: &str) ->
 }
 
 #[test]
-fn solves_by_searches_where_the_budget_gives_out(rt: HostRuntime) -> Result<(), Fail> {
+fn solves_by_pushes_where_the_budget_gives_out(rt: HostRuntime) -> Result<(), Fail> {
     expect_result(rt.alloc(), "", (30, 10), "")
 }
 

@@ -11,14 +11,14 @@ use std::marker::Brand;
 use std::process::Abort;
 use std::sync::ledger::{Blank, Ledger};
 use std::test::Fail;
-use water_model::types::{Basin, Inflows};
+use water_model::types::{Basin, Series};
 
 /// Compares the report of a basin.
 fn compare_report<R: Abort, P: Ledger, M: Ledger>(
     rt: &R,
     alloc: Global,
     basin: &Basin,
-    series: &Inflows,
+    series: &Series,
     want: &str,
     work: &mut Work<P, M>,
 ) -> Result<(), Fail>
@@ -42,7 +42,7 @@ fn compare_summary<R: Abort, P: Ledger, M: Ledger>(
     alloc: Global,
     size: u32,
     basin: &Basin,
-    series: &Inflows,
+    series: &Series,
     want: &str,
     work: &mut Work<P, M>,
 ) -> Result<(), Fail>
@@ -61,7 +61,7 @@ fn compare_texts<R: Abort, P: Ledger, M: Ledger>(
     alloc: Global,
     size: u32,
     basin: &Basin,
-    series: &Inflows,
+    series: &Series,
     want: (&str, &str),
     work: &mut Work<P, M>,
 ) -> Result<(), Fail>

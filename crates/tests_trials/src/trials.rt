@@ -3,7 +3,7 @@ use basin_gen::make;
 use std::alloc::AllocError;
 use std::process::Abort;
 use water_model::types::{
-    Basin, Carry, Inflow, Inflows, Link, Node, Reservoir, ReturnRow, Right, RightKind,
+    Basin, Carry, Inflow, Series, Link, Node, Reservoir, ReturnRow, Right, RightKind,
 };
 
 /// The sum of all inflows of a year.
@@ -289,7 +289,7 @@ static BASINS: [(u32, [usize; 5], [u64; 9]); 3] = [
 ];
 
 /// Compares the series, which are empty.
-fn compare_series(rt: &impl Abort, inflows: &Inflows) {
+fn compare_series(rt: &impl Abort, inflows: &Series) {
     assert_eq!(rt; (inflows.gauged.len(), inflows.amount.len()), (0, 0));
 }
 

@@ -18,7 +18,7 @@ use Rattle.water_model.specs.Indices.{numbers_from, indices_of}
 use Rattle.water_model.specs.Valid.{IsValidBasin, IsSeriesOf, is_gauged, is_gauged_kind, is_in_series}
 use Rattle.water_model.specs.declared.types.Basin.{Basin}
 use Rattle.water_model.specs.declared.types.Inflow.TheVariants.{Gauged}
-use Rattle.water_model.specs.declared.types.Inflows.{Inflows}
+use Rattle.water_model.specs.declared.types.Series.{Series}
 use Rattle.water_model.specs.declared.types.Node.{Node}
 use Rattle.water_model.specs.declared.types.Right.{Right}
 use Rattle.water_model.proofs.Order.{Has, numbers_from-get, numbers_from-has, length-numbers_from, has-filter}
@@ -39,12 +39,12 @@ rises from n = λ k l. (let within : k + 1 < n = omega (arith, length-numbers_fr
     read : (k : ℕ) → k < n → get_or (numbers_from from n) k 0 ≡ from + k
     read k l = get_or_from_slice_get (numbers_from from n) k (from + k) 0 (numbers_from-get from n k (from + k) l refl)
 
-pub gauges_rise : (b : Basin) (series : Inflows) → IsSeriesOf b series → IsStrictlyIncreasing series.gauged
+pub gauges_rise : (b : Basin) (series : Series) → IsSeriesOf b series → IsStrictlyIncreasing series.gauged
 gauges_rise b series fits =
     subst IsStrictlyIncreasing (sym fits.gauged)
     (IsStrictlyIncreasing-filter (λ n. is_gauged b n) (indices_of b.nodes) (rises 0 (length b.nodes)))
 
-pub wanted_rise : (b : Basin) (series : Inflows) → IsSeriesOf b series → IsStrictlyIncreasing series.wanted
+pub wanted_rise : (b : Basin) (series : Series) → IsSeriesOf b series → IsStrictlyIncreasing series.wanted
 wanted_rise b series fits =
     subst IsStrictlyIncreasing (sym fits.wanted)
     (IsStrictlyIncreasing-filter (λ r. is_in_series b r) (indices_of b.rights) (rises 0 (length b.rights)))
@@ -87,7 +87,7 @@ has_index (y ∷ ys) x h = elim (cases_Bool (y == x)) [
 ]
 
 -- a gauged node stands in the series
-pub gauge_within : (b : Basin) (series : Inflows) (node : ℕ) → IsSeriesOf b series → node < length b.nodes →
+pub gauge_within : (b : Basin) (series : Series) (node : ℕ) → IsSeriesOf b series → node < length b.nodes →
     is_gauged b node ≡ true →
     index_in series.gauged node < length series.gauged
 gauge_within b series node fits l gauged =
@@ -128,7 +128,7 @@ has_cell b numbers cells number index n p valid are few size k within =
     record { within = rw size cell; small = omega arith }
 
 -- that of the amount of a gauged node in a month
-pub inflow_cell : {b : Basin} {series : Inflows} {node index : ℕ} {n : Node} → IsValidBasin b → IsSeriesOf b series →
+pub inflow_cell : {b : Basin} {series : Series} {node index : ℕ} {n : Node} → IsValidBasin b → IsSeriesOf b series →
     node < length b.nodes → index < b.months → slice_get b.nodes node ≡ Some n → n.inflow ≡ Gauged →
     HasCell series.gauged series.amount node index
 inflow_cell {b} {series} {node} {index} {n} valid fits l k at e =
@@ -136,7 +136,7 @@ inflow_cell {b} {series} {node} {index} {n} valid fits l k at e =
     (omega (arith, valid.bounded.nodes)) fits.amounts k (gauge_within b series node fits l (gauged_here b node n at e))
 
 -- what stands there is the inflow
-pub cell_is_inflow : (b : Basin) (series : Inflows) (node index : ℕ) (n : Node) (x : ℕ) →
+pub cell_is_inflow : (b : Basin) (series : Series) (node index : ℕ) (n : Node) (x : ℕ) →
     slice_get b.nodes node ≡ Some n → n.inflow ≡ Gauged →
     slice_get series.amount (index * length series.gauged + index_in series.gauged node) ≡ Some x →
     x ≡ inflow_at b series node index
@@ -146,7 +146,7 @@ cell_is_inflow b series node index n x at e cell =
     ∙ ap (inflow_of_kind b series node index) e)
 
 -- a right in the series has its wants there
-pub wanted_within : (b : Basin) (series : Inflows) (right : ℕ) → IsSeriesOf b series → right < length b.rights →
+pub wanted_within : (b : Basin) (series : Series) (right : ℕ) → IsSeriesOf b series → right < length b.rights →
     is_in_series b right ≡ true →
     index_in series.wanted right < length series.wanted
 wanted_within b series right fits l e =
@@ -154,7 +154,7 @@ wanted_within b series right fits l e =
     (numbers_from-has 0 (length b.rights) right right l (omega arith)) e))
 
 -- the index of the want of a right in a month
-pub want_cell : {b : Basin} {series : Inflows} {right index : ℕ} {r : Right} → IsValidBasin b → IsSeriesOf b series →
+pub want_cell : {b : Basin} {series : Series} {right index : ℕ} {r : Right} → IsValidBasin b → IsSeriesOf b series →
     right < length b.rights → index < b.months → slice_get b.rights right ≡ Some r → r.series ≡ true →
     HasCell series.wanted series.want right index
 want_cell {b} {series} {right} {index} {r} valid fits l k at e =
@@ -163,7 +163,7 @@ want_cell {b} {series} {right} {index} {r} valid fits l k at e =
     (ap (λ o. unwrap_or (option_map (λ (x : Right). x.series) o) false) at ∙ e))
 
 -- what stands there is the right's number
-pub want_is_number : (b : Basin) (series : Inflows) (right index : ℕ) (r : Right) (x : ℕ) →
+pub want_is_number : (b : Basin) (series : Series) (right index : ℕ) (r : Right) (x : ℕ) →
     slice_get b.rights right ≡ Some r → r.series ≡ true →
     slice_get series.want (index * length series.wanted + index_in series.wanted right) ≡ Some x →
     x ≡ of_entry b.rights right (λ y. number_of b series right index y) 0

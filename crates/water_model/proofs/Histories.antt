@@ -10,7 +10,7 @@ use Rattle.water_model.specs.History.{IsPartialHistory, IsHistory, Follows, IsNe
 use Rattle.water_model.specs.Hydrology.{run_month, inflow_at, stored_at, want_of}
 use Rattle.water_model.specs.Valid.{IsValidRun}
 use Rattle.water_model.specs.declared.types.Basin.{Basin}
-use Rattle.water_model.specs.declared.types.Inflows.{Inflows}
+use Rattle.water_model.specs.declared.types.Series.{Series}
 use Rattle.water_model.specs.declared.types.MonthRecord.{MonthRecord}
 use Rattle.water_model.proofs.Lists.{get_after}
 
@@ -23,11 +23,11 @@ at_end (z ∷ zs) y x zero h = inl h
 at_end (z ∷ zs) y x (suc i) h =
     elim (at_end zs y x i h) [ inl within ↦ inl within | inr last ↦ inr (ap suc last.0, last.1) ]
 
-pub nothing_is_partial : (b : Basin) (series : Inflows) → IsPartialHistory b series []
+pub nothing_is_partial : (b : Basin) (series : Series) → IsPartialHistory b series []
 nothing_is_partial b series = record { within = omega arith; each = λ i m h. absurd (cc (h)) }
 
 -- a record that follows a partial history makes a longer one
-pub one_month_more : (b : Basin) (series : Inflows) (records : List MonthRecord) (m : MonthRecord) →
+pub one_month_more : (b : Basin) (series : Series) (records : List MonthRecord) (m : MonthRecord) →
     IsPartialHistory b series records →
     length records < b.months → Follows b series records m → IsPartialHistory b series (records ++ m ∷ [])
 one_month_more b series records m partial left follows = record {
@@ -51,7 +51,7 @@ one_month_more b series records m partial left follows = record {
         (subst (Follows b series records) last.1 follows)
 
 -- the last record of a partial history follows those before it
-pub last_follows : (b : Basin) (series : Inflows) (before : List MonthRecord) (m : MonthRecord) →
+pub last_follows : (b : Basin) (series : Series) (before : List MonthRecord) (m : MonthRecord) →
     IsPartialHistory b series (before ++ m ∷ []) → Follows b series before m
 last_follows b series before m partial =
     subst (λ (rs : List MonthRecord). Follows b series rs m)
@@ -59,7 +59,7 @@ last_follows b series before m partial =
     (partial.each (length before) m (get_after before [] m))
 
 -- a record that follows others with one series also follows them with another that gives the same in its month
-pub follows_alike : (b : Basin) (series other : Inflows) (before : List MonthRecord) (m : MonthRecord) →
+pub follows_alike : (b : Basin) (series other : Series) (before : List MonthRecord) (m : MonthRecord) →
     ((n : ℕ) → n < length b.nodes → inflow_at b series n m.index ≡ inflow_at b other n m.index) →
     ((r used : ℕ) → r < length b.rights → want_of b series r m.index used ≡ want_of b other r m.index used) →
     Follows b series before m → Follows b other before m
@@ -86,7 +86,7 @@ opens_with_last b records m =
     ap (λ o. unwrap_or (option_map (λ k. k.closing) o) (map (λ v. v.opening) b.reservoirs)) at
 
 -- a partial history of all months is a history
-pub all_months : (b : Basin) (series : Inflows) (records : List MonthRecord) → IsPartialHistory b series records →
+pub all_months : (b : Basin) (series : Series) (records : List MonthRecord) → IsPartialHistory b series records →
     length records ≡ b.months → IsHistory b series records
 all_months b series records partial whole = record { partial = partial; whole = whole }
 

@@ -9,7 +9,7 @@ use Rattle.water_model.specs.History.{Follows, IsPartialHistory}
 use Rattle.water_model.specs.Indices.{numbers_from}
 use Rattle.water_model.specs.Lookups.{of_entry}
 use Rattle.water_model.specs.declared.types.Basin.{Basin}
-use Rattle.water_model.specs.declared.types.Inflows.{Inflows}
+use Rattle.water_model.specs.declared.types.Series.{Series}
 use Rattle.water_model.specs.declared.types.MonthRecord.{MonthRecord}
 
 -- what holds of all holds of the entry at an index
@@ -73,7 +73,7 @@ numbers_more from (suc n) =
     ap (λ xs. from ∷ xs) (numbers_more (suc from) n ∙ ap (λ k. numbers_from (suc from) n ++ k ∷ []) (omega arith))
 
 -- the prefix of a partial history is one
-pub prefix_partial : (b : Basin) (series : Inflows) (records : List MonthRecord) (i : ℕ) →
+pub prefix_partial : (b : Basin) (series : Series) (records : List MonthRecord) (i : ℕ) →
     IsPartialHistory b series records → IsPartialHistory b series (take i records)
 prefix_partial b series records i h = record {
   within = omega (arith, length-take i records, h.within);

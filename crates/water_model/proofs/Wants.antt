@@ -11,7 +11,7 @@ use Rattle.water_model.specs.Hydrology.{run_month, in_year, index_in, target_of,
 use Rattle.water_model.specs.Hydrology.{cap_by_link, number_of}
 use Rattle.water_model.specs.Valid.{IsValidBasin, IsValidRight, IsSeriesOf}
 use Rattle.water_model.specs.declared.types.Basin.{Basin}
-use Rattle.water_model.specs.declared.types.Inflows.{Inflows}
+use Rattle.water_model.specs.declared.types.Series.{Series}
 use Rattle.water_model.proofs.Valid.{entry_holds}
 
 -- the entries of a list of small amounts
@@ -31,7 +31,7 @@ volume_most None target used = omega arith
 volume_most (Some volume) target used = omega arith
 
 -- a right's number, of the series or of the calendar month
-number_most : (b : Basin) (series : Inflows) (r i : ℕ) → IsValidBasin b → IsSeriesOf b series → r < length b.rights →
+number_most : (b : Basin) (series : Series) (r i : ℕ) → IsValidBasin b → IsSeriesOf b series → r < length b.rights →
     of_entry b.rights r (λ x. number_of b series r i x) 0 ≤ 10 ^ 9
 number_most b series r i valid fits l =
     let entry = entry_holds (λ x. IsValidRight b x) b.rights r valid.rights l in
@@ -44,7 +44,7 @@ number_most b series r i valid fits l =
     by true h k = h
     by false h k = k
 
-pub want_most : (b : Basin) (series : Inflows) (r i used : ℕ) → IsValidBasin b → IsSeriesOf b series →
+pub want_most : (b : Basin) (series : Series) (r i used : ℕ) → IsValidBasin b → IsSeriesOf b series →
     r < length b.rights →
     want_of b series r i used ≤ 10 ^ 9
 want_most b series r i used valid fits l =
@@ -56,7 +56,7 @@ want_most b series r i used valid fits l =
       number_most b series r i valid fits l,
     )
 
-pub want_carried : (b : Basin) (series : Inflows) (r i used link : ℕ) → instream_link b r ≡ Some link →
+pub want_carried : (b : Basin) (series : Series) (r i used link : ℕ) → instream_link b r ≡ Some link →
     want_of b series r i used ≤ carry_of b (run_month b i) link
 want_carried b series r i used link e =
     let number : ℕ = of_entry b.rights r (λ x. number_of b series r i x) 0 in

@@ -6,7 +6,7 @@ use Rattle.water_model.specs.declared.types.Basin.{Basin}
 use Rattle.water_model.specs.declared.types.Carry.{Carry}
 use Rattle.water_model.specs.declared.types.Carry.TheVariants.{River, Canal}
 use Rattle.water_model.specs.declared.types.Inflow.TheVariants.{Monthly, Gauged}
-use Rattle.water_model.specs.declared.types.Inflows.{Inflows}
+use Rattle.water_model.specs.declared.types.Series.{Series}
 use Rattle.water_model.specs.declared.types.Link.{Link}
 use Rattle.water_model.specs.declared.types.Node.{Node}
 use Rattle.water_model.specs.declared.types.Right.{Right}
@@ -45,7 +45,7 @@ right name date kind want = record {
 abbrev pub steady : List ℕ → ℕ → RightKind → ℕ → Right
 steady name year kind amount = right name (record { year = year; month = 1; day = 1 }) kind (replicate 12 amount)
 
-abbrev pub no_series : Inflows
+abbrev pub no_series : Series
 no_series = record { gauged = []; amount = []; wanted = []; want = [] }
 
 -- One month of a stream with this inflow at the top.
@@ -105,5 +105,5 @@ ordinary = record {
   returns = record { right = 0; node = 4; part = 2500; lag = 1 } ∷ [];
 }
 
-abbrev pub ordinary_series : Inflows
+abbrev pub ordinary_series : Series
 ordinary_series = record { gauged = 0 ∷ []; amount = 2500 ∷ 1200 ∷ []; wanted = []; want = [] }

@@ -11,7 +11,7 @@ use Rattle.water_model.specs.Cuts.{IsTight, IsReach, takes_within}
 use Rattle.water_model.specs.Hydrology.{run_month, in_year, inflow_at, evaporation, returned_at, stored_at, used_of}
 use Rattle.water_model.specs.Hydrology.{want_of}
 use Rattle.water_model.specs.declared.types.Basin.{Basin}
-use Rattle.water_model.specs.declared.types.Inflows.{Inflows}
+use Rattle.water_model.specs.declared.types.Series.{Series}
 use Rattle.water_model.specs.declared.types.MonthRecord.{MonthRecord}
 use Rattle.water_model.specs.declared.types.RightKind.{RightKind}
 use Rattle.water_model.specs.declared.types.RightKind.TheVariants.{Diversion, Instream, Zone}
@@ -55,7 +55,7 @@ pub record FitsBasin (b : Basin) (m : MonthRecord) : Type 0 where
 -- The record is of the month after the records before, whatever it opens and closes with and whatever sets it has: its
 -- lists fit the basin, evaporation, returns, supply, use and wants are those of its opening and the records before, and
 -- it has a plan and what the plan delivers.
-pub record IsNextMonth (b : Basin) (series : Inflows) (before : List MonthRecord) (m : MonthRecord) : Type 0 where
+pub record IsNextMonth (b : Basin) (series : Series) (before : List MonthRecord) (m : MonthRecord) : Type 0 where
   pub fits : FitsBasin b m
   pub index : m.index ≡ length before
   pub month : m.month ≡ run_month b m.index
@@ -75,7 +75,7 @@ pub record IsNextMonth (b : Basin) (series : Inflows) (before : List MonthRecord
 
 -- a record of the month that follows the records before: it opens with what they leave, each short right has a tight
 -- cut and no other right a set, and it closes with what the zones took
-pub record Follows (b : Basin) (series : Inflows) (before : List MonthRecord) (m : MonthRecord) : Type 0 where
+pub record Follows (b : Basin) (series : Series) (before : List MonthRecord) (m : MonthRecord) : Type 0 where
   pub after : IsNextMonth b series before m
   pub opening : m.opening ≡ opening_after b before
   pub short : (r : ℕ) → r < length b.rights → IsShort m r →
@@ -85,11 +85,11 @@ pub record Follows (b : Basin) (series : Inflows) (before : List MonthRecord) (m
       ≡ total_where (length b.rights) (λ r. is_zone_of b r v) (λ r. slice_index m.plan.take r)
 
 -- each record follows those before it
-pub record IsPartialHistory (b : Basin) (series : Inflows) (records : List MonthRecord) : Type 0 where
+pub record IsPartialHistory (b : Basin) (series : Series) (records : List MonthRecord) : Type 0 where
   pub within : length records ≤ b.months
   pub each : (i : ℕ) (m : MonthRecord) → slice_get records i ≡ Some m → Follows b series (take i records) m
 
-pub record IsHistory (b : Basin) (series : Inflows) (records : List MonthRecord) : Type 0 where
+pub record IsHistory (b : Basin) (series : Series) (records : List MonthRecord) : Type 0 where
   pub partial : IsPartialHistory b series records
   pub whole : length records ≡ b.months
 

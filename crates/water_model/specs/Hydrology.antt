@@ -12,7 +12,7 @@ use Rattle.water_model.specs.declared.types.AreaPoint.{AreaPoint}
 use Rattle.water_model.specs.declared.types.Basin.{Basin}
 use Rattle.water_model.specs.declared.types.Inflow.{Inflow}
 use Rattle.water_model.specs.declared.types.Inflow.TheVariants.{Monthly, Gauged}
-use Rattle.water_model.specs.declared.types.Inflows.{Inflows}
+use Rattle.water_model.specs.declared.types.Series.{Series}
 use Rattle.water_model.specs.declared.types.ReturnRow.{ReturnRow}
 use Rattle.water_model.specs.declared.types.Right.{Right}
 
@@ -43,11 +43,11 @@ abbrev pub table_at : List ℕ → List ℕ → ℕ → ℕ → ℕ
 table_at keys cells i key = slice_index cells (i * length keys + index_in keys key)
 
 -- the inflow of a node: the series' amount of a gauged node, and else the amount of the calendar month
-abbrev pub inflow_of_kind : Basin → Inflows → ℕ → ℕ → Inflow → ℕ
+abbrev pub inflow_of_kind : Basin → Series → ℕ → ℕ → Inflow → ℕ
 inflow_of_kind b series node i (Monthly amounts) = slice_index amounts (in_year b i)
 inflow_of_kind b series node i Gauged = table_at series.gauged series.amount i node
 
-abbrev pub inflow_at : Basin → Inflows → ℕ → ℕ → ℕ
+abbrev pub inflow_at : Basin → Series → ℕ → ℕ → ℕ
 inflow_at b series node i = of_entry b.nodes node (λ n. inflow_of_kind b series node i n.inflow) 0
 
 -- the area at a storage: between two points by interpolation, rounded down, and beyond the last point its area
@@ -91,7 +91,7 @@ stored_at b opening evaporated node =
     (λ v. slice_index opening v - slice_index evaporated v)
 
 -- the target of a right: its number for the month, and on a canal at most what the canal carries
-abbrev pub number_of : Basin → Inflows → ℕ → ℕ → Right → ℕ
+abbrev pub number_of : Basin → Series → ℕ → ℕ → Right → ℕ
 number_of b series right i r =
     if r.series then table_at series.wanted series.want i right else slice_index r.want (in_year b i)
 
@@ -99,7 +99,7 @@ abbrev pub cap_by_link : Basin → Month → Option ℕ → ℕ → ℕ
 cap_by_link b month None number = number
 cap_by_link b month (Some link) number = min number (carry_of b month link)
 
-abbrev pub target_of : Basin → Inflows → ℕ → ℕ → ℕ
+abbrev pub target_of : Basin → Series → ℕ → ℕ → ℕ
 target_of b series right i =
     cap_by_link b (run_month b i) (instream_link b right)
     (of_entry b.rights right (λ r. number_of b series right i r) 0)
@@ -133,5 +133,5 @@ want_by_volume (Some volume) target used = min target (volume - used)
 abbrev pub volume_of : Basin → ℕ → Option ℕ
 volume_of b right = of_entry b.rights right (λ r. r.volume) None
 
-abbrev pub want_of : Basin → Inflows → ℕ → ℕ → ℕ → ℕ
+abbrev pub want_of : Basin → Series → ℕ → ℕ → ℕ → ℕ
 want_of b series right i used = want_by_volume (volume_of b right) (target_of b series right i) used

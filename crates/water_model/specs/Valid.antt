@@ -15,7 +15,7 @@ use Rattle.water_model.specs.declared.types.Carry.{Carry}
 use Rattle.water_model.specs.declared.types.Carry.TheVariants.{River, Canal}
 use Rattle.water_model.specs.declared.types.Inflow.{Inflow}
 use Rattle.water_model.specs.declared.types.Inflow.TheVariants.{Monthly, Gauged}
-use Rattle.water_model.specs.declared.types.Inflows.{Inflows}
+use Rattle.water_model.specs.declared.types.Series.{Series}
 use Rattle.water_model.specs.declared.types.Link as link
 use Rattle.water_model.specs.declared.types.Node as node
 use Rattle.water_model.specs.declared.types.Reservoir as reservoir
@@ -189,7 +189,7 @@ abbrev pub rights_in_series : Basin → List ℕ
 rights_in_series b = filter (λ r. is_in_series b r) (indices_of b.rights)
 
 -- for each gauged node an amount, and for each right in the series a want, for each month of the run, each at most 10^9
-pub record IsSeriesOf (b : Basin) (series : Inflows) : Type 0 where
+pub record IsSeriesOf (b : Basin) (series : Series) : Type 0 where
   pub gauged : series.gauged ≡ gauged_nodes b
   pub amounts : length series.amount ≡ b.months * length series.gauged
   pub small_amounts : All (λ n. n ≤ 10 ^ 9) series.amount

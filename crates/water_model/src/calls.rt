@@ -9,7 +9,7 @@ ghost use Rattle.water_model.specs.Hydrology.{run_month, target_of, want_of};
 ghost use Rattle.water_model.specs.Lookups.{of_entry};
 ghost use Rattle.water_model.specs.Valid.{IsValidBasin, IsValidCarry, IsSeriesOf, is_gauged, is_in_series};
 
-use crate::types::{Basin, Carry, Inflow, Inflows, RightKind};
+use crate::types::{Basin, Carry, Inflow, Series, RightKind};
 use water_text::month::Month;
 
 /// What a link of this kind carries in a month.
@@ -136,7 +136,7 @@ pub fn index_of(numbers: &[u32], number: u32) -> usize
 
 /// The inflow of a node in the month with this index, in units of 1,000 cubic metres: the series' amount of a gauged
 /// node, and else the node's amount for the calendar month.
-pub fn inflow_of(basin: &Basin, inflows: &Inflows, node: u32, index: u32) -> u64
+pub fn inflow_of(basin: &Basin, inflows: &Series, node: u32, index: u32) -> u64
     requires basin { IsValidBasin basin.now }
     requires series { IsSeriesOf basin.now inflows.now }
     requires node { node < length basin.now.nodes }
@@ -154,7 +154,7 @@ pub fn inflow_of(basin: &Basin, inflows: &Inflows, node: u32, index: u32) -> u64
 
 /// The number of a right in the month with this index: the series' want where its wants stand there, and else its
 /// number for the calendar month.
-fn number_of(basin: &Basin, inflows: &Inflows, right: u32, index: u32) -> u64
+fn number_of(basin: &Basin, inflows: &Series, right: u32, index: u32) -> u64
     requires basin { IsValidBasin basin.now }
     requires series { IsSeriesOf basin.now inflows.now }
     requires right { right < length basin.now.rights }
@@ -172,7 +172,7 @@ fn number_of(basin: &Basin, inflows: &Inflows, right: u32, index: u32) -> u64
 
 /// The target of a right in the month with this index: its number, and of an instream right on a canal at most what the
 /// canal carries, because the canal can't hold more.
-fn target_of(basin: &Basin, inflows: &Inflows, right: u32, index: u32) -> u64
+fn target_of(basin: &Basin, inflows: &Series, right: u32, index: u32) -> u64
     requires basin { IsValidBasin basin.now }
     requires series { IsSeriesOf basin.now inflows.now }
     requires right { right < length basin.now.rights }
@@ -189,7 +189,7 @@ fn target_of(basin: &Basin, inflows: &Inflows, right: u32, index: u32) -> u64
 
 /// The want of a right in the month with this index, in units of 1,000 cubic metres: its target, and of a diversion
 /// with a volume at most what is left of the volume. `used` is what the right used of it earlier in the water year.
-pub fn want_of(basin: &Basin, inflows: &Inflows, right: u32, index: u32, used: u64) -> u64
+pub fn want_of(basin: &Basin, inflows: &Series, right: u32, index: u32, used: u64) -> u64
     requires basin { IsValidBasin basin.now }
     requires series { IsSeriesOf basin.now inflows.now }
     requires right { right < length basin.now.rights }

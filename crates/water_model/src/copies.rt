@@ -3,7 +3,7 @@ ghost use Rattle.std.specs.Prelude.{◌≡◌, IfOk};
 
 use crate::cut_list::CutList;
 use crate::rows::Rows;
-use crate::types::{Inflows, MonthRecord, Plan};
+use crate::types::{Series, MonthRecord, Plan};
 use std::alloc::{AllocError, Global};
 
 /// Three equal lists.
@@ -33,16 +33,16 @@ impl Plan {
     }
 }
 
-impl Inflows {
+impl Series {
     /// An equal series. AllocError comes where memory is lacking.
-    pub fn copy(&self, alloc: Global) -> Result<Inflows, AllocError>
+    pub fn copy(&self, alloc: Global) -> Result<Series, AllocError>
         ensures { IfOk result (λ copied. copied ≡ self.now) }
     {
         let gauged = self.gauged.copy(alloc)?;
         let amount = self.amount.copy(alloc)?;
         let wanted = self.wanted.copy(alloc)?;
         let want = self.want.copy(alloc)?;
-        Ok(Inflows {
+        Ok(Series {
             gauged,
             amount,
             wanted,

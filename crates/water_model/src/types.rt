@@ -111,7 +111,7 @@ pub struct Basin {
 /// The series of a run: month by month the amounts of the gauged nodes, listed in `gauged`, and the wants of the rights
 /// in `wanted`. The amount of gauge `g` in month `i` stands at `i * gauged.len() + g`, and a want likewise.
 #[derive(Drop)]
-pub struct Inflows {
+pub struct Series {
     pub gauged: Rows<u32>,
     pub amount: Rows<u64>,
     pub wanted: Rows<u32>,

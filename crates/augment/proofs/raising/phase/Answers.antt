@@ -30,8 +30,8 @@ loop-circ-preserved g c =
     let reach = c.requires.rise (flow_of c.loop-circ.circ) flow inv.limit in
     let pushed = c.round.ensures.pushed c.if-not-round.false in
     let wide = c.round.ensures.wide c.if-not-round.false in
-    let next = phase_next c.args.least (open_arcs (network c.args.circ.now)) c.args.searches.now c.loop-circ.searches
-    c.round.new.searches (flow_of c.args.circ.now c.args.arc) (flow_of c.loop-circ.circ c.args.arc)
+    let next = phase_next c.args.least (open_arcs (network c.args.circ.now)) c.args.pushes.now c.loop-circ.pushes
+    c.round.new.pushes (flow_of c.args.circ.now c.args.arc) (flow_of c.loop-circ.circ c.args.arc)
     (flow_of c.round.new.circ c.args.arc) c.args.want c.requires.least inv.counted pushed.2
     (inv.each (omega (arith, less, seen))) reach (omega (arith, less, seen)) wide in
     record {

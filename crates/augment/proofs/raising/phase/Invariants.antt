@@ -8,10 +8,10 @@ invariant-loop-circ g l = record {
   rest : SameButFlow l.fn.circ l.circ;
   limit : flow_of l.circ l.arc ≤ l.want;
   rises : flow_of l.fn.circ l.arc ≤ flow_of l.circ l.arc;
-  counted : l.fn.searches ≤ l.searches;
-  each : flow_of l.circ l.arc < l.want → (l.searches - l.fn.searches) * l.least + flow_of l.fn.circ l.arc
+  counted : l.fn.pushes ≤ l.pushes;
+  each : flow_of l.circ l.arc < l.want → (l.pushes - l.fn.pushes) * l.least + flow_of l.fn.circ l.arc
       ≤ flow_of l.circ l.arc;
-  cost : l.searches ≤ l.fn.searches + (2 * open_arcs (network l.fn.circ) + 1);
+  cost : l.pushes ≤ l.fn.pushes + (2 * open_arcs (network l.fn.circ) + 1);
 }
 
 abbrev pub decreases-loop-circ : goal.decreases-loop-circ

@@ -45,7 +45,7 @@ loop-left-preserved g c =
     let ended = c.phase.ensures in
     let count = ap (λ (x : Contents). open_arcs (network x)) inv.rest in
     let before : c.loop-left.left ≡ c.loop-left.left - 1 + 1 = omega (arith, some) in
-    let cost = subst (λ (n : ℕ). c.loop-left.searches ≤ c.args.searches.now + (c.first_phase-first.result.1 - n) *
+    let cost = subst (λ (n : ℕ). c.loop-left.pushes ≤ c.args.pushes.now + (c.first_phase-first.result.1 - n) *
     (2 * open_arcs (network c.args.circ.now) + 1)) before inv.cost in
     record {
       rest = rw inv.rest at ended.rest;
@@ -62,7 +62,7 @@ loop-left-preserved g c =
           let one : c.loop-left.least ≡ 1 = power ∙ ap (λ (n : ℕ). 2 ^ n) last in
           rw inv.rest at (ended.cut less one);
       cost = phases_cost c.first_phase-first.result.1 (c.loop-left.left - 1)
-          (open_arcs (network c.args.circ.now)) c.args.searches.now c.loop-left.searches c.phase.new.searches
+          (open_arcs (network c.args.circ.now)) c.args.pushes.now c.loop-left.pushes c.phase.new.pushes
           (omega (arith, inv.within, some)) cost (omega (arith, ended.cost, count));
     }
 
@@ -74,6 +74,6 @@ returns-clause-cost g c = λ small.
     let last = thirty c.first_phase-first.result.1 (open_arcs (network c.args.circ.now)) (omega (arith, below)) in
     let end : c.first_phase-first.result.1 - c.loop-left.left ≡ c.first_phase-first.result.1 = omega
     (arith, c.loop-left-test.false) in
-    let cost = subst (λ (n : ℕ). c.loop-left.searches
-    ≤ c.args.searches.now + n * (2 * open_arcs (network c.args.circ.now) + 1)) end inv.cost in
+    let cost = subst (λ (n : ℕ). c.loop-left.pushes
+    ≤ c.args.pushes.now + n * (2 * open_arcs (network c.args.circ.now) + 1)) end inv.cost in
     omega (arith, cost, last)

@@ -16,5 +16,5 @@ invariant-loop-left g l = record {
       h l.arc ≤ flow_of l.circ l.arc + open_arcs (network l.fn.circ) * (2 * l.least - 1);
   cut : flow_of l.circ l.arc < l.want → l.left ≡ 0 → IsGreatestCut (network l.fn.circ) (flow_of l.circ) l.arc
       (not_reached l.circ);
-  cost : l.searches ≤ l.fn.searches + (l.count - l.left) * (2 * open_arcs (network l.fn.circ) + 1);
+  cost : l.pushes ≤ l.fn.pushes + (l.count - l.left) * (2 * open_arcs (network l.fn.circ) + 1);
 }

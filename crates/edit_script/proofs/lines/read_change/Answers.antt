@@ -3,14 +3,14 @@ use Rattle.std.specs.Prelude.{Option, Some, None, Err, is_some, ◌==◌}
 use Rattle.std.specs.Borrow.{Bor}
 use Rattle.water_text.specs.Fields.{pieces_after, pieces_of}
 use Rattle.water_model.specs.declared.types.Basin.{Basin}
-use Rattle.water_model.specs.declared.types.Inflows.{Inflows}
+use Rattle.water_model.specs.declared.types.Series.{Series}
 use Rattle.edit_script.specs.Lines.{edit_in}
 use Rattle.edit_script.specs.declared.refused.ScriptFault.TheVariants as fault
 use Rattle.water_text.proofs.Splits.{some_piece}
 use Rattle.edit_script.proofs.lines.read_change.Goals as goal
 
 -- a line with a fifth field asks for nothing
-too_many : (b : Basin) (series : Inflows) (word month name amount : List ℕ) (o : Option (Bor (List ℕ))) →
+too_many : (b : Basin) (series : Series) (word month name amount : List ℕ) (o : Option (Bor (List ℕ))) →
     is_some o ≡ true →
     edit_in b series (word ∷ month ∷ name ∷ amount ∷ pieces_after o) ≡ Err fault.BadLine
 too_many b series word month name amount None h = cc

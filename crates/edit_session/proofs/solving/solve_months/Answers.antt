@@ -2,7 +2,7 @@ use Rattle.std.proofs.Common.{◌≡◌, ℕ, ◌∙◌, ◌+◌, ◌-◌, ◌�
 use Rattle.std.proofs.Math.Seq.{take-length}
 use Rattle.std.proofs.lemmas.List.{take-take}
 use Rattle.water_model.specs.declared.types.Basin.{Basin}
-use Rattle.water_model.specs.declared.types.Inflows.{Inflows}
+use Rattle.water_model.specs.declared.types.Series.{Series}
 use Rattle.water_model.specs.declared.types.MonthRecord.{MonthRecord}
 use Rattle.month_fold.specs.Runs.{EngineView, RunStandsFor, run_with}
 use Rattle.month_fold.specs.Works.{Solves, WorkDone}
@@ -25,7 +25,7 @@ solves_within b start after i kept count l so_far =
     Solves-within (i - kept) (count - kept) b start after (omega (arith, l)) so_far
 
 -- the months of a run may be kept
-kept_of_run : (engine : EngineView) (b : Basin) (series : Inflows) (records : List MonthRecord) (done : ℕ) →
+kept_of_run : (engine : EngineView) (b : Basin) (series : Series) (records : List MonthRecord) (done : ℕ) →
     engine.basin ≡ b → RunStandsFor (run_with engine series done) records →
     HasKeptMonths (record { basin = b; series = series; kept = records })
 kept_of_run engine b series records done e stands = record {

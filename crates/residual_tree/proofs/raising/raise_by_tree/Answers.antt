@@ -121,7 +121,7 @@ returns-else-word-eq0 g c =
       unlabeled = λ is. absurd (stopped_unfinished (sym is));
       cut = λ is. absurd (stopped_unfinished (sym is));
       unfinished = λ _. subst (λ (x : Contents).
-          (c.raise_labeled.new.searches ≡ c.args.searches.now + c.args.max_pushes)
+          (c.raise_labeled.new.pushes ≡ c.args.pushes.now + c.args.max_pushes)
           ⊎ ((slice_index x.to c.args.arc ≢ x.nodes) × IsFull c.raise_labeled.new.circ c.args.exit)) hold.rest.rest
           (done.why short (subst (λ (v : ℕ). IsLabeled c.raise_labeled.new.tree v)
           (c.ends-tail.ensures.from ∙ ap (λ (x : Contents). slice_index x.from c.args.arc) done.rest.rest) some));

@@ -12,7 +12,7 @@ invariant-loop-pushes g l = record {
   tree : IsResidualTree l.circ l.tree;
   rises : flow_of l.fn.circ l.arc ≤ flow_of l.circ l.arc;
   limit : flow_of l.circ l.arc ≤ l.want;
-  count : l.searches ≡ l.fn.searches + l._pushes;
+  count : l.pushes ≡ l.fn.pushes + l._pushes;
   each : flow_of l.fn.circ l.arc + l._pushes ≤ flow_of l.circ l.arc;
   still : l._pushes ≡ 0 → SameButScratch l.fn.circ l.circ;
 }

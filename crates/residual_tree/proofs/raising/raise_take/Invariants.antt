@@ -14,7 +14,7 @@ invariant-loop-pushes g l = record {
   got : l.got ≡ flow_of l.circ l.arc;
   rises : flow_of l.fn.circ l.arc ≤ l.got;
   less : l.got < l.want;
-  count : l.searches ≡ l.fn.searches + l._pushes;
+  count : l.pushes ≡ l.fn.pushes + l._pushes;
   left : l.left + l._pushes ≡ l.fn.left;
   each : flow_of l.fn.circ l.arc + l._pushes ≤ l.got;
 }

@@ -14,12 +14,12 @@ invariant-loop-turn g l = record {
   tree : l.givens.method ≡ Method.Tree → IsResidualTree l.circ l.tree;
   first : l.turn ≡ 0 → l.circ ≡ l.initial.circ;
   cost : l.givens.method ≡ Method.Tree →
-      l.searches + l.left ≤ l.fn.searches + 30 * length l.givens.basin.now.rights;
+      l.pushes + l.left ≤ l.fn.pushes + 30 * length l.givens.basin.now.rights;
   spills : SpillsAreOf l.givens.basin.now l.givens.method l.circ;
   used : l.givens.method ≡ Method.Tree →
-      l.fn.searches + 30 * length l.givens.basin.now.rights ≤ l.searches + l.left + l.turn;
+      l.fn.pushes + 30 * length l.givens.basin.now.rights ≤ l.pushes + l.left + l.turn;
   search_cost : l.givens.method ≡ Method.Searches →
-      l.searches ≤ l.fn.searches + l.turn * (30 * (2 * arc_count l.givens.basin.now + 1));
+      l.pushes ≤ l.fn.pushes + l.turn * (30 * (2 * arc_count l.givens.basin.now + 1));
   room : FitsRoom l.givens.basin.now l.room;
   plan : FitsPlan l.givens.basin.now l.plan;
 }

@@ -8,6 +8,6 @@ invariant-loop-pushes g l = record {
   raised : IsTreeRaise l.fn.circ l.circ l.claim;
   tree : IsResidualTree l.circ l.tree;
   left : l.left + l._pushes ≡ l.fn.left;
-  cost : l.searches ≤ l.fn.searches + l._pushes;
-  used : (l.fn.searches + l._pushes ≤ l.searches) ⊎ FillsExit l.fn.circ l.claim;
+  cost : l.pushes ≤ l.fn.pushes + l._pushes;
+  used : (l.fn.pushes + l._pushes ≤ l.pushes) ⊎ FillsExit l.fn.circ l.claim;
 }

@@ -59,7 +59,7 @@ returns-then-is_unlabeled-2 g c =
       leaves = record { tree = done.tree; artificial = done.artificial; cut = done.cut };
       count = done.count;
       cost = done.cost;
-      unfinished = λ is. elim (cases_eq r.new.searches c.args.searches.now) [
+      unfinished = λ is. elim (cases_eq r.new.pushes c.args.pushes.now) [
         | inr pushed ↦ inl (omega (arith, pushed, done.count, done.cost))
         | inl none ↦ elim (done.at_first is none (omega arith)) [
           | inl full ↦ inr full
@@ -131,7 +131,7 @@ returns-then-is_unlabeled-3 g c =
           let r = c.raise_by_tree-pulled in
           let ends = c.ends-ends in
           let kept = ends.ensures.kept in
-          elim (cases_eq r.new.searches c.args.searches.now) [
+          elim (cases_eq r.new.pushes c.args.pushes.now) [
             | inr pushed ↦ inl (omega (arith, pushed, r.ensures.count, r.ensures.cost))
             | inl none ↦ inl (
                 let stay = λ (v : ℕ) (b : v ≤ c.args.circ.now.nodes) (m : IsLabeled c.args.tree.now v).

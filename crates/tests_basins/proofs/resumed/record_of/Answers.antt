@@ -3,12 +3,12 @@ use Rattle.std.proofs.lemmas.Result.{IfOk-weaker}
 use Rattle.month_fold.specs.Runs.{RunView, RunStandsFor}
 use Rattle.water_model.specs.History.{IsPartialHistory}
 use Rattle.water_model.specs.declared.types.Basin.{Basin}
-use Rattle.water_model.specs.declared.types.Inflows.{Inflows}
+use Rattle.water_model.specs.declared.types.Series.{Series}
 use Rattle.water_model.specs.declared.types.MonthRecord.{MonthRecord}
 use Rattle.tests_basins.proofs.resumed.record_of.Goals as goal
 
 -- the last record of a run that stands for it alone
-first_partial : (run : RunView) (b : Basin) (series : Inflows) (one : MonthRecord) → run.basin ≡ b →
+first_partial : (run : RunView) (b : Basin) (series : Series) (one : MonthRecord) → run.basin ≡ b →
     run.series ≡ series → one ≡ run.last → RunStandsFor run (run.last ∷ []) → IsPartialHistory b series (one ∷ [])
 first_partial run b series one of_basin of_series same stands = rw (same, ← of_basin, ← of_series) stands.partial
 

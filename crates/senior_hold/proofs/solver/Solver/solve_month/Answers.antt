@@ -25,10 +25,10 @@ sweep-requires-clause-given g c =
 
 pub returns-then-eq-clause-pushes : goal.returns-then-eq-clause-pushes
 returns-then-eq-clause-pushes g c =
-    both (length c.args.self.now.rights) (arc_count c.args.self.now) c.args.searches.now c.sweep-swept.new.searches
-    c.sweep.new.searches (c.sweep-swept.ensures.pushes refl)
-    (subst (λ (b : Basin). c.sweep.new.searches
-    ≤ c.sweep-swept.new.searches + length b.rights * (30 * (2 * arc_count b + 1))) c.sweep-swept.ensures.same
+    both (length c.args.self.now.rights) (arc_count c.args.self.now) c.args.pushes.now c.sweep-swept.new.pushes
+    c.sweep.new.pushes (c.sweep-swept.ensures.pushes refl)
+    (subst (λ (b : Basin). c.sweep.new.pushes
+    ≤ c.sweep-swept.new.pushes + length b.rights * (30 * (2 * arc_count b + 1))) c.sweep-swept.ensures.same
     (c.sweep.ensures.search_pushes refl))
 
 pub sweep-swept-requires-clause-month : goal.sweep-swept-requires-clause-month

@@ -93,19 +93,19 @@ returns-then-eq-clause-solved g c = λ is.
     c.sweep-swept.new.cuts) c.self.view_is (c.sweep-swept.ensures.swept.solved is)
 
 pub returns-then-eq-clause-pushes : goal.returns-then-eq-clause-pushes
-returns-then-eq-clause-pushes g c = λ is. subst (λ (b : Basin). c.sweep-swept.new.searches
-    ≤ c.args.searches.now + 30 * length b.rights) c.self.view_is (c.sweep-swept.ensures.swept.pushes is)
+returns-then-eq-clause-pushes g c = λ is. subst (λ (b : Basin). c.sweep-swept.new.pushes
+    ≤ c.args.pushes.now + 30 * length b.rights) c.self.view_is (c.sweep-swept.ensures.swept.pushes is)
 
 pub returns-then-eq-clause-gave_up : goal.returns-then-eq-clause-gave_up
-returns-then-eq-clause-gave_up g c = λ is. subst (λ (b : Basin). c.args.searches.now + 29 * length b.rights
-    < c.sweep-swept.new.searches) c.self.view_is (c.sweep-swept.ensures.swept.gave_up is)
+returns-then-eq-clause-gave_up g c = λ is. subst (λ (b : Basin). c.args.pushes.now + 29 * length b.rights
+    < c.sweep-swept.new.pushes) c.self.view_is (c.sweep-swept.ensures.swept.gave_up is)
 
 pub returns-then-eq-clause-searched : goal.returns-then-eq-clause-searched
 returns-then-eq-clause-searched g c = c.sweep-swept.ensures.swept.searched
 
 pub returns-then-eq-clause-search_pushes : goal.returns-then-eq-clause-search_pushes
-returns-then-eq-clause-search_pushes g c = λ is. subst (λ (b : Basin). c.sweep-swept.new.searches
-    ≤ c.args.searches.now + length b.rights * (30 * (2 * arc_count b + 1))) c.self.view_is
+returns-then-eq-clause-search_pushes g c = λ is. subst (λ (b : Basin). c.sweep-swept.new.pushes
+    ≤ c.args.pushes.now + length b.rights * (30 * (2 * arc_count b + 1))) c.self.view_is
     (c.sweep-swept.ensures.swept.search_pushes is)
 
 pub prefer_rivers-requires-clause-valid : goal.prefer_rivers-requires-clause-valid
@@ -128,17 +128,17 @@ returns-clause-cuts g c = subst (λ (b : Basin). FitsCuts b c.sweep-swept.new.cu
     c.sweep-swept.ensures.swept.cuts
 
 pub returns-clause-pushes : goal.returns-clause-pushes
-returns-clause-pushes g c = λ is. subst (λ (b : Basin). c.sweep-swept.new.searches
-    ≤ c.args.searches.now + 30 * length b.rights) c.self.view_is (c.sweep-swept.ensures.swept.pushes is)
+returns-clause-pushes g c = λ is. subst (λ (b : Basin). c.sweep-swept.new.pushes
+    ≤ c.args.pushes.now + 30 * length b.rights) c.self.view_is (c.sweep-swept.ensures.swept.pushes is)
 
 pub returns-clause-gave_up : goal.returns-clause-gave_up
-returns-clause-gave_up g c = λ is. subst (λ (b : Basin). c.args.searches.now + 29 * length b.rights
-    < c.sweep-swept.new.searches) c.self.view_is (c.sweep-swept.ensures.swept.gave_up is)
+returns-clause-gave_up g c = λ is. subst (λ (b : Basin). c.args.pushes.now + 29 * length b.rights
+    < c.sweep-swept.new.pushes) c.self.view_is (c.sweep-swept.ensures.swept.gave_up is)
 
 pub returns-clause-searched : goal.returns-clause-searched
 returns-clause-searched g c = c.sweep-swept.ensures.swept.searched
 
 pub returns-clause-search_pushes : goal.returns-clause-search_pushes
-returns-clause-search_pushes g c = λ is. subst (λ (b : Basin). c.sweep-swept.new.searches
-    ≤ c.args.searches.now + length b.rights * (30 * (2 * arc_count b + 1))) c.self.view_is
+returns-clause-search_pushes g c = λ is. subst (λ (b : Basin). c.sweep-swept.new.pushes
+    ≤ c.args.pushes.now + length b.rights * (30 * (2 * arc_count b + 1))) c.self.view_is
     (c.sweep-swept.ensures.swept.search_pushes is)

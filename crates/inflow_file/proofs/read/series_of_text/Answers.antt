@@ -1,4 +1,4 @@
-use Rattle.inflow_file.proofs.read.read_inflows.Goals as goal
+use Rattle.inflow_file.proofs.read.series_of_text.Goals as goal
 
 pub returns : goal.returns
 returns c =
