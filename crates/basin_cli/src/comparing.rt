@@ -22,7 +22,7 @@ use month_fold::work::Work;
 use std::alloc::{AllocError, Global};
 use std::sync::ledger::Ledger;
 use water_edge::Sink;
-use water_model::types::{Basin, Series, MonthRecord};
+use water_model::types::{Basin, MonthRecord, Series};
 
 /// Appends the rows of a month's injuries and answers their number.
 fn draft_injuries(

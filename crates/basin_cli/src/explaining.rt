@@ -32,7 +32,7 @@ use std::sync::ledger::Ledger;
 use water_edge::{Sink, SinkFailed};
 use water_model::calls::index_in_run;
 use water_model::space::{Space, name_in};
-use water_model::types::{Basin, Series, MonthRecord};
+use water_model::types::{Basin, MonthRecord, Series};
 use water_text::line::Line;
 use water_text::month::Month;
 use water_text::name::Name;

@@ -11,7 +11,7 @@ use crate::reservoirs::{add_zones, reservoirs};
 use crate::turns::{Made, turns};
 use std::alloc::{AllocError, Global};
 use water_model::rows::Rows;
-use water_model::types::{Basin, Series, Link, ReturnRow, Right};
+use water_model::types::{Basin, Link, ReturnRow, Right, Series};
 use water_text::month::Month;
 
 /// The rivers, then the canals.

@@ -21,7 +21,7 @@ use reservoirs::AreaTable;
 use result_lines::item::Item;
 use result_lines::quantity::Quantity;
 use water_model::calls::{carry_of, want_of};
-use water_model::types::{Basin, Series, MonthRecord, RightKind};
+use water_model::types::{Basin, MonthRecord, RightKind, Series};
 use water_text::month::Month;
 
 /// Whether a line is an `in` line.

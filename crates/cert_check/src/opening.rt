@@ -27,7 +27,7 @@ use rights_roll::roll::Roll;
 use std::alloc::{AllocError, Global};
 use water_model::blank::zeros;
 use water_model::rows::Rows;
-use water_model::types::{Basin, Series, MAX_NODES};
+use water_model::types::{Basin, MAX_NODES, Series};
 
 /// What comes back to each node in the first month.
 fn first_comes(alloc: Global, basin: &Basin, lags: &Lags) -> Result<Rows<u64>, AllocError>

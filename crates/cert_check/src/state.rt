@@ -4,7 +4,7 @@ use lag_returns::Lags;
 use reservoirs::AreaTable;
 use rights_roll::roll::Roll;
 use water_model::rows::Rows;
-use water_model::types::{Basin, Series, MAX_NODES, MonthRecord};
+use water_model::types::{Basin, MAX_NODES, MonthRecord, Series};
 
 /// A basin and its series, and what is derived from the basin once: the roll of its rights, its rows by node, the area
 /// table of each reservoir, and the last outlet in the order of the file.

@@ -6,7 +6,7 @@ ghost use Rattle.water_model.specs.Hydrology.{inflow_at, stored_at};
 ghost use Rattle.water_model.specs.Valid.{IsValidBasin, IsSeriesOf};
 
 use month_terms::supply::{add_stored, read_inflows};
-use water_model::types::{Basin, Series, MonthRecord};
+use water_model::types::{Basin, MonthRecord, Series};
 
 /// Writes what flows in, what comes back and what is stored at each node.
 fn sum_supply(

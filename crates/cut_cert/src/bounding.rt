@@ -17,7 +17,7 @@ use crate::{is_on_link, kept_on};
 use bit_words::next_marked_in_both;
 use chains::Chains;
 use rights_roll::roll::Roll;
-use water_model::types::{Basin, Carry};
+use water_model::types::{Basin, Carry, RIVER_CARRY};
 use water_text::month::Month;
 
 /// What can come into a set, and what seniors keep in it and on the links that leave it, or the part of that at a node.
@@ -35,7 +35,7 @@ fn carry_in_days(carry: &Carry, month: Month, days: u64) -> u64
     ensures { result ≡ carry_of_kind carry.now month }
 {
     match carry {
-        Carry::River => 1_000_000_000_000_000,
+        Carry::River => RIVER_CARRY,
         Carry::Canal { per_day, shut } => {
             if shut[month.month as usize - 1] {
                 0

@@ -15,11 +15,8 @@ use crate::draws::DrawNodes;
 use circulation::CirculationMut;
 use water_model::calls::carry_of;
 use water_model::rows::Rows;
-use water_model::types::Basin;
+use water_model::types::{Basin, RIVER_CARRY};
 use water_text::month::Month;
-
-/// As much as may leave the basin at an outlet, in units of 1,000 cubic metres: more than there is.
-const OUTLET: u64 = 1_000_000_000_000_000;
 
 /// The most that an arc may carry before any draw.
 fn most_on(basin: &Basin, draws: &Rows<DrawNodes>, month: Month, taken: &[u64], arc: u32) -> u64
@@ -36,7 +33,7 @@ fn most_on(basin: &Basin, draws: &Rows<DrawNodes>, month: Month, taken: &[u64], 
         Part::Take(node) => taken[node as usize],
         Part::Out(node) => {
             if basin.nodes[node as usize].outlet {
-                OUTLET
+                RIVER_CARRY
             } else {
                 0
             }

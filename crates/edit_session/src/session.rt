@@ -15,7 +15,7 @@ use std::alloc::{AllocError, Global};
 use std::marker::Model;
 use std::sync::ledger::Ledger;
 use water_model::rows::Rows;
-use water_model::types::{Basin, Series, MonthRecord};
+use water_model::types::{Basin, MonthRecord, Series};
 
 /// Changes a number of a month in a table with one column for each of the keys, and keeps the months before, and no
 /// other.
@@ -63,11 +63,7 @@ impl<'b> Model for Session<'b> {
 
 impl<'b> Session<'b> {
     /// A session with a copy of the series, in which no month is solved. AllocError comes where memory is lacking.
-    pub fn open(
-        alloc: Global,
-        basin: &'b Basin,
-        series: &Series,
-    ) -> Result<Session<'b>, AllocError>
+    pub fn open(alloc: Global, basin: &'b Basin, series: &Series) -> Result<Session<'b>, AllocError>
         requires basin { IsValidBasin basin.now }
         requires series { IsSeriesOf basin.now series.now }
         ensures basin { IfOk result (λ session. session.basin ≡ basin.now) }

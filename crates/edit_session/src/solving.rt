@@ -9,7 +9,7 @@ use month_fold::engine::Engine;
 use month_fold::work::Work;
 use std::alloc::{AllocError, Global};
 use std::sync::ledger::Ledger;
-use water_model::types::{Series, MonthRecord};
+use water_model::types::{MonthRecord, Series};
 
 /// Keeps a copy of a record after those that are kept. After an AllocError those before are kept.
 fn keep(

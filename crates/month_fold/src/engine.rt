@@ -24,7 +24,7 @@ use std::marker::Model;
 use std::sync::ledger::Ledger;
 use water_model::blank::zeros;
 use water_model::rows::Rows;
-use water_model::types::{Basin, Series, MonthRecord};
+use water_model::types::{Basin, MonthRecord, Series};
 
 /// What a run of a basin is made with, apart from its series: the solver, the calendar and the area tables, and the
 /// memory for what is on its way, what was used of volumes and the record of the last month. One engine serves one run

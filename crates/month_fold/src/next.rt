@@ -19,7 +19,7 @@ use senior_hold::Solver;
 use std::sync::ledger::Ledger;
 use steps::Steps;
 use water_model::rows::Rows;
-use water_model::types::{Basin, Series, MonthRecord};
+use water_model::types::{Basin, MonthRecord, Series};
 
 /// Writes what comes back to each node this month into its record, and what each right used of its volume before.
 fn write_returns(basin: &Basin, lags: &Lags, used: &[u64], month: &mut MonthRecord)

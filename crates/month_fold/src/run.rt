@@ -13,7 +13,7 @@ use rights_roll::roll::Roll;
 use std::alloc::{AllocError, Global};
 use std::marker::Model;
 use std::sync::ledger::Ledger;
-use water_model::types::{Basin, Series, MonthRecord};
+use water_model::types::{Basin, MonthRecord, Series};
 
 /// A run of a basin with a series of inflows.
 ///

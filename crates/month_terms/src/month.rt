@@ -12,7 +12,7 @@ use crate::supply::{add_stored, write_inflows};
 use crate::want::{write_deliveries, write_wants};
 use reservoirs::AreaTable;
 use water_model::calls::month_at;
-use water_model::types::{Basin, Series, MonthRecord};
+use water_model::types::{Basin, MonthRecord, Series};
 
 /// Settles in a record what is known of the month with this index before its plan: its opening, evaporation, supply and
 /// wants. The record still has the closing storage of the month before, and already what comes back to each node and

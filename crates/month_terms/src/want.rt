@@ -8,7 +8,7 @@ ghost use Rattle.month_terms.specs.Calendars.{IsCalendar};
 
 use crate::calendar::{Calendar, InstreamPlace};
 use water_model::calls::{carry_of, month_at, want_of};
-use water_model::types::{Basin, Series, Plan, RightKind};
+use water_model::types::{Basin, Plan, RightKind, Series};
 use water_text::month::Month;
 
 /// The want of a right in the month with this index, which is `month`. `position` is that of its calendar month in a

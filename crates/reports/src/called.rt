@@ -13,7 +13,7 @@ use crate::tally::Tally;
 use cut_cert::calls::{callers_by_node, calling_right};
 use rights_roll::roll::Roll;
 use std::alloc::{AllocError, Global};
-use water_model::types::{Basin, Series, MonthRecord};
+use water_model::types::{Basin, MonthRecord, Series};
 
 /// A tally, and how often a right had a calling right in a month.
 #[derive(Drop)]

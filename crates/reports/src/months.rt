@@ -14,7 +14,7 @@ use month_fold::work::Work;
 use rights_roll::roll::Roll;
 use std::alloc::{AllocError, Global};
 use std::sync::ledger::Ledger;
-use water_model::types::{Basin, Series, MonthRecord};
+use water_model::types::{Basin, MonthRecord, Series};
 
 /// What is kept of the months of a run, instead of the months.
 pub trait Kept: Sized {

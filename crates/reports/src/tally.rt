@@ -9,7 +9,7 @@ use crate::waters::Waters;
 use rights_roll::roll::Roll;
 use std::alloc::{AllocError, Global};
 use water_model::rows::Rows;
-use water_model::types::{Basin, Series, MonthRecord};
+use water_model::types::{Basin, MonthRecord, Series};
 
 /// The figures of each right, indexed by right, and the water of the months so far.
 #[derive(Drop)]

@@ -8,7 +8,7 @@ ghost use Rattle.water_model.specs.declared.types.MonthRecord.{MonthRecord};
 ghost use Rattle.reports.specs.Figures.{waters_of};
 ghost use Rattle.reports.specs.Tallies.{HasRoomForMonth};
 
-use water_model::types::{Basin, Series, MonthRecord, RightKind};
+use water_model::types::{Basin, MonthRecord, RightKind, Series};
 
 /// The water of a run: what was stored before its first month, flowed in and came back, and what is stored after its
 /// last month, evaporated, was delivered to diversions and flowed out.

@@ -16,10 +16,7 @@ use crate::search::Search;
 use std::alloc::{AllocError, Global};
 use std::marker::Model;
 use water_model::rows::Rows;
-use water_model::types::{Basin, Plan, RightKind};
-
-/// As much as a river carries in a month, in units of 1,000 cubic metres.
-const RIVER_CARRY: u64 = 1_000_000_000_000_000;
+use water_model::types::{Basin, Plan, RIVER_CARRY, RightKind};
 
 /// For each canal beside which water can go by rivers alone a round: back over the canal, and from where it begins to
 /// where it ends over rivers, down them or up. A step is a number: 2 * e goes over the link e forward, 2 * e + 1

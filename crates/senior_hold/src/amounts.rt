@@ -13,10 +13,10 @@ ghost use Rattle.senior_hold.specs.Solved.{FitsPlan};
 ghost use Rattle.senior_hold.specs.Spilled.{spilled, spills_of};
 
 use crate::arcs::Arcs;
-use crate::carries::{RIVER_CARRY, lay_carries};
+use crate::carries::lay_carries;
 use circulation::CirculationMut;
 use water_model::rows::Rows;
-use water_model::types::{Basin, Plan};
+use water_model::types::{Basin, Plan, RIVER_CARRY};
 use water_text::month::Month;
 
 /// Writes the flows of links at their indices.

@@ -7,11 +7,8 @@ ghost use Rattle.senior_hold.specs.Carries.{AreDailies, carry_in, daily_of_kind,
 
 use std::alloc::{AllocError, Global};
 use water_model::rows::Rows;
-use water_model::types::{Basin, Carry};
+use water_model::types::{Basin, Carry, RIVER_CARRY};
 use water_text::month::Month;
-
-/// As much as a river carries in a month, in units of 1,000 cubic metres.
-pub const RIVER_CARRY: u64 = 1_000_000_000_000_000;
 
 /// Stands for a day's amount where a link is a river. No canal carries so much.
 const OF_RIVER: u64 = u64::MAX;

@@ -83,7 +83,5 @@ pub fn sweep<L: Ledger>(
     let words = region.words_mut(both);
     let (held, tree) = words.split_at_mut(circ.place.len);
     let (fixed, moving) = held.split_at_mut(circ.fixed());
-    sweep_month(
-        givens, room, circ, fixed, moving, tree, plan, cuts, pushes,
-    )
+    sweep_month(givens, room, circ, fixed, moving, tree, plan, cuts, pushes)
 }

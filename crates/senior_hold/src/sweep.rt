@@ -19,7 +19,6 @@ ghost use Rattle.senior_hold.specs.Spilled.{IsSpilledStart, IsSettledPlan};
 
 use crate::amounts::{lay, read_links, read_spills, read_takes, write_bounds, write_outlets};
 use crate::arcs::Position;
-use crate::carries::RIVER_CARRY;
 use crate::serving::{Claim, Turn, serve_by};
 use crate::solver::{Layout, Room};
 use circulation::{Circulation, CirculationMut};
@@ -27,7 +26,7 @@ use residual_tree::ResidualTree;
 use std::sync::ledger::Ledger;
 use steps::Steps;
 use water_model::cut_list::CutList;
-use water_model::types::{Basin, Plan};
+use water_model::types::{Basin, Plan, RIVER_CARRY};
 use water_text::month::Month;
 
 /// The pushes that a month may have for each of its rights.

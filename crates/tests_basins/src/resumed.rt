@@ -14,7 +14,7 @@ use std::process::Abort;
 use std::sync::ledger::{Blank, Ledger};
 use std::test::Fail;
 use water_model::rows::Rows;
-use water_model::types::{Basin, Series, MonthRecord};
+use water_model::types::{Basin, MonthRecord, Series};
 
 /// A lake from which a farm may take 30 in a water year, and a third of it comes back below a month later.
 const BASIN: &str = r#"format = 2

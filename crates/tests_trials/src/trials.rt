@@ -3,7 +3,7 @@ use basin_gen::make;
 use std::alloc::AllocError;
 use std::process::Abort;
 use water_model::types::{
-    Basin, Carry, Inflow, Series, Link, Node, Reservoir, ReturnRow, Right, RightKind,
+    Basin, Carry, Inflow, Link, Node, Reservoir, ReturnRow, Right, RightKind, Series,
 };
 
 /// The sum of all inflows of a year.

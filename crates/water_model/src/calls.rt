@@ -9,7 +9,7 @@ ghost use Rattle.water_model.specs.Hydrology.{run_month, target_of, want_of};
 ghost use Rattle.water_model.specs.Lookups.{of_entry};
 ghost use Rattle.water_model.specs.Valid.{IsValidBasin, IsValidCarry, IsSeriesOf, is_gauged, is_in_series};
 
-use crate::types::{Basin, Carry, Inflow, Series, RightKind};
+use crate::types::{Basin, Carry, Inflow, RIVER_CARRY, RightKind, Series};
 use water_text::month::Month;
 
 /// What a link of this kind carries in a month.
@@ -19,7 +19,7 @@ fn carry_in_month(carry: &Carry, month: Month) -> u64
     ensures { result ≡ carry_of_kind carry.now month }
 {
     match carry {
-        Carry::River => 1_000_000_000_000_000,
+        Carry::River => RIVER_CARRY,
         Carry::Canal { per_day, shut } => {
             if shut[month.month as usize - 1] {
                 0

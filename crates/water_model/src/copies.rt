@@ -3,7 +3,7 @@ ghost use Rattle.std.specs.Prelude.{◌≡◌, IfOk};
 
 use crate::cut_list::CutList;
 use crate::rows::Rows;
-use crate::types::{Series, MonthRecord, Plan};
+use crate::types::{MonthRecord, Plan, Series};
 use std::alloc::{AllocError, Global};
 
 /// Three equal lists.

@@ -12,6 +12,9 @@ use water_text::name::Name;
 /// The most nodes that a valid basin has.
 pub const MAX_NODES: usize = 2000;
 
+/// As much as a river carries in a month, in units of 1,000 cubic metres: more than a basin ever has.
+pub const RIVER_CARRY: u64 = 1_000_000_000_000_000;
+
 /// A point of the basin where water comes together. Water that reaches an outlet leaves the basin.
 #[derive(Drop)]
 pub struct Node {
