@@ -15,12 +15,13 @@ use Rattle.std.proofs.Math.Nat.{mul-le-mul_right}
 use Rattle.water_model.specs.Hydrology.{index_in, inflow_at, inflow_of_kind, in_year, table_at, number_of}
 use Rattle.water_model.specs.Lookups.{of_entry}
 use Rattle.water_model.specs.Indices.{numbers_from, indices_of}
-use Rattle.water_model.specs.Valid.{IsValidBasin, IsSeriesOf, is_gauged, is_gauged_kind, is_in_series}
+use Rattle.water_model.specs.Valid.{IsValidBasin, IsSeriesOf, is_gauged, is_gauged_kind, is_in_series, is_series}
 use Rattle.water_model.specs.declared.types.Basin.{Basin}
 use Rattle.water_model.specs.declared.types.Inflow.TheVariants.{Gauged}
 use Rattle.water_model.specs.declared.types.Series.{Series}
 use Rattle.water_model.specs.declared.types.Node.{Node}
 use Rattle.water_model.specs.declared.types.Right.{Right}
+use Rattle.water_model.specs.declared.types.Want.TheVariants as wants
 use Rattle.water_model.proofs.Order.{Has, numbers_from-get, numbers_from-has, length-numbers_from, has-filter}
 
 -- the index of a number that stands at i and nowhere before, or of one that stands nowhere, where i is the length
@@ -155,19 +156,19 @@ wanted_within b series right fits l e =
 
 -- the index of the want of a right in a month
 pub want_cell : {b : Basin} {series : Series} {right index : ℕ} {r : Right} → IsValidBasin b → IsSeriesOf b series →
-    right < length b.rights → index < b.months → slice_get b.rights right ≡ Some r → r.series ≡ true →
+    right < length b.rights → index < b.months → slice_get b.rights right ≡ Some r → r.want ≡ wants.Series →
     HasCell series.wanted series.want right index
 want_cell {b} {series} {right} {index} {r} valid fits l k at e =
     has_cell b series.wanted series.want right index (length b.rights) (λ x. is_in_series b x) valid fits.wanted
     (omega (arith, valid.bounded.rights)) fits.wants k (wanted_within b series right fits l
-    (ap (λ o. unwrap_or (option_map (λ (x : Right). x.series) o) false) at ∙ e))
+    (ap (λ o. unwrap_or (option_map (λ (x : Right). is_series x.want) o) false) at ∙ ap is_series e))
 
 -- what stands there is the right's number
 pub want_is_number : (b : Basin) (series : Series) (right index : ℕ) (r : Right) (x : ℕ) →
-    slice_get b.rights right ≡ Some r → r.series ≡ true →
+    slice_get b.rights right ≡ Some r → r.want ≡ wants.Series →
     slice_get series.want (index * length series.wanted + index_in series.wanted right) ≡ Some x →
-    x ≡ of_entry b.rights right (λ y. number_of b series right index y) 0
+    x ≡ of_entry b.rights right (λ y. number_of b series right index y.want) 0
 want_is_number b series right index r x at e cell =
     sym (get_or_from_slice_get series.want (index * length series.wanted + index_in series.wanted right) x 0 cell)
-    ∙ sym (ap (λ o. unwrap_or (option_map (λ y. number_of b series right index y) o) 0) at
-    ∙ ap (λ t. if t then table_at series.wanted series.want index right else slice_index r.want (in_year b index)) e)
+    ∙ sym (ap (λ o. unwrap_or (option_map (λ y. number_of b series right index y.want) o) 0) at
+    ∙ ap (number_of b series right index) e)

@@ -12,6 +12,7 @@ use Rattle.water_model.specs.declared.types.Node.{Node}
 use Rattle.water_model.specs.declared.types.Right.{Right}
 use Rattle.water_model.specs.declared.types.RightKind.{RightKind}
 use Rattle.water_model.specs.declared.types.RightKind.TheVariants.{Diversion, Instream, Zone}
+use Rattle.water_model.specs.declared.types.Want.TheVariants as wants
 
 -- a node with the same inflow in each month
 abbrev pub spring : List ℕ → ℕ → Node
@@ -36,9 +37,10 @@ right name date kind want = record {
   date = date;
   order = 0;
   kind = kind;
-  want = want;
+  want = wants.Monthly want;
   volume = None;
-  series = false;
+  used = 0;
+  season = replicate 12 true;
 }
 
 -- a right of the first day of a year, which wants the same each month
@@ -52,6 +54,7 @@ no_series = record { gauged = []; amount = []; wanted = []; want = [] }
 abbrev pub stream : ℕ → List Right → Basin
 stream amount rights = record {
   format = 1;
+  unit = None;
   first = record { year = 1900; month = 1 };
   months = 1;
   year_start = 10;
@@ -60,6 +63,8 @@ stream amount rights = record {
   reservoirs = [];
   rights = rights;
   returns = [];
+  accounts = [];
+  draws = [];
 }
 
 -- diversions below the top and at it, and trout on the first river
@@ -77,6 +82,7 @@ fish = steady (codes "fish") 1880 (Instream 0) 30
 abbrev pub ordinary : Basin
 ordinary = record {
   format = 1;
+  unit = None;
   first = record { year = 1960; month = 7 };
   months = 2;
   year_start = 10;
@@ -102,7 +108,9 @@ ordinary = record {
       ∷ steady (codes "dead") 1900 (Zone 0 1) 1000
       ∷ right (codes "live") (record { year = 1922; month = 3; day = 1 }) (Zone 0 2) (replicate 12 9000)
       ∷ [];
-  returns = record { right = 0; node = 4; part = 2500; lag = 1 } ∷ [];
+  returns = record { right = 0; node = 4; part = 2500; lag = 1; rest = 0; due = [] } ∷ [];
+  accounts = [];
+  draws = [];
 }
 
 abbrev pub ordinary_series : Series

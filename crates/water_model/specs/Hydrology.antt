@@ -14,7 +14,8 @@ use Rattle.water_model.specs.declared.types.Inflow.{Inflow}
 use Rattle.water_model.specs.declared.types.Inflow.TheVariants.{Monthly, Gauged}
 use Rattle.water_model.specs.declared.types.Series.{Series}
 use Rattle.water_model.specs.declared.types.ReturnRow.{ReturnRow}
-use Rattle.water_model.specs.declared.types.Right.{Right}
+use Rattle.water_model.specs.declared.types.Want.{Want}
+use Rattle.water_model.specs.declared.types.Want.TheVariants as wants
 
 -- the month with index i of the run, and its index in a list of twelve
 abbrev pub run_month : Basin → ℕ → Month
@@ -91,9 +92,9 @@ stored_at b opening evaporated node =
     (λ v. slice_index opening v - slice_index evaporated v)
 
 -- the target of a right: its number for the month, and on a canal at most what the canal carries
-abbrev pub number_of : Basin → Series → ℕ → ℕ → Right → ℕ
-number_of b series right i r =
-    if r.series then table_at series.wanted series.want i right else slice_index r.want (in_year b i)
+abbrev pub number_of : Basin → Series → ℕ → ℕ → Want → ℕ
+number_of b series right i (wants.Monthly amounts) = slice_index amounts (in_year b i)
+number_of b series right i wants.Series = table_at series.wanted series.want i right
 
 abbrev pub cap_by_link : Basin → Month → Option ℕ → ℕ → ℕ
 cap_by_link b month None number = number
@@ -102,7 +103,7 @@ cap_by_link b month (Some link) number = min number (carry_of b month link)
 abbrev pub target_of : Basin → Series → ℕ → ℕ → ℕ
 target_of b series right i =
     cap_by_link b (run_month b i) (instream_link b right)
-    (of_entry b.rights right (λ r. number_of b series right i r) 0)
+    (of_entry b.rights right (λ r. number_of b series right i r.want) 0)
 
 -- the water year of a month, counted from year 0
 abbrev pub water_year : Basin → ℕ → ℕ

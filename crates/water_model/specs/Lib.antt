@@ -4,6 +4,7 @@ pub mod Network
 pub mod Rights
 pub mod Basin
 pub mod Indices
+pub mod Stores
 pub mod Valid
 pub mod CutSets
 pub mod Blank

@@ -1,6 +1,7 @@
 -- Valid basins, and the inflows that fit one.
 use Rattle.std.specs.Prelude.{◌≡◌, ◌≢◌, ℕ, ◌+◌, ◌*◌, ◌^◌, ◌<◌, ◌≤◌, ◌==◌, List, [], ◌∷◌, length, All, IsTrue, replicate}
-use Rattle.std.specs.Prelude.{Option, Some, None, Bool, true, false, filter}
+use Rattle.std.specs.Prelude.{Option, Some, None, Bool, true, false, filter, is_some, not, ◌&&◌, ◌||◌}
+use Rattle.std.specs.List.{list_all}
 use Rattle.finite_sums.specs.Sums.{count_where}
 use Rattle.water_text.specs.Names.{is_name}
 use Rattle.water_text.specs.Months.{IsMonth}
@@ -9,10 +10,13 @@ use Rattle.water_model.specs.Network.{HasNodes, IsSoundNetwork}
 use Rattle.water_model.specs.Rights.{IsSoundRoll}
 use Rattle.water_model.specs.Basin.{is_outlet, node_of_reservoir, node_name, link_name, right_name}
 use Rattle.water_model.specs.Indices.{indices_of}
+use Rattle.water_model.specs.Stores.{is_owned, first_stored, account_name, sum_in_reservoir, draw_key}
+use Rattle.water_model.specs.declared.types.Account.{Account}
 use Rattle.water_model.specs.declared.types.AreaPoint.{AreaPoint}
 use Rattle.water_model.specs.declared.types.Basin.{Basin}
 use Rattle.water_model.specs.declared.types.Carry.{Carry}
 use Rattle.water_model.specs.declared.types.Carry.TheVariants.{River, Canal}
+use Rattle.water_model.specs.declared.types.Draw.{Draw}
 use Rattle.water_model.specs.declared.types.Inflow.{Inflow}
 use Rattle.water_model.specs.declared.types.Inflow.TheVariants.{Monthly, Gauged}
 use Rattle.water_model.specs.declared.types.Series.{Series}
@@ -23,6 +27,8 @@ use Rattle.water_model.specs.declared.types.ReturnRow.{ReturnRow}
 use Rattle.water_model.specs.declared.types.Right.{Right}
 use Rattle.water_model.specs.declared.types.RightKind.{RightKind}
 use Rattle.water_model.specs.declared.types.RightKind.TheVariants as kind
+use Rattle.water_model.specs.declared.types.Want.{Want}
+use Rattle.water_model.specs.declared.types.Want.TheVariants as wants
 
 -- twelve numbers, from January to December, each at most this
 pub record IsMonthly (most : ℕ) (numbers : List ℕ) : Type 0 where
@@ -88,18 +94,40 @@ is_diversion_kind (kind.Zone reservoir level) = false
 abbrev pub is_diversion : Basin → ℕ → Bool
 is_diversion b right = of_entry b.rights right (λ r. is_diversion_kind r.kind) false
 
--- a diversion may have a volume, and no other right has one
-abbrev pub IsValidVolume : RightKind → Option ℕ → Type 0
-IsValidVolume kind None = Unit {0}
-IsValidVolume kind (Some volume) = (is_diversion_kind kind ≡ true) × (volume ≤ 16000000000)
+abbrev pub is_zone_kind : RightKind → Bool
+is_zone_kind (kind.Diversion node) = false
+is_zone_kind (kind.Instream link) = false
+is_zone_kind (kind.Zone reservoir level) = true
+
+abbrev pub is_zone : Basin → ℕ → Bool
+is_zone b right = of_entry b.rights right (λ r. is_zone_kind r.kind) false
+
+-- a diversion or zone may have a volume, and of a volume something may be used before the run
+abbrev pub IsValidVolume : RightKind → Option ℕ → ℕ → Type 0
+IsValidVolume kind None used = used ≡ 0
+IsValidVolume kind (Some volume) used =
+    (is_diversion_kind kind || is_zone_kind kind ≡ true) × (volume ≤ 16000000000) × (used ≤ volume)
+
+-- in which calendar months a right has its want: a zone in its season, any other right in all twelve
+pub record IsValidSeason (kind : RightKind) (season : List Bool) : Type 0 where
+  pub twelve : length season ≡ 12
+  pub others : is_zone_kind kind ≡ false → season ≡ replicate 12 true
+
+abbrev pub is_series : Want → Bool
+is_series (wants.Monthly amounts) = false
+is_series wants.Series = true
+
+abbrev pub IsValidWant : Want → Type 0
+IsValidWant (wants.Monthly amounts) = IsMonthly (10 ^ 9) amounts
+IsValidWant wants.Series = Unit {0}
 
 pub record IsValidRight (b : Basin) (r : Right) : Type 0 where
   pub name : IsTrue (is_name r.name)
   pub order : r.order ≤ 1000000
   pub site : HasValidSite b r.kind
-  pub want : IsMonthly (10 ^ 9) r.want
-  pub volume : IsValidVolume r.kind r.volume
-  pub series : r.series ≡ true → r.want ≡ replicate 12 0
+  pub want : IsValidWant r.want
+  pub volume : IsValidVolume r.kind r.volume r.used
+  pub season : IsValidSeason r.kind r.season
 
 -- the order of the kinds of rights in a basin: all diversions, then all instream rights, then all zones
 abbrev pub rank_of_kind : RightKind → ℕ
@@ -117,6 +145,9 @@ pub record IsValidReturn (b : Basin) (row : ReturnRow) : Type 0 where
   pub node : row.node < length b.nodes
   pub part : (1 ≤ row.part) × (row.part ≤ 10000)
   pub lag : (1 ≤ row.lag) × (row.lag ≤ 120)
+  pub rest : row.rest ≤ 9999
+  pub due : All (λ n. n ≤ 10 ^ 9) row.due
+  pub bounded_due : length row.due ≤ row.lag
 
 -- how many return rows a diversion has
 abbrev pub rows_of : Basin → ℕ → ℕ
@@ -142,19 +173,73 @@ pub record HasBoundedEntries (b : Basin) : Type 0 where
   pub links : length b.links ≤ 4000
   pub rights : length b.rights ≤ 2000
   pub rows : (right : ℕ) → right < length b.rights → rows_of b right ≤ 8
+  pub accounts : length b.accounts ≤ 2000
+  pub draws : length b.draws ≤ 4000
 
 -- a basin of format 1: water years begin with October, no canal is ever shut, and no right has a volume or a series
 pub record IsFirstFormat (b : Basin) : Type 0 where
   pub year_start : b.year_start ≡ 10
   pub open_canals : All (λ l. IsAlwaysOpen l.carry) b.links
   pub volumes : All (λ r. r.volume ≡ None) b.rights
-  pub no_series : All (λ r. r.series ≡ false) b.rights
+  pub no_series : All (λ r. is_series r.want ≡ false) b.rights
 
--- a basin of format 1 or 2
+-- a right and a return row of format 1 or 2: nothing was used before the run, and nothing is due or left over from
+-- before it; a zone has no volume, and fills in every month
+pub record IsRightAlone (r : Right) : Type 0 where
+  pub used : r.used ≡ 0
+  pub volume : is_zone_kind r.kind ≡ true → r.volume ≡ None
+  pub season : r.season ≡ replicate 12 true
+
+pub record IsReturnAlone (row : ReturnRow) : Type 0 where
+  pub rest : row.rest ≡ 0
+  pub due : row.due ≡ []
+
+-- a basin of format 1 or 2: no stored water is an owner's, and nothing is known of the time before the run
+pub record IsWithoutStores (b : Basin) : Type 0 where
+  pub unit : b.unit ≡ None
+  pub accounts : b.accounts ≡ []
+  pub draws : b.draws ≡ []
+  pub rights : All IsRightAlone b.rights
+  pub returns : All IsReturnAlone b.returns
+
+-- a basin of format 1, 2 or 3
 pub record HasValidFormat (b : Basin) : Type 0 where
-  pub format : (1 ≤ b.format) × (b.format ≤ 2)
+  pub format : (1 ≤ b.format) × (b.format ≤ 3)
   pub year_start : (1 ≤ b.year_start) × (b.year_start ≤ 12)
   pub first : b.format ≡ 1 → IsFirstFormat b
+  pub second : b.format ≤ 2 → IsWithoutStores b
+
+-- an account: it names a zone, and holds no more than its space
+pub record IsValidAccount (b : Basin) (a : Account) : Type 0 where
+  pub name : IsTrue (is_name a.name)
+  pub zone : is_zone b a.zone ≡ true
+  pub space : a.space ≤ 10 ^ 9
+  pub stored : a.stored ≤ a.space
+
+-- a draw: it names a diversion, an account and a node
+pub record IsValidDraw (b : Basin) (d : Draw) : Type 0 where
+  pub diversion : is_diversion b d.diversion ≡ true
+  pub account : d.account < length b.accounts
+  pub node : d.node < length b.nodes
+  pub want : IsMonthly (10 ^ 9) d.want
+  pub volume : IsValidVolume (kind.Diversion d.node) d.volume d.used
+
+-- whether a right has what only an owned zone may have: a zone with a volume, or with a season
+abbrev pub is_zone_with_rule : Right → Bool
+is_zone_with_rule r = is_zone_kind r.kind && (is_some r.volume || not (list_all (λ fills. fills) r.season))
+
+-- the accounts and draws of a basin: a zone that no account names has neither a volume nor a season, what accounts hold
+-- when the run begins is in their reservoir, no two accounts have one name, and no two draws the same diversion, account
+-- and node
+pub record HasSoundStores (b : Basin) : Type 0 where
+  pub accounts : All (λ a. IsValidAccount b a) b.accounts
+  pub draws : All (λ d. IsValidDraw b d) b.draws
+  pub alone : (r : ℕ) → r < length b.rights → is_owned b r ≡ false →
+      of_entry b.rights r is_zone_with_rule false ≡ false
+  pub stored : (v : ℕ) → v < length b.reservoirs →
+      sum_in_reservoir b (first_stored b) v ≤ of_entry b.reservoirs v (λ r. r.opening) 0
+  pub names : (i j : ℕ) → i < j → j < length b.accounts → account_name b i ≢ account_name b j
+  pub own_draws : (i j : ℕ) → i < j → j < length b.draws → draw_key b i ≢ draw_key b j
 
 -- a valid basin: its format, its entries by themselves, their names and numbers, its network and its rights
 pub record IsValidBasin (b : Basin) : Type 0 where
@@ -170,6 +255,7 @@ pub record IsValidBasin (b : Basin) : Type 0 where
   pub names : HasOwnNames b
   pub network : IsSoundNetwork b.nodes b.links
   pub roll : IsSoundRoll b.rights b.returns
+  pub stores : HasSoundStores b
 
 -- the gauged nodes, and the rights whose wants stand in the series, in the order of the basin
 abbrev pub is_gauged_kind : Inflow → Bool
@@ -183,7 +269,7 @@ abbrev pub gauged_nodes : Basin → List ℕ
 gauged_nodes b = filter (λ n. is_gauged b n) (indices_of b.nodes)
 
 abbrev pub is_in_series : Basin → ℕ → Bool
-is_in_series b right = of_entry b.rights right (λ r. r.series) false
+is_in_series b right = of_entry b.rights right (λ r. is_series r.want) false
 
 abbrev pub rights_in_series : Basin → List ℕ
 rights_in_series b = filter (λ r. is_in_series b r) (indices_of b.rights)

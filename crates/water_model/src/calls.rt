@@ -9,7 +9,7 @@ ghost use Rattle.water_model.specs.Hydrology.{run_month, target_of, want_of};
 ghost use Rattle.water_model.specs.Lookups.{of_entry};
 ghost use Rattle.water_model.specs.Valid.{IsValidBasin, IsValidCarry, IsSeriesOf, is_gauged, is_in_series};
 
-use crate::types::{Basin, Carry, Inflow, RIVER_CARRY, RightKind, Series};
+use crate::types::{Basin, Carry, Inflow, RIVER_CARRY, RightKind, Series, Want};
 use water_text::month::Month;
 
 /// What a link of this kind carries in a month.
@@ -120,7 +120,10 @@ pub fn is_in_series(basin: &Basin, right: u32) -> bool
     requires { right < length basin.now.rights }
     ensures { result ≡ is_in_series basin.now right }
 {
-    basin.rights[right as usize].series
+    match basin.rights[right as usize].want {
+        Want::Series => true,
+        Want::Monthly(_) => false,
+    }
 }
 
 /// The index of a number in a rising list, or the list's length where it isn't there.
@@ -136,50 +139,50 @@ pub fn index_of(numbers: &[u32], number: u32) -> usize
 
 /// The inflow of a node in the month with this index, in units of 1,000 cubic metres: the series' amount of a gauged
 /// node, and else the node's amount for the calendar month.
-pub fn inflow_of(basin: &Basin, inflows: &Series, node: u32, index: u32) -> u64
+pub fn inflow_of(basin: &Basin, series: &Series, node: u32, index: u32) -> u64
     requires basin { IsValidBasin basin.now }
-    requires series { IsSeriesOf basin.now inflows.now }
+    requires series { IsSeriesOf basin.now series.now }
     requires node { node < length basin.now.nodes }
     requires index { index < basin.now.months }
-    ensures { result ≡ inflow_at basin.now inflows.now node index }
+    ensures { result ≡ inflow_at basin.now series.now node index }
 {
     match &basin.nodes[node as usize].inflow {
         Inflow::Monthly(amounts) => amounts[index_in_year(basin, index)],
         Inflow::Gauged => {
-            let gauge = index_of(inflows.gauged.as_slice(), node);
-            inflows.amount[index as usize * inflows.gauged.len() + gauge]
+            let gauge = index_of(series.gauged.as_slice(), node);
+            series.amount[index as usize * series.gauged.len() + gauge]
         }
     }
 }
 
 /// The number of a right in the month with this index: the series' want where its wants stand there, and else its
 /// number for the calendar month.
-fn number_of(basin: &Basin, inflows: &Series, right: u32, index: u32) -> u64
+fn number_of(basin: &Basin, series: &Series, right: u32, index: u32) -> u64
     requires basin { IsValidBasin basin.now }
-    requires series { IsSeriesOf basin.now inflows.now }
+    requires series { IsSeriesOf basin.now series.now }
     requires right { right < length basin.now.rights }
     requires index { index < basin.now.months }
-    ensures { result ≡ of_entry basin.now.rights right (λ r. number_of basin.now inflows.now right index r) 0 }
+    ensures { result ≡ of_entry basin.now.rights right (λ r. number_of basin.now series.now right index r.want) 0 }
 {
-    let entry = &basin.rights[right as usize];
-    if entry.series {
-        let position = index_of(inflows.wanted.as_slice(), right);
-        inflows.want[index as usize * inflows.wanted.len() + position]
-    } else {
-        entry.want[index_in_year(basin, index)]
+    match &basin.rights[right as usize].want {
+        Want::Monthly(amounts) => amounts[index_in_year(basin, index)],
+        Want::Series => {
+            let position = index_of(series.wanted.as_slice(), right);
+            series.want[index as usize * series.wanted.len() + position]
+        }
     }
 }
 
 /// The target of a right in the month with this index: its number, and of an instream right on a canal at most what the
 /// canal carries, because the canal can't hold more.
-fn target_of(basin: &Basin, inflows: &Series, right: u32, index: u32) -> u64
+fn target_of(basin: &Basin, series: &Series, right: u32, index: u32) -> u64
     requires basin { IsValidBasin basin.now }
-    requires series { IsSeriesOf basin.now inflows.now }
+    requires series { IsSeriesOf basin.now series.now }
     requires right { right < length basin.now.rights }
     requires index { index < basin.now.months }
-    ensures { result ≡ target_of basin.now inflows.now right index }
+    ensures { result ≡ target_of basin.now series.now right index }
 {
-    let number = number_of(basin, inflows, right, index);
+    let number = number_of(basin, series, right, index);
     match basin.rights[right as usize].kind {
         RightKind::Instream { link } => number.min(carry_of(basin, link, month_at(basin, index))),
         RightKind::Diversion { .. } => number,
@@ -189,14 +192,14 @@ fn target_of(basin: &Basin, inflows: &Series, right: u32, index: u32) -> u64
 
 /// The want of a right in the month with this index, in units of 1,000 cubic metres: its target, and of a diversion
 /// with a volume at most what is left of the volume. `used` is what the right used of it earlier in the water year.
-pub fn want_of(basin: &Basin, inflows: &Series, right: u32, index: u32, used: u64) -> u64
+pub fn want_of(basin: &Basin, series: &Series, right: u32, index: u32, used: u64) -> u64
     requires basin { IsValidBasin basin.now }
-    requires series { IsSeriesOf basin.now inflows.now }
+    requires series { IsSeriesOf basin.now series.now }
     requires right { right < length basin.now.rights }
     requires index { index < basin.now.months }
-    ensures { result ≡ want_of basin.now inflows.now right index used }
+    ensures { result ≡ want_of basin.now series.now right index used }
 {
-    let target = target_of(basin, inflows, right, index);
+    let target = target_of(basin, series, right, index);
     match basin.rights[right as usize].volume {
         Some(volume) => target.min(volume.saturating_sub(used)),
         None => target,

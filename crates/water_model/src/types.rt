@@ -1,6 +1,6 @@
 //! A basin, its inflows, a plan and a month's record.
 //!
-//! Water is counted in units of 1,000 cubic metres, areas in hectares, evaporation in millimetres a month. Nodes,
+//! Water is counted in units of 1,000 cubic metres (or in another unit that fits), areas in hectares, evaporation in millimetres a month. Nodes,
 //! links, reservoirs and rights are numbered from 0 in the order of the file, the months of a run from 0. Lists of
 //! twelve run from January to December.
 use crate::cut_list::CutList;
@@ -72,35 +72,80 @@ pub enum RightKind {
     Zone { reservoir: u32, level: u8 },
 }
 
+/// What a right wants: an amount for each calendar month, or its record in the series.
+#[derive(Clone, Copy, Debug, PartialEq, Eq)]
+pub enum Want {
+    Monthly([u64; 12]),
+    Series,
+}
+
 /// A water right. Of two rights the one with the earlier date is senior, and of one date the one with the lower order.
 ///
-/// `want` has the amount for each calendar month. A volume bounds what a diversion takes in a water year. `series` says
-/// that the wants stand month by month in the series, and `want` then has zeros. No right of format 1 has either.
+/// A volume bounds what a diversion takes, or what a zone with accounts fills, in a water year; `used` is what was used
+/// of it before the run, in the water year of the first month. `season` says of a zone in which calendar months it
+/// fills; of every other right it is all twelve. No right of format 1 has a volume or a series, and none below format 3
+/// anything used, a season, or a volume that is a zone's.
 #[derive(Drop)]
 pub struct Right {
     pub name: Name,
     pub date: Day,
     pub order: u32,
     pub kind: RightKind,
-    pub want: [u64; 12],
+    pub want: Want,
     pub volume: Option<u64>,
-    pub series: bool,
+    pub used: u64,
+    pub season: [bool; 12],
 }
 
-/// A part of what a diversion takes, in parts of 10,000, which comes back to a node after a lag in months.
-#[derive(Clone, Copy, Debug, PartialEq, Eq)]
+/// A part of what a diversion takes, in parts of 10,000, which comes back to a node after a lag in months. `due` is what
+/// the row brings in the first months of the run from diversions before it, one amount for each month and at most `lag`
+/// of them; `rest` is the remainder that it carries into the run, in parts of 10,000 of a unit.
+#[derive(Drop)]
 pub struct ReturnRow {
     pub right: u32,
     pub node: u32,
     pub part: u32,
     pub lag: u32,
+    pub rest: u32,
+    pub due: Rows<u64>,
+}
+
+/// Stored water that belongs to an owner: an account in a zone, which then is an owned zone. It holds at most `space`,
+/// and `stored` when the run begins. `zone` is the index of a right.
+#[derive(Drop)]
+pub struct Account {
+    pub name: Name,
+    pub zone: u32,
+    pub space: u64,
+    pub stored: u64,
+}
+
+/// What a diversion draws on an account: at most `want` in a calendar month, and at most `volume` in a water year, of
+/// which `used` was drawn before the run. The water is taken at `node`. `diversion` is the index of a right.
+#[derive(Drop)]
+pub struct Draw {
+    pub diversion: u32,
+    pub account: u32,
+    pub node: u32,
+    pub want: [u64; 12],
+    pub volume: Option<u64>,
+    pub used: u64,
+}
+
+/// What the amounts of a basin are counted in, as its file says it. No rule depends on it.
+#[derive(Clone, Copy, Debug, PartialEq, Eq)]
+pub enum Unit {
+    CubicMetres,
+    AcreFeet,
 }
 
 /// A river basin and the months of a run. The rights are all diversions, then all instream rights, then all zones.
-/// A water year begins with the calendar month `year_start`.
+/// A water year begins with the calendar month `year_start`. Accounts and draws are numbered from 0 in the order of the
+/// file; a basin below format 3 has neither, and no unit.
 #[derive(Drop)]
 pub struct Basin {
     pub format: u32,
+    pub unit: Option<Unit>,
     pub first: Month,
     pub months: u32,
     pub year_start: u8,
@@ -109,6 +154,8 @@ pub struct Basin {
     pub reservoirs: Rows<Reservoir>,
     pub rights: Rows<Right>,
     pub returns: Rows<ReturnRow>,
+    pub accounts: Rows<Account>,
+    pub draws: Rows<Draw>,
 }
 
 /// The series of a run: month by month the amounts of the gauged nodes, listed in `gauged`, and the wants of the rights

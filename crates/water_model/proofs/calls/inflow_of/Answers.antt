@@ -22,9 +22,9 @@ index-requires-in-Gauged c =
 
 pub returns-in-Gauged : goal.returns-in-Gauged
 returns-in-Gauged c =
-    cell_is_inflow c.args.basin.now c.args.inflows.now c.args.node c.args.index c.index.result.now
+    cell_is_inflow c.args.basin.now c.args.series.now c.args.node c.args.index c.index.result.now
     c.index-in-Gauged.result.now c.index.ensures c.in-Gauged.is
     (rw (c.len.ensures, c.index_of-gauge.ensures, c.as_slice.ensures) at c.index-in-Gauged.ensures)
 
 pub index_of-gauge-requires : goal.index_of-gauge-requires
-index_of-gauge-requires c = rw c.as_slice.ensures (gauges_rise c.args.basin.now c.args.inflows.now c.requires.series)
+index_of-gauge-requires c = rw c.as_slice.ensures (gauges_rise c.args.basin.now c.args.series.now c.requires.series)
