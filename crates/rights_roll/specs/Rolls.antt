@@ -1,5 +1,5 @@
 -- The roll of a list of rights.
-use Rattle.std.specs.Prelude.{◌≡◌, ℕ, ◌+◌, ◌<◌, List, length, map, Option, Some, None, slice_index_or}
+use Rattle.std.specs.Prelude.{◌≡◌, ℕ, ◌+◌, ◌<◌, List, length, Option, Some, None, slice_index_or}
 use Rattle.chains.specs.Chains.{IsFirst, has_key}
 use Rattle.water_model.specs.Lookups.{of_entry}
 use Rattle.water_model.specs.Basin.{link_of_kind}
@@ -17,7 +17,7 @@ IsNextOn rights link start = IsFirst (has_key (link_in rights) link) start (leng
 
 pub record IsRollOf (rights : List Right) (roll : RollView) : Type 0 where
   pub order : roll.order ≡ by_seniority rights
-  pub wants : roll.wants ≡ map (λ r. r.want) rights
+  pub one_next : length roll.next_on ≡ length rights
   pub firsts : (link : ℕ) → IsNextOn rights link 0 (slice_index_or roll.first_on link None)
   pub nexts : (right link : ℕ) → right < length rights → link_in rights right ≡ Some link →
       IsNextOn rights link (right + 1) (slice_index_or roll.next_on right None)

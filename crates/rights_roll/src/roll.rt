@@ -1,6 +1,5 @@
 //! The roll of rights.
-ghost use Rattle.std.specs.Prelude.{◌≡◌, ◌-◌, ◌<◌, ◌≤◌, length, map, slice_index, slice_index_or, [], All, None, OnOk};
-ghost use Rattle.std.specs.Prelude.{IfOk, IfErr};
+ghost use Rattle.std.specs.Prelude.{◌≡◌, ◌<◌, ◌≤◌, length, slice_index_or, All, None, OnOk, IfOk, IfErr};
 ghost use Rattle.water_model.specs.Rights.{IsSoundRoll};
 ghost use Rattle.water_model.specs.Valid.{IsValidBasin};
 ghost use Rattle.rights_roll.specs.RollFaults.{roll_fault, IsRollRefusal};
@@ -16,41 +15,24 @@ use std::alloc::{AllocError, Global};
 use std::marker::Model;
 use water_model::types::{Basin, ReturnRow, Right};
 
-/// The rights of a basin, without their names: their order by seniority, their wants, and the instream rights on each
-/// link. Rights and links are numbered from 0.
+/// The rights of a basin, without their names: their order by seniority, and the instream rights on each link. Rights
+/// and links are numbered from 0.
 #[derive(Drop)]
 pub struct Roll {
     order: Vec<u32>,
-    wants: Vec<[u64; 12]>,
     on_links: Chains,
 }
 
 impl Model for Roll {
-    ghost use Rattle.std.specs.Prelude.{◌≡◌, length};
     ghost use Rattle.rights_roll.specs.RollView.{RollView};
 
     ghost Value = { RollView };
 
     ghost view = { λ r. record {
       order = r.order.items;
-      wants = r.wants.items;
       first_on = r.on_links.first.items;
-      next_on =
-          r.on_links.next.items;
+      next_on = r.on_links.next.items;
     } };
-
-    ghost invariant = { λ r. length r.on_links.next.items ≡ length r.wants.items };
-}
-
-/// The wants of each right in the twelve months.
-fn wants_of(alloc: Global, rights: &[Right]) -> Result<Vec<[u64; 12]>, AllocError>
-    ensures { IfOk result (λ wants. wants.items ≡ map (λ r. r.want) rights.now) }
-{
-    let mut wants = Vec::with_capacity(alloc, rights.len())?;
-    for right in rights {
-        wants.push(right.want)?;
-    }
-    Ok(wants)
 }
 
 impl Roll {
@@ -74,13 +56,8 @@ impl Roll {
         let order = order_of(alloc, rights)?;
         check_zones(alloc, rights)?;
         check_parts(alloc, rights, returns)?;
-        let wants = wants_of(alloc, rights)?;
         let on_links = chains_of(alloc, rights)?;
-        Ok(Roll {
-            order,
-            wants,
-            on_links,
-        })
+        Ok(Roll { order, on_links })
     }
 
     /// The roll of the rights of a valid basin, in which none is at fault. AllocError comes where memory is lacking.
@@ -102,16 +79,6 @@ impl Roll {
         self.order.as_slice()
     }
 
-    /// The right's want in a calendar month, from 1 to 12, in units of 1,000 cubic metres.
-    pub fn want(&self, right: u32, month: u8) -> u64
-        requires right { right < length self.now.wants }
-        requires first { 1 ≤ month }
-        requires last { month ≤ 12 }
-        ensures { result ≡ slice_index (slice_index_or self.now.wants right []) (month - 1) }
-    {
-        self.wants[right as usize][month as usize - 1]
-    }
-
     /// The first instream right on the link, or `None` where there is none.
     pub fn first_on(&self, link: u32) -> Option<u32>
         ensures { result ≡ slice_index_or self.now.first_on link None }
@@ -122,7 +89,7 @@ impl Roll {
     /// The next instream right on the link of an instream right, or `None` where there is none, or the right is no
     /// instream right.
     pub fn next_on(&self, right: u32) -> Option<u32>
-        requires { right < length self.now.wants }
+        requires { right < length self.now.next_on }
         ensures { result ≡ slice_index_or self.now.next_on right None }
     {
         self.on_links.next_of(right)

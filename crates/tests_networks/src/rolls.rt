@@ -186,7 +186,7 @@ fn refuses_the_first_fault(rt: HostRuntime) -> Result<(), AllocError> {
 
 // Whether the instream rights on links 3 and 1 are those of the four rows below, and other links have none.
 fn are_on_links(roll: &Roll) -> bool
-    requires { length roll.now.wants ≡ 4 }
+    requires { length roll.now.next_on ≡ 4 }
 {
     roll.first_on(3) == Some(1)
         && roll.first_on(1) == Some(2)
@@ -199,11 +199,10 @@ fn are_on_links(roll: &Roll) -> bool
 
 // Compares a roll of the four rows below.
 fn compare(rt: &impl Abort, roll: &Roll)
-    requires { length roll.now.wants ≡ 4 }
+    requires { length roll.now.next_on ≡ 4 }
 {
     assert!(rt; roll.by_seniority() == [3, 1, 2, 0].as_slice());
     assert!(rt; are_on_links(roll));
-    assert!(rt; roll.want(1, 3) == 4 && roll.want(1, 2) == 0);
 }
 
 static ROWS: [(u16, u8, u32, RightKind); 4] = [

@@ -63,6 +63,7 @@ stream amount rights = record {
   reservoirs = [];
   rights = rights;
   returns = [];
+  due = [];
   accounts = [];
   draws = [];
 }
@@ -108,7 +109,8 @@ ordinary = record {
       ∷ steady (codes "dead") 1900 (Zone 0 1) 1000
       ∷ right (codes "live") (record { year = 1922; month = 3; day = 1 }) (Zone 0 2) (replicate 12 9000)
       ∷ [];
-  returns = record { right = 0; node = 4; part = 2500; lag = 1; rest = 0; due = [] } ∷ [];
+  returns = record { right = 0; node = 4; part = 2500; lag = 1; rest = 0 } ∷ [];
+  due = [] ∷ [];
   accounts = [];
   draws = [];
 }

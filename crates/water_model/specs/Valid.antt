@@ -146,8 +146,6 @@ pub record IsValidReturn (b : Basin) (row : ReturnRow) : Type 0 where
   pub part : (1 ≤ row.part) × (row.part ≤ 10000)
   pub lag : (1 ≤ row.lag) × (row.lag ≤ 120)
   pub rest : row.rest ≤ 9999
-  pub due : All (λ n. n ≤ 10 ^ 9) row.due
-  pub bounded_due : length row.due ≤ row.lag
 
 -- how many return rows a diversion has
 abbrev pub rows_of : Basin → ℕ → ℕ
@@ -183,16 +181,11 @@ pub record IsFirstFormat (b : Basin) : Type 0 where
   pub volumes : All (λ r. r.volume ≡ None) b.rights
   pub no_series : All (λ r. is_series r.want ≡ false) b.rights
 
--- a right and a return row of format 1 or 2: nothing was used before the run, and nothing is due or left over from
--- before it; a zone has no volume, and fills in every month
+-- a right of format 1 or 2: nothing was used before the run; a zone has no volume, and fills in every month
 pub record IsRightAlone (r : Right) : Type 0 where
   pub used : r.used ≡ 0
   pub volume : is_zone_kind r.kind ≡ true → r.volume ≡ None
   pub season : r.season ≡ replicate 12 true
-
-pub record IsReturnAlone (row : ReturnRow) : Type 0 where
-  pub rest : row.rest ≡ 0
-  pub due : row.due ≡ []
 
 -- a basin of format 1 or 2: no stored water is an owner's, and nothing is known of the time before the run
 pub record IsWithoutStores (b : Basin) : Type 0 where
@@ -200,7 +193,8 @@ pub record IsWithoutStores (b : Basin) : Type 0 where
   pub accounts : b.accounts ≡ []
   pub draws : b.draws ≡ []
   pub rights : All IsRightAlone b.rights
-  pub returns : All IsReturnAlone b.returns
+  pub rests : All (λ row. row.rest ≡ 0) b.returns
+  pub due : All (λ amounts. amounts ≡ []) b.due
 
 -- a basin of format 1, 2 or 3
 pub record HasValidFormat (b : Basin) : Type 0 where
@@ -223,6 +217,13 @@ pub record IsValidDraw (b : Basin) (d : Draw) : Type 0 where
   pub node : d.node < length b.nodes
   pub want : IsMonthly (10 ^ 9) d.want
   pub volume : IsValidVolume (kind.Diversion d.node) d.volume d.used
+
+-- what return rows bring from before the run: a list for each row, at most as long as its lag
+pub record AreDue (b : Basin) : Type 0 where
+  pub one_each : length b.due ≡ length b.returns
+  pub amounts : All (All (λ n. n ≤ 10 ^ 9)) b.due
+  pub bounded : (k : ℕ) → k < length b.returns →
+      length (of_entry b.due k (λ amounts. amounts) []) ≤ of_entry b.returns k (λ row. row.lag) 0
 
 -- whether a right has what only an owned zone may have: a zone with a volume, or with a season
 abbrev pub is_zone_with_rule : Right → Bool
@@ -252,6 +253,7 @@ pub record IsValidBasin (b : Basin) : Type 0 where
   pub rights : All (λ r. IsValidRight b r) b.rights
   pub ranked : AreRanked 0 b.rights
   pub returns : All (λ row. IsValidReturn b row) b.returns
+  pub due : AreDue b
   pub names : HasOwnNames b
   pub network : IsSoundNetwork b.nodes b.links
   pub roll : IsSoundRoll b.rights b.returns

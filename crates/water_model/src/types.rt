@@ -97,17 +97,15 @@ pub struct Right {
     pub season: [bool; 12],
 }
 
-/// A part of what a diversion takes, in parts of 10,000, which comes back to a node after a lag in months. `due` is what
-/// the row brings in the first months of the run from diversions before it, one amount for each month and at most `lag`
-/// of them; `rest` is the remainder that it carries into the run, in parts of 10,000 of a unit.
-#[derive(Drop)]
+/// A part of what a diversion takes, in parts of 10,000, which comes back to a node after a lag in months. `rest` is the
+/// remainder that the row carries into the run, in parts of 10,000 of a unit.
+#[derive(Clone, Copy, Debug, PartialEq, Eq)]
 pub struct ReturnRow {
     pub right: u32,
     pub node: u32,
     pub part: u32,
     pub lag: u32,
     pub rest: u32,
-    pub due: Rows<u64>,
 }
 
 /// Stored water that belongs to an owner: an account in a zone, which then is an owned zone. It holds at most `space`,
@@ -141,7 +139,8 @@ pub enum Unit {
 
 /// A river basin and the months of a run. The rights are all diversions, then all instream rights, then all zones.
 /// A water year begins with the calendar month `year_start`. Accounts and draws are numbered from 0 in the order of the
-/// file; a basin below format 3 has neither, and no unit.
+/// file; a basin below format 3 has neither, and no unit. `due` has for each return row what it brings in the first
+/// months of the run from diversions before it: an amount for each month, and at most as many as its lag.
 #[derive(Drop)]
 pub struct Basin {
     pub format: u32,
@@ -154,6 +153,7 @@ pub struct Basin {
     pub reservoirs: Rows<Reservoir>,
     pub rights: Rows<Right>,
     pub returns: Rows<ReturnRow>,
+    pub due: Rows<Rows<u64>>,
     pub accounts: Rows<Account>,
     pub draws: Rows<Draw>,
 }

@@ -36,7 +36,7 @@ returns-in_err-check_parts-clause-refused c =
 pub returns-clause-ok : goal.returns-clause-ok
 returns-clause-ok c = record {
   order = c.in_ok-order.ensures.order;
-  wants = c.in_ok-wants.ensures;
+  one_next = c.in_ok-on_links.ensures.one_next;
   firsts = c.in_ok-on_links.ensures.firsts;
   nexts = λ right link below on. c.in_ok-on_links.ensures.nexts right link below on;
   others = c.in_ok-on_links.ensures.others;
