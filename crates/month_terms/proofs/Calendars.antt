@@ -325,7 +325,7 @@ pub whole_more : (b : Basin) (places more : List InstreamPlace) (last : Instream
 whole_more b places more last is whole r below none = elim (cases_order r last.right) [
   | inl same ↦ absurd (none (length places) last (omega arith) (rw is (get_after places [] last)) (sym same))
   | inr differ ↦ whole r (elim differ [ inl a ↦ omega arith | inr a ↦ omega arith ])
-    (λ k place from at e. none k place from (rw is (get_before places (last ∷ []) k place at)) e)
+      (λ k place from at e. none k place from (rw is (get_before places (last ∷ []) k place at)) e)
 ]
 
 -- a right that is no instream right is on no link
@@ -342,7 +342,7 @@ pub whole_still : (b : Basin) (places more : List InstreamPlace) (right : ℕ) �
 whole_still b places more right is off whole r below none = elim (cases_order r right) [
   | inl same ↦ rw same off
   | inr differ ↦ whole r (elim differ [ inl a ↦ omega arith | inr a ↦ omega arith ])
-    (λ k place from at e. none k place from (rw is at) e)
+      (λ k place from at e. none k place from (rw is at) e)
 ]
 
 -- an instream right is a right of the basin, and its link is a link

@@ -212,7 +212,7 @@ fn is_right(right: &Right, row: &(&[u8], RightKind, u16, u32, u64)) -> bool {
         && right.kind == *kind
         && right.date.year == *year
         && right.order == *order
-        && right.want == [*want; 12]
+        && right.want == Want::Monthly([*want; 12])
 }
 
 /// Compares the nodes of the basin of two.
