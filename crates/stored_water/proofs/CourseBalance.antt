@@ -1,6 +1,6 @@
 -- What comes into a set of nodes is taken there or goes out of it; and what a draw changes.
-use Rattle.std.proofs.Common.{◌≡◌, ℕ, ◌+◌, ◌-◌, ◌<◌, ◌≤◌, Bool, true, false, refl, sym, ◌∙◌, ap, arith, List}
-use Rattle.std.proofs.Common.{length, inl, inr}
+use Rattle.std.proofs.Common.{◌≡◌, ℕ, ◌+◌, ◌-◌, ◌<◌, ◌≤◌, Bool, true, false, refl, sym, ◌∙◌, ap, arith, List, length}
+use Rattle.std.proofs.Common.{inl, inr}
 use Rattle.std.proofs.Math.ListN.{length-set}
 use Rattle.std.proofs.lemmas.Bool.{cases_eq, cond-true, eq-eqb, ne_eqb}
 use Rattle.std.proofs.lemmas.List.{get_or-set_other}
@@ -12,7 +12,7 @@ use Rattle.water_model.specs.Lookups.{has}
 use Rattle.water_model.specs.Cuts.{leaves, carry_into, supply_within}
 use Rattle.water_model.specs.declared.types.Basin.{Basin}
 use Rattle.water_model.proofs.Sets.{total_where_add}
-use Rattle.stored_water.specs.Courses.{IsCourseWithin, taken_within, after_draw, with_less}
+use Rattle.water_model.specs.Courses.{IsCourseWithin, taken_within, after_draw, with_less}
 use Rattle.duality.proofs.CutBalance.{set_balance}
 
 pub course_balance : (b : Basin) (carry held : ℕ → ℕ) (supply taken flow out : List ℕ) (set : List Bool) →

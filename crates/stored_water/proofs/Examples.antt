@@ -1,68 +1,171 @@
 -- Worked numbers.
-use Rattle.std.proofs.Common.{◌≡◌, ℕ, zero, suc, ◌+◌, ◌^◌, ◌<◌, ◌≤◌, true, false, refl, arith, List, [], ◌∷◌, replicate, inr}
-use Rattle.std.specs.Prelude.{codes, None, Some, slice_index}
+use Rattle.std.proofs.Common.{◌≡◌, ℕ, zero, suc, ◌+◌, ◌^◌, ◌<◌, ◌≤◌, true, false, refl, arith, List, [], ◌∷◌, inr}
+use Rattle.std.proofs.Common.{replicate}
+use Rattle.std.specs.Prelude.{codes, None, Some, slice_index, Option, Bool}
 use Rattle.finite_sums.specs.Sums.{total, greatest_where}
 use Rattle.water_text.specs.declared.month.Month.{Month}
+use Rattle.water_model.specs.declared.types.Account.{Account}
 use Rattle.water_model.specs.declared.types.Basin.{Basin}
+use Rattle.water_model.specs.declared.types.Draw.{Draw}
+use Rattle.water_model.specs.declared.types.Link.{Link}
+use Rattle.water_model.specs.declared.types.Node.{Node}
+use Rattle.water_model.specs.declared.types.Reservoir.{Reservoir}
+use Rattle.water_model.specs.declared.types.Right.{Right}
 use Rattle.water_model.specs.declared.types.RightKind.TheVariants.{Diversion, Instream, Zone}
 use Rattle.water_model.specs.Plans.{carry_of, inflow_to, outflow_from}
-use Rattle.water_model.proofs.Worked.{spring, outlet, link, river, steady}
+use Rattle.water_model.specs.Hydrology.{number_in}
+use Rattle.water_model.proofs.Worked.{spring, outlet, link, river, steady, right, no_series}
 use Rattle.water_model.specs.declared.types.Carry.TheVariants.{Canal}
-use Rattle.stored_water.specs.Accounts.{Account, Draw, loss_of, spill_of, fill_of, zone_want}
-use Rattle.stored_water.specs.Courses.{IsStop, IsStopWithin, IsCourse, IsCourseWithin, HasCourse, IsGreatestDraw, after_draw}
-use Rattle.stored_water.specs.Courses.{held_on}
-use Rattle.stored_water.specs.Draws.{cap_of, taken_with}
+use Rattle.water_model.specs.Accounts.{Ledger, loss_of, spill_of, fill_of, zone_want, natural_at, first_want}
+use Rattle.water_model.specs.Accounts.{is_in_season, closing_with}
+use Rattle.water_model.specs.Courses.{IsStop, IsStopWithin, IsCourse, IsCourseWithin, HasCourse, IsGreatestDraw}
+use Rattle.water_model.specs.Courses.{after_draw, held_on}
+use Rattle.water_model.specs.Draws.{cap_of, draw_want, taken_with, got_by}
+use Rattle.water_model.specs.Volumes.{used_by_right, used_by_draw}
 use Rattle.stored_water.proofs.Stopping.{stop_bounds, stops_make_draws_greatest}
+
+-- ---- basins
 
 abbrev january : Month
 january = record { year = 1900; month = 1 }
 
--- an exchange: land at the top draws on an account in a lake that joins below
-abbrev exchange : Basin
-exchange = record {
-  format = 2;
+-- a basin of format 3, from January to March of a water year
+abbrev basin : List Node → List Link → List Reservoir → List Right → List Account → List Draw → Basin
+basin nodes links reservoirs rights accounts draws = record {
+  format = 3;
+  unit = None;
   first = january;
-  months = 1;
-  year_start = 10;
-  nodes =
-      spring (codes "top") 40 ∷ spring (codes "weir") 0 ∷ outlet (codes "mouth") ∷ spring (codes "lake") 0 ∷ [];
-  links = river (codes "a") 0 1 ∷ river (codes "b") 1 2 ∷ river (codes "c") 3 1 ∷ [];
-  reservoirs = record { node = 3; opening = 100; area = record { storage = 0; area = 0 } ∷ []; rate = replicate 12 0 }
-      ∷ [];
-  rights =
-      steady (codes "old") 1890 (Diversion 1) 40 ∷ steady (codes "land") 1930 (Diversion 0) 50
-      ∷ steady (codes "fish") 1880 (Instream 0) 25 ∷ steady (codes "pool") 1920 (Zone 0 1) 100 ∷ [];
+  months = 3;
+  year_start = 1;
+  nodes = nodes;
+  links = links;
+  reservoirs = reservoirs;
+  rights = rights;
   returns = [];
+  due = [];
+  accounts = accounts;
+  draws = draws;
 }
 
-abbrev accounts : List Account
-accounts = record { zone = 3; space = 100; stored = 100 } ∷ []
+-- a lake from which nothing evaporates
+abbrev lake : ℕ → ℕ → Reservoir
+lake node opening =
+    record { node = node; opening = opening; area = record { storage = 0; area = 0 } ∷ []; rate = replicate 12 0 }
 
-abbrev draws : List Draw
-draws = record { diversion = 1; account = 0; want = replicate 12 1000000000; volume = None } ∷ []
+abbrev account : ℕ → ℕ → Account
+account zone stored = record { name = codes "co"; zone = zone; space = 100; stored = stored }
 
-abbrev stock : ℕ → ℕ
-stock k = 100
+-- a draw of as much as there is, which is taken at this node
+abbrev draw : ℕ → ℕ → Draw
+draw diversion node =
+    record { diversion = diversion; account = 0; node = node; want = replicate 12 1000000000; volume = None; used = 0 }
+
+-- a month in which an account carries and is filled with these amounts
+abbrev month_with : (carried filled : List ℕ) → Ledger
+month_with carried filled = record {
+  opening = carried;
+  lost = [];
+  spilled = [];
+  carried = carried;
+  filled = filled;
+  drawn = [];
+  closing = [];
+}
+
+-- the number of each right in month i
+abbrev number : Basin → ℕ → ℕ → ℕ
+number b i right = number_in b no_series i right
+
+-- the cap of draw j in month i, after draws of these amounts
+abbrev cap : Basin → ℕ → (delivered carried amounts : List ℕ) → ℕ → ℕ
+cap b i delivered carried amounts j =
+    cap_of b (draw_want b i (0 ∷ 0 ∷ [])) (number b i) delivered (month_with carried (0 ∷ [])) amounts j
+
+-- ---- an account below which others divert
+
+-- a lake above a weir, where 30 flow in; land there has an account of 100 in the lake, and old is senior to it
+abbrev below : Basin
+below =
+    basin
+    (spring (codes "lake") 0 ∷ spring (codes "weir") 30 ∷ outlet (codes "mouth") ∷ [])
+    (river (codes "a") 0 1 ∷ river (codes "b") 1 2 ∷ [])
+    (lake 0 100 ∷ [])
+    (steady (codes "old") 1890 (Diversion 1) 60 ∷ steady (codes "land") 1930 (Diversion 1) 50
+    ∷ steady (codes "pool") 1920 (Zone 0 1) 100 ∷ [])
+    (account 2 100 ∷ [])
+    (draw 1 1 ∷ [])
+
+-- what the account carries is nobody's to divert, and its zone is full
+first_supply : natural_at below (100 ∷ 30 ∷ 0 ∷ []) (100 ∷ []) 0 ≡ 0
+unfolding total
+first_supply = refl
+
+full_zone : first_want below no_series 0 (number below 0) (0 ∷ 0 ∷ 0 ∷ []) (100 ∷ []) 2 ≡ 0
+unfolding total
+full_zone = refl
+
+-- so old gets the 30 of the river, and land, which gets none of them, draws its 50
+land_cap : cap below 0 (30 ∷ 0 ∷ 0 ∷ []) (100 ∷ []) (50 ∷ []) 0 ≡ 50
+unfolding total
+land_cap = refl
+
+land_got : got_by below (30 ∷ 0 ∷ 0 ∷ []) (50 ∷ []) 1 ≡ 50
+unfolding total
+land_got = refl
+
+-- which is taken at the weir beside the 30, and kept at the lake no more
+at_weir : taken_with below (30 ∷ 0 ∷ 0 ∷ []) (month_with (100 ∷ []) (0 ∷ [])) 1 (50 ∷ []) 1 ≡ 80
+unfolding total
+at_weir = refl
+
+at_lake : taken_with below (30 ∷ 0 ∷ 0 ∷ []) (month_with (100 ∷ []) (0 ∷ [])) 1 (50 ∷ []) 0 ≡ 50
+unfolding total
+at_lake = refl
+
+lake_closes : closing_with below (30 ∷ 0 ∷ 0 ∷ []) (50 ∷ []) 0 ≡ 50
+unfolding total
+lake_closes = refl
+
+-- at the lake itself nothing has to move
+stays : after_draw (100 ∷ 30 ∷ 0 ∷ []) 0 0 50 ≡ 100 ∷ 30 ∷ 0 ∷ []
+stays = refl
+
+-- ---- an exchange
+
+-- land at the top draws on an account in a lake that joins below
+abbrev exchange : Basin
+exchange =
+    basin
+    (spring (codes "top") 40 ∷ spring (codes "weir") 0 ∷ outlet (codes "mouth") ∷ spring (codes "lake") 0 ∷ [])
+    (river (codes "a") 0 1 ∷ river (codes "b") 1 2 ∷ river (codes "c") 3 1 ∷ [])
+    (lake 3 100 ∷ [])
+    (steady (codes "old") 1890 (Diversion 1) 40 ∷ steady (codes "land") 1930 (Diversion 0) 50
+    ∷ steady (codes "fish") 1880 (Instream 0) 25 ∷ steady (codes "pool") 1920 (Zone 0 1) 100 ∷ [])
+    (account 3 100 ∷ [])
+    (draw 1 0 ∷ draw 1 1 ∷ [])
+
+abbrev full : Ledger
+full = month_with (100 ∷ []) (0 ∷ [])
 
 -- what is taken before the draw, and its cap
-taken_top : taken_with exchange accounts draws (40 ∷ 0 ∷ 25 ∷ 0 ∷ []) stock 0 (15 ∷ []) 0 ≡ 0
+taken_top : taken_with exchange (40 ∷ 0 ∷ 25 ∷ 0 ∷ []) full 0 (15 ∷ []) 0 ≡ 0
 unfolding total
 taken_top = refl
 
-taken_weir : taken_with exchange accounts draws (40 ∷ 0 ∷ 25 ∷ 0 ∷ []) stock 0 (15 ∷ []) 1 ≡ 40
+taken_weir : taken_with exchange (40 ∷ 0 ∷ 25 ∷ 0 ∷ []) full 0 (15 ∷ []) 1 ≡ 40
 unfolding total
 taken_weir = refl
 
-taken_lake : taken_with exchange accounts draws (40 ∷ 0 ∷ 25 ∷ 0 ∷ []) stock 0 (15 ∷ []) 3 ≡ 100
+taken_lake : taken_with exchange (40 ∷ 0 ∷ 25 ∷ 0 ∷ []) full 0 (15 ∷ []) 3 ≡ 100
 unfolding total
 taken_lake = refl
 
-cap : cap_of draws (λ j. 1000000000) (40 ∷ 50 ∷ 25 ∷ 0 ∷ []) (40 ∷ 0 ∷ 25 ∷ 0 ∷ []) stock (15 ∷ []) 0 ≡ 50
+top_cap : cap exchange 0 (40 ∷ 0 ∷ 25 ∷ 0 ∷ []) (100 ∷ []) (15 ∷ []) 0 ≡ 50
 unfolding total
-cap = refl
+top_cap = refl
 
 -- and after it
-taken_lake_after : taken_with exchange accounts draws (40 ∷ 0 ∷ 25 ∷ 0 ∷ []) stock 1 (15 ∷ []) 3 ≡ 85
+taken_lake_after : taken_with exchange (40 ∷ 0 ∷ 25 ∷ 0 ∷ []) full 1 (15 ∷ []) 3 ≡ 85
 unfolding total
 taken_lake_after = refl
 
@@ -127,54 +230,64 @@ course = record {
     balance (suc (suc (suc zero))) l = refl
     balance (suc (suc (suc (suc n)))) l = absurd (omega arith)
 
+-- so 15 of its cap of 50 is the greatest draw
+greatest : IsGreatestDraw exchange january (held_on exchange (40 ∷ 0 ∷ 25 ∷ 0 ∷ [])) (40 ∷ 0 ∷ 0 ∷ 100 ∷ [])
+    (0 ∷ 40 ∷ 0 ∷ 100 ∷ []) 3 0 50 15
+greatest =
+    stops_make_draws_greatest exchange january (held_on exchange (40 ∷ 0 ∷ 25 ∷ 0 ∷ [])) (40 ∷ 0 ∷ 0 ∷ 100 ∷ [])
+    (0 ∷ 40 ∷ 0 ∷ 100 ∷ []) (25 ∷ 0 ∷ 15 ∷ []) (0 ∷ 0 ∷ 0 ∷ 0 ∷ []) 3 0 50 15 (omega arith) course
+    (inr (true ∷ false ∷ false ∷ false ∷ [], top_stops))
+
+-- where 40 of the cap were drawn at the top, 10 more may be drawn at the weir, and are taken there
+weir_cap : cap exchange 0 (40 ∷ 0 ∷ 0 ∷ 0 ∷ []) (100 ∷ []) (40 ∷ 10 ∷ []) 1 ≡ 10
+unfolding total
+weir_cap = refl
+
+taken_weir_after : taken_with exchange (40 ∷ 0 ∷ 0 ∷ 0 ∷ []) full 2 (40 ∷ 10 ∷ []) 1 ≡ 50
+unfolding total
+taken_weir_after = refl
+
+taken_top_after : taken_with exchange (40 ∷ 0 ∷ 0 ∷ 0 ∷ []) full 2 (40 ∷ 10 ∷ []) 0 ≡ 40
+unfolding total
+taken_top_after = refl
+
+-- ---- a canal
+
 -- a lake above a weir, with a canal of 1 a day from the one to the other, and a river past it
 abbrev by_canal : Basin
-by_canal = record {
-  format = 2;
-  first = january;
-  months = 1;
-  year_start = 10;
-  nodes = spring (codes "lake") 0 ∷ spring (codes "weir") 0 ∷ outlet (codes "mouth") ∷ [];
-  links =
-      link (codes "canal") 0 1 (Canal 1 (replicate 12 false)) ∷ river (codes "b") 1 2 ∷ river (codes "c") 0 2 ∷ [];
-  reservoirs = record { node = 0; opening = 100; area = record { storage = 0; area = 0 } ∷ []; rate = replicate 12 0 }
-      ∷ [];
-  rights =
-      steady (codes "old") 1890 (Diversion 1) 60 ∷ steady (codes "land") 1930 (Diversion 1) 50
-      ∷ steady (codes "pool") 1920 (Zone 0 1) 100 ∷ [];
-  returns = [];
-}
+by_canal =
+    basin
+    (spring (codes "lake") 0 ∷ spring (codes "weir") 0 ∷ outlet (codes "mouth") ∷ [])
+    (link (codes "canal") 0 1 (Canal 1 (replicate 12 false)) ∷ river (codes "b") 1 2 ∷ river (codes "c") 0 2 ∷ [])
+    (lake 0 100 ∷ [])
+    (steady (codes "old") 1890 (Diversion 1) 60 ∷ steady (codes "land") 1930 (Diversion 1) 50
+    ∷ steady (codes "pool") 1920 (Zone 0 1) 100 ∷ [])
+    (account 2 100 ∷ [])
+    (draw 1 1 ∷ [])
 
 -- in 31 days the canal brings 31 of a cap of 50
-weir_stops : IsStopWithin by_canal (λ e. 31) (λ e. 0) (100 ∷ 0 ∷ 0 ∷ []) (69 ∷ 31 ∷ 0 ∷ []) 0 1 (false ∷ true ∷ false ∷ [])
+weir_stops : IsStopWithin by_canal (λ e. 31) (λ e. 0) (100 ∷ 0 ∷ 0 ∷ []) (69 ∷ 31 ∷ 0 ∷ []) 0 1
+    (false ∷ true ∷ false ∷ [])
 unfolding total
 weir_stops = record { one_each = refl; drawing = refl; storing = refl; full = refl }
 
 -- ---- a draw that has a course only with a later one
 
--- Water of a lake reaches a field through a hub and a canal, which is full. A tank at the field serves the user there in
--- the place of the canal, where an owner at the hub draws on it. So the first draw, from the lake for the field, is 0,
+-- Water of a lake reaches a field through a hub and a canal, which is full. A tank at the field serves the user there
+-- in the place of the canal, where an owner at the hub draws on it. So the first draw, from the lake for the field, is 0,
 -- and yet there is a course with 31 of the first and 31 of the second.
 abbrev tank : Basin
-tank = record {
-  format = 2;
-  first = january;
-  months = 1;
-  year_start = 10;
-  nodes =
-      spring (codes "lake") 0 ∷ spring (codes "hub") 31 ∷ spring (codes "field") 0 ∷ outlet (codes "mouth") ∷ [];
-  links =
-      river (codes "a") 0 1 ∷ river (codes "b") 1 3 ∷ link (codes "canal") 1 2 (Canal 1 (replicate 12 false))
-      ∷ river (codes "c") 2 3 ∷ [];
-  reservoirs =
-      record { node = 0; opening = 31; area = record { storage = 0; area = 0 } ∷ []; rate = replicate 12 0 }
-      ∷ record { node = 2; opening = 31; area = record { storage = 0; area = 0 } ∷ []; rate = replicate 12 0 } ∷ [];
-  rights =
-      steady (codes "old") 1890 (Diversion 2) 31 ∷ steady (codes "low") 1930 (Diversion 2) 31
-      ∷ steady (codes "high") 1931 (Diversion 1) 31 ∷ steady (codes "pool") 1920 (Zone 0 1) 31
-      ∷ steady (codes "cell") 1921 (Zone 1 1) 31 ∷ [];
-  returns = [];
-}
+tank =
+    basin
+    (spring (codes "lake") 0 ∷ spring (codes "hub") 31 ∷ spring (codes "field") 0 ∷ outlet (codes "mouth") ∷ [])
+    (river (codes "a") 0 1 ∷ river (codes "b") 1 3 ∷ link (codes "canal") 1 2 (Canal 1 (replicate 12 false))
+    ∷ river (codes "c") 2 3 ∷ [])
+    (lake 0 31 ∷ lake 2 31 ∷ [])
+    (steady (codes "old") 1890 (Diversion 2) 31 ∷ steady (codes "low") 1930 (Diversion 2) 31
+    ∷ steady (codes "high") 1931 (Diversion 1) 31 ∷ steady (codes "pool") 1920 (Zone 0 1) 31
+    ∷ steady (codes "cell") 1921 (Zone 1 1) 31 ∷ [])
+    []
+    []
 
 -- the carries in a month of 31 days
 abbrev tank_carry : ℕ → ℕ
@@ -234,38 +347,160 @@ both = record {
     balance (suc (suc (suc zero))) l = refl
     balance (suc (suc (suc (suc n)))) l = absurd (omega arith)
 
--- ---- accounts
+-- ---- loss, spill and fill
 
--- two accounts of one zone lose 4 and 5 of 10
-abbrev two : List Account
-two = record { zone = 3; space = 100; stored = 33 } ∷ record { zone = 3; space = 100; stored = 50 } ∷ []
+-- two accounts of 50 in a zone that may hold 100
+abbrev two : Basin
+two =
+    basin (spring (codes "lake") 0 ∷ outlet (codes "mouth") ∷ []) (river (codes "a") 0 1 ∷ []) (lake 0 100 ∷ [])
+    (steady (codes "pool") 1920 (Zone 0 1) 100 ∷ [])
+    (record { name = codes "a"; zone = 0; space = 50; stored = 33 }
+    ∷ record { name = codes "b"; zone = 0; space = 50; stored = 50 } ∷ [])
+    []
 
-first_loss : loss_of exchange two (100 ∷ []) (10 ∷ []) (33 ∷ 50 ∷ []) 0 ≡ 4
+-- of 10 that evaporate from 100 they lose 4 and 5, and what is nobody's the rest
+first_loss : loss_of two (100 ∷ []) (10 ∷ []) (33 ∷ 50 ∷ []) 0 ≡ 4
 unfolding total
 first_loss = refl
 
-second_loss : loss_of exchange two (100 ∷ []) (10 ∷ []) (33 ∷ 50 ∷ []) 1 ≡ 5
+second_loss : loss_of two (100 ∷ []) (10 ∷ []) (33 ∷ 50 ∷ []) 1 ≡ 5
 unfolding total
 second_loss = refl
 
--- of 100 an account spills 40 where the target is 60
-spill : spill_of accounts (λ z. 60) (100 ∷ []) (0 ∷ []) 0 ≡ 40
+-- the zone wants 26 of the 16 that are nobody's
+nobodys : natural_at two (90 ∷ 0 ∷ []) (29 ∷ 45 ∷ []) 0 ≡ 16
+unfolding total
+nobodys = refl
+
+zone_wants : zone_want two 0 (number two 0) (0 ∷ []) (29 ∷ 45 ∷ []) 0 ≡ 26
+unfolding total
+zone_wants = refl
+
+-- and they are shared by the rooms of 21 and 5
+first_fill : fill_of two (16 ∷ []) (29 ∷ 45 ∷ []) 0 ≡ 12
+unfolding total
+first_fill = refl
+
+second_fill : fill_of two (16 ∷ []) (29 ∷ 45 ∷ []) 1 ≡ 4
+unfolding total
+second_fill = refl
+
+-- ---- one fill, a season, and a curve of what may be held
+
+-- a zone with these wants, a volume and a season, and one account of 100
+abbrev pool : List ℕ → Option ℕ → List Bool → Basin
+pool amounts volume season =
+    basin
+    (spring (codes "lake") 80 ∷ spring (codes "weir") 0 ∷ outlet (codes "mouth") ∷ [])
+    (river (codes "a") 0 1 ∷ river (codes "b") 1 2 ∷ [])
+    (lake 0 0 ∷ [])
+    (steady (codes "land") 1930 (Diversion 1) 70
+    ∷ record (right (codes "pool") (record { year = 1920; month = 1; day = 1 }) (Zone 0 1) amounts) {
+      volume = volume;
+      season = season;
+    }
+    ∷ [])
+    (account 1 0 ∷ [])
+    (draw 0 1 ∷ [])
+
+-- with a volume of 95 it wants 95 in January, 15 in February, when 80 are used, and nothing in March
+abbrev one_fill : Basin
+one_fill = pool (replicate 12 100) (Some 95) (replicate 12 true)
+
+wants_first : zone_want one_fill 0 (number one_fill 0) (0 ∷ 0 ∷ []) (0 ∷ []) 1 ≡ 95
+unfolding total
+wants_first = refl
+
+used_second : used_by_right one_fill ((0 ∷ 80 ∷ []) ∷ (65 ∷ 15 ∷ []) ∷ []) 1 1 ≡ 80
+unfolding total
+used_second = refl
+
+wants_second : zone_want one_fill 1 (number one_fill 1) (0 ∷ 80 ∷ []) (80 ∷ []) 1 ≡ 15
+unfolding total
+wants_second = refl
+
+wants_third : zone_want one_fill 2 (number one_fill 2) (0 ∷ 95 ∷ []) (90 ∷ []) 1 ≡ 0
+unfolding total
+wants_third = refl
+
+-- what is filled in January can't be drawn in it; in February land draws the 5 that the river lacks
+cap_first : cap one_fill 0 (0 ∷ 80 ∷ []) (0 ∷ []) (0 ∷ []) 0 ≡ 0
+unfolding total
+cap_first = refl
+
+cap_second : cap one_fill 1 (65 ∷ 15 ∷ []) (80 ∷ []) (5 ∷ []) 0 ≡ 5
+unfolding total
+cap_second = refl
+
+-- where the number falls from 100 to 60, an account of 100 spills 40
+abbrev flood_space : Basin
+flood_space = pool (100 ∷ 60 ∷ replicate 10 100) None (replicate 12 true)
+
+spill : spill_of flood_space (number flood_space 1) (100 ∷ []) (0 ∷ []) 0 ≡ 40
 unfolding total
 spill = refl
 
--- one fill: 40 are left of the volume
-want : zone_want accounts (λ z. 100) (10 ∷ []) (Some 120) 80 3 ≡ 40
-unfolding total
-want = refl
+-- a zone that fills in January and March alone: in February it spills 10 over its number, and wants nothing
+abbrev seasonal : Basin
+seasonal = pool (100 ∷ 20 ∷ replicate 10 100) None (true ∷ false ∷ true ∷ replicate 9 false)
 
-fill : fill_of two (0 ∷ 0 ∷ 0 ∷ 40 ∷ []) (40 ∷ 80 ∷ []) 1 ≡ 10
-unfolding total
-fill = refl
+out_of_season : is_in_season seasonal 1 1 ≡ false
+out_of_season = refl
 
--- so 15 of its cap of 50 is the greatest draw
-greatest : IsGreatestDraw exchange january (held_on exchange (40 ∷ 0 ∷ 25 ∷ 0 ∷ [])) (40 ∷ 0 ∷ 0 ∷ 100 ∷ [])
-    (0 ∷ 40 ∷ 0 ∷ 100 ∷ []) 3 0 50 15
-greatest =
-    stops_make_draws_greatest exchange january (held_on exchange (40 ∷ 0 ∷ 25 ∷ 0 ∷ [])) (40 ∷ 0 ∷ 0 ∷ 100 ∷ [])
-    (0 ∷ 40 ∷ 0 ∷ 100 ∷ []) (25 ∷ 0 ∷ 15 ∷ []) (0 ∷ 0 ∷ 0 ∷ 0 ∷ []) 3 0 50 15 (omega arith) course
-    (inr (true ∷ false ∷ false ∷ false ∷ [], top_stops))
+still_spills : spill_of seasonal (number seasonal 1) (30 ∷ []) (0 ∷ []) 0 ≡ 10
+unfolding total
+still_spills = refl
+
+wants_nothing : zone_want seasonal 1 (number seasonal 1) (0 ∷ 0 ∷ []) (15 ∷ []) 1 ≡ 0
+unfolding total
+wants_nothing = refl
+
+wants_again : zone_want seasonal 2 (number seasonal 2) (0 ∷ 0 ∷ []) (20 ∷ []) 1 ≡ 80
+unfolding total
+wants_again = refl
+
+-- ---- volumes
+
+-- land has a volume of 30, of which 5 were used before the run, and a draw of 60, of which 20 were
+abbrev with_volumes : Basin
+with_volumes =
+    basin
+    (spring (codes "lake") 0 ∷ spring (codes "weir") 30 ∷ outlet (codes "mouth") ∷ [])
+    (river (codes "a") 0 1 ∷ river (codes "b") 1 2 ∷ [])
+    (lake 0 100 ∷ [])
+    (record (steady (codes "land") 1930 (Diversion 1) 50) { volume = Some 30; used = 5 }
+    ∷ steady (codes "pool") 1920 (Zone 0 1) 100 ∷ [])
+    (account 1 100 ∷ [])
+    (record (draw 0 1) { volume = Some 60; used = 20 } ∷ [])
+
+-- it is delivered 25, and draws what it lacks; draws use up no volume of land's
+used_at_first : used_by_right with_volumes [] 0 0 ≡ 5
+unfolding total
+used_at_first = refl
+
+used_up : used_by_right with_volumes ((25 ∷ 0 ∷ []) ∷ []) 0 1 ≡ 30
+unfolding total
+used_up = refl
+
+cap_beside : cap with_volumes 0 (25 ∷ 0 ∷ []) (100 ∷ []) (25 ∷ []) 0 ≡ 25
+unfolding total
+cap_beside = refl
+
+-- with nothing left of its volume it may draw all of its number, as far as the draw's volume goes
+first_want_left : first_want with_volumes no_series 1 (number with_volumes 1) (30 ∷ 0 ∷ []) (75 ∷ []) 0 ≡ 0
+unfolding total
+first_want_left = refl
+
+drew_before : used_by_draw with_volumes ((25 ∷ []) ∷ []) 0 1 ≡ 45
+unfolding total
+drew_before = refl
+
+cap_left : cap_of with_volumes (draw_want with_volumes 1 (45 ∷ [])) (number with_volumes 1) (0 ∷ 0 ∷ [])
+    (month_with (75 ∷ []) (0 ∷ [])) (15 ∷ []) 0 ≡ 15
+unfolding total
+cap_left = refl
+
+-- in the water year that follows nothing is used
+used_anew : used_by_right with_volumes (replicate 12 (2 ∷ 0 ∷ [])) 0 12 ≡ 0
+unfolding total
+used_anew = refl

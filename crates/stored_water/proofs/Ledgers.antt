@@ -3,7 +3,7 @@ use Rattle.std.proofs.Common.{◌≡◌, ℕ, suc, ◌+◌, ◌-◌, sym, ◌∙
 use Rattle.std.proofs.lemmas.Grind.{same_number_lists}
 use Rattle.std.proofs.lemmas.List.Sums.{sum_by-cons}
 use Rattle.std.specs.Prelude.{slice_index}
-use Rattle.stored_water.specs.Accounts.{Ledger, loss_of, spill_of, fill_of, left_of}
+use Rattle.water_model.specs.Accounts.{Ledger, loss_of, spill_of, fill_of, left_of}
 use Rattle.stored_water.specs.AccountLaws.{BooksBalanceOverMonths, LedgerIsOne}
 
 pub books_balance_over_months : BooksBalanceOverMonths
@@ -21,7 +21,7 @@ books_balance_over_months holding (l ∷ ledgers) k row balanced =
     )
 
 pub ledger_is_one : LedgerIsOne
-ledger_is_one b accounts draws opening evaporated target delivered amounts l m one other same = record {
+ledger_is_one b opening evaporated number delivered amounts l m one other same = record {
   lost = lost;
   spilled = spilled;
   carried = carried;
@@ -39,14 +39,14 @@ ledger_is_one b accounts draws opening evaporated target delivered amounts l m o
     lost =
         same_number_lists l.lost m.lost (one.fits.lost ∙ sym other.fits.lost)
         (λ k h. one.lost k (omega (arith, one.fits.lost))
-        ∙ (ap (λ (xs : List ℕ). loss_of b accounts opening evaporated xs k) same
+        ∙ (ap (λ (xs : List ℕ). loss_of b opening evaporated xs k) same
         ∙ sym (other.lost k (omega (arith, one.fits.lost)))))
 
     spilled : l.spilled ≡ m.spilled
     spilled =
         same_number_lists l.spilled m.spilled (one.fits.spilled ∙ sym other.fits.spilled)
         (λ k h. one.spilled k (omega (arith, one.fits.spilled))
-        ∙ (ap₂ (λ (xs ys : List ℕ). spill_of accounts target xs ys k) same lost
+        ∙ (ap₂ (λ (xs ys : List ℕ). spill_of b number xs ys k) same lost
         ∙ sym (other.spilled k (omega (arith, one.fits.spilled)))))
 
     carried : l.carried ≡ m.carried
@@ -61,7 +61,7 @@ ledger_is_one b accounts draws opening evaporated target delivered amounts l m o
     filled =
         same_number_lists l.filled m.filled (one.fits.filled ∙ sym other.fits.filled)
         (λ k h. one.filled k (omega (arith, one.fits.filled))
-        ∙ (ap (λ (xs : List ℕ). fill_of accounts delivered xs k) carried
+        ∙ (ap (λ (xs : List ℕ). fill_of b delivered xs k) carried
         ∙ sym (other.filled k (omega (arith, one.fits.filled)))))
 
     drawn : l.drawn ≡ m.drawn

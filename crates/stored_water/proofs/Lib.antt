@@ -9,4 +9,5 @@ pub mod Regrouped
 pub mod Drawing
 pub mod FirstSteps
 pub mod Stores
+pub mod Sited
 mod Examples

@@ -1,17 +1,17 @@
 -- Sums over the rights at a node, of what stands by account or by draw.
-use Rattle.std.proofs.Common.{◌≡◌, ℕ, zero, suc, ◌<◌, Bool, true, false, refl, sym, ap, ◌∙◌, arith, List}
-use Rattle.std.proofs.Common.{[], ◌∷◌, length, inl, inr}
+use Rattle.std.proofs.Common.{◌≡◌, ℕ, zero, suc, ◌<◌, Bool, true, false, refl, sym, ap, ◌∙◌, arith, List, [], ◌∷◌}
+use Rattle.std.proofs.Common.{length, inl, inr}
 use Rattle.std.proofs.lemmas.Bool.{and_parts, cases_Bool, eqb-true, or_cases}
 use Rattle.std.proofs.lemmas.Bool.Decides.{nat_tests}
 use Rattle.std.proofs.lemmas.Option.{slice_get_within}
-use Rattle.std.specs.Prelude.{◌==◌, ◌&&◌, not, if◌then◌else◌, slice_index, slice_get, Option, Some, None}
-use Rattle.std.specs.Prelude.{unwrap_or, option_map}
+use Rattle.std.specs.List.{list_any}
+use Rattle.std.specs.Prelude.{◌==◌, ◌&&◌, not, if◌then◌else◌, slice_index, slice_get, Option, Some, None, unwrap_or}
+use Rattle.std.specs.Prelude.{option_map}
 use Rattle.finite_sums.specs.Sums.{total, total_where}
 use Rattle.finite_sums.proofs.Totals.{total_same, total_zero}
-use Rattle.water_model.specs.Basin.{taking_node, taking_node_of_kind, takes_at, is_at, instream_link}
-use Rattle.water_model.specs.Basin.{node_of_reservoir}
+use Rattle.water_model.specs.Basin.{taking_node, taking_node_of_kind, takes_at, is_at, instream_link, node_of_reservoir}
+use Rattle.water_model.specs.Basin.{is_zone_of, is_zone_of_kind}
 use Rattle.water_model.specs.Lookups.{of_entry}
-use Rattle.water_model.specs.History.{is_zone_of, is_zone_of_kind}
 use Rattle.water_model.specs.Valid.{is_diversion, is_diversion_kind}
 use Rattle.water_model.specs.declared.types.Basin.{Basin}
 use Rattle.water_model.specs.declared.types.Right.{Right}
@@ -19,10 +19,11 @@ use Rattle.water_model.specs.declared.types.RightKind.{RightKind}
 use Rattle.water_model.specs.declared.types.RightKind.TheVariants.{Diversion, Instream, Zone}
 use Rattle.water_model.proofs.Sets.{at_one, grouped}
 use Rattle.duality.proofs.Duality.{taker_on_no_link}
-use Rattle.stored_water.specs.Accounts.{Account, Draw, is_owned, is_of_zone, storing_node, sum_in_zone}
-use Rattle.stored_water.specs.Accounts.{drawn_by, draws_for, reservoir_of_right, reservoir_of_kind, is_in_reservoir}
-use Rattle.stored_water.specs.Accounts.{sum_in_reservoir}
-use Rattle.stored_water.specs.Draws.{drawing_node}
+use Rattle.water_model.specs.declared.types.Account.{Account}
+use Rattle.water_model.specs.declared.types.Draw.{Draw}
+use Rattle.water_model.specs.Stores.{is_owned, is_of_zone, storing_node, sum_in_zone, reservoir_of_right}
+use Rattle.water_model.specs.Stores.{reservoir_of_kind, is_in_reservoir, sum_in_reservoir, drawing_node}
+use Rattle.water_model.specs.Accounts.{drawn_by, draws_for}
 use Rattle.stored_water.specs.AccountLaws.{AreOfZones}
 use Rattle.stored_water.proofs.Accounting.{zone_is_owned}
 
@@ -50,70 +51,72 @@ no_test n y = total_zero n (λ v. if y v then 0 else 0) (λ v l. same (y v))
     same false = refl
 
 -- what stands by account in some zones is what stands in those of them that are owned
-by_owned : (b : Basin) (accounts : List Account) (in_it : ℕ → Bool) (within : ℕ → Bool) (f : ℕ → ℕ) →
+by_owned : (b : Basin) (in_it : ℕ → Bool) (within : ℕ → Bool) (f : ℕ → ℕ) →
     ((r : ℕ) → in_it r ≡ true → r < length b.rights) →
-    ((k : ℕ) → within k ≡ of_entry accounts k (λ a. in_it a.zone) false) →
-    total_where (length b.rights) (λ r. in_it r && is_owned accounts r) (λ r. sum_in_zone accounts f r)
-    ≡ total_where (length accounts) within f
-by_owned b accounts in_it within f below same =
-    grouped (length b.rights) (length accounts) (λ r. in_it r && is_owned accounts r)
-    (λ k r. is_of_zone accounts k r) within f
-    (λ k x. one x (slice_get accounts k) (λ zone. zone_is_owned accounts k zone)
+    ((k : ℕ) → within k ≡ of_entry b.accounts k (λ a. in_it a.zone) false) →
+    total_where (length b.rights) (λ r. in_it r && is_owned b r) (λ r. sum_in_zone b f r)
+    ≡ total_where (length b.accounts) within f
+by_owned b in_it within f below same =
+    grouped (length b.rights) (length b.accounts) (λ r. in_it r && is_owned b r)
+    (λ k r. is_of_zone b k r) within f
+    (λ k x. one x (slice_get b.accounts k) (λ zone. zone_is_owned b k zone)
     ∙ ap (λ t. if t then x else 0) (sym (same k)))
   where
     tested : (t o : Bool) (x : ℕ) → o ≡ true → (if t && o then x else 0) ≡ (if t then x else 0)
     tested t o x h = grind (arith, nat_tests)
 
     one : (x : ℕ) (o : Option Account) →
-        ((zone : ℕ) → unwrap_or (option_map (λ a. Some a.zone) o) None ≡ Some zone → is_owned accounts zone ≡ true) →
+        ((zone : ℕ) → unwrap_or (option_map (λ a. Some a.zone) o) None ≡ Some zone → is_owned b zone ≡ true) →
         total (length b.rights)
-        (λ r. if in_it r && is_owned accounts r
+        (λ r. if in_it r && is_owned b r
         then (if is_at (unwrap_or (option_map (λ a. Some a.zone) o) None) r then x else 0) else 0)
         ≡ (if unwrap_or (option_map (λ a. in_it a.zone) o) false then x else 0)
-    one x None owned = no_test (length b.rights) (λ r. in_it r && is_owned accounts r)
+    one x None owned = no_test (length b.rights) (λ r. in_it r && is_owned b r)
     one x (Some a) owned =
-        at_one (length b.rights) (λ r. in_it r && is_owned accounts r) a.zone x
-        (λ h. below a.zone (and_parts (in_it a.zone) (is_owned accounts a.zone) h).0)
-        ∙ tested (in_it a.zone) (is_owned accounts a.zone) x (owned a.zone refl)
+        at_one (length b.rights) (λ r. in_it r && is_owned b r) a.zone x
+        (λ h. below a.zone (and_parts (in_it a.zone) (is_owned b a.zone) h).0)
+        ∙ tested (in_it a.zone) (is_owned b a.zone) x (owned a.zone refl)
 
 -- so at a node
-pub by_zones : (b : Basin) (accounts : List Account) (n : ℕ) (f : ℕ → ℕ) →
-    total_where (length b.rights) (λ r. takes_at b r n && is_owned accounts r) (λ r. sum_in_zone accounts f r)
-    ≡ total_where (length accounts) (λ k. is_at (storing_node b accounts k) n) f
-by_zones b accounts n f =
-    by_owned b accounts (λ r. takes_at b r n) (λ k. is_at (storing_node b accounts k) n) f
-    (λ r h. takes_below b r n h) (λ k. of_get (slice_get accounts k))
+pub by_zones : (b : Basin) (n : ℕ) (f : ℕ → ℕ) →
+    total_where (length b.rights) (λ r. takes_at b r n && is_owned b r) (λ r. sum_in_zone b f r)
+    ≡ total_where (length b.accounts) (λ k. is_at (storing_node b k) n) f
+by_zones b n f =
+    by_owned b (λ r. takes_at b r n) (λ k. is_at (storing_node b k) n) f
+    (λ r h. takes_below b r n h) (λ k. of_get (slice_get b.accounts k))
   where
     of_get : (o : Option Account) → is_at (unwrap_or (option_map (λ a. taking_node b a.zone) o) None) n
         ≡ unwrap_or (option_map (λ a. takes_at b a.zone n) o) false
     of_get None = refl
     of_get (Some a) = refl
 
--- what draws bring to a node is what they bring to the diversions there
-pub by_diversions : (b : Basin) (accounts : List Account) (draws : List Draw) (count : ℕ) (amounts : List ℕ) (n : ℕ) →
-    ((j : ℕ) (d : Draw) → slice_get draws j ≡ Some d → is_owned accounts d.diversion ≡ false) →
-    total_where (length b.rights) (λ r. takes_at b r n && not (is_owned accounts r))
-    (λ r. drawn_by draws count amounts r)
-    ≡ total_where count (λ j. is_at (drawing_node b draws j) n) (λ j. slice_index amounts j)
-by_diversions b accounts draws count amounts n apart =
-    grouped (length b.rights) count (λ r. takes_at b r n && not (is_owned accounts r))
-    (λ j r. draws_for draws j r) (λ j. is_at (drawing_node b draws j) n) (λ j. slice_index amounts j)
-    (λ j x. one x (slice_get draws j) (apart j))
+-- what draws that are taken at their diversions' nodes bring to a node is what they bring to the diversions there
+pub by_diversions : (b : Basin) (count : ℕ) (amounts : List ℕ) (n : ℕ) →
+    ((j : ℕ) (d : Draw) → slice_get b.draws j ≡ Some d →
+    (is_owned b d.diversion ≡ false) × (taking_node b d.diversion ≡ Some d.node)) →
+    total_where (length b.rights) (λ r. takes_at b r n && not (is_owned b r)) (λ r. drawn_by b count amounts r)
+    ≡ total_where count (λ j. is_at (drawing_node b j) n) (λ j. slice_index amounts j)
+by_diversions b count amounts n apart =
+    grouped (length b.rights) count (λ r. takes_at b r n && not (is_owned b r))
+    (λ j r. draws_for b j r) (λ j. is_at (drawing_node b j) n) (λ j. slice_index amounts j)
+    (λ j x. one x (slice_get b.draws j) (apart j))
   where
     tested : (t o : Bool) (x : ℕ) → o ≡ false → (if t && not o then x else 0) ≡ (if t then x else 0)
     tested t o x h = grind (arith, nat_tests)
 
-    one : (x : ℕ) (o : Option Draw) → ((d : Draw) → o ≡ Some d → is_owned accounts d.diversion ≡ false) →
+    one : (x : ℕ) (o : Option Draw) →
+        ((d : Draw) → o ≡ Some d → (is_owned b d.diversion ≡ false) × (taking_node b d.diversion ≡ Some d.node)) →
         total (length b.rights)
-        (λ r. if takes_at b r n && not (is_owned accounts r)
+        (λ r. if takes_at b r n && not (is_owned b r)
         then (if unwrap_or (option_map (λ d. d.diversion == r) o) false then x else 0) else 0)
-        ≡ (if is_at (unwrap_or (option_map (λ d. taking_node b d.diversion) o) None) n then x else 0)
-    one x None apart = no_test (length b.rights) (λ r. takes_at b r n && not (is_owned accounts r))
+        ≡ (if is_at (unwrap_or (option_map (λ d. Some d.node) o) None) n then x else 0)
+    one x None apart = no_test (length b.rights) (λ r. takes_at b r n && not (is_owned b r))
     one x (Some d) apart =
-        at_one (length b.rights) (λ r. takes_at b r n && not (is_owned accounts r)) d.diversion x
+        at_one (length b.rights) (λ r. takes_at b r n && not (is_owned b r)) d.diversion x
         (λ h. takes_below b d.diversion n
-        (and_parts (takes_at b d.diversion n) (not (is_owned accounts d.diversion)) h).0)
-        ∙ tested (takes_at b d.diversion n) (is_owned accounts d.diversion) x (apart d refl)
+        (and_parts (takes_at b d.diversion n) (not (is_owned b d.diversion)) h).0)
+        ∙ (tested (takes_at b d.diversion n) (is_owned b d.diversion) x (apart d refl).0
+        ∙ ap (λ o. if is_at o n then x else 0) (apart d refl).1)
 
 -- ---- the kinds of rights
 
@@ -165,20 +168,20 @@ reservoir_below : (b : Basin) (v n : ℕ) → is_at (node_of_reservoir b v) n �
 reservoir_below b v n h = entry_below b.reservoirs v (λ x. Some x.node) None (λ o. is_at o n) refl h
 
 -- an owned zone has an account
-owned_by : (accounts : List Account) (r : ℕ) → is_owned accounts r ≡ true →
+owner_in : (accounts : List Account) (r : ℕ) → list_any (λ a. a.zone == r) accounts ≡ true →
     (k : ℕ) × (a : Account) × (slice_get accounts k ≡ Some a) × (a.zone ≡ r)
-owned_by [] r h = cc
-owned_by (a ∷ accounts) r h = elim (or_cases (a.zone == r) (is_owned accounts r) h) [
+owner_in [] r h = cc
+owner_in (a ∷ accounts) r h = elim (or_cases (a.zone == r) (list_any (λ x. x.zone == r) accounts) h) [
   | inl here ↦ (zero, a, refl, eqb-true a.zone r here)
-  | inr rest ↦ (let found = owned_by accounts r rest in (suc found.0, found.1, found.2, found.3))
+  | inr rest ↦ (let found = owner_in accounts r rest in (suc found.0, found.1, found.2, found.3))
 ]
 
 -- so no diversion is owned
-pub diversion_not_owned : (b : Basin) (accounts : List Account) (r : ℕ) → AreOfZones b accounts →
-    is_diversion b r ≡ true → is_owned accounts r ≡ false
-diversion_not_owned b accounts r zones diversion = elim (cases_Bool (is_owned accounts r)) [
+pub diversion_not_owned : (b : Basin) (r : ℕ) → AreOfZones b →
+    is_diversion b r ≡ true → is_owned b r ≡ false
+diversion_not_owned b r zones diversion = elim (cases_Bool (is_owned b r)) [
   | inl owned ↦
-      (let found = owned_by accounts r owned in
+      (let found = owner_in b.accounts r owned in
       let zone = zones found.0 found.1 found.2 in
       absurd (kinds_apart b r zone.0 diversion (sym (ap (reservoir_of_right b) found.3) ∙ zone.1)))
   | inr free ↦ free
@@ -187,12 +190,12 @@ diversion_not_owned b accounts r zones diversion = elim (cases_Bool (is_owned ac
 -- ---- reservoirs
 
 -- what stands by account in a reservoir is what stands in its owned zones
-pub by_reservoir_zones : (b : Basin) (accounts : List Account) (v : ℕ) (f : ℕ → ℕ) →
-    total_where (length b.rights) (λ r. is_zone_of b r v && is_owned accounts r) (λ r. sum_in_zone accounts f r)
-    ≡ sum_in_reservoir b accounts f v
-by_reservoir_zones b accounts v f =
-    by_owned b accounts (λ r. is_zone_of b r v) (λ k. is_in_reservoir b accounts k v) f
-    (λ r h. zone_below b r v h) (λ k. of_get (slice_get accounts k))
+pub by_reservoir_zones : (b : Basin) (v : ℕ) (f : ℕ → ℕ) →
+    total_where (length b.rights) (λ r. is_zone_of b r v && is_owned b r) (λ r. sum_in_zone b f r)
+    ≡ sum_in_reservoir b f v
+by_reservoir_zones b v f =
+    by_owned b (λ r. is_zone_of b r v) (λ k. is_in_reservoir b k v) f
+    (λ r h. zone_below b r v h) (λ k. of_get (slice_get b.accounts k))
   where
     of_get : (o : Option Account) → is_at (unwrap_or (option_map (λ a. reservoir_of_right b a.zone) o) None) v
         ≡ unwrap_or (option_map (λ a. is_zone_of b a.zone v) o) false
@@ -200,13 +203,13 @@ by_reservoir_zones b accounts v f =
     of_get (Some a) = sym (zone_test b a.zone v)
 
 -- what stands by account at a node is what stands in the reservoirs there
-pub by_reservoirs : (b : Basin) (accounts : List Account) (n : ℕ) (f : ℕ → ℕ) → AreOfZones b accounts →
-    total_where (length b.reservoirs) (λ v. is_at (node_of_reservoir b v) n) (λ v. sum_in_reservoir b accounts f v)
-    ≡ total_where (length accounts) (λ k. is_at (storing_node b accounts k) n) f
-by_reservoirs b accounts n f zones =
-    grouped (length b.reservoirs) (length accounts) (λ v. is_at (node_of_reservoir b v) n)
-    (λ k v. is_in_reservoir b accounts k v) (λ k. is_at (storing_node b accounts k) n) f
-    (λ k x. one x (slice_get accounts k) (zones k))
+pub by_reservoirs : (b : Basin) (n : ℕ) (f : ℕ → ℕ) → AreOfZones b →
+    total_where (length b.reservoirs) (λ v. is_at (node_of_reservoir b v) n) (λ v. sum_in_reservoir b f v)
+    ≡ total_where (length b.accounts) (λ k. is_at (storing_node b k) n) f
+by_reservoirs b n f zones =
+    grouped (length b.reservoirs) (length b.accounts) (λ v. is_at (node_of_reservoir b v) n)
+    (λ k v. is_in_reservoir b k v) (λ k. is_at (storing_node b k) n) f
+    (λ k x. one x (slice_get b.accounts k) (zones k))
   where
     one : (x : ℕ) (o : Option Account) →
         ((a : Account) → o ≡ Some a → (v : ℕ) × (reservoir_of_right b a.zone ≡ Some v)) →

@@ -2,14 +2,15 @@
 use Rattle.std.proofs.Common.{◌≡◌, ℕ, zero, suc, ◌+◌, ◌-◌, ◌*◌, ◌/◌, ◌<◌, ◌≤◌, false, true, sym, ◌∙◌, ap, arith, inl}
 use Rattle.std.proofs.Common.{inr}
 use Rattle.std.proofs.Math.Nat.{mul-add, add-mul, mul-zero, zero-div, div-zero, mul-le-mul_left, mul-le-mul_right}
-use Rattle.std.proofs.Math.Nat.{one-mul, mul-div_cancel, add-mul-div_left, le-div_iff_mul-le, div-mul-le_self, lt-div-mul-add}
+use Rattle.std.proofs.Math.Nat.{one-mul, mul-div_cancel, add-mul-div_left, le-div_iff_mul-le, div-mul-le_self}
+use Rattle.std.proofs.Math.Nat.{lt-div-mul-add}
 use Rattle.std.proofs.lemmas.Bool.{cases_lt}
 use Rattle.std.proofs.lemmas.Bool.Decides.{nat_tests}
 use Rattle.std.specs.Prelude.{◌==◌, if◌then◌else◌}
 use Rattle.finite_sums.specs.Sums.{total}
 use Rattle.finite_sums.proofs.Totals.{total_same, total_zero}
-use Rattle.stored_water.specs.Shares.{part, share, SharesSumUp, SharesFit, SharesAreInProportion}
-use Rattle.stored_water.specs.Shares.{OrderChangesNoSum}
+use Rattle.water_model.specs.Shares.{part, share}
+use Rattle.stored_water.specs.ShareLaws.{SharesSumUp, SharesFit, SharesAreInProportion, OrderChangesNoSum}
 
 pub quotient_rises : (x y d : ℕ) → x ≤ y → x / d ≤ y / d
 quotient_rises x y d le = elim (cases_lt 0 d) [
@@ -92,7 +93,13 @@ between x y gap all some le e =
 
 pub shares_are_in_proportion : SharesAreInProportion
 shares_are_in_proportion n amount weight i some = record {
-  not_below = omega (arith, bounds.0, more, add-mul (share n amount weight i) 1 (total n weight), one-mul (total n weight));
+  not_below = omega (
+    arith,
+    bounds.0,
+    more,
+    add-mul (share n amount weight i) 1 (total n weight),
+    one-mul (total n weight),
+  );
   not_above = omega (arith, bounds.1, more);
 }
   where

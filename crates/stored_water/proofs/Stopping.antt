@@ -1,6 +1,5 @@
 -- Stops, and the greatest draw.
-use Rattle.std.proofs.Common.{◌≡◌, ℕ, ◌*◌, ◌<◌, ◌≤◌, Bool, sym, ◌∙◌, ap, arith, List, length, inl, inr}
-use Rattle.std.proofs.Common.{subst}
+use Rattle.std.proofs.Common.{◌≡◌, ℕ, ◌*◌, ◌<◌, ◌≤◌, Bool, sym, ◌∙◌, ap, arith, List, length, inl, inr, subst}
 use Rattle.std.specs.Prelude.{◌⊎◌, slice_index}
 use Rattle.std.proofs.Math.Nat.{mul-le-mul_left}
 use Rattle.finite_sums.proofs.Totals.{total_where_le}
@@ -9,10 +8,12 @@ use Rattle.water_model.specs.Cuts.{enters, leaves}
 use Rattle.water_model.specs.Plans.{carry_of}
 use Rattle.water_model.specs.declared.types.Basin.{Basin}
 use Rattle.water_model.proofs.Sets.{has_below}
+use Rattle.duality.proofs.Greatest.{same_set}
 use Rattle.duality.specs.Parts.{times}
-use Rattle.stored_water.specs.Courses.{IsCourseWithin, HasCourse, IsStopWithin, IsGreatestWithin, after_draw}
+use Rattle.water_model.specs.Courses.{IsCourseWithin, HasCourse, IsStopWithin, IsGreatestWithin, after_draw}
 use Rattle.stored_water.specs.DrawLaws.{StopsLetNoMoreBeDrawn, StopsMakeDrawsGreatest, NoFractionMoreIsDrawn}
 use Rattle.stored_water.specs.DrawLaws.{WholeDrawsAreGreatest, GreatestDrawIsOne, DrawAtReservoirIsCap}
+use Rattle.stored_water.specs.DrawLaws.{GreatestStopIsOne}
 use Rattle.stored_water.proofs.CourseBalance.{course_balance, taken_after, length_after, after_draw_at}
 use Rattle.stored_water.proofs.Times.{course_times, stop_times, after_draw_times}
 
@@ -129,3 +130,8 @@ draw_at_reservoir_is_cap b month held supply taken node cap l enough has_course 
       (sym (after_own taken node cap (omega (arith, has_course.is_course.taken_len)) enough)) has_course;
   greatest = λ other capped course. capped;
 }
+
+pub greatest_stop_is_one : GreatestStopIsOne
+greatest_stop_is_one b month held supply taken from to set other one two =
+    same_set set other (one.is_stop.one_each ∙ sym two.is_stop.one_each)
+    (two.contains set one.is_stop) (one.contains other two.is_stop)

@@ -2,7 +2,7 @@
 use Rattle.std.proofs.Common.{◌≡◌, ℕ, ◌+◌, ◌<◌, ◌≤◌, arith, List, refl, slice_index}
 use Rattle.finite_sums.specs.Sums.{total}
 use Rattle.finite_sums.proofs.Totals.{total_start, total_more, total_grows}
-use Rattle.stored_water.specs.Shares.{part, share}
+use Rattle.water_model.specs.Shares.{part, share}
 
 pub sum_start : (xs : List ℕ) → total 0 (λ k. slice_index xs k) ≡ 0
 sum_start xs = total_start (λ k. slice_index xs k)

@@ -1,6 +1,6 @@
 -- Courses, stops and draws counted in parts of a unit.
-use Rattle.std.proofs.Common.{◌≡◌, ℕ, zero, suc, ◌+◌, ◌-◌, ◌*◌, Bool, refl, sym, ◌∙◌, ap, arith}
-use Rattle.std.proofs.Common.{List, [], ◌∷◌, length, map}
+use Rattle.std.proofs.Common.{◌≡◌, ℕ, zero, suc, ◌+◌, ◌-◌, ◌*◌, Bool, refl, sym, ◌∙◌, ap, arith, List, [], ◌∷◌, length}
+use Rattle.std.proofs.Common.{map}
 use Rattle.std.proofs.Math.Nat.{mul-add, mul-sub, mul-le-mul_left}
 use Rattle.std.proofs.lemmas.List.{length-map}
 use Rattle.std.specs.Prelude.{slice_index, slice_set}
@@ -9,7 +9,7 @@ use Rattle.water_model.specs.Cuts.{leaves}
 use Rattle.water_model.specs.declared.types.Basin.{Basin}
 use Rattle.duality.specs.Parts.{times}
 use Rattle.duality.proofs.Parts.{times_at, total_where_times, sum_times, balance_times, none_times, capacity_times}
-use Rattle.stored_water.specs.Courses.{IsCourseWithin, IsStopWithin, after_draw, with_less, with_more}
+use Rattle.water_model.specs.Courses.{IsCourseWithin, IsStopWithin, after_draw, with_less, with_more}
 
 -- ---- draws
 

@@ -1,26 +1,25 @@
 -- Laws over accounts.
-use Rattle.std.specs.Prelude.{◌≡◌, ℕ, ◌+◌, ◌-◌, ◌<◌, ◌≤◌, true, List, [], ◌∷◌, length, slice_index, Option, sum_by}
+use Rattle.std.specs.Prelude.{◌≡◌, ℕ, ◌+◌, ◌-◌, ◌<◌, ◌≤◌, true, false, List, [], ◌∷◌, length, slice_index, sum_by}
 use Rattle.std.specs.Prelude.{All, Some, slice_get}
-use Rattle.finite_sums.specs.Sums.{total_where}
-use Rattle.water_model.specs.Basin.{is_at}
-use Rattle.water_model.specs.Hydrology.{stored_at}
+use Rattle.water_model.specs.Accounts.{Ledger, IsLedger, zone_want, stock_of, closing_with, is_in_season}
+use Rattle.water_model.specs.Hydrology.{stored_at, volume_of}
+use Rattle.water_model.specs.Stores.{is_owned, space_of, zone_of, sum_in_zone, sum_in_reservoir, sum_at_node}
+use Rattle.water_model.specs.Stores.{reservoir_of_right}
+use Rattle.water_model.specs.declared.types.Account.{Account}
 use Rattle.water_model.specs.declared.types.Basin.{Basin}
-use Rattle.stored_water.specs.Accounts.{Account, Draw, Ledger, IsLedger, is_owned, space_of, zone_want, stock_of}
-use Rattle.stored_water.specs.Accounts.{sum_in_zone, sum_in_reservoir, closing_with, reservoir_of_right, storing_node}
 
 -- no reservoir loses more than it opens with
 abbrev pub EvaporatesWithin : List ℕ → List ℕ → Type 0
 EvaporatesWithin opening evaporated = (v : ℕ) → slice_index evaporated v ≤ slice_index opening v
 
 -- no account is drawn on for more than it holds after its fill
-abbrev pub IsDrawnWithin : List Account → Ledger → Type 0
-IsDrawnWithin accounts l = (k : ℕ) → k < length accounts → slice_index l.drawn k ≤ stock_of l k
+abbrev pub IsDrawnWithin : Basin → Ledger → Type 0
+IsDrawnWithin b l = (k : ℕ) → k < length b.accounts → slice_index l.drawn k ≤ stock_of l k
 
--- no owned zone is delivered more than it wants
-abbrev pub FillsWithinWant : List Account → (ℕ → ℕ) → (ℕ → Option ℕ) → (ℕ → ℕ) → List ℕ → Ledger → Type 0
-FillsWithinWant accounts target volume used delivered l =
-    (zone : ℕ) → is_owned accounts zone ≡ true →
-    slice_index delivered zone ≤ zone_want accounts target l.carried (volume zone) (used zone) zone
+-- no owned zone is delivered more than it wants in month i
+abbrev pub FillsWithinWant : Basin → ℕ → (ℕ → ℕ) → (used delivered : List ℕ) → Ledger → Type 0
+FillsWithinWant b i number used delivered l =
+    (zone : ℕ) → is_owned b zone ≡ true → slice_index delivered zone ≤ zone_want b i number used l.carried zone
 
 -- what an account opens with and is filled with is what it loses, spills, is drawn on for and holds at the end
 abbrev pub IsBalancedAt : Ledger → ℕ → Type 0
@@ -31,54 +30,65 @@ IsBalancedAt l k =
 -- An account's books balance.
 abbrev pub BooksBalance : Type 0
 BooksBalance =
-    (b : Basin) (accounts : List Account) (draws : List Draw) (opening evaporated : List ℕ) (target : ℕ → ℕ)
-    (delivered amounts : List ℕ) (l : Ledger) →
-    IsLedger b accounts draws opening evaporated target delivered amounts l → EvaporatesWithin opening evaporated →
-    IsDrawnWithin accounts l → (k : ℕ) → k < length accounts → IsBalancedAt l k
+    (b : Basin) (opening evaporated : List ℕ) (number : ℕ → ℕ) (delivered amounts : List ℕ) (l : Ledger) →
+    IsLedger b opening evaporated number delivered amounts l → EvaporatesWithin opening evaporated →
+    IsDrawnWithin b l → (k : ℕ) → k < length b.accounts → IsBalancedAt l k
 
 -- Fills add up. The accounts of a zone are filled with all that it takes.
 abbrev pub FillsAddUp : Type 0
 FillsAddUp =
-    (b : Basin) (accounts : List Account) (draws : List Draw) (opening evaporated : List ℕ) (target : ℕ → ℕ)
-    (volume : ℕ → Option ℕ) (used : ℕ → ℕ) (delivered amounts : List ℕ) (l : Ledger) →
-    IsLedger b accounts draws opening evaporated target delivered amounts l →
-    FillsWithinWant accounts target volume used delivered l →
-    (zone : ℕ) → is_owned accounts zone ≡ true →
-    sum_in_zone accounts (slice_index l.filled) zone ≡ slice_index delivered zone
+    (b : Basin) (opening evaporated : List ℕ) (number : ℕ → ℕ) (i : ℕ) (used delivered amounts : List ℕ)
+    (l : Ledger) → IsLedger b opening evaporated number delivered amounts l →
+    FillsWithinWant b i number used delivered l → (zone : ℕ) → is_owned b zone ≡ true →
+    sum_in_zone b (slice_index l.filled) zone ≡ slice_index delivered zone
 
 -- Accounts stay within their space. Where no account opens above its space, none is above it after its fill, nor at the
 -- end.
 abbrev pub AccountsStayWithinSpace : Type 0
 AccountsStayWithinSpace =
-    (b : Basin) (accounts : List Account) (draws : List Draw) (opening evaporated : List ℕ) (target : ℕ → ℕ)
-    (volume : ℕ → Option ℕ) (used : ℕ → ℕ) (delivered amounts : List ℕ) (l : Ledger) →
-    IsLedger b accounts draws opening evaporated target delivered amounts l →
-    FillsWithinWant accounts target volume used delivered l →
-    ((k : ℕ) → k < length accounts → slice_index l.opening k ≤ space_of accounts k) →
-    (k : ℕ) → k < length accounts →
-    (stock_of l k ≤ space_of accounts k) × (slice_index l.closing k ≤ space_of accounts k)
+    (b : Basin) (opening evaporated : List ℕ) (number : ℕ → ℕ) (i : ℕ) (used delivered amounts : List ℕ)
+    (l : Ledger) → IsLedger b opening evaporated number delivered amounts l →
+    FillsWithinWant b i number used delivered l →
+    ((k : ℕ) → k < length b.accounts → slice_index l.opening k ≤ space_of b k) →
+    (k : ℕ) → k < length b.accounts → (stock_of l k ≤ space_of b k) × (slice_index l.closing k ≤ space_of b k)
 
--- Zones stay within their targets. After spill and fill the accounts of a zone hold no more than its target.
-abbrev pub ZonesStayWithinTarget : Type 0
-ZonesStayWithinTarget =
-    (b : Basin) (accounts : List Account) (draws : List Draw) (opening evaporated : List ℕ) (target : ℕ → ℕ)
-    (volume : ℕ → Option ℕ) (used : ℕ → ℕ) (delivered amounts : List ℕ) (l : Ledger) →
-    IsLedger b accounts draws opening evaporated target delivered amounts l →
-    FillsWithinWant accounts target volume used delivered l →
-    (zone : ℕ) → is_owned accounts zone ≡ true → sum_in_zone accounts (stock_of l) zone ≤ target zone
+-- Zones stay within their numbers. In every month, in its season or out of it, the accounts of a zone hold no more than
+-- its number after spill and fill.
+abbrev pub ZonesStayWithinNumber : Type 0
+ZonesStayWithinNumber =
+    (b : Basin) (opening evaporated : List ℕ) (number : ℕ → ℕ) (i : ℕ) (used delivered amounts : List ℕ)
+    (l : Ledger) → IsLedger b opening evaporated number delivered amounts l →
+    FillsWithinWant b i number used delivered l → (zone : ℕ) → is_owned b zone ≡ true →
+    sum_in_zone b (stock_of l) zone ≤ number zone
+
+-- Nothing fills out of season. What an account carries then stays, but for its draws.
+abbrev pub NothingFillsOutOfSeason : Type 0
+NothingFillsOutOfSeason =
+    (b : Basin) (opening evaporated : List ℕ) (number : ℕ → ℕ) (i : ℕ) (used delivered amounts : List ℕ)
+    (l : Ledger) → IsLedger b opening evaporated number delivered amounts l →
+    FillsWithinWant b i number used delivered l → (zone k : ℕ) → is_in_season b i zone ≡ false →
+    zone_of b k ≡ Some zone → k < length b.accounts →
+    (slice_index l.filled k ≡ 0) × (slice_index l.closing k ≡ slice_index l.carried k - slice_index l.drawn k)
+
+-- Fills stay within volumes. An owned zone with a volume fills no more in a month than is left of it in the water year.
+abbrev pub FillsStayWithinVolume : Type 0
+FillsStayWithinVolume =
+    (b : Basin) (i : ℕ) (number : ℕ → ℕ) (used delivered : List ℕ) (l : Ledger) →
+    FillsWithinWant b i number used delivered l → (zone volume : ℕ) → is_owned b zone ≡ true →
+    volume_of b zone ≡ Some volume → slice_index used zone ≤ volume →
+    slice_index used zone + slice_index delivered zone ≤ volume
 
 -- Accounts hold no more than their reservoir. Where the accounts of a reservoir open with no more than it does, they
 -- carry no more than evaporation leaves in it, and at the end hold no more than it closes with.
 abbrev pub AccountsStayWithinReservoir : Type 0
 AccountsStayWithinReservoir =
-    (b : Basin) (accounts : List Account) (draws : List Draw) (opening evaporated : List ℕ) (target : ℕ → ℕ)
-    (delivered amounts : List ℕ) (l : Ledger) (reservoir : ℕ) →
-    IsLedger b accounts draws opening evaporated target delivered amounts l → EvaporatesWithin opening evaporated →
-    sum_in_reservoir b accounts (slice_index l.opening) reservoir ≤ slice_index opening reservoir →
-    (sum_in_reservoir b accounts (slice_index l.carried) reservoir
+    (b : Basin) (opening evaporated : List ℕ) (number : ℕ → ℕ) (delivered amounts : List ℕ) (l : Ledger)
+    (reservoir : ℕ) →
+    IsLedger b opening evaporated number delivered amounts l → EvaporatesWithin opening evaporated →
+    sum_in_reservoir b (slice_index l.opening) reservoir ≤ slice_index opening reservoir →
+    (sum_in_reservoir b (slice_index l.carried) reservoir
     ≤ slice_index opening reservoir - slice_index evaporated reservoir)
-    × (sum_in_reservoir b accounts (slice_index l.closing) reservoir
-    ≤ closing_with b accounts delivered l.closing reservoir)
+    × (sum_in_reservoir b (slice_index l.closing) reservoir ≤ closing_with b delivered l.closing reservoir)
 
 -- months in a row: each opens with what the one before it holds at its end, and the first with these amounts
 abbrev pub AreInRow : List ℕ → List Ledger → Type 0
@@ -114,26 +124,20 @@ pub record AreSameLedgers (l m : Ledger) : Type 0 where
 -- determines a month's ledger.
 abbrev pub LedgerIsOne : Type 0
 LedgerIsOne =
-    (b : Basin) (accounts : List Account) (draws : List Draw) (opening evaporated : List ℕ) (target : ℕ → ℕ)
-    (delivered amounts : List ℕ) (l m : Ledger) →
-    IsLedger b accounts draws opening evaporated target delivered amounts l →
-    IsLedger b accounts draws opening evaporated target delivered amounts m → l.opening ≡ m.opening →
-    AreSameLedgers l m
+    (b : Basin) (opening evaporated : List ℕ) (number : ℕ → ℕ) (delivered amounts : List ℕ) (l m : Ledger) →
+    IsLedger b opening evaporated number delivered amounts l →
+    IsLedger b opening evaporated number delivered amounts m → l.opening ≡ m.opening → AreSameLedgers l m
 
 -- each account is of a zone
-abbrev pub AreOfZones : Basin → List Account → Type 0
-AreOfZones b accounts =
-    (k : ℕ) (a : Account) → slice_get accounts k ≡ Some a → (v : ℕ) × (reservoir_of_right b a.zone ≡ Some v)
+abbrev pub AreOfZones : Basin → Type 0
+AreOfZones b =
+    (k : ℕ) (a : Account) → slice_get b.accounts k ≡ Some a → (v : ℕ) × (reservoir_of_right b a.zone ≡ Some v)
 
 -- What accounts carry is there. At each node the accounts carry no more than evaporation leaves there, so that the
 -- supply of the first step is the whole supply less what they carry.
 abbrev pub CarriedIsStored : Type 0
 CarriedIsStored =
-    (b : Basin) (accounts : List Account) (draws : List Draw) (opening evaporated : List ℕ) (target : ℕ → ℕ)
-    (delivered amounts : List ℕ) (l : Ledger) (node : ℕ) →
-    IsLedger b accounts draws opening evaporated target delivered amounts l → AreOfZones b accounts →
-    EvaporatesWithin opening evaporated →
-    ((v : ℕ) → v < length b.reservoirs →
-    sum_in_reservoir b accounts (slice_index l.opening) v ≤ slice_index opening v) →
-    total_where (length accounts) (λ k. is_at (storing_node b accounts k) node) (λ k. slice_index l.carried k)
-    ≤ stored_at b opening evaporated node
+    (b : Basin) (opening evaporated : List ℕ) (number : ℕ → ℕ) (delivered amounts : List ℕ) (l : Ledger) (node : ℕ) →
+    IsLedger b opening evaporated number delivered amounts l → AreOfZones b → EvaporatesWithin opening evaporated →
+    ((v : ℕ) → v < length b.reservoirs → sum_in_reservoir b (slice_index l.opening) v ≤ slice_index opening v) →
+    sum_at_node b (slice_index l.carried) node ≤ stored_at b opening evaporated node

@@ -1,6 +1,3 @@
-pub mod Shares
-pub mod Accounts
-pub mod Courses
-pub mod Draws
+pub mod ShareLaws
 pub mod AccountLaws
 pub mod DrawLaws

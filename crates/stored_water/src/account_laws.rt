@@ -1,7 +1,8 @@
 //! Laws over accounts. Each is the contract of a function that does nothing.
 ghost use Rattle.stored_water.specs.AccountLaws.{BooksBalance, FillsAddUp, AccountsStayWithinSpace};
-ghost use Rattle.stored_water.specs.AccountLaws.{ZonesStayWithinTarget, AccountsStayWithinReservoir};
+ghost use Rattle.stored_water.specs.AccountLaws.{ZonesStayWithinNumber, AccountsStayWithinReservoir};
 ghost use Rattle.stored_water.specs.AccountLaws.{BooksBalanceOverMonths, LedgerIsOne, CarriedIsStored};
+ghost use Rattle.stored_water.specs.AccountLaws.{NothingFillsOutOfSeason, FillsStayWithinVolume};
 
 /// What an account opens with and is filled with is what it loses, spills, is drawn on for and holds at the end.
 pub fn books_balance()
@@ -18,9 +19,19 @@ pub fn accounts_stay_within_space()
     ensures { AccountsStayWithinSpace }
 {}
 
-/// After spill and fill the accounts of a zone hold no more than its target.
-pub fn zones_stay_within_target()
-    ensures { ZonesStayWithinTarget }
+/// After spill and fill the accounts of a zone hold no more than its number, in its season and out of it.
+pub fn zones_stay_within_number()
+    ensures { ZonesStayWithinNumber }
+{}
+
+/// Out of a zone's season its accounts aren't filled.
+pub fn nothing_fills_out_of_season()
+    ensures { NothingFillsOutOfSeason }
+{}
+
+/// A zone with a volume fills no more than is left of it.
+pub fn fills_stay_within_volume()
+    ensures { FillsStayWithinVolume }
 {}
 
 /// The accounts of a reservoir hold no more than it does.

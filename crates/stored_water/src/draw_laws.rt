@@ -1,9 +1,10 @@
 //! Laws over draws. Each is the contract of a function that does nothing.
 ghost use Rattle.stored_water.specs.DrawLaws.{StopsLetNoMoreBeDrawn, StopsMakeDrawsGreatest, NoFractionMoreIsDrawn};
 ghost use Rattle.stored_water.specs.DrawLaws.{WholeDrawsAreGreatest, GreatestDrawIsOne, DrawAtReservoirIsCap};
-ghost use Rattle.stored_water.specs.DrawLaws.{DrawsMoveWater, DrawsStayWithinStock, DrawsStayWithinWant};
+ghost use Rattle.stored_water.specs.DrawLaws.{DrawsMoveWater, DrawsStayWithinCarried, DrawsStayWithinNumber};
 ghost use Rattle.stored_water.specs.DrawLaws.{DrawsHaveOneOutcome, FirstStepIsCourse, DrawsChangeNoTakes, ClosingIsTakes};
-ghost use Rattle.stored_water.specs.DrawLaws.{DrawsAddUp, CoursesAndStopsShowDraws};
+ghost use Rattle.stored_water.specs.DrawLaws.{DrawsAddUp, CoursesAndStopsShowDraws, DrawsLeaveFills, GreatestStopIsOne};
+ghost use Rattle.stored_water.specs.DrawLaws.{CoursesWithDrawsArePlans, ValidBasinsAreSited};
 
 /// A stop lets no course draw more.
 pub fn stops_let_no_more_be_drawn()
@@ -30,12 +31,17 @@ pub fn greatest_draw_is_one()
     ensures { GreatestDrawIsOne }
 {}
 
-/// A draw at the reservoir's own node is its cap.
+/// A draw that is taken at the reservoir's own node is its cap.
 pub fn draw_at_reservoir_is_cap()
     ensures { DrawAtReservoirIsCap }
 {}
 
-/// A draw moves its amount from the reservoir's node to the diversion's.
+/// The greatest stop is one set.
+pub fn greatest_stop_is_one()
+    ensures { GreatestStopIsOne }
+{}
+
+/// A draw moves its amount from the reservoir's node to its own.
 pub fn draws_move_water()
     ensures { DrawsMoveWater }
 {}
@@ -45,14 +51,19 @@ pub fn draws_add_up()
     ensures { DrawsAddUp }
 {}
 
-/// No account is drawn on for more than it holds.
-pub fn draws_stay_within_stock()
-    ensures { DrawsStayWithinStock }
+/// No account is drawn on for more than it carries.
+pub fn draws_stay_within_carried()
+    ensures { DrawsStayWithinCarried }
 {}
 
-/// No diversion gets more than it wants.
-pub fn draws_stay_within_want()
-    ensures { DrawsStayWithinWant }
+/// What is filled stays until the next month.
+pub fn draws_leave_fills()
+    ensures { DrawsLeaveFills }
+{}
+
+/// No diversion gets more than its number.
+pub fn draws_stay_within_number()
+    ensures { DrawsStayWithinNumber }
 {}
 
 /// Draws that each have a course after those before them, and are their caps or have stops, are the greatest.
@@ -73,6 +84,16 @@ pub fn first_step_is_course()
 /// Draws change no takes of the first step.
 pub fn draws_change_no_takes()
     ensures { DrawsChangeNoTakes }
+{}
+
+/// Where they are taken at their diversions' nodes, the course with all of them is a plan.
+pub fn courses_with_draws_are_plans()
+    ensures { CoursesWithDrawsArePlans }
+{}
+
+/// In a valid basin each draw is for a diversion and on an account, which is of a zone.
+pub fn valid_basins_are_sited()
+    ensures { ValidBasinsAreSited }
 {}
 
 /// A reservoir closes with what its zones take after all draws.

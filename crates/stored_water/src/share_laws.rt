@@ -1,5 +1,5 @@
 //! Laws over shares. Each is the contract of a function that does nothing.
-ghost use Rattle.stored_water.specs.Shares.{SharesSumUp, SharesFit, SharesAreInProportion, OrderChangesNoSum};
+ghost use Rattle.stored_water.specs.ShareLaws.{SharesSumUp, SharesFit, SharesAreInProportion, OrderChangesNoSum};
 
 /// The parts of an amount sum to it, unless all weights are 0.
 pub fn shares_sum_up()

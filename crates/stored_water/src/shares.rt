@@ -1,7 +1,7 @@
 //! An amount that is dealt out by weights, in whole units.
 ghost use Rattle.std.specs.Prelude.{◌≡◌, ℕ, ◌+◌, ◌<◌, ◌≤◌, ◌^◌, length, slice_index};
 ghost use Rattle.finite_sums.specs.Sums.{total};
-ghost use Rattle.stored_water.specs.Shares.{part, share};
+ghost use Rattle.water_model.specs.Shares.{part, share};
 
 /// The part of an amount for one of several weights, where `before` is the sum of the weights before it and `all` that
 /// of all. It is what falls to the weights up to this one, rounded down, less what falls to those before it, and 0 where

@@ -53,6 +53,15 @@ takes_at b right node = is_at (taking_node b right) node
 abbrev pub is_on_link : Basin → ℕ → ℕ → Bool
 is_on_link b right link = is_at (instream_link b right) link
 
+-- whether the right is a zone of the reservoir
+abbrev pub is_zone_of_kind : RightKind → ℕ → Bool
+is_zone_of_kind (Diversion node) reservoir = false
+is_zone_of_kind (Instream link) reservoir = false
+is_zone_of_kind (Zone at level) reservoir = is_at (Some at) reservoir
+
+abbrev pub is_zone_of : Basin → ℕ → ℕ → Bool
+is_zone_of b right reservoir = of_entry b.rights right (λ r. is_zone_of_kind r.kind reservoir) false
+
 abbrev pub priority_of : Basin → ℕ → List ℕ
 priority_of b right = priority_in b.rights right
 

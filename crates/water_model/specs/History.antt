@@ -4,7 +4,8 @@ use Rattle.std.specs.Prelude.{Option, Some, None, IsTrue, IfSome, IfNone, ◌&&�
 use Rattle.std.specs.Option.{option_map_or}
 use Rattle.finite_sums.specs.Sums.{total_where}
 use Rattle.water_model.specs.Lookups.{of_entry}
-use Rattle.water_model.specs.Basin.{is_senior, is_at}
+use Rattle.water_model.specs.Basin.{is_senior}
+pub use Rattle.water_model.specs.Basin.{is_zone_of, is_zone_of_kind}
 use Rattle.water_model.specs.Plans.{IsPlan, delivery}
 use Rattle.water_model.specs.CutSets.{set_of}
 use Rattle.water_model.specs.Cuts.{IsTight, IsReach, takes_within}
@@ -13,8 +14,6 @@ use Rattle.water_model.specs.Hydrology.{want_of}
 use Rattle.water_model.specs.declared.types.Basin.{Basin}
 use Rattle.water_model.specs.declared.types.Series.{Series}
 use Rattle.water_model.specs.declared.types.MonthRecord.{MonthRecord}
-use Rattle.water_model.specs.declared.types.RightKind.{RightKind}
-use Rattle.water_model.specs.declared.types.RightKind.TheVariants.{Diversion, Instream, Zone}
 use Rattle.water_model.specs.Indices.{seniors_first}
 
 -- a right is short if it is delivered less than its want
@@ -24,15 +23,6 @@ IsShort m right = slice_index m.delivered right < slice_index m.want right
 -- the set that the record has of a right
 abbrev pub cut_of : MonthRecord → ℕ → Option (List Bool)
 cut_of m right = set_of m.cuts right
-
--- whether the right is a zone of the reservoir
-abbrev pub is_zone_of_kind : RightKind → ℕ → Bool
-is_zone_of_kind (Diversion node) reservoir = false
-is_zone_of_kind (Instream link) reservoir = false
-is_zone_of_kind (Zone at level) reservoir = is_at (Some at) reservoir
-
-abbrev pub is_zone_of : Basin → ℕ → ℕ → Bool
-is_zone_of b right reservoir = of_entry b.rights right (λ r. is_zone_of_kind r.kind reservoir) false
 
 -- the storage in which a month opens: the basin's, or the closing of the month before
 abbrev pub opening_after : Basin → List MonthRecord → List ℕ

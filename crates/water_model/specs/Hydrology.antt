@@ -96,14 +96,16 @@ abbrev pub number_of : Basin → Series → ℕ → ℕ → Want → ℕ
 number_of b series right i (wants.Monthly amounts) = slice_index amounts (in_year b i)
 number_of b series right i wants.Series = table_at series.wanted series.want i right
 
+abbrev pub number_in : Basin → Series → ℕ → ℕ → ℕ
+number_in b series i right = of_entry b.rights right (λ r. number_of b series right i r.want) 0
+
 abbrev pub cap_by_link : Basin → Month → Option ℕ → ℕ → ℕ
 cap_by_link b month None number = number
 cap_by_link b month (Some link) number = min number (carry_of b month link)
 
 abbrev pub target_of : Basin → Series → ℕ → ℕ → ℕ
 target_of b series right i =
-    cap_by_link b (run_month b i) (instream_link b right)
-    (of_entry b.rights right (λ r. number_of b series right i r.want) 0)
+    cap_by_link b (run_month b i) (instream_link b right) (number_in b series i right)
 
 -- the water year of a month, counted from year 0
 abbrev pub water_year : Basin → ℕ → ℕ

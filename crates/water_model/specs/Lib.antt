@@ -5,6 +5,11 @@ pub mod Rights
 pub mod Basin
 pub mod Indices
 pub mod Stores
+pub mod Shares
+pub mod Accounts
+pub mod Courses
+pub mod Draws
+pub mod Volumes
 pub mod Valid
 pub mod CutSets
 pub mod Blank

@@ -47,12 +47,15 @@ is_in_reservoir b account reservoir = is_at (reservoir_of b account) reservoir
 abbrev pub is_owned : Basin → ℕ → Bool
 is_owned b right = list_any (λ a. a.zone == right) b.accounts
 
--- the sum of amounts by account over the accounts of a zone, and over those in a reservoir
+-- the sum of amounts by account over the accounts of a zone, over those in a reservoir, and over those at a node
 abbrev pub sum_in_zone : Basin → (ℕ → ℕ) → ℕ → ℕ
 sum_in_zone b amount zone = total_where (length b.accounts) (λ k. is_of_zone b k zone) amount
 
 abbrev pub sum_in_reservoir : Basin → (ℕ → ℕ) → ℕ → ℕ
 sum_in_reservoir b amount reservoir = total_where (length b.accounts) (λ k. is_in_reservoir b k reservoir) amount
+
+abbrev pub sum_at_node : Basin → (ℕ → ℕ) → ℕ → ℕ
+sum_at_node b amount node = total_where (length b.accounts) (λ k. is_at (storing_node b k) node) amount
 
 -- the nodes between which a draw moves water: where it is taken, and that of its account
 abbrev pub drawing_node : Basin → ℕ → Option ℕ

@@ -1,6 +1,6 @@
 use Rattle.std.proofs.Common.{◌≡◌, ℕ, ◌<◌, length, slice_index}
 use Rattle.finite_sums.specs.Sums.{total}
-use Rattle.stored_water.specs.Shares.{share}
+use Rattle.water_model.specs.Shares.{share}
 use Rattle.stored_water.proofs.shares.write_shares.Given as goal
 
 abbrev pub invariant-loop-i : goal.invariant-loop-i

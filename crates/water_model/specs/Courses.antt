@@ -46,7 +46,7 @@ with_more taken node amount = slice_set taken node (slice_index taken node + amo
 abbrev pub after_draw : List ℕ → ℕ → ℕ → ℕ → List ℕ
 after_draw taken from to amount = with_more (with_less taken from amount) to amount
 
--- the greatest amount up to a cap that can be drawn from the reservoir's node to the diversion's
+-- the greatest amount up to a cap that can be drawn from the reservoir's node to the draw's
 pub record IsGreatestWithin (b : Basin) (carry held : ℕ → ℕ) (supply taken : List ℕ) (from to cap amount : ℕ) : Type 0
   where
     pub within : amount ≤ cap
@@ -65,8 +65,8 @@ held_leaving b held set = total_where (length b.links) (λ e. leaves b set e) he
 abbrev pub taken_within : Basin → List ℕ → List Bool → ℕ
 taken_within b taken set = total_where (length b.nodes) (λ n. has set n) (λ n. slice_index taken n)
 
--- A stop of a draw: a set with the diversion's node and without the reservoir's, in which all that can come in is held
--- for instream rights or taken, where `taken` is what is taken after the draw.
+-- A stop of a draw: a set with the draw's node and without the reservoir's, in which all that can come in is held for
+-- instream rights or taken, where `taken` is what is taken after the draw.
 pub record IsStopWithin (b : Basin) (carry held : ℕ → ℕ) (supply taken : List ℕ) (from to : ℕ) (set : List Bool) :
     Type 0
   where
@@ -77,6 +77,14 @@ pub record IsStopWithin (b : Basin) (carry held : ℕ → ℕ) (supply taken : L
 
 abbrev pub IsStop : Basin → Month → (ℕ → ℕ) → List ℕ → List ℕ → ℕ → ℕ → List Bool → Type 0
 IsStop b month held supply taken from to set = IsStopWithin b (carry_of b month) held supply taken from to set
+
+-- the stop that contains all stops
+pub record IsGreatestStop (b : Basin) (month : Month) (held : ℕ → ℕ) (supply taken : List ℕ) (from to : ℕ)
+    (set : List Bool) : Type 0
+  where
+    pub is_stop : IsStop b month held supply taken from to set
+    pub contains : (other : List Bool) → IsStop b month held supply taken from to other →
+        (n : ℕ) → IsTrue (has other n) → IsTrue (has set n)
 
 -- a draw is its cap, or it has a stop
 abbrev pub IsCapOrStop : Basin → Month → (ℕ → ℕ) → List ℕ → List ℕ → ℕ → ℕ → ℕ → ℕ → Type 0

@@ -1,5 +1,0 @@
-use Rattle.stored_water.proofs.Drawing.{draws_stay_within_want}
-use Rattle.stored_water.proofs.draw_laws.draws_stay_within_want.Goals as goal
-
-pub returns : goal.returns
-returns c = draws_stay_within_want
