@@ -274,8 +274,8 @@ weir_stops = record { one_each = refl; drawing = refl; storing = refl; full = re
 -- ---- a draw that has a course only with a later one
 
 -- Water of a lake reaches a field through a hub and a canal, which is full. A tank at the field serves the user there
--- in the place of the canal, where an owner at the hub draws on it. So the first draw, from the lake for the field, is 0,
--- and yet there is a course with 31 of the first and 31 of the second.
+-- in the place of the canal, where an owner at the hub draws on it. So the first draw, from the lake for the field, is
+-- 0, and yet there is a course with 31 of the first and 31 of the second.
 abbrev tank : Basin
 tank =
     basin
