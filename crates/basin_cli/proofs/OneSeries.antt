@@ -11,7 +11,7 @@ use Rattle.water_model.specs.Basin.{instream_link}
 use Rattle.water_model.specs.History.{Follows, IsHistory, IsPartialHistory}
 use Rattle.water_model.specs.Hydrology.{run_month, in_year, inflow_at, inflow_of_kind, table_at, number_of}
 use Rattle.water_model.specs.Hydrology.{cap_by_link, want_by_volume, want_of, volume_of}
-use Rattle.water_model.specs.Valid.{is_gauged, is_gauged_kind, is_in_series}
+use Rattle.water_model.specs.Valid.{is_gauged, is_gauged_kind, is_in_series, is_series}
 use Rattle.water_model.specs.declared.types.Basin.{Basin}
 use Rattle.water_model.specs.declared.types.Inflow.{Inflow}
 use Rattle.water_model.specs.declared.types.Inflow.TheVariants.{Monthly, Gauged}
@@ -19,6 +19,8 @@ use Rattle.water_model.specs.declared.types.Series.{Series}
 use Rattle.water_model.specs.declared.types.MonthRecord.{MonthRecord}
 use Rattle.water_model.specs.declared.types.Node.{Node}
 use Rattle.water_model.specs.declared.types.Right.{Right}
+use Rattle.water_model.specs.declared.types.Want.{Want}
+use Rattle.water_model.specs.declared.types.Want.TheVariants as wants
 
 -- bytes spell one basin
 pub one_basin : (bytes : List ℕ) (b c : Basin) → Spells bytes b → Spells bytes c → b ≡ c
@@ -43,22 +45,20 @@ one_series b bytes series other one two = record {
 }
   where
     by_series : (r i : ℕ) (x : Right) → r < length b.rights → i < b.months → slice_get b.rights r ≡ Some x →
-        (t : Bool) → x.series ≡ t →
-        (if t then table_at series.wanted series.want i r else slice_index x.want (in_year b i))
-        ≡ (if t then table_at other.wanted other.want i r else slice_index x.want (in_year b i))
-    by_series r i x l m at true e =
+        (want : Want) → x.want ≡ want → number_of b series r i want ≡ number_of b other r i want
+    by_series r i x l m at wants.Series e =
         let stands : is_in_series b r ≡ true =
-        ap (λ o. unwrap_or (option_map (λ (y : Right). y.series) o) false) at ∙ e in
+        ap (λ o. unwrap_or (option_map (λ (y : Right). is_series y.want) o) false) at ∙ ap is_series e in
         let both : Some (table_at series.wanted series.want i r) ≡ Some (table_at other.wanted other.want i r) =
         sym (one.wants r i l stands m) ∙ two.wants r i l stands m in
         cc
-    by_series r i x l m at false e = refl
+    by_series r i x l m at (wants.Monthly amounts) e = refl
 
     by_right : (r i : ℕ) → r < length b.rights → i < b.months → (o : Option Right) → slice_get b.rights r ≡ o →
-        unwrap_or (option_map (λ x. number_of b series r i x) o) 0 ≡ unwrap_or
-        (option_map (λ x. number_of b other r i x) o) 0
+        unwrap_or (option_map (λ x. number_of b series r i x.want) o) 0 ≡ unwrap_or
+        (option_map (λ x. number_of b other r i x.want) o) 0
     by_right r i l m None at = refl
-    by_right r i l m (Some x) at = by_series r i x l m at x.series refl
+    by_right r i l m (Some x) at = by_series r i x l m at x.want refl
 
     by_kind : (n i : ℕ) (o : Option Node) → unwrap_or (option_map (λ x. is_gauged_kind x.inflow) o) false ≡ false →
         unwrap_or (option_map (λ x. inflow_of_kind b series n i x.inflow) o) 0 ≡ unwrap_or

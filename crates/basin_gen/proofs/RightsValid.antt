@@ -1,10 +1,9 @@
 -- The rights and return rows of a generated basin are valid, and stand with their wants.
 use Rattle.std.proofs.Common.{◌≡◌, ℕ, suc, ◌+◌, ◌-◌, ◌*◌, ◌/◌, ◌^◌, ◌<◌, ◌≤◌, false, refl, sym, ap, subst, ◌∙◌, arith}
 use Rattle.std.proofs.Common.{List, [], ◌∷◌, ◌++◌, append-nil, true}
-use Rattle.std.specs.Prelude.{None, All}
-use Rattle.std.proofs.lemmas.Bool.{false≢true}
+use Rattle.std.specs.Prelude.{None, All, replicate}
 use Rattle.water_model.specs.Valid.{IsValidRight, IsValidReturn, AreRanked, rank_of_kind, is_diversion_kind}
-use Rattle.water_model.specs.Valid.{HasValidSite}
+use Rattle.water_model.specs.Valid.{HasValidSite, IsRightAlone, is_series, is_zone_with_rule}
 use Rattle.water_model.specs.declared.types.Basin.{Basin}
 use Rattle.water_model.specs.declared.types.Right.{Right}
 use Rattle.water_model.specs.declared.types.RightKind.{RightKind}
@@ -65,8 +64,8 @@ one_valid b name kind year order want named ordered site small = record {
   order = ordered;
   site = site;
   want = same_for_months (10 ^ 9) want small;
-  volume = tt;
-  series = λ e. absurd (false≢true e);
+  volume = refl;
+  season = record { twelve = refl; others = λ _. refl };
 }
 
 pub rights_valid : (b : Basin) (size : ℕ) (s : States) → 2 ≤ size → size ≤ 2000 → IsMade b size s →
@@ -112,13 +111,38 @@ returns_valid b size s some bounded made =
       node = omega arith;
       part = (omega arith, omega arith);
       lag = (omega arith, omega arith);
+      rest = omega arith;
     })
 
 -- the wants stand with the rights
-pub right_has_wants : (size : ℕ) (s : States) (i : ℕ) → i < right_count size → (right_made size s i).series ≡ false
+pub right_has_wants : (size : ℕ) (s : States) (i : ℕ) → i < right_count size →
+    is_series (right_made size s i).want ≡ false
 right_has_wants size s =
-    each_right (λ r. r.series ≡ false) size s (λ d l. refl) (λ j l. refl)
-    (λ z l. zone_by (λ r. r.series ≡ false) z (s.zones z) (λ h. refl) (λ h. refl))
+    each_right (λ r. is_series r.want ≡ false) size s (λ d l. refl) (λ j l. refl)
+    (λ z l. zone_by (λ r. is_series r.want ≡ false) z (s.zones z) (λ h. refl) (λ h. refl))
+
+-- no zone has what only an owned zone may have
+pub right_has_no_rule : (size : ℕ) (s : States) (i : ℕ) → i < right_count size →
+    is_zone_with_rule (right_made size s i) ≡ false
+right_has_no_rule size s =
+    each_right (λ r. is_zone_with_rule r ≡ false) size s (λ d l. refl) (λ j l. refl)
+    (λ z l. zone_by (λ r. is_zone_with_rule r ≡ false) z (s.zones z) (λ h. refl) (λ h. refl))
+
+-- nothing was used before the run, and each right is one of format 1
+pub rights_alone : (b : Basin) (size : ℕ) (s : States) → IsMade b size s → All IsRightAlone b.rights
+rights_alone b size s made =
+    all_rights IsRightAlone b size s made
+    (each_right IsRightAlone size s (λ d l. alone refl refl refl) (λ j l. alone refl refl refl)
+    (λ z l. zone_by IsRightAlone z (s.zones z) (λ h. alone refl refl refl) (λ h. alone refl refl refl)))
+  where
+    alone : {r : Right} → r.used ≡ 0 → r.volume ≡ None → r.season ≡ replicate 12 true → IsRightAlone r
+    alone used volume season = record { used = used; volume = λ _. volume; season = season }
+
+-- and no row has a remainder
+pub no_rests : (b : Basin) (size : ℕ) (s : States) → IsMade b size s → All (λ row. row.rest ≡ 0) b.returns
+no_rests b size s made =
+    all_of (λ row. row.rest ≡ 0) b.returns (return_count size) (λ j. return_at size (3 * j) (s.returns j)) made.returns
+    (λ j l. refl)
 
 -- no right has a volume
 pub no_volumes : (b : Basin) (size : ℕ) (s : States) → IsMade b size s → All (λ r. r.volume ≡ None) b.rights

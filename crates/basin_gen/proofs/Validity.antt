@@ -3,7 +3,10 @@ use Rattle.std.proofs.Common.{◌≡◌, ℕ, zero, suc, ◌+◌, ◌<◌, ◌�
 use Rattle.std.specs.Prelude.{filter}
 use Rattle.water_model.specs.Lookups.{of_entry}
 use Rattle.water_model.specs.Indices.{numbers_from}
-use Rattle.water_model.specs.Valid.{IsValidBasin, IsSeriesOf, is_gauged, is_gauged_kind}
+use Rattle.water_model.specs.Valid.{IsValidBasin, IsSeriesOf, is_gauged, is_gauged_kind, is_series, is_zone_with_rule}
+use Rattle.finite_sums.specs.Sums.{total}
+use Rattle.water_model.specs.Stores.{first_stored, sum_in_reservoir}
+use Rattle.water_model.specs.declared.types.Basin.{Basin}
 use Rattle.basin_gen.specs.Entries.{node_at}
 use Rattle.basin_gen.specs.Generator.{generated}
 use Rattle.basin_gen.proofs.Lists.{states_of, generated_made, right_made, right_count, all_rights}
@@ -11,8 +14,13 @@ use Rattle.basin_gen.proofs.Places.{entry_is}
 use Rattle.basin_gen.proofs.NetworkLaws.{nodes_valid, links_valid, open_canals, reservoirs_valid, nodes_own, links_own}
 use Rattle.basin_gen.proofs.NetworkLaws.{reservoirs_own, network_sound}
 use Rattle.basin_gen.proofs.RightsLaws.{rights_own, roll_sound, bounded_rows}
-use Rattle.basin_gen.proofs.RightsValid.{rights_valid, no_volumes, returns_valid}
-use Rattle.basin_gen.proofs.RightsValid.{rights_ranked, right_has_wants}
+use Rattle.basin_gen.proofs.RightsValid.{rights_valid, no_volumes, no_rests, returns_valid}
+use Rattle.basin_gen.proofs.RightsValid.{rights_alone, rights_ranked, right_has_no_rule, right_has_wants}
+
+-- without accounts nothing is stored in them
+nothing_stored : (b : Basin) (v : ℕ) → length b.accounts ≡ 0 → sum_in_reservoir b (first_stored b) v ≡ 0
+unfolding total
+nothing_stored b v none = rw none refl
 
 pub generated_valid : (number size : ℕ) → 2 ≤ size → size ≤ 2000 → IsValidBasin (generated number size)
 unfolding generated
@@ -30,7 +38,15 @@ generated_valid number size some bounded =
           year_start = refl;
           open_canals = open_canals b size s made;
           volumes = no_volumes b size s made;
-          no_series = all_rights (λ r. r.series ≡ false) b size s made (right_has_wants size s);
+          no_series = all_rights (λ r. is_series r.want ≡ false) b size s made (right_has_wants size s);
+        };
+        second = λ _. record {
+          unit = refl;
+          accounts = refl;
+          draws = refl;
+          rights = rights_alone b size s made;
+          rests = no_rests b size s made;
+          due = λ k d l. absurd (omega arith);
         };
       };
       run = record {
@@ -44,6 +60,8 @@ generated_valid number size some bounded =
         links = omega arith;
         rights = omega arith;
         rows = λ right l. bounded_rows b size s made right;
+        accounts = omega arith;
+        draws = omega arith;
       };
       nodes = nodes_valid b size s bounded made;
       links = links_valid b size s bounded made;
@@ -51,6 +69,11 @@ generated_valid number size some bounded =
       rights = rights_valid b size s some bounded made;
       ranked = rights_ranked number size;
       returns = returns_valid b size s some bounded made;
+      due = record {
+        rows = omega arith;
+        amounts = λ k d l. absurd (omega arith);
+        bounded = λ k l. omega arith;
+      };
       names = record {
         nodes = nodes_own b size s bounded made;
         links = links_own b size s bounded made;
@@ -59,6 +82,17 @@ generated_valid number size some bounded =
       };
       network = network_sound b size s made;
       roll = roll_sound b size s bounded made;
+      stores = record {
+        accounts = λ k d l. absurd (omega arith);
+        draws = λ k d l. absurd (omega arith);
+        alone = λ r l _.
+            entry_is b.rights (right_count size) (right_made size s) made.rights is_zone_with_rule false r
+            (omega arith)
+            ∙ right_has_no_rule size s r (omega arith);
+        stored = λ v l. omega (arith, nothing_stored b v refl);
+        names = λ i j below l. absurd (omega arith);
+        own_draws = λ i j below l. absurd (omega arith);
+      };
     }
 
 -- no index passes a test
@@ -80,9 +114,9 @@ no_series number size =
           false k (let len = made.nodes.count in omega arith)));
       amounts = omega arith;
       small_amounts = λ k d l. absurd (omega arith);
-      wanted = sym (none_of (λ r. of_entry b.rights r (λ right. right.series) false) 0 (length b.rights)
+      wanted = sym (none_of (λ r. of_entry b.rights r (λ right. is_series right.want) false) 0 (length b.rights)
           (λ k l. let len = made.rights.count in
-          entry_is b.rights (right_count size) (right_made size s) made.rights (λ right. right.series) false k
+          entry_is b.rights (right_count size) (right_made size s) made.rights (λ right. is_series right.want) false k
           (omega arith)
           ∙ right_has_wants size s k (omega arith)));
       wants = omega arith;

@@ -1,6 +1,6 @@
 -- The entries of a generated basin. Each is made where the generator's number is x, by the draws that it names in turn.
 -- Names begin with n (110), r (114), c (99), d (100), s (115) or z (122); those of zones end with a (97) or b (98).
-use Rattle.std.specs.Prelude.{ℕ, ◌+◌, ◌-◌, ◌/◌, ◌%◌, ◌==◌, min, List, [], ◌∷◌, ◌++◌, replicate, None, false}
+use Rattle.std.specs.Prelude.{ℕ, ◌+◌, ◌-◌, ◌/◌, ◌%◌, ◌==◌, min, List, [], ◌∷◌, ◌++◌, replicate, None, false, true}
 use Rattle.std.specs.Prelude.{if◌then◌else◌}
 use Rattle.std.specs.Fmt.{decimal}
 use Rattle.water_model.specs.declared.types.Carry.TheVariants.{River, Canal}
@@ -12,6 +12,7 @@ use Rattle.water_model.specs.declared.types.ReturnRow.{ReturnRow}
 use Rattle.water_model.specs.declared.types.Right.{Right}
 use Rattle.water_model.specs.declared.types.RightKind.{RightKind}
 use Rattle.water_model.specs.declared.types.RightKind.TheVariants.{Diversion, Instream, Zone}
+use Rattle.water_model.specs.declared.types.Want.TheVariants as wants
 use Rattle.basin_gen.specs.Draws.{next, drawn, later, list_of}
 
 -- a list of twelve, with one draw for each month
@@ -55,9 +56,10 @@ right_of name kind year order want = record {
   date = record { year = year; month = 1; day = 1 };
   order = order;
   kind = kind;
-  want = replicate 12 want;
+  want = wants.Monthly (replicate 12 want);
   volume = None;
-  series = false;
+  used = 0;
+  season = replicate 12 true;
 }
 
 abbrev pub diversion_at : ℕ → ℕ → ℕ → Right
@@ -75,6 +77,7 @@ return_at size right x = record {
   node = drawn x size;
   part = 1000 + drawn (next x) 8000;
   lag = 1 + drawn (next (next x)) 12;
+  rest = 0;
 }
 
 abbrev pub lower_zone_at : ℕ → ℕ → Right

@@ -1,5 +1,5 @@
 -- The basin that a number and a size make.
-use Rattle.std.specs.Prelude.{ℕ, ◌+◌, ◌-◌, ◌*◌, ◌/◌, ◌%◌, ◌==◌, List, ◌++◌, if◌then◌else◌}
+use Rattle.std.specs.Prelude.{ℕ, ◌+◌, ◌-◌, ◌*◌, ◌/◌, ◌%◌, ◌==◌, List, [], ◌++◌, None, if◌then◌else◌}
 use Rattle.water_model.specs.declared.types.Basin.{Basin}
 use Rattle.water_model.specs.declared.types.Link.{Link}
 use Rattle.water_model.specs.declared.types.Node.{Node}
@@ -108,6 +108,7 @@ before_zones number size = later (before_rights number size) (draws_of_turns (co
 unfoldable pub generated : ℕ → ℕ → Basin
 generated number size = record {
   format = 1;
+  unit = None;
   first = record { year = 1950; month = 10 };
   months = 60;
   year_start = 10;
@@ -118,4 +119,7 @@ generated number size = record {
       (before_rights number size) ++ (instreams_of size (before_rights number size) ++ zones_of size
       (before_zones number size));
   returns = returns_of size (before_rights number size);
+  due = [];
+  accounts = [];
+  draws = [];
 }

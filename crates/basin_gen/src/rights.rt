@@ -5,7 +5,7 @@ ghost use Rattle.basin_gen.specs.Entries.{right_of, diversion_at, instream_at, r
 
 use crate::draws::Draws;
 use crate::names::numbered;
-use water_model::types::{ReturnRow, Right, RightKind};
+use water_model::types::{ReturnRow, Right, RightKind, Want};
 use water_text::day::Day;
 use water_text::name::Name;
 
@@ -22,9 +22,10 @@ pub(crate) fn right(name: Name, kind: RightKind, year: u16, order: u32, want: u6
         },
         order,
         kind,
-        want: [want; 12],
+        want: Want::Monthly([want; 12]),
         volume: None,
-        series: false,
+        used: 0,
+        season: [true; 12],
     }
 }
 
@@ -76,5 +77,6 @@ pub(crate) fn return_row(size: u32, right: u32, draws: &mut Draws) -> ReturnRow
         node,
         part,
         lag,
+        rest: 0,
     }
 }

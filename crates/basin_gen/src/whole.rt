@@ -69,6 +69,7 @@ fn basin(alloc: Global, number: u32, size: u32) -> Result<Basin, AllocError>
     let Roll { rights, returns } = rights(alloc, size, &mut draws)?;
     Ok(Basin {
         format: 1,
+        unit: None,
         first: Month {
             year: 1950,
             month: 10,
@@ -80,6 +81,9 @@ fn basin(alloc: Global, number: u32, size: u32) -> Result<Basin, AllocError>
         reservoirs: Rows::from_vec(reservoirs),
         rights: Rows::from_vec(rights),
         returns: Rows::from_vec(returns),
+        due: Rows::new(alloc),
+        accounts: Rows::new(alloc),
+        draws: Rows::new(alloc),
     })
 }
 

@@ -8,12 +8,14 @@ use Rattle.water_model.specs.Basin.{instream_link}
 use Rattle.water_model.specs.Lookups.{of_entry}
 use Rattle.water_model.specs.Hydrology.{inflow_of_kind, want_by_volume, cap_by_link, number_of, run_month, table_at}
 use Rattle.water_model.specs.Hydrology.{index_in}
-use Rattle.water_model.specs.Valid.{IsSeriesOf, is_gauged, is_gauged_kind, is_in_series, IsValidBasin}
+use Rattle.water_model.specs.Valid.{IsSeriesOf, is_gauged, is_gauged_kind, is_in_series, is_series, IsValidBasin}
 use Rattle.water_model.specs.declared.types.Basin.{Basin}
 use Rattle.water_model.specs.declared.types.Inflow.TheVariants.{Monthly, Gauged}
 use Rattle.water_model.specs.declared.types.Inflow as inflow
 use Rattle.water_model.specs.declared.types.Series.{Series}
 use Rattle.water_model.specs.declared.types.MonthRecord.{MonthRecord}
+use Rattle.water_model.specs.declared.types.Want as wanting
+use Rattle.water_model.specs.declared.types.Want.TheVariants as wants
 use Rattle.water_model.proofs.Gauges.{gauge_within, wanted_within, cell_within}
 use Rattle.edit_script.specs.Edits.{edited_by, kept_by, IsValidEdit, with_inflow, with_want}
 use Rattle.edit_session.specs.Laws.{AgreeBefore, EditedSeriesFit, KeptMonthsStay}
@@ -99,9 +101,9 @@ tables_agree b series other month amounts wants = record {
   wants = λ right i used l early.
       ap (λ n. want_by_volume (of_entry b.rights right (λ r. r.volume) None)
       (cap_by_link b (run_month b i) (instream_link b right) n) used)
-      (entry_same b.rights right (λ r. number_of b series right i r) (λ r. number_of b other right i r)
-      (λ r at. by_test r.series _ _ _
-      (λ e. wants right i l early (ap (λ o. unwrap_or (option_map (λ x. x.series) o) false) at ∙ e))));
+      (entry_same b.rights right (λ r. number_of b series right i r.want) (λ r. number_of b other right i r.want)
+      (λ r at. by_want right i r.want
+      (λ e. wants right i l early (ap (λ o. unwrap_or (option_map (λ x. is_series x.want) o) false) at ∙ e))));
 }
   where
     by_kind : (node i : ℕ) (kind : inflow.Inflow) → (is_gauged_kind kind ≡ true →
@@ -110,9 +112,11 @@ tables_agree b series other month amounts wants = record {
     by_kind node i (Monthly amounts) same = refl
     by_kind node i Gauged same = same refl
 
-    by_test : (t : Bool) (x y z : ℕ) → (t ≡ true → x ≡ y) → (if t then x else z) ≡ (if t then y else z)
-    by_test true x y z same = same refl
-    by_test false x y z same = refl
+    by_want : (right i : ℕ) (want : wanting.Want) → (is_series want ≡ true →
+        table_at series.wanted series.want i right ≡ table_at other.wanted other.want i right) →
+        number_of b series right i want ≡ number_of b other right i want
+    by_want right i (wants.Monthly amounts) same = refl
+    by_want right i wants.Series same = same refl
 
 -- a series agrees with itself
 same_series : (b : Basin) (series : Series) (month : ℕ) → AgreeBefore b series series month

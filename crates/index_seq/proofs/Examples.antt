@@ -1,6 +1,6 @@
 -- A record of two years, and the text of its traces.
 use Rattle.std.proofs.Common.{◌≡◌, ◌++◌, refl, [], ◌∷◌, replicate}
-use Rattle.std.specs.Prelude.{codes}
+use Rattle.std.specs.Prelude.{None, codes}
 use Rattle.std.specs.Fmt.{digits}
 use Rattle.std.specs.List.{flat_map}
 use Rattle.water_model.specs.Indices.{numbers_from, by_seniority}
@@ -23,6 +23,7 @@ begun_in_second = refl
 abbrev basin : Basin
 basin = record {
   format = 1;
+  unit = None;
   first = record { year = 1900; month = 1 };
   months = 24;
   year_start = 10;
@@ -31,6 +32,9 @@ basin = record {
   reservoirs = [];
   rights = steady (codes "user") 1900 (Diversion 0) 10 ∷ [];
   returns = [];
+  due = [];
+  accounts = [];
+  draws = [];
 }
 
 -- a right that wants 10 a month gets 48 and 120 in the years of the first trace, and 120 and 48 in those of the second

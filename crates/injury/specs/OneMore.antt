@@ -4,7 +4,7 @@ use Rattle.std.specs.Prelude.{if◌then◌else◌}
 use Rattle.water_model.specs.Lookups.{of_entry}
 use Rattle.water_model.specs.Rights.{is_lower, priority}
 use Rattle.water_model.specs.Hydrology.{table_at}
-use Rattle.water_model.specs.Valid.{rank_of_kind, is_gauged}
+use Rattle.water_model.specs.Valid.{rank_of_kind, is_gauged, is_series}
 use Rattle.water_model.specs.declared.types.Basin.{Basin}
 use Rattle.water_model.specs.declared.types.Series.{Series}
 use Rattle.water_model.specs.declared.types.Right.{Right}
@@ -31,5 +31,5 @@ pub record HasOneMore (first second : Basin) (at : ℕ) (right : Right) : Type 0
 pub record GiveSame (first : Basin) (at : ℕ) (series other : Series) : Type 0 where
   pub amounts : (n i : ℕ) → is_gauged first n ≡ true → i < first.months →
       table_at series.gauged series.amount i n ≡ table_at other.gauged other.amount i n
-  pub wants : (r i : ℕ) → of_entry first.rights r (λ right. right.series) false ≡ true → i < first.months →
+  pub wants : (r i : ℕ) → of_entry first.rights r (λ right. is_series right.want) false ≡ true → i < first.months →
       table_at series.wanted series.want i r ≡ table_at other.wanted other.want i (moved at r)

@@ -1,6 +1,6 @@
 -- What a calendar says of a month of a run, and lists that are written at some indices.
 use Rattle.std.proofs.Common.{◌≡◌, ℕ, zero, suc, ◌+◌, ◌*◌, ◌<◌, ◌≤◌, Bool, true, false, refl, sym, ap, ◌∙◌, arith}
-use Rattle.std.proofs.Common.{List, [], ◌∷◌, ◌++◌, append-nil, length, get_or, map, inl, inr, filter}
+use Rattle.std.proofs.Common.{◌⊎◌, List, [], ◌∷◌, ◌++◌, append-nil, length, get_or, map, inl, inr, filter}
 use Rattle.std.specs.Prelude.{◌≢◌, slice_index, slice_get, slice_set, Option, Some, None, unwrap_or, option_map}
 use Rattle.std.specs.Prelude.{if◌then◌else◌, is_some, min}
 use Rattle.std.proofs.lemmas.Bool.{cases_order, cases_Bool}
@@ -15,7 +15,7 @@ use Rattle.water_model.specs.Hydrology.{want_of, want_by_volume, volume_of, cap_
 use Rattle.water_model.specs.Indices.{numbers_from}
 use Rattle.water_model.specs.Lookups.{of_entry}
 use Rattle.water_model.specs.Plans.{delivery, delivery_by_link}
-use Rattle.water_model.specs.Valid.{IsValidBasin, IsSeriesOf, HasValidSite, is_gauged, is_gauged_kind}
+use Rattle.water_model.specs.Valid.{IsValidBasin, IsSeriesOf, HasValidSite, is_gauged, is_gauged_kind, is_series}
 use Rattle.water_model.specs.declared.types.Basin.{Basin}
 use Rattle.water_model.specs.declared.types.Inflow.{Inflow}
 use Rattle.water_model.specs.declared.types.Inflow.TheVariants.{Monthly, Gauged}
@@ -24,12 +24,14 @@ use Rattle.water_model.specs.declared.types.Plan.{Plan}
 use Rattle.water_model.specs.declared.types.Right.{Right}
 use Rattle.water_model.specs.declared.types.RightKind.{RightKind}
 use Rattle.water_model.specs.declared.types.RightKind.TheVariants.{Diversion, Instream, Zone}
+use Rattle.water_model.specs.declared.types.Want.{Want}
+use Rattle.water_model.specs.declared.types.Want.TheVariants as wants
 use Rattle.water_model.proofs.Gauges.{cell_within, filter_short, gauges_rise, index_is}
-use Rattle.water_model.proofs.Lists.{numbers_more}
+use Rattle.water_model.proofs.Lists.{get_after, get_before, numbers_more}
 use Rattle.water_model.proofs.Order.{Has, has-filter, filter-has, length-numbers_from, numbers_from-has}
 use Rattle.water_model.proofs.Order.{numbers_from-below}
 use Rattle.water_model.proofs.Valid.{entry_at, kind_is}
-use Rattle.month_terms.specs.Calendars.{IsCalendarMonth, ListInstream, monthly_inflow, wants_otherwise}
+use Rattle.month_terms.specs.Calendars.{IsCalendarMonth, ListInstream, monthly_inflow, monthly_want, wants_otherwise}
 use Rattle.month_terms.specs.declared.calendar.CalendarMonth.{CalendarMonth}
 use Rattle.month_terms.specs.declared.calendar.InstreamPlace.{InstreamPlace}
 
@@ -237,41 +239,41 @@ want_is b series r i p used m is at l plain =
     ap (λ o. unwrap_or (option_map (λ x. x.volume) o) None) entry.1 in
     let link : instream_link b r ≡ link_of_kind entry.0.kind =
     ap (λ o. unwrap_or (option_map (λ x. link_of_kind x.kind) o) None) entry.1 in
-    let number : of_entry b.rights r (λ x. number_of b series r i x) 0 ≡ number_of b series r i entry.0 =
-    ap (λ o. unwrap_or (option_map (λ x. number_of b series r i x) o) 0) entry.1 in
-    let row = month_number (λ x. slice_index x.want p) b.rights m.wants r entry.0 is.wants entry.1 in
+    let number : of_entry b.rights r (λ x. number_of b series r i x.want) 0 ≡ number_of b series r i entry.0.want =
+    ap (λ o. unwrap_or (option_map (λ x. number_of b series r i x.want) o) 0) entry.1 in
+    let row = month_number (λ x. monthly_want x.want p) b.rights m.wants r entry.0 is.wants entry.1 in
     let alone : wants_otherwise entry.0 ≡ false =
     sym (ap (λ o. unwrap_or (option_map wants_otherwise o) false) entry.1) ∙ plain in
-    row ∙ (ap (λ q. slice_index entry.0.want q) at
-    ∙ (by entry.0.series entry.0.volume (link_of_kind entry.0.kind) _ _ alone
+    row ∙ (ap (monthly_want entry.0.want) at
+    ∙ (by entry.0.want entry.0.volume (link_of_kind entry.0.kind) alone
     ∙ sym (ap (λ v. want_by_volume v (cap_by_link b (run_month b i) (instream_link b r)
-    (of_entry b.rights r (λ x. number_of b series r i x) 0)) used) volume
+    (of_entry b.rights r (λ x. number_of b series r i x.want) 0)) used) volume
     ∙ (ap (λ o. want_by_volume entry.0.volume (cap_by_link b (run_month b i) o
-    (of_entry b.rights r (λ x. number_of b series r i x) 0)) used) link
+    (of_entry b.rights r (λ x. number_of b series r i x.want) 0)) used) link
     ∙ ap (λ x. want_by_volume entry.0.volume (cap_by_link b (run_month b i) (link_of_kind entry.0.kind) x) used)
     number))))
   where
-    by : (s : Bool) (v o : Option ℕ) (t x : ℕ) →
-        (if s then true else (if is_some v then true else is_some o)) ≡ false →
-        x ≡ want_by_volume v (cap_by_link b (run_month b i) o (if s then t else x)) used
-    by true v o t x h = absurd (cc)
-    by false (Some volume) o t x h = absurd (cc)
-    by false None (Some link) t x h = absurd (cc)
-    by false None None t x h = refl
+    by : (w : Want) (v o : Option ℕ) →
+        (if is_series w then true else (if is_some v then true else is_some o)) ≡ false →
+        monthly_want w (in_year b i) ≡ want_by_volume v (cap_by_link b (run_month b i) o (number_of b series r i w)) used
+    by wants.Series v o h = absurd (cc)
+    by (wants.Monthly amounts) (Some volume) o h = absurd (cc)
+    by (wants.Monthly amounts) None (Some link) h = absurd (cc)
+    by (wants.Monthly amounts) None None h = refl
 
 -- the want of a right without a volume and without wants in the series
 pub want_stands : (b : Basin) (series : Series) (r i p used number : ℕ) (x : Right) → slice_get b.rights r ≡ Some x →
-    x.series ≡ false → is_some x.volume ≡ false → p ≡ in_year b i →
-    number ≡ cap_by_link b (run_month b i) (link_of_kind x.kind) (slice_index x.want p) →
+    is_series x.want ≡ false → is_some x.volume ≡ false → p ≡ in_year b i →
+    number ≡ cap_by_link b (run_month b i) (link_of_kind x.kind) (monthly_want x.want p) →
     number ≡ want_of b series r i used
 want_stands b series r i p used number x entry no_series no_volume at is =
     is
-    ∙ (ap (λ q. cap_by_link b (run_month b i) (link_of_kind x.kind) (slice_index x.want q)) at
-    ∙ (by x.series x.volume (link_of_kind x.kind) _ _ no_series no_volume
+    ∙ (ap (λ q. cap_by_link b (run_month b i) (link_of_kind x.kind) (monthly_want x.want q)) at
+    ∙ (by x.want x.volume (link_of_kind x.kind) no_series no_volume
     ∙ sym (ap (λ v. want_by_volume v (cap_by_link b (run_month b i) (instream_link b r)
-    (of_entry b.rights r (λ y. number_of b series r i y) 0)) used) volume
+    (of_entry b.rights r (λ y. number_of b series r i y.want) 0)) used) volume
     ∙ (ap (λ o. want_by_volume x.volume (cap_by_link b (run_month b i) o
-    (of_entry b.rights r (λ y. number_of b series r i y) 0)) used) link
+    (of_entry b.rights r (λ y. number_of b series r i y.want) 0)) used) link
     ∙ ap (λ y. want_by_volume x.volume (cap_by_link b (run_month b i) (link_of_kind x.kind) y) used) known))))
   where
     volume : volume_of b r ≡ x.volume
@@ -280,17 +282,68 @@ want_stands b series r i p used number x entry no_series no_volume at is =
     link : instream_link b r ≡ link_of_kind x.kind
     link = ap (λ o. unwrap_or (option_map (λ (y : Right). link_of_kind y.kind) o) None) entry
 
-    known : of_entry b.rights r (λ y. number_of b series r i y) 0 ≡ number_of b series r i x
-    known = ap (λ o. unwrap_or (option_map (λ (y : Right). number_of b series r i y) o) 0) entry
+    known : of_entry b.rights r (λ y. number_of b series r i y.want) 0 ≡ number_of b series r i x.want
+    known = ap (λ o. unwrap_or (option_map (λ (y : Right). number_of b series r i y.want) o) 0) entry
 
-    by : (s : Bool) (v o : Option ℕ) (t y : ℕ) → s ≡ false → is_some v ≡ false →
-        cap_by_link b (run_month b i) o y
-        ≡ want_by_volume v (cap_by_link b (run_month b i) o (if s then t else y)) used
-    by true v o t y h e = absurd (cc)
-    by false (Some volume) o t y h e = absurd (cc)
-    by false None o t y h e = refl
+    by : (w : Want) (v o : Option ℕ) → is_series w ≡ false → is_some v ≡ false →
+        cap_by_link b (run_month b i) o (monthly_want w (in_year b i))
+        ≡ want_by_volume v (cap_by_link b (run_month b i) o (number_of b series r i w)) used
+    by wants.Series v o h e = absurd (cc)
+    by (wants.Monthly amounts) (Some volume) o h e = absurd (cc)
+    by (wants.Monthly amounts) None o h e = refl
 
 -- What a plan delivers.
+
+-- no instream right of the places from i on is this one
+abbrev pub NoPlaceFrom : List InstreamPlace → ℕ → ℕ → Type 0
+NoPlaceFrom places i r =
+    (k : ℕ) (place : InstreamPlace) → i ≤ k → slice_get places k ≡ Some place → place.right ≡ r → ⊥
+
+-- what stands in a list with one place more
+one_more : (places : List InstreamPlace) (last place : InstreamPlace) (k : ℕ) →
+    slice_get (places ++ last ∷ []) k ≡ Some place → (slice_get places k ≡ Some place) ⊎ (place ≡ last)
+one_more [] last place zero at = inr (cc)
+one_more [] last place (suc k) at = absurd (cc)
+one_more (p ∷ places) last place zero at = inl at
+one_more (p ∷ places) last place (suc k) at = one_more places last place k at
+
+-- the place of an instream right is listed
+pub listed_more : (b : Basin) (places more : List InstreamPlace) (last : InstreamPlace) → more ≡ places ++ last ∷ [] →
+    instream_link b last.right ≡ Some last.link →
+    ((k : ℕ) (place : InstreamPlace) → slice_get places k ≡ Some place →
+    instream_link b place.right ≡ Some place.link) →
+    (k : ℕ) (place : InstreamPlace) → slice_get more k ≡ Some place → instream_link b place.right ≡ Some place.link
+listed_more b places more last is on each k place at = elim (one_more places last place k (rw is at at)) [
+  | inl before ↦ each k place before
+  | inr same ↦ rw same on
+]
+
+-- and no place of another right is needed
+pub whole_more : (b : Basin) (places more : List InstreamPlace) (last : InstreamPlace) → more ≡ places ++ last ∷ [] →
+    ((r : ℕ) → r < last.right → NoPlaceFrom places 0 r → instream_link b r ≡ None) →
+    (r : ℕ) → r < last.right + 1 → NoPlaceFrom more 0 r → instream_link b r ≡ None
+whole_more b places more last is whole r below none = elim (cases_order r last.right) [
+  | inl same ↦ absurd (none (length places) last (omega arith) (rw is (get_after places [] last)) (sym same))
+  | inr differ ↦ whole r (elim differ [ inl a ↦ omega arith | inr a ↦ omega arith ])
+      (λ k place from at e. none k place from (rw is (get_before places (last ∷ []) k place at)) e)
+]
+
+-- a right that is no instream right is on no link
+pub no_link : (kind : RightKind) → ((link : ℕ) → kind ≡ Instream link → ⊥) → link_of_kind kind ≡ None
+no_link (Diversion node) not = refl
+no_link (Instream link) not = absurd (not link refl)
+no_link (Zone reservoir level) not = refl
+
+-- no more is listed where the right is no instream right
+pub whole_still : (b : Basin) (places more : List InstreamPlace) (right : ℕ) → more ≡ places →
+    instream_link b right ≡ None →
+    ((r : ℕ) → r < right → NoPlaceFrom places 0 r → instream_link b r ≡ None) →
+    (r : ℕ) → r < right + 1 → NoPlaceFrom more 0 r → instream_link b r ≡ None
+whole_still b places more right is off whole r below none = elim (cases_order r right) [
+  | inl same ↦ rw same off
+  | inr differ ↦ whole r (elim differ [ inl a ↦ omega arith | inr a ↦ omega arith ])
+      (λ k place from at e. none k place from (rw is at) e)
+]
 
 -- an instream right is a right of the basin, and its link is a link
 pub instream_within : (b : Basin) (r e : ℕ) → IsValidBasin b → instream_link b r ≡ Some e →
@@ -310,11 +363,6 @@ instream_within b r e valid on = by (slice_get b.rights r) refl
         let l = slice_get_within b.rights r right at in
         let is = kind_is b valid r l in
         (l, site is.kind (sym is.link ∙ on) is.site)
-
--- no instream right of the places from i on is this one
-abbrev pub NoPlaceFrom : List InstreamPlace → ℕ → ℕ → Type 0
-NoPlaceFrom places i r =
-    (k : ℕ) (place : InstreamPlace) → i ≤ k → slice_get places k ≡ Some place → place.right ≡ r → ⊥
 
 pub takes_alone : (b : Basin) (want : List ℕ) (p : Plan) (places : List InstreamPlace) (r : ℕ) → ListInstream b places →
     r < length b.rights → NoPlaceFrom places 0 r → slice_index p.take r ≡ delivery b want p r

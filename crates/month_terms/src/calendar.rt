@@ -1,14 +1,15 @@
 //! What nodes and rights have in each calendar month, laid out once for all months of a run.
 //!
 //! A month of a run goes over these lists, and not over the records of nodes and rights, which are many times as long.
-ghost use Rattle.std.specs.Prelude.{◌≡◌, ◌<◌, slice_index, map, IfOk};
-ghost use Rattle.water_model.specs.Valid.{IsValidBasin, IsValidInflow};
+ghost use Rattle.std.specs.Prelude.{◌≡◌, ◌<◌, map, IfOk};
+ghost use Rattle.water_model.specs.Valid.{IsValidBasin, IsValidInflow, IsValidWant};
 ghost use Rattle.month_terms.specs.Calendars.{IsCalendar, IsCalendarMonth, AreCalendarMonths, ListInstream};
-ghost use Rattle.month_terms.specs.Calendars.{monthly_inflow, wants_otherwise, others_of};
+ghost use Rattle.month_terms.specs.Calendars.{monthly_inflow, monthly_want, wants_otherwise, others_of};
 
 use std::alloc::{AllocError, Global};
+use water_model::calls::is_series;
 use water_model::rows::Rows;
-use water_model::types::{Basin, Inflow, Right, RightKind};
+use water_model::types::{Basin, Inflow, Right, RightKind, Want};
 
 /// What a calendar month has, in units of 1,000 cubic metres: what flows in at each node, or 0 where it is gauged, and
 /// the number of each right.
@@ -60,15 +61,27 @@ fn inflows_in(alloc: Global, basin: &Basin, position: usize) -> Result<Rows<u64>
     Ok(Rows::from_vec(inflows))
 }
 
+/// The number of a right in a calendar month, or 0 where its wants stand in the series.
+pub(crate) fn monthly_want(want: &Want, position: usize) -> u64
+    requires want { IsValidWant want.now }
+    requires position { position < 12 }
+    ensures { result ≡ monthly_want want.now position }
+{
+    match want {
+        Want::Monthly(amounts) => amounts[position],
+        Want::Series => 0,
+    }
+}
+
 /// The number of each right in a calendar month. AllocError comes where memory is lacking.
 fn wants_in(alloc: Global, basin: &Basin, position: usize) -> Result<Rows<u64>, AllocError>
     requires basin { IsValidBasin basin.now }
     requires position { position < 12 }
-    ensures { IfOk result (λ rows. rows ≡ map (λ r. slice_index r.want position) basin.now.rights) }
+    ensures { IfOk result (λ rows. rows ≡ map (λ r. monthly_want r.want position) basin.now.rights) }
 {
     let mut wants = Vec::with_capacity(alloc, basin.rights.len())?;
     for right in basin.rights.as_slice() {
-        wants.push(right.want[position])?;
+        wants.push(monthly_want(&right.want, position))?;
     }
     Ok(Rows::from_vec(wants))
 }
@@ -104,7 +117,7 @@ fn calendar_months(alloc: Global, basin: &Basin) -> Result<Rows<CalendarMonth>, 
 fn wants_otherwise(right: &Right) -> bool
     ensures { result ≡ wants_otherwise right.now }
 {
-    if right.series || right.volume.is_some() {
+    if is_series(&right.want) || right.volume.is_some() {
         return true;
     }
     match right.kind {

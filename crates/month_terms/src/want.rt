@@ -6,8 +6,8 @@ ghost use Rattle.water_model.specs.Plans.{delivery};
 ghost use Rattle.water_model.specs.Valid.{IsValidBasin, IsSeriesOf};
 ghost use Rattle.month_terms.specs.Calendars.{IsCalendar};
 
-use crate::calendar::{Calendar, InstreamPlace};
-use water_model::calls::{carry_of, month_at, want_of};
+use crate::calendar::{Calendar, InstreamPlace, monthly_want};
+use water_model::calls::{carry_of, is_series, month_at, want_of};
 use water_model::types::{Basin, Plan, RightKind, Series};
 use water_text::month::Month;
 
@@ -32,13 +32,14 @@ fn want_in_year(
     ensures { result ≡ want_of basin.now series.now right index used }
 {
     let entry = &basin.rights[right as usize];
-    if entry.series || entry.volume.is_some() {
+    if is_series(&entry.want) || entry.volume.is_some() {
         return want_of(basin, series, right, index, used);
     }
+    let number = monthly_want(&entry.want, position);
     match entry.kind {
-        RightKind::Instream { link } => entry.want[position].min(carry_of(basin, link, month)),
-        RightKind::Diversion { .. } => entry.want[position],
-        RightKind::Zone { .. } => entry.want[position],
+        RightKind::Instream { link } => number.min(carry_of(basin, link, month)),
+        RightKind::Diversion { .. } => number,
+        RightKind::Zone { .. } => number,
     }
 }
 

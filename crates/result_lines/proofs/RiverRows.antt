@@ -1,7 +1,7 @@
 -- The run of the river and its text on worked basins, by a plain slow program.
 use Rattle.std.proofs.Common.{◌≡◌, ℕ, zero, suc, ◌+◌, Bool, true, false, not, refl, List, [], ◌∷◌, length, map}
 use Rattle.std.proofs.Common.{replicate}
-use Rattle.std.specs.Prelude.{◌==◌, ◌&&◌, codes, if◌then◌else◌}
+use Rattle.std.specs.Prelude.{None, ◌==◌, ◌&&◌, codes, if◌then◌else◌}
 use Rattle.std.specs.List.{list_any, range_with_len}
 use Rattle.std.specs.Fmt.{digits}
 use Rattle.finite_sums.specs.Sums.{total, total_where}
@@ -78,6 +78,7 @@ link name tail head carry = record { name = name; from = tail; to = head; carry 
 abbrev basin : Month → ℕ → List Node → List Link → Basin
 basin first months nodes links = record {
   format = 1;
+  unit = None;
   first = first;
   months = months;
   year_start = 10;
@@ -86,6 +87,9 @@ basin first months nodes links = record {
   reservoirs = [];
   rights = [];
   returns = [];
+  due = [];
+  accounts = [];
+  draws = [];
 }
 
 -- three nodes in a row

@@ -7,4 +7,3 @@ pub mod Seniors
 pub mod Soundness
 pub mod ZoneFaults
 pub mod ZoneTables
-pub mod Wants

@@ -4,7 +4,7 @@ use rights_roll::RollRefused;
 use rights_roll::roll::Roll;
 use std::alloc::{AllocError, Global};
 use std::process::Abort;
-use water_model::types::{ReturnRow, Right, RightKind};
+use water_model::types::{ReturnRow, Right, RightKind, Want};
 use water_text::day::Day;
 use water_text::name::Name;
 
@@ -24,7 +24,7 @@ const ON_LINK_3: RightKind = RightKind::Instream { link: 3 };
 
 const ON_LINK_1: RightKind = RightKind::Instream { link: 1 };
 
-// A right of the second month: its year, its day, its order and its kind. It wants its day in March.
+// A right of the second month: its year, its day, its order and its kind.
 fn right_of(row: &(u16, u8, u32, RightKind)) -> Right {
     let (year, day, order, kind) = row;
     Right {
@@ -36,9 +36,10 @@ fn right_of(row: &(u16, u8, u32, RightKind)) -> Right {
         },
         order: *order,
         kind: *kind,
-        want: [0, 0, u64::from(*day), 0, 0, 0, 0, 0, 0, 0, 0, 0],
+        want: Want::Series,
         volume: None,
-        series: false,
+        used: 0,
+        season: [true; 12],
     }
 }
 
@@ -62,18 +63,21 @@ const RETURNS: [ReturnRow; 3] = [
         node: 0,
         part: 6_000,
         lag: 1,
+        rest: 0,
     },
     ReturnRow {
         right: 1,
         node: 0,
         part: 9_000,
         lag: 1,
+        rest: 0,
     },
     ReturnRow {
         right: 0,
         node: 0,
         part: 4_001,
         lag: 1,
+        rest: 0,
     },
 ];
 
@@ -83,18 +87,21 @@ const WHOLE: [ReturnRow; 3] = [
         node: 0,
         part: 6_000,
         lag: 1,
+        rest: 0,
     },
     ReturnRow {
         right: 1,
         node: 0,
         part: 10_000,
         lag: 1,
+        rest: 0,
     },
     ReturnRow {
         right: 0,
         node: 0,
         part: 4_000,
         lag: 1,
+        rest: 0,
     },
 ];
 

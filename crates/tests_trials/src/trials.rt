@@ -3,7 +3,7 @@ use basin_gen::make;
 use std::alloc::AllocError;
 use std::process::Abort;
 use water_model::types::{
-    Basin, Carry, Inflow, Link, Node, Reservoir, ReturnRow, Right, RightKind, Series,
+    Basin, Carry, Inflow, Link, Node, Reservoir, ReturnRow, Right, RightKind, Series, Want,
 };
 
 /// The sum of all inflows of a year.
@@ -52,6 +52,14 @@ fn storage_of(reservoirs: &[Reservoir]) -> (u64, u64) {
     (opening, rate)
 }
 
+/// What a right wants in January.
+fn january(want: &Want) -> u64 {
+    match want {
+        Want::Monthly(amounts) => amounts[0],
+        Want::Series => 0,
+    }
+}
+
 /// The sums of January's wants and of years, each times its number from 1.
 fn wants_of(rights: &[Right]) -> (u64, u64) {
     let mut want = 0_u64;
@@ -59,7 +67,7 @@ fn wants_of(rights: &[Right]) -> (u64, u64) {
     let mut place = 0_u64;
     for right in rights {
         place = place.wrapping_add(1);
-        want = want.wrapping_add(place.wrapping_mul(right.want[0]));
+        want = want.wrapping_add(place.wrapping_mul(january(&right.want)));
         year = year.wrapping_add(place.wrapping_mul(u64::from(right.date.year)));
     }
     (want, year)
@@ -204,7 +212,7 @@ fn is_right(right: &Right, row: &(&[u8], RightKind, u16, u32, u64)) -> bool {
         && right.kind == *kind
         && right.date.year == *year
         && right.order == *order
-        && right.want == [*want; 12]
+        && right.want == Want::Monthly([*want; 12])
 }
 
 /// Compares the nodes of the basin of two.
@@ -243,6 +251,7 @@ fn compare_returns(rt: &impl Abort, returns: &[ReturnRow]) {
         node: 18,
         part: 4937,
         lag: 9,
+        rest: 0,
     };
     assert!(rt; returns.len() == 1);
     assert_eq!(rt; returns[0], row);

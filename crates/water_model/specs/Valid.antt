@@ -218,9 +218,10 @@ pub record IsValidDraw (b : Basin) (d : Draw) : Type 0 where
   pub want : IsMonthly (10 ^ 9) d.want
   pub volume : IsValidVolume (kind.Diversion d.node) d.volume d.used
 
--- what return rows bring from before the run: a list for each row, at most as long as its lag
+-- what return rows bring from before the run: a list for each row, at most as long as its lag. A row past the end of
+-- the lists brings nothing
 pub record AreDue (b : Basin) : Type 0 where
-  pub one_each : length b.due ≡ length b.returns
+  pub rows : length b.due ≤ length b.returns
   pub amounts : All (All (λ n. n ≤ 10 ^ 9)) b.due
   pub bounded : (k : ℕ) → k < length b.returns →
       length (of_entry b.due k (λ amounts. amounts) []) ≤ of_entry b.returns k (λ row. row.lag) 0

@@ -7,7 +7,7 @@ ghost use Rattle.water_model.specs.Plans.{carry_of, carry_of_kind};
 ghost use Rattle.water_model.specs.Hydrology.{begins_year, inflow_at, in_year, number_of, index_in, index_in_run};
 ghost use Rattle.water_model.specs.Hydrology.{run_month, target_of, want_of};
 ghost use Rattle.water_model.specs.Lookups.{of_entry};
-ghost use Rattle.water_model.specs.Valid.{IsValidBasin, IsValidCarry, IsSeriesOf, is_gauged, is_in_series};
+ghost use Rattle.water_model.specs.Valid.{IsValidBasin, IsValidCarry, IsSeriesOf, is_gauged, is_in_series, is_series};
 
 use crate::types::{Basin, Carry, Inflow, RIVER_CARRY, RightKind, Series, Want};
 use water_text::month::Month;
@@ -115,15 +115,22 @@ pub fn is_gauged(basin: &Basin, node: u32) -> bool
     }
 }
 
+/// Whether a want stands in the series.
+pub fn is_series(want: &Want) -> bool
+    ensures { result ≡ is_series want.now }
+{
+    match want {
+        Want::Series => true,
+        Want::Monthly(_) => false,
+    }
+}
+
 /// Whether a right's wants stand in the series.
 pub fn is_in_series(basin: &Basin, right: u32) -> bool
     requires { right < length basin.now.rights }
     ensures { result ≡ is_in_series basin.now right }
 {
-    match basin.rights[right as usize].want {
-        Want::Series => true,
-        Want::Monthly(_) => false,
-    }
+    is_series(&basin.rights[right as usize].want)
 }
 
 /// The index of a number in a rising list, or the list's length where it isn't there.

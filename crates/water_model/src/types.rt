@@ -140,7 +140,8 @@ pub enum Unit {
 /// A river basin and the months of a run. The rights are all diversions, then all instream rights, then all zones.
 /// A water year begins with the calendar month `year_start`. Accounts and draws are numbered from 0 in the order of the
 /// file; a basin below format 3 has neither, and no unit. `due` has for each return row what it brings in the first
-/// months of the run from diversions before it: an amount for each month, and at most as many as its lag.
+/// months of the run from diversions before it: an amount for each month, and at most as many as its lag. A row past its
+/// end brings nothing.
 #[derive(Drop)]
 pub struct Basin {
     pub format: u32,

@@ -9,6 +9,6 @@ loop-row-init c = parts-start (search rules)
 
 pub loop-row-preserved : goal.loop-row-preserved
 loop-row-preserved c =
-    let row : ReturnRow = record { right = 0; node = 0; part = 0; lag = 0 } in
+    let row : ReturnRow = record { right = 0; node = 0; part = 0; lag = 0; rest = 0 } in
     parts-more c.args.returns.now c.loop-row.row-index row (omega arith)
     (c.requires c.loop-row.row-index row c.loop-row-test.true) (grind (arith, common_steps)) c.loop-row.invariant
