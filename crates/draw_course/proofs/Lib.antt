@@ -9,3 +9,4 @@ pub mod Raises
 pub mod Laid
 pub mod Begins
 pub mod Checks
+pub mod Alike

@@ -1,14 +1,13 @@
 -- From each reservoir rivers lead out of the basin, with room in every flow.
-use Rattle.std.proofs.Common.{◌≡◌, ℕ, zero, suc, ◌+◌, ◌^◌, ◌<◌, ◌≤◌, Bool, true, false, refl, sym, ◌∙◌, ap}
-use Rattle.std.proofs.Common.{subst, arith, List, [], ◌∷◌, length, inl, inr}
+use Rattle.std.proofs.Common.{◌≡◌, ℕ, ◌+◌, ◌^◌, ◌<◌, ◌≤◌, Bool, true, false, sym, ◌∙◌, ap}
+use Rattle.std.proofs.Common.{arith, length, inl, inr}
 use Rattle.std.proofs.lemmas.Bool.{cases_Bool}
 use Rattle.std.specs.Prelude.{slice_index, ◌⊎◌}
 use Rattle.finite_sums.specs.Sums.{total, when}
 use Rattle.finite_sums.proofs.Totals.{total_same, total_zero, total_most}
-use Rattle.water_model.specs.Basin.{head_of, is_outlet}
+use Rattle.water_model.specs.Basin.{is_outlet}
 use Rattle.water_model.specs.Network.{IsForward, HasRiverOut}
 use Rattle.water_model.specs.Valid.{IsValidBasin}
-use Rattle.water_model.specs.declared.types.Basin.{Basin}
 use Rattle.water_model.proofs.Carries.{river_carry}
 use Rattle.water_model.proofs.Valid.{ends}
 use Rattle.river_net.proofs.Ranks.{ranks}

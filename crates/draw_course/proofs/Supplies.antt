@@ -1,5 +1,5 @@
 -- What leaves a network at a node is no more than its whole supply.
-use Rattle.std.proofs.Common.{◌≡◌, ℕ, ◌+◌, ◌<◌, ◌≤◌, Bool, true, false, ap, subst, arith, length, List}
+use Rattle.std.proofs.Common.{◌≡◌, ℕ, ◌+◌, ◌<◌, ◌≤◌, ap, subst, arith, length, List}
 use Rattle.finite_sums.specs.Sums.{total, when}
 use Rattle.finite_sums.proofs.Totals.{total_zero}
 use Rattle.water_model.specs.declared.types.Basin.{Basin}

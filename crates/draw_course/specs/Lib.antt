@@ -8,3 +8,4 @@ pub mod Engine
 pub mod EngineState
 pub mod CourseState
 pub mod Laws
+pub mod Alike

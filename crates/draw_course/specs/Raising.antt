@@ -1,5 +1,5 @@
 -- What raising a draw's arc changes.
-use Rattle.std.specs.Prelude.{◌≡◌, ◌⊎◌, ℕ, ◌+◌, ◌<◌, ◌≤◌, Bool, List, length, map, slice_index, slice_set, Some}
+use Rattle.std.specs.Prelude.{◌≡◌, ◌⊎◌, ℕ, ◌+◌, ◌<◌, ◌≤◌, Bool, List, length, slice_index, slice_set, Some}
 use Rattle.water_model.specs.Lookups.{has}
 use Rattle.water_model.specs.CutSets.{CutSets, with_set}
 use Rattle.circulation.specs.Contents.{Contents, network, flow_of, bounded_contents}

@@ -35,7 +35,7 @@ module _ (b : Basin) (asked number : ℕ → ℕ) (delivered : List ℕ) (l : Le
       o)
       0
 
-  cap_by_carried : (j account : ℕ) → draws_on b j account ≡ true →
+  pub cap_by_carried : (j account : ℕ) → draws_on b j account ≡ true →
       cap_of b asked number delivered l amounts j ≤ slice_index l.carried account - drawn_from b j amounts account
   unfolding cap_by
   cap_by_carried j account = of_get (slice_get b.draws j)
@@ -261,7 +261,7 @@ courses_and_stops_show_draws b month held supply asked number delivered l amount
 -- ---- one outcome
 
 -- numbers by index are a list
-listed : (n : ℕ) (f : ℕ → ℕ) → (xs : List ℕ) × (length xs ≡ n) × ((k : ℕ) → k < n → slice_index xs k ≡ f k)
+pub listed : (n : ℕ) (f : ℕ → ℕ) → (xs : List ℕ) × (length xs ≡ n) × ((k : ℕ) → k < n → slice_index xs k ≡ f k)
 listed zero f = ([], refl, λ k l. absurd (omega arith))
 listed (suc n) f =
     let rest = listed n (λ k. f (suc k)) in

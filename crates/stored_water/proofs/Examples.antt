@@ -1,5 +1,5 @@
 -- Worked numbers.
-use Rattle.std.proofs.Common.{◌≡◌, ℕ, zero, suc, ◌+◌, ◌^◌, ◌<◌, ◌≤◌, true, false, refl, arith, List, [], ◌∷◌, inr}
+use Rattle.std.proofs.Common.{◌≡◌, ℕ, zero, suc, ◌+◌, ◌-◌, ◌^◌, ◌<◌, ◌≤◌, true, false, refl, arith, List, [], ◌∷◌, inr}
 use Rattle.std.proofs.Common.{replicate}
 use Rattle.std.specs.Prelude.{codes, None, Some, slice_index, Option, Bool}
 use Rattle.finite_sums.specs.Sums.{total, greatest_where}
@@ -16,7 +16,8 @@ use Rattle.water_model.specs.Plans.{carry_of, inflow_to, outflow_from}
 use Rattle.water_model.specs.Hydrology.{number_in}
 use Rattle.water_model.proofs.Worked.{spring, outlet, link, river, steady, right, no_series}
 use Rattle.water_model.specs.declared.types.Carry.TheVariants.{Canal}
-use Rattle.water_model.specs.Accounts.{Ledger, loss_of, spill_of, fill_of, zone_want, natural_at, first_want}
+use Rattle.water_model.specs.Accounts.{IsLedger, Ledger, drawn_from, left_of, loss_of}
+use Rattle.water_model.specs.Accounts.{spill_of, fill_of, zone_want, natural_at, first_want}
 use Rattle.water_model.specs.Accounts.{is_in_season, closing_with}
 use Rattle.water_model.specs.Courses.{IsStop, IsStopWithin, IsCourse, IsCourseWithin, HasCourse, IsGreatestDraw}
 use Rattle.water_model.specs.Courses.{after_draw, held_on}
@@ -251,6 +252,12 @@ taken_top_after : taken_with exchange (40 ∷ 0 ∷ 0 ∷ 0 ∷ []) full 2 (40 �
 unfolding total
 taken_top_after = refl
 
+-- and after 50 at the weir the cap at the top is 0
+top_cap_after : cap_of (record exchange { draws = draw 1 1 ∷ draw 1 0 ∷ [] }) (λ j. 1000000000) (number exchange 0)
+    (40 ∷ 0 ∷ 0 ∷ 0 ∷ []) full (50 ∷ 0 ∷ []) 1 ≡ 0
+unfolding total
+top_cap_after = refl
+
 -- ---- a canal
 
 -- a lake above a weir, with a canal of 1 a day from the one to the other, and a river past it
@@ -274,8 +281,8 @@ weir_stops = record { one_each = refl; drawing = refl; storing = refl; full = re
 -- ---- a draw that has a course only with a later one
 
 -- Water of a lake reaches a field through a hub and a canal, which is full. A tank at the field serves the user there
--- in the place of the canal, where an owner at the hub draws on it. So the first draw, from the lake for the field, is 0,
--- and yet there is a course with 31 of the first and 31 of the second.
+-- in the place of the canal, where an owner at the hub draws on it. So the first draw, from the lake for the field, is
+-- 0, and yet there is a course with 31 of the first and 31 of the second.
 abbrev tank : Basin
 tank =
     basin
@@ -385,6 +392,71 @@ second_fill : fill_of two (16 ∷ []) (29 ∷ 45 ∷ []) 1 ≡ 4
 unfolding total
 second_fill = refl
 
+-- so the month of the two
+month_of_two : IsLedger two (100 ∷ []) (10 ∷ []) (number two 0) (16 ∷ []) [] (record {
+  opening = 33 ∷ 50 ∷ [];
+  lost = 4 ∷ 5 ∷ [];
+  spilled = 0 ∷ 0 ∷ [];
+  carried = 29 ∷ 45 ∷ [];
+  filled = 12 ∷ 4 ∷ [];
+  drawn = 0 ∷ 0 ∷ [];
+  closing = 41 ∷ 49 ∷ [];
+})
+unfolding total
+month_of_two = record {
+  fits = record {
+    opening = refl;
+    lost = refl;
+    spilled = refl;
+    carried = refl;
+    filled = refl;
+    drawn = refl;
+    closing = refl;
+  };
+  lost = lost;
+  spilled = spilled;
+  carried = carried;
+  filled = filled;
+  drawn = drawn;
+  closing = closing;
+}
+  where
+    lost : (k : ℕ) → k < 2 →
+        slice_index (4 ∷ 5 ∷ []) k ≡ loss_of two (100 ∷ []) (10 ∷ []) (33 ∷ 50 ∷ []) k
+    lost zero l = refl
+    lost (suc zero) l = refl
+    lost (suc (suc k)) l = absurd (omega arith)
+
+    spilled : (k : ℕ) → k < 2 →
+        slice_index (0 ∷ 0 ∷ []) k ≡ spill_of two (number two 0) (33 ∷ 50 ∷ []) (4 ∷ 5 ∷ []) k
+    spilled zero l = refl
+    spilled (suc zero) l = refl
+    spilled (suc (suc k)) l = absurd (omega arith)
+
+    carried : (k : ℕ) → k < 2 →
+        slice_index (29 ∷ 45 ∷ []) k
+        ≡ left_of (33 ∷ 50 ∷ []) (4 ∷ 5 ∷ []) k - slice_index (0 ∷ 0 ∷ []) k
+    carried zero l = refl
+    carried (suc zero) l = refl
+    carried (suc (suc k)) l = absurd (omega arith)
+
+    filled : (k : ℕ) → k < 2 → slice_index (12 ∷ 4 ∷ []) k ≡ fill_of two (16 ∷ []) (29 ∷ 45 ∷ []) k
+    filled zero l = refl
+    filled (suc zero) l = refl
+    filled (suc (suc k)) l = absurd (omega arith)
+
+    drawn : (k : ℕ) → k < 2 → slice_index (0 ∷ 0 ∷ []) k ≡ drawn_from two 0 [] k
+    drawn zero l = refl
+    drawn (suc zero) l = refl
+    drawn (suc (suc k)) l = absurd (omega arith)
+
+    closing : (k : ℕ) → k < 2 →
+        slice_index (41 ∷ 49 ∷ []) k
+        ≡ slice_index (29 ∷ 45 ∷ []) k + slice_index (12 ∷ 4 ∷ []) k - slice_index (0 ∷ 0 ∷ []) k
+    closing zero l = refl
+    closing (suc zero) l = refl
+    closing (suc (suc k)) l = absurd (omega arith)
+
 -- ---- one fill, a season, and a curve of what may be held
 
 -- a zone with these wants, a volume and a season, and one account of 100
@@ -461,26 +533,50 @@ wants_again = refl
 
 -- ---- volumes
 
--- land has a volume of 30, of which 5 were used before the run, and a draw of 60, of which 20 were
-abbrev with_volumes : Basin
-with_volumes =
+-- land has a volume of 30, an account, and a river of 30
+abbrev used_up : Option ℕ → ℕ → Draw → Basin
+used_up volume used drawing =
     basin
     (spring (codes "lake") 0 ∷ spring (codes "weir") 30 ∷ outlet (codes "mouth") ∷ [])
     (river (codes "a") 0 1 ∷ river (codes "b") 1 2 ∷ [])
     (lake 0 100 ∷ [])
-    (record (steady (codes "land") 1930 (Diversion 1) 50) { volume = Some 30; used = 5 }
+    (record (steady (codes "land") 1930 (Diversion 1) 50) { volume = volume; used = used }
     ∷ steady (codes "pool") 1920 (Zone 0 1) 100 ∷ [])
     (account 1 100 ∷ [])
-    (record (draw 0 1) { volume = Some 60; used = 20 } ∷ [])
+    (drawing ∷ [])
 
--- it is delivered 25, and draws what it lacks; draws use up no volume of land's
+abbrev one_volume : Basin
+one_volume = used_up (Some 30) 0 (draw 0 1)
+
+-- in January it gets the 30 and draws 20; in February its volume is used up, and it draws its 50
+cap_january : cap one_volume 0 (30 ∷ 0 ∷ []) (100 ∷ []) (20 ∷ []) 0 ≡ 20
+unfolding total
+cap_january = refl
+
+used_february : used_by_right one_volume ((30 ∷ 0 ∷ []) ∷ []) 0 1 ≡ 30
+unfolding total
+used_february = refl
+
+want_february : first_want one_volume no_series 1 (number one_volume 1) (30 ∷ 0 ∷ []) (80 ∷ []) 0 ≡ 0
+unfolding total
+want_february = refl
+
+cap_february : cap one_volume 1 (0 ∷ 0 ∷ []) (80 ∷ []) (50 ∷ []) 0 ≡ 50
+unfolding total
+cap_february = refl
+
+-- where 5 of the volume were used before the run, and 20 of a draw's 60
+abbrev with_volumes : Basin
+with_volumes = used_up (Some 30) 5 (record (draw 0 1) { volume = Some 60; used = 20 })
+
+-- land gets 25, and draws what it lacks; draws use up no volume of its
 used_at_first : used_by_right with_volumes [] 0 0 ≡ 5
 unfolding total
 used_at_first = refl
 
-used_up : used_by_right with_volumes ((25 ∷ 0 ∷ []) ∷ []) 0 1 ≡ 30
+used_since : used_by_right with_volumes ((25 ∷ 0 ∷ []) ∷ []) 0 1 ≡ 30
 unfolding total
-used_up = refl
+used_since = refl
 
 cap_beside : cap with_volumes 0 (25 ∷ 0 ∷ []) (100 ∷ []) (25 ∷ []) 0 ≡ 25
 unfolding total

@@ -10,4 +10,6 @@ pub mod Drawing
 pub mod FirstSteps
 pub mod Stores
 pub mod Sited
+pub mod Plain
+pub mod Balanced
 mod Examples

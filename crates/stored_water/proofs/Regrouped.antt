@@ -40,10 +40,14 @@ entry_below {X} {Y} xs k f d p none = of_get (slice_get xs k) refl
 pub takes_below : (b : Basin) (r n : ℕ) → takes_at b r n ≡ true → r < length b.rights
 takes_below b r n h = entry_below b.rights r (λ x. taking_node_of_kind b x.kind) None (λ o. is_at o n) refl h
 
+-- so is a diversion
+pub diversion_below : (b : Basin) (r : ℕ) → is_diversion b r ≡ true → r < length b.rights
+diversion_below b r h = entry_below b.rights r (λ x. is_diversion_kind x.kind) false (λ t. t) refl h
+
 pub takes_on_no_link : (b : Basin) (r n : ℕ) → takes_at b r n ≡ true → instream_link b r ≡ None
 takes_on_no_link b r n h = taker_on_no_link b (λ o. is_at o n) r refl h
 
-no_test : (n : ℕ) (y : ℕ → Bool) → total n (λ v. if y v then 0 else 0) ≡ 0
+pub no_test : (n : ℕ) (y : ℕ → Bool) → total n (λ v. if y v then 0 else 0) ≡ 0
 no_test n y = total_zero n (λ v. if y v then 0 else 0) (λ v l. same (y v))
   where
     same : (t : Bool) → ◌≡◌ {A = ℕ} (if t then 0 else 0) 0

@@ -19,14 +19,14 @@ use Rattle.water_model.specs.declared.types.RightKind.{RightKind}
 use Rattle.water_model.specs.declared.types.RightKind.TheVariants.{Diversion, Instream, Zone}
 
 -- what holds of each entry holds of the one at an index
-holds_at : {X : Type 0} (P : X → Type 0) (xs : List X) (k : ℕ) (x : X) → All P xs → slice_get xs k ≡ Some x → P x
+pub holds_at : {X : Type 0} (P : X → Type 0) (xs : List X) (k : ℕ) (x : X) → All P xs → slice_get xs k ≡ Some x → P x
 holds_at P xs k x all e =
     let entry = entry_holds P xs k all (slice_get_within xs k x e) in
     let same : entry.0 ≡ x = cc in
     subst P same entry.2
 
 -- a zone is in a reservoir of the basin
-zone_site : (b : Basin) → IsValidBasin b → (r : ℕ) → is_zone b r ≡ true →
+pub zone_site : (b : Basin) → IsValidBasin b → (r : ℕ) → is_zone b r ≡ true →
     (v : ℕ) × (reservoir_of_right b r ≡ Some v) × (v < length b.reservoirs)
 zone_site b valid r = of_get (slice_get b.rights r) refl
   where
@@ -44,7 +44,7 @@ zone_site b valid r = of_get (slice_get b.rights r) refl
     of_get (Some x) e h = of_kind x.kind (holds_at (λ y. IsValidRight b y) b.rights r x valid.rights e).site h
 
 -- so an account is at a node
-account_site : (b : Basin) → IsValidBasin b → (k : ℕ) → k < length b.accounts →
+pub account_site : (b : Basin) → IsValidBasin b → (k : ℕ) → k < length b.accounts →
     (node : ℕ) × (node < length b.nodes) × (storing_node b k ≡ Some node)
 account_site b valid k l =
     let account = entry_holds (λ a. IsValidAccount b a) b.accounts k valid.stores.accounts l in

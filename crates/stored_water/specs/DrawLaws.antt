@@ -1,7 +1,7 @@
 -- Laws over draws.
 use Rattle.std.specs.Prelude.{◌≡◌, ℕ, suc, ◌+◌, ◌-◌, ◌*◌, ◌<◌, ◌≤◌, true, false, not, ◌&&◌, Bool, List, length}
 use Rattle.std.specs.Prelude.{slice_index, slice_get, Some, None}
-use Rattle.finite_sums.specs.Sums.{total_where}
+use Rattle.finite_sums.specs.Sums.{total, total_where}
 use Rattle.water_text.specs.declared.month.Month.{Month}
 use Rattle.water_model.specs.Accounts.{Ledger, IsLedger, stock_of, closing_with, drawn_from}
 use Rattle.water_model.specs.Basin.{taking_node, takes_at, instream_link, is_at, is_zone_of}
@@ -230,3 +230,17 @@ ClosingIsTakes =
     AreForDiversions b → AreTakesAfter b delivered l amounts take →
     closing_with b delivered l.closing reservoir
     ≡ total_where (length b.rights) (λ r. is_zone_of b r reservoir) (λ r. slice_index take r)
+
+-- No water is made or lost. In a month with draws, wherever they are taken, the whole supply is what diversions got by
+-- delivery and draws, what reservoirs close with, and what left the basin.
+abbrev pub MonthsWithDrawsAreBalanced : Type 0
+MonthsWithDrawsAreBalanced =
+    (b : Basin) (month : Month) (opening evaporated : List ℕ) (number : ℕ → ℕ) (delivered amounts : List ℕ)
+    (l : Ledger) (supply taken flow out : List ℕ) → IsValidBasin b →
+    IsLedger b opening evaporated number delivered amounts l →
+    AreTaken b delivered l (length b.draws) amounts taken →
+    IsCourse b month (held_on b delivered) supply taken flow out →
+    total (length b.nodes) (λ n. slice_index supply n)
+    ≡ total_where (length b.rights) (λ r. is_diversion b r) (λ r. got_by b delivered amounts r)
+    + total (length b.reservoirs) (λ v. closing_with b delivered l.closing v)
+    + total (length b.nodes) (λ n. slice_index out n)

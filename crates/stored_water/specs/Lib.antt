@@ -1,3 +1,4 @@
 pub mod ShareLaws
 pub mod AccountLaws
 pub mod DrawLaws
+pub mod PlainLaws

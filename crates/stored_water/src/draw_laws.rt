@@ -4,7 +4,7 @@ ghost use Rattle.stored_water.specs.DrawLaws.{WholeDrawsAreGreatest, GreatestDra
 ghost use Rattle.stored_water.specs.DrawLaws.{DrawsMoveWater, DrawsStayWithinCarried, DrawsStayWithinNumber};
 ghost use Rattle.stored_water.specs.DrawLaws.{DrawsHaveOneOutcome, FirstStepIsCourse, DrawsChangeNoTakes, ClosingIsTakes};
 ghost use Rattle.stored_water.specs.DrawLaws.{DrawsAddUp, CoursesAndStopsShowDraws, DrawsLeaveFills, GreatestStopIsOne};
-ghost use Rattle.stored_water.specs.DrawLaws.{CoursesWithDrawsArePlans, ValidBasinsAreSited};
+ghost use Rattle.stored_water.specs.DrawLaws.{CoursesWithDrawsArePlans, MonthsWithDrawsAreBalanced, ValidBasinsAreSited};
 
 /// A stop lets no course draw more.
 pub fn stops_let_no_more_be_drawn()
@@ -94,6 +94,11 @@ pub fn courses_with_draws_are_plans()
 /// In a valid basin each draw is for a diversion and on an account, which is of a zone.
 pub fn valid_basins_are_sited()
     ensures { ValidBasinsAreSited }
+{}
+
+/// No water is made or lost in a month with draws.
+pub fn months_with_draws_are_balanced()
+    ensures { MonthsWithDrawsAreBalanced }
 {}
 
 /// A reservoir closes with what its zones take after all draws.

@@ -4,5 +4,6 @@
 
 pub mod account_laws;
 pub mod draw_laws;
+pub mod plain_laws;
 pub mod share_laws;
 pub mod shares;
