@@ -1,6 +1,6 @@
 use Rattle.std.proofs.Common.{refl, rules}
-use Rattle.basin_cli.specs.Command.{compare, named}
-use Rattle.basin_cli.specs.Failed.{files_to}
+use Rattle.basin_cli.specs.Command.{named}
+use Rattle.basin_cli.specs.Failed.{pair_to}
 use Rattle.basin_cli.proofs.Failing.{stops_at_none}
 use Rattle.basin_cli.proofs.Idle.{compares_none}
 use Rattle.basin_cli.proofs.Injured.{cause, work, writes}
@@ -39,7 +39,7 @@ returns g c =
           c.compare_basins-ending.ensures.compares
           c.compare_basins-ending.ensures.ends;
       asked =
-          stops_at_none (files_to (compare files second)) _ _ how c.compare_basins-ending.ensures.at;
+          stops_at_none (pair_to files second) _ _ how c.compare_basins-ending.ensures.at;
       can_be_printed = search rules;
       writes =
           writes known files second c.in-Ok.pair c.in-Ok.ensures.paired how _ _ _

@@ -1,9 +1,9 @@
-use Rattle.std.proofs.Common.{◌*◌, rules}
+use Rattle.std.proofs.Common.{◌*◌}
 use Rattle.index_seq.specs.Traces.{years_of}
 use Rattle.month_fold.specs.Works.{Solves}
-use Rattle.basin_cli.specs.Command.{ensemble, named}
-use Rattle.basin_cli.specs.Failed.{files_to}
-use Rattle.basin_cli.proofs.Failing.{solving_stops}
+use Rattle.basin_cli.specs.Command.{named}
+use Rattle.basin_cli.specs.Failed.{inputs_to}
+use Rattle.basin_cli.proofs.Failing.{at_none_prints, stops_at_none}
 use Rattle.basin_cli.proofs.Known.{of_basin, writes}
 use Rattle.basin_cli.proofs.Solved.{gathering_cause}
 use Rattle.basin_cli.proofs.top.do_ensemble.Goals as goal
@@ -19,9 +19,8 @@ returns g c =
       cause =
           gathering_cause known files b series c.in-Ok.ensures.fits c.in-Ok.ensures.loaded how _ _
           c.in-Ok.ensures.whole c.ensemble_basin-ending.ensures.ends;
-      asked =
-          solving_stops (files_to (ensemble files)) _ _ how _ c.ensemble_basin-ending.ensures.ends;
-      can_be_printed = search rules;
+      asked = stops_at_none (inputs_to files) _ _ how c.ensemble_basin-ending.ensures.at;
+      can_be_printed = at_none_prints how c.ensemble_basin-ending.ensures.at;
       writes =
           writes known files b series c.in-Ok.ensures.fits c.in-Ok.ensures.loaded _ _
           c.ensemble_basin-ending.ensures.leaves;

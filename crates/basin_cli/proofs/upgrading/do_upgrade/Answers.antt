@@ -1,7 +1,5 @@
-use Rattle.std.proofs.Common.{refl, rules}
+use Rattle.std.proofs.Common.{refl, rules, [], ◌∷◌}
 use Rattle.std.specs.Prelude.{string_bytes}
-use Rattle.basin_cli.specs.Command.{upgrade}
-use Rattle.basin_cli.specs.Failed.{files_to}
 use Rattle.basin_cli.specs.declared.ending.File.TheVariants as file
 use Rattle.basin_cli.specs.declared.status.Status.TheVariants as its
 use Rattle.basin_cli.proofs.Failing.{asks_one, stops_at}
@@ -14,7 +12,7 @@ returns-in-Err g c = λ done.
     record {
       cause = search rules;
       asked =
-          stops_at (files_to (upgrade name)) _ _ file.Basin c.in-Err.ending c.in-Err.ensures.at
+          stops_at (λ file. name ∷ []) _ _ file.Basin c.in-Err.ending c.in-Err.ensures.at
           (asks_one _ _ _ c.read_basin_file.ensures.asked);
       can_be_printed = search rules;
       writes = search rules;
