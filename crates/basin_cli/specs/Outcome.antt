@@ -17,7 +17,6 @@ use Rattle.basin_cli.specs.declared.status.Status.{Status}
 use Rattle.basin_cli.specs.declared.status.Status.TheVariants.{Done, No}
 use Rattle.basin_cli.specs.declared.checking.Question.{Question}
 use Rattle.basin_cli.specs.declared.checking.Question.TheVariants as question
-use Rattle.basin_cli.specs.declared.explaining.Account.{Account}
 use Rattle.basin_cli.specs.declared.ending.Ending.{Ending}
 use Rattle.basin_cli.specs.declared.ending.Ending.TheVariants as ending
 use Rattle.basin_cli.specs.declared.ending.File.TheVariants as file

@@ -1,4 +1,4 @@
-use Rattle.std.proofs.Common.{refl}
+use Rattle.std.proofs.Common.{refl, rules}
 use Rattle.reports.specs.Ends.{IsRun}
 use Rattle.reports.specs.Reports.{trial_text}
 use Rattle.basin_cli.proofs.Flushed.{kept, prefixes}
@@ -6,25 +6,16 @@ use Rattle.basin_cli.proofs.Stops.{rose_since}
 use Rattle.basin_cli.proofs.actions.put_trial.Goals as goal
 
 pub returns-in-Ok-flush : goal.returns-in-Ok-flush
-returns-in-Ok-flush g c = record {
-  ends = tt;
-  at = refl;
-  leaves = λ _. kept (IsRun c.args.basin.now c.args.series.now)
-      (trial_text c.args.number c.args.size c.args.basin.now c.args.series.now) _ _ _ c.in-Ok.ensures.text c.in-Ok-flush.ensures.bytes;
-  out_stays = λ silent. absurd (silent tt);
-  idle = λ stopped. absurd stopped;
-  work = c.in-Ok.ensures.work;
-  flushed = λ _. c.in-Ok-flush.ensures.all;
-}
+returns-in-Ok-flush g c =
+    let left =
+    kept (IsRun c.args.basin.now c.args.series.now) (trial_text c.args.number c.args.size c.args.basin.now c.args.series.now) _ _ _
+    c.in-Ok.ensures.text c.in-Ok-flush.ensures.bytes in
+    search rules
 
 pub returns-in-Err : goal.returns-in-Err
-returns-in-Err g c = record {
-  ends = rose_since _ _ _ c.in-Ok.ensures.cause.later (c.in-Err.ensures.cause.rose refl);
-  at = refl;
-  leaves = λ _. prefixes (IsRun c.args.basin.now c.args.series.now)
-      (trial_text c.args.number c.args.size c.args.basin.now c.args.series.now) _ _ _ c.in-Ok.ensures.text c.in-Err.ensures.bytes;
-  out_stays = λ silent. absurd (silent tt);
-  idle = λ stopped. absurd stopped;
-  work = c.in-Ok.ensures.work;
-  flushed = λ quiet. absurd quiet;
-}
+returns-in-Err g c =
+    let left =
+    prefixes (IsRun c.args.basin.now c.args.series.now) (trial_text c.args.number c.args.size c.args.basin.now c.args.series.now) _ _ _
+    c.in-Ok.ensures.text c.in-Err.ensures.bytes in
+    let rose = rose_since _ _ _ c.in-Ok.ensures.cause.later (c.in-Err.ensures.cause.rose refl) in
+    search rules
