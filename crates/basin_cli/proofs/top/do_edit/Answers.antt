@@ -25,23 +25,21 @@ returns g c =
     rw c.deref.ensures.value
     (subst (λ (o : Option (List ℕ)). IfSome o (λ bytes. c.in-Ok-read_file.text.items ≡ bytes))
     (c.in-Ok.ensures.same.known script) c.in-Ok-read_file.ensures.bytes) in
+    let read = c.in-Ok.ensures in
+    let did = c.edit_basin-ending.ensures in
     record {
-      cause =
-          editing_cause known files b series c.in-Ok.ensures.fits c.in-Ok.ensures.loaded script text is how _ _
-          (rw c.deref.ensures.value c.in-Ok-read_file.ensures.within) c.edit_basin-ending.ensures.ends;
-      asked = stops_at_none (inputs_and files script) _ _ how c.edit_basin-ending.ensures.at;
-      can_be_printed = at_none_prints how c.edit_basin-ending.ensures.at;
-      writes =
-          editing_writes known files b series c.in-Ok.ensures.fits c.in-Ok.ensures.loaded script text is
-          (status_of how) _ _ c.edit_basin-ending.ensures.leaves;
-      out_stays = c.edit_basin-ending.ensures.out_stays;
-      flushed = c.edit_basin-ending.ensures.flushed;
-      shown = c.edit_basin-ending.ensures.shown;
+      cause = editing_cause known files b series read.fits read.loaded script text is how _ _
+          (rw c.deref.ensures.value c.in-Ok-read_file.ensures.within) did.ends;
+      asked = stops_at_none (inputs_and files script) _ _ how did.at;
+      can_be_printed = at_none_prints how did.at;
+      writes = editing_writes known files b series read.fits read.loaded script text is (status_of how) _ _ did.leaves;
+      out_stays = did.out_stays;
+      flushed = did.flushed;
+      shown = did.shown;
       unread = tt;
-      idle = c.edit_basin-ending.ensures.idle;
-      work =
-          editing_solves known files b series c.in-Ok.ensures.fits c.in-Ok.ensures.loaded script text is
-          c.args.work.now c.edit_basin-ending.new.work c.edit_basin-ending.ensures.work;
+      idle = did.idle;
+      work = editing_solves known files b series read.fits read.loaded script text is c.args.work.now
+          c.edit_basin-ending.new.work did.work;
     }
 
 pub returns-in-Err-read_file : goal.returns-in-Err-read_file
