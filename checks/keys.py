@@ -19,7 +19,7 @@ from beside.table_files import TABLES
 from checks import harness
 from checks.harness import ran, read, tried
 
-Row = tuple[str, int, int, bool, int]           # what a value is, the least, the most, if it must be there, the format
+Row = tuple[Any, ...]                           # what a value is, the least, the most, if it must be there, the format
 KINDS, PATTERNS, COLUMNS, IN_TABLES, BARE = harness.table("keys", "KINDS PATTERNS COLUMNS IN_TABLES BARE")
 
 def of_program() -> dict[str, Row]:
@@ -125,7 +125,7 @@ def main(room, program=""):
     tried("the tables have a column for each key", not without_column(due, TABLES), without_column(due, TABLES))
     for name, (entry, keys) in TABLES.items():
         for key in keys:
-            less = TABLES | {name: (entry, {it: of for it, of in keys.items() if it != key})}
+            less: Any = TABLES | {name: (entry, {it: of for it, of in keys.items() if it != key})}
             lacks = [it for it in due if IN_TABLES.get(it, it) == f"{entry or name}.{key}"]
             tried(f"that {name}.csv lacks {key} is found", without_column(due, less) == lacks)
     tried("the page has a row for each key", not without_row(due, page), without_row(due, page))
