@@ -22,12 +22,10 @@ glpsol is not there.
 """
 import os
 import re
-import shutil
 import subprocess
 import tempfile
-from collections.abc import Iterator
 
-from beside import basin, common, files
+from beside import basin, common, files, glpk
 from beside.bench import programs
 from beside.model import RIVER
 
@@ -78,53 +76,30 @@ class Month:
             bound += cost * (least if cost > 0 else most)
         return bound
 
-def linear_program(months: list[Month]) -> Iterator[str]:
-    """The linear program of some months, line by line, in CPLEX's format. Flows are named by month and link."""
-    links, nodes = months[0].basin.links, months[0].basin.nodes
-    yield "minimize water:"
-    for at in range(len(months)):
-        yield from (f" + {int(link[3] is not None)} f{at}_{place}" for place, link in enumerate(links))
-    yield "subject to"
-    for place, month in enumerate(months):
-        sums: list[list[str]] = [[] for _ in nodes]
-        for link, (_, tail, head, _) in enumerate(links):
-            sums[tail].append(f" + f{place}_{link}")
-            sums[head].append(f" - f{place}_{link}")
-        for node, terms in enumerate(sums):
-            # (an outlet may have no link)
-            yield from (f" n{place}_{node}:", *(terms or [f" 0 f{place}_0"]), f" = {month.more_out[node]}")
-    yield "bounds"
-    for place, month in enumerate(months):
-        for link, (least, most) in enumerate(zip(month.least, month.most)):
-            # (no sum of a river comes near to what it can carry)
-            yield f" f{place}_{link} >= {least}" + (f"\n f{place}_{link} <= {most}" if most < RIVER else "")
-    yield "end"
-
-def solved(months, room):
-    """The flows and the potentials of each month that glpsol finds, rounded."""
-    asked, answer = os.path.join(room, "asked"), os.path.join(room, "answer")
-    with open(asked, "w", encoding="ascii") as file:
-        file.writelines(line + "\n" for line in linear_program(months))
-    ran = subprocess.run(["glpsol", "--lp", asked, "--write", answer], capture_output=True, text=True)
-    if ran.returncode or "OPTIMAL" not in ran.stdout:
-        raise common.Stop(f"glpsol failed: {ran.stdout[-500:]}")
-    with open(answer, encoding="ascii") as file:
-        lines = [line.split() for line in file]
-    flows = [round(float(line[3])) for line in lines if line[0] == "j"]
-    potentials = [round(float(line[4])) for line in lines if line[0] == "i"]
-    return parted(flows, len(months)), parted(potentials, len(months))
+def solved(months):
+    """The flows and the potentials of each month that glpsol finds, rounded. Columns and rows come month by month."""
+    links, nodes = months[0].basin.links, len(months[0].basin.nodes)
+    rows = [({}, "=", amount) for month in months for amount in month.more_out]
+    for place in range(len(months)):
+        for link, (_, tail, head, _) in enumerate(links, place * len(links)):
+            rows[place * nodes + tail][0][link], rows[place * nodes + head][0][link] = 1, -1
+    # (no sum of a river comes near to what it can carry)
+    bounds = [(least, most if most < RIVER else None)
+              for month in months for least, most in zip(month.least, month.most)]
+    costs = [int(link[3] is not None) for link in links] * len(months)
+    return [parted(list(map(round, amounts)), len(months)) for amounts in glpk.solved("minimize", costs, rows, bounds)]
 
 def parted(amounts, count):
     """A list in so many equal parts."""
     size = len(amounts) // count
     return [amounts[place * size:(place + 1) * size] for place in range(count)]
 
-def least_of(basin, months, room):
+def least_of(basin, months):
     """The least that the canals of a basin can carry together in each month."""
     if not canals_of(basin):
         return [0] * len(months)
     sums = []
-    for month, flow, potentials in zip(months, *solved(months, room), strict=True):
+    for month, flow, potentials in zip(months, *solved(months), strict=True):
         sums.append(by_canals(basin, flow))
         if not month.has_plan(flow) or month.bound(potentials) != sums[-1]:
             raise common.Stop("what glpsol found isn't the least")
@@ -171,7 +146,7 @@ class Bench:
         """Measures a basin, and adds it to some rows."""
         b = files.read_basin(names[0])
         results = self.results(title, names, b)
-        least = least_of(b, results[0], self.room)
+        least = least_of(b, results[0])
         for row in sums:
             self.rows.setdefault(row, Row(len(self.commands))).add(b, results, least)
 
@@ -221,7 +196,7 @@ def main(words: list[str]) -> int:
     if not all(re.fullmatch("[0-9]{1,4}", number) for number in numbers) or not 1 <= int(numbers[1]) <= 1200:
         raise common.WrongWords("N is a whole number, and M one from 1 to 1200")
     count, months = map(int, numbers)
-    if not shutil.which("glpsol"):
+    if not glpk.is_there():
         raise common.Stop("not tried: anything, as glpsol is not installed: it is in glpk-utils")
     with tempfile.TemporaryDirectory() as room:
         bench = Bench(commands, room)

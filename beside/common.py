@@ -104,10 +104,14 @@ def month_text(month: int) -> str:
     """A month that is counted from the year 0, as it is written."""
     return f"{month // 12:04d}-{month % 12 + 1:02d}"
 
+def month_number(text: str) -> int:
+    """A month that has the shape of one, counted from the year 0."""
+    return int(text[:4]) * 12 + int(text[5:]) - 1
+
 def read_month(text: str) -> int | None:
     """A month from 1800-01 to 2999-12, counted from the year 0, or None."""
     is_month = re.fullmatch(r"(1[89]|2[0-9])[0-9]{2}-(0[1-9]|1[0-2])", text, re.ASCII)
-    return int(text[:4]) * 12 + int(text[5:]) - 1 if is_month else None
+    return month_number(text) if is_month else None
 
 def days_in(month: int) -> int:
     return calendar.monthrange(month // 12, month % 12 + 1)[1]

@@ -18,17 +18,13 @@ import tempfile
 
 from beside import basin, common
 
-def place_of(month, first):
-    """How many months a month lies after the first."""
-    return (int(month[:4]) - int(first[:4])) * 12 + int(month[5:]) - int(first[5:])
-
 def begun_later(amounts, years, first, count):
     """The records of a series that begins so many years later: inflows move, and wants stay."""
     for (month, kind, name), amount in amounts.items():
-        place = place_of(month, first)
+        place = common.month_number(month) - common.month_number(first)
         if 0 <= place < count:
             moved = (place - 12 * years) % count if kind == "inflow" else place
-            yield basin.month_after(first, moved), kind, name, amount
+            yield common.month_text(common.month_number(first) + moved), kind, name, amount
 
 def write_series(out, records):
     has_wants = any(record[1] == "want" for record in records)

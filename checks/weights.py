@@ -5,7 +5,7 @@ With a PROGRAM, the stored results of examples/weights have to be what it writes
 """
 import os
 
-from beside import common, files, least_cost, result
+from beside import common, files, glpk, least_cost, result
 from checks.harness import example, not_tried, ran, read, read_bytes, script, tried
 
 STARVED = [("1990-07", "old", 50, 0), ("1990-07", "fish", 0, 50), ("1990-07", "new", 0, 50)]
@@ -43,7 +43,7 @@ def others(name, weights, solve):
 
 def main(room, program=""):
     solvers = {"python3-scipy": least_cost.Problem.by_scipy if least_cost.linprog else None,
-               "glpk-utils": least_cost.Problem.by_glpk if least_cost.has_glpsol() else None}
+               "glpk-utils": least_cost.Problem.by_glpk if glpk.is_there() else None}
     for solver, solve in solvers.items():
         if solve is None:
             not_tried("a solver of linear programs", solver)
