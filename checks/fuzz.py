@@ -19,7 +19,7 @@ from beside.common import write_text
 from checks import changes, harness
 from checks.harness import called, example, ran, read, tried
 
-WEIR, (CALLS,) = harness.files_of("weir"), harness.table("fuzz", "CALLS")
+WEIR, (CALLS, TEXTS) = harness.files_of("weir"), harness.table("fuzz", "CALLS TEXTS")
 WITH_PROGRAM = ("compared", "sources", "page", "trace", "shared")       # these run it, and so are slower
 ODD_WORDS = ("", "-", "--", "--basin", "--csv", "--nothing", "-h-", "1960-13", "1960-7", "x" * 300, "a\nb", "\x1b[2J",
              "\0", "no/where", "-1", "9" * 5000, "\u0664", "\udcff")
@@ -29,15 +29,9 @@ TOKENS = ("9" * 5000, "-1", "1981-xx", "0000-00-00", "\0", "\x1b[2J", "\u0664", 
 BYTES = (b"", b"\0", b"\xff\xfea\0", b"\xef\xbb\xbf", b"\n", b"\r\n" * 99, b"\xff" * 99, b"x = " + b"[" * 5000,
          b"[[node]]\n" * 99, b"river-result 1\n", b"a,b\n1,2,3\n", b"month,node,amount\n", b"diversion = 5\n",
          b"\x7fELF\x01", b"1" * 5000)
-GOOD = {
+GOOD = TEXTS | {
     "BASIN": read(WEIR[0]), "SERIES": read(WEIR[1]), "RESULT": read(WEIR[2]),
     "ENSEMBLE": read("examples", "valley.ensemble"), "BASIN2": read(WEIR[0]).replace("want = 400", "want = 900"),
-    "CHANGE": '[[change.diversion]]\nname = "city"\nwithout = ["order"]\nwant = 5\n'
-              '[[remove.return]]\ndiversion = "canalco"\n[[add.node]]\nname = "new"\n[top]\nmonths = 1\n',
-    "CALLS": "calls 1960-07 1\nmonth 1960-07\nshort a 1 2\nnext n a\nlink c a\ncurtailed b a\nend\ndone 1\n",
-    "TRACE": "trace 1981-10 1 0\nyear 0 town 5\nyear 0 farm 7\ndone 0\n",
-    "MAP": "name,node,right,file,column,unit,kind,fill,missing,site,upstream,diverted,stored,returned\n"
-           ",upper,,records.csv,flow,cfs,daily rate,mean,-9,,,cut,,\ncut,,,records.csv,taken,,daily volume,,,,,,,\n",
 }
 RECORDS = "date,flow,taken\n" + "".join(f"1960-07-{day:02d},{day},1\n" for day in range(1, 32))
 TABLES = {name: read("examples", "office", "tables", name) for name in sorted(os.listdir(example("office", "tables")))}
