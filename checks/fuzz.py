@@ -4,7 +4,7 @@ left out; fewer where a script runs the program), and tries its help.
 Words are missing, too many or odd; files are absent, empty, folders, of other bytes, or changed: amounts of 5,000
 digits, months and dates that are none, keys that are missing or hold something else, lists 5,000 deep. Whatever comes,
 a script has to end with one of the statuses that its help tells, with lines of signs that can be seen and without a
-traceback. Each example of a help has to work as it stands. Those of measurements are only handed bad words.
+traceback. Each example of a help has to work as it stands. Measurements are only handed bad words.
 """
 import importlib
 import os
@@ -123,18 +123,19 @@ def try_bad(name, count, room, chance):
 def try_help(name, room):
     """That a help tells what a script takes and its statuses, and that its examples work as they stand."""
     text = called(name, "--help")[0]
-    examples = re.findall(r"(?m)^    (\./basin .*)$", text)
+    examples = re.findall(r"(?m)^    ((?:\./basin|for) .*)$", text)
     tried(f"{name} has a help", text.startswith(f"{name} ") or text.startswith(f"{name}:"), text[:60])
     tried(f"{name} has an example", any(line.startswith(f"./basin {name} ") for line in examples), examples)
-    for line in examples if not name.startswith(("bench", "count")) else ():
+    for line in examples:
         _, err, status = ran("bash", "-c", line, cwd=room)
         tried(f"{line} works as it stands", status in (0, 1) or "apt-get" in " ".join(err), (status, err))
 
 def main(room, program, count="40", *names):
     chance, basin.PROGRAM = random.Random(" ".join(names) or 73), program
     clean = os.path.join(room, "clean")
-    os.makedirs(clean)
+    os.makedirs(os.path.join(clean, ".built"))
     os.symlink(harness.EXAMPLES, os.path.join(clean, "examples"))
+    os.symlink(program, os.path.join(clean, ".built", "program"))
     scripts = "|".join(CALLS)
     start = f'#!/bin/bash\ncase "$1" in {scripts}) exec {common.ROOT}/basin "$@";; esac\nexec {program} "$@"\n'
     os.chmod(write_text(os.path.join(clean, "basin"), start), 0o755)
