@@ -175,7 +175,7 @@ def draw_network(basin_name, result, month, right, out):
         text = next(text for text, size in scales.items() if size >= 0.9 * max(scales.values()))
         subprocess.run(["dot", "-T" + out.rpartition(".")[2], "-o", out], input=text, check=True)
     except FileNotFoundError:
-        raise NoPicture("graphviz is needed for a network: apt-get install graphviz") from None
+        raise common.Stop("graphviz is needed for a network: apt-get install graphviz", 2) from None
     except subprocess.CalledProcessError as error:
         raise NoPicture(f"graphviz could not draw {out} (status {error.returncode})") from None
 
@@ -197,6 +197,6 @@ def main(words: list[str]) -> int:
     if words[-1].rpartition(".")[2] not in ENDINGS:
         raise NoPicture(f"{words[-1]} ends with none of {', '.join('.' + it for it in ENDINGS)}")
     if pyplot is None and draw is not draw_network:
-        raise NoPicture("matplotlib is needed: apt-get install python3-matplotlib")
+        raise common.Stop("matplotlib is needed: apt-get install python3-matplotlib", 2)
     draw(*words[1:])
     return 0

@@ -20,7 +20,6 @@ import itertools
 import json
 import os
 import re
-import shutil
 import subprocess
 import sys
 import tempfile
@@ -210,8 +209,7 @@ def copied(names, room):
     copies = [os.path.join(room, what) for what in KINDS]
     for name, copy in zip(names, copies):
         if name != "-":
-            with open(name, "rb") as given, open(copy, "wb") as file:
-                shutil.copyfileobj(given, file)
+            common.write_text(copy, common.read_bytes(name, None))
     return ["-" if name == "-" else copy for name, copy in zip(names, copies)]
 
 def told(names, is_good):

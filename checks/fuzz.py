@@ -63,7 +63,7 @@ def cleared(path):
     return path
 
 def put_file(path, text, chance, is_bad):
-    """Writes a file, bad or good."""
+    """Writes a file, bad or good; of a bad one there may be none, or a folder."""
     how = chance.randrange(12) if is_bad else 12
     cleared(path)
     if how == 0:
@@ -80,7 +80,8 @@ def bad_words(words, chance):
     return words[:at] + [[], [words[at]] * 2, [odd], [odd, words[at]]][how] + words[at + 1:]
 
 def bad_call(name, room, chance):
-    """The words of a call with something bad in it, and its files in a folder."""
+    """The words of a call with something bad in it, and whether that is a file which can't be read. Its files are put
+    into a folder."""
     words = chance.choice(CALLS[name]).split()
     files = [word for word in words if word in GOOD or word == "TABLES"]
     is_of_words, bad = not files or chance.randrange(6) == 0, chance.choice(files or [""])
@@ -96,7 +97,8 @@ def bad_call(name, room, chance):
     put_file(os.path.join(room, "records.csv"), RECORDS, chance, "MAP" in files and chance.randrange(3) == 0)
     cleared(os.path.join(room, "OUT"))
     words = [os.path.join(room, word) if word in files or word.startswith("OUT") else word for word in words]
-    return bad_words(words, chance) if is_of_words else words
+    is_unread = bad in GOOD and not os.path.isfile(os.path.join(room, bad))
+    return bad_words(words, chance) if is_of_words else words, is_unread and not is_of_words
 
 def statuses_of(text):
     """The statuses that a help tells, and of a script that runs the program all of the program's."""
@@ -109,11 +111,12 @@ def try_bad(name, count, room, chance):
     due = statuses_of(called(name, "--help")[0]) | ({6, 7, 9} if name in WITH_PROGRAM else set())
     seen = {}
     for number in range(count):
-        words = bad_call(name, room, chance)
+        words, is_unread = bad_call(name, room, chance)
         try:
             out, err, status = called(name, *words, text="")
             is_seen = all(map(str.isprintable, err)) and (err != [] or status in (0, 1) or name == "lint")
-            tried(f"bad input {number} of {name}", status in due and is_seen, (words, status, err[:3]))
+            is_due = status == (2 if "apt-get" in str(err) else 5) if is_unread else status in due
+            tried(f"bad input {number} of {name}", is_due and is_seen, (words, status, err[:3]))
             seen[status] = seen.get(status, 0) + 1
         except Exception as error:
             where = traceback.extract_tb(error.__traceback__)[-1]

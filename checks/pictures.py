@@ -143,7 +143,7 @@ def main(room):
         try_drawing(room, [name for name in DRAWN if name != "network"])
         try_odd_plots(room)
     else:
-        wanted = ("", ["matplotlib is needed: apt-get install python3-matplotlib"], 1)
+        wanted = ("", ["matplotlib is needed: apt-get install python3-matplotlib"], 2)
         tried("matplotlib is asked for", called("draw", "shortages", *VALLEY, os.path.join(room, "out.svg")) == wanted)
         not_tried("all but network", "python3-matplotlib")
     if shutil.which("dot"):
