@@ -1,10 +1,10 @@
 """fuzz PROGRAM [COUNT [NAME..]]: hands each script beside the program, or those named, COUNT bad inputs (40 if it is
-left out; fewer where a script runs the program), and tries its help.
+left out; fewer where a script runs the program).
 
 Words are missing, too many or odd; files are absent, empty, folders, of other bytes, or changed: amounts of 5,000
 digits, months and dates that are none, keys that are missing or hold something else, lists 5,000 deep. Whatever comes,
 a script has to end with one of the statuses that its help tells, with lines of signs that can be seen and without a
-traceback. Each example of a help has to work as it stands. Measurements are only handed bad words.
+traceback. Measurements are only handed bad words. `checks/run pages` tries the examples of the helps.
 """
 import importlib
 import os
@@ -14,10 +14,10 @@ import shutil
 import stat
 import traceback
 
-from beside import basin, common
+from beside import basin
 from beside.common import write_text
 from checks import changes, harness
-from checks.harness import called, example, ran, read, tried
+from checks.harness import called, example, read, tried
 
 WEIR, (CALLS, TEXTS) = harness.files_of("weir"), harness.table("fuzz", "CALLS TEXTS")
 WITH_PROGRAM = ("compared", "sources", "page", "trace", "shared")       # these run it, and so are slower
@@ -123,29 +123,14 @@ def try_bad(name, count, room, chance):
             tried(f"bad input {number} of {name}", False, (words, repr(error)[:200], where.filename, where.lineno))
     return f"{name} {' '.join(f'{status}:{times}' for status, times in sorted(seen.items()))}"
 
-def try_help(name, room):
-    """That a help tells what a script takes and its statuses, and that its examples work as they stand."""
-    text = called(name, "--help")[0]
-    examples = re.findall(r"(?m)^    ((?:\./basin|for) .*)$", text)
-    tried(f"{name} has a help", text.startswith(f"{name} ") or text.startswith(f"{name}:"), text[:60])
-    tried(f"{name} has an example", any(line.startswith(f"./basin {name} ") for line in examples), examples)
-    for line in examples:
-        _, err, status = ran("bash", "-c", line, cwd=room)
-        tried(f"{line} works as it stands", status in (0, 1) or "apt-get" in " ".join(err), (status, err))
-
 def main(room, program, count="40", *names):
     chance, basin.PROGRAM = random.Random(" ".join(names) or 73), program
-    clean = os.path.join(room, "clean")
-    os.makedirs(os.path.join(clean, ".built"))
-    os.symlink(harness.EXAMPLES, os.path.join(clean, "examples"))
-    os.symlink(program, os.path.join(clean, ".built", "program"))
-    scripts = "|".join(CALLS)
-    start = f'#!/bin/bash\ncase "$1" in {scripts}) exec {common.ROOT}/basin "$@";; esac\nexec {program} "$@"\n'
-    os.chmod(write_text(os.path.join(clean, "basin"), start), 0o755)
     told = []
+    tried("bad inputs are there for each script", {*CALLS} == {*harness.scripts()})
     for name in names or CALLS:
         importlib.import_module("beside." + name.replace("-", "_"))
-        try_help(name, clean)
+        text = called(name, "--help")[0]
+        tried(f"{name} has a help", text.startswith((f"{name} ", f"{name}:")), text[:60])
         less = {"shared": 40, "page": 4, "draw": 4, "sources": 2, "compared": 2, "trace": 2}.get(name, 1)
         told.append(try_bad(name, int(count) if int(count) >= 2000 else max(5, int(count) // less), room, chance))
     print("fuzz: statuses and how often: " + ", ".join(told))

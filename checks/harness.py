@@ -4,6 +4,7 @@ import glob
 import importlib
 import io
 import os
+import re
 import subprocess
 import sys
 import tomllib
@@ -119,6 +120,10 @@ def small(room: str, numbers: Iterable[int]) -> Iterator[list[str]]:
                    check=True)
     for number in listed:
         yield [os.path.join(room, str(number), name) for name in ("basin.toml", "series.csv")]
+
+def scripts() -> list[str]:
+    """The names of all scripts beside the program, by the screen of help."""
+    return re.findall(r"(?m)^  \./basin (\S+)", read("docs", "help.txt").partition("\nBeside the program")[2])
 
 def all_examples(ending: str) -> list[str]:
     """The paths of all examples with an ending, in folders too."""
