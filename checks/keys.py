@@ -27,7 +27,7 @@ def of_program() -> dict[str, Row]:
     paths = glob.glob(os.path.join(ROOT, "crates", "*", "src", "*.rt"))
     text = next(text for text in map(read, paths) if "pub fn keys(table" in text)
     most = {name: int(number) for name, number in re.findall(r"pub const (\w+): u64 = ([0-9_]+);", text)}
-    found = {}
+    found: dict[str, Row] = {}
     for table, body in re.findall(r"BasinTable::(\w+) => &\[\n(.*?)\n {8}\]", text, re.S):
         for how, key, kind, given in re.findall(r'(\w+)!\("(\w+)", Kind::(\w+)(?:\(([^)]*)\))?\)', body):
             word, *numbers = KINDS[kind]
@@ -123,11 +123,12 @@ def main(room, program=""):
             tried(f"that {what} lacks {key}, or has another range of it, is found", is_found)
         tried(f"that {what} has a key more is found", differences(due, found | {"node.more": due["node.name"]}))
     tried("the tables have a column for each key", not without_column(due, TABLES), without_column(due, TABLES))
-    for name, (entry, keys) in TABLES.items():
+    listed: Any = TABLES.items()
+    for name, (entry, keys) in listed:
         for key in keys:
-            less: Any = TABLES | {name: (entry, {it: of for it, of in keys.items() if it != key})}
+            tables = TABLES | {name: (entry, {it: of for it, of in keys.items() if it != key})}
             lacks = [it for it in due if IN_TABLES.get(it, it) == f"{entry or name}.{key}"]
-            tried(f"that {name}.csv lacks {key} is found", without_column(due, less) == lacks)
+            tried(f"that {name}.csv lacks {key} is found", without_column(due, tables) == lacks)
     tried("the page has a row for each key", not without_row(due, page), without_row(due, page))
     tried("that the page lacks a row is found", without_row(due, page.replace("| `lag` |", "| `delay` |")))
     tried("each entry is known by keys that it has", not [
