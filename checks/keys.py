@@ -13,12 +13,12 @@ import os
 import re
 from typing import Any
 
-from beside import files, model
+from beside import files, model, table_files
 from beside.common import ROOT, write_text
-from beside.table_files import TABLES
 from checks import harness
 from checks.harness import ran, read, tried
 
+TABLES: Any = table_files.TABLES
 Row = tuple[Any, ...]                           # what a value is, the least, the most, if it must be there, the format
 KINDS, PATTERNS, COLUMNS, IN_TABLES, BARE = harness.table("keys", "KINDS PATTERNS COLUMNS IN_TABLES BARE")
 
@@ -38,7 +38,7 @@ def of_program() -> dict[str, Row]:
     return found
 
 def of_lint() -> dict[str, Row]:
-    found = {}
+    found: dict[str, Row] = {}
     for table, keys in model.KEYS.items():
         for key, (kind, least, most, is_due) in (keys | model.KEYS_2.get(table, {})).items():
             if kind == "text":
@@ -123,8 +123,7 @@ def main(room, program=""):
             tried(f"that {what} lacks {key}, or has another range of it, is found", is_found)
         tried(f"that {what} has a key more is found", differences(due, found | {"node.more": due["node.name"]}))
     tried("the tables have a column for each key", not without_column(due, TABLES), without_column(due, TABLES))
-    listed: Any = TABLES.items()
-    for name, (entry, keys) in listed:
+    for name, (entry, keys) in TABLES.items():
         for key in keys:
             tables = TABLES | {name: (entry, {it: of for it, of in keys.items() if it != key})}
             lacks = [it for it in due if IN_TABLES.get(it, it) == f"{entry or name}.{key}"]
