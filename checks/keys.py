@@ -52,7 +52,8 @@ class Schema:
     def __init__(self, text: str) -> None:
         self.tree = json.loads(text)
         self.first = self.tree["anyOf"][1]["properties"]        # what format 1 has otherwise
-        self.keys, self.defaults = {}, {}
+        self.keys: dict[str, Row] = {}
+        self.defaults: dict[str, Any] = {}
         for table, it in {"top": self.tree, **self.tree["$defs"]}.items():
             first = self.first if table == "top" else self.first.get(table, {}).get("items", {}).get("properties", {})
             for key, value in it.get("properties", {}).items():
