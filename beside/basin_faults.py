@@ -7,7 +7,7 @@ import collections
 import re
 
 from beside import model, places
-from beside.common import CALENDAR, meant, nearest
+from beside.common import CALENDAR, meant, month_text, nearest
 from beside.hints import MANY, date_advice, month_advice
 
 Finding = collections.namedtuple("Finding", "kind table number at text")
@@ -57,8 +57,7 @@ class Document:
         self.text, self.found, self.spoiled, self.is_first = text, [], set(), is_first
         self.tree = places.Reader(text).document()
         self.is_second = model.is_whole(self.tree.get("format")) and self.tree["format"] == 2
-        self.keys = {table: rows | (model.KEYS_2.get(table, {}) if self.is_second else {}) for table,
-            rows in model.KEYS.items()}
+        self.keys = model.KEYS_BOTH if self.is_second else model.KEYS
         self.entries = list(model.entries(self.tree))
         self.entry_at = {(table, number): entry for table, number, entry in self.entries}
         self.renamed = {}                           # (entry, the key that is meant): the key that is there
@@ -116,12 +115,12 @@ def unknown_keys(d):
 
 def key_meant(table, key):
     """The key that is meant by one that the table hasn't, or None."""
-    every = model.KEYS[table] | model.KEYS_2.get(table, {})
+    every = model.KEYS_BOTH[table]
     if key in every:
         return None
     inside = [known for known in every if len(known) > 3 and known in key]
-    known = nearest(key, every) or next(iter(inside),
-        None) or next((OTHER_WORDS[word] for word in OTHER_WORDS if word in key.lower()), None)
+    others = (OTHER_WORDS[word] for word in OTHER_WORDS if word in key.lower())
+    known = nearest(key, every) or next(iter(inside), None) or next(others, None)
     return known if known in every else None
 
 def why_unknown(d, table, key, known):
@@ -132,31 +131,34 @@ def why_unknown(d, table, key, known):
               else f"it is one of {others[0]}" if others else f"the keys here are {', '.join(d.keys[table])}")
     return f"{key[:60]} is no key here; {advice}"
 
-def missing_keys(d):
-    for table, number, entry in d.entries:
-        missing = [key for key, row in d.keys[table].items() if row[3] and key not in entry
-            and (id(entry), key) not in d.renamed]
-        for key in missing:
-            d.tell("MissingKey", table, number, entry, key, f"{key} is missing: {example(key, table)}")
-        if table == "top" and isinstance(entry.get("node"), list) and not entry["node"]:
-            d.tell("MissingKey", table, number, entry, "node", "node is an empty list: a basin has at least one node")
-        if table == "link" and "closed" in entry and "per_day" not in entry:
-            d.tell("MissingKey", table, number, entry, "per_day",
-                "closed stands on a river: only a canal can be shut, so add per_day")
+def each_entry(kind, look):
+    """A pass over all entries: of each fault in one `look` gives the key, what is said, and the item that shows it."""
+    def faults(d):
+        for table, number, entry in d.entries:
+            for key, text, *item in look(d, table, entry):
+                d.tell(kind, table, number, entry, key, text, *item)
+    return faults
+
+def missing_keys(d, table, entry):
+    for key, row in d.keys[table].items():
+        if row[3] and key not in entry and (id(entry), key) not in d.renamed:
+            yield key, f"{key} is missing: {example(key, table)}"
+    if table == "top" and isinstance(entry.get("node"), list) and not entry["node"]:
+        yield "node", "node is an empty list: a basin has at least one node"
+    if table == "link" and "closed" in entry and "per_day" not in entry:
+        yield "per_day", "closed stands on a river: only a canal can be shut, so add per_day"
 
 def example(key, table):
     written = {"format": "1", "first_month": '"1982-10"', "months": "12", "opening": "8000", "date": '"1911-06-15"',
-        "want": "500",
-               "level": "1", "part": "2500", "lag": "1"}.get(key, '".."')
+               "want": "500", "level": "1", "part": "2500", "lag": "1"}.get(key, '".."')
     return "add [[node]] tables" if key == "node" and table == "top" else f"add {key} = {written}"
 
-def wrong_kinds(d):
-    for table, number, entry in d.entries:
-        for key, value in entry.items():
-            kind = d.keys[table].get(key, (None,))[0]
-            if kind and not model.KINDS[kind](value):
-                text, item = why_wrong(d, kind, key, value)
-                d.tell("WrongKind", table, number, entry, key, f"{key} {text}", item)
+def wrong_kinds(d, table, entry):
+    for key, value in entry.items():
+        kind = d.keys[table].get(key, (None,))[0]
+        if kind and not model.KINDS[kind](value):
+            text, item = why_wrong(d, kind, key, value)
+            yield key, f"{key} {text}", item
 
 def why_wrong(d, kind, key, value):
     """Why a value isn't of the kind of its key, with what to do, and the number of the item that shows it, if one
@@ -218,25 +220,18 @@ def why_no_months(value):
     return (f"is a list of {len(value)} numbers: write twelve, from January to December, or one number for all"
             + ("; a comma parts two numbers, so write 1200 and not 1,200" if split else "")), None
 
-def out_of_range(d):
-    for table, number, entry in d.entries:
-        for key, value in entry.items():
-            kind, least, most, _ = d.keys[table].get(key, (None, 0, 0, False))
-            if kind and model.KINDS[kind](value) and not model.is_in_range(kind, value, least, most):
-                text, item = why_out(kind, value, least, most)
-                d.tell("OutOfRange", table, number, entry, key, f"{key} {text}", item)
-        if table == "top":
-            late_end(d)
-
-def late_end(d):
-    """A run that ends too late is a fault of the top, and comes before those of the tables."""
-    top, months = d.tree, d.good(d.tree, "months")
-    first = d.good(top, "first_month")
-    first = model.read_month(first) if model.KINDS["month"](first) else None
+def out_of_range(d, table, entry):
+    for key, value in entry.items():
+        kind, least, most, _ = d.keys[table].get(key, (None, 0, 0, False))
+        if kind and model.KINDS[kind](value) and not model.is_in_range(kind, value, least, most):
+            text, item = why_out(kind, value, least, most)
+            yield key, f"{key} {text}", item
+    # (a run that ends too late is a fault of the top, and comes before those of the tables)
+    months, first = d.good(d.tree, "months"), d.good(d.tree, "first_month")
+    first = model.read_month(first) if table == "top" and model.KINDS["month"](first) else None
     if first is not None and model.is_whole(months) and first + months > 3000 * 12:
-        last = f"{(first + months - 1) // 12}-{(first + months - 1) % 12 + 1:02d}"
-        d.tell("OutOfRange", "top", 0, top, "months",
-            f"months is {months}, so the run ends in {last}: it may end in 2999-12 at the latest")
+        last = month_text(first + months - 1)
+        yield "months", f"months is {months}, so the run ends in {last}: it may end in 2999-12 at the latest"
 
 def why_out(kind, value, least, most):
     if kind == "month":
@@ -251,15 +246,14 @@ def why_out(kind, value, least, most):
         return f"has {value[item]:,} as its {place_word(item + 1)} number: it may be {least:,} to {most:,}", item
     return f"is {value:,}: it may be {least:,} to {most:,}", None
 
-def bad_names(d):
-    for table, number, entry in d.entries:
-        name = entry.get("name") if "name" in d.keys[table] else None
-        if isinstance(name, str) and not model.NAME.fullmatch(name):
-            odd = re.search(r"[^A-Za-z0-9_-]", name)
-            why = ("is empty: write a name" if name == "" else f"has {len(name)} signs: it may have 32" if odd is None
-                   else f'has a blank: write "{re.sub(" +", "-", name.strip())}"' if odd[0] == " "
-                   else f"has the sign {odd[0]!r}: a name has letters a to z, digits, - and _")
-            d.tell("BadName", table, number, entry, "name", f'the name "{name[:60]}" {why}')
+def bad_names(d, table, entry):
+    name = entry.get("name") if "name" in d.keys[table] else None
+    if isinstance(name, str) and not model.NAME.fullmatch(name):
+        odd = re.search(r"[^A-Za-z0-9_-]", name)
+        why = ("is empty: write a name" if name == "" else f"has {len(name)} signs: it may have 32" if odd is None
+               else f'has a blank: write "{re.sub(" +", "-", name.strip())}"' if odd[0] == " "
+               else f"has the sign {odd[0]!r}: a name has letters a to z, digits, - and _")
+        yield "name", f'the name "{name[:60]}" {why}'
 
 def too_many(d):
     counts = collections.Counter()
@@ -329,4 +323,8 @@ def outlet_reservoirs(d):
     for table, number, entry in d.rows("reservoir"):
         if isinstance(entry.get("node"), str) and entry["node"] in outlets:
             d.tell("OutletReservoir", table, number, entry, "node",
-                f"the reservoir stands at the outlet {entry['node']}: let a river lead from the lake to an outlet")
+                   f"the reservoir stands at the outlet {entry['node']}: let a river lead from the lake to an outlet")
+
+PASSES = (unknown_keys, each_entry("MissingKey", missing_keys), each_entry("WrongKind", wrong_kinds),
+          each_entry("OutOfRange", out_of_range), each_entry("BadName", bad_names), too_many, same_names, no_such_names,
+          outlet_reservoirs)

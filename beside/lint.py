@@ -19,12 +19,7 @@ import contextlib
 
 from beside import basin_faults, common, doubts, model, places, series_faults, whole_faults
 
-PASSES = (
-    basin_faults.unknown_keys, basin_faults.missing_keys, basin_faults.wrong_kinds, basin_faults.out_of_range,
-    basin_faults.bad_names,
-    basin_faults.too_many, basin_faults.same_names, basin_faults.no_such_names, basin_faults.outlet_reservoirs,
-    whole_faults.network_faults, whole_faults.right_faults, whole_faults.area_faults,
-)
+PASSES = (*basin_faults.PASSES, whole_faults.network_faults, whole_faults.right_faults, whole_faults.area_faults)
 # A line of the answer: the program's line for a fault (None for a warning), the file, the line and the column, and what
 # is said.
 Said = collections.namedtuple("Said", "line path place text")

@@ -40,7 +40,7 @@ def of_program() -> dict[str, Row]:
 def of_lint() -> dict[str, Row]:
     found: dict[str, Row] = {}
     for table, keys in model.KEYS.items():
-        for key, (kind, least, most, is_due) in (keys | model.KEYS_2.get(table, {})).items():
+        for key, (kind, least, most, is_due) in model.KEYS_BOTH[table].items():
             if kind == "text":
                 kind = f"refers {model.REFERS[table][key]}" if key in model.REFERS.get(table, {}) else "name"
             found[f"{table}.{key}"] = (kind, least, most, is_due, 1 if key in keys else 2)
