@@ -1,25 +1,4 @@
-"""bench-canals [--basins N] [--months M] PROGRAM..: measures how much water canals carry for nothing.
-
-Each PROGRAM, a built one of this repository, runs each basin of examples/ and N made-up ones (20, if it is left out):
-those of `basin trial` with the numbers 1 to N and 20, 40, 80 and 160 nodes in turn, of M months each (60, if it is left
-out). Unless N is 0, it runs one more of each shape that `./basin bench` measures too, of 60 nodes, 120 links and 60
-rights: these have many more canals and instream rights.
-
-The first table has what all canals carry in all months together, in units of 1,000 cubic metres, by each program, and
-the least that they can carry in any plan with the same deliveries, closings and outflows; the second in how many of the
-months of basins with canals a program's canals carry more than that. A canal is a link with `per_day`.
-
-The least is worked out by glpsol (of Debian, the package glpk-utils): a linear program for each month, all months of a
-basin in one. A link carries 0 to its carry, and at least what each instream right on it is delivered. Deliveries and
-outflows are those of the results, so at each node as much more goes out than comes in by links as in the results.
-Flows and potentials that glpsol finds are rounded, and tested in whole numbers: the sum is that of a plan, and no plan
-has less.
-
-The status is 1 where two results differ in any line but those of flows, or flows are none of the month's plans, or
-glpsol is not there.
-
-    ./basin bench-canals --basins 0 .built/program
-"""
+"""How much water canals carry for nothing. Its help is docs/help/bench-canals.txt."""
 import os
 import re
 import subprocess

@@ -126,10 +126,6 @@ def aligned(rows: Iterable[Iterable[Any]]) -> Iterator[str]:
             row[at] = str(row[at]).rjust(width) if is_right else str(row[at]).ljust(width)
     yield from ("  ".join(row).rstrip() for row in listed)
 
-STATUSES = """Tested, and not proved. Where nothing else is said, status 2 says that the words are wrong, a package is
-missing or something can't be written; 3 and 4 that the program refuses BASIN or SERIES; 5 that a file can't be read,
-and 8 that it is too long. A status of the program's is handed on."""
-
 # --- The command line -------------------------------------------------------------------------------------------------
 def options(words: Sequence[str], valued: Sequence[str] = (), flags: Sequence[str] = (),
             count: int | Sequence[int] | None = None) -> tuple[dict[str, list[str]], list[str]]:
@@ -159,16 +155,16 @@ def tell(lines: Iterable[object], name: str = "") -> None:
     for line in lines:
         print(name + "\n".join(map(shown, str(line).split("\n"))), file=sys.stderr)
 
-def run(main: Callable[[list[str]], int | None], usage: str | None, words: list[str]) -> int:
+def help_of(name: str) -> str:
+    """The help of a script, and behind it what all helps share."""
+    texts = (read_bytes(os.path.join(ROOT, "docs", "help", f"{it}.txt")) for it in (name, "statuses"))
+    return "\n".join(text.decode() for text in texts)
+
+def run(main: Callable[[list[str]], int | None], name: str, words: list[str]) -> int:
     """Does what the words of a command line ask a script for, and answers the status. What stops it is told in a line;
     what can't be written has status 2."""
-    text = (usage or "").strip()
-    name = re.split(r"[ :]", text)[0]
-    if "--help" in words or "-h" in words:
-        print(text, STATUSES, sep="\n\n")
-        return 0
     try:
-        status = main(words) or 0
+        status = (print(help_of(name), end="") if {"--help", "-h"} & set(words) else main(words)) or 0
         sys.stdout.flush()
         return status
     except WrongWords as stop:
@@ -189,5 +185,5 @@ def run(main: Callable[[list[str]], int | None], usage: str | None, words: list[
         tell(["a name of a file has no NUL"], f"{name}: ")
         return 2
 
-def start(main: Callable[[list[str]], int | None], usage: str | None) -> NoReturn:
-    sys.exit(run(main, usage, sys.argv[1:]))
+def start(main: Callable[[list[str]], int | None], name: str) -> NoReturn:
+    sys.exit(run(main, name, sys.argv[1:]))

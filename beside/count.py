@@ -1,12 +1,4 @@
-"""count FILE..: counts how often each yearly delivery came in the traces of an ensemble, as `basin ensemble` does.
-
-    for year in 0 1 2 3 4 5 6 7 8 9; do ./basin trace examples/valley.toml examples/valley.csv $year; done >all.sums
-    ./basin count all.sums
-
-Each FILE, or standard input for -, has what `./basin trace` wrote for one trace or for several. All traces of the
-ensemble have to be there, once each and whole. What is written is byte for byte what `basin ensemble` writes for the
-same basin and series. Status 1 says that they are not.
-"""
+"""How often each yearly delivery came in the traces of an ensemble. Its help is docs/help/count.txt."""
 import collections
 import itertools
 import sys

@@ -1,19 +1,4 @@
-"""draw: pictures of a result, as SVG, PNG or PDF by the ending of OUT.
-
-    draw right BASIN RESULT RIGHT OUT           what a right wanted and was delivered, month by month
-    draw reservoir BASIN RESULT NODE OUT        what a reservoir held at each month's end, by its zones
-    draw shortages BASIN RESULT OUT             how much of each right's want was lacking, and how full each zone was
-    draw network BASIN RESULT MONTH RIGHT OUT   the nodes and links in a month, and where one more unit of water would
-                                                help a right that is short (- for none)
-    draw yearly BASIN ENSEMBLE OUT              in how many of 100 years a right got at least how much
-
-BASIN, RESULT and ENSEMBLE are files. It needs Debian's packages python3-matplotlib and, for the network, graphviz. What
-a result says is not checked here. In a network the core of a short right is dark, where one more unit of water would
-help it; the rest of its reach, from which a way leads to it, is light; and all other nodes are white. More water at a
-light or a white node can't help it. Status 1 says that there is no such picture.
-
-    ./basin draw network examples/valley.toml examples/valley.result 1982-07 oldfields july.svg
-"""
+"""Pictures of a result. Its help is docs/help/draw.txt."""
 import subprocess
 from collections.abc import Callable
 

@@ -1,16 +1,4 @@
-"""least-cost [--doubling] BASIN SERIES RESULT: what weights deliver, beside what strict priority does.
-
-    ./basin least-cost examples/weights/starved.toml - examples/weights/starved.result
-
-Each month is solved again as a network of least cost: a unit that a right gets counts the weight of the right, and the
-sum is made as great as it can be. The weights are the customary ones, 50,000 less ten times the place in the order of
-dates, counted from 0; with --doubling they are ones that are strict whatever the network is. All else is that of the
-month in RESULT: what is stored, comes in and comes back, and what is wanted. SERIES may be - as for the program, and
-RESULT is checked on the way, as by `./basin check`. docs/WEIGHTS.md tells what this shows.
-
-It writes a line for each month and right that is delivered otherwise, and ends with status 1 if there is one, else 0.
-The solver is HiGHS, of Debian's python3-scipy, or else GLPK, of glpk-utils.
-"""
+"""What weights deliver, beside what strict priority does. Its help is docs/help/least-cost.txt."""
 from beside import common, files, glpk, result
 
 try:

@@ -1,18 +1,6 @@
-"""lint BASIN [SERIES]: all that is wrong with a basin file and its series, with line, entry, key, what was found and
-what to do.
+"""All that is wrong with a basin file and its series, with line, key, what was found and what to do.
 
-Each fault is one line:
-
-    basin.toml:83: diversion 5 (ditch): annual_volume is no key here; did you mean volume? (format 2)  [UnknownKey]
-
-The word in brackets is the program's for the fault: docs/FORMATS.md lists them. The first line is the fault that the
-program names when it refuses the files; the others follow by their lines. Where a basin file has no fault, what
-nobody is likely to mean is a `warning`, and what is only to be known a `note`. SERIES may be `-` or left out, and is
-then not looked at; a mistake that many records share is one line.
-
-    ./basin lint examples/valley.toml examples/valley.csv
-
-Status 3 says that BASIN has a fault, and 4 that only SERIES has one. Whether a file is taken is for the program to say.
+Its help is docs/help/lint.txt.
 """
 import collections
 import contextlib

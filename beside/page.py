@@ -1,18 +1,4 @@
-"""page BASIN SERIES RESULT OUT.html: one page on a result, to be shown at a hearing and printed.
-
-    ./basin run examples/valley.toml examples/valley.csv >valley.txt
-    ./basin page examples/valley.toml examples/valley.csv valley.txt valley.html
-
-The page is one file, which opens in any browser without a network. It has the map of the basin with the flows of a
-month, a row for each right with its shortages in all months, the account of the right and month that are chosen, where
-one more unit of water would have helped it, who is curtailed for it, and plots. Its address holds the choice, and it
-prints one page for it. SERIES is - where there is none.
-
-It says on top which files it shows, by their SHA-256 sums, and what `basin check` answered to them. Where the result is
-refuted the page says so, gives no reason for anything, and the status is 1. A text that isn't of the form of a result
-makes no page, status 1 too. It needs Debian's packages graphviz and libjs-dygraphs, the library that draws the plots
-and goes into the page.
-"""
+"""One page on a result, to be shown at a hearing and printed. Its help is docs/help/page.txt."""
 import base64
 import hashlib
 import html

@@ -129,8 +129,6 @@ def main(room, program, count="40", *names):
     tried("bad inputs are there for each script", {*CALLS} == {*harness.scripts()})
     for name in names or CALLS:
         importlib.import_module("beside." + name.replace("-", "_"))
-        text = called(name, "--help")[0]
-        tried(f"{name} has a help", text.startswith((f"{name} ", f"{name}:")), text[:60])
         less = {"shared": 40, "page": 4, "draw": 4, "sources": 2, "compared": 2, "trace": 2}.get(name, 1)
         told.append(try_bad(name, int(count) if int(count) >= 2000 else max(5, int(count) // less), room, chance))
     print("fuzz: statuses and how often: " + ", ".join(told))

@@ -87,7 +87,7 @@ def called(name: str, *words: str, text: str | None = None) -> Answer:
     """The same without a process of its own, and without the script's name before a line."""
     module, out, err = importlib.import_module("beside." + name.replace("-", "_")), io.StringIO(), io.StringIO()
     with contextlib.redirect_stdout(out), contextlib.redirect_stderr(err), standard_input(text):
-        status = common.run(module.main, module.__doc__, list(words))
+        status = common.run(module.main, name, list(words))
     return out.getvalue(), [line.removeprefix(f"{name}: ") for line in err.getvalue().splitlines()], status
 
 @contextlib.contextmanager

@@ -39,11 +39,12 @@ def try_page(place: Place, name: str, text: str) -> None:
         tried(f"{line} of {name}", is_right or is_bare, (status, written[-500:]))
 
 def main(room, program):
-    pages = [os.path.relpath(path, ROOT) for path in glob.glob(os.path.join(ROOT, "docs", "*.md"))]
-    texts = {name: read(name) for name in ["README.md", "docs/help.txt", *sorted(pages)]}
+    pages = [os.path.relpath(path, ROOT) for path in glob.glob(os.path.join(ROOT, "docs", "**", "*"), recursive=True)]
+    texts = {name: read(name) for name in ["README.md", *sorted(pages)] if name.endswith((".md", ".txt"))}
     for name in harness.scripts():
-        texts[f"{name} --help"] = called(name, "--help")[0]
-        has_own = any(line.startswith(f"./basin {name} ") for line, _ in commands(texts[f"{name} --help"]))
+        text = texts[f"docs/help/{name}.txt"]
+        tried(f"{name} has a help", text.startswith((f"{name} ", f"{name}:")) and called(name, "-h")[0].startswith(text))
+        has_own = any(line.startswith(f"./basin {name} ") for line, _ in commands(text))
         tried(f"the help of {name} has an example", has_own)
     for at, (name, text) in enumerate(texts.items()):
         place = Place(program, os.path.join(room, str(at)))
