@@ -121,46 +121,37 @@ class Bench:
                 self.faults.append(f"{title} FAILED: {command} differs from {first} in more than flows")
         return results
 
-    def measure(self, title, names, sums):
-        """Measures a basin, and adds it to some rows."""
-        b = files.read_basin(names[0])
-        results = self.results(title, names, b)
+    def measure(self, title, stem, *rows):
+        """Measures the basin whose files begin so, and adds it to some rows. One that sums others stays behind them."""
+        b, series = files.read_basin(stem + ".toml"), stem + ".csv" if os.path.exists(stem + ".csv") else "-"
+        results = self.results(title, (stem + ".toml", series), b)
         least = least_of(b, results[0])
-        for row in sums:
-            self.rows.setdefault(row, Row(len(self.commands))).add(b, results, least)
+        for row in rows:
+            of = self.rows.get(row, Row(len(self.commands)))
+            of.add(b, results, least)
+            if row.startswith("all "):
+                self.rows.pop(row, None)
+            self.rows[row] = of
 
     def examples(self):
         for name in sorted(name[:-5] for name in os.listdir(EXAMPLES) if name.endswith(".toml")):
-            path = os.path.join(EXAMPLES, name)
-            series = path + ".csv" if os.path.exists(path + ".csv") else "-"
-            self.measure(name, (path + ".toml", series), (name, "all examples"))
-        self.put_last("all examples")
+            self.measure(name, os.path.join(EXAMPLES, name), name, "all examples")
 
     def made_up(self, count, months):
         """Made-up basins, with as many months as are asked for in place of 60."""
         for number in range(1, count + 1):
             size, stem = SIZES[(number - 1) % len(SIZES)], os.path.join(self.room, "basin")
             subprocess.run([programs.built("basins"), "trial", str(number), str(size), stem], check=True)
-            with open(stem + ".toml", encoding="ascii") as file:
-                text = re.sub("^months = .*$", f"months = {months}", file.read(), count=1, flags=re.M)
-            with open(stem + ".toml", "w", encoding="ascii") as file:
-                file.write(text)
-            rows = f"made-up, {size} nodes", "all made-up"
-            self.measure(f"trial {number} {size}", (stem + ".toml", "-"), rows)
-        self.put_last("all made-up")
+            text = common.read_bytes(stem + ".toml")
+            common.write_text(stem + ".toml", re.sub(b"(?m)^months = .*$", b"months = %d" % months, text, count=1))
+            self.measure(f"trial {number} {size}", stem, f"made-up, {size} nodes", "all made-up")
 
     def shaped(self, months):
         """A basin of each shape."""
         for shape in programs.SHAPES:
             stem = os.path.join(self.room, shape)
             subprocess.run([programs.built("basins"), shape, *SHAPED, str(months), stem], check=True)
-            series = stem + ".csv" if os.path.exists(stem + ".csv") else "-"
-            self.measure(shape, (stem + ".toml", series), (shape,))
-
-    def put_last(self, title):
-        """Puts a row that sums others behind them."""
-        if title in self.rows:
-            self.rows[title] = self.rows.pop(title)
+            self.measure(shape, stem, shape)
 
     def tables(self):
         """Both tables, each with its title, the heads of its columns and its rows."""
