@@ -223,13 +223,12 @@ class Reader:
 def toml(tree, rows):
     """The text of a basin file. Before each entry stands the row of which it is."""
     lines = ["# Made by ./basin from-tables. What is changed here is not changed in the tables."]
-    lines += [f"{key} = {overlay.spelled(value)}" for key, value in tree.items() if key not in rows]
+    lines += overlay.lines_of({key: value for key, value in tree.items() if key not in rows})
     lines += ["node = []"] if not rows["node"] else []
     for entry, numbers in rows.items():
         for number, values in zip(numbers, tree[entry]):
-            lines += ["", f"# {FILES[entry]}, row {number}", f"[[{entry}]]"]
-            lines += [f"{key} = {overlay.spelled(value)}" for key, value in values.items()]
-    return "\n".join(lines) + "\n"
+            lines += ["", f"# {FILES[entry]}, row {number}", f"[[{entry}]]", *overlay.lines_of(values)]
+    return "\n".join([*lines, ""])
 
 def refusal(text, rows):
     """What the program refuses in a basin file, with the row that it means; or None."""
