@@ -64,8 +64,8 @@ def main(room, program):
     make_files(room)
     words = ["-O1", "-shared", "-fPIC", "-o", "refuse.so", os.path.join(ROOT, "checks", "refuse.c")]
     tried("the library is compiled", ran(compiler, *words, cwd=room)[2] == 0)
-    for words in COMMANDS:
-        sweep(room, program, words.split())
+    for line in COMMANDS:
+        sweep(room, program, line.split())
     for command, few, many in COUNTED:
         one, other = (allocations(room, program, command, months) for months in (few, many))
         tried(f"{command}: {one} allocations with {few} months, {other} with {many}", one is not None and one == other)
