@@ -132,10 +132,6 @@ def drawn(text):
     svg = re.sub(r"<title>.*?</title>\n?|<!--.*?-->\n?", "", svg[svg.index("<svg"):], flags=re.DOTALL)
     return re.sub(r'<svg width="\d+pt" height="\d+pt"', '<svg id="map"', svg, count=1)
 
-def sum_of(name):
-    with open(name, "rb") as file:
-        return hashlib.file_digest(file, "sha256").hexdigest()
-
 def checked(names):
     """What `check` answers, whether it is a yes, and what the program says of itself."""
     try:
@@ -156,7 +152,10 @@ def is_formed(names):
 def head_rows(names, copies):
     """The rows that say which files are shown."""
     for what, name, copy in zip(KINDS, names, copies):
-        where = "none" if copy == "-" else f"{html.escape(name)}</td><td><code>{sum_of(copy)}</code>"
+        where = "none"
+        if copy != "-":
+            digest = hashlib.sha256(common.read_bytes(copy, None)).hexdigest()
+            where = f"{html.escape(name)}</td><td><code>{digest}</code>"
         yield f"<tr><th>{what}</th><td>{where}</td></tr>"
 
 def data_text(data):
