@@ -58,11 +58,13 @@ class Document:
         self.tree = places.Reader(text).document()
         self.is_second = model.is_whole(self.tree.get("format")) and self.tree["format"] == 2
         self.keys = model.KEYS_BOTH if self.is_second else model.KEYS
-        self.entries = list(model.entries(self.tree))
-        self.entry_at = {(table, number): entry for table, number, entry in self.entries}
+        self.entries = []
+        for table, number, entry in model.entries(self.tree):
+            entry.table, entry.number = table, number
+            self.entries.append(entry)
         self.renamed = {}                           # (entry, the key that is meant): the key that is there
 
-    def tell(self, kind, table, number, entry, key, text, item=None):
+    def tell(self, kind, entry, key, text, item=None):
         """Keeps a fault of an entry, at one of its keys if that is there."""
         at = entry.at
         if key in entry:
@@ -70,7 +72,7 @@ class Document:
             if item is not None and isinstance(entry[key], places.Listed):
                 at = entry[key].item_at[item]
             self.spoiled.add((id(entry), key))
-        self.found.append(Finding(kind, table, number, at, text))
+        self.found.append(Finding(kind, entry.table, entry.number, at, self.words(entry) + text))
         if self.is_first:
             raise Enough
 
@@ -82,27 +84,31 @@ class Document:
         return None if (id(entry), key) in self.spoiled else entry[key]
 
     def rows(self, *tables):
-        return [row for row in self.entries if row[0] in tables]
+        return [entry for entry in self.entries if entry.table in tables]
 
-    def own_name(self, table, entry):
+    def own_name(self, entry):
         """The text that names an entry, even if it is at fault, or None."""
-        key = "node" if table == "reservoir" else "name"
+        key = "node" if entry.table == "reservoir" else "name"
         name = entry.get(key, entry.get(self.renamed.get((id(entry), key))))
         return name if isinstance(name, str) else None
 
-    def whose(self, table, number):
-        """The entry of a table, and the line of another, as `node 3 (weir, line 14)`."""
-        entry = self.entry_at[table, number]
-        name = self.own_name(table, entry)
-        return f"{table} {number} ({f'{name}, ' if name else ''}line {places.line_of(self.text, entry.at)})"
+    def words(self, entry):
+        """The words before what is said of an entry, as `node 3 (weir): `; none of the top."""
+        name = self.own_name(entry)
+        return "" if entry.table == "top" else f"{entry.table} {entry.number}{f' ({name[:60]})' if name else ''}: "
+
+    def whose(self, entry):
+        """Another entry, with its line, as `node 3 (weir, line 14)`."""
+        name = self.own_name(entry)
+        return f"{entry.table} {entry.number} ({f'{name}, ' if name else ''}line {self.line(entry)})"
 
     def line(self, entry):
         return places.line_of(self.text, entry.at)
 
 def unknown_keys(d):
     meant_by = {}                                   # of a table and an odd key the key that is meant, or None
-    for table, number, entry in d.entries:
-        odd = [key for key in entry if key not in d.keys[table]]
+    for entry in d.entries:
+        table, odd = entry.table, [key for key in entry if key not in d.keys[entry.table]]
         # (first all keys of an entry, of which one may be its name)
         for key in odd:
             if (table, key) not in meant_by:
@@ -111,7 +117,7 @@ def unknown_keys(d):
             if known and known not in entry:
                 d.renamed[id(entry), known] = key
         for key in odd:
-            d.tell("UnknownKey", table, number, entry, key, why_unknown(d, table, key, meant_by[table, key]))
+            d.tell("UnknownKey", entry, key, why_unknown(d, table, key, meant_by[table, key]))
 
 def key_meant(table, key):
     """The key that is meant by one that the table hasn't, or None."""
@@ -134,9 +140,9 @@ def why_unknown(d, table, key, known):
 def each_entry(kind, look):
     """A pass over all entries: of each fault in one `look` gives the key, what is said, and the item that shows it."""
     def faults(d):
-        for table, number, entry in d.entries:
-            for key, text, *item in look(d, table, entry):
-                d.tell(kind, table, number, entry, key, text, *item)
+        for entry in d.entries:
+            for key, text, *item in look(d, entry.table, entry):
+                d.tell(kind, entry, key, text, *item)
     return faults
 
 def missing_keys(d, table, entry):
@@ -256,46 +262,42 @@ def bad_names(d, table, entry):
         yield "name", f'the name "{name[:60]}" {why}'
 
 def too_many(d):
-    counts = collections.Counter()
-    for table, number, entry in d.entries:
-        if table == "reservoir":
+    counts, most_of = collections.Counter(), {"node": 2000, "link": 4000, "right": 2000, "return row": 8}
+    for entry in d.entries:
+        if entry.table == "reservoir":
             area = entry.get("area")
             if isinstance(area, list) and len(area) > 64:
-                d.tell("TooMany", table, number, entry, "area", f"area has {len(area)} points: it may have 64", 64)
-            continue
-        diversion = entry.get("diversion") if table == "return" else None
-        diversion = diversion if isinstance(diversion, str) else id(entry)
-        what, most = {"node": ("node", 2000), "link": ("link", 4000), "return": (("return", diversion), 8)}.get(table,
-            ("right", 2000))
-        counts[what] += table != "top"
-        if counts[what] == most + 1:
-            of = f" of {diversion}" if table == "return" else ""
-            d.tell("TooMany", table, number, entry, None,
-                f"there are more than {most:,} {what if isinstance(what, str) else 'return row'}s{of}: this is the "
-                f"{place_word(most + 1)}")
+                d.tell("TooMany", entry, "area", f"area has {len(area)} points: it may have 64", 64)
+        elif entry.table != "top":
+            what = {"node": "node", "link": "link", "return": "return row"}.get(entry.table, "right")
+            diversion = entry.get("diversion") if what == "return row" else ""
+            of = diversion if isinstance(diversion, str) else id(entry)
+            counts[what, of] += 1
+            if counts[what, of] == most_of[what] + 1:
+                most, of = most_of[what], f" of {of}" if of else ""
+                d.tell("TooMany", entry, None,
+                       f"there are more than {most:,} {what}s{of}: this is the {place_word(most + 1)}")
 
 def same_names(d):
     first = {}
-    for table, number, entry in d.rows(*NAMED):
-        key = "node" if table == "reservoir" else "name"
+    for entry in d.rows(*NAMED):
+        key, space = model.IDENTITY[entry.table][0], "right" if entry.table in RIGHTS else entry.table
         name = entry.get(key)
-        space = "right" if table in RIGHTS else table
-        if isinstance(name, str) and first.setdefault((space, name), (table, number)) != (table, number):
-            other = d.whose(*first[space, name])
-            d.tell("SameName", table, number, entry, key, f"a second reservoir at {name}: {other} stands there already"
-                if table == "reservoir"
-                   else f"the name {name} is that of {other} too: rename one of the two")
+        if isinstance(name, str) and first.setdefault((space, name), entry) is not entry:
+            other = d.whose(first[space, name])
+            d.tell("SameName", entry, key, f"a second reservoir at {name}: {other} stands there already"
+                   if key == "node" else f"the name {name} is that of {other} too: rename one of the two")
 
 def names_of(d, table):
     """The names of a table's entries, and whether all of them are known."""
-    listed, names = d.tree.get(table, []), [d.own_name(table, entry) for _, _, entry in d.rows(table)]
+    listed, names = d.tree.get(table, []), list(map(d.own_name, d.rows(table)))
     is_whole = isinstance(listed, list) and len(names) == len(listed) and (id(d.tree), table) not in d.renamed
     return set(names) - {None}, is_whole and None not in names
 
 def no_such_names(d):
     spaces, advices = {table: names_of(d, table) for table in NAMED}, {}
-    for table, number, entry in d.rows(*model.REFERS):
-        for key, space in model.REFERS[table].items():
+    for entry in d.rows(*model.REFERS):
+        for key, space in model.REFERS[entry.table].items():
             name, (names, is_whole) = entry.get(key), spaces[space]
             if not isinstance(name, str) or name in names:
                 continue
@@ -304,7 +306,7 @@ def no_such_names(d):
             advice = advices[space, name]
             # (where some name isn't known, this may be the one)
             if is_whole or "did you mean" in advice:
-                d.tell("NoSuchName", table, number, entry, key, f'{key}: no {space} is named "{name[:60]}"{advice}')
+                d.tell("NoSuchName", entry, key, f'{key}: no {space} is named "{name[:60]}"{advice}')
 
 def name_advice(space, name, spaces):
     """What is meant by a name of nothing."""
@@ -318,12 +320,12 @@ def name_advice(space, name, spaces):
     return f": {name} is the name of {'an instream right' if others[0] == 'instream' else 'a ' + others[0]}"
 
 def outlet_reservoirs(d):
-    outlets = {entry.get("name") for _, _, entry in d.rows("node") if entry.get("outlet") is True
-        and isinstance(entry.get("name"), str)}
-    for table, number, entry in d.rows("reservoir"):
+    names = [entry.get("name") for entry in d.rows("node") if entry.get("outlet") is True]
+    outlets = {name for name in names if isinstance(name, str)}
+    for entry in d.rows("reservoir"):
         if isinstance(entry.get("node"), str) and entry["node"] in outlets:
-            d.tell("OutletReservoir", table, number, entry, "node",
-                   f"the reservoir stands at the outlet {entry['node']}: let a river lead from the lake to an outlet")
+            d.tell("OutletReservoir", entry, "node", f"the reservoir stands at the outlet {entry['node']}: let a river "
+                                                     "lead from the lake to an outlet")
 
 PASSES = (unknown_keys, each_entry("MissingKey", missing_keys), each_entry("WrongKind", wrong_kinds),
           each_entry("OutOfRange", out_of_range), each_entry("BadName", bad_names), too_many, same_names, no_such_names,

@@ -7,7 +7,7 @@ from beside import model
 from beside.common import counted, month_text
 from beside.hints import listed_months
 
-Doubt = collections.namedtuple("Doubt", "word table number entry key text")
+Doubt = collections.namedtuple("Doubt", "word entry key text")
 ANY = float("inf")
 
 class Valley:
@@ -16,7 +16,7 @@ class Valley:
 
     def __init__(self, d, basin):
         self.d, self.b, self.found = d, basin, []
-        self.entry = {(table, number): entry for table, number, entry in d.entries}
+        self.entry = {(entry.table, entry.number): entry for entry in d.entries}
         months = range(basin.first, basin.first + min(basin.months, 48))
         self.months = sorted({month % 12 + 1 for month in months})
         # the longest of each calendar month: a February of 29 days, if the run has one
@@ -41,7 +41,7 @@ class Valley:
         return most
 
     def warn(self, table, number, key, text, word="warning"):
-        self.found.append(Doubt(word, table, number, self.entry[table, number], key, text))
+        self.found.append(Doubt(word, self.entry[table, number], key, text))
 
 def small_wants(v, right, warn):
     """A right that wants nothing, or more than its canals can bring."""
@@ -148,11 +148,11 @@ def returns(v):
 def names(v):
     for tables in (("node",), ("link",), model.RIGHTS):
         seen = {}
-        for table, number, entry in v.d.rows(*tables):
-            other = seen.setdefault(entry["name"].lower(), (table, number, entry["name"]))
-            if other[2] != entry["name"]:
-                v.warn(table, number, "name",
-                    f"the name {entry['name']} is that of {v.d.whose(*other[:2])} but for letter case")
+        for entry in v.d.rows(*tables):
+            other = seen.setdefault(entry["name"].lower(), entry)
+            if other["name"] != entry["name"]:
+                v.warn(entry.table, entry.number, "name",
+                       f"the name {entry['name']} is that of {v.d.whose(other)} but for letter case")
 
 def doubts(d, basin):
     """All warnings, and after them all notes, each in the order of the file."""

@@ -23,9 +23,6 @@ def no_text(data):
             b"\xfe\xff") else "a letter here is not in UTF-8: save the file"
         return (before.count(b"\n") + 1, error.start - before.rfind(b"\n")), what + " as UTF-8"
 
-def entry_words(table, number, name):
-    return "" if table == "top" else f"{table} {number}{f' ({name[:60]})' if name else ''}: "
-
 def basin_faults_of(path, data, is_first=False):
     """The document, if the bytes are one, and its faults, or the first alone."""
     odd = no_text(data)
@@ -40,14 +37,12 @@ def basin_faults_of(path, data, is_first=False):
     with contextlib.suppress(basin_faults.Enough):
         for look in PASSES:
             look(d)
-    return d, [Said(f"basin: {it.kind} {it.table} {it.number}", path, (places.line_of(text, it.at),),
-                    entry_words(it.table, it.number, d.own_name(it.table, d.entry_at[it.table, it.number])) + it.text)
-                    for it in d.found]
+    return d, [Said(f"basin: {it.kind} {it.table} {it.number}", path, (places.line_of(text, it.at),), it.text)
+               for it in d.found]
 
 def doubts_of(path, d, data):
     return [Said(None, path, (places.line_of(d.text, doubt.entry.key_at.get(doubt.key, doubt.entry.at)),),
-                 f"{doubt.word}: "
-                 f"{entry_words(doubt.table, doubt.number, d.own_name(doubt.table, doubt.entry))}{doubt.text}")
+                 f"{doubt.word}: {d.words(doubt.entry)}{doubt.text}")
             for doubt in doubts.doubts(d, model.Basin(d.tree))]
 
 def said_of(basin, series):

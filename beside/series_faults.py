@@ -33,7 +33,7 @@ class Due:
         self.names, self.are_all_known = {}, {}
         for kind, word, tables in (("inflow", "gauged", ("node",)), ("want", "series", model.RIGHTS)):
             rows = d.rows(*tables) if d else []
-            listed = [(d.own_name(table, entry), entry.get(kind) == word) for table, _, entry in rows]
+            listed = [(d.own_name(entry), entry.get(kind) == word) for entry in rows]
             self.names[kind] = {name: is_due for name, is_due in listed if name}
             self.are_all_known[kind] = d is not None and all(name for name, _ in listed)
 
