@@ -30,8 +30,8 @@ NAME = re.compile(r"[A-Za-z_][\w'-]*(::\w+)*")
 COMMAND = re.compile(r"\./basin|rt|\.ci/run|checks/run|(?:docs|edits|examples|second-check)/[a-z_/-]+(?:\.py)?")
 SUFFIXES = ("", ".antt", ".md")
 # Files that a command makes.
-MADE = {"rights.csv", "reservoirs.csv", "links.csv", "outlets.csv", ".built/program", ".built/stamp", "crates/basin/out",
-    "crates/*/out"}
+MADE = {"rights.csv", "reservoirs.csv", "links.csv", "outlets.csv", ".built/program", ".built/stamp",
+        "crates/basin/out", "crates/*/out"}
 # Words of users' files and of the shell.
 OTHERS = {"Union", "Ice", "Eqp", "year_nm", "month_nm", "Oct-01", "4/1/1912", "examples/vally.toml", "BASIN_PROGRAM"}
 IN_LOGIC = re.compile(r"^\s*(?:(?:abbrev|unfoldable|pub|mutual|data|record|module)\s+)*([\w'-]+)\s+[:({]", re.M)

@@ -1,5 +1,5 @@
-"""pages PROGRAM: types each command anew that README.md, the pages of docs, the screen of help and the help of each script
-show, page by page in a copy of what a clone has.
+"""pages PROGRAM: types each command anew that README.md, the pages of docs, the screen of help and the help of each
+script show, page by page in a copy of what a clone has.
 
 Typed are the lines of blocks that begin with `./basin`, or with `$` before it, and what stands in back-ticks, if files
 of examples/ are in it; none in which a word in capitals stands for something. Each has to end with status 0 or 1,
@@ -43,7 +43,8 @@ def main(room, program):
     texts = {name: read(name) for name in ["README.md", *sorted(pages)] if name.endswith((".md", ".txt"))}
     for name in harness.scripts():
         text = texts[f"docs/help/{name}.txt"]
-        tried(f"{name} has a help", text.startswith((f"{name} ", f"{name}:")) and called(name, "-h")[0].startswith(text))
+        is_own = text.startswith((f"{name} ", f"{name}:"))
+        tried(f"{name} has a help", is_own and called(name, "-h")[0].startswith(text))
         has_own = any(line.startswith(f"./basin {name} ") for line, _ in commands(text))
         tried(f"the help of {name} has an example", has_own)
     for at, (name, text) in enumerate(texts.items()):

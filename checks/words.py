@@ -4,7 +4,7 @@ A table there has a row for each word: the word as a line has it, its rule, its 
 of a table names, in back-ticks, the outputs and the lists of kinds that its rows are of. Words and kinds are collected
 from the sources:
 
-    Words: the strings of `codes "..."` that the definition of an output's text reaches, as checks/words.toml names it. Of a
+    Words: the strings of `codes "..."` that the definition of an output's text reaches, as words.toml names it. Of a
         function with an equation for each kind of line, those of the kinds that the text has. The contract of
         basin_main has to reach these definitions, each command has to have one, and the words have to be those that the
         code writes: the strings that a line or a sink is given in crates/*/src, and those of names.
@@ -285,7 +285,8 @@ def main(room):
     texts = set().union(*outputs.values())
     defined = {word for text in texts for word in re.split(r"[\s:]+", text) if is_word(word)}
     for word in sorted({*code, *defined}):
-        tried(f"`{word}` stands in a definition of a text, and in code that writes it", word in code and word in defined)
+        is_both = word in code and word in defined
+        tried(f"`{word}` stands in a definition of a text, and in code that writes it", is_both, code.get(word))
     words_seen, kinds_seen = {output: set() for output in outputs}, {name: set() for name in lists}
     for number, heading, cells in rows():
         if not tried(f"{PAGE}:{number}: the row has four cells", len(cells) == 4 and all(cells)):

@@ -239,7 +239,8 @@ def try_examples(comparison, all_files):
     for name, files in all_files.items():
         comparison.compare(files, name)
     for name in ("weir", "orders"):
-        comparison.compare([*small.files_of(name)[:2], os.path.join(small.EXAMPLES, name + "-forged.txt")], name + "-forged")
+        forged = os.path.join(small.EXAMPLES, name + "-forged.txt")
+        comparison.compare([*small.files_of(name)[:2], forged], name + "-forged")
     short_ones = {name: files for name, files in all_files.items() if os.path.getsize(files[2]) < 20_000}
     for number in range(BLIND):
         name = chance.choice(list(all_files if number % 20 == 0 else short_ones))
