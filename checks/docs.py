@@ -1,5 +1,4 @@
-#!/usr/bin/env python3
-"""try: looks up what README.md and docs/*.md name, and says what isn't there.
+"""docs: looks up what README.md and the pages of docs name, and says what isn't there.
 
 It takes each name in back-ticks that looks like one of these, and each command in a block of code:
 
@@ -15,34 +14,31 @@ It takes each name in back-ticks that looks like one of these, and each command 
 and each link to a file or heading, and in crates/tests_cases/args each file of cases. A word in capitals stands for
 any name. Other words in back-ticks, as the names of examples, are not looked up.
 """
+import collections
 import functools
 import glob
 import os
 import re
 import shutil
 import subprocess
-import sys
 
-os.chdir(os.path.join(os.path.dirname(os.path.abspath(__file__)), ".."))
-PAGES = ["README.md", *sorted(glob.glob("docs/*.md"))]
+from beside.common import ROOT
+from checks.harness import not_tried, read, tried
+
 FILE = re.compile(r"[\w.*/-]+/[\w.*/-]*|[\w-]+\.(antt|rt|toml|csv|txt|json|result|md)")
 NAME = re.compile(r"[A-Za-z_][\w'-]*(::\w+)*")
 COMMAND = re.compile(r"\./basin|rt|\.ci/run|checks/run|(?:docs|edits|examples|second-check)/[a-z_/-]+(?:\.py)?")
 SUFFIXES = ("", ".antt", ".md")
 # Files that a command makes.
-MADE = {"rights.csv", "reservoirs.csv", "links.csv", "outlets.csv", ".built/program", ".built/stamp", "crates/basin/out",
-    "crates/*/out"}
+MADE = {"rights.csv", "reservoirs.csv", "links.csv", "outlets.csv", ".built/program", ".built/stamp",
+        "crates/basin/out", "crates/*/out"}
 # Words of users' files and of the shell.
 OTHERS = {"Union", "Ice", "Eqp", "year_nm", "month_nm", "Oct-01", "4/1/1912", "examples/vally.toml", "BASIN_PROGRAM"}
 IN_LOGIC = re.compile(r"^\s*(?:(?:abbrev|unfoldable|pub|mutual|data|record|module)\s+)*([\w'-]+)\s+[:({]", re.M)
 IN_CODE = re.compile(r"\b(?:fn|struct|enum|trait|type|const|static|mod|ensures|requires|invariant)\s+(\w+)"
                      r"|^\s+(?:pub\s+)?(\w+)\s*[:,({=]", re.M)
 IMPORTED = re.compile(r"^\s*(?:pub )?use (.*?)(?:;|$)", re.M | re.S)
-wrong, looked_up = [], {"names": 0, "files": 0, "commands": 0, "links": 0, "quotes": 0}
-
-def read(path):
-    with open(path, encoding="utf-8") as file:
-        return file.read()
+looked_up = collections.Counter()
 
 @functools.cache
 def sources(crate):
@@ -90,9 +86,9 @@ def exists(path):
 def words_of(command):
     """The words that may stand behind a command, or None where it can't be asked."""
     if command == "./basin":
-        return set(re.findall(r"\./basin ([\w-]+)", read("basin"))) | {"keep"}
+        return set(re.findall(r"\./basin ([\w-]+)", read("docs/help.txt"))) | {"keep", "sums"}
     if command == "checks/run":
-        return set(re.findall(r"[a-z-]+", "".join(re.findall(r"(?m)^#   of .*: (.*)$", read("checks/run")))))
+        return set(re.findall(r"[a-z-]+", " ".join(re.findall(r"(?m)^#   of .*: (.*)$", read("checks/run")))))
     if command == "rt" and shutil.which("rt"):
         said = subprocess.run(["rt", "help"], capture_output=True, text=True)
         return set(re.findall(r"\brt ([a-z-]+)", said.stdout + said.stderr))
@@ -160,7 +156,7 @@ def try_text(page, text):
     plain = re.sub(r"^```.*?^```$", lambda match: "\n" * match[0].count("\n"), text, flags=re.M | re.S)
 
     def tell(at, what):
-        wrong.append(f"{page}:{plain.count(chr(10), 0, at) + 1}: {what}")
+        tried(f"{page}:{plain.count(chr(10), 0, at) + 1}: {what}", False)
     for match in re.finditer(r"`([^`]+)`", plain):
         what = fault(" ".join(match[1].split()))
         if what:
@@ -188,8 +184,8 @@ def try_quotes(page, text):
     for match in re.finditer(r"^```antt\n(.*?)^```$", text, re.M | re.S):
         words = " ".join(match[1].split())
         looked_up["quotes"] += 1
-        if not any(words in " ".join(read(path).split()) for path in sources("*") if path.endswith(".antt")):
-            wrong.append(f"{page}:{text.count(chr(10), 0, match.start()) + 1}: no definition has these words")
+        is_there = any(words in " ".join(read(path).split()) for path in sources("*") if path.endswith(".antt"))
+        tried(f"{page}:{text.count(chr(10), 0, match.start()) + 1}: a definition has these words", is_there)
 
 def try_links(page, text):
     for match in re.finditer(r"\]\(([^)\s]+)\)", text):
@@ -200,20 +196,19 @@ def try_links(page, text):
         path = os.path.normpath(os.path.join(os.path.dirname(page), path)) if path else page
         titles = re.findall(r"^#+ (.*)$", read(path), re.M) if os.path.exists(path) and heading else []
         slugs = [re.sub(r"[^\w -]", "", title.lower()).replace(" ", "-") for title in titles]
-        if not os.path.exists(path) or (heading and heading not in slugs):
-            wrong.append(f"{page}:{text.count(chr(10), 0, match.start()) + 1}: the link to {match[1]} leads nowhere")
+        is_there = os.path.exists(path) and (not heading or heading in slugs)
+        tried(f"{page}:{text.count(chr(10), 0, match.start()) + 1}: the link to {match[1]} leads somewhere", is_there)
 
 def try_cases():
     """A file of cases that `args` doesn't name isn't read."""
     named = read("crates/tests_cases/args").split()
     for name in sorted(os.listdir("crates/tests_cases/data")):
-        looked_up["files"] += 1
-        if name not in named:
-            wrong.append(f"crates/tests_cases/args: data/{name} isn't there")
+        tried(f"crates/tests_cases/args: data/{name} is there", name in named)
 
-def main():
+def main(room):
+    os.chdir(ROOT)
     try_cases()
-    for page in PAGES:
+    for page in ["README.md", *sorted(glob.glob("docs/*.md")), *sorted(glob.glob("docs/**/*.txt", recursive=True))]:
         text = read(page)
         try_text(page, text)
         try_links(page, text)
@@ -221,17 +216,9 @@ def main():
         for block, number in blocks(text):
             for at, line in enumerate(block.split("\n")):
                 commands = [part.strip() for part in re.split(r"\|| \$ ", re.sub("[>#].*", "", line)) if part.strip()]
-                for what in (command_fault(command) for command in commands if COMMAND.fullmatch(command.split()[0])):
-                    if what:
-                        wrong.append(f"{page}:{number + at}: `{what}` isn't there")
-    for line in wrong:
-        print("docs:", line)
+                for command in (command for command in commands if COMMAND.fullmatch(command.split()[0])):
+                    what = command_fault(command)
+                    tried(f"{page}:{number + at}: `{what or command}` is there", what is None)
     if words_of("rt") is None:
-        print("docs: not tried: the words behind rt, which isn't installed")
-    counts = ", ".join(f"{count} {what}" for what, count in looked_up.items())
-    print(f"docs: {counts} looked up, {len(wrong)} not there")
-    sys.exit(wrong != [])
-
-if sys.argv[1:]:
-    sys.exit(__doc__)
-main()
+        not_tried("the words behind rt", "rt")
+    print("docs: " + ", ".join(f"{count} {what}" for what, count in looked_up.items()) + " looked up")

@@ -1,11 +1,10 @@
-#!/usr/bin/env python3
-"""try_words: looks up each word that the program writes, and each kind of refusal, in docs/DEFINITIONS.md.
+"""words: looks up each word that the program writes, and each kind of refusal, in docs/DEFINITIONS.md.
 
 A table there has a row for each word: the word as a line has it, its rule, its definition and its contract. The heading
 of a table names, in back-ticks, the outputs and the lists of kinds that its rows are of. Words and kinds are collected
 from the sources:
 
-    Words: the strings of `codes "..."` that the definition of an output's text reaches, as OUTPUTS names it. Of a
+    Words: the strings of `codes "..."` that the definition of an output's text reaches, as words.toml names it. Of a
         function with an equation for each kind of line, those of the kinds that the text has. The contract of
         basin_main has to reach these definitions, each command has to have one, and the words have to be those that the
         code writes: the strings that a line or a sink is given in crates/*/src, and those of names.
@@ -25,26 +24,13 @@ import functools
 import glob
 import os
 import re
-import sys
 
-os.chdir(os.path.join(os.path.dirname(os.path.abspath(__file__)), ".."))
+from beside.common import ROOT
+from checks import harness
+from checks.harness import read, tried
+
 PAGE = "docs/DEFINITIONS.md"
-# The definition of each output's text. `met` is written in place of an account, and the last line of `edit` alone.
-OUTPUTS = {
-    "run": ["result_lines/specs/Text.text_bytes"],
-    "report": ["reports/specs/Reports.report_text"],
-    "trial": ["reports/specs/Reports.trial_text"],
-    "why": ["cut_book/specs/Book.book_bytes", "basin_cli/specs/Explained.met_line"],
-    "where": ["call_list/specs/Helping.helping_bytes", "basin_cli/specs/Explained.met_line"],
-    "calls": ["call_list/specs/Whole.list_bytes"],
-    "compare": ["injury/specs/Injuries.comparison_text"],
-    "ensemble": ["index_seq/specs/Text.ensemble_text"],
-    "edit": ["edit_session/specs/Shown.months_bytes", "edit_session/specs/Shown.done_bytes"],
-    "check": ["basin_cli/specs/Answer.answered"],
-    "audit": ["basin_cli/specs/Answer.answered"],
-    "upgrade": ["basin_file/specs/Upgraded.basin_table"],
-    "standard error": ["basin_cli/specs/Ending.line_of"],
-}
+OUTPUTS, = harness.table("words", "OUTPUTS")
 # What the clauses `writes` and `ends` of the program's contract say: these definitions have to reach all of the above.
 HEADLINE = [("crates/basin_cli/specs/Outcome.antt", name) for name in ("row", "Ends")]
 COMMANDS = "crates/basin_cli/src/command.rt"
@@ -63,13 +49,6 @@ CLAUSE = re.compile(r"\bensures (\w*) ?\{(.*?)(?=^ *(?:ensures|requires)\b|\Z)",
 TOKEN = re.compile(r"[A-Za-z_][\w'-]*(?:\.[A-Za-z_][\w'-]*)?")
 CONTRACT = re.compile(r"`(\w+(?:::\w+)+)`(?: clauses? ((?:`\w+`(?:, )?)+))?,? proof ((?:auto|`[\w/]+`)(?:, `[\w/]+`)*)")
 GROUP = re.compile(r"((?:`[\w.'-]+`(?:, )?)+) \(`([\w/]+)`\)")
-wrong = []
-
-@functools.cache
-def read(path):
-    with open(path, encoding="utf-8") as file:
-        return file.read()
-
 def no_comments(text):
     return re.sub(r"(?m)(--|//).*$", "", text)
 
@@ -151,8 +130,7 @@ def words_of(output, of_headline):
     for root in OUTPUTS[output]:
         file, _, name = root.partition(".")
         roots.append((f"crates/{file}.antt", name))
-        if roots[-1] not in of_headline:
-            wrong.append(f"docs/try_words: the contract of basin_main doesn't reach `{name}` of {file}")
+        tried(f"the contract of basin_main reaches `{name}` of {file}", roots[-1] in of_headline)
     _, named, _ = reached(roots, {})
     sides, _, _ = reached(roots, named)
     return {phrase(text) for side in sides for text in re.findall(r'codes "([^"]*)"', side) if is_word(phrase(text))}
@@ -296,24 +274,22 @@ def definition_faults(cell):
         if name not in known or (field and field not in known[name]):
             yield f"`{name}{'.' if field else ''}{field}` isn't defined in `{path}`"
 
-def main():
+def main(room):
+    os.chdir(ROOT)
     _, _, of_headline = reached(HEADLINE, {})
     outputs = {output: words_of(output, of_headline) for output in OUTPUTS}
     commands = set(re.findall(r'\bword == "(\w+)"', read(COMMANDS)))
-    wrong.extend(f"docs/try_words: OUTPUTS lacks `{command}`, or has it and there is no such command"
-                 for command in sorted(commands ^ (set(outputs) - {"standard error"})))
+    tried("checks/words.toml has each command", commands == set(outputs) - {"standard error"}, commands)
     lists = kinds()
     code = written()
     texts = set().union(*outputs.values())
     defined = {word for text in texts for word in re.split(r"[\s:]+", text) if is_word(word)}
-    wrong.extend(f"{code[word]}: no definition of a text has the word `{word}`" for word in sorted(set(code) - defined))
-    wrong.extend(f"no code writes the word `{word}`" for word in sorted(defined - set(code)))
+    for word in sorted({*code, *defined}):
+        is_both = word in code and word in defined
+        tried(f"`{word}` stands in a definition of a text, and in code that writes it", is_both, code.get(word))
     words_seen, kinds_seen = {output: set() for output in outputs}, {name: set() for name in lists}
     for number, heading, cells in rows():
-        def add(what, number=number):
-            wrong.append(f"{PAGE}:{number}: {what}")
-        if len(cells) != 4 or not all(cells):
-            add("the row hasn't four cells")
+        if not tried(f"{PAGE}:{number}: the row has four cells", len(cells) == 4 and all(cells)):
             continue
         for token in re.findall(r"`([^`]+)`", cells[0]):
             found = False
@@ -328,23 +304,14 @@ def main():
                 if variant in lists[name]:
                     kinds_seen[name].add(variant)
                     found = True
-            if not found:
-                add(f"no output has `{token}`")
+            tried(f"{PAGE}:{number}: an output has `{token}`", found)
         named = [(path, name) for path, name, _ in definitions_in(cells[2])[0] if os.path.exists(path)]
         defined_here = {(path, name) for path, name in named if name in spec(path).names}
-        for what in [*definition_faults(cells[2]), *contract_faults(cells[3], defined_here)]:
-            add(what)
+        faults = [*definition_faults(cells[2]), *contract_faults(cells[3], defined_here)]
+        tried(f"{PAGE}:{number}: what the row names is there", not faults, "; ".join(faults))
     for output, words in outputs.items():
-        wrong.extend(f"{PAGE}: the word `{word}` of {output} has no row" for word in sorted(words - words_seen[output]))
+        for word in sorted(words):
+            tried(f"the word `{word}` of {output} has a row", word in words_seen[output])
     for name, variants in lists.items():
-        missing = [kind for kind in variants if kind not in kinds_seen[name]]
-        wrong.extend(f"{PAGE}: the kind `{name}::{kind}` has no row" for kind in missing)
-    for line in wrong:
-        print("words:", line)
-    print(f"words: {sum(map(len, outputs.values()))} words of {len(outputs)} outputs and "
-          f"{sum(map(len, lists.values()))} kinds in {len(lists)} lists looked up, {len(wrong)} wrong")
-    sys.exit(wrong != [])
-
-if sys.argv[1:]:
-    sys.exit(__doc__)
-main()
+        for kind in variants:
+            tried(f"the kind `{name}::{kind}` has a row", kind in kinds_seen[name])
