@@ -5,5 +5,5 @@ import sys
 from beside import common
 
 if __name__ == "__main__":
-    module = importlib.import_module("beside." + sys.argv.pop(1).replace("-", "_"))
-    common.start(module.main, module.__doc__)
+    name = sys.argv.pop(1)
+    common.start(importlib.import_module("beside." + name.replace("-", "_")).main, name)

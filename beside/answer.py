@@ -35,7 +35,7 @@ MOST = 5_000_000                    # the most bytes of a file that is looked th
 
 def commands():
     """What each command takes, by its line on the screen of `./basin help`."""
-    with open(os.path.join(common.ROOT, "basin"), encoding="utf-8") as file:
+    with open(os.path.join(common.ROOT, "docs", "help.txt"), encoding="utf-8") as file:
         lines = re.findall(r"(?m)^  \./basin (\S+)((?: \[?[A-Z0-9]+\]?)*) ", file.read())
     return {command: words.split() for command, words in lines}
 

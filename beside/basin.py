@@ -339,9 +339,10 @@ class Months:
         self.first, self.count = text.head("run", "calls")[1]
 
     def __iter__(self):
-        month, text, place, first = None, self.text, 0, None
+        month, text, place, first, begins = None, self.text, 0, None, common.month_number(self.first)
         for word, said in text:
-            if word == "month" and month is None and said[0] == month_after(self.first, place) and place < self.count:
+            is_next = word == "month" and month is None and place < self.count
+            if is_next and common.month_number(said[0]) == begins + place:
                 month, place = self.record(said[0]), place + 1
             elif word == "end" and month is not None:
                 first = first or month
@@ -378,10 +379,6 @@ def names_of(tree):
     outlets = {it["name"] for it in tree["node"] if it.get("outlet")}
     return {"right": set(rights_of(tree)), "node": of("node"), "link": of("link"), "reservoir": of("reservoir", "node"),
             "outlet": outlets}
-
-def month_after(month, count):
-    """The month so many months after one."""
-    return common.month_text(int(month[:4]) * 12 + int(month[5:]) - 1 + count)
 
 def take_result(month, word, said):
     """Puts a line into a month of a result, and answers whether it may stand there."""

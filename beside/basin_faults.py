@@ -7,7 +7,7 @@ import collections
 import re
 
 from beside import model, places
-from beside.common import CALENDAR, meant, nearest
+from beside.common import CALENDAR, meant, month_text, nearest
 from beside.hints import MANY, date_advice, month_advice
 
 Finding = collections.namedtuple("Finding", "kind table number at text")
@@ -57,13 +57,14 @@ class Document:
         self.text, self.found, self.spoiled, self.is_first = text, [], set(), is_first
         self.tree = places.Reader(text).document()
         self.is_second = model.is_whole(self.tree.get("format")) and self.tree["format"] == 2
-        self.keys = {table: rows | (model.KEYS_2.get(table, {}) if self.is_second else {}) for table,
-            rows in model.KEYS.items()}
-        self.entries = list(model.entries(self.tree))
-        self.entry_at = {(table, number): entry for table, number, entry in self.entries}
+        self.keys = model.KEYS_BOTH if self.is_second else model.KEYS
+        self.entries = []
+        for table, number, entry in model.entries(self.tree):
+            entry.table, entry.number = table, number
+            self.entries.append(entry)
         self.renamed = {}                           # (entry, the key that is meant): the key that is there
 
-    def tell(self, kind, table, number, entry, key, text, item=None):
+    def tell(self, kind, entry, key, text, item=None):
         """Keeps a fault of an entry, at one of its keys if that is there."""
         at = entry.at
         if key in entry:
@@ -71,7 +72,7 @@ class Document:
             if item is not None and isinstance(entry[key], places.Listed):
                 at = entry[key].item_at[item]
             self.spoiled.add((id(entry), key))
-        self.found.append(Finding(kind, table, number, at, text))
+        self.found.append(Finding(kind, entry.table, entry.number, at, self.words(entry) + text))
         if self.is_first:
             raise Enough
 
@@ -83,27 +84,31 @@ class Document:
         return None if (id(entry), key) in self.spoiled else entry[key]
 
     def rows(self, *tables):
-        return [row for row in self.entries if row[0] in tables]
+        return [entry for entry in self.entries if entry.table in tables]
 
-    def own_name(self, table, entry):
+    def own_name(self, entry):
         """The text that names an entry, even if it is at fault, or None."""
-        key = "node" if table == "reservoir" else "name"
+        key = "node" if entry.table == "reservoir" else "name"
         name = entry.get(key, entry.get(self.renamed.get((id(entry), key))))
         return name if isinstance(name, str) else None
 
-    def whose(self, table, number):
-        """The entry of a table, and the line of another, as `node 3 (weir, line 14)`."""
-        entry = self.entry_at[table, number]
-        name = self.own_name(table, entry)
-        return f"{table} {number} ({f'{name}, ' if name else ''}line {places.line_of(self.text, entry.at)})"
+    def words(self, entry):
+        """The words before what is said of an entry, as `node 3 (weir): `; none of the top."""
+        name = self.own_name(entry)
+        return "" if entry.table == "top" else f"{entry.table} {entry.number}{f' ({name[:60]})' if name else ''}: "
+
+    def whose(self, entry):
+        """Another entry, with its line, as `node 3 (weir, line 14)`."""
+        name = self.own_name(entry)
+        return f"{entry.table} {entry.number} ({f'{name}, ' if name else ''}line {self.line(entry)})"
 
     def line(self, entry):
         return places.line_of(self.text, entry.at)
 
 def unknown_keys(d):
     meant_by = {}                                   # of a table and an odd key the key that is meant, or None
-    for table, number, entry in d.entries:
-        odd = [key for key in entry if key not in d.keys[table]]
+    for entry in d.entries:
+        table, odd = entry.table, [key for key in entry if key not in d.keys[entry.table]]
         # (first all keys of an entry, of which one may be its name)
         for key in odd:
             if (table, key) not in meant_by:
@@ -112,16 +117,16 @@ def unknown_keys(d):
             if known and known not in entry:
                 d.renamed[id(entry), known] = key
         for key in odd:
-            d.tell("UnknownKey", table, number, entry, key, why_unknown(d, table, key, meant_by[table, key]))
+            d.tell("UnknownKey", entry, key, why_unknown(d, table, key, meant_by[table, key]))
 
 def key_meant(table, key):
     """The key that is meant by one that the table hasn't, or None."""
-    every = model.KEYS[table] | model.KEYS_2.get(table, {})
+    every = model.KEYS_BOTH[table]
     if key in every:
         return None
     inside = [known for known in every if len(known) > 3 and known in key]
-    known = nearest(key, every) or next(iter(inside),
-        None) or next((OTHER_WORDS[word] for word in OTHER_WORDS if word in key.lower()), None)
+    others = (OTHER_WORDS[word] for word in OTHER_WORDS if word in key.lower())
+    known = nearest(key, every) or next(iter(inside), None) or next(others, None)
     return known if known in every else None
 
 def why_unknown(d, table, key, known):
@@ -132,31 +137,34 @@ def why_unknown(d, table, key, known):
               else f"it is one of {others[0]}" if others else f"the keys here are {', '.join(d.keys[table])}")
     return f"{key[:60]} is no key here; {advice}"
 
-def missing_keys(d):
-    for table, number, entry in d.entries:
-        missing = [key for key, row in d.keys[table].items() if row[3] and key not in entry
-            and (id(entry), key) not in d.renamed]
-        for key in missing:
-            d.tell("MissingKey", table, number, entry, key, f"{key} is missing: {example(key, table)}")
-        if table == "top" and isinstance(entry.get("node"), list) and not entry["node"]:
-            d.tell("MissingKey", table, number, entry, "node", "node is an empty list: a basin has at least one node")
-        if table == "link" and "closed" in entry and "per_day" not in entry:
-            d.tell("MissingKey", table, number, entry, "per_day",
-                "closed stands on a river: only a canal can be shut, so add per_day")
+def each_entry(kind, look):
+    """A pass over all entries: of each fault in one `look` gives the key, what is said, and the item that shows it."""
+    def faults(d):
+        for entry in d.entries:
+            for key, text, *item in look(d, entry.table, entry):
+                d.tell(kind, entry, key, text, *item)
+    return faults
+
+def missing_keys(d, table, entry):
+    for key, row in d.keys[table].items():
+        if row[3] and key not in entry and (id(entry), key) not in d.renamed:
+            yield key, f"{key} is missing: {example(key, table)}"
+    if table == "top" and isinstance(entry.get("node"), list) and not entry["node"]:
+        yield "node", "node is an empty list: a basin has at least one node"
+    if table == "link" and "closed" in entry and "per_day" not in entry:
+        yield "per_day", "closed stands on a river: only a canal can be shut, so add per_day"
 
 def example(key, table):
     written = {"format": "1", "first_month": '"1982-10"', "months": "12", "opening": "8000", "date": '"1911-06-15"',
-        "want": "500",
-               "level": "1", "part": "2500", "lag": "1"}.get(key, '".."')
+               "want": "500", "level": "1", "part": "2500", "lag": "1"}.get(key, '".."')
     return "add [[node]] tables" if key == "node" and table == "top" else f"add {key} = {written}"
 
-def wrong_kinds(d):
-    for table, number, entry in d.entries:
-        for key, value in entry.items():
-            kind = d.keys[table].get(key, (None,))[0]
-            if kind and not model.KINDS[kind](value):
-                text, item = why_wrong(d, kind, key, value)
-                d.tell("WrongKind", table, number, entry, key, f"{key} {text}", item)
+def wrong_kinds(d, table, entry):
+    for key, value in entry.items():
+        kind = d.keys[table].get(key, (None,))[0]
+        if kind and not model.KINDS[kind](value):
+            text, item = why_wrong(d, kind, key, value)
+            yield key, f"{key} {text}", item
 
 def why_wrong(d, kind, key, value):
     """Why a value isn't of the kind of its key, with what to do, and the number of the item that shows it, if one
@@ -218,25 +226,18 @@ def why_no_months(value):
     return (f"is a list of {len(value)} numbers: write twelve, from January to December, or one number for all"
             + ("; a comma parts two numbers, so write 1200 and not 1,200" if split else "")), None
 
-def out_of_range(d):
-    for table, number, entry in d.entries:
-        for key, value in entry.items():
-            kind, least, most, _ = d.keys[table].get(key, (None, 0, 0, False))
-            if kind and model.KINDS[kind](value) and not model.is_in_range(kind, value, least, most):
-                text, item = why_out(kind, value, least, most)
-                d.tell("OutOfRange", table, number, entry, key, f"{key} {text}", item)
-        if table == "top":
-            late_end(d)
-
-def late_end(d):
-    """A run that ends too late is a fault of the top, and comes before those of the tables."""
-    top, months = d.tree, d.good(d.tree, "months")
-    first = d.good(top, "first_month")
-    first = model.read_month(first) if model.KINDS["month"](first) else None
+def out_of_range(d, table, entry):
+    for key, value in entry.items():
+        kind, least, most, _ = d.keys[table].get(key, (None, 0, 0, False))
+        if kind and model.KINDS[kind](value) and not model.is_in_range(kind, value, least, most):
+            text, item = why_out(kind, value, least, most)
+            yield key, f"{key} {text}", item
+    # (a run that ends too late is a fault of the top, and comes before those of the tables)
+    months, first = d.good(d.tree, "months"), d.good(d.tree, "first_month")
+    first = model.read_month(first) if table == "top" and model.KINDS["month"](first) else None
     if first is not None and model.is_whole(months) and first + months > 3000 * 12:
-        last = f"{(first + months - 1) // 12}-{(first + months - 1) % 12 + 1:02d}"
-        d.tell("OutOfRange", "top", 0, top, "months",
-            f"months is {months}, so the run ends in {last}: it may end in 2999-12 at the latest")
+        last = month_text(first + months - 1)
+        yield "months", f"months is {months}, so the run ends in {last}: it may end in 2999-12 at the latest"
 
 def why_out(kind, value, least, most):
     if kind == "month":
@@ -251,57 +252,52 @@ def why_out(kind, value, least, most):
         return f"has {value[item]:,} as its {place_word(item + 1)} number: it may be {least:,} to {most:,}", item
     return f"is {value:,}: it may be {least:,} to {most:,}", None
 
-def bad_names(d):
-    for table, number, entry in d.entries:
-        name = entry.get("name") if "name" in d.keys[table] else None
-        if isinstance(name, str) and not model.NAME.fullmatch(name):
-            odd = re.search(r"[^A-Za-z0-9_-]", name)
-            why = ("is empty: write a name" if name == "" else f"has {len(name)} signs: it may have 32" if odd is None
-                   else f'has a blank: write "{re.sub(" +", "-", name.strip())}"' if odd[0] == " "
-                   else f"has the sign {odd[0]!r}: a name has letters a to z, digits, - and _")
-            d.tell("BadName", table, number, entry, "name", f'the name "{name[:60]}" {why}')
+def bad_names(d, table, entry):
+    name = entry.get("name") if "name" in d.keys[table] else None
+    if isinstance(name, str) and not model.NAME.fullmatch(name):
+        odd = re.search(r"[^A-Za-z0-9_-]", name)
+        why = ("is empty: write a name" if name == "" else f"has {len(name)} signs: it may have 32" if odd is None
+               else f'has a blank: write "{re.sub(" +", "-", name.strip())}"' if odd[0] == " "
+               else f"has the sign {odd[0]!r}: a name has letters a to z, digits, - and _")
+        yield "name", f'the name "{name[:60]}" {why}'
 
 def too_many(d):
-    counts = collections.Counter()
-    for table, number, entry in d.entries:
-        if table == "reservoir":
+    counts, most_of = collections.Counter(), {"node": 2000, "link": 4000, "right": 2000, "return row": 8}
+    for entry in d.entries:
+        if entry.table == "reservoir":
             area = entry.get("area")
             if isinstance(area, list) and len(area) > 64:
-                d.tell("TooMany", table, number, entry, "area", f"area has {len(area)} points: it may have 64", 64)
-            continue
-        diversion = entry.get("diversion") if table == "return" else None
-        diversion = diversion if isinstance(diversion, str) else id(entry)
-        what, most = {"node": ("node", 2000), "link": ("link", 4000), "return": (("return", diversion), 8)}.get(table,
-            ("right", 2000))
-        counts[what] += table != "top"
-        if counts[what] == most + 1:
-            of = f" of {diversion}" if table == "return" else ""
-            d.tell("TooMany", table, number, entry, None,
-                f"there are more than {most:,} {what if isinstance(what, str) else 'return row'}s{of}: this is the "
-                f"{place_word(most + 1)}")
+                d.tell("TooMany", entry, "area", f"area has {len(area)} points: it may have 64", 64)
+        elif entry.table != "top":
+            what = {"node": "node", "link": "link", "return": "return row"}.get(entry.table, "right")
+            diversion = entry.get("diversion") if what == "return row" else ""
+            of = diversion if isinstance(diversion, str) else id(entry)
+            counts[what, of] += 1
+            if counts[what, of] == most_of[what] + 1:
+                most, of = most_of[what], f" of {of}" if of else ""
+                d.tell("TooMany", entry, None,
+                       f"there are more than {most:,} {what}s{of}: this is the {place_word(most + 1)}")
 
 def same_names(d):
     first = {}
-    for table, number, entry in d.rows(*NAMED):
-        key = "node" if table == "reservoir" else "name"
+    for entry in d.rows(*NAMED):
+        key, space = model.IDENTITY[entry.table][0], "right" if entry.table in RIGHTS else entry.table
         name = entry.get(key)
-        space = "right" if table in RIGHTS else table
-        if isinstance(name, str) and first.setdefault((space, name), (table, number)) != (table, number):
-            other = d.whose(*first[space, name])
-            d.tell("SameName", table, number, entry, key, f"a second reservoir at {name}: {other} stands there already"
-                if table == "reservoir"
-                   else f"the name {name} is that of {other} too: rename one of the two")
+        if isinstance(name, str) and first.setdefault((space, name), entry) is not entry:
+            other = d.whose(first[space, name])
+            d.tell("SameName", entry, key, f"a second reservoir at {name}: {other} stands there already"
+                   if key == "node" else f"the name {name} is that of {other} too: rename one of the two")
 
 def names_of(d, table):
     """The names of a table's entries, and whether all of them are known."""
-    listed, names = d.tree.get(table, []), [d.own_name(table, entry) for _, _, entry in d.rows(table)]
+    listed, names = d.tree.get(table, []), list(map(d.own_name, d.rows(table)))
     is_whole = isinstance(listed, list) and len(names) == len(listed) and (id(d.tree), table) not in d.renamed
     return set(names) - {None}, is_whole and None not in names
 
 def no_such_names(d):
     spaces, advices = {table: names_of(d, table) for table in NAMED}, {}
-    for table, number, entry in d.rows(*model.REFERS):
-        for key, space in model.REFERS[table].items():
+    for entry in d.rows(*model.REFERS):
+        for key, space in model.REFERS[entry.table].items():
             name, (names, is_whole) = entry.get(key), spaces[space]
             if not isinstance(name, str) or name in names:
                 continue
@@ -310,7 +306,7 @@ def no_such_names(d):
             advice = advices[space, name]
             # (where some name isn't known, this may be the one)
             if is_whole or "did you mean" in advice:
-                d.tell("NoSuchName", table, number, entry, key, f'{key}: no {space} is named "{name[:60]}"{advice}')
+                d.tell("NoSuchName", entry, key, f'{key}: no {space} is named "{name[:60]}"{advice}')
 
 def name_advice(space, name, spaces):
     """What is meant by a name of nothing."""
@@ -324,9 +320,13 @@ def name_advice(space, name, spaces):
     return f": {name} is the name of {'an instream right' if others[0] == 'instream' else 'a ' + others[0]}"
 
 def outlet_reservoirs(d):
-    outlets = {entry.get("name") for _, _, entry in d.rows("node") if entry.get("outlet") is True
-        and isinstance(entry.get("name"), str)}
-    for table, number, entry in d.rows("reservoir"):
+    names = [entry.get("name") for entry in d.rows("node") if entry.get("outlet") is True]
+    outlets = {name for name in names if isinstance(name, str)}
+    for entry in d.rows("reservoir"):
         if isinstance(entry.get("node"), str) and entry["node"] in outlets:
-            d.tell("OutletReservoir", table, number, entry, "node",
-                f"the reservoir stands at the outlet {entry['node']}: let a river lead from the lake to an outlet")
+            d.tell("OutletReservoir", entry, "node", f"the reservoir stands at the outlet {entry['node']}: let a river "
+                                                     "lead from the lake to an outlet")
+
+PASSES = (unknown_keys, each_entry("MissingKey", missing_keys), each_entry("WrongKind", wrong_kinds),
+          each_entry("OutOfRange", out_of_range), each_entry("BadName", bad_names), too_many, same_names, no_such_names,
+          outlet_reservoirs)

@@ -1,33 +1,10 @@
-"""bench-canals [--basins N] [--months M] PROGRAM..: measures how much water canals carry for nothing.
-
-Each PROGRAM, a built one of this repository, runs each basin of examples/ and N made-up ones (20, if it is left out):
-those of `basin trial` with the numbers 1 to N and 20, 40, 80 and 160 nodes in turn, of M months each (60, if it is left
-out). Unless N is 0, it runs one more of each shape that `./basin bench` measures too, of 60 nodes, 120 links and 60
-rights: these have many more canals and instream rights.
-
-The first table has what all canals carry in all months together, in units of 1,000 cubic metres, by each program, and
-the least that they can carry in any plan with the same deliveries, closings and outflows; the second in how many of the
-months of basins with canals a program's canals carry more than that. A canal is a link with `per_day`.
-
-The least is worked out by glpsol (of Debian, the package glpk-utils): a linear program for each month, all months of a
-basin in one. A link carries 0 to its carry, and at least what each instream right on it is delivered. Deliveries and
-outflows are those of the results, so at each node as much more goes out than comes in by links as in the results.
-Flows and potentials that glpsol finds are rounded, and tested in whole numbers: the sum is that of a plan, and no plan
-has less.
-
-The status is 1 where two results differ in any line but those of flows, or flows are none of the month's plans, or
-glpsol is not there.
-
-    ./basin bench-canals --basins 0 .built/program
-"""
+"""How much water canals carry for nothing. Its help is docs/help/bench-canals.txt."""
 import os
 import re
-import shutil
 import subprocess
 import tempfile
-from collections.abc import Iterator
 
-from beside import basin, common, files
+from beside import basin, common, files, glpk
 from beside.bench import programs
 from beside.model import RIVER
 
@@ -78,53 +55,30 @@ class Month:
             bound += cost * (least if cost > 0 else most)
         return bound
 
-def linear_program(months: list[Month]) -> Iterator[str]:
-    """The linear program of some months, line by line, in CPLEX's format. Flows are named by month and link."""
-    links, nodes = months[0].basin.links, months[0].basin.nodes
-    yield "minimize water:"
-    for at in range(len(months)):
-        yield from (f" + {int(link[3] is not None)} f{at}_{place}" for place, link in enumerate(links))
-    yield "subject to"
-    for place, month in enumerate(months):
-        sums: list[list[str]] = [[] for _ in nodes]
-        for link, (_, tail, head, _) in enumerate(links):
-            sums[tail].append(f" + f{place}_{link}")
-            sums[head].append(f" - f{place}_{link}")
-        for node, terms in enumerate(sums):
-            # (an outlet may have no link)
-            yield from (f" n{place}_{node}:", *(terms or [f" 0 f{place}_0"]), f" = {month.more_out[node]}")
-    yield "bounds"
-    for place, month in enumerate(months):
-        for link, (least, most) in enumerate(zip(month.least, month.most)):
-            # (no sum of a river comes near to what it can carry)
-            yield f" f{place}_{link} >= {least}" + (f"\n f{place}_{link} <= {most}" if most < RIVER else "")
-    yield "end"
-
-def solved(months, room):
-    """The flows and the potentials of each month that glpsol finds, rounded."""
-    asked, answer = os.path.join(room, "asked"), os.path.join(room, "answer")
-    with open(asked, "w", encoding="ascii") as file:
-        file.writelines(line + "\n" for line in linear_program(months))
-    ran = subprocess.run(["glpsol", "--lp", asked, "--write", answer], capture_output=True, text=True)
-    if ran.returncode or "OPTIMAL" not in ran.stdout:
-        raise common.Stop(f"glpsol failed: {ran.stdout[-500:]}")
-    with open(answer, encoding="ascii") as file:
-        lines = [line.split() for line in file]
-    flows = [round(float(line[3])) for line in lines if line[0] == "j"]
-    potentials = [round(float(line[4])) for line in lines if line[0] == "i"]
-    return parted(flows, len(months)), parted(potentials, len(months))
+def solved(months):
+    """The flows and the potentials of each month that glpsol finds, rounded. Columns and rows come month by month."""
+    links, nodes = months[0].basin.links, len(months[0].basin.nodes)
+    rows = [({}, "=", amount) for month in months for amount in month.more_out]
+    for place in range(len(months)):
+        for link, (_, tail, head, _) in enumerate(links, place * len(links)):
+            rows[place * nodes + tail][0][link], rows[place * nodes + head][0][link] = 1, -1
+    # (no sum of a river comes near to what it can carry)
+    bounds = [(least, most if most < RIVER else None)
+              for month in months for least, most in zip(month.least, month.most)]
+    costs = [int(link[3] is not None) for link in links] * len(months)
+    return [parted(list(map(round, amounts)), len(months)) for amounts in glpk.solved("minimize", costs, rows, bounds)]
 
 def parted(amounts, count):
     """A list in so many equal parts."""
     size = len(amounts) // count
     return [amounts[place * size:(place + 1) * size] for place in range(count)]
 
-def least_of(basin, months, room):
+def least_of(basin, months):
     """The least that the canals of a basin can carry together in each month."""
     if not canals_of(basin):
         return [0] * len(months)
     sums = []
-    for month, flow, potentials in zip(months, *solved(months, room), strict=True):
+    for month, flow, potentials in zip(months, *solved(months), strict=True):
         sums.append(by_canals(basin, flow))
         if not month.has_plan(flow) or month.bound(potentials) != sums[-1]:
             raise common.Stop("what glpsol found isn't the least")
@@ -167,46 +121,37 @@ class Bench:
                 self.faults.append(f"{title} FAILED: {command} differs from {first} in more than flows")
         return results
 
-    def measure(self, title, names, sums):
-        """Measures a basin, and adds it to some rows."""
-        b = files.read_basin(names[0])
-        results = self.results(title, names, b)
-        least = least_of(b, results[0], self.room)
-        for row in sums:
-            self.rows.setdefault(row, Row(len(self.commands))).add(b, results, least)
+    def measure(self, title, stem, *rows):
+        """Measures the basin whose files begin so, and adds it to some rows. One that sums others stays behind them."""
+        b, series = files.read_basin(stem + ".toml"), stem + ".csv" if os.path.exists(stem + ".csv") else "-"
+        results = self.results(title, (stem + ".toml", series), b)
+        least = least_of(b, results[0])
+        for row in rows:
+            of = self.rows.get(row, Row(len(self.commands)))
+            of.add(b, results, least)
+            if row.startswith("all "):
+                self.rows.pop(row, None)
+            self.rows[row] = of
 
     def examples(self):
         for name in sorted(name[:-5] for name in os.listdir(EXAMPLES) if name.endswith(".toml")):
-            path = os.path.join(EXAMPLES, name)
-            series = path + ".csv" if os.path.exists(path + ".csv") else "-"
-            self.measure(name, (path + ".toml", series), (name, "all examples"))
-        self.put_last("all examples")
+            self.measure(name, os.path.join(EXAMPLES, name), name, "all examples")
 
     def made_up(self, count, months):
         """Made-up basins, with as many months as are asked for in place of 60."""
         for number in range(1, count + 1):
             size, stem = SIZES[(number - 1) % len(SIZES)], os.path.join(self.room, "basin")
             subprocess.run([programs.built("basins"), "trial", str(number), str(size), stem], check=True)
-            with open(stem + ".toml", encoding="ascii") as file:
-                text = re.sub("^months = .*$", f"months = {months}", file.read(), count=1, flags=re.M)
-            with open(stem + ".toml", "w", encoding="ascii") as file:
-                file.write(text)
-            rows = f"made-up, {size} nodes", "all made-up"
-            self.measure(f"trial {number} {size}", (stem + ".toml", "-"), rows)
-        self.put_last("all made-up")
+            text = common.read_bytes(stem + ".toml")
+            common.write_text(stem + ".toml", re.sub(b"(?m)^months = .*$", b"months = %d" % months, text, count=1))
+            self.measure(f"trial {number} {size}", stem, f"made-up, {size} nodes", "all made-up")
 
     def shaped(self, months):
         """A basin of each shape."""
         for shape in programs.SHAPES:
             stem = os.path.join(self.room, shape)
             subprocess.run([programs.built("basins"), shape, *SHAPED, str(months), stem], check=True)
-            series = stem + ".csv" if os.path.exists(stem + ".csv") else "-"
-            self.measure(shape, (stem + ".toml", series), (shape,))
-
-    def put_last(self, title):
-        """Puts a row that sums others behind them."""
-        if title in self.rows:
-            self.rows[title] = self.rows.pop(title)
+            self.measure(shape, stem, shape)
 
     def tables(self):
         """Both tables, each with its title, the heads of its columns and its rows."""
@@ -221,7 +166,7 @@ def main(words: list[str]) -> int:
     if not all(re.fullmatch("[0-9]{1,4}", number) for number in numbers) or not 1 <= int(numbers[1]) <= 1200:
         raise common.WrongWords("N is a whole number, and M one from 1 to 1200")
     count, months = map(int, numbers)
-    if not shutil.which("glpsol"):
+    if not glpk.is_there():
         raise common.Stop("not tried: anything, as glpsol is not installed: it is in glpk-utils")
     with tempfile.TemporaryDirectory() as room:
         bench = Bench(commands, room)

@@ -104,10 +104,14 @@ def month_text(month: int) -> str:
     """A month that is counted from the year 0, as it is written."""
     return f"{month // 12:04d}-{month % 12 + 1:02d}"
 
+def month_number(text: str) -> int:
+    """A month that has the shape of one, counted from the year 0."""
+    return int(text[:4]) * 12 + int(text[5:]) - 1
+
 def read_month(text: str) -> int | None:
     """A month from 1800-01 to 2999-12, counted from the year 0, or None."""
     is_month = re.fullmatch(r"(1[89]|2[0-9])[0-9]{2}-(0[1-9]|1[0-2])", text, re.ASCII)
-    return int(text[:4]) * 12 + int(text[5:]) - 1 if is_month else None
+    return month_number(text) if is_month else None
 
 def days_in(month: int) -> int:
     return calendar.monthrange(month // 12, month % 12 + 1)[1]
@@ -121,10 +125,6 @@ def aligned(rows: Iterable[Iterable[Any]]) -> Iterator[str]:
         for row in listed:
             row[at] = str(row[at]).rjust(width) if is_right else str(row[at]).ljust(width)
     yield from ("  ".join(row).rstrip() for row in listed)
-
-STATUSES = """Tested, and not proved. Where nothing else is said, status 2 says that the words are wrong, a package is
-missing or something can't be written; 3 and 4 that the program refuses BASIN or SERIES; 5 that a file can't be read,
-and 8 that it is too long. A status of the program's is handed on."""
 
 # --- The command line -------------------------------------------------------------------------------------------------
 def options(words: Sequence[str], valued: Sequence[str] = (), flags: Sequence[str] = (),
@@ -155,16 +155,16 @@ def tell(lines: Iterable[object], name: str = "") -> None:
     for line in lines:
         print(name + "\n".join(map(shown, str(line).split("\n"))), file=sys.stderr)
 
-def run(main: Callable[[list[str]], int | None], usage: str | None, words: list[str]) -> int:
+def help_of(name: str) -> str:
+    """The help of a script, and behind it what all helps share."""
+    texts = (read_bytes(os.path.join(ROOT, "docs", "help", f"{it}.txt")) for it in (name, "statuses"))
+    return "\n".join(text.decode() for text in texts)
+
+def run(main: Callable[[list[str]], int | None], name: str, words: list[str]) -> int:
     """Does what the words of a command line ask a script for, and answers the status. What stops it is told in a line;
     what can't be written has status 2."""
-    text = (usage or "").strip()
-    name = re.split(r"[ :]", text)[0]
-    if "--help" in words or "-h" in words:
-        print(text, STATUSES, sep="\n\n")
-        return 0
     try:
-        status = main(words) or 0
+        status = (print(help_of(name), end="") if {"--help", "-h"} & set(words) else main(words)) or 0
         sys.stdout.flush()
         return status
     except WrongWords as stop:
@@ -185,5 +185,5 @@ def run(main: Callable[[list[str]], int | None], usage: str | None, words: list[
         tell(["a name of a file has no NUL"], f"{name}: ")
         return 2
 
-def start(main: Callable[[list[str]], int | None], usage: str | None) -> NoReturn:
-    sys.exit(run(main, usage, sys.argv[1:]))
+def start(main: Callable[[list[str]], int | None], name: str) -> NoReturn:
+    sys.exit(run(main, name, sys.argv[1:]))

@@ -1,17 +1,4 @@
-"""compared [--except NAME] [--csv] BASIN BASIN2 SERIES: whom a change of a basin injures, summed up by right.
-
-Both basins are run on the series, BASIN as it is and BASIN2 as it would be. For each right of both, seniors first,
-comes in how many months it is injured, which is delivered less in BASIN2; what it loses in these months together, and
-gains in others; and the month of its greatest loss, with what it is delivered then before and after the change. A zone
-has no sums: its deliveries are what a lake holds, and in February that is the water of January again.
-
-Behind the table stands what only one of the basins has, and what differs. With --except NAME the loss of a right counts
-as agreed to, as a seller's does; it may come several times. With --csv the table alone is written, as CSV.
-
-The status is 1 where somebody is injured who hasn't agreed, and 0 where nobody is. `basin compare` lists the months.
-
-    ./basin compared examples/valley.toml examples/changes/valley-orchard.toml examples/valley.csv
-"""
+"""Whom a change of a basin injures, summed up by right. Its help is docs/help/compared.txt."""
 import itertools
 import sys
 

@@ -1,11 +1,4 @@
-"""count FILE..: counts how often each yearly delivery came in the traces of an ensemble, as `basin ensemble` does.
-
-    ./basin count trace-*.sums
-
-Each FILE, or standard input for -, has what `./basin trace` wrote for one trace or for several. All traces of the
-ensemble have to be there, once each and whole. What is written is byte for byte what `basin ensemble` writes for the
-same basin and series. Status 1 says that they are not.
-"""
+"""How often each yearly delivery came in the traces of an ensemble. Its help is docs/help/count.txt."""
 import collections
 import itertools
 import sys

@@ -1,12 +1,13 @@
 """Warnings and notes on a basin file without a fault: what no rule forbids, and nobody is likely to mean."""
 import collections
+import functools
 import graphlib
 
 from beside import model
 from beside.common import counted, month_text
 from beside.hints import listed_months
 
-Doubt = collections.namedtuple("Doubt", "word table number entry key text")
+Doubt = collections.namedtuple("Doubt", "word entry key text")
 ANY = float("inf")
 
 class Valley:
@@ -15,7 +16,7 @@ class Valley:
 
     def __init__(self, d, basin):
         self.d, self.b, self.found = d, basin, []
-        self.entry = {(table, number): entry for table, number, entry in d.entries}
+        self.entry = {(entry.table, entry.number): entry for entry in d.entries}
         months = range(basin.first, basin.first + min(basin.months, 48))
         self.months = sorted({month % 12 + 1 for month in months})
         # the longest of each calendar month: a February of 29 days, if the run has one
@@ -39,63 +40,51 @@ class Valley:
             most[node] += sum(min(self.carry(link, month), most[b.links[link][1]]) for link in into[node])
         return most
 
-    def doubt(self, word, table, number, key, text):
-        self.found.append(Doubt(word, table, number, self.entry[table, number], key, text))
+    def warn(self, table, number, key, text, word="warning"):
+        self.found.append(Doubt(word, self.entry[table, number], key, text))
 
-    def warn(self, table, number, key, text):
-        self.doubt("warning", table, number, key, text)
-
-def small_wants(v, right):
+def small_wants(v, right, warn):
     """A right that wants nothing, or more than its canals can bring."""
     if not any(right.want[month - 1] for month in v.months):
-        return v.warn(right.table, right.number, "want", "wants nothing in any month of the run")
+        return warn("want", "wants nothing in any month of the run")
     wanted = [month for month in v.months if right.want[month - 1] > 0]
     most = {month: v.most[month][right.node] for month in wanted}
     place = v.b.nodes[right.node]
     dry = [month for month in wanted if most[month] == 0]
     above = [month for month in wanted if 0 < most[month] < right.want[month - 1]]
     if dry == wanted:
-        v.warn(right.table, right.number, "node",
-            f"no water can ever come to {place}: nothing flows in there, and no link brings any")
+        warn("node", f"no water can ever come to {place}: nothing flows in there, and no link brings any")
     elif dry:
-        v.warn(right.table, right.number, "want",
-            f"wants water in {listed_months(dry)}, when none can come to {place}: it will be short then")
+        warn("want", f"wants water in {listed_months(dry)}, when none can come to {place}: it will be short then")
     if above:
         month = max(above, key=lambda month: right.want[month - 1] - most[month])
-        v.warn(right.table, right.number, "want",
-            f"wants {right.want[month - 1]:,} in {listed_months([month])}, and the canals to {place} carry at most "
-            f"{most[month]:,.0f}"
-               + (f"; so too in {counted(len(above) - 1, 'other month')}" if len(above) > 1 else ""))
+        more = f"; so too in {counted(len(above) - 1, 'other month')}" if len(above) > 1 else ""
+        warn("want", f"wants {right.want[month - 1]:,} in {listed_months([month])}, and the canals to {place} carry at "
+                     f"most {most[month]:,.0f}{more}")
 
-def instream_wants(v, right):
+def instream_wants(v, right, warn):
     name, tail, _, per_day = v.b.links[right.link]
     wanted = [month for month in v.months if right.want[month - 1] > 0]
     if wanted and not any(v.most[month][tail] for month in wanted):
-        return v.warn(right.table, right.number, "link",
-            f"no water can ever come to {v.b.nodes[tail]}, where {name} begins")
+        return warn("link", f"no water can ever come to {v.b.nodes[tail]}, where {name} begins")
     if per_day is None:
         return None
     shut = [month for month in wanted if v.carry(right.link, month) == 0]
     above = [month for month in wanted if 0 < v.carry(right.link, month) < right.want[month - 1]]
     if shut:
-        v.warn(right.table, right.number, "want",
-            f"wants a flow in {listed_months(shut)}, when the canal {name} carries nothing: it counts as 0 then")
+        warn("want", f"wants a flow in {listed_months(shut)}, when the canal {name} carries nothing: it counts as 0 "
+                     "then")
     if above:
-        v.warn(right.table, right.number, "want",
-            f"wants {right.want[above[0] - 1]:,} in {listed_months([above[0]])}, and the canal {name} carries "
-            f"{v.carry(right.link, above[0]):,}: it counts as that")
+        warn("want", f"wants {right.want[above[0] - 1]:,} in {listed_months([above[0]])}, and the canal {name} carries "
+                     f"{v.carry(right.link, above[0]):,}: it counts as that")
 
 def rights(v):
-    for right in v.b.rights:
-        if right.want is not None and right.table == "diversion":
-            small_wants(v, right)
-        if right.want is not None and right.table == "instream":
-            instream_wants(v, right)
-        if right.table == "diversion" and right.volume is not None and right.want is not None and sum(
-                right.want) <= right.volume:
-            v.warn(right.table, right.number, "volume",
-                f"volume is {right.volume:,}, and all its wants of a year sum to {sum(right.want):,}: the volume "
-                f"bounds nothing")
+    for right in (right for right in v.b.rights if right.want is not None and right.table != "zone"):
+        warn = functools.partial(v.warn, right.table, right.number)
+        (small_wants if right.table == "diversion" else instream_wants)(v, right, warn)
+        if right.volume is not None and sum(right.want) <= right.volume:
+            warn("volume", f"volume is {right.volume:,}, and all its wants of a year sum to {sum(right.want):,}: the "
+                           "volume bounds nothing")
 
 def zones_of(v, at):
     return sorted((right for right in v.b.rights if right.reservoir == at), key=lambda right: right.level)
@@ -153,17 +142,17 @@ def returns(v):
                 f"{part * 100:,}")
     for right, total in sums.items():
         if total < 10_000:
-            v.doubt("note", "diversion", v.b.rights[right].number, None,
-                f"{total / 100:g}% of what it takes comes back; the other {(10_000 - total) / 100:g}% is used up")
+            told = f"{total / 100:g}% of what it takes comes back; the other {(10_000 - total) / 100:g}% is used up"
+            v.warn("diversion", v.b.rights[right].number, None, told, "note")
 
 def names(v):
     for tables in (("node",), ("link",), model.RIGHTS):
         seen = {}
-        for table, number, entry in v.d.rows(*tables):
-            other = seen.setdefault(entry["name"].lower(), (table, number, entry["name"]))
-            if other[2] != entry["name"]:
-                v.warn(table, number, "name",
-                    f"the name {entry['name']} is that of {v.d.whose(*other[:2])} but for letter case")
+        for entry in v.d.rows(*tables):
+            other = seen.setdefault(entry["name"].lower(), entry)
+            if other["name"] != entry["name"]:
+                v.warn(entry.table, entry.number, "name",
+                       f"the name {entry['name']} is that of {v.d.whose(other)} but for letter case")
 
 def doubts(d, basin):
     """All warnings, and after them all notes, each in the order of the file."""

@@ -1,19 +1,4 @@
-"""draw: pictures of a result, as SVG, PNG or PDF by the ending of OUT.
-
-    draw right BASIN RESULT RIGHT OUT           what a right wanted and was delivered, month by month
-    draw reservoir BASIN RESULT NODE OUT        what a reservoir held at each month's end, by its zones
-    draw shortages BASIN RESULT OUT             how much of each right's want was lacking, and how full each zone was
-    draw network BASIN RESULT MONTH RIGHT OUT   the nodes and links in a month, and where one more unit of water would
-                                                help a right that is short (- for none)
-    draw yearly BASIN ENSEMBLE OUT              in how many of 100 years a right got at least how much
-
-BASIN, RESULT and ENSEMBLE are files. It needs Debian's packages python3-matplotlib and, for the network, graphviz. What
-a result says is not checked here. In a network the core of a short right is dark, where one more unit of water would
-help it; the rest of its reach, from which a way leads to it, is light; and all other nodes are white. More water at a
-light or a white node can't help it. Status 1 says that there is no such picture.
-
-    ./basin draw network examples/valley.toml examples/valley.result 1982-07 oldfields july.svg
-"""
+"""Pictures of a result. Its help is docs/help/draw.txt."""
 import subprocess
 from collections.abc import Callable
 
@@ -175,7 +160,7 @@ def draw_network(basin_name, result, month, right, out):
         text = next(text for text, size in scales.items() if size >= 0.9 * max(scales.values()))
         subprocess.run(["dot", "-T" + out.rpartition(".")[2], "-o", out], input=text, check=True)
     except FileNotFoundError:
-        raise NoPicture("graphviz is needed for a network: apt-get install graphviz") from None
+        raise common.Stop("graphviz is needed for a network: apt-get install graphviz", 2) from None
     except subprocess.CalledProcessError as error:
         raise NoPicture(f"graphviz could not draw {out} (status {error.returncode})") from None
 
@@ -197,6 +182,6 @@ def main(words: list[str]) -> int:
     if words[-1].rpartition(".")[2] not in ENDINGS:
         raise NoPicture(f"{words[-1]} ends with none of {', '.join('.' + it for it in ENDINGS)}")
     if pyplot is None and draw is not draw_network:
-        raise NoPicture("matplotlib is needed: apt-get install python3-matplotlib")
+        raise common.Stop("matplotlib is needed: apt-get install python3-matplotlib", 2)
     draw(*words[1:])
     return 0

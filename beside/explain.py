@@ -1,12 +1,6 @@
-"""explain BASIN SERIES RESULT: what `check` answers of a result, and after it why: month, node or right, what has to
-stand and what stands.
+"""What `check` answers of a result, and after it why: month, node or right, what has to stand and what stands.
 
-    ./basin explain examples/weir.toml examples/weir.csv examples/weir-forged.txt
-
-The first line and the status are those of `./basin check BASIN SERIES RESULT`. After `refuted LINE KIND` come the
-line itself, the month, and the sum that it breaks, term by term: of a `Balance` each node that has more or less water
-than leaves it, of a `CutLoose` the account of the set. Where BASIN or SERIES is refused, what lint says of the first
-fault follows. Status 1 says that RESULT is refuted.
+Its help is docs/help/explain.txt.
 """
 import calendar
 

@@ -1,16 +1,4 @@
-"""from-tables FOLDER >basin.toml: makes a basin file of a folder of tables, as a spreadsheet saves them (CSV).
-
-FOLDER has run.csv and nodes.csv, and as needed links.csv, reservoirs.csv, areas.csv, diversions.csv, instream.csv,
-zones.csv and returns.csv. Each has a row of headings, in any order, then a row for each entry; docs/TABLES.md lists
-them. A heading may carry a unit, as `want (acre-feet)` or `rate (cfs)`; this needs the package pint (Debian's
-python3-pint). A column without one has the units of a basin file.
-
-Faults of the tables are told on standard error with file, row and column, 20 at most, and nothing is written: status 1.
-What the program would refuse is told with its row too, status 3; the basin file is written then, for the program is the
-judge. Amounts that become 0 are listed.
-
-    ./basin from-tables examples/office/tables >creek.toml
-"""
+"""A basin file of a folder of tables, as a spreadsheet saves them. Its help is docs/help/from-tables.txt."""
 import math
 import os
 import re
@@ -235,13 +223,12 @@ class Reader:
 def toml(tree, rows):
     """The text of a basin file. Before each entry stands the row of which it is."""
     lines = ["# Made by ./basin from-tables. What is changed here is not changed in the tables."]
-    lines += [f"{key} = {overlay.spelled(value)}" for key, value in tree.items() if key not in rows]
+    lines += overlay.lines_of({key: value for key, value in tree.items() if key not in rows})
     lines += ["node = []"] if not rows["node"] else []
     for entry, numbers in rows.items():
         for number, values in zip(numbers, tree[entry]):
-            lines += ["", f"# {FILES[entry]}, row {number}", f"[[{entry}]]"]
-            lines += [f"{key} = {overlay.spelled(value)}" for key, value in values.items()]
-    return "\n".join(lines) + "\n"
+            lines += ["", f"# {FILES[entry]}, row {number}", f"[[{entry}]]", *overlay.lines_of(values)]
+    return "\n".join([*lines, ""])
 
 def refusal(text, rows):
     """What the program refuses in a basin file, with the row that it means; or None."""

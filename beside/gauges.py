@@ -1,16 +1,4 @@
-"""gauges MAP [--basin BASIN] >series.csv: makes a series of the records that hydrological services and offices keep.
-
-MAP is a table in CSV with a row for each record: the node whose inflow it has, or the right whose wants, its file,
-column, unit and kind; docs/TABLES.md lists the columns. Read are plain CSV with a column of dates, and the RDB of the
-US Geological Survey. MAP may name what was diverted and stored above a gauge: then the inflow is the natural one.
-
-With BASIN the months are those of its run, and MAP has to have each node that is gauged and each right whose wants
-stand in the series. Without, they are those of the records. Days that are missing, months that are filled, readings
-that are estimates, and natural inflows below 0, which become 0, are told on standard error. A fault in MAP or in a file
-is told with its row, and nothing is written: status 1. A month that can't be made is left out of the series: status 3.
-
-    ./basin gauges examples/office/gauges/map.csv >creek.csv
-"""
+"""A series of the records that hydrological services and offices keep. Its help is docs/help/gauges.txt."""
 import os
 import sys
 

@@ -34,13 +34,15 @@ def date_advice(text):
     fits = re.fullmatch(r"(\d{4})[-/. ](\d{1,2})[-/. ](\d{1,2})(?:[T ].*)?", text)
     if fits:
         return f'write "{fits[1]}-{int(fits[2]):02d}-{int(fits[3]):02d}"'
-    fits = re.fullmatch(r"(\d{1,2})[-/. ](\d{1,2})[-/. ](\d{4})", text)
-    if fits:
-        one, other = int(fits[1]), int(fits[2])
-        ways = [f'"{fits[3]}-{month:02d}-{day:02d}"' for month,
-            day in dict.fromkeys(((one, other), (other, one))) if 1 <= month <= 12]
-        return "write " + " or ".join(ways) if ways else 'write year, month, day, as "1911-06-15"'
-    return 'write year, month and day, as "1911-06-15"'
+    days = [f'"{day}"' for day in days_meant(text)]
+    return f"write {' or '.join(days)}" if days else 'write year, month and day, as "1911-06-15"'
+
+def days_meant(text):
+    """The days, as they are written, that a text with its year at the end may mean."""
+    told = re.fullmatch(r"(\d{1,2})[-/. ](\d{1,2})[-/. ](\d{4})", text, re.ASCII)
+    one, other = (int(told[1]), int(told[2])) if told else (0, 0)
+    pairs = dict.fromkeys(((one, other), (other, one)))
+    return [f"{told[3]}-{month:02d}-{day:02d}" for month, day in pairs if 1 <= month <= 12 and 1 <= day <= 31]
 
 def amount_advice(text):
     """What is wrong with a text that should be a whole number from 0 on, and what to do."""
@@ -59,15 +61,20 @@ def amount_advice(text):
         return "a missing reading has to be filled in: write a whole number"
     return "write a whole number, as 120"
 
+def spans(numbers):
+    """The runs of rising numbers: the first and last of each. Past the sixth they are one."""
+    runs = []
+    for number in numbers:
+        if runs and (runs[-1][1] == number - 1 or len(runs) == 6):
+            runs[-1][1] = number
+        else:
+            runs.append([number, number])
+    return runs
+
 def listed_months(months):
     """Calendar months from 1 in words: runs of them as `May to August`."""
-    runs = []
-    for month in sorted(set(months)):
-        if runs and runs[-1][1] == month - 1:
-            runs[-1][1] = month
-        else:
-            runs.append([month, month])
-    texts = [CALENDAR[first - 1]
-        + ("" if first == last else f" {'and' if last == first + 1 else 'to'} {CALENDAR[last - 1]}") for first,
-        last in runs]
+    texts = []
+    for first, last in spans(sorted(set(months))):
+        names = [CALENDAR[month - 1] for month in dict.fromkeys((first, last))]
+        texts.append((" and " if last == first + 1 else " to ").join(names))
     return ", ".join(texts)

@@ -1,22 +1,5 @@
-"""least-cost [--doubling] BASIN SERIES RESULT: what weights deliver, beside what strict priority does.
-
-    ./basin least-cost examples/weights/starved.toml - examples/weights/starved.result
-
-Each month is solved again as a network of least cost: a unit that a right gets counts the weight of the right, and the
-sum is made as great as it can be. The weights are the customary ones, 50,000 less ten times the place in the order of
-dates, counted from 0; with --doubling they are ones that are strict whatever the network is. All else is that of the
-month in RESULT: what is stored, comes in and comes back, and what is wanted. SERIES may be - as for the program, and
-RESULT is checked on the way, as by `./basin check`. docs/WEIGHTS.md tells what this shows.
-
-It writes a line for each month and right that is delivered otherwise, and ends with status 1 if there is one, else 0.
-The solver is HiGHS, of Debian's python3-scipy, or else GLPK, of glpk-utils.
-"""
-import os
-import shutil
-import subprocess
-import tempfile
-
-from beside import common, files, result
+"""What weights deliver, beside what strict priority does. Its help is docs/help/least-cost.txt."""
+from beside import common, files, glpk, result
 
 try:
     from scipy.optimize import linprog
@@ -81,24 +64,9 @@ class Problem:
         return found.x if found.status == 0 else None
 
     def by_glpk(self):
-        """The same by a file in the format of CPLEX, which glpsol reads."""
-        def spelled(row):
-            return " ".join(f"{value:+d} x{column}" for column, value in row.items()) or "+0 x0"
-        rows = [f"{spelled(row)} = {supply}" for row, supply in zip(self.balance, self.supply)]
-        rows += [f"{spelled(row)} <= 0" for row in self.passing]
-        bounds = [f"0 <= x{column} <= {bound}" for column, bound in enumerate(self.bounds)]
-        gains = {column: gain for column, gain in enumerate(self.gains) if gain}
-        text = "\n".join(["maximize", spelled(gains), "subject to", *rows, "bounds", *bounds, "end", ""])
-        with tempfile.TemporaryDirectory() as room:
-            problem, solution = os.path.join(room, "problem"), os.path.join(room, "solution")
-            with open(problem, "w", encoding="ascii") as file:
-                file.write(text)
-            subprocess.run(["glpsol", "--lp", problem, "--write", solution], stdout=subprocess.DEVNULL, check=True)
-            with open(solution, encoding="ascii") as file:
-                columns = {int(line.split()[1]): float(line.split()[3]) for line in file if line.startswith("j ")}
-        # (glpsol numbers columns as they come up in the text)
-        order = list(dict.fromkeys(word for word in text.split() if word[0] == "x"))
-        return [columns[order.index(f"x{column}") + 1] for column in range(len(self.gains))]
+        rows = [(row, "=", supply) for row, supply in zip(self.balance, self.supply)]
+        rows += [(row, "<=", 0) for row in self.passing]
+        return glpk.solved("maximize", self.gains, rows, [(0, bound) for bound in self.bounds])[0]
 
 class Weighted(result.Checker):
     """A checker that solves each good month by weights too, and keeps who is delivered otherwise."""
@@ -117,14 +85,11 @@ class Weighted(result.Checker):
         self.others += [(self.month, right, self.got[right], weighted[right]) for right in others]
         self.months += others != []
 
-def has_glpsol():
-    return shutil.which("glpsol") is not None
-
 def solver():
     """A solver that is installed, with its name."""
     if linprog is not None:
         return Problem.by_scipy, "HiGHS"
-    if has_glpsol():
+    if glpk.is_there():
         return Problem.by_glpk, "GLPK"
     raise common.Stop("a solver is needed: apt-get install python3-scipy, or glpk-utils", 2)
 

@@ -1,30 +1,13 @@
-"""lint BASIN [SERIES]: all that is wrong with a basin file and its series, with line, entry, key, what was found and
-what to do.
+"""All that is wrong with a basin file and its series, with line, key, what was found and what to do.
 
-Each fault is one line:
-
-    basin.toml:83: diversion 5 (ditch): annual_volume is no key here; did you mean volume? (format 2)  [UnknownKey]
-
-The word in brackets is the program's for the fault: docs/FORMATS.md lists them. The first line is the fault that the
-program names when it refuses the files; the others follow by their lines. Where a basin file has no fault, what
-nobody is likely to mean is a `warning`, and what is only to be known a `note`. SERIES may be `-` or left out, and is
-then not looked at; a mistake that many records share is one line.
-
-    ./basin lint examples/valley.toml examples/valley.csv
-
-Status 3 says that BASIN has a fault, and 4 that only SERIES has one. Whether a file is taken is for the program to say.
+Its help is docs/help/lint.txt.
 """
 import collections
 import contextlib
 
 from beside import basin_faults, common, doubts, model, places, series_faults, whole_faults
 
-PASSES = (
-    basin_faults.unknown_keys, basin_faults.missing_keys, basin_faults.wrong_kinds, basin_faults.out_of_range,
-    basin_faults.bad_names,
-    basin_faults.too_many, basin_faults.same_names, basin_faults.no_such_names, basin_faults.outlet_reservoirs,
-    whole_faults.network_faults, whole_faults.right_faults, whole_faults.area_faults,
-)
+PASSES = (*basin_faults.PASSES, whole_faults.network_faults, whole_faults.right_faults, whole_faults.area_faults)
 # A line of the answer: the program's line for a fault (None for a warning), the file, the line and the column, and what
 # is said.
 Said = collections.namedtuple("Said", "line path place text")
@@ -40,9 +23,6 @@ def no_text(data):
             b"\xfe\xff") else "a letter here is not in UTF-8: save the file"
         return (before.count(b"\n") + 1, error.start - before.rfind(b"\n")), what + " as UTF-8"
 
-def entry_words(table, number, name):
-    return "" if table == "top" else f"{table} {number}{f' ({name[:60]})' if name else ''}: "
-
 def basin_faults_of(path, data, is_first=False):
     """The document, if the bytes are one, and its faults, or the first alone."""
     odd = no_text(data)
@@ -57,14 +37,12 @@ def basin_faults_of(path, data, is_first=False):
     with contextlib.suppress(basin_faults.Enough):
         for look in PASSES:
             look(d)
-    return d, [Said(f"basin: {it.kind} {it.table} {it.number}", path, (places.line_of(text, it.at),),
-                    entry_words(it.table, it.number, d.own_name(it.table, d.entry_at[it.table, it.number])) + it.text)
-                    for it in d.found]
+    return d, [Said(f"basin: {it.kind} {it.table} {it.number}", path, (places.line_of(text, it.at),), it.text)
+               for it in d.found]
 
 def doubts_of(path, d, data):
     return [Said(None, path, (places.line_of(d.text, doubt.entry.key_at.get(doubt.key, doubt.entry.at)),),
-                 f"{doubt.word}: "
-                 f"{entry_words(doubt.table, doubt.number, d.own_name(doubt.table, doubt.entry))}{doubt.text}")
+                 f"{doubt.word}: {d.words(doubt.entry)}{doubt.text}")
             for doubt in doubts.doubts(d, model.Basin(d.tree))]
 
 def said_of(basin, series):

@@ -50,6 +50,8 @@ registry = None
 class NoPint(Stop):
     """The package pint isn't installed."""
 
+    status = 2
+
 class BadUnit(Fault):
     """The unit of a column isn't known, or isn't one of what the column has."""
 

@@ -32,6 +32,7 @@ KEYS_2: dict[str, dict[str, Row]] = {
     "top": {"year_start": ("whole", 1, 12, False)}, "link": {"closed": ("months", 1, 12, False)}, "instream": WANT_2,
     "diversion": WANT_2 | {"volume": ("whole", 0, 16 * 10**9, False)}, "zone": WANT_2,
 }
+KEYS_BOTH = {table: keys | KEYS_2.get(table, {}) for table, keys in KEYS.items()}
 # The keys that name an entry of a table, and those by which an entry itself is known.
 REFERS = {
     "link": {"from": "node", "to": "node"}, "reservoir": {"node": "node"}, "diversion": {"node": "node"},

@@ -6,7 +6,7 @@ and goes on the links. What flows in at a gauge stands in no basin file: it is w
 """
 import html
 
-from beside import basin
+from beside import basin, model
 from beside.common import shown
 
 # Dark and light of one hue, which print as dark grey and light grey.
@@ -129,15 +129,7 @@ class View:
 
 def leads_to(node, steps):
     """All nodes from which steps lead to a node, itself among them."""
-    tails, seen, stack = {}, {node}, [node]
-    for tail, head in steps:
-        tails.setdefault(head, []).append(tail)
-    while stack:
-        for tail in tails.get(stack.pop(), ()):
-            if tail not in seen:
-                seen.add(tail)
-                stack.append(tail)
-    return seen
+    return model.spread([node], ((head, tail) for tail, head in steps))
 
 def box(view, node, across):
     """A node as dot has it, with so many of its lines side by side: a reservoir stands in a double line, and an outlet

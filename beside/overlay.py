@@ -1,30 +1,4 @@
-"""overlay BASIN CHANGE: writes the basin file that CHANGE makes of BASIN, so that a change needs no copy of the whole.
-
-CHANGE is a TOML file that has only what is added, changed or taken out. This one is a transfer, and a new right:
-
-    [[change.diversion]]
-    name = "oldfields"
-    node = "town"
-
-    [[remove.return]]
-    diversion = "oldfields"
-
-    [[add.diversion]]
-    name = "orchard"
-    node = "weir"
-    date = "2021-03-01"
-    want = [0, 0, 0, 0, 60, 140, 180, 160, 80, 20, 0, 0]
-
-An entry of `change` keeps all keys that it doesn't give; `without = ["volume"]` takes keys away. An entry is known by
-its `name`, a reservoir by its `node`, and a return by its `diversion`, and as far as they are given its `node` and
-`lag`; `remove` needs no other keys, and takes out all returns that fit. What is added comes last in its list. Keys of
-the top are set by a table [top]. An entry that isn't there, or is there twice, is refused with one line and status 1.
-
-The basin is written without the comments of BASIN. Whether it keeps the rules is for the program to say.
-
-    ./basin overlay examples/valley.toml examples/changes/valley-transfer.change >transfer.toml
-    ./basin compared examples/valley.toml transfer.toml examples/valley.csv --except oldfields
-"""
+"""The basin file that a file with a change alone makes of another. Its help is docs/help/overlay.txt."""
 import copy
 import json
 import re

@@ -1,18 +1,4 @@
-"""page BASIN SERIES RESULT OUT.html: one page on a result, to be shown at a hearing and printed.
-
-    ./basin run examples/valley.toml examples/valley.csv >valley.txt
-    ./basin page examples/valley.toml examples/valley.csv valley.txt valley.html
-
-The page is one file, which opens in any browser without a network. It has the map of the basin with the flows of a
-month, a row for each right with its shortages in all months, the account of the right and month that are chosen, where
-one more unit of water would have helped it, who is curtailed for it, and plots. Its address holds the choice, and it
-prints one page for it. SERIES is - where there is none.
-
-It says on top which files it shows, by their SHA-256 sums, and what `basin check` answered to them. Where the result is
-refuted the page says so, gives no reason for anything, and the status is 1. A text that isn't of the form of a result
-makes no page, status 1 too. It needs Debian's packages graphviz and libjs-dygraphs, the library that draws the plots
-and goes into the page.
-"""
+"""One page on a result, to be shown at a hearing and printed. Its help is docs/help/page.txt."""
 import base64
 import hashlib
 import html
@@ -20,7 +6,6 @@ import itertools
 import json
 import os
 import re
-import shutil
 import subprocess
 import sys
 import tempfile
@@ -147,10 +132,6 @@ def drawn(text):
     svg = re.sub(r"<title>.*?</title>\n?|<!--.*?-->\n?", "", svg[svg.index("<svg"):], flags=re.DOTALL)
     return re.sub(r'<svg width="\d+pt" height="\d+pt"', '<svg id="map"', svg, count=1)
 
-def sum_of(name):
-    with open(name, "rb") as file:
-        return hashlib.file_digest(file, "sha256").hexdigest()
-
 def checked(names):
     """What `check` answers, whether it is a yes, and what the program says of itself."""
     try:
@@ -171,7 +152,10 @@ def is_formed(names):
 def head_rows(names, copies):
     """The rows that say which files are shown."""
     for what, name, copy in zip(KINDS, names, copies):
-        where = "none" if copy == "-" else f"{html.escape(name)}</td><td><code>{sum_of(copy)}</code>"
+        where = "none"
+        if copy != "-":
+            digest = hashlib.sha256(common.read_bytes(copy, None)).hexdigest()
+            where = f"{html.escape(name)}</td><td><code>{digest}</code>"
         yield f"<tr><th>{what}</th><td>{where}</td></tr>"
 
 def data_text(data):
@@ -210,8 +194,7 @@ def copied(names, room):
     copies = [os.path.join(room, what) for what in KINDS]
     for name, copy in zip(names, copies):
         if name != "-":
-            with open(name, "rb") as given, open(copy, "wb") as file:
-                shutil.copyfileobj(given, file)
+            common.write_text(copy, common.read_bytes(name, None))
     return ["-" if name == "-" else copy for name, copy in zip(names, copies)]
 
 def told(names, is_good):

@@ -29,7 +29,7 @@ class Wrong(Exception):
 class Table(dict):
     """A table, the place where it begins, and of each key the places of the key and of its value. `origin` says what
     made it: a header, a header that passed through it, a dotted key; None is a table within braces, which nothing
-    adds to."""
+    adds to. An entry of a basin file is told its `table` and `number`, too."""
 
     def __init__(self, at, origin=None):
         super().__init__()

@@ -13,7 +13,7 @@ import sys
 from beside import model
 from beside.basin_faults import Finding
 from beside.common import counted, meant, month_text, nearest
-from beside.hints import MANY, amount_advice, month_advice
+from beside.hints import MANY, amount_advice, month_advice, spans
 
 HEADERS = (["month", "node", "amount"], ["month", "kind", "name", "amount"])
 
@@ -30,16 +30,12 @@ class Due:
         first = tree.get("first_month")
         self.first = model.read_month(first) if isinstance(first, str) else None
         self.months = whole_in(tree.get("months"), 1, 1200)
-        rows = d.entries if d else []
-        self.names = {
-            "inflow": {name: entry.get("inflow") == "gauged" for table, _,
-            entry in rows if table == "node" and (name := d.own_name(table, entry))},
-            "want": {name: entry.get("want") == "series" for table, _,
-            entry in rows if table in model.RIGHTS and (name := d.own_name(table, entry))},
-        }
-        self.are_all_known = {kind: d is not None and all(d.own_name(table, entry) for table, _,
-            entry in rows if table in tables)
-                              for kind, tables in (("inflow", ("node",)), ("want", model.RIGHTS))}
+        self.names, self.are_all_known = {}, {}
+        for kind, word, tables in (("inflow", "gauged", ("node",)), ("want", "series", model.RIGHTS)):
+            rows = d.rows(*tables) if d else []
+            listed = [(d.own_name(entry), entry.get(kind) == word) for entry in rows]
+            self.names[kind] = {name: is_due for name, is_due in listed if name}
+            self.are_all_known[kind] = d is not None and all(name for name, _ in listed)
 
     def index(self, month):
         """The place of a month in the run, or None outside it."""
@@ -191,16 +187,6 @@ class Series:
             yield Finding(fault, month_text(self.due.first + indexes[0]), name, None,
                 f"{name} has no {what} for {runs} ({counted(len(indexes), 'month')}): add "
                 f"{'it' if len(indexes) == 1 else 'them'}")
-
-def spans(numbers):
-    """The runs of rising numbers: the first and last of each. Past the sixth they are one."""
-    runs = []
-    for number in numbers:
-        if runs and (runs[-1][1] == number - 1 or len(runs) == 6):
-            runs[-1][1] = number
-        else:
-            runs.append([number, number])
-    return runs
 
 def field_advice(record, width):
     if len(record) == 1 and re.search(r"[;\t]", record[0]):

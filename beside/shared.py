@@ -1,14 +1,4 @@
-"""shared [--check] [OPTIONS OF PARALLEL] BASIN SERIES: `basin ensemble` with its traces shared out by GNU parallel.
-
-    ./basin shared examples/valley.toml examples/valley.csv
-
-It writes byte for byte what `basin ensemble BASIN SERIES` writes. On one machine there are as many jobs as processors,
-or as many as --jobs says. With `--sshlogin :,one,two` they go to these machines, too (`:` is this one): to each the
-program, these scripts, BASIN and SERIES are sent, and nothing stays there. They need Python 3.11 and rsync, and a
-program that is built: `.built/program`, or what the environment names as BASIN_PROGRAM. With --check each trace is
-checked where it is made. Other options go to parallel as they are, as --memfree or --nice. Status 1 says that a trace
-was not accepted.
-"""
+"""An ensemble with its traces shared out by GNU parallel. Its help is docs/help/shared.txt."""
 import glob
 import os
 import shutil

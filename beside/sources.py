@@ -1,15 +1,4 @@
-"""sources BASIN SERIES MONTH RIGHT [OTHER ..]: the account of a short right with its sources, and a sentence on the
-others.
-
-`basin why` gives one amount for what is supplied at a node. Here it is taken apart: what flowed in, what a reservoir
-held and lost to the sun, and each return with the diversion and the month that it comes from. Behind the account comes
-a sentence for each other right, or for those that are named: what it means for the holder of RIGHT, called `you`.
-
-    ./basin sources examples/valley.toml examples/valley.csv 1982-07 oldfields
-
-The status is 1 where the right lacks nothing. The basin is run to get the months before; nothing of this is proved but
-the lines of `basin why` themselves, which stand at the left.
-"""
+"""The account of a short right with its sources, and a sentence on the others. Its help is docs/help/sources.txt."""
 import itertools
 
 from beside import basin, common

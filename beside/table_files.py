@@ -4,6 +4,7 @@ import re
 
 from beside import common
 from beside.common import CALENDAR, Fault
+from beside.hints import days_meant
 
 # For each file its list in the basin file (None: no list of its own), and its columns. A cell is a text, a whole
 # number, a truth, a month, a day, a calendar month, a list of these, or an amount of a kind of `measures`; with a star,
@@ -72,10 +73,7 @@ def read_table(path):
 
 def day_fault(text):
     """Why a text is no day as YYYY-MM-DD, with the days that it may mean."""
-    told, meant = re.fullmatch(r"([0-9]{1,2})[/.-]([0-9]{1,2})[/.-]([0-9]{4})", text), []
-    if told:
-        pairs = dict.fromkeys(((int(told[1]), int(told[2])), (int(told[2]), int(told[1]))))
-        meant = [f"{told[3]}-{month:02d}-{day:02d}" for month, day in pairs if 1 <= month <= 12 and 1 <= day <= 31]
+    meant = days_meant(text)
     if len(meant) == 2:
         return f"{text} is read as neither {meant[0]} nor {meant[1]}: write it as YYYY-MM-DD"
     return f"{text} is not read as a day: write it as YYYY-MM-DD" + (f", here {meant[0]}" if meant else "")

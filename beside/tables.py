@@ -1,35 +1,4 @@
-"""tables [--basin BASIN] [--calls CALLS] RESULT FOLDER: tidy tables of a result in CSV, for spreadsheets, pandas or R.
-
-RESULT is a file, or - for standard input, of any length: it is read once, month by month. FOLDER is made if it isn't
-there, and gets
-
-    rights.csv       month, right, wanted, delivered, short, caller
-    reservoirs.csv   month, reservoir, opening, evaporated, closing
-    links.csv        month, link, flow
-    outlets.csv      month, outlet, out
-    returns.csv      month, node, returned
-    used.csv         month, right, used
-    sets.csv         month, right, node: the nodes that stand after each call
-
-with a row for each right, reservoir, link and so on in each month. `short` is what is wanted less what is delivered,
-and `caller` the right that is answered to, or empty.
-
-With the BASIN of the result each table ends with the month's `water_year`, which is named after the calendar year in
-which it ends, and rights.csv has `kind`, `place`, `date` and `order` too. One more table sums the water years:
-
-    yearly.csv       water_year, right, kind, months, wanted, delivered, short, months_short, held
-
-There `held` is what a zone holds at the end of the year. A zone has no other sums: what a lake holds in January and
-again in February is one water. A year of fewer than 12 `months` is only partly in the run.
-
-CALLS is what `basin calls` wrote; then there is calls.csv, too, with month, what, name, right: `next` for the right
-whose one more unit of water at node NAME would be, `link` for the right that one more unit of carry on canal NAME would
-help, and `curtailed` where NAME has to stand back for the right.
-
-A text that isn't a result is refused with its line, and status 1. What a result says is not checked here.
-
-    ./basin tables --basin examples/valley.toml examples/valley.result valley-tables
-"""
+"""Tidy tables of a result in CSV, for spreadsheets, pandas or R. Its help is docs/help/tables.txt."""
 import csv
 import os
 

@@ -1,11 +1,6 @@
-"""to-tables BASIN FOLDER: writes a basin file as tables for a spreadsheet, of which `./basin from-tables` makes the
-same basin.
+"""A basin file as tables for a spreadsheet, of which from-tables makes the same basin.
 
-FOLDER is made if it isn't there, and gets run.csv, nodes.csv, links.csv, reservoirs.csv, areas.csv, diversions.csv,
-instream.csv, zones.csv and returns.csv, all of them, so that none of an earlier basin stays. Amounts stand in the units
-of the basin file, and comments are gone.
-
-    ./basin to-tables examples/valley.toml valley-tables
+Its help is docs/help/to-tables.txt.
 """
 import os
 

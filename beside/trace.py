@@ -1,15 +1,4 @@
-"""trace [--check] BASIN SERIES YEARS: one trace of an ensemble, summed up by years, for `./basin count`.
-
-    ./basin trace examples/valley.toml examples/valley.csv 3 >trace-3.sums
-
-The trace is a run on the series begun YEARS years later: each gauge gives in month i of the run the amount of month
-i + 12 * YEARS of the record, counted on from the beginning past its end. Wants that stand in the series keep their
-months. With --check the program checks the result of the trace, too, while it is made.
-
-It writes `trace FIRST TRACES YEARS`, then `year NUMBER RIGHT AMOUNT` for each year of the trace and each right, seniors
-first, and `done YEARS`. A file that the program refuses is told by the program's line and status. The program is the
-script `basin`, or what the environment names as BASIN_PROGRAM. Status 1 says that the trace was not accepted.
-"""
+"""One trace of an ensemble, summed up by years. Its help is docs/help/trace.txt."""
 import contextlib
 import re
 import subprocess
@@ -18,17 +7,13 @@ import tempfile
 
 from beside import basin, common
 
-def place_of(month, first):
-    """How many months a month lies after the first."""
-    return (int(month[:4]) - int(first[:4])) * 12 + int(month[5:]) - int(first[5:])
-
 def begun_later(amounts, years, first, count):
     """The records of a series that begins so many years later: inflows move, and wants stay."""
     for (month, kind, name), amount in amounts.items():
-        place = place_of(month, first)
+        place = common.month_number(month) - common.month_number(first)
         if 0 <= place < count:
             moved = (place - 12 * years) % count if kind == "inflow" else place
-            yield basin.month_after(first, moved), kind, name, amount
+            yield common.month_text(common.month_number(first) + moved), kind, name, amount
 
 def write_series(out, records):
     has_wants = any(record[1] == "want" for record in records)

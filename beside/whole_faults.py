@@ -11,22 +11,21 @@ class Network:
 
     def __init__(self, d):
         self.d, self.nodes = d, {}
-        for _, number, entry in d.rows("node"):
-            self.nodes.setdefault(d.own_name("node", entry), number)
-        self.entry = {number: entry for _, number, entry in d.rows("node")}
-        self.name = {number: d.own_name("node", entry) for number, entry in self.entry.items()}
+        self.entry = {entry.number: entry for entry in d.rows("node")}
+        self.name = {number: d.own_name(entry) for number, entry in self.entry.items()}
+        for number, name in self.name.items():
+            self.nodes.setdefault(name, number)
         self.outlets = {number for number, entry in self.entry.items() if d.good(entry, "outlet") is True}
         self.links, self.with_river = {}, set()
         self.is_whole = isinstance(d.tree.get("link", []), list) and (id(d.tree), "link") not in d.renamed
-        for _, number, entry in d.rows("link"):
+        for entry in d.rows("link"):
             tail, head = (self.nodes.get(name) if isinstance(name := d.good(entry, key), str) else None
-                for key in ("from", "to"))
+                          for key in ("from", "to"))
             self.is_whole = self.is_whole and tail is not None
             if d.good(entry, "per_day") is None and "per_day" not in entry:
                 self.with_river.add(tail)
             if tail is not None and head is not None:
-                self.links[number] = (entry, tail, head)
-
+                self.links[entry.number] = (entry, tail, head)
         self.leaving = {node: [] for node in self.entry}    # the links out of each node, with their heads
         for number, (_, tail, head) in self.links.items():
             if tail != head:
@@ -82,58 +81,55 @@ class Network:
 
 def network_faults(d):
     net = Network(d)
-    for number, (entry, tail, head) in net.links.items():
+    for entry, tail, head in net.links.values():
         if tail == head:
-            d.tell("SelfLink", "link", number, entry, "to", f"the link leads from {net.name[tail]} to itself")
-    for number, (entry, tail, _) in net.links.items():
+            d.tell("SelfLink", entry, "to", f"the link leads from {net.name[tail]} to itself")
+    for entry, tail, _ in net.links.values():
         if tail in net.outlets:
-            d.tell("LinkFromOutlet", "link", number, entry, "from",
-                f"the link leaves {net.name[tail]}, which is an outlet: nothing goes on from there")
+            d.tell("LinkFromOutlet", entry, "from",
+                   f"the link leaves {net.name[tail]}, which is an outlet: nothing goes on from there")
     if net.is_whole:
         no_rivers(d, net)
     for number, way in net.loops():
-        shown = " ".join(f"-> {net.name[net.links[link][2]]} ({d.own_name('link', net.links[link][0])})"
-            for link in way)
-        d.tell("DirectedCycle", "node", number, net.entry[number], None,
-               f"the water of {net.name[number]} comes back to it: {net.name[number]} {shown}; turn one of these "
-               f"links, or take it out")
+        shown = " ".join(f"-> {net.name[head]} ({d.own_name(link)})" for link, _, head in map(net.links.get, way))
+        name = net.name[number]
+        d.tell("DirectedCycle", net.entry[number], None,
+               f"the water of {name} comes back to it: {name} {shown}; turn one of these links, or take it out")
 
 def no_rivers(d, net):
     canals_of = {}
     for link, tail, _ in net.links.values():
-        canals_of.setdefault(tail, []).append(d.own_name("link", link) or "?")
+        canals_of.setdefault(tail, []).append(d.own_name(link) or "?")
     for number, entry in net.entry.items():
         if number not in net.outlets and number not in net.with_river and net.name[number]:
             canals = canals_of.get(number, [])
-            d.tell("NoRiver", "node", number, entry, None, "no river leaves the node, so its water has no way out"
-                + (f" but the canal{'s' if len(canals) > 1 else ''} {', '.join(canals)}" if canals else "")
-                   + ": add a link from it without per_day, or outlet = true")
+            but = f" but the canal{'s' if len(canals) > 1 else ''} {', '.join(canals)}" if canals else ""
+            d.tell("NoRiver", entry, None, f"no river leaves the node, so its water has no way out{but}: add a link "
+                                           "from it without per_day, or outlet = true")
 
 class Right:
     """What is good of a right: its date, its order and the date with the order."""
 
-    def __init__(self, d, table, number, entry):
-        self.table, self.number, self.entry = table, number, entry
+    def __init__(self, d, entry):
+        self.entry = entry
         date, order = d.good(entry, "date"), d.good(entry, "order") if "order" in entry else 0
         self.date = date if model.KINDS["day"](date) else None
         self.priority = (self.date, order) if self.date is not None and model.is_whole(order) else None
         self.level, self.reservoir = d.good(entry, "level"), d.good(entry, "reservoir")
 
 def right_faults(d):
-    rights = [Right(d, *row) for row in d.rows(*model.RIGHTS)]
+    rights = [Right(d, entry) for entry in d.rows(*model.RIGHTS)]
     for right in rights:
         if right.date is not None and not model.is_day(right.date):
-            d.tell("BadDate", right.table, right.number, right.entry, "date",
-                f'date is "{right.date}": {no_day(right.date)}')
+            d.tell("BadDate", right.entry, "date", f'date is "{right.date}": {no_day(right.date)}')
     first = {}
     for right in rights:
         if right.priority is not None and first.setdefault(right.priority, right) is not right:
-            other = first[right.priority]
-            d.tell("SameSeniority", right.table, right.number, right.entry,
-                "order" if "order" in right.entry else "date",
-                   f"date {right.date} with order {right.priority[1]} is that of {d.whose(other.table, other.number)} "
-                   f"too: give one of them another order")
-    zone_faults(d, [right for right in rights if right.table == "zone"])
+            other = d.whose(first[right.priority].entry)
+            d.tell("SameSeniority", right.entry, "order" if "order" in right.entry else "date",
+                   f"date {right.date} with order {right.priority[1]} is that of {other} too: give one of them another "
+                   "order")
+    zone_faults(d, [right for right in rights if right.entry.table == "zone"])
     return_parts(d)
 
 def no_day(text):
@@ -168,13 +164,13 @@ def zone_faults(d, zones):
     for zone in zones:
         why = zone_fault(d, levels, zone, are_known) if is_known(zone) else None
         if why:
-            d.tell("ZoneOrder", "zone", zone.number, zone.entry, "level", why)
+            d.tell("ZoneOrder", zone.entry, "level", why)
 
 def zone_fault(d, levels, zone, are_known):
     """Why a zone may not stand where it does, or None."""
     first = levels[zone.reservoir, zone.level].first
     if first is not zone:
-        return f"level {zone.level} of {zone.reservoir} is that of {d.whose('zone', first.number)} too"
+        return f"level {zone.level} of {zone.reservoir} is that of {d.whose(first.entry)} too"
     if zone.level == 1:
         return None
     below = levels.get((zone.reservoir, zone.level - 1))
@@ -184,39 +180,37 @@ def zone_fault(d, levels, zone, are_known):
         return why + ": number the levels from 1, without a gap" if are_known else None
     if below.senior is not None and below.senior < zone.priority or not below.are_known:
         return None
-    return (f"the zone below, {d.whose('zone', below.first.number)}, isn't senior to it: date the zones from the "
-        f"bottom up, the lowest first")
+    return (f"the zone below, {d.whose(below.first.entry)}, isn't senior to it: date the zones from the bottom up, the "
+            "lowest first")
 
 def return_parts(d):
     rows = {}
-    for _, number, entry in d.rows("return"):
+    for entry in d.rows("return"):
         part = d.good(entry, "part")
         if isinstance(entry.get("diversion"), str) and model.is_whole(part) and 1 <= part <= 10_000:
             rows.setdefault(entry["diversion"], []).append((part, entry))
-    for _, number, entry in d.rows("diversion"):
+    for entry in d.rows("diversion"):
         # (of several diversions of one name the first)
         parts = rows.pop(entry.get("name") if isinstance(entry.get("name"), str) else None, [])
         total = sum(part for part, _ in parts)
         if total > 10_000:
             sums = " + ".join(f"{part:,} (line {d.line(row)})" for part, row in parts)
-            d.tell("ReturnParts", "diversion", number, entry, None,
-                f"{sums} = {total:,} parts of 10,000 come back: more than it takes")
+            d.tell("ReturnParts", entry, None, f"{sums} = {total:,} parts of 10,000 come back: more than it takes")
 
 def area_faults(d):
-    for _, number, entry in d.rows("reservoir"):
+    for entry in d.rows("reservoir"):
         points = d.good(entry, "area")
         if not model.KINDS["area"](points):
             continue
         if not points:
-            d.tell("TableEmpty", "reservoir", number, entry, "area",
-                "area is an empty list: leave it out, or write pairs from [0, 0] on")
+            d.tell("TableEmpty", entry, "area", "area is an empty list: leave it out, or write pairs from [0, 0] on")
         elif points[0][0] != 0:
-            d.tell("TableFirst", "reservoir", number, entry, "area",
-                f"area begins with the storage {points[0][0]:,}: the first is 0, as [0, 0]", 0)
+            d.tell("TableFirst", entry, "area",
+                   f"area begins with the storage {points[0][0]:,}: the first is 0, as [0, 0]", 0)
         for at, ((s0, a0), (s1, a1)) in enumerate(zip(points, points[1:]), 1):
             if s1 <= s0:
-                d.tell("TableRising", "reservoir", number, entry, "area",
-                    f"the storage {s1:,} isn't above the one before, {s0:,}: storages rise", at)
+                d.tell("TableRising", entry, "area",
+                       f"the storage {s1:,} isn't above the one before, {s0:,}: storages rise", at)
             elif a1 < a0:
-                d.tell("TableArea", "reservoir", number, entry, "area",
-                    f"the area {a1:,} is below the one before, {a0:,}: areas don't fall", at)
+                d.tell("TableArea", entry, "area",
+                       f"the area {a1:,} is below the one before, {a0:,}: areas don't fall", at)

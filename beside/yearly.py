@@ -1,18 +1,4 @@
-"""yearly [--basin BASIN] [--csv] TEXT: how much a right can count on in a year, from an ensemble or from a run.
-
-TEXT is what `basin ensemble` wrote, or a result, and then BASIN must be given; - is standard input. For each right,
-seniors first, comes the least that came in a year, what came at least in 95, 90, 80, 50, 20 and 10 of 100 years, and
-the most. With --csv comes each different amount of a right, falling, with the years in which at least so much came, and
-their share in percent: the table of its exceedance curve, which `./basin draw yearly BASIN ENSEMBLE OUT` draws.
-
-A year of an ensemble is twelve months from the first month of the run. It is a water year if the run begins with one:
-with BASIN that is said. Of a result the water years of BASIN are taken that lie wholly in the run. With BASIN zones are
-left out: the sum of what a lake holds in twelve months is no yearly amount.
-
-Status 1 says that TEXT is neither.
-
-    ./basin yearly --basin examples/valley.toml examples/valley.ensemble
-"""
+"""How much a right can count on in a year, from an ensemble or from a run. Its help is docs/help/yearly.txt."""
 import collections
 import itertools
 import sys

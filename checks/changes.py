@@ -4,14 +4,14 @@ import os
 import re
 import tempfile
 
-from beside.common import write_text
+from beside.common import month_text, write_text
 from checks import harness
 
 DENSE, KEYS, VALUES, LINES, SIGNS, FIELDS, AT_KEYS = harness.table(
     "changes", "DENSE KEYS VALUES LINES SIGNS FIELDS AT_KEYS")
 DENSE_SERIES = "month,kind,name,amount\n" + "".join(
-    f"{1981 + (9 + index) // 12}-{(9 + index) % 12 + 1:02d},{kind},{name},{index}\n" for index in range(12) for kind,
-    name in (("inflow", "gauge"), ("want", "mill")))
+    f"{month_text(1981 * 12 + 9 + index)},{kind},{name},{index}\n"
+    for index in range(12) for kind, name in (("inflow", "gauge"), ("want", "mill")))
 
 def spread_out(text, chance):
     """A basin file of one of the shapes that mean the same: tables in braces over lines, other line ends, a byte

@@ -1,10 +1,10 @@
 """fuzz PROGRAM [COUNT [NAME..]]: hands each script beside the program, or those named, COUNT bad inputs (40 if it is
-left out; fewer where a script runs the program), and tries its help.
+left out; fewer where a script runs the program).
 
 Words are missing, too many or odd; files are absent, empty, folders, of other bytes, or changed: amounts of 5,000
 digits, months and dates that are none, keys that are missing or hold something else, lists 5,000 deep. Whatever comes,
 a script has to end with one of the statuses that its help tells, with lines of signs that can be seen and without a
-traceback. Each example of a help has to work as it stands. Those of measurements are only handed bad words.
+traceback. Measurements are only handed bad words. `checks/run pages` tries the examples of the helps.
 """
 import importlib
 import os
@@ -14,12 +14,12 @@ import shutil
 import stat
 import traceback
 
-from beside import basin, common
+from beside import basin
 from beside.common import write_text
 from checks import changes, harness
-from checks.harness import called, example, ran, read, tried
+from checks.harness import called, example, read, tried
 
-WEIR, (CALLS,) = harness.files_of("weir"), harness.table("fuzz", "CALLS")
+WEIR, (CALLS, TEXTS) = harness.files_of("weir"), harness.table("fuzz", "CALLS TEXTS")
 WITH_PROGRAM = ("compared", "sources", "page", "trace", "shared")       # these run it, and so are slower
 ODD_WORDS = ("", "-", "--", "--basin", "--csv", "--nothing", "-h-", "1960-13", "1960-7", "x" * 300, "a\nb", "\x1b[2J",
              "\0", "no/where", "-1", "9" * 5000, "\u0664", "\udcff")
@@ -29,15 +29,9 @@ TOKENS = ("9" * 5000, "-1", "1981-xx", "0000-00-00", "\0", "\x1b[2J", "\u0664", 
 BYTES = (b"", b"\0", b"\xff\xfea\0", b"\xef\xbb\xbf", b"\n", b"\r\n" * 99, b"\xff" * 99, b"x = " + b"[" * 5000,
          b"[[node]]\n" * 99, b"river-result 1\n", b"a,b\n1,2,3\n", b"month,node,amount\n", b"diversion = 5\n",
          b"\x7fELF\x01", b"1" * 5000)
-GOOD = {
+GOOD = TEXTS | {
     "BASIN": read(WEIR[0]), "SERIES": read(WEIR[1]), "RESULT": read(WEIR[2]),
     "ENSEMBLE": read("examples", "valley.ensemble"), "BASIN2": read(WEIR[0]).replace("want = 400", "want = 900"),
-    "CHANGE": '[[change.diversion]]\nname = "city"\nwithout = ["order"]\nwant = 5\n'
-              '[[remove.return]]\ndiversion = "canalco"\n[[add.node]]\nname = "new"\n[top]\nmonths = 1\n',
-    "CALLS": "calls 1960-07 1\nmonth 1960-07\nshort a 1 2\nnext n a\nlink c a\ncurtailed b a\nend\ndone 1\n",
-    "TRACE": "trace 1981-10 1 0\nyear 0 town 5\nyear 0 farm 7\ndone 0\n",
-    "MAP": "name,node,right,file,column,unit,kind,fill,missing,site,upstream,diverted,stored,returned\n"
-           ",upper,,records.csv,flow,cfs,daily rate,mean,-9,,,cut,,\ncut,,,records.csv,taken,,daily volume,,,,,,,\n",
 }
 RECORDS = "date,flow,taken\n" + "".join(f"1960-07-{day:02d},{day},1\n" for day in range(1, 32))
 TABLES = {name: read("examples", "office", "tables", name) for name in sorted(os.listdir(example("office", "tables")))}
@@ -69,7 +63,7 @@ def cleared(path):
     return path
 
 def put_file(path, text, chance, is_bad):
-    """Writes a file, bad or good."""
+    """Writes a file, bad or good; of a bad one there may be none, or a folder."""
     how = chance.randrange(12) if is_bad else 12
     cleared(path)
     if how == 0:
@@ -86,7 +80,8 @@ def bad_words(words, chance):
     return words[:at] + [[], [words[at]] * 2, [odd], [odd, words[at]]][how] + words[at + 1:]
 
 def bad_call(name, room, chance):
-    """The words of a call with something bad in it, and its files in a folder."""
+    """The words of a call with something bad in it, and whether that is a file which can't be read. Its files are put
+    into a folder."""
     words = chance.choice(CALLS[name]).split()
     files = [word for word in words if word in GOOD or word == "TABLES"]
     is_of_words, bad = not files or chance.randrange(6) == 0, chance.choice(files or [""])
@@ -102,7 +97,8 @@ def bad_call(name, room, chance):
     put_file(os.path.join(room, "records.csv"), RECORDS, chance, "MAP" in files and chance.randrange(3) == 0)
     cleared(os.path.join(room, "OUT"))
     words = [os.path.join(room, word) if word in files or word.startswith("OUT") else word for word in words]
-    return bad_words(words, chance) if is_of_words else words
+    is_unread = bad in GOOD and not os.path.isfile(os.path.join(room, bad))
+    return bad_words(words, chance) if is_of_words else words, is_unread and not is_of_words
 
 def statuses_of(text):
     """The statuses that a help tells, and of a script that runs the program all of the program's."""
@@ -115,39 +111,24 @@ def try_bad(name, count, room, chance):
     due = statuses_of(called(name, "--help")[0]) | ({6, 7, 9} if name in WITH_PROGRAM else set())
     seen = {}
     for number in range(count):
-        words = bad_call(name, room, chance)
+        words, is_unread = bad_call(name, room, chance)
         try:
             out, err, status = called(name, *words, text="")
             is_seen = all(map(str.isprintable, err)) and (err != [] or status in (0, 1) or name == "lint")
-            tried(f"bad input {number} of {name}", status in due and is_seen, (words, status, err[:3]))
+            is_due = status == (2 if "apt-get" in str(err) else 5) if is_unread else status in due
+            tried(f"bad input {number} of {name}", is_due and is_seen, (words, status, err[:3]))
             seen[status] = seen.get(status, 0) + 1
         except Exception as error:
             where = traceback.extract_tb(error.__traceback__)[-1]
             tried(f"bad input {number} of {name}", False, (words, repr(error)[:200], where.filename, where.lineno))
     return f"{name} {' '.join(f'{status}:{times}' for status, times in sorted(seen.items()))}"
 
-def try_help(name, room):
-    """That a help tells what a script takes and its statuses, and that its examples work as they stand."""
-    text = called(name, "--help")[0]
-    examples = re.findall(r"(?m)^    (\./basin .*)$", text)
-    tried(f"{name} has a help", text.startswith(f"{name} ") or text.startswith(f"{name}:"), text[:60])
-    tried(f"{name} has an example", any(line.startswith(f"./basin {name} ") for line in examples), examples)
-    for line in examples if not name.startswith(("bench", "count")) else ():
-        _, err, status = ran("bash", "-c", line, cwd=room)
-        tried(f"{line} works as it stands", status in (0, 1) or "apt-get" in " ".join(err), (status, err))
-
 def main(room, program, count="40", *names):
     chance, basin.PROGRAM = random.Random(" ".join(names) or 73), program
-    clean = os.path.join(room, "clean")
-    os.makedirs(clean)
-    os.symlink(harness.EXAMPLES, os.path.join(clean, "examples"))
-    scripts = "|".join(CALLS)
-    start = f'#!/bin/bash\ncase "$1" in {scripts}) exec {common.ROOT}/basin "$@";; esac\nexec {program} "$@"\n'
-    os.chmod(write_text(os.path.join(clean, "basin"), start), 0o755)
     told = []
+    tried("bad inputs are there for each script", {*CALLS} == {*harness.scripts()})
     for name in names or CALLS:
         importlib.import_module("beside." + name.replace("-", "_"))
-        try_help(name, clean)
         less = {"shared": 40, "page": 4, "draw": 4, "sources": 2, "compared": 2, "trace": 2}.get(name, 1)
         told.append(try_bad(name, int(count) if int(count) >= 2000 else max(5, int(count) // less), room, chance))
     print("fuzz: statuses and how often: " + ", ".join(told))

@@ -4,6 +4,7 @@ import glob
 import importlib
 import io
 import os
+import re
 import subprocess
 import sys
 import tomllib
@@ -86,7 +87,7 @@ def called(name: str, *words: str, text: str | None = None) -> Answer:
     """The same without a process of its own, and without the script's name before a line."""
     module, out, err = importlib.import_module("beside." + name.replace("-", "_")), io.StringIO(), io.StringIO()
     with contextlib.redirect_stdout(out), contextlib.redirect_stderr(err), standard_input(text):
-        status = common.run(module.main, module.__doc__, list(words))
+        status = common.run(module.main, name, list(words))
     return out.getvalue(), [line.removeprefix(f"{name}: ") for line in err.getvalue().splitlines()], status
 
 @contextlib.contextmanager
@@ -119,6 +120,10 @@ def small(room: str, numbers: Iterable[int]) -> Iterator[list[str]]:
                    check=True)
     for number in listed:
         yield [os.path.join(room, str(number), name) for name in ("basin.toml", "series.csv")]
+
+def scripts() -> list[str]:
+    """The names of all scripts beside the program, by the screen of help."""
+    return re.findall(r"(?m)^  \./basin (\S+)", read("docs", "help.txt").partition("\nBeside the program")[2])
 
 def all_examples(ending: str) -> list[str]:
     """The paths of all examples with an ending, in folders too."""

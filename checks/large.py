@@ -6,8 +6,8 @@ every fifth of them instream.
 import os
 import random
 
-from beside.common import write_text
-from beside.overlay import lines_of
+from beside.common import month_text, write_text
+from beside.overlay import text_of
 
 def basin(nodes, months, chance):
     """The text of the basin file."""
@@ -27,16 +27,12 @@ def basin(nodes, months, chance):
             table["zone"].append({"name": f"z{at}", "reservoir": f"n{at}", "level": 1, "date": "1950-01-01",
                                   "order": nodes + at, "want": 9000})
     table["node"].append({"name": f"n{nodes - 1}", "outlet": True})
-    lines = ["format = 1", 'first_month = "1900-10"', f"months = {months}"]
-    for name, entries in table.items():
-        for entry in entries:
-            lines += [f"[[{name}]]", *lines_of(entry)]
-    return "\n".join([*lines, ""])
+    return text_of({"format": 1, "first_month": "1900-10", "months": months} | table)
 
 def series(nodes, months, chance):
     """The text of its series."""
-    names = [f"{1900 + (9 + month) // 12}-{(9 + month) % 12 + 1:02d}" for month in range(months)]
-    records = [f"{name},n{at},{chance.randint(100, 4000)}" for name in names for at in range(0, nodes - 1, 6)]
+    records = [f"{month_text(1900 * 12 + 9 + month)},n{at},{chance.randint(100, 4000)}"
+               for month in range(months) for at in range(0, nodes - 1, 6)]
     return "\n".join(["month,node,amount", *records, ""])
 
 def write(nodes, months, folder):

@@ -44,16 +44,6 @@ def with_mistakes(table, mistakes, room):
 def page_lines():
     return read("docs", "LINT.md").splitlines()
 
-def try_page():
-    """Each call of explain that the page shows writes what stands there."""
-    lines, count = page_lines(), 0
-    for at, line in enumerate(lines):
-        if line.startswith("    $ ./basin explain "):
-            count += 1
-            first, more, _ = explain.explained([os.path.join(common.ROOT, word) for word in line.split()[3:]])
-            tried(f"the page on{line}", [f"    {text}" for text in [first, *more]] == lines[at + 1:at + 2 + len(more)])
-    tried("the page has calls of explain", count >= 2)
-
 def try_scripts(room):
     """The statuses of both scripts, and where they write."""
     paths = dict(zip(("WEIR", "SERIES", "RESULT"), files_of("weir"))) | {"FORGED": example("weir-forged.txt")}
@@ -236,7 +226,6 @@ def main(room, program, count="2000"):
     number = int(count)
     mistakes, pairs = try_mistakes(program, room)
     doubts = try_doubts(room)
-    try_page()
     try_scripts(room)
     try_unseen(room)
     answers = command_line.try_answers(program, os.path.join(room, "answers"))

@@ -123,7 +123,7 @@ def without_pint(room):
     put(folder, TABLES | {"zones.csv": TABLES["zones.csv"].replace("want", "want (acre-feet)")})
     for name, path in (("from-tables", folder), ("gauges", map_folder + "/map.csv")):
         said = script(name, path, env=without)[1:]
-        tried(f"a unit without pint, by {name}", said == ([f"{name}: {line}"], 1), said)
+        tried(f"a unit without pint, by {name}", said == ([f"{name}: {line}"], 2), said)
     for name, words in (("from-tables", ["nothing"]), ("to-tables", ["nothing", room]), ("gauges", ["nothing"])):
         helped, bare, absent = script(name, "--help"), script(name), script(name, *words)
         tried(f"{name} has a help", helped[1:] == ([], 0) and bare[2] == 2, bare)

@@ -69,34 +69,21 @@ def try_examples():
     tried("a forged box says that it doesn't add up", told == ["farm"])
 
 VALLEY = example("valley.toml"), example("valley.result")
-# Words that are refused, with what is said.
-REFUSED = [
-    (("network", *VALLEY, "1982-07", "oldfields", "july.jpeg"), "july.jpeg ends with none of .svg, .png, .pdf"),
-    (("network", *VALLEY, "1882-07", "oldfields", "july.svg"), "the result has no month 1882-07"),
-    (("network", *VALLEY, "1982-07", "Oldfields", "july.svg"),
-     "no right is named Oldfields; did you mean oldfields?"),
-    (("network", *VALLEY, "1982-07", "\x1b[2J", "july.svg"), "no right is named \\x1b[2J"),
-    (("networks", "july.svg"), "networks july.svg: these are no words for a picture; ./basin draw --help tells more"),
-    (("network", example("weir.toml"), VALLEY[1], "1982-07", "-", "july.svg"),
-     "the basin file has no right deadpool: it isn't that of this text"),
-]
+FILES = {"VALLEY": VALLEY[0], "RESULT": VALLEY[1], "WEIR": example("weir.toml"), "YEARS": example("valley.ensemble")}
+REFUSED, DRAWN = harness.table("pictures", "REFUSED DRAWN")
+
+def drawn(words, *more):
+    """What draw answers to words, some of which stand for files."""
+    return called("draw", *(FILES.get(word, word) for word in words.split(" ")), *more)
 
 def try_words():
     for words, said in REFUSED:
-        tried(f"refused: {said}", called("draw", *words)[1] == [said], called("draw", *words))
-
-DRAWN = {
-    "right": ("right", *VALLEY, "oldfields"),
-    "reservoir": ("reservoir", *VALLEY, "lake"),
-    "shortages": ("shortages", *VALLEY),
-    "yearly": ("yearly", VALLEY[0], example("valley.ensemble")),
-    "network": ("network", *VALLEY, "1982-07", "oldfields"),
-}
+        tried(f"refused: {said}", drawn(words)[1] == [said], drawn(words))
 
 def try_drawing(room, names):
     for name in names:
         out = os.path.join(room, name + ".svg")
-        said = called("draw", *DRAWN[name], out)
+        said = drawn(DRAWN[name], out)
         text = read(out) if os.path.exists(out) else ""
         tried(f"{name} is drawn", said == ("", [], 0) and "<svg" in text and len(text) < 200_000, said)
 
@@ -156,7 +143,7 @@ def main(room):
         try_drawing(room, [name for name in DRAWN if name != "network"])
         try_odd_plots(room)
     else:
-        wanted = ("", ["matplotlib is needed: apt-get install python3-matplotlib"], 1)
+        wanted = ("", ["matplotlib is needed: apt-get install python3-matplotlib"], 2)
         tried("matplotlib is asked for", called("draw", "shortages", *VALLEY, os.path.join(room, "out.svg")) == wanted)
         not_tried("all but network", "python3-matplotlib")
     if shutil.which("dot"):

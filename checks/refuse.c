@@ -1,6 +1,6 @@
 /* Refuses one allocation of a program, the one whose number stands in REFUSE, counted from 1, and lets all others pass. Where it came to
    that one, it leaves the file that is named by REFUSED. At the end of the program it writes how many there were to the file that is named
-   by COUNTED. For checks/memory, by LD_PRELOAD. */
+   by COUNTED. For checks/memory.py, by LD_PRELOAD. */
 #include <errno.h>
 #include <fcntl.h>
 #include <stdio.h>

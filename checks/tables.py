@@ -10,7 +10,6 @@ import math
 import os
 import random
 import time
-from typing import Any
 
 from beside import basin, files, overlay, sources
 from beside.common import ROOT, write_text
@@ -18,7 +17,7 @@ from checks import harness
 from checks.harness import EXAMPLES, called, example, files_of, names_of, not_tried, ran, read, script, small, tried
 
 SMALL = 60                          # how many small basins have their accounts taken apart
-REFUSED, BAD_CHANGES = harness.table("tables", "REFUSED BAD_CHANGES")
+REFUSED, BAD_CHANGES, STATUSES, CORE = harness.table("tables", "REFUSED BAD_CHANGES STATUSES CORE")
 
 # --- The records of basin.py, written again ---------------------------------------------------------------------------
 def of_result(months):
@@ -79,8 +78,6 @@ def of_comparison(it):
     yield from (f"injured {one.month} {one.right} {one.first} {one.second}" for one in it.injuries)
     yield f"compared {it.common} {len(it.injuries)}"
 
-CORE = "where 1982-07 a 1 20\nat n1\nat n2\nlink canal\nsupply n1 9\nenter canal 2\nkeep e 3 b\ntake c 7\nsum 1\n"
-
 def try_reading():
     """Each text has to be the same when it is written again from its records."""
     units = os.path.join(ROOT, "second-check", "units.py")
@@ -117,15 +114,6 @@ def try_refusals():
     met = basin.read_account(["met 1900-01 a\n"]), basin.read_core(["met 1900-01 a\n"])
     tried("a right that lacks nothing has no account and no core", met == (None, None))
 
-# What a stand-in for the program writes and ends with, by the first word after the command, and what has to be raised.
-STATUSES: dict[str, tuple[str, Any]] = {
-    "2": ("usage: basin_cli COMMAND WORDS", basin.Usage), "3": ("basin: MissingKey diversion 1", basin.BasinRefused),
-    "4": ("series: Missing 1960-07 upper", basin.SeriesRefused), "5": ("read: BASIN", basin.ReadFault),
-    "6": ("write: failed", basin.WriteFault), "7": ("out of memory", basin.OutOfMemory),
-    "8": ("too long: BASIN", basin.InputTooLong), "9": ("script: NoSuchName 0", basin.ScriptRefused),
-    "126": ("", basin.Failed),
-}
-
 def stand_in(room):
     """A program instead of the built one, which ends as the word after its command asks."""
     name = os.path.join(room, "stand-in")
@@ -149,8 +137,8 @@ def try_statuses(room):
     kept, basin.PROGRAM = basin.PROGRAM, stand_in(room)
     for status, (said, kind) in STATUSES.items():
         error = raised(basin.run, status)
-        is_right = type(error) is kind and error.status == int(status) and error.said.endswith(said)
-        tried(f"status {status} is {kind.__name__}", is_right)
+        is_right = type(error) is getattr(basin, kind) and error.status == int(status) and error.said.endswith(said)
+        tried(f"status {status} is {kind}", is_right)
     error = raised(basin.check, "no", "-", "x")
     is_right = type(error) is basin.Refuted and (error.line, error.kind, error.status) == (3, "Balance", 1)
     tried("a refutation is an exception", is_right)

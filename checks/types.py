@@ -11,7 +11,7 @@ from checks.harness import has_module, not_tried, ran, read, tried
 # What mypy isn't asked in functions whose signatures have no types.
 CODES = "arg-type assignment call-arg has-type index list-item misc operator union-attr var-annotated"
 LOOSE = [word for code in CODES.split() for word in ("--disable-error-code", code)]
-SCRIPTS = ("docs/try", "docs/try_words", "edits/each", "examples/weights/ladder")
+SCRIPTS = ("edits/each", "examples/weights/ladder")
 
 def main(room):
     paths = [os.path.relpath(path, ROOT) for path in sorted(glob.glob(os.path.join(ROOT, "*", "**", "*.py"),

@@ -5,24 +5,11 @@ With a PROGRAM, the stored results of examples/weights have to be what it writes
 """
 import os
 
-from beside import common, files, least_cost, result
+from beside import common, files, glpk, least_cost, result
+from checks import harness
 from checks.harness import example, not_tried, ran, read, read_bytes, script, tried
 
-STARVED = [("1990-07", "old", 50, 0), ("1990-07", "fish", 0, 50), ("1990-07", "new", 0, 50)]
-LADDER = [("1990-01", "right1", 62, 31), ("1990-02", "right2", 84, 56), ("1990-03", "right3", 124, 93)]
-# A basin, which weights, and who is delivered otherwise: by month and right what is due by date, and what weights
-# deliver. Of the ladder it is the most senior right of each month.
-CASES = [
-    ("starved", "customary", STARVED), ("starved", "doubling", []),
-    ("ladder-5", "customary", LADDER), ("ladder-5", "doubling", []),
-    *((os.path.join("..", name), weights, []) for name in ("valley", "orders", "lake-and-city", "weir")
-      for weights in ("customary", "doubling")),
-]
-SAID = """1990-07 old of 1890-05-01: by date 50, by weight 50,000 0
-1990-07 fish of 1905-05-01: by date 0, by weight 49,990 50
-1990-07 new of 1920-05-01: by date 0, by weight 49,980 50
-months in which weights deliver otherwise: 1 of 1
-"""
+CASES, SAID = harness.table("weights", "CASES SAID")
 
 def files_of(name):
     toml, series, text = (example("weights", name + ending) for ending in (".toml", ".csv", ".result"))
@@ -37,13 +24,13 @@ def others(name, weights, solve):
     seen, rows = set(), []
     for month, right, strict, weighted in checker.others:
         if name == "starved" or month not in seen:
-            rows.append((common.month_text(month), basin.rights[right].name, strict, weighted))
+            rows.append([common.month_text(month), basin.rights[right].name, strict, weighted])
         seen.add(month)
     return rows
 
 def main(room, program=""):
     solvers = {"python3-scipy": least_cost.Problem.by_scipy if least_cost.linprog else None,
-               "glpk-utils": least_cost.Problem.by_glpk if least_cost.has_glpsol() else None}
+               "glpk-utils": least_cost.Problem.by_glpk if glpk.is_there() else None}
     for solver, solve in solvers.items():
         if solve is None:
             not_tried("a solver of linear programs", solver)

@@ -8,8 +8,10 @@ on one link or one after another, return flows, gauges and wants in the series. 
 import json
 import os
 import random
+import subprocess
 import sys
 
+EXAMPLES = os.path.join(os.path.dirname(os.path.abspath(__file__)), "..", "examples")
 TABLES = ("node", "link", "reservoir", "diversion", "instream", "zone", "return")
 
 def monthly(chance, most):
@@ -105,6 +107,20 @@ def texts(tree, in_series=frozenset()):
                     entry[key] = word
             lines += ["", f"[[{table}]]"] + [f"{key} = {spelled(value)}" for key, value in entry.items() if value is not False and value != [0] * 12 or key == "want"]
     return "\n".join(lines) + "\n", "\n".join(records) + "\n"
+
+def files_of(name):
+    """The basin, the series and the result of an example."""
+    toml, series, result = (os.path.join(EXAMPLES, name + ending) for ending in (".toml", ".csv", ".result"))
+    return [toml, series if os.path.exists(series) else "-", result]
+
+def examples():
+    """The files of each example that has a result, by its name."""
+    return {name[:-7]: files_of(name[:-7]) for name in sorted(os.listdir(EXAMPLES)) if name.endswith(".result")}
+
+def run(program, *words):
+    """What a program writes, and its status."""
+    ran = subprocess.run([program, *words], capture_output=True, timeout=600)
+    return ran.stdout + ran.stderr, ran.returncode
 
 def write(folder, tree, in_series=frozenset()):
     """Writes both texts, and answers the names of their files."""

@@ -25,8 +25,6 @@ import check as second
 import small
 import units
 
-HERE = os.path.dirname(os.path.abspath(__file__))
-EXAMPLES = os.path.join(HERE, "..", "examples")
 # How many small basins and how many changes are tried.
 SMALL, BLIND, BLIND_FILES, AIMED, AIMED_FILES = 150, 1000, 400, 700, 1000
 FILES = ("basin", "series")
@@ -45,8 +43,8 @@ def by_second(words):
 
 def by_first(program, command, words):
     """The line and the status of the program."""
-    ran = subprocess.run([program, command, *words], capture_output=True, timeout=60)
-    return (ran.stdout + ran.stderr).decode().strip(), ran.returncode
+    written, status = small.run(program, command, *words)
+    return written.decode().strip(), status
 
 def changed(text, chance):
     """The text with one to three changes: amounts and names changed, lines dropped, doubled, swapped or put in elsewhere, signs added, the end cut off."""
@@ -198,11 +196,6 @@ def bytes_of(name):
     with open(name, "rb") as file:
         return file.read()
 
-def files_of(name):
-    """The basin and the series of an example."""
-    series = os.path.join(EXAMPLES, name + ".csv")
-    return [os.path.join(EXAMPLES, name + ".toml"), series if os.path.exists(series) else "-"]
-
 class Comparison:
     """The program beside the second checker: how many texts both were asked for, how often they differed, and how often
     each answer came."""
@@ -210,7 +203,7 @@ class Comparison:
     def __init__(self, program, room):
         self.program, self.path, self.chance = program, os.path.join(room, "changed"), random.Random(7)
         self.texts, self.differ, self.kinds = 0, 0, collections.Counter()
-        self.has_audit = by_first(program, "audit", [*files_of("weir"), os.path.join(EXAMPLES, "weir.result")])[1] != 2
+        self.has_audit = by_first(program, "audit", small.files_of("weir"))[1] != 2
 
     def compare(self, words, what, audited=None):
         """Compares all answers to a text, that of an audit with the one that it has to be, if that is given."""
@@ -246,7 +239,8 @@ def try_examples(comparison, all_files):
     for name, files in all_files.items():
         comparison.compare(files, name)
     for name in ("weir", "orders"):
-        comparison.compare([*files_of(name), os.path.join(EXAMPLES, name + "-forged.txt")], name + "-forged")
+        forged = os.path.join(small.EXAMPLES, name + "-forged.txt")
+        comparison.compare([*small.files_of(name)[:2], forged], name + "-forged")
     short_ones = {name: files for name, files in all_files.items() if os.path.getsize(files[2]) < 20_000}
     for number in range(BLIND):
         name = chance.choice(list(all_files if number % 20 == 0 else short_ones))
@@ -314,8 +308,7 @@ def tell(comparison, others):
     return comparison.differ == 0 and not never
 
 def main(program):
-    names = sorted(it[:-7] for it in os.listdir(EXAMPLES) if it.endswith(".result"))
-    examples = {name: [*files_of(name), os.path.join(EXAMPLES, name + ".result")] for name in names}
+    examples = small.examples()
     with tempfile.TemporaryDirectory() as room:
         comparison = Comparison(program, room)
         if not comparison.has_audit:

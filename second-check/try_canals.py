@@ -16,7 +16,6 @@ import check as second
 import small
 
 HERE = os.path.dirname(os.path.abspath(__file__))
-EXAMPLES = os.path.join(HERE, "..", "examples")
 SMALL = 20                          # how many small basins are tried
 NONE = "no canal beside rivers carries for nothing\n", 0
 # What comes in at the head of a chain in its month, what its canal can carry then, and what is held on the canal.
@@ -31,8 +30,8 @@ def tried(what, said, due):
 
 def said_of(*files):
     """What `canals` says, and its status."""
-    ran = subprocess.run([os.path.join(HERE, "canals.py"), *files], capture_output=True, text=True, timeout=600)
-    return ran.stdout + ran.stderr, ran.returncode
+    written, status = small.run(os.path.join(HERE, "canals.py"), *files)
+    return written.decode(), status
 
 def written(program, folder, files):
     """The name of a file with the program's result."""
@@ -42,10 +41,8 @@ def written(program, folder, files):
     return name
 
 def try_examples():
-    for name in sorted(name[:-7] for name in os.listdir(EXAMPLES) if name.endswith(".result")):
-        path = os.path.join(EXAMPLES, name)
-        series = path + ".csv" if os.path.exists(path + ".csv") else "-"
-        tried(f"{name} shows no canal", said_of(path + ".toml", series, path + ".result"), NONE)
+    for name, files in small.examples().items():
+        tried(f"{name} shows no canal", said_of(*files), NONE)
 
 def try_small(program, folder):
     said, number = {}, 0

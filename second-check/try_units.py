@@ -19,16 +19,12 @@ import collections
 import contextlib
 import copy
 import os
-import subprocess
 import sys
 import tempfile
 
 import check as second
 import small
 import units
-
-HERE = os.path.dirname(os.path.abspath(__file__))
-EXAMPLES = os.path.join(HERE, "..", "examples")
 
 SEEN = ("months", "short rights", "short instream rights", "cores of one node", "cores equal to the reach", "other cores", "units at a node that help", "units at a node that help nobody",
         "units of carry that help", "units of carry that help nobody", "units on a shut canal that help", "changes that were run", "curtailed rights")
@@ -56,10 +52,6 @@ def units_of(basin, series, data, is_brute):
     kept = Kept(basin, series, is_brute, lines.append)
     second.check(kept, data)
     return lines, kept.months
-
-def run(program, command, *files):
-    ran = subprocess.run([program, command, *files], capture_output=True, timeout=600)
-    return ran.stdout, ran.returncode
 
 def with_ends(tree, basin, months):
     """The basin with its canals written so that they can carry one unit more: each carries more than it can and ends at a node of its
@@ -110,7 +102,7 @@ def by_edit(program, folder, tree, months, tries):
     with open(script, "w", encoding="ascii") as file:
         file.write("\n".join([*lines, "done", ""]))
     changed = {("inflow", node["name"]) for node in tree["node"]} | {("want", right["name"]) for right in tree["diversion"] if right["name"].endswith("-old")}
-    result, status = run(program, "edit", *small.write(folder, tree, changed), script)
+    result, status = small.run(program, "edit", *small.write(folder, tree, changed), script)
     return deliveries(result) if status == 0 else None
 
 def by_run(program, folder, tree, months, tries):
@@ -129,7 +121,7 @@ def by_run(program, folder, tree, months, tries):
                 if "order" in entry:
                     entry["order"] = entry["order"] * 1000 + mark
                 whole[table].append(entry)
-    result, status = run(program, "run", *small.write(folder, whole))
+    result, status = small.run(program, "run", *small.write(folder, whole))
     if status != 0:
         return None
     found = deliveries(result)[0]
@@ -191,25 +183,24 @@ def compare(program, what, files, result, has_calls):
         fail(what, "the search and the sets of nodes differ")
     if any(it["cuts"] != it["reaches"] for it in months):
         fail(what, "a set in the result isn't the reach")
-    if has_calls and run(program, "calls", *files) != (units.units(basin, series, result).encode(), 0):
+    if has_calls and small.run(program, "calls", *files) != (units.units(basin, series, result).encode(), 0):
         fail(what, "the program's calls are others")
     return basin, months
 
 def main(program, most):
-    has_calls = run(program, "calls", os.path.join(EXAMPLES, "weir.toml"), os.path.join(EXAMPLES, "weir.csv"))[1] != 2
+    has_calls = small.run(program, "calls", *small.files_of("weir")[:2])[1] != 2
     if not has_calls:
         print("try-units: the program has no command calls: its text is not compared")
-    for name in sorted(it[:-7] for it in os.listdir(EXAMPLES) if it.endswith(".result")):
-        path = os.path.join(EXAMPLES, name)
-        with open(path + ".result", "rb") as file:
-            compare(program, name, [path + ".toml", path + ".csv" if os.path.exists(path + ".csv") else "-"], file.read(), has_calls)
+    for name, files in small.examples().items():
+        with open(files[2], "rb") as file:
+            compare(program, name, files[:2], file.read(), has_calls)
     number = 0
     with tempfile.TemporaryDirectory() as folder, contextlib.suppress(KeyboardInterrupt):
         while seen["months"] < most and failed < 20:
             number += 1
             tree, in_series = small.small(number)
             files = small.write(folder, tree, in_series)
-            result, status = run(program, "run", *files)
+            result, status = small.run(program, "run", *files)
             if status != 0:
                 fail(number, f"its run ends with status {status}")
                 continue

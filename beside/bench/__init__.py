@@ -1,24 +1,4 @@
-"""bench [--programs NAME,..] [--callgrind] [--table | --write] [GROUP..]: measures basin beside other programs.
-
-GROUP   trial      `trial 7 SIZE`, 100 to 2,000 nodes; all programs
-        report     reports of basins of 2,000 nodes, 4,000 links, 2,000 rights and 120 months in several shapes
-        month      a month of these: a report of 120 months less one of 12, so that no reading of a basin is in it
-        run        their results
-        commands   basin alone: calls, check and audit of these basins, beside report and run; and a month of a run and
-                   of the check of its result
-        All of them if none is named. docs/BENCH.md says what the programs and the columns are.
---programs   only these besides basin, as lexflow,plain
---callgrind  counts instructions too, by valgrind, where a run takes less than a second
---table      prints the tables as Markdown
---write      all groups, and puts their tables into README.md and docs/COSTS.md as well, between the lines that say so
-
-The program basin is what `./basin prove` has built, or what the environment names as BASIN_PROGRAM. g++ is needed, and
-what else is not installed is left out: the last lines name it. Each program is run fifteen times, all in turn, and the
-least processor time counts; one that takes over 2 seconds is run once, and ended after 40. The status is 1 where a
-program answers otherwise than basin, or g++ is not there.
-
-    ./basin bench --programs lexflow trial
-"""
+"""Measures basin beside other programs. Its help is docs/help/bench.txt."""
 import datetime
 import hashlib
 import os

@@ -10,19 +10,18 @@ use Rattle.std.specs.Prelude.{Contains, IfSome, bytes_eq}
 use Rattle.water_edge.specs.Edge.{AsksFor, next_count}
 use Rattle.water_model.specs.declared.types.Basin.{Basin}
 use Rattle.water_model.specs.declared.types.Series.{Series}
-use Rattle.water_text.specs.declared.month.Month.{Month}
 use Rattle.basin_cli.specs.declared.checking.Question.{Question}
 use Rattle.basin_cli.specs.declared.ending.Ending.{Ending}
 use Rattle.basin_cli.specs.declared.ending.Ending.TheVariants as ending
 use Rattle.basin_cli.specs.declared.ending.File.{File}
 use Rattle.basin_cli.specs.declared.ending.File.TheVariants as file
 use Rattle.basin_cli.specs.declared.ending.SecondFinding.TheVariants as of_second
-use Rattle.basin_cli.specs.Actions.{EndsAsking, EndsChecking}
+use Rattle.basin_cli.specs.Actions.{EndsChecking}
 use Rattle.basin_cli.specs.Bytes.{KnownFiles}
-use Rattle.basin_cli.specs.Command.{Files, check}
-use Rattle.basin_cli.specs.Edited.{EndsEditing}
-use Rattle.basin_cli.specs.Failed.{AskedCounts, AskForEach, AskUpTo, IsAskedFor, IsAt, file_at, files_to, inputs_to}
-use Rattle.basin_cli.specs.Outcome.{HasTrialCause}
+use Rattle.basin_cli.specs.Command.{Files}
+use Rattle.basin_cli.specs.Ending.{CanBePrinted}
+use Rattle.basin_cli.specs.Failed.{AskedCounts, AskForEach, AskUpTo, IsAskedFor, IsAt, file_at, inputs_and}
+use Rattle.basin_cli.specs.Failed.{inputs_to}
 use Rattle.basin_cli.specs.Reading.{StopsReading}
 
 -- a count that rose twice rose
@@ -140,39 +139,24 @@ module _ (names : File → List (List ℕ)) (old new : AskedCounts) where
   inputs_stop files known read ending.OutOfMemory basin series h asks = tt
   inputs_stop files known read how basin series h asks = absurd h
 
-  -- after its files a command ends at none of them
-  pub solving_stops : (how : Ending) (write : Type 0) → HasTrialCause how write → AskUpTo names how old new
-  solving_stops ending.Done write h = tt
-  solving_stops ending.WriteFault write h = tt
-  solving_stops ending.OutOfMemory write h = tt
-  solving_stops how write h = absurd h
-
-  pub asking_stops : (b : Basin) (series : Series) (month : Month) (right : List ℕ) (how : Ending) (write : Type 0) →
-      EndsAsking b series month right how write → AskUpTo names how old new
-  asking_stops b series month right ending.Done write h = tt
-  asking_stops b series month right ending.Met write h = tt
-  asking_stops b series month right ending.WriteFault write h = tt
-  asking_stops b series month right (ending.ScriptRefused fault line) write h = tt
-  asking_stops b series month right ending.OutOfMemory write h = tt
-  asking_stops b series month right how write h = absurd h
-
-  pub editing_stops : (b : Basin) (series : Series) (script : List ℕ) (how : Ending) (write : Type 0) →
-      EndsEditing b series script how write → AskUpTo names how old new
-  editing_stops b series script ending.Done write h = tt
-  editing_stops b series script ending.WriteFault write h = tt
-  editing_stops b series script (ending.ScriptRefused fault line) write h = tt
-  editing_stops b series script ending.OutOfMemory write h = tt
-  editing_stops b series script how write h = absurd h
-
+  -- after its files a command mostly ends at none of them
   pub stops_at_none : (how : Ending) → file_at how ≡ None → AskUpTo names how old new
   stops_at_none how none = subst (λ o. IfSome o (λ file. AskForEach (names file) old new)) (sym none) tt
+
+-- such an ending has a line
+pub at_none_prints : (how : Ending) → file_at how ≡ None → CanBePrinted how
+at_none_prints (ending.SeriesRefused finding) none = cc
+at_none_prints (ending.SecondRefused (of_second.Series finding)) none = cc
+at_none_prints (ending.SecondRefused (of_second.Basin finding)) none = tt
+at_none_prints (ending.SecondRefused of_second.OtherRun) none = tt
+at_none_prints how none = tt
 
 -- a result is asked for after both inputs
 pub checking_asks : (asked : Question) (files : Files) (result : List ℕ) (b : Basin) (series : Series)
     (known : Option (List ℕ)) (how : Ending) (read write : Type 0) (old mid new : AskedCounts) →
     EndsChecking asked b series known how read write → AskForEach (inputs_to files file.Series) old mid →
     ((how ≡ ending.OutOfMemory → ⊥) → AskForEach (result ∷ []) mid new) →
-    AskUpTo (files_to (check asked files result)) how old new
+    AskUpTo (inputs_and files result) how old new
 checking_asks asked files result b series known ending.Done read write old mid new h inputs reads = tt
 checking_asks asked files result b series known (ending.Refuted refuted) read write old mid new h inputs reads = tt
 checking_asks asked files result b series known (ending.ReadFault file.Result) read write old mid new h inputs reads =

@@ -1,4 +1,4 @@
--- Where something was refused or there was no memory, nothing is written and nothing is solved.
+-- Where nothing is solved, no more is solved than a command may.
 use Rattle.std.proofs.Common.{List, arith, refl, ℕ}
 use Rattle.edit_script.specs.Edits.{cost}
 use Rattle.month_fold.specs.Works.{WorkDone}
@@ -7,16 +7,7 @@ use Rattle.basin_cli.specs.Bytes.{KnownFiles, known_series}
 use Rattle.basin_cli.specs.Command.{Files}
 use Rattle.basin_cli.specs.Comparison.{ComparisonWork}
 use Rattle.basin_cli.specs.Edited.{EditWork}
-use Rattle.basin_cli.specs.Out.{IsStopped, MayWrite}
-use Rattle.basin_cli.specs.declared.status.Status.{Status}
-use Rattle.basin_cli.specs.declared.status.Status.TheVariants as its
 use Rattle.basin_cli.proofs.Known.{of_any}
-
-pub stopped_writes : (s : Status) → IsStopped s → MayWrite s → ⊥
-stopped_writes its.Done h w = h
-stopped_writes its.No h w = h
-stopped_writes its.WriteFault h w = h
-stopped_writes other h w = w
 
 -- no month is within any number of them
 pub compares_none : (known : KnownFiles) (files : Files) (second : List ℕ) (w : WorkDone) →

@@ -22,18 +22,16 @@ use Rattle.basin_cli.specs.declared.ending.SecondFinding.TheVariants as of_secon
 use Rattle.basin_cli.specs.declared.checking.Question.{Question}
 use Rattle.basin_cli.specs.Bytes.{IsGoodBasin, IsGoodSeries, IsRefusedFor, IsSeriesRefusedFor, IsTooLong, KnownFiles}
 use Rattle.basin_cli.specs.Bytes.{known_series}
-use Rattle.basin_cli.specs.Command.{Command, Files, calls, run, check, report, trial, why, compare, ensemble, edit}
-use Rattle.basin_cli.specs.Command.{upgrade}
+use Rattle.basin_cli.specs.Command.{Command, Files, run, check, trial, compare, why, ensemble, edit, upgrade}
 use Rattle.basin_cli.specs.Comparison.{AfterBoth, AfterFirst, AreOfOneRun, AreOfOtherRuns, ComparesAfter}
 use Rattle.basin_cli.specs.Comparison.{HasComparingCause, HaveSameMonths, IsComparedAs, IsGoodForBoth, IsGoodSecond}
 use Rattle.basin_cli.specs.Comparison.{SomebodyIsInjured}
 use Rattle.basin_cli.specs.Edited.{EditsAfter, HasEditingCause, IsGoodScript}
 use Rattle.basin_cli.specs.Ending.{line_of, status_of, status_of_second, finding_of}
 use Rattle.basin_cli.specs.Explained.{HasMonth, HasRight}
-use Rattle.basin_cli.specs.Outcome.{Answers, Completes, EndingHasCause, HasCauseFor, HasCheckingCause, HasEnsembleCause}
-use Rattle.basin_cli.specs.Outcome.{HasExplainingCause, HasSolvingCause, HasTrialCause, IsAsked, IsOfYears}
-use Rattle.basin_cli.specs.Outcome.{IsOutsideRun, IsPartYear, IsQuiet, IsShortIn, IsUnknownRight, IsYes}
-use Rattle.basin_cli.specs.Outcome.{WritesErrLine}
+use Rattle.basin_cli.specs.Outcome.{HasCheckingCause, HasEnsembleCause, HasExplainingCause, HasSolvingCause}
+use Rattle.basin_cli.specs.Outcome.{HasTrialCause, IsAsked, IsOfYears, IsOutsideRun, IsPartYear, IsQuiet, IsShortIn}
+use Rattle.basin_cli.specs.Outcome.{IsUnknownRight, IsYes, WritesErrLine, row}
 use Rattle.basin_cli.specs.Reading.{AfterBasin, CompletesAfter, IsDone, IsJudged, StopsReading}
 use Rattle.basin_cli.specs.Upgrading.{HasUpgradingCause, UpgradesAfter}
 use Rattle.basin_cli.proofs.Edited.{refused_not_good}
@@ -244,25 +242,24 @@ module _ (known : KnownFiles) (read write : Type 0) (no_read : read → ⊥) (no
         of_any (known_series known files.series) (λ _ _. inl refl)))
     comparing other h = absurd h
 
-  answers : (command : Command) (how : Ending) → HasCauseFor command how known read write →
-      Answers command (status_of how) known
-  answers (run files) how h = solving files how h
-  answers (check asked files result) how h = checking asked files result how h
-  answers (report files) how h = solving files how h
-  answers (trial number size) how h = trying how write h no_write
-  answers (compare files second) how h = comparing files second how h
-  answers (why asked files month name) how h = explaining files month name how h
-  answers (calls files) how h = solving files how h
-  answers (ensemble files) how h = gathering files how h
-  answers (edit files script) how h = editing files script how h
-  answers (upgrade name) how h = upgrading name how h
-
 pub completes : (command : Option Command) (how : Ending) (known : KnownFiles) (read write : Type 0) →
-    EndingHasCause command how known read write → Completes command (status_of how) known read write
+    (row command).cause how known read write → (row command).completes (status_of how) known read write
 completes None how known read write h = tt
+completes (Some (run text files)) how known read write h =
+    λ no_read no_write. solving known read write no_read no_write files how h
+completes (Some (check asked files result)) how known read write h =
+    λ no_read no_write. checking known read write no_read no_write asked files result how h
 completes (Some (trial number size)) how known read write h = trying how write h
-completes (Some command) how known read write h =
-    λ no_read no_write. answers known read write no_read no_write command how h
+completes (Some (compare files second)) how known read write h =
+    λ no_read no_write. comparing known read write no_read no_write files second how h
+completes (Some (why asked files month name)) how known read write h =
+    λ no_read no_write. explaining known read write no_read no_write files month name how h
+completes (Some (ensemble files)) how known read write h =
+    λ no_read no_write. gathering known read write no_read no_write files how h
+completes (Some (edit files script)) how known read write h =
+    λ no_read no_write. editing known read write no_read no_write files script how h
+completes (Some (upgrade name)) how known read write h =
+    λ no_read no_write. upgrading known read write no_read no_write name how h
 
 -- nothing was put to err
 tells_nothing : (old : Output) (before : ℕ) → WritesErrLine old old before before []

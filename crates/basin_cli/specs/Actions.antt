@@ -1,14 +1,16 @@
 -- How the actions of commands may end, after their files.
 use Rattle.std.specs.Prelude.{◌≡◌, ℕ, ◌≤◌, List, ⊤, Ok, Err, Option, slice_index}
 use Rattle.water_edge.specs.Edge.{Output}
+use Rattle.basin_gen.specs.Generator.{generated}
 use Rattle.edit_script.specs.declared.refused.ScriptFault.TheVariants as script
 use Rattle.index_seq.specs.Text.{ensemble_text}
 use Rattle.index_seq.specs.Traces.{AreTraces}
 use Rattle.month_fold.specs.Works.{WorkDone}
 use Rattle.reports.specs.Ends.{IsRun}
-use Rattle.reports.specs.Reports.{report_text}
+use Rattle.reports.specs.Reports.{report_text, trial_text}
 use Rattle.water_model.specs.History.{IsShort}
 use Rattle.water_model.specs.Hydrology.{run_month}
+use Rattle.water_model.specs.Valid.{IsSeriesOf}
 use Rattle.water_model.specs.declared.types.Basin.{Basin}
 use Rattle.water_model.specs.declared.types.Series.{Series}
 use Rattle.water_model.specs.declared.types.MonthRecord.{MonthRecord}
@@ -24,22 +26,29 @@ use Rattle.basin_cli.specs.declared.status.Status.{Status}
 use Rattle.basin_cli.specs.Answer.{IsAnswerTo}
 use Rattle.basin_cli.specs.Ending.{status_of}
 use Rattle.basin_cli.specs.Explained.{EndsExplaining, Explains, HasMonth, HasRight, IsAbout, IsRecordOf}
-use Rattle.basin_cli.specs.Listed.{LeavesList}
-use Rattle.basin_cli.specs.Out.{Leaves, MayWrite}
-use Rattle.basin_cli.specs.Written.{LeavesRun}
+use Rattle.basin_cli.specs.Monthly.{LeavesMonths, call_text, run_text}
+use Rattle.basin_cli.specs.Out.{Leaves}
 
 -- out was left with a text of a run, or with as much of it as was written
 abbrev pub LeavesText : RunText → Basin → Series → Status → Output → Output → WorkDone → WorkDone → Type 0
-LeavesText text.Result b series status old new before after = LeavesRun b series status old new before after
-LeavesText text.Calls b series status old new before after = LeavesList b series status old new before after
+LeavesText text.Result b series status old new before after =
+    LeavesMonths run_text b series status old new before after
+LeavesText text.Calls b series status old new before after =
+    LeavesMonths call_text b series status old new before after
 LeavesText text.Report b series status old new before after =
     (records : List MonthRecord) × IsRun b series records × Leaves status (report_text b series records) old new
 
--- out was left with how often each yearly delivery came in some traces, or with a prefix of it
-abbrev pub LeavesTraces : Basin → Series → Ending → Output → Output → Type 0
-LeavesTraces b series how old new =
-    MayWrite (status_of how) → (traces : List (List MonthRecord)) × AreTraces b series traces ×
-    Leaves (status_of how) (ensemble_text b traces) old new
+-- out was left with how often each yearly delivery came in some traces, which are a history of the record begun in each
+-- of its years, or with a prefix of it
+abbrev pub LeavesTraces : Basin → Series → Status → Output → Output → Type 0
+LeavesTraces b series status old new = (traces : List (List MonthRecord)) × AreTraces b series traces ×
+    Leaves status (ensemble_text b traces) old new
+
+-- or with the summary of a run of the basin that a number and a size make
+abbrev pub LeavesTrial : ℕ → ℕ → Status → Output → Output → Type 0
+LeavesTrial number size status old new = (series : Series) × IsSeriesOf (generated number size) series ×
+    ((records : List MonthRecord) × IsRun (generated number size) series records ×
+    Leaves status (trial_text number size (generated number size) series records) old new)
 
 -- how the checking of a result may end, by the answer to its bytes where they are known. `read` and `write` say that
 -- the shelf's and out's count of faults rose

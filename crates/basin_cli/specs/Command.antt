@@ -20,19 +20,17 @@ pub record Files : Type 0 where
   pub basin : List ℕ
   pub series : Option (List ℕ)
 
--- a command with the names of its files, or with its numbers: `run` and `report` have the files of a basin and its
--- series, `check` and `audit`, which are one command with two questions, the file of a result besides, `compare` the
--- file of a second basin, `trial` the number and the size of a generated basin, `why` and `where`, which are one
--- command with two accounts, a month and the name of a right beside the files, `ensemble` and `calls` the files, `edit`
--- the file of a script besides, and `upgrade` the file of a basin alone
+-- a command with the names of its files, or with its numbers: `run`, `calls` and `report`, which are one command with
+-- three texts, have the files of a basin and its series, `check` and `audit`, which are one with two questions, the file
+-- of a result besides, `compare` the file of a second basin, `trial` the number and the size of a generated basin, `why`
+-- and `where`, which are one with two accounts, a month and the name of a right beside the files, `ensemble` the files,
+-- `edit` the file of a script besides, and `upgrade` the file of a basin alone
 pub data Command : Type 0 where
-  run : Files → Command
+  run : RunText → Files → Command
   check : Question → Files → List ℕ → Command
-  report : Files → Command
   trial : ℕ → ℕ → Command
   compare : Files → List ℕ → Command
   why : Account → Files → Month → List ℕ → Command
-  calls : Files → Command
   ensemble : Files → Command
   edit : Files → List ℕ → Command
   upgrade : List ℕ → Command
@@ -57,12 +55,14 @@ why_of asked files (Some month) right = if is_name right then Some (why asked fi
 
 abbrev pub command_of : List (List ℕ) → Option Command
 command_of (word ∷ basin ∷ []) =
-    if bytes_eq word (codes "run") then Some (run (record { basin = basin; series = None }))
+    if bytes_eq word (codes "run") then Some (run text.Result (record { basin = basin; series = None }))
     else (if bytes_eq word (codes "upgrade") then Some (upgrade basin) else None)
 command_of (word ∷ one ∷ other ∷ []) =
-    if bytes_eq word (codes "run") then Some (run (record { basin = one; series = series_named other }))
-    else (if bytes_eq word (codes "report") then Some (report (record { basin = one; series = series_named other }))
-    else (if bytes_eq word (codes "calls") then Some (calls (record { basin = one; series = series_named other }))
+    if bytes_eq word (codes "run") then Some (run text.Result (record { basin = one; series = series_named other }))
+    else (if bytes_eq word (codes "report") then Some
+    (run text.Report (record { basin = one; series = series_named other }))
+    else (if bytes_eq word (codes "calls") then Some
+    (run text.Calls (record { basin = one; series = series_named other }))
     else (if bytes_eq word (codes "ensemble") then Some (ensemble (record { basin = one; series = series_named other }))
     else (if bytes_eq word (codes "trial") then trial_of (read_amount one 4294967295) (read_amount other 2000)
     else None))))
@@ -85,14 +85,8 @@ command_of _ = None
 abbrev pub named : input.Inputs → Files
 named inputs = record { basin = inputs.basin.now; series = option_map (λ name. name.now) inputs.series }
 
--- the command that writes a text of a run
-abbrev pub text_command : RunText → Files → Command
-text_command text.Result files = run files
-text_command text.Calls files = calls files
-text_command text.Report files = report files
-
 abbrev pub command_named : Words → Command
-command_named (words.Text text inputs) = text_command text (named inputs)
+command_named (words.Text text inputs) = run text (named inputs)
 command_named (words.Check asked inputs result) = check asked (named inputs) result.now
 command_named (words.Trial number size) = trial number size
 command_named (words.Compare inputs second) = compare (named inputs) second.now
@@ -114,14 +108,12 @@ ServesSeries serves (Some name) = serves name
 -- each name that the words give for a file is served
 abbrev pub ServesFiles : (List ℕ → Type 0) → Option Command → Type 0
 ServesFiles serves None = ⊤
-ServesFiles serves (Some (run files)) = serves files.basin × ServesSeries serves files.series
+ServesFiles serves (Some (run text files)) = serves files.basin × ServesSeries serves files.series
 ServesFiles serves (Some (check asked files result)) =
     serves files.basin × ServesSeries serves files.series × serves result
-ServesFiles serves (Some (report files)) = serves files.basin × ServesSeries serves files.series
 ServesFiles serves (Some (trial number size)) = ⊤
 ServesFiles serves (Some (compare files second)) = serves files.basin × ServesSeries serves files.series × serves second
 ServesFiles serves (Some (why asked files month right)) = serves files.basin × ServesSeries serves files.series
-ServesFiles serves (Some (calls files)) = serves files.basin × ServesSeries serves files.series
 ServesFiles serves (Some (ensemble files)) = serves files.basin × ServesSeries serves files.series
 ServesFiles serves (Some (edit files script)) = serves files.basin × ServesSeries serves files.series × serves script
 ServesFiles serves (Some (upgrade basin)) = serves basin

@@ -1,8 +1,7 @@
 -- Which files were asked for where the reading of a command's files stopped.
 use Rattle.std.specs.Prelude.{◌≡◌, ℕ, ◌++◌, List, [], ◌∷◌, Contains, Option, Some, None, IfSome}
 use Rattle.water_edge.specs.Edge.{Rose}
-use Rattle.basin_cli.specs.Command.{Command, Files, calls, check, compare, edit, ensemble, report, run, trial, upgrade}
-use Rattle.basin_cli.specs.Command.{why}
+use Rattle.basin_cli.specs.Command.{Files}
 use Rattle.basin_cli.specs.declared.ending.Ending.{Ending}
 use Rattle.basin_cli.specs.declared.ending.Ending.TheVariants as ending
 use Rattle.basin_cli.specs.declared.ending.File.{File}
@@ -53,26 +52,12 @@ pair_to files second file.Basin = files.basin ∷ []
 pair_to files second file.SecondBasin = files.basin ∷ second ∷ []
 pair_to files second other = files.basin ∷ second ∷ series_file files.series
 
--- and of any command
-abbrev pub files_to : Command → File → List (List ℕ)
-files_to (run files) file = inputs_to files file
-files_to (check asked files result) file.Result = inputs_to files file.Series ++ result ∷ []
-files_to (check asked files result) file = inputs_to files file
-files_to (report files) file = inputs_to files file
-files_to (trial number size) file = []
-files_to (compare files second) file = pair_to files second file
-files_to (why asked files month right) file = inputs_to files file
-files_to (calls files) file = inputs_to files file
-files_to (ensemble files) file = inputs_to files file
-files_to (edit files script) file.Script = inputs_to files file.Series ++ script ∷ []
-files_to (edit files script) file = inputs_to files file
-files_to (upgrade basin) file = basin ∷ []
+-- and those of a command that reads a result or a script after its inputs
+abbrev pub inputs_and : Files → List ℕ → File → List (List ℕ)
+inputs_and files last file.Result = inputs_to files file.Series ++ last ∷ []
+inputs_and files last file.Script = inputs_to files file.Series ++ last ∷ []
+inputs_and files last other = inputs_to files other
 
 -- an ending at a file comes only after each file up to that one was asked for, and no other
 abbrev pub AskUpTo : (File → List (List ℕ)) → Ending → AskedCounts → AskedCounts → Type 0
 AskUpTo names how old new = IfSome (file_at how) (λ file. AskForEach (names file) old new)
-
--- so of a command; and words that are none ask for no file
-abbrev pub HaveAsked : Option Command → Ending → AskedCounts → AskedCounts → Type 0
-HaveAsked None how old new = (name : List ℕ) → new name ≡ old name
-HaveAsked (Some command) how old new = AskUpTo (files_to command) how old new

@@ -3,7 +3,7 @@ use Rattle.std.specs.Prelude.{◌≡◌, ◌≢◌, ℕ, List, take, Option, Som
 use Rattle.water_edge.specs.Edge.{Extends, Output}
 use Rattle.basin_cli.specs.declared.status.Status.{Status}
 use Rattle.basin_cli.specs.declared.status.Status.TheVariants.{Done, No, WriteFault, OutOfMemory}
-use Rattle.basin_cli.specs.Command.{Command, Files, calls, check, edit, report, run, trial, why}
+use Rattle.basin_cli.specs.Command.{Command, Files, check, edit}
 
 -- only these statuses may leave bytes on out
 abbrev pub MayWrite : Status → Type 0
@@ -17,10 +17,6 @@ abbrev pub MayShow : Status → Type 0
 MayShow OutOfMemory = ⊤
 MayShow status = MayWrite status
 
-abbrev pub MayLeave : Option Command → Status → Type 0
-MayLeave (Some (edit files script)) status = MayShow status
-MayLeave command status = MayWrite status
-
 -- words, a file or a script were refused, or not read: nothing is solved
 abbrev pub IsRefusal : Status → Type 0
 IsRefusal Done = ⊥
@@ -29,20 +25,10 @@ IsRefusal WriteFault = ⊥
 IsRefusal OutOfMemory = ⊥
 IsRefusal status = ⊤
 
--- something was refused, or there was no memory
+-- or there was no memory
 abbrev pub IsStopped : Status → Type 0
 IsStopped OutOfMemory = ⊤
 IsStopped status = IsRefusal status
-
--- nothing is solved: a run, a list of calls, a report, a trial and an account take memory before their first month, the
--- others also later
-abbrev pub IsIdle : Option Command → Status → Type 0
-IsIdle (Some (run files)) status = IsStopped status
-IsIdle (Some (report files)) status = IsStopped status
-IsIdle (Some (trial number size)) status = IsStopped status
-IsIdle (Some (why asked files month name)) status = IsStopped status
-IsIdle (Some (calls files)) status = IsStopped status
-IsIdle command status = IsRefusal status
 
 -- this holds where there was no memory
 abbrev pub WithoutMemory : Status → Type 0 → Type 0

@@ -1,18 +1,14 @@
 -- What each status of a call means: its cause, and what it leaves on out and err.
-use Rattle.std.specs.Prelude.{◌≡◌, ℕ, ◌*◌, ◌<◌, ◌≤◌, List, length, take, Option, Some, None}
+use Rattle.std.specs.Prelude.{◌≡◌, ℕ, ◌*◌, ◌<◌, ◌≤◌, List, [], ◌∷◌, length, take, Option, Some, None}
 use Rattle.std.specs.Prelude.{Err, ⊤, IfSome, IsSome}
 use Rattle.water_edge.specs.Edge.{Extends, Output, Rose}
 use Rattle.basin_file.specs.BasinFaults.{Spells}
 use Rattle.basin_gen.specs.Generator.{generated}
 use Rattle.cert_check.specs.declared.refuted.Refuted.{Refuted}
 use Rattle.edit_script.specs.declared.refused.ScriptFault.TheVariants as script
-use Rattle.index_seq.specs.Text.{ensemble_text}
-use Rattle.index_seq.specs.Traces.{AreTraces, HasWholeYears, years_of}
-use Rattle.reports.specs.Ends.{IsRun}
-use Rattle.reports.specs.Reports.{report_text, trial_text}
+use Rattle.index_seq.specs.Traces.{HasWholeYears, years_of}
 use Rattle.water_model.specs.History.{HaveReaches, IsHistory, IsShort}
 use Rattle.result_lines.specs.Text.{text_bytes}
-use Rattle.water_model.specs.Valid.{IsSeriesOf}
 use Rattle.water_model.specs.declared.types.Basin.{Basin}
 use Rattle.water_model.specs.declared.types.Series.{Series}
 use Rattle.water_model.specs.declared.types.MonthRecord.{MonthRecord}
@@ -21,23 +17,19 @@ use Rattle.basin_cli.specs.declared.status.Status.{Status}
 use Rattle.basin_cli.specs.declared.status.Status.TheVariants.{Done, No}
 use Rattle.basin_cli.specs.declared.checking.Question.{Question}
 use Rattle.basin_cli.specs.declared.checking.Question.TheVariants as question
-use Rattle.basin_cli.specs.declared.explaining.Account.{Account}
 use Rattle.basin_cli.specs.declared.ending.Ending.{Ending}
 use Rattle.basin_cli.specs.declared.ending.Ending.TheVariants as ending
 use Rattle.basin_cli.specs.declared.ending.File.TheVariants as file
-use Rattle.basin_cli.specs.Actions.{IsAnswered}
+use Rattle.basin_cli.specs.Actions.{IsAnswered, LeavesText, LeavesTraces, LeavesTrial}
 use Rattle.basin_cli.specs.Answer.{IsAnswerFor, LeavesAnswer}
-use Rattle.basin_cli.specs.Command.{Command, Files, calls, run, check, report, trial, why, compare, ensemble, edit}
-use Rattle.basin_cli.specs.Command.{upgrade}
+use Rattle.basin_cli.specs.Command.{Command, Files, run, check, trial, compare, why, ensemble, edit, upgrade}
 use Rattle.basin_cli.specs.Ending.{status_of, line_of}
 use Rattle.basin_cli.specs.Explained.{HasMonth, HasRight, IsAbout, WorkUpTo}
-use Rattle.basin_cli.specs.Failed.{AskedCounts, HaveAsked}
+use Rattle.basin_cli.specs.Failed.{AskedCounts, AskUpTo, inputs_and, inputs_to, pair_to}
 use Rattle.basin_cli.specs.Headline.{HasGreatestPlans, HasGreatestPlansInParts}
 use Rattle.basin_cli.specs.Bytes.{AreSpelled, IsGoodBasin, IsSeriesRefusedFor, IsTooLong, KnownFiles, OfBasin}
 use Rattle.basin_cli.specs.Bytes.{OfSpelled}
-use Rattle.basin_cli.specs.Out.{Leaves, MayWrite}
-use Rattle.basin_cli.specs.Listed.{LeavesList}
-use Rattle.basin_cli.specs.Written.{LeavesRun}
+use Rattle.basin_cli.specs.Out.{IsRefusal, IsStopped, MayShow, MayWrite}
 use Rattle.basin_cli.specs.Reading.{AreAccepted, AfterBasin, AfterBoth, AfterSeries, CompletesAfter, IsDone}
 use Rattle.basin_cli.specs.Reading.{IsJudged, OfBoth, StopsReading}
 use Rattle.basin_cli.specs.Edited.{HasEditingCause, EditsAfter, EditWrites, EditWork}
@@ -160,21 +152,126 @@ HasExplainingCause files month name (ending.ScriptRefused script.NoSuchName line
     (line ≡ 0) × AfterBoth known files (λ bytes _. IsUnknownRight month name bytes)
 HasExplainingCause files month name other known read write = StopsReading files other known read
 
-abbrev pub HasCauseFor : Command → Ending → KnownFiles → Type 0 → Type 0 → Type 0
-HasCauseFor (run files) e known read write = HasSolvingCause files e known read write
-HasCauseFor (check asked files result) e known read write = HasCheckingCause asked files result e known read write
-HasCauseFor (report files) e known read write = HasSolvingCause files e known read write
-HasCauseFor (trial number size) e known read write = HasTrialCause e write
-HasCauseFor (compare files second) e known read write = HasComparingCause files second e known read write
-HasCauseFor (why asked files month name) e known read write = HasExplainingCause files month name e known read write
-HasCauseFor (calls files) e known read write = HasSolvingCause files e known read write
-HasCauseFor (ensemble files) e known read write = HasEnsembleCause files e known read write
-HasCauseFor (edit files script) e known read write = HasEditingCause files script e known read write
-HasCauseFor (upgrade basin) e known read write = HasUpgradingCause basin e known read write
+-- what `check` and `audit` leave on out: the answer to the result's bytes
+abbrev pub WritesAnswer : Question → Status → List ℕ → List ℕ → List ℕ → Output → Output → Type 0
+WritesAnswer asked status bytes series result old new =
+    OfSpelled bytes series (λ b s. LeavesAnswer asked b s result status old new)
 
-abbrev pub EndingHasCause : Option Command → Ending → KnownFiles → Type 0 → Type 0 → Type 0
-EndingHasCause None e known read write = e ≡ ending.Usage
-EndingHasCause (Some command) e known read write = HasCauseFor command e known read write
+-- What a command is held to. `known` gives the bytes under each name, as far as they are known; `read` and `write` say
+-- that the shelf's and out's count of faults rose.
+pub record Row : Type 1 where
+  -- the files that were asked for at an ending, and its cause
+  pub asks : Ending → AskedCounts → AskedCounts → Type 0
+  pub cause : Ending → KnownFiles → Type 0 → Type 0 → Type 0
+  -- how it answers where neither failed: if the bytes that are known of its files are accepted, it is done or says what
+  -- is so, unless memory ran out
+  pub completes : Status → KnownFiles → Type 0 → Type 0 → Type 0
+  -- the statuses that may leave bytes on out, and these bytes
+  pub may : Status → Type 0
+  pub writes : Status → KnownFiles → Output → Output → WorkDone → WorkDone → Type 0
+  -- the statuses with which nothing is solved, and how much is solved at most
+  pub rests : Status → Type 0
+  pub work : KnownFiles → WorkDone → WorkDone → Type 0
+
+-- this is left on out, by the basin and the series that the bytes of a command's files spell
+abbrev pub WritesOf : KnownFiles → Files → Status → (Basin → Series → Type 0) → Type 0
+WritesOf known files status P = OfBoth known files (λ bytes series. MayWrite status → OfSpelled bytes series P)
+
+-- this is solved, by the basin that they spell
+abbrev pub WorkOf : KnownFiles → Files → (Basin → Type 0) → Type 0
+WorkOf known files P = IfSome (known files.basin) (λ bytes. (basin : Basin) → Spells bytes basin → P basin)
+
+-- The row of each command, and of words that are none. A run, a list of calls, a report, a trial and an account take
+-- memory before their first month, the others also later.
+abbrev pub row : Option Command → Row
+row None = record {
+  asks = λ how old new. (name : List ℕ) → new name ≡ old name;
+  cause = λ how known read write. how ≡ ending.Usage;
+  completes = λ status known read write. ⊤;
+  may = MayWrite;
+  writes = λ status known old new before after. ⊤;
+  rests = IsRefusal;
+  work = λ known before now. now ≡ before;
+}
+row (Some (run text files)) = record {
+  asks = AskUpTo (inputs_to files);
+  cause = HasSolvingCause files;
+  completes = λ status known read write. (read → ⊥) → (write → ⊥) → CompletesAfter known files (λ _ _. IsDone status);
+  may = MayWrite;
+  writes = λ status known old new before after.
+      WritesOf known files status (λ b s. LeavesText text b s status old new before after);
+  rests = IsStopped;
+  work = λ known before now. WorkOf known files (λ b. SolvesRun b before now);
+}
+row (Some (check asked files result)) = record {
+  asks = AskUpTo (inputs_and files result);
+  cause = HasCheckingCause asked files result;
+  completes = λ status known read write. (read → ⊥) → (write → ⊥) → CompletesAfter known files (λ bytes series.
+      IfSome (known result) (λ text. IsJudged status (IsYes asked bytes series text)));
+  may = MayWrite;
+  writes = λ status known old new before after. OfBoth known files (λ bytes series. IfSome (known result) (λ text.
+      MayWrite status → WritesAnswer asked status bytes series text old new));
+  rests = IsRefusal;
+  work = λ known before now. now ≡ before;
+}
+row (Some (trial number size)) = record {
+  asks = AskUpTo (λ file. []);
+  cause = λ how known read write. HasTrialCause how write;
+  completes = λ status known read write. (write → ⊥) → IsDone status;
+  may = MayWrite;
+  writes = λ status known old new before after. MayWrite status → LeavesTrial number size status old new;
+  rests = IsStopped;
+  work = λ known before now. SolvesRun (generated number size) before now;
+}
+row (Some (compare files second)) = record {
+  asks = AskUpTo (pair_to files second);
+  cause = HasComparingCause files second;
+  completes = λ status known read write. (read → ⊥) → (write → ⊥) → ComparesAfter known files second status;
+  may = MayWrite;
+  writes = λ status known old new before after. ComparisonWrites known files second status old new;
+  rests = IsRefusal;
+  work = λ known before now. ComparisonWork known files second before now;
+}
+row (Some (why asked files month name)) = record {
+  asks = AskUpTo (inputs_to files);
+  cause = HasExplainingCause files month name;
+  completes = λ status known read write. (read → ⊥) → (write → ⊥) → CompletesAfter known files (λ bytes series.
+      IsAsked month name bytes → IsJudged status (IsShortIn month name bytes series));
+  may = MayWrite;
+  writes = λ status known old new before after.
+      WritesOf known files status (λ b s. IsAnswered asked b s month name status old new);
+  rests = IsStopped;
+  work = λ known before now. WorkOf known files (λ b. WorkUpTo b month before now);
+}
+row (Some (ensemble files)) = record {
+  asks = AskUpTo (inputs_to files);
+  cause = HasEnsembleCause files;
+  completes = λ status known read write. (read → ⊥) → (write → ⊥) →
+      CompletesAfter known files (λ bytes _. IsOfYears bytes → IsDone status);
+  may = MayWrite;
+  writes = λ status known old new before after.
+      WritesOf known files status (λ b s. LeavesTraces b s status old new);
+  rests = IsRefusal;
+  work = λ known before now. WorkOf known files (λ b. Solves (years_of b * b.months) b before now);
+}
+row (Some (edit files script)) = record {
+  asks = AskUpTo (inputs_and files script);
+  cause = HasEditingCause files script;
+  completes = λ status known read write. (read → ⊥) → (write → ⊥) → EditsAfter known files script status;
+  may = MayShow;
+  writes = λ status known old new before after. EditWrites known files script status old new;
+  rests = IsRefusal;
+  work = λ known before now. EditWork known files script before now;
+}
+row (Some (upgrade basin)) = record {
+  asks = AskUpTo (λ file. basin ∷ []);
+  cause = HasUpgradingCause basin;
+  completes = λ status known read write. (read → ⊥) → (write → ⊥) → UpgradesAfter known basin status;
+  may = MayWrite;
+  writes = λ status known old new before after. UpgradeWrites known basin status old new;
+  rests = IsRefusal;
+  work = λ known before now. now ≡ before;
+}
 
 -- a prefix of the line is appended, and all of it unless the count of faults rose
 pub record WritesErrLine (old new : Output) (before now : ℕ) (line : List ℕ) : Type 0 where
@@ -189,119 +286,9 @@ pub record Ends (command : Option Command) (status : Status) (known : KnownFiles
     (asked_old asked_new : AskedCounts) (err_old err_new : Output) (err_before err_now : ℕ) : Type 0 where
   pub how : Ending
   pub status_is : status ≡ status_of how
-  pub cause : EndingHasCause command how known read write
-  pub asked : HaveAsked command how asked_old asked_new
+  pub cause : (row command).cause how known read write
+  pub asked : (row command).asks how asked_old asked_new
   pub writes_line : WritesErrLine err_old err_new err_before err_now (line_of how)
-
--- how a call answers if neither the shelf nor out fails: where the bytes that are known of its files are accepted, it
--- is done or says what is so, unless memory ran out
-abbrev pub Answers : Command → Status → KnownFiles → Type 0
-Answers (run files) status known = CompletesAfter known files (λ _ _. IsDone status)
-Answers (check asked files result) status known =
-    CompletesAfter known files (λ bytes series. IfSome (known result) (λ text.
-    IsJudged status (IsYes asked bytes series text)))
-Answers (report files) status known = CompletesAfter known files (λ _ _. IsDone status)
-Answers (trial number size) status known = IsDone status
-Answers (compare files second) status known = ComparesAfter known files second status
-Answers (why asked files month name) status known =
-    CompletesAfter known files (λ bytes series. IsAsked month name bytes →
-    IsJudged status (IsShortIn month name bytes series))
-Answers (calls files) status known = CompletesAfter known files (λ _ _. IsDone status)
-Answers (ensemble files) status known = CompletesAfter known files (λ bytes _. IsOfYears bytes → IsDone status)
-Answers (edit files script) status known = EditsAfter known files script status
-Answers (upgrade basin) status known = UpgradesAfter known basin status
-
--- and so it does where no reading failed, of which a trial has none, and out did not fail
-abbrev pub Completes : Option Command → Status → KnownFiles → Type 0 → Type 0 → Type 0
-Completes None status known read write = ⊤
-Completes (Some (trial number size)) status known read write = (write → ⊥) → Answers (trial number size) status known
-Completes (Some command) status known read write = (read → ⊥) → (write → ⊥) → Answers command status known
-
--- what `run` leaves on out: the text of a run of what the bytes spell, or after a fault of out as far as it was written
-abbrev pub WritesRun : Status → List ℕ → List ℕ → Output → Output → WorkDone → WorkDone → Type 0
-WritesRun status bytes series old new before after =
-    OfSpelled bytes series (λ b s. LeavesRun b s status old new before after)
-
--- what `calls` leaves on out: the list of calls of a run of what the bytes spell, or after a fault of out as far as it
--- was written
-abbrev pub WritesCalls : Status → List ℕ → List ℕ → Output → Output → WorkDone → WorkDone → Type 0
-WritesCalls status bytes series old new before after =
-    OfSpelled bytes series (λ b s. LeavesList b s status old new before after)
-
--- what `check` and `audit` leave on out: the answer to the result's bytes
-abbrev pub WritesAnswer : Question → Status → List ℕ → List ℕ → List ℕ → Output → Output → Type 0
-WritesAnswer asked status bytes series result old new =
-    OfSpelled bytes series (λ b s. LeavesAnswer asked b s result status old new)
-
--- what `report` leaves on out: the report of a run of what the bytes spell
-abbrev pub WritesReport : Status → List ℕ → List ℕ → Output → Output → Type 0
-WritesReport status bytes series old new = OfSpelled bytes series (λ b s. (records : List MonthRecord) ×
-    IsRun b s records × Leaves status (report_text b s records) old new)
-
--- what `trial` leaves on out: the summary of a run of the basin that the number and the size make
-abbrev pub WritesTrial : Status → ℕ → ℕ → Output → Output → Type 0
-WritesTrial status number size old new = (series : Series) × IsSeriesOf (generated number size) series ×
-    ((records : List MonthRecord) × IsRun (generated number size) series records ×
-    Leaves status (trial_text number size (generated number size) series records) old new)
-
--- what `why` and `where` leave on out: where the right is short in the month, the book of its reach, or where one more
--- unit would help it; and else that it is met, by a run of what the bytes spell up to that month
-abbrev pub WritesBook : Account → Status → Month → List ℕ → List ℕ → List ℕ → Output → Output → Type 0
-WritesBook asked status month name bytes series old new =
-    OfSpelled bytes series (λ b s. IsAnswered asked b s month name status old new)
-
--- what `ensemble` leaves on out: how often each yearly delivery came in traces of what the bytes spell, which are a
--- history of the record begun in each of its years
-abbrev pub WritesEnsemble : Status → List ℕ → List ℕ → Output → Output → Type 0
-WritesEnsemble status bytes series old new = OfSpelled bytes series (λ b s. (traces : List (List MonthRecord)) ×
-    AreTraces b s traces × Leaves status (ensemble_text b traces) old new)
-
--- `before` and `after` are the work done
-abbrev pub WritesFor : Option Command → Status → KnownFiles → Output → Output → WorkDone → WorkDone →
-    Type 0
-WritesFor None status known old new before after = ⊤
-WritesFor (Some (run files)) status known old new before after =
-    OfBoth known files (λ bytes series. MayWrite status → WritesRun status bytes series old new before after)
-WritesFor (Some (check asked files result)) status known old new before after =
-    OfBoth known files
-    (λ bytes series. IfSome (known result)
-    (λ text. MayWrite status → WritesAnswer asked status bytes series text old new))
-WritesFor (Some (report files)) status known old new before after =
-    OfBoth known files (λ bytes series. MayWrite status → WritesReport status bytes series old new)
-WritesFor (Some (trial number size)) status known old new before after = MayWrite status →
-    WritesTrial status number size old new
-WritesFor (Some (compare files second)) status known old new before after =
-    ComparisonWrites known files second status old new
-WritesFor (Some (why asked files month name)) status known old new before after =
-    OfBoth known files (λ bytes series. MayWrite status → WritesBook asked status month name bytes series old new)
-WritesFor (Some (calls files)) status known old new before after =
-    OfBoth known files (λ bytes series. MayWrite status → WritesCalls status bytes series old new before after)
-WritesFor (Some (edit files script)) status known old new before after = EditWrites known files script status old new
-WritesFor (Some (upgrade basin)) status known old new before after = UpgradeWrites known basin status old new
-WritesFor (Some (ensemble files)) status known old new before after =
-    OfBoth known files (λ bytes series. MayWrite status → WritesEnsemble status bytes series old new)
-
--- no more months are solved than the basin has that the bytes spell
-abbrev pub WorkOf : KnownFiles → Files → WorkDone → WorkDone → Type 0
-WorkOf known files before now =
-    IfSome (known files.basin) (λ bytes. (basin : Basin) → Spells bytes basin → SolvesRun basin before now)
-
--- the months that each command may solve: of an ensemble a whole run for each year, and for a check or an audit none
-abbrev pub WorkFor : Option Command → KnownFiles → WorkDone → WorkDone → Type 0
-WorkFor None known before now = now ≡ before
-WorkFor (Some (run files)) known before now = WorkOf known files before now
-WorkFor (Some (check asked files result)) known before now = now ≡ before
-WorkFor (Some (report files)) known before now = WorkOf known files before now
-WorkFor (Some (trial number size)) known before now = SolvesRun (generated number size) before now
-WorkFor (Some (compare files second)) known before now = ComparisonWork known files second before now
-WorkFor (Some (calls files)) known before now = WorkOf known files before now
-WorkFor (Some (why asked files month name)) known before now =
-    IfSome (known files.basin) (λ bytes. (basin : Basin) → Spells bytes basin → WorkUpTo basin month before now)
-WorkFor (Some (ensemble files)) known before now =
-    IfSome (known files.basin) (λ bytes. (basin : Basin) → Spells bytes basin →
-    Solves (years_of basin * basin.months) basin before now)
-WorkFor (Some (edit files script)) known before now = EditWork known files script before now
-WorkFor (Some (upgrade basin)) known before now = now ≡ before
 
 -- the statuses that leave err alone
 abbrev pub IsQuiet : Status → Type 0

@@ -2,30 +2,29 @@
 ghost use Rattle.std.specs.Prelude.{◌≡◌, ◌+◌, ◌*◌, ◌≤◌, ◌++◌, [], List, codes, length, IfOk};
 ghost use Rattle.std.specs.Fmt.{decimal};
 ghost use Rattle.basin_gen.specs.Generator.{generated};
-ghost use Rattle.call_list.specs.Finders.{IsFinderOf};
 ghost use Rattle.cert_check.specs.KindNames.{kind_name};
 ghost use Rattle.cert_check.specs.Standing.{IsAnswer};
 ghost use Rattle.cert_check.specs.Whole.{text_verdict};
 ghost use Rattle.index_seq.specs.Traces.{HasWholeYears, years_of};
 ghost use Rattle.reports.specs.Ends.{IsRun};
-ghost use Rattle.reports.specs.Reports.{report_text, trial_text};
+ghost use Rattle.reports.specs.Reports.{trial_text};
 ghost use Rattle.water_edge.specs.Edge.{Rose};
 ghost use Rattle.water_model.specs.Valid.{IsValidBasin, IsSeriesOf};
 ghost use Rattle.water_model.specs.declared.types.MonthRecord.{MonthRecord};
-ghost use Rattle.basin_cli.specs.Actions.{LeavesText, LeavesTraces};
+ghost use Rattle.basin_cli.specs.Actions.{LeavesText, LeavesTraces, LeavesTrial};
 ghost use Rattle.basin_cli.specs.Answer.{answered, ending_of, yes_word, EndsAnswer};
 ghost use Rattle.basin_cli.specs.Ending.{status_of};
-ghost use Rattle.basin_cli.specs.Listed.{LeavesList};
+ghost use Rattle.basin_cli.specs.Failed.{file_at};
+ghost use Rattle.basin_cli.specs.Monthly.{LeavesMonths};
 ghost use Rattle.basin_cli.specs.Out.{IsRefusal, Leaves, MayWrite};
-ghost use Rattle.basin_cli.specs.Outcome.{HasTrialCause, IsQuiet, WritesTrial};
-ghost use Rattle.basin_cli.specs.Written.{LeavesRun};
+ghost use Rattle.basin_cli.specs.Outcome.{HasTrialCause, IsQuiet};
+ghost use Rattle.basin_cli.specs.Serving.{Acts};
 ghost use Rattle.month_fold.specs.Works.{Solves, SolvesRun};
 
 use crate::checking::Question;
 use crate::ending::Ending;
 use crate::flushing::put_whole;
-use crate::listing::list_run;
-use crate::writing::write_run;
+use crate::writing::{MonthlyWriter, ResultWriter, write_run};
 use basin_gen::make;
 use call_list::CallFinder;
 use cert_check::{Checker, Refuted, check_text};
@@ -47,10 +46,11 @@ pub enum RunText {
     Report,
 }
 
-/// Solves the months of a basin with a series and puts the result, each month's lines as soon as it is solved. Memory
-/// is taken before the first byte is put.
-fn put_result<K: Sink, P: Ledger, M: Ledger>(
+/// Solves the months of a basin with a series and puts a text of them, each month's lines as soon as it is solved. The
+/// memory of the run is taken before the first byte is put.
+fn put_months<W: MonthlyWriter, K: Sink, P: Ledger, M: Ledger>(
     alloc: Global,
+    writer: &mut W,
     basin: &Basin,
     series: &Series,
     out: &mut K,
@@ -58,54 +58,17 @@ fn put_result<K: Sink, P: Ledger, M: Ledger>(
 ) -> Ending
     requires basin { IsValidBasin basin.now }
     requires series { IsSeriesOf basin.now series.now }
-    ensures ends { HasTrialCause result (Rose (K.faults out.old) (K.faults out.new)) }
-    ensures leaves { MayWrite (status_of result) → LeavesRun basin.now series.now (status_of result)
-        (K.output out.old) (K.output out.new) work.old work.new }
-    ensures out_stays { (MayWrite (status_of result) → ⊥) → out.new ≡ out.old }
-    ensures idle { (MayWrite (status_of result) → ⊥) → work.new ≡ work.old }
-    ensures work { SolvesRun basin.now work.old work.new }
-    ensures flushed { IsQuiet (status_of result) → (K.output out.new).flushed ≡ (K.output out.new).taken }
+    requires writer { W.is_for basin.now writer.old }
+    ensures { Acts K.Sink HasTrialCause (LeavesMonths W.text basin.now series.now) (SolvesRun basin.now) result
+        out.old out.new work.old work.new }
 {
     let mut run = match Run::open(alloc, basin, series) {
         Ok(run) => run,
         Err(_) => return Ending::OutOfMemory,
     };
-    let written = write_run(out, &mut run, work);
+    let written = write_run(writer, out, &mut run, work);
     drop(run);
     match written {
-        Ok(()) => Ending::Done,
-        Err(_) => Ending::WriteFault,
-    }
-}
-
-/// Solves the months of a basin with a series and puts the list of their calls, each month's lines as soon as it is
-/// solved. The memory of the run is taken before the first byte is put.
-fn put_found_calls<K: Sink, P: Ledger, M: Ledger>(
-    alloc: Global,
-    finder: &mut CallFinder,
-    basin: &Basin,
-    series: &Series,
-    out: &mut K,
-    work: &mut Work<P, M>,
-) -> Ending
-    requires basin { IsValidBasin basin.now }
-    requires series { IsSeriesOf basin.now series.now }
-    requires finder { IsFinderOf basin.now finder.old }
-    ensures ends { HasTrialCause result (Rose (K.faults out.old) (K.faults out.new)) }
-    ensures leaves { MayWrite (status_of result) → LeavesList basin.now series.now (status_of result)
-        (K.output out.old) (K.output out.new) work.old work.new }
-    ensures out_stays { (MayWrite (status_of result) → ⊥) → out.new ≡ out.old }
-    ensures idle { (MayWrite (status_of result) → ⊥) → work.new ≡ work.old }
-    ensures work { SolvesRun basin.now work.old work.new }
-    ensures flushed { IsQuiet (status_of result) → (K.output out.new).flushed ≡ (K.output out.new).taken }
-{
-    let mut run = match Run::open(alloc, basin, series) {
-        Ok(run) => run,
-        Err(_) => return Ending::OutOfMemory,
-    };
-    let listed = list_run(out, finder, &mut run, work);
-    drop(run);
-    match listed {
         Ok(()) => Ending::Done,
         Err(_) => Ending::WriteFault,
     }
@@ -122,19 +85,14 @@ fn put_calls<K: Sink, P: Ledger, M: Ledger>(
 ) -> Ending
     requires basin { IsValidBasin basin.now }
     requires series { IsSeriesOf basin.now series.now }
-    ensures ends { HasTrialCause result (Rose (K.faults out.old) (K.faults out.new)) }
-    ensures leaves { MayWrite (status_of result) → LeavesList basin.now series.now (status_of result)
-        (K.output out.old) (K.output out.new) work.old work.new }
-    ensures out_stays { (MayWrite (status_of result) → ⊥) → out.new ≡ out.old }
-    ensures idle { (MayWrite (status_of result) → ⊥) → work.new ≡ work.old }
-    ensures work { SolvesRun basin.now work.old work.new }
-    ensures flushed { IsQuiet (status_of result) → (K.output out.new).flushed ≡ (K.output out.new).taken }
+    ensures { Acts K.Sink HasTrialCause (LeavesText RunText.Calls basin.now series.now) (SolvesRun basin.now) result
+        out.old out.new work.old work.new }
 {
     let mut finder = match CallFinder::open(alloc, basin) {
         Ok(finder) => finder,
         Err(_) => return Ending::OutOfMemory,
     };
-    let ending = put_found_calls(alloc, &mut finder, basin, series, out, work);
+    let ending = put_months(alloc, &mut finder, basin, series, out, work);
     drop(finder);
     ending
 }
@@ -149,13 +107,8 @@ fn put_report<K: Sink, P: Ledger, M: Ledger>(
 ) -> Ending
     requires basin { IsValidBasin basin.now }
     requires series { IsSeriesOf basin.now series.now }
-    ensures ends { HasTrialCause result (Rose (K.faults out.old) (K.faults out.new)) }
-    ensures leaves { MayWrite (status_of result) → (records : List MonthRecord) × IsRun basin.now series.now records
-        × Leaves (status_of result) (report_text basin.now series.now records) (K.output out.old) (K.output out.new) }
-    ensures out_stays { (MayWrite (status_of result) → ⊥) → out.new ≡ out.old }
-    ensures idle { (MayWrite (status_of result) → ⊥) → work.new ≡ work.old }
-    ensures work { SolvesRun basin.now work.old work.new }
-    ensures flushed { IsQuiet (status_of result) → (K.output out.new).flushed ≡ (K.output out.new).taken }
+    ensures { Acts K.Sink HasTrialCause (LeavesText RunText.Report basin.now series.now) (SolvesRun basin.now) result
+        out.old out.new work.old work.new }
 {
     match period_report(alloc, basin, series, out, work) {
         Ok(()) => match out.flush() {
@@ -179,16 +132,11 @@ pub fn put_run_text<K: Sink, P: Ledger, M: Ledger>(
 ) -> Ending
     requires basin { IsValidBasin basin.now }
     requires series { IsSeriesOf basin.now series.now }
-    ensures ends { HasTrialCause result (Rose (K.faults out.old) (K.faults out.new)) }
-    ensures leaves { MayWrite (status_of result) → LeavesText text basin.now series.now (status_of result)
-        (K.output out.old) (K.output out.new) work.old work.new }
-    ensures out_stays { (MayWrite (status_of result) → ⊥) → out.new ≡ out.old }
-    ensures idle { (MayWrite (status_of result) → ⊥) → work.new ≡ work.old }
-    ensures work { SolvesRun basin.now work.old work.new }
-    ensures flushed { IsQuiet (status_of result) → (K.output out.new).flushed ≡ (K.output out.new).taken }
+    ensures { Acts K.Sink HasTrialCause (LeavesText text basin.now series.now) (SolvesRun basin.now) result
+        out.old out.new work.old work.new }
 {
     match text {
-        RunText::Result => put_result(alloc, basin, series, out, work),
+        RunText::Result => put_months(alloc, &mut ResultWriter, basin, series, out, work),
         RunText::Calls => put_calls(alloc, basin, series, out, work),
         RunText::Report => put_report(alloc, basin, series, out, work),
     }
@@ -206,7 +154,9 @@ pub fn ensemble_basin<K: Sink, P: Ledger, M: Ledger>(
     requires whole { HasWholeYears basin.now }
     requires series { IsSeriesOf basin.now series.now }
     ensures ends { HasTrialCause result (Rose (K.faults out.old) (K.faults out.new)) }
-    ensures leaves { LeavesTraces basin.now series.now result (K.output out.old) (K.output out.new) }
+    ensures at { file_at result ≡ None }
+    ensures leaves { MayWrite (status_of result) → LeavesTraces basin.now series.now (status_of result)
+        (K.output out.old) (K.output out.new) }
     ensures out_stays { (MayWrite (status_of result) → ⊥) → out.new ≡ out.old }
     ensures idle { IsRefusal (status_of result) → ⊥ }
     ensures work { Solves (years_of basin.now * basin.now.months) basin.now work.old work.new }
@@ -234,14 +184,10 @@ fn put_trial<K: Sink, P: Ledger, M: Ledger>(
 ) -> Ending
     requires basin { IsValidBasin basin.now }
     requires series { IsSeriesOf basin.now series.now }
-    ensures ends { HasTrialCause result (Rose (K.faults out.old) (K.faults out.new)) }
-    ensures leaves { MayWrite (status_of result) → (records : List MonthRecord) × IsRun basin.now series.now records
-        × Leaves (status_of result) (trial_text number size basin.now series.now records)
-        (K.output out.old) (K.output out.new) }
-    ensures out_stays { (MayWrite (status_of result) → ⊥) → out.new ≡ out.old }
-    ensures idle { (MayWrite (status_of result) → ⊥) → work.new ≡ work.old }
-    ensures work { SolvesRun basin.now work.old work.new }
-    ensures flushed { IsQuiet (status_of result) → (K.output out.new).flushed ≡ (K.output out.new).taken }
+    ensures { Acts K.Sink HasTrialCause (λ status old new _ _. (records : List MonthRecord) ×
+        IsRun basin.now series.now records ×
+        Leaves status (trial_text number size basin.now series.now records) old new) (SolvesRun basin.now) result
+        out.old out.new work.old work.new }
 {
     match trial_report(alloc, number, size, basin, series, out, work) {
         Ok(()) => match out.flush() {
@@ -263,13 +209,8 @@ pub fn trial_basin<K: Sink, P: Ledger, M: Ledger>(
 ) -> Ending
     requires some { 2 ≤ size }
     requires size { size ≤ 2000 }
-    ensures ends { HasTrialCause result (Rose (K.faults out.old) (K.faults out.new)) }
-    ensures writes { MayWrite (status_of result) →
-        WritesTrial (status_of result) number size (K.output out.old) (K.output out.new) }
-    ensures out_stays { (MayWrite (status_of result) → ⊥) → out.new ≡ out.old }
-    ensures idle { (MayWrite (status_of result) → ⊥) → work.new ≡ work.old }
-    ensures work { SolvesRun (generated number size) work.old work.new }
-    ensures flushed { IsQuiet (status_of result) → (K.output out.new).flushed ≡ (K.output out.new).taken }
+    ensures { Acts K.Sink HasTrialCause (λ status old new _ _. LeavesTrial number size status old new) (SolvesRun (generated number size)) result
+        out.old out.new work.old work.new }
 {
     let (basin, series) = match make(alloc, number, size) {
         Ok(made) => made,

@@ -7,6 +7,7 @@ ghost use Rattle.water_edge.specs.Edge.{Rose};
 ghost use Rattle.water_model.specs.Valid.{IsValidBasin, IsSeriesOf};
 ghost use Rattle.basin_cli.specs.Edited.{EndsEditing, LeavesScript, LeavesShows, WorkOfScript, ScriptEnds};
 ghost use Rattle.basin_cli.specs.Ending.{status_of};
+ghost use Rattle.basin_cli.specs.Failed.{file_at};
 ghost use Rattle.basin_cli.specs.Out.{IsRefusal, MayShow, WithoutMemory};
 ghost use Rattle.basin_cli.specs.Outcome.{HasTrialCause, IsQuiet};
 ghost use Rattle.month_fold.specs.Works.{Solves};
@@ -33,6 +34,7 @@ fn accept_script(
     ensures reads { IfOk result (λ edits. script_of basin.now series.now text.now ≡ Ok edits.items) }
     ensures placed { IfOk result (λ edits. All (IsValidEdit basin.now series.now) edits.items) }
     ensures ends { IfErr result (λ e. ScriptEnds basin.now series.now text.now e) }
+    ensures at { IfErr result (λ e. file_at e ≡ None) }
 {
     match read_script(alloc, basin, series, text) {
         Ok(edits) => Ok(edits),
@@ -54,6 +56,7 @@ fn answer_edits<K: Sink, P: Ledger, M: Ledger>(
     requires series { IsSeriesOf basin.now series.now }
     requires placed { All (IsValidEdit basin.now series.now) edits.now }
     ensures ends { HasTrialCause result (Rose (K.faults out.old) (K.faults out.new)) }
+    ensures at { file_at result ≡ None }
     ensures leaves { LeavesShows (status_of result) basin.now series.now edits.now (K.output out.old)
         (K.output out.new) }
     ensures idle { IsRefusal (status_of result) → ⊥ }
@@ -81,6 +84,7 @@ pub fn edit_basin<K: Sink, P: Ledger, M: Ledger>(
     requires basin { IsValidBasin basin.now }
     requires series { IsSeriesOf basin.now series.now }
     ensures ends { EndsEditing basin.now series.now text.now result (Rose (K.faults out.old) (K.faults out.new)) }
+    ensures at { file_at result ≡ None }
     ensures leaves { LeavesScript (status_of result) basin.now series.now text.now (K.output out.old)
         (K.output out.new) }
     ensures out_stays { (MayShow (status_of result) → ⊥) → out.new ≡ out.old }

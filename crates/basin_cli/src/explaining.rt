@@ -17,6 +17,7 @@ ghost use Rattle.call_list.specs.Helpers.{IsHelpFinderOf};
 ghost use Rattle.plan_residual.specs.Residual.{HasPlan};
 ghost use Rattle.basin_cli.specs.Out.{IsRefusal, Leaves, MayWrite};
 ghost use Rattle.basin_cli.specs.Outcome.{IsQuiet};
+ghost use Rattle.basin_cli.specs.Serving.{Acts};
 ghost use Rattle.basin_cli.specs.declared.ending.Ending.TheVariants.{OutOfMemory};
 
 use crate::ending::Ending;
@@ -305,13 +306,9 @@ pub fn explain_right<K: Sink, P: Ledger, M: Ledger>(
     requires basin { IsValidBasin basin.now }
     requires series { IsSeriesOf basin.now series.now }
     requires month { IsMonth month }
-    ensures ends { EndsAsking basin.now series.now month name.now result (Rose (K.faults out.old) (K.faults out.new)) }
-    ensures answers { MayWrite (status_of result) → IsAnswered account basin.now series.now month name.now
-        (status_of result) (K.output out.old) (K.output out.new) }
-    ensures out_stays { (MayWrite (status_of result) → ⊥) → out.new ≡ out.old }
-    ensures idle { (MayWrite (status_of result) → ⊥) → work.new ≡ work.old }
-    ensures work { WorkUpTo basin.now month work.old work.new }
-    ensures flushed { IsQuiet (status_of result) → (K.output out.new).flushed ≡ (K.output out.new).taken }
+    ensures { Acts K.Sink (EndsAsking basin.now series.now month name.now)
+        (λ status old new _ _. IsAnswered account basin.now series.now month name.now status old new)
+        (WorkUpTo basin.now month) result out.old out.new work.old work.new }
 {
     let Some(index) = index_of(basin, month) else {
         return Ending::ScriptRefused {

@@ -4,11 +4,11 @@ ghost use Rattle.water_edge.specs.Edge.{Rose};
 ghost use Rattle.water_text.specs.Months.{IsMonth};
 ghost use Rattle.month_fold.specs.Works.{WorkDone};
 ghost use Rattle.edit_session.specs.Shown.{IsUntouchedOrFlushed};
-ghost use Rattle.basin_cli.specs.Command.{ServesFiles, ServesSeries, check, command_of, edit, ensemble, named};
-ghost use Rattle.basin_cli.specs.Command.{text_command, why};
+ghost use Rattle.basin_cli.specs.Command.{ServesFiles, ServesSeries, check, command_of, edit, ensemble, named, run};
+ghost use Rattle.basin_cli.specs.Command.{why};
 ghost use Rattle.basin_cli.specs.Ending.{line_of};
-ghost use Rattle.basin_cli.specs.Out.{IsIdle, IsUnread, KeepsShown, MayLeave};
-ghost use Rattle.basin_cli.specs.Outcome.{Completes, Ends, IsQuiet, WorkFor, WritesErrLine, WritesFor};
+ghost use Rattle.basin_cli.specs.Out.{IsUnread, KeepsShown};
+ghost use Rattle.basin_cli.specs.Outcome.{Ends, IsQuiet, WritesErrLine, row};
 ghost use Rattle.basin_cli.specs.Serving.{Serves};
 
 use crate::actions::{RunText, ensemble_basin, put_run_text, trial_basin};
@@ -39,7 +39,7 @@ fn do_text<S: Shelf, K: Sink, P: Ledger, M: Ledger>(
 ) -> Ending
     requires basin { S.serves shelf.old inputs.basin.now }
     requires series { ServesSeries (S.serves shelf.old) (option_map (λ n. n.now) inputs.series) }
-    ensures { Serves S.Shelf K.Sink (Some (text_command text (named inputs.entry))) result shelf.old shelf.new
+    ensures { Serves S.Shelf K.Sink (Some (run text (named inputs.entry))) result shelf.old shelf.new
         out.old out.new work.old work.new }
 {
     let files = match read_inputs(alloc, shelf, inputs) {
@@ -229,15 +229,15 @@ pub fn basin_main<S: Shelf, K: Sink, E: Sink, P: Ledger, M: Ledger>(
         (E.output err.old) (E.output err.new) (E.faults err.old) (E.faults err.new) }
     // Where nothing is refused and nothing fails, the call is done; a result that is checked or audited is judged as
     // what it is, and a comparison answers no exactly where somebody is injured.
-    ensures complete { Completes (command_of (map string_bytes words.now)) result (S.known shelf.old)
+    ensures complete { (row (command_of (map string_bytes words.now))).completes result (S.known shelf.old)
         (Rose (S.faults shelf.old) (S.faults shelf.new)) (Rose (K.faults out.old) (K.faults out.new)) }
 
     // The text of records that keep the priority of rights, the list of their calls, a report on them, the answer to a
     // result, the comparison of two such lists of records, or the months that a script shows; or after a fault of out a
     // prefix of it. The months of a run, of a list of calls and of a script are written and flushed as they are solved.
-    ensures writes { WritesFor (command_of (map string_bytes words.now)) result (S.known shelf.old) (K.output out.old)
+    ensures writes { (row (command_of (map string_bytes words.now))).writes result (S.known shelf.old) (K.output out.old)
         (K.output out.new) work.old work.new }
-    ensures out_stays { (MayLeave (command_of (map string_bytes words.now)) result → ⊥) → out.new ≡ out.old }
+    ensures out_stays { ((row (command_of (map string_bytes words.now))).may result → ⊥) → out.new ≡ out.old }
     ensures err_stays { IsQuiet result → err.new ≡ err.old }
 
     // Done and no come only where all that was put was flushed, and where memory ran out the months that a script
@@ -256,8 +256,8 @@ pub fn basin_main<S: Shelf, K: Sink, E: Sink, P: Ledger, M: Ledger>(
     // run and a list of calls those that were written, of an account those up to the month asked for, of a comparison
     // those of both runs, of an ensemble a run for each year, of a script as many as it costs, and of a check or an
     // audit none. Each has at most as many pushes as its bound allows.
-    ensures idle { IsIdle (command_of (map string_bytes words.now)) result → work.new ≡ work.old }
-    ensures work { WorkFor (command_of (map string_bytes words.now)) (S.known shelf.old) work.old work.new }
+    ensures idle { (row (command_of (map string_bytes words.now))).rests result → work.new ≡ work.old }
+    ensures work { (row (command_of (map string_bytes words.now))).work (S.known shelf.old) work.old work.new }
 {
     let ending = decide(alloc, words, shelf, out, work);
     if ending.has_line_on_err() {

@@ -1,8 +1,7 @@
-use Rattle.std.proofs.Common.{arith, refl, rules, Some}
-use Rattle.std.proofs.lemmas.Grind.{common_steps}
-use Rattle.basin_cli.specs.Command.{compare, named}
-use Rattle.basin_cli.specs.Failed.{files_to}
-use Rattle.basin_cli.proofs.Failing.{stops_at_none}
+use Rattle.std.proofs.Common.{refl, rules}
+use Rattle.basin_cli.specs.Command.{named}
+use Rattle.basin_cli.specs.Failed.{pair_to}
+use Rattle.basin_cli.proofs.Failing.{at_none_prints, stops_at_none}
 use Rattle.basin_cli.proofs.Idle.{compares_none}
 use Rattle.basin_cli.proofs.Injured.{cause, work, writes}
 use Rattle.basin_cli.proofs.Stops.{refused_writes}
@@ -14,19 +13,9 @@ returns-in-Err g c =
     let files = named c.args.inputs in
     let second = c.args.second.now in
     let out = g.K.Sink.output c.args.out.now in
-    record {
-      cause = search rules;
-      asked = c.in-Err.ensures.up_to;
-      can_be_printed = c.in-Err.ensures.printable;
-      writes =
-          refused_writes known files second c.in-Err.ending _ out out c.in-Err.ensures.stops;
-      out_stays = λ _. refl;
-      flushed = search rules;
-      shown = tt;
-      unread = tt;
-      idle = λ _. refl;
-      work = compares_none known files second c.args.work.now;
-    }
+    let writes = refused_writes known files second c.in-Err.ending _ out out c.in-Err.ensures.stops in
+    let work = compares_none known files second c.args.work.now in
+    search rules
 
 pub returns : goal.returns
 returns g c =
@@ -34,23 +23,17 @@ returns g c =
     let files = named c.args.inputs in
     let second = c.args.second.now in
     let how = c.compare_basins-ending.result in
+    let did = c.compare_basins-ending.ensures in
     record {
-      cause =
-          cause known files second c.in-Ok.pair c.in-Ok.ensures.paired how _ _ _ _
-          c.compare_basins-ending.ensures.compares
-          c.compare_basins-ending.ensures.ends;
-      asked =
-          stops_at_none (files_to (compare files second)) _ _ how c.compare_basins-ending.ensures.at;
-      can_be_printed = search rules;
-      writes =
-          writes known files second c.in-Ok.pair c.in-Ok.ensures.paired how _ _ _
-          c.compare_basins-ending.ensures.compares;
-      out_stays = c.compare_basins-ending.ensures.out_stays;
-      flushed = c.compare_basins-ending.ensures.flushed;
+      cause = cause known files second c.in-Ok.pair c.in-Ok.ensures.paired how _ _ _ _ did.compares did.ends;
+      asked = stops_at_none (pair_to files second) _ _ how did.at;
+      can_be_printed = at_none_prints how did.at;
+      writes = writes known files second c.in-Ok.pair c.in-Ok.ensures.paired how _ _ _ did.compares;
+      out_stays = did.out_stays;
+      flushed = did.flushed;
       shown = tt;
       unread = tt;
-      idle = λ refused. absurd (c.compare_basins-ending.ensures.idle refused);
-      work =
-          work known files second c.in-Ok.pair c.in-Ok.ensures.paired c.args.work.now
-          c.compare_basins-ending.new.work c.compare_basins-ending.ensures.work;
+      idle = λ refused. absurd (did.idle refused);
+      work = work known files second c.in-Ok.pair c.in-Ok.ensures.paired c.args.work.now
+          c.compare_basins-ending.new.work did.work;
     }

@@ -1,6 +1,5 @@
-use Rattle.std.proofs.Common.{[], arith, rules}
-use Rattle.std.proofs.lemmas.Grind.{common_steps}
-use Rattle.basin_cli.proofs.Failing.{solving_stops}
+use Rattle.std.proofs.Common.{[], rules}
+use Rattle.basin_cli.proofs.Failing.{at_none_prints, stops_at_none}
 use Rattle.basin_cli.proofs.top.decide.Goals as goal
 
 pub returns-in-Some-Check : goal.returns-in-Some-Check
@@ -15,7 +14,9 @@ returns-in-Some-Upgrade g c =
 
 pub returns-in-Some-Trial : goal.returns-in-Some-Trial
 returns-in-Some-Trial g c =
+    let did = c.trial_basin.ensures in
     let asks =
-    solving_stops (λ file. []) (g.S.Shelf.asked c.args.shelf.now) (g.S.Shelf.asked c.args.shelf.now)
-    c.trial_basin.result _ c.trial_basin.ensures.ends in
+    stops_at_none (λ file. []) (g.S.Shelf.asked c.args.shelf.now) (g.S.Shelf.asked c.args.shelf.now)
+    c.trial_basin.result did.at in
+    let prints = at_none_prints c.trial_basin.result did.at in
     search rules

@@ -4,9 +4,9 @@ use Rattle.std.specs.Prelude.{IfSome}
 use Rattle.water_edge.specs.Edge.{Rose}
 use Rattle.basin_cli.specs.Actions.{EndsChecking}
 use Rattle.basin_cli.specs.Answer.{LeavesAnswer}
-use Rattle.basin_cli.specs.Command.{check, named}
+use Rattle.basin_cli.specs.Command.{named}
 use Rattle.basin_cli.specs.Ending.{status_of}
-use Rattle.basin_cli.specs.Failed.{files_to}
+use Rattle.basin_cli.specs.Failed.{inputs_and}
 use Rattle.basin_cli.specs.Out.{MayWrite}
 use Rattle.basin_cli.proofs.Failing.{checking_asks, inputs_stop}
 use Rattle.basin_cli.proofs.Judged.{checking_cause, checking_writes, ends_later}
@@ -18,20 +18,11 @@ pub returns-in-Err : goal.returns-in-Err
 returns-in-Err g c = λ count.
     (let files = named c.args.inputs in
     let result = c.args.result_name.now in
-    record {
-      cause = search rules;
-      asked =
-          inputs_stop (files_to (check c.args.question files result)) _ _ files _ _ c.in-Err.ending
-          (λ asks. asks) (λ asks. asks) c.in-Err.ensures.stops c.in-Err.ensures.up_to;
-      can_be_printed = search rules;
-      writes = grind (arith, common_steps);
-      out_stays = λ _. refl;
-      flushed = search rules;
-      shown = tt;
-      unread = unread _ c.in-Err.ending (λ _. c.read_inputs.ensures.asked result);
-      idle = λ _. refl;
-      work = refl;
-    })
+    let asked =
+    inputs_stop (inputs_and files result) _ _ files _ _ c.in-Err.ending (λ asks. asks) (λ asks. asks)
+    c.in-Err.ensures.stops c.in-Err.ensures.up_to in
+    let kept = unread _ c.in-Err.ending (λ _. c.read_inputs.ensures.asked result) in
+    search rules)
 
 pub returns : goal.returns
 returns g c = λ count.

@@ -1,12 +1,12 @@
-use Rattle.std.proofs.Common.{arith, rules, refl, subst, inl, ◌≡◌, ℕ, List, Option, Some}
+use Rattle.std.proofs.Common.{arith, rules, refl, subst, inl, ◌≡◌, ℕ, List, Option}
 use Rattle.std.proofs.lemmas.Grind.{common_steps}
 use Rattle.std.specs.Prelude.{IfSome}
-use Rattle.basin_cli.specs.Command.{edit, named}
+use Rattle.basin_cli.specs.Command.{named}
 use Rattle.basin_cli.specs.Ending.{status_of}
-use Rattle.basin_cli.specs.Failed.{files_to}
+use Rattle.basin_cli.specs.Failed.{inputs_and}
 use Rattle.basin_cli.specs.declared.ending.File.TheVariants as file
 use Rattle.basin_cli.proofs.Edited.{editing_cause, editing_solves, editing_writes, script_cause}
-use Rattle.basin_cli.proofs.Failing.{asks_one, asks_then, editing_stops, inputs_stop, stops_at}
+use Rattle.basin_cli.proofs.Failing.{asks_one, asks_then, at_none_prints, inputs_stop, stops_at, stops_at_none}
 use Rattle.basin_cli.proofs.Idle.{edits_none}
 use Rattle.basin_cli.proofs.Stops.{rose_since}
 use Rattle.basin_cli.proofs.Unread.{unread}
@@ -25,24 +25,21 @@ returns g c =
     rw c.deref.ensures.value
     (subst (λ (o : Option (List ℕ)). IfSome o (λ bytes. c.in-Ok-read_file.text.items ≡ bytes))
     (c.in-Ok.ensures.same.known script) c.in-Ok-read_file.ensures.bytes) in
+    let read = c.in-Ok.ensures in
+    let did = c.edit_basin-ending.ensures in
     record {
-      cause =
-          editing_cause known files b series c.in-Ok.ensures.fits c.in-Ok.ensures.loaded script text is how _ _
-          (rw c.deref.ensures.value c.in-Ok-read_file.ensures.within) c.edit_basin-ending.ensures.ends;
-      asked =
-          editing_stops (files_to (edit files script)) _ _ b series text how _ c.edit_basin-ending.ensures.ends;
-      can_be_printed = search rules;
-      writes =
-          editing_writes known files b series c.in-Ok.ensures.fits c.in-Ok.ensures.loaded script text is
-          (status_of how) _ _ c.edit_basin-ending.ensures.leaves;
-      out_stays = c.edit_basin-ending.ensures.out_stays;
-      flushed = c.edit_basin-ending.ensures.flushed;
-      shown = c.edit_basin-ending.ensures.shown;
+      cause = editing_cause known files b series read.fits read.loaded script text is how _ _
+          (rw c.deref.ensures.value c.in-Ok-read_file.ensures.within) did.ends;
+      asked = stops_at_none (inputs_and files script) _ _ how did.at;
+      can_be_printed = at_none_prints how did.at;
+      writes = editing_writes known files b series read.fits read.loaded script text is (status_of how) _ _ did.leaves;
+      out_stays = did.out_stays;
+      flushed = did.flushed;
+      shown = did.shown;
       unread = tt;
-      idle = c.edit_basin-ending.ensures.idle;
-      work =
-          editing_solves known files b series c.in-Ok.ensures.fits c.in-Ok.ensures.loaded script text is
-          c.args.work.now c.edit_basin-ending.new.work c.edit_basin-ending.ensures.work;
+      idle = did.idle;
+      work = editing_solves known files b series read.fits read.loaded script text is c.args.work.now
+          c.edit_basin-ending.new.work did.work;
     }
 
 pub returns-in-Err-read_file : goal.returns-in-Err-read_file
@@ -58,7 +55,7 @@ returns-in-Err-read_file g c =
           (c.in-Ok.ensures.same.known script) (rose_since _ _ _ c.in-Ok.ensures.later)
           c.in-Err-read_file.ensures.ends;
       asked =
-          stops_at (files_to (edit files script)) _ _ file.Script ending c.in-Err-read_file.ensures.at
+          stops_at (inputs_and files script) _ _ file.Script ending c.in-Err-read_file.ensures.at
           (asks_then _ _ _ _ _ c.in-Ok.ensures.reads (asks_one _ _ _ c.read_file.ensures.asked));
       can_be_printed = search rules;
       writes = grind (arith, common_steps);
@@ -79,7 +76,7 @@ returns-in-Err g c =
     record {
       cause = search rules;
       asked =
-          inputs_stop (files_to (edit files script)) _ _ files _ _ ending (λ asks. asks) (λ asks. asks)
+          inputs_stop (inputs_and files script) _ _ files _ _ ending (λ asks. asks) (λ asks. asks)
           c.in-Err.ensures.stops c.in-Err.ensures.up_to;
       can_be_printed = search rules;
       writes = search rules;

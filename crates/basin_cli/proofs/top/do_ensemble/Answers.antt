@@ -1,9 +1,9 @@
-use Rattle.std.proofs.Common.{◌*◌, rules}
+use Rattle.std.proofs.Common.{◌*◌}
 use Rattle.index_seq.specs.Traces.{years_of}
 use Rattle.month_fold.specs.Works.{Solves}
-use Rattle.basin_cli.specs.Command.{ensemble, named}
-use Rattle.basin_cli.specs.Failed.{files_to}
-use Rattle.basin_cli.proofs.Failing.{solving_stops}
+use Rattle.basin_cli.specs.Command.{named}
+use Rattle.basin_cli.specs.Failed.{inputs_to}
+use Rattle.basin_cli.proofs.Failing.{at_none_prints, stops_at_none}
 use Rattle.basin_cli.proofs.Known.{of_basin, writes}
 use Rattle.basin_cli.proofs.Solved.{gathering_cause}
 use Rattle.basin_cli.proofs.top.do_ensemble.Goals as goal
@@ -14,24 +14,20 @@ returns g c =
     let files = named c.args.inputs in
     let b = c.in-Ok.files.basin in
     let series = c.in-Ok.files.series in
+    let read = c.in-Ok.ensures in
     let how = c.ensemble_basin-ending.result in
+    let did = c.ensemble_basin-ending.ensures in
     record {
-      cause =
-          gathering_cause known files b series c.in-Ok.ensures.fits c.in-Ok.ensures.loaded how _ _
-          c.in-Ok.ensures.whole c.ensemble_basin-ending.ensures.ends;
-      asked =
-          solving_stops (files_to (ensemble files)) _ _ how _ c.ensemble_basin-ending.ensures.ends;
-      can_be_printed = search rules;
-      writes =
-          writes known files b series c.in-Ok.ensures.fits c.in-Ok.ensures.loaded _ _
-          c.ensemble_basin-ending.ensures.leaves;
-      out_stays = c.ensemble_basin-ending.ensures.out_stays;
-      flushed = c.ensemble_basin-ending.ensures.flushed;
+      cause = gathering_cause known files b series read.fits read.loaded how _ _ read.whole did.ends;
+      asked = stops_at_none (inputs_to files) _ _ how did.at;
+      can_be_printed = at_none_prints how did.at;
+      writes = writes known files b series read.fits read.loaded _ _ did.leaves;
+      out_stays = did.out_stays;
+      flushed = did.flushed;
       shown = tt;
       unread = tt;
-      idle = λ refused. absurd (c.ensemble_basin-ending.ensures.idle refused);
-      work =
-          of_basin (known files.basin) b
+      idle = λ refused. absurd (did.idle refused);
+      work = of_basin (known files.basin) b
           (λ d. Solves (years_of d * d.months) d c.args.work.now c.ensemble_basin-ending.new.work)
-          c.in-Ok.ensures.loaded.from_basin c.ensemble_basin-ending.ensures.work;
+          read.loaded.from_basin did.work;
     }
