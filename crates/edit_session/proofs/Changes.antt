@@ -15,7 +15,7 @@ use Rattle.water_model.specs.declared.types.Inflow as inflow
 use Rattle.water_model.specs.declared.types.Series.{Series}
 use Rattle.water_model.specs.declared.types.MonthRecord.{MonthRecord}
 use Rattle.water_model.specs.declared.types.Want as wanting
-use Rattle.water_model.specs.declared.types.Want.TheVariants as wants
+use Rattle.water_model.specs.declared.types.Want.TheVariants as stated
 use Rattle.water_model.proofs.Gauges.{gauge_within, wanted_within, cell_within}
 use Rattle.edit_script.specs.Edits.{edited_by, kept_by, IsValidEdit, with_inflow, with_want}
 use Rattle.edit_session.specs.Laws.{AgreeBefore, EditedSeriesFit, KeptMonthsStay}
@@ -115,8 +115,8 @@ tables_agree b series other month amounts wants = record {
     by_want : (right i : ℕ) (want : wanting.Want) → (is_series want ≡ true →
         table_at series.wanted series.want i right ≡ table_at other.wanted other.want i right) →
         number_of b series right i want ≡ number_of b other right i want
-    by_want right i (wants.Monthly amounts) same = refl
-    by_want right i wants.Series same = same refl
+    by_want right i (stated.Monthly amounts) same = refl
+    by_want right i stated.Series same = same refl
 
 -- a series agrees with itself
 same_series : (b : Basin) (series : Series) (month : ℕ) → AgreeBefore b series series month
