@@ -3,6 +3,7 @@ ghost use Rattle.std.specs.Prelude.{◌≡◌, ◌≢◌, ◌<◌, ◌≤◌, �
 ghost use Rattle.std.specs.Prelude.{OnErr, option_map};
 ghost use Rattle.water_edge.specs.Edge.{AsksFor, Rose, SameShelf};
 ghost use Rattle.basin_file.specs.BasinFaults.{Spells, file_fault};
+ghost use Rattle.basin_file.specs.Spelled.{IsPlain};
 ghost use Rattle.index_seq.specs.Traces.{HasWholeYears};
 ghost use Rattle.inflow_file.specs.SeriesFaults.{series_fault, SpellsSeries};
 ghost use Rattle.water_text.specs.Months.{IsMonth};
@@ -60,6 +61,7 @@ pub fn read_file<S: Shelf>(
 pub fn accept_basin(alloc: Global, text: &[u8]) -> Result<Basin, Ending>
     ensures spelled { IfOk result (λ basin. Spells text.now basin) }
     ensures valid { IfOk result IsValidBasin }
+    ensures plain { IfOk result IsPlain }
     ensures sound { OnOk result (file_fault text.now ≡ None) }
     ensures ends { IfErr result (λ e. BasinEnds text.now e) }
     ensures at { IfErr result (IsAt File.Basin) }
@@ -88,6 +90,7 @@ pub fn read_basin_file<S: Shelf>(alloc: Global, shelf: &mut S, name: &str) -> Re
     ensures later { S.faults shelf.old ≤ S.faults shelf.new }
     ensures asked { AsksFor (S.asked shelf.old) (S.asked shelf.new) name.now }
     ensures valid { IfOk result IsValidBasin }
+    ensures plain { IfOk result IsPlain }
     ensures text { IfOk result (λ basin. IfSome (S.known shelf.old name.now) (IsBasinText basin)) }
     ensures ends { IfErr result
         (λ e. BasinReadEnds (S.known shelf.old name.now) (Rose (S.faults shelf.old) (S.faults shelf.new)) e) }

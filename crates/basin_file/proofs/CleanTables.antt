@@ -58,7 +58,7 @@ use Rattle.basin_tree.specs.NameFaults.{is_outlet_at, own_space, repeats_name, r
 use Rattle.basin_tree.specs.Tables.{optional, required, second, table_name}
 use Rattle.basin_file.specs.BasinFaults.{area_finding, areas_fault, basin_fault, document_fault, is_in_table}
 use Rattle.basin_file.specs.BasinFaults.{net_finding, roll_finding}
-use Rattle.basin_file.specs.Spelled.{basin_of, rows_after}
+use Rattle.basin_file.specs.Spelled.{IsPlain, basin_of, rows_after}
 use Rattle.basin_file.specs.Upgraded.{basin_table, closed_data, inflow_data, link_row, listed, node_row, number}
 use Rattle.basin_file.specs.Upgraded.{per_day_data, point_data, reservoir_row, return_row, right_row, rights_in}
 use Rattle.basin_file.specs.Upgraded.{row_of_kind, want_data}
@@ -164,14 +164,14 @@ module _ (b : Basin) (valid : IsValidBasin b) where
 
     abbrev want_field : Field tree 2
     want_field =
-        in_field tree (required (codes "want") Want) (Some (want_data r)) (want_in tree r.want r.series h.0.want)
+        in_field tree (required (codes "want") Want) (Some (want_data r.want)) (want_in tree r.want h.0.want)
 
     abbrev fields_of : (its : RightKind) → HasValidSite b its → List (Field tree 2)
     fields_of (kind.Diversion node) index =
         dated tree r.date h.1 ∷ named tree r.name h.0.name
         ∷ refers tree (codes "node") Nodes (node_name b node) node (node_named b valid node index) ∷ order_field
         ∷ in_field tree (second (codes "volume") (Integer 0 (16 * 10 ^ 9))) (option_map number r.volume)
-        (volume_in tree r.kind r.volume h.0.volume) ∷ want_field ∷ []
+        (volume_in tree r.kind r.volume r.used h.0.volume) ∷ want_field ∷ []
     fields_of (kind.Instream link) index =
         dated tree r.date h.1 ∷ refers tree (codes "link") Links (link_name b link) link (link_named b valid link index)
         ∷ named tree r.name h.0.name ∷ order_field ∷ want_field ∷ []
@@ -425,11 +425,11 @@ basin_none b valid =
     ∙ areas_none 0 b.reservoirs (λ k d h. (valid.reservoirs k d h).table))
 
 -- so its table has none
-pub table_is_sound : (b : Basin) → IsValidBasin b → document_fault (Some (basin_table b)) ≡ None
-table_is_sound b valid =
+pub table_is_sound : (b : Basin) → IsValidBasin b → IsPlain b → document_fault (Some (basin_table b)) ≡ None
+table_is_sound b valid plain =
     ap (λ (o : Option Finding). option_or o (basin_fault (basin_of (basin_table b))))
     (no_tree_fault (basin_table b) (record { top = top_clean b valid; tidy = tidy b valid }))
-    ∙ (ap basin_fault (table_spells b valid) ∙ basin_none b valid)
+    ∙ (ap basin_fault (table_spells b valid plain) ∙ basin_none b valid)
 
 -- what is printed of it is read back
 pub read_back : (b : Basin) → IsValidBasin b → (text : List ℕ) (ms : Members) → ms ≡ basin_table b → IsUtf8 text →

@@ -19,10 +19,13 @@ use Rattle.water_text.proofs.MonthLaws.{read_month-month_digits}
 use Rattle.water_text.specs.declared.month.Month.{Month}
 use Rattle.water_text.specs.Days.{is_date}
 use Rattle.water_text.specs.declared.day.Day.{Day}
+use Rattle.water_model.specs.Valid.{IsValidWant}
 use Rattle.water_model.specs.Valid.{IsMonthly, IsValidCarry, IsValidInflow, IsValidPoint, IsValidVolume}
 use Rattle.water_model.specs.declared.types.AreaPoint.{AreaPoint}
 use Rattle.water_model.specs.declared.types.Carry.{Carry}
 use Rattle.water_model.specs.declared.types.Carry.TheVariants.{River, Canal}
+use Rattle.water_model.specs.declared.types.Want as wanting
+use Rattle.water_model.specs.declared.types.Want.TheVariants as wants
 use Rattle.water_model.specs.declared.types.Inflow as inflow
 use Rattle.water_model.specs.declared.types.Inflow.TheVariants as inflows
 use Rattle.water_model.specs.declared.types.RightKind.{RightKind}
@@ -38,6 +41,7 @@ use Rattle.basin_tree.specs.NameFaults.{is_bad_name, names_none, same_name, stan
 use Rattle.basin_tree.specs.Indices.{named_at}
 use Rattle.basin_tree.specs.Ranges.{in_range, number_in, pair_in}
 use Rattle.basin_tree.specs.Tables.{KeyRow, keys_of, required, optional, second}
+use Rattle.basin_file.specs.Upgraded.{want_data}
 use Rattle.basin_file.specs.Upgraded.{closed_data, day_text, inflow_data, listed, number, numbers, per_day_data, Keyed}
 use Rattle.basin_file.specs.Upgraded.{point_data, row_of, shut_months, some_items, with_some}
 use Rattle.basin_file.proofs.Fields.{ascend, looked_up, value_at}
@@ -188,11 +192,11 @@ module _ (tree : Members) where
   abbrev of_field : {n : ℕ} (f : Field tree n) → InField f.key n f.value
   of_field f = (f.fits, f.plain)
 
-  pub want_in : (ns : List ℕ) (series : Bool) → IsMonthly (10 ^ 9) ns →
-      InField (required (codes "want") Want) 2 (Some (if series then string (codes "series") else array (numbers ns)))
-  want_in ns true h =
+  pub want_in : (want : wanting.Want) → IsValidWant want →
+      InField (required (codes "want") Want) 2 (Some (want_data want))
+  want_in wants.Series h =
       of_field (field (required (codes "want") Want) (string (codes "series")) refl refl refl refl (plain_text _ 2))
-  want_in ns false h =
+  want_in (wants.Monthly ns) h =
       of_field (field (required (codes "want") Want) (array (numbers ns)) (rw (twelve_items (10 ^ 9) ns h) refl)
       (monthly_items (10 ^ 9) ns h) refl refl (plain_array 1 (numbers ns) (plain_numbers 1 ns)))
 
@@ -222,10 +226,10 @@ module _ (tree : Members) where
           of_field (field (second (codes "closed") CalendarMonths) (array (item d ds)) p q refl refl
           (plain_array 1 (item d ds) plain))
 
-  pub volume_in : (its : RightKind) (volume : Option ℕ) → IsValidVolume its volume →
+  pub volume_in : (its : RightKind) (volume : Option ℕ) (used : ℕ) → IsValidVolume its volume used →
       InField (second (codes "volume") (Integer 0 (16 * 10 ^ 9))) 2 (option_map number volume)
-  volume_in its None h = no_field 2 (codes "volume") (Integer 0 (16 * 10 ^ 9)) 2
-  volume_in its (Some n) h = of_field (whole (codes "volume") false 2 0 (16 * 10 ^ 9) n (omega arith) h.1)
+  volume_in its None used h = no_field 2 (codes "volume") (Integer 0 (16 * 10 ^ 9)) 2
+  volume_in its (Some n) used h = of_field (whole (codes "volume") false 2 0 (16 * 10 ^ 9) n (omega arith) h.1)
 
   -- a table of entries, of which there has to be one where it is required
   pub tables_in : {X : Type 0} (key : List ℕ) (needed : Bool) (row : X → Members) (xs : List X) →

@@ -16,6 +16,7 @@ use Rattle.water_text.specs.Names.{is_name}
 use Rattle.water_model.specs.Basin.{node_name, link_name, reservoir_name, right_name}
 use Rattle.water_model.specs.Lookups.{of_entry}
 use Rattle.water_model.specs.Rights.{has_bad_date}
+use Rattle.water_model.specs.Valid.{IsRightAlone, IsWithoutStores, is_zone_kind}
 use Rattle.water_model.specs.Valid.{HasValidSite, IsMonthly, IsValidBasin, IsValidLink, IsValidNode, IsValidReservoir}
 use Rattle.water_model.specs.Valid.{IsValidReturn, IsValidRight, IsValidVolume, is_diversion_kind}
 use Rattle.water_model.specs.declared.types.Basin.{Basin}
@@ -37,9 +38,9 @@ use Rattle.basin_tree.specs.declared.tables.BasinTable.TheVariants.{Zone, Return
 use Rattle.basin_tree.specs.declared.tables.Space.{Space}
 use Rattle.basin_tree.specs.declared.tables.Space.TheVariants.{Nodes, Links, Reservoirs, Diversions, Rights}
 use Rattle.basin_file.specs.BasinFaults.{is_in_table}
-use Rattle.basin_file.specs.Spelled.{basin_of, carry_of, date_of, diversion_of, first_of, instream_of, is_series}
+use Rattle.basin_file.specs.Spelled.{basin_of, carry_of, date_of, diversion_of, first_of, instream_of, IsPlain}
 use Rattle.basin_file.specs.Spelled.{link_of, name_at, name_of, node_of, number_at, reservoir_of, return_of, right_of}
-use Rattle.basin_file.specs.Spelled.{rows_after, rows_in, small, volume_of, zone_of}
+use Rattle.basin_file.specs.Spelled.{rows_after, rows_in, small, volume_of, want_of, zone_of}
 use Rattle.basin_file.specs.Upgraded.{basin_table, day_text, link_row, node_row, number, numbers, reservoir_row}
 use Rattle.basin_file.specs.Upgraded.{return_row, right_row, rights_in, row_of_kind, keys_of_kind, link_keys, top_keys}
 use Rattle.basin_file.specs.Upgraded.{want_data}
@@ -47,8 +48,8 @@ use Rattle.basin_file.proofs.Fields.{looked_up, value_at}
 use Rattle.basin_file.proofs.Listed.{HaveOwn, diversion_same, diversion_within, diversions_own, index_found, index_read}
 use Rattle.basin_file.proofs.Listed.{items_in, items_listed, rights_by_table, rows_listing, texts_listing, all_by}
 use Rattle.basin_file.proofs.Listed.{map_alike}
-use Rattle.basin_file.proofs.Values.{series_wants, area_read, carry_read, date_read, first_read, inflow_read}
-use Rattle.basin_file.proofs.Values.{monthly_read, name_read, volume_read, whole_read}
+use Rattle.basin_file.proofs.Values.{area_read, carry_read, date_read, first_read, inflow_read}
+use Rattle.basin_file.proofs.Values.{monthly_read, name_read, volume_read, want_read, whole_read}
 use Rattle.basin_file.proofs.Passed.{IsListed, listing}
 
 -- the values at the keys of the whole table, of a link and of a diversion, some of which may lack their values
@@ -79,44 +80,27 @@ pub whole_there : (key : List ℕ) (least most default : ℕ) (row : Members) (n
 whole_there key least most default row n at low high =
     ap (integer_of least most default) at ∙ whole_read least most default n low high
 
--- wants, which stand in the table or in the series
-want_read : (r : Right) → IsMonthly (10 ^ 9) r.want → (r.series ≡ true → r.want ≡ replicate 12 0) →
-    monthly_of (10 ^ 9) (Some (want_data r)) ≡ r.want
-want_read r monthly zeros = by r.series refl
-  where
-    by : (t : Bool) → r.series ≡ t →
-        monthly_of (10 ^ 9) (Some (if t then string (codes "series") else array (numbers r.want))) ≡ r.want
-    by true e = series_wants (Some (string (codes "series"))) refl ∙ sym (zeros e)
-    by false e = monthly_read (10 ^ 9) r.want monthly
-
-series_read : (r : Right) → is_series (Some (want_data r)) ≡ r.series
-series_read r = by r.series
-  where
-    by : (t : Bool) → is_series (Some (if t then string (codes "series") else array (numbers r.want))) ≡ t
-    by true = refl
-    by false = refl
-
-no_volume : (its : RightKind) (volume : Option ℕ) → is_diversion_kind its ≡ false → IsValidVolume its volume →
-    None ≡ volume
-no_volume its None other valid = refl
-no_volume its (Some n) other valid = let both : true ≡ false = sym valid.0 ∙ other in cc
+no_volume : (link : ℕ) (volume : Option ℕ) (used : ℕ) → IsValidVolume (kind.Instream link) volume used → None ≡ volume
+no_volume link None used valid = refl
+no_volume link (Some n) used valid = let both : false ≡ true = valid.0 in cc
 
 -- the keys that each right has make it
 right_there : (kind : RightKind) (volume : Option ℕ) (row : Members) (b : Basin) (r : Right) → IsValidRight b r →
-    is_date r.date ≡ true →
+    is_date r.date ≡ true → IsRightAlone r →
     get_member (codes "name") row ≡ Some (string r.name) →
     get_member (codes "date") row ≡ Some (string (day_text r.date)) →
-    get_member (codes "order") row ≡ Some (number r.order) → get_member (codes "want") row ≡ Some (want_data r) →
+    get_member (codes "order") row ≡ Some (number r.order) → get_member (codes "want") row ≡ Some (want_data r.want) →
     kind ≡ r.kind → volume ≡ r.volume →
     right_of kind volume row ≡ r
-right_there kind volume row b r valid date name at order want is has = λ i. record {
+right_there kind volume row b r valid date alone name at order want is has = λ i. record {
   name = name_there (codes "name") row r.name name valid.name i;
   date = (ap (λ (o : Option Data). date_of (unwrap_or (option_and_then as_str o) [])) at ∙ date_read r.date date) i;
   order = whole_there (codes "order") 0 1000000 0 row r.order order (omega arith) valid.order i;
   kind = is i;
-  want = (ap (monthly_of (10 ^ 9)) want ∙ want_read r valid.want valid.series) i;
+  want = (ap want_of want ∙ want_read r.want valid.want) i;
   volume = has i;
-  series = (ap is_series want ∙ series_read r) i;
+  used = sym alone.used i;
+  season = sym alone.season i;
 }
 
 -- the name of a right stands at one key in each table
@@ -283,39 +267,42 @@ module _ (b : Basin) (valid : IsValidBasin b) where
     rate = monthly_read 10000 v.rate h.rate i;
   }
 
-  return_back : (row : ReturnRow) → IsValidReturn b row → return_of (basin_table b) (return_row b row) ≡ row
-  return_back row h = λ i. record {
+  return_back : (row : ReturnRow) → IsValidReturn b row × (row.rest ≡ 0) →
+      return_of (basin_table b) (return_row b row) ≡ row
+  return_back row both = let h = both.0 in λ i. record {
     right = index_there Diversions (codes "diversion") (return_row b row) (right_name b row.right) row.right refl
         (diversion_named row.right h.diversion) (omega (arith, h.right, valid.bounded.rights)) i;
     node = node_there (codes "node") (return_row b row) row.node refl h.node i;
     part = whole_read 1 10000 1 row.part h.part.0 h.part.1 i;
     lag = whole_read 1 120 1 row.lag h.lag.0 h.lag.1 i;
+    rest = sym both.1 i;
   }
 
-  right_back : (t : BasinTable) (r : Right) → IsRightIn b t r → spells_of t (basin_table b) (right_row b r) ≡ r
-  right_back t r h = by t r.kind refl h.0.site h.0.volume h.2
+  right_back : (t : BasinTable) (r : Right) → IsRightIn b t r × IsRightAlone r →
+      spells_of t (basin_table b) (right_row b r) ≡ r
+  right_back t r both = by t r.kind refl both.0.0.site both.0.0.volume both.0.2
     where
-      by : (t : BasinTable) (its : RightKind) → r.kind ≡ its → HasValidSite b its → IsValidVolume its r.volume →
+      by : (t : BasinTable) (its : RightKind) → r.kind ≡ its → HasValidSite b its → IsValidVolume its r.volume r.used →
           is_in_table t its ≡ true → spells_of t (basin_table b) (row_of_kind b r its) ≡ r
       by Diversion (kind.Diversion node) e index volume is =
-          right_there _ _ (row_of_kind b r (kind.Diversion node)) b r h.0 h.1 refl refl refl
+          right_there _ _ (row_of_kind b r (kind.Diversion node)) b r both.0.0 both.0.1 both.1 refl refl refl
           (diversion_at b r node (codes "want"))
           (ap (λ (n : ℕ). kind.Diversion n)
           (node_there (codes "node") (row_of_kind b r (kind.Diversion node)) node refl index) ∙ sym e)
-          (ap volume_of (diversion_at b r node (codes "volume")) ∙ volume_read (kind.Diversion node) r.volume volume)
+          (ap volume_of (diversion_at b r node (codes "volume")) ∙ volume_read (kind.Diversion node) r.volume r.used volume)
       by Instream (kind.Instream link) e index volume is =
-          right_there _ None (row_of_kind b r (kind.Instream link)) b r h.0 h.1 refl refl refl refl
+          right_there _ None (row_of_kind b r (kind.Instream link)) b r both.0.0 both.0.1 both.1 refl refl refl refl
           (ap (λ (n : ℕ). kind.Instream n)
           (index_there Links (codes "link") (row_of_kind b r (kind.Instream link)) (link_name b link) link refl
           (link_named link index) (omega (arith, valid.bounded.links))) ∙ sym e)
-          (no_volume (kind.Instream link) r.volume refl volume)
+          (no_volume link r.volume r.used volume)
       by Zone (kind.Zone reservoir level) e index volume is =
-          right_there _ None (row_of_kind b r (kind.Zone reservoir level)) b r h.0 h.1 refl refl refl refl
+          right_there _ None (row_of_kind b r (kind.Zone reservoir level)) b r both.0.0 both.0.1 both.1 refl refl refl refl
           ((λ i. kind.Zone (index_there Reservoirs (codes "reservoir") (row_of_kind b r (kind.Zone reservoir level))
           (reservoir_name b reservoir) reservoir refl (reservoir_named reservoir index.0)
           (omega (arith, index.0, bounded_reservoirs b valid)) i)
           (whole_read 1 16 1 level index.1 index.2 i)) ∙ sym e)
-          (no_volume (kind.Zone reservoir level) r.volume refl volume)
+          (sym (both.1.volume (ap is_zone_kind e)))
       by _ _ e index volume is = cc
 
   pub rights_sound : (t : BasinTable) → All (IsRightIn b t) (rights_in t b.rights)
@@ -339,16 +326,21 @@ module _ (b : Basin) (valid : IsValidBasin b) where
       ∙ (ap (map spells) (rows_listing (map row xs))
       ∙ (map_alike spells row (λ x. x) xs (λ k d h. f _ (all k d h)) ∙ map-id xs))
 
-  rights_back : (t : BasinTable) → items_at (basin_table b) t ≡ listing (map (right_row b) (rights_in t b.rights)) →
+  rights_back : IsWithoutStores b → (t : BasinTable) → items_at (basin_table b) t ≡ listing (map (right_row b) (rights_in t b.rights)) →
       map (spells_of t (basin_table b)) (rows_in (basin_table b) t) ≡ rights_in t b.rights
-  rights_back t its =
-      back t (right_row b) (spells_of t (basin_table b)) (IsRightIn b t) (rights_in t b.rights) its (rights_sound t)
+  rights_back alone t its =
+      back t (right_row b) (spells_of t (basin_table b)) (λ r. IsRightIn b t r × IsRightAlone r) (rights_in t b.rights) its
+      (λ k d h. (rights_sound t k d h, All-filter (λ r. is_in_table t r.kind) IsRightAlone b.rights alone.rights k d h))
       (right_back t)
 
--- the table of a valid basin spells it, in format 2
-pub table_spells : (b : Basin) → IsValidBasin b → basin_of (basin_table b) ≡ record b { format = 2 }
-table_spells b valid = λ i. record {
+-- the table of a valid basin without stores spells it, in format 2
+pub table_spells : (b : Basin) → IsValidBasin b → IsPlain b → basin_of (basin_table b) ≡ record b { format = 2 }
+table_spells b valid plain = let alone = valid.format.second plain.format in λ i. record {
   format = ap (integer_of 1 2 1) (top_at b (codes "format")) i;
+  unit = sym alone.unit i;
+  due = sym plain.due i;
+  accounts = sym alone.accounts i;
+  draws = sym alone.draws i;
   first = (ap (λ (o : Option Data). first_of (unwrap_or (option_and_then as_str o) [])) (top_at b (codes "first_month"))
       ∙ first_read b.first valid.run.first) i;
   months = whole_there (codes "months") 1 1200 1 (basin_table b) b.months (top_at b (codes "months"))
@@ -361,9 +353,10 @@ table_spells b valid = λ i. record {
       valid.links (link_back b valid) i;
   reservoirs = back b valid Reservoir (reservoir_row b) (reservoir_of (basin_table b)) (IsValidReservoir b) b.reservoirs
       (lists b valid Reservoir tt) valid.reservoirs (reservoir_back b valid) i;
-  rights = ((λ j. rights_back b valid Diversion (lists b valid Diversion tt) j
-      ++ rights_back b valid Instream (lists b valid Instream tt) j
-      ++ rights_back b valid Zone (lists b valid Zone tt) j) ∙ all_rights b valid) i;
-  returns = back b valid Return (return_row b) (return_of (basin_table b)) (IsValidReturn b) b.returns
-      (lists b valid Return tt) valid.returns (return_back b valid) i;
+  rights = ((λ j. rights_back b valid alone Diversion (lists b valid Diversion tt) j
+      ++ rights_back b valid alone Instream (lists b valid Instream tt) j
+      ++ rights_back b valid alone Zone (lists b valid Zone tt) j) ∙ all_rights b valid) i;
+  returns = back b valid Return (return_row b) (return_of (basin_table b))
+      (λ row. IsValidReturn b row × (row.rest ≡ 0)) b.returns (lists b valid Return tt)
+      (λ k d h. (valid.returns k d h, alone.rests k d h)) (return_back b valid) i;
 }

@@ -16,14 +16,17 @@ use Rattle.toml.specs.declared.value.Value.{Value}
 use Rattle.toml_tree.specs.Values.{monthly_of, is_between, ranged, integer_of, month_number}
 use Rattle.basin_tree.specs.Kinds.{is_want}
 use Rattle.water_model.specs.Valid.{IsAlwaysOpen, IsMonthly, IsValidInflow, IsValidCarry, IsValidPoint, IsValidVolume}
-use Rattle.water_model.specs.Valid.{is_diversion_kind}
-use Rattle.basin_file.specs.Spelled.{items_any, lists_month, shut_of, carry_of, is_series, inflow_of, volume_of}
+use Rattle.water_model.specs.Valid.{IsValidWant, is_series}
+use Rattle.basin_file.specs.Spelled.{items_any, lists_month, shut_of, carry_of, inflow_of, volume_of, want_of}
 use Rattle.basin_file.specs.Spelled.{point_in, points_in, no_area, area_of, first_of, date_of, name_of}
 use Rattle.toml_tree.specs.Items.{items_len}
 use Rattle.water_text.specs.Months.{IsMonth, read_month, month_after, month_within, month_digits, days_in}
 use Rattle.water_text.specs.declared.month.Month.{Month}
 use Rattle.water_model.specs.declared.types.Inflow.TheVariants.{Monthly, Gauged}
 use Rattle.water_model.specs.declared.types.RightKind.{RightKind}
+use Rattle.water_model.specs.declared.types.RightKind.TheVariants as kind
+use Rattle.water_model.specs.declared.types.Want.{Want}
+use Rattle.water_model.specs.declared.types.Want.TheVariants as wants
 use Rattle.water_text.proofs.MonthLaws.{month_is_read, read_month-month_digits, is_digit, two_digits as two_read}
 use Rattle.std.proofs.lemmas.List.Elements.{All-cons, All-map, All-nil, All-tail}
 use Rattle.std.specs.Str.{IsAscii}
@@ -36,7 +39,7 @@ use Rattle.water_text.specs.Days.{is_date, read_day}
 use Rattle.water_text.specs.Names.{is_name, is_name_byte}
 use Rattle.water_text.proofs.DayNumbers.{days_in-days_in_month, days_in_month-le}
 use Rattle.basin_file.specs.Upgraded.{day_text, closed_data, inflow_data, number, numbers, per_day_data, point_data}
-use Rattle.basin_file.specs.Upgraded.{shut_months, some_items}
+use Rattle.basin_file.specs.Upgraded.{shut_months, some_items, want_data}
 use Rattle.water_text.specs.declared.day.Day.{Day}
 use Rattle.water_text.specs.Shapes.{fits_at, has_shape}
 use Rattle.water_model.specs.declared.types.AreaPoint.{AreaPoint}
@@ -67,18 +70,8 @@ pub always_open : (per_day closed : Option Data) → closed ≡ None → IsAlway
 always_open None closed e = tt
 always_open (Some d) closed e = ap shut_of e ∙ never_shut
 
--- a right whose wants stand in the series gives no numbers of its own
-text_wants : (d : Data) → is_some (as_str d) ≡ true → monthly_of (10 ^ 9) (Some d) ≡ replicate 12 0
-unfolding monthly_of
-text_wants (toml.string text) e = refl
-text_wants _ e = cc
-
-pub series_wants : (value : Option Data) → is_series value ≡ true → monthly_of (10 ^ 9) value ≡ replicate 12 0
-series_wants None e = cc
-series_wants (Some d) e = text_wants d e
-
 -- in format 1 a want is no text
-pub no_text : (d : Data) → is_want 1 d ≡ true → is_some (as_str d) ≡ false
+pub no_text : (d : Data) → is_want 1 d ≡ true → is_series (want_of (Some d)) ≡ false
 no_text (toml.string text) e = cc
 no_text _ e = refl
 
@@ -161,10 +154,18 @@ inflow_valid value = by (option_and_then as_str value)
     by None = monthly_in (10 ^ 9) value
     by (Some text) = tt
 
-pub volume_valid : (kind : RightKind) → is_diversion_kind kind ≡ true → (value : Option Data) →
-    IsValidVolume kind (volume_of value)
-volume_valid kind is None = tt
-volume_valid kind is (Some d) = (is, (whole_in 0 (16 * 10 ^ 9) 0 (Some d) (omega arith) (omega arith)).1)
+pub want_valid : (value : Option Data) → IsValidWant (want_of value)
+want_valid value = by (option_and_then as_str value)
+  where
+    by : (o : Option (List ℕ)) →
+        IsValidWant (option_map_or (λ text. wants.Series) o (wants.Monthly (monthly_of (10 ^ 9) value)))
+    by None = monthly_in (10 ^ 9) value
+    by (Some text) = tt
+
+pub volume_valid : (node : ℕ) (value : Option Data) → IsValidVolume (kind.Diversion node) (volume_of value) 0
+volume_valid node None = refl
+volume_valid node (Some d) =
+    (refl, (whole_in 0 (16 * 10 ^ 9) 0 (Some d) (omega arith) (omega arith)).1, omega arith)
 
 pub carry_valid : (per_day closed : Option Data) → IsValidCarry (carry_of per_day closed)
 carry_valid None closed = tt
@@ -273,10 +274,14 @@ pub inflow_read : (i : Inflow) → IsValidInflow i → inflow_of (Some (inflow_d
 inflow_read (Monthly amounts) h = ap Monthly (monthly_read (10 ^ 9) amounts h)
 inflow_read Gauged h = refl
 
-pub volume_read : (kind : RightKind) (volume : Option ℕ) → IsValidVolume kind volume →
+pub volume_read : (kind : RightKind) (volume : Option ℕ) (used : ℕ) → IsValidVolume kind volume used →
     volume_of (option_map number volume) ≡ volume
-volume_read kind None h = refl
-volume_read kind (Some n) h = ap Some (whole_read 0 (16 * 10 ^ 9) 0 n (omega arith) h.1)
+volume_read kind None used h = refl
+volume_read kind (Some n) used h = ap Some (whole_read 0 (16 * 10 ^ 9) 0 n (omega arith) h.1)
+
+pub want_read : (want : Want) → IsValidWant want → want_of (Some (want_data want)) ≡ want
+want_read wants.Series valid = refl
+want_read (wants.Monthly amounts) valid = ap wants.Monthly (monthly_read (10 ^ 9) amounts valid)
 
 -- the points of an area table
 pub area_read : (area : List AreaPoint) → All IsValidPoint area → points_in (items_of (map point_data area)) ≡ area

@@ -17,7 +17,11 @@ use Rattle.water_model.specs.Basin.{is_outlet, node_of_reservoir}
 use Rattle.water_model.specs.Lookups.{of_entry}
 use Rattle.water_model.specs.Valid.{HasValidSite, IsValidVolume, IsValidNode, IsValidLink, IsValidRight, IsValidReturn}
 use Rattle.water_model.specs.Valid.{is_diversion_kind, HasValidFormat, IsValidRun, HasBoundedEntries, AreRanked}
-use Rattle.water_model.specs.Valid.{rank_of_kind, rows_of, IsAlwaysOpen}
+use Rattle.water_model.specs.Valid.{rank_of_kind, rows_of, IsAlwaysOpen, IsRightAlone, IsWithoutStores, HasSoundStores}
+use Rattle.water_model.specs.Valid.{is_series, is_zone_kind, is_zone_with_rule}
+use Rattle.water_model.specs.Stores.{first_stored, sum_in_reservoir}
+use Rattle.water_model.specs.declared.types.Basin.{Basin}
+use Rattle.finite_sums.specs.Sums.{total}
 use Rattle.water_model.specs.declared.types.Node as node
 use Rattle.water_model.specs.declared.types.Right.{Right}
 use Rattle.water_model.specs.declared.types.RightKind.{RightKind}
@@ -33,13 +37,13 @@ use Rattle.basin_tree.specs.Indices.{own_key, texts_in, texts_of, named_at}
 use Rattle.basin_tree.specs.Tables.{keys_of, required}
 use Rattle.basin_file.specs.Sound.{IsSoundReservoir, IsSoundBasin}
 use Rattle.basin_file.specs.Spelled.{name_at, rows_in, number_at, node_of, link_of, reservoir_of, right_of, volume_of}
-use Rattle.basin_file.specs.Spelled.{diversion_of, instream_of, zone_of, return_of, rights_of, basin_of, is_series}
+use Rattle.basin_file.specs.Spelled.{diversion_of, instream_of, zone_of, return_of, rights_of, basin_of, want_of, IsPlain}
 use Rattle.basin_file.proofs.Counts.{bounded_by, bounded_pass, count_taken, count_where-entries, counts_within}
 use Rattle.basin_file.proofs.Counts.{earlier_at}
 use Rattle.basin_file.proofs.Listed.{item_listing, HaveOwn, texts_listing, all_by, map_alike, name_there, refers_there}
 use Rattle.basin_file.proofs.Listed.{texts_in-rows, length-rows_in, number_within, number_is, own_names, own_texts}
 use Rattle.basin_file.proofs.Listed.{rights_own, same_text, table_own}
-use Rattle.basin_file.proofs.Values.{series_wants, whole_in, volume_valid, monthly_in, points_valid, bounded_points}
+use Rattle.basin_file.proofs.Values.{whole_in, volume_valid, want_valid, monthly_in, points_valid, bounded_points}
 use Rattle.basin_file.proofs.Values.{inflow_valid, carry_valid, always_open, no_text, first_valid, run_ends}
 use Rattle.basin_file.proofs.Passed.{AreClean, Fits, IsClean, IsListed, IsRest, clean_at, entry_of, fits_at, rest_of}
 use Rattle.basin_file.proofs.Passed.{top_entry, absent}
@@ -47,7 +51,7 @@ use Rattle.std.proofs.lemmas.List.Elements.{All-append, All-map}
 use Rattle.std.proofs.lemmas.Slice.Eq.{bytes_eq-Decides}
 use Rattle.toml_tree.specs.Texts.{texts_after, is_the_text, earlier_like}
 use Rattle.water_model.specs.declared.types.ReturnRow.{ReturnRow}
-use Rattle.water_model.proofs.Valid.{entry_at}
+use Rattle.water_model.proofs.Valid.{entry_at, entry_holds}
 use Rattle.basin_tree.specs.Entries.{Entry, items_at}
 use Rattle.basin_tree.specs.KeyFaults.{format_of, is_known}
 use Rattle.basin_tree.specs.Kinds.{has_kind}
@@ -76,6 +80,25 @@ ranked_more g n same (members ∷ rows) least others low rest = (
   ranked_more g n same rows (rank_of_kind (g members).kind) others
       (rw (same members) (omega arith)) rest,
 )
+
+-- without accounts nothing is stored in them
+nothing_stored : (b : Basin) (v : ℕ) → length b.accounts ≡ 0 → sum_in_reservoir b (first_stored b) v ≡ 0
+unfolding total
+nothing_stored b v none = rw none refl
+
+-- what holds of each right holds at its index
+no_rule : (rights : List Right) (r : ℕ) → r < length rights → All (λ x. is_zone_with_rule x ≡ false) rights →
+    of_entry rights r is_zone_with_rule false ≡ false
+no_rule rights r l all =
+    let entry = entry_holds (λ x. is_zone_with_rule x ≡ false) rights r all l in
+    ap (λ o. unwrap_or (option_map is_zone_with_rule o) false) entry.1 ∙ entry.2
+
+-- what a document spells is of format 1 or 2
+pub plain_of : (tree : Members) (b : Basin) → b ≡ basin_of tree → IsPlain b
+plain_of tree b is = rw is (record {
+  format = (whole_in 1 2 1 (get_member (codes "format") tree) (omega arith) (omega arith)).1;
+  due = refl;
+})
 
 module _ (tree : Members) (clean : AreClean tree) where
   length_texts : (t : BasinTable) → IsListed t → length (texts_in tree t) ≡ length (rows_in tree t)
@@ -206,15 +229,15 @@ module _ (tree : Members) (clean : AreClean tree) where
   -- what each right keeps, whatever its kind
   right_valid : (t : BasinTable) (k : ℕ) (row : Members) (its : RightKind) (volume : Option ℕ) →
       IsClean tree (entry_of t k row) → slice_get (keys_of t) 0 ≡ Some (required (codes "name") Name) →
-      HasValidSite (basin_of tree) its → IsValidVolume its volume →
+      HasValidSite (basin_of tree) its → IsValidVolume its volume 0 →
       IsValidRight (basin_of tree) (right_of its volume row)
   right_valid t k row its volume clean at site valid = record {
     name = (name_of_row t k row clean at).1;
     order = (whole_in 0 1000000 0 (get_member (codes "order") row) (omega arith) (omega arith)).1;
     site = site;
-    want = monthly_in (10 ^ 9) (get_member (codes "want") row);
+    want = want_valid (get_member (codes "want") row);
     volume = valid;
-    series = series_wants (get_member (codes "want") row);
+    season = record { twelve = refl; others = λ _. refl };
   }
 
   diversion_valid : (k : ℕ) (row : Members) → IsClean tree (entry_of Diversion k row) →
@@ -223,13 +246,13 @@ module _ (tree : Members) (clean : AreClean tree) where
       let value = get_member (codes "volume") row in
       right_valid Diversion k row (kind.Diversion (number_at tree Nodes (codes "node") row)) (volume_of value) its refl
       (number Diversion k row its 1 (codes "node") Nodes _ refl (counted Node tt node_of))
-      (volume_valid (kind.Diversion (number_at tree Nodes (codes "node") row)) refl value)
+      (volume_valid (number_at tree Nodes (codes "node") row) value)
 
   instream_valid : (k : ℕ) (row : Members) → IsClean tree (entry_of Instream k row) →
       IsValidRight (basin_of tree) (instream_of tree row)
   instream_valid k row its =
       right_valid Instream k row (kind.Instream (number_at tree Links (codes "link") row)) None its refl
-      (number Instream k row its 1 (codes "link") Links _ refl (counted Link tt (link_of tree))) tt
+      (number Instream k row its 1 (codes "link") Links _ refl (counted Link tt (link_of tree))) refl
 
   zone_valid : (k : ℕ) (row : Members) → IsClean tree (entry_of Zone k row) →
       IsValidRight (basin_of tree) (zone_of tree row)
@@ -238,7 +261,7 @@ module _ (tree : Members) (clean : AreClean tree) where
       let count = counted Reservoir tt (reservoir_of tree) in
       let at = number Zone k row its 1 (codes "reservoir") Reservoirs _ refl count in
       right_valid Zone k row (kind.Zone (number_at tree Reservoirs (codes "reservoir") row)
-      (integer_at (codes "level") 1 16 1 row)) None its refl (at, level.0, level.1) tt
+      (integer_at (codes "level") 1 16 1 row)) None its refl (at, level.0, level.1) refl
 
   own_diversion : (k : ℕ) (row : Members) → IsClean tree (entry_of Return k row) →
       number_at tree Diversions (codes "diversion") row < length (rows_in tree Diversion)
@@ -256,6 +279,7 @@ module _ (tree : Members) (clean : AreClean tree) where
     node = number Return k row its 1 (codes "node") Nodes _ refl (counted Node tt node_of);
     part = whole_in 1 10000 1 (get_member (codes "part") row) (omega arith) (omega arith);
     lag = whole_in 1 120 1 (get_member (codes "lag") row) (omega arith) (omega arith);
+    rest = omega arith;
   }
 
   -- a row's diversion is the one that its text names
@@ -422,6 +446,8 @@ module _ (tree : Members) (clean : AreClean tree) where
     links = rw (length-map (rows_in tree Link) (link_of tree)) bounded_links;
     rights = bounded_rights;
     rows = λ right h. bounded_rows right;
+    accounts = omega arith;
+    draws = omega arith;
   }
 
   ranked : AreRanked 0 (rights_of tree)
@@ -440,17 +466,51 @@ module _ (tree : Members) (clean : AreClean tree) where
   -- in format 1 no right has its wants in the series
   plain_wants : (t : BasinTable) (k : ℕ) (row : Members) (i : ℕ) →
       slice_get (keys_of t) i ≡ Some (required (codes "want") Want) →
-      format_of tree ≡ 1 → IsClean tree (entry_of t k row) → is_series (get_member (codes "want") row) ≡ false
+      format_of tree ≡ 1 → IsClean tree (entry_of t k row) →
+      is_series (want_of (get_member (codes "want") row)) ≡ false
   plain_wants t k row i at first its =
       by (get_member (codes "want") row) (rw first at (fits_at tree (entry_of t k row) its i _ at).kinds)
     where
-      by : (o : Option Data) → option_map_or (λ d. not (has_kind 1 Want d)) o false ≡ false → is_series o ≡ false
+      by : (o : Option Data) → option_map_or (λ d. not (has_kind 1 Want d)) o false ≡ false → is_series (want_of o) ≡ false
       by None e = refl
       by (Some d) e = no_text d (not-false _ e)
 
+  -- it is 1 or 2
+  format_within : (1 ≤ format_of tree) × (format_of tree ≤ 2)
+  format_within = whole_in 1 2 1 (get_member (codes "format") tree) (omega arith) (omega arith)
+
+  -- no right has what only stored water has
+  rights_alone : All IsRightAlone (rights_of tree)
+  rights_alone =
+      all_rights IsRightAlone
+      (λ k row its. record { used = refl; volume = λ e. cc; season = refl })
+      (λ k row its. record { used = refl; volume = λ e. refl; season = refl })
+      (λ k row its. record { used = refl; volume = λ e. refl; season = refl })
+
+  without_stores : IsWithoutStores (basin_of tree)
+  without_stores = record {
+    unit = refl;
+    accounts = refl;
+    draws = refl;
+    rights = rights_alone;
+    rests = all_valid (λ row. row.rest ≡ 0) Return tt (return_of tree) (λ k row its. refl);
+    due = λ k d l. absurd (omega arith);
+  }
+
+  stores_sound : HasSoundStores (basin_of tree)
+  stores_sound = record {
+    accounts = λ k d l. absurd (omega arith);
+    draws = λ k d l. absurd (omega arith);
+    alone = λ r l _. no_rule (rights_of tree) r l
+        (all_rights (λ x. is_zone_with_rule x ≡ false) (λ k row its. refl) (λ k row its. refl) (λ k row its. refl));
+    stored = λ v l. omega (arith, nothing_stored (basin_of tree) v refl);
+    names = λ i j below l. absurd (omega arith);
+    own_draws = λ i j below l. absurd (omega arith);
+  }
+
   format_valid : HasValidFormat (basin_of tree)
   format_valid = record {
-    format = whole_in 1 2 1 (get_member (codes "format") tree) (omega arith) (omega arith);
+    format = (let within = format_within in (within.0, omega arith));
     year_start = whole_in 1 12 10 (get_member (codes "year_start") tree) (omega arith) (omega arith);
     first = λ first. record {
       year_start = ap (integer_of 1 12 10) (lacks first (top_entry tree) (codes "year_start") clean.top refl);
@@ -460,11 +520,12 @@ module _ (tree : Members) (clean : AreClean tree) where
       volumes = all_rights (λ r. r.volume ≡ None)
           (λ k row its. ap volume_of (lacks first (entry_of Diversion k row) (codes "volume") its refl))
           (λ k row its. refl) (λ k row its. refl);
-      no_series = all_rights (λ r. r.series ≡ false)
+      no_series = all_rights (λ r. is_series r.want ≡ false)
           (λ k row its. plain_wants Diversion k row 3 refl first its)
           (λ k row its. plain_wants Instream k row 3 refl first its)
           (λ k row its. plain_wants Zone k row 4 refl first its);
     };
+    second = λ _. without_stores;
   }
 
   pub sound_basin : IsSoundBasin (basin_of tree)
@@ -480,5 +541,7 @@ module _ (tree : Members) (clean : AreClean tree) where
         zone_valid;
     ranked = ranked;
     returns = all_valid (IsValidReturn (basin_of tree)) Return tt (return_of tree) return_valid;
+    due = record { rows = omega arith; amounts = λ k d l. absurd (omega arith); bounded = λ k l. omega arith };
     names = record { nodes = nodes_own; links = links_own; rights = own_rights; reservoirs = reservoirs_own };
+    stores = stores_sound;
   }

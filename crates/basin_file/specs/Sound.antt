@@ -2,7 +2,7 @@
 use Rattle.std.specs.Prelude.{◌≡◌, ◌<◌, ◌≤◌, length, All, false}
 use Rattle.water_model.specs.Basin.{is_outlet}
 use Rattle.water_model.specs.Valid.{IsMonthly, IsValidPoint, HasValidFormat, IsValidRun, HasBoundedEntries, IsValidNode}
-use Rattle.water_model.specs.Valid.{IsValidLink, IsValidRight, AreRanked, IsValidReturn, HasOwnNames}
+use Rattle.water_model.specs.Valid.{IsValidLink, IsValidRight, AreRanked, AreDue, HasSoundStores, IsValidReturn, HasOwnNames}
 use Rattle.water_model.specs.declared.types.Basin.{Basin}
 use Rattle.water_model.specs.declared.types.Reservoir.{Reservoir}
 
@@ -26,4 +26,6 @@ pub record IsSoundBasin (b : Basin) : Type 0 where
   pub rights : All (λ r. IsValidRight b r) b.rights
   pub ranked : AreRanked 0 b.rights
   pub returns : All (λ row. IsValidReturn b row) b.returns
+  pub due : AreDue b
   pub names : HasOwnNames b
+  pub stores : HasSoundStores b

@@ -1,5 +1,6 @@
 -- The basin that a document spells. What can't be there in a document without a fault has a default.
-use Rattle.std.specs.Prelude.{ℕ, ◌^◌, is_some, ◌||◌, ◌==◌, ◌+◌, nat_lt, List, [], ◌∷◌, ◌++◌, map, Bool, false, Option}
+use Rattle.std.specs.Prelude.{◌≡◌, ◌≤◌, ℕ, ◌^◌, ◌||◌, ◌==◌, ◌+◌, nat_lt, List, [], ◌∷◌, ◌++◌, map, replicate, Bool, true}
+use Rattle.std.specs.Prelude.{false, Option}
 use Rattle.std.specs.Prelude.{Some, None, if◌then◌else◌, option_map, option_and_then, option_to_list, unwrap_or, codes}
 use Rattle.std.specs.List.{range_with_len}
 use Rattle.std.specs.Option.{option_map_or}
@@ -25,6 +26,8 @@ use Rattle.water_model.specs.declared.types.ReturnRow.{ReturnRow}
 use Rattle.water_model.specs.declared.types.Right.{Right}
 use Rattle.water_model.specs.declared.types.RightKind.{RightKind}
 use Rattle.water_model.specs.declared.types.RightKind.TheVariants as kind
+use Rattle.water_model.specs.declared.types.Want.{Want}
+use Rattle.water_model.specs.declared.types.Want.TheVariants as wants
 use Rattle.basin_tree.specs.Entries.{items_at}
 use Rattle.basin_tree.specs.KeyFaults.{format_of}
 use Rattle.basin_tree.specs.Indices.{named_at}
@@ -132,8 +135,9 @@ abbrev pub volume_of : Option Data → Option ℕ
 volume_of value = option_map (λ d. integer_of 0 max_stored 0 (Some d)) value
 
 -- a text stands for wants in the series
-abbrev pub is_series : Option Data → Bool
-is_series value = is_some (option_and_then as_str value)
+abbrev pub want_of : Option Data → Want
+want_of value =
+    option_map_or (λ text. wants.Series) (option_and_then as_str value) (wants.Monthly (monthly_of max_amount value))
 
 abbrev pub right_of : RightKind → Option ℕ → Members → Right
 right_of kind volume row = record {
@@ -141,9 +145,10 @@ right_of kind volume row = record {
   date = date_of (text_or_empty (codes "date") row);
   order = integer_at (codes "order") 0 1000000 0 row;
   kind = kind;
-  want = monthly_of max_amount (get_member (codes "want") row);
+  want = want_of (get_member (codes "want") row);
   volume = volume;
-  series = is_series (get_member (codes "want") row);
+  used = 0;
+  season = replicate 12 true;
 }
 
 abbrev pub diversion_of : Members → Members → Right
@@ -167,6 +172,7 @@ return_of tree row = record {
   node = number_at tree Nodes (codes "node") row;
   part = integer_at (codes "part") 1 10000 1 row;
   lag = integer_at (codes "lag") 1 120 1 row;
+  rest = 0;
 }
 
 abbrev pub rights_of : Members → List Right
@@ -178,6 +184,7 @@ rights_of tree =
 abbrev pub basin_of : Members → Basin
 basin_of tree = record {
   format = format_of tree;
+  unit = None;
   first = first_of (text_or_empty (codes "first_month") tree);
   months = integer_at (codes "months") 1 1200 1 tree;
   year_start = integer_at (codes "year_start") 1 12 10 tree;
@@ -186,4 +193,13 @@ basin_of tree = record {
   reservoirs = map (reservoir_of tree) (rows_in tree Reservoir);
   rights = rights_of tree;
   returns = map (return_of tree) (rows_in tree Return);
+  due = [];
+  accounts = [];
+  draws = [];
 }
+
+-- the basins that files spell: of format 1 or 2, so that no stored water is an owner's and nothing is known of the time
+-- before the run
+pub record IsPlain (b : Basin) : Type 0 where
+  pub format : b.format ≤ 2
+  pub due : b.due ≡ []

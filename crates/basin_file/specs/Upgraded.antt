@@ -22,6 +22,8 @@ use Rattle.water_model.specs.declared.types.ReturnRow.{ReturnRow}
 use Rattle.water_model.specs.declared.types.Right.{Right}
 use Rattle.water_model.specs.declared.types.RightKind.{RightKind}
 use Rattle.water_model.specs.declared.types.RightKind.TheVariants as kind
+use Rattle.water_model.specs.declared.types.Want.{Want}
+use Rattle.water_model.specs.declared.types.Want.TheVariants as wants
 use Rattle.basin_tree.specs.declared.tables.BasinTable.{BasinTable}
 use Rattle.basin_tree.specs.declared.tables.BasinTable.TheVariants.{Diversion, Instream, Zone}
 use Rattle.basin_file.specs.BasinFaults.{is_in_table}
@@ -113,22 +115,23 @@ reservoir_row b v = row_of (
     ∷ (codes "node", Some (string (node_name b v.node))) ∷ (codes "opening", Some (number v.opening))
     ∷ (codes "rate", Some (array (numbers v.rate))) ∷ [])
 
-abbrev pub want_data : Right → Data
-want_data r = if r.series then string (codes "series") else array (numbers r.want)
+abbrev pub want_data : Want → Data
+want_data (wants.Monthly amounts) = array (numbers amounts)
+want_data wants.Series = string (codes "series")
 
 abbrev pub keys_of_kind : Basin → Right → RightKind → List Keyed
 keys_of_kind b r (kind.Diversion node) =
     (codes "date", Some (string (day_text r.date))) ∷ (codes "name", Some (string r.name))
     ∷ (codes "node", Some (string (node_name b node))) ∷ (codes "order", Some (number r.order))
-    ∷ (codes "volume", option_map number r.volume) ∷ (codes "want", Some (want_data r)) ∷ []
+    ∷ (codes "volume", option_map number r.volume) ∷ (codes "want", Some (want_data r.want)) ∷ []
 keys_of_kind b r (kind.Instream link) =
     (codes "date", Some (string (day_text r.date))) ∷ (codes "link", Some (string (link_name b link)))
     ∷ (codes "name", Some (string r.name)) ∷ (codes "order", Some (number r.order))
-    ∷ (codes "want", Some (want_data r)) ∷ []
+    ∷ (codes "want", Some (want_data r.want)) ∷ []
 keys_of_kind b r (kind.Zone reservoir level) =
     (codes "date", Some (string (day_text r.date))) ∷ (codes "level", Some (number level))
     ∷ (codes "name", Some (string r.name)) ∷ (codes "order", Some (number r.order))
-    ∷ (codes "reservoir", Some (string (reservoir_name b reservoir))) ∷ (codes "want", Some (want_data r)) ∷ []
+    ∷ (codes "reservoir", Some (string (reservoir_name b reservoir))) ∷ (codes "want", Some (want_data r.want)) ∷ []
 
 abbrev pub row_of_kind : Basin → Right → RightKind → Members
 row_of_kind b r its = row_of (keys_of_kind b r its)

@@ -4,7 +4,7 @@ ghost use Rattle.toml.specs.Data.{get_member, as_array, no_items};
 ghost use Rattle.toml.specs.View.{view, table_view, items_view};
 ghost use Rattle.basin_tree.specs.Documents.{tree_of};
 ghost use Rattle.basin_file.specs.Spelled.{rows_after, rows_in, point_in, points_in, no_area, area_of, reservoir_of};
-ghost use Rattle.basin_file.specs.Spelled.{rights_of, basin_of};
+ghost use Rattle.basin_file.specs.Spelled.{rights_of, basin_of, IsPlain};
 
 use crate::parts::{
     DiversionReader, EntryReader, InstreamReader, LinkReader, NodeReader, ReturnReader, ZoneReader,
@@ -156,7 +156,8 @@ fn lists_of(
 
 /// The basin that a document spells. What can't be there in a document without a fault has a default.
 pub fn basin_of(alloc: Global, document: &Document) -> Result<Basin, AllocError>
-    ensures { IfOk result (λ basin. basin ≡ basin_of (tree_of document.now)) }
+    ensures basin { IfOk result (λ basin. basin ≡ basin_of (tree_of document.now)) }
+    ensures plain { IfOk result IsPlain }
 {
     let reservoirs = table_of::<Reservoir, ReservoirReader>(
         alloc,
@@ -167,6 +168,7 @@ pub fn basin_of(alloc: Global, document: &Document) -> Result<Basin, AllocError>
     let top = document.tree;
     Ok(Basin {
         format: document.format() as u32,
+        unit: None,
         first: first_of(text_or_empty(top, "first_month").as_bytes()),
         months: integer_at(top, "months", 1, 1_200, 1) as u32,
         year_start: integer_at(top, "year_start", 1, 12, 10) as u8,
@@ -175,5 +177,8 @@ pub fn basin_of(alloc: Global, document: &Document) -> Result<Basin, AllocError>
         reservoirs,
         rights,
         returns,
+        due: Rows::new(alloc),
+        accounts: Rows::new(alloc),
+        draws: Rows::new(alloc),
     })
 }

@@ -7,7 +7,7 @@ ghost use Rattle.toml.specs.View.{view, table_view, items_view};
 ghost use Rattle.toml_tree.specs.Values.{integer_of};
 ghost use Rattle.basin_tree.specs.Documents.{tree_of};
 ghost use Rattle.basin_file.specs.Spelled.{name_of, name_at, truth_at, inflow_of, lists_month, shut_of, carry_of};
-ghost use Rattle.basin_file.specs.Spelled.{is_series, number_at, point_in, date_of, first_of, node_of, link_of};
+ghost use Rattle.basin_file.specs.Spelled.{want_of, number_at, point_in, date_of, first_of, node_of, link_of};
 ghost use Rattle.basin_file.specs.Spelled.{volume_of, right_of, diversion_of, instream_of, zone_of, return_of};
 
 use basin_tree::document::Document;
@@ -17,7 +17,7 @@ use toml::{Table, Value};
 use toml_tree::values::{
     integer_at, integer_of, item_at, items_of, member, monthly_at, text_or_empty,
 };
-use water_model::types::{AreaPoint, Carry, Inflow, Link, Node, ReturnRow, Right, RightKind};
+use water_model::types::{AreaPoint, Carry, Inflow, Link, Node, ReturnRow, Right, RightKind, Want};
 use water_text::day::Day;
 use water_text::month::Month;
 use water_text::name::Name;
@@ -145,11 +145,15 @@ fn volume_at(row: &Table) -> Option<u64>
     member(row, "volume").map(|value| integer_of(Some(value), 0, MAX_STORED, 0))
 }
 
-/// Whether a right's wants stand in the series.
-fn series_at(row: &Table) -> bool
-    ensures { result ≡ is_series (get_member (codes "want") (table_view row.now)) }
+/// What a right wants: a text stands for wants in the series.
+fn want_at(row: &Table) -> Want
+    ensures { result ≡ want_of (get_member (codes "want") (table_view row.now)) }
 {
-    member(row, "want").is_some_and(|value| value.is_str())
+    if member(row, "want").is_some_and(|value| value.is_str()) {
+        Want::Series
+    } else {
+        Want::Monthly(monthly_at(row, "want", MAX_AMOUNT))
+    }
 }
 
 fn right_of(kind: RightKind, volume: Option<u64>, row: &Table) -> Right
@@ -160,9 +164,10 @@ fn right_of(kind: RightKind, volume: Option<u64>, row: &Table) -> Right
         date: date_of(text_or_empty(row, "date").as_bytes()),
         order: integer_at(row, "order", 0, 1_000_000, 0) as u32,
         kind,
-        want: monthly_at(row, "want", MAX_AMOUNT),
+        want: want_at(row),
         volume,
-        series: series_at(row),
+        used: 0,
+        season: [true; 12],
     }
 }
 
@@ -254,6 +259,7 @@ impl EntryReader<ReturnRow> for ReturnReader {
             node: number_at(document, Space::Nodes, row, "node"),
             part: integer_at(row, "part", 1, 10_000, 1) as u32,
             lag: integer_at(row, "lag", 1, 120, 1) as u32,
+            rest: 0,
         })
     }
 }

@@ -7,7 +7,7 @@ ghost use Rattle.rights_roll.specs.RollFaults.{roll_fault, IsRollRefusal};
 ghost use Rattle.reservoirs.specs.AreaFaults.{table_fault};
 ghost use Rattle.basin_tree.specs.Documents.{tree_of};
 ghost use Rattle.basin_tree.specs.Order.{tree_fault};
-ghost use Rattle.basin_file.specs.Spelled.{basin_of};
+ghost use Rattle.basin_file.specs.Spelled.{basin_of, IsPlain};
 ghost use Rattle.basin_file.specs.Sound.{IsSoundBasin};
 ghost use Rattle.basin_file.specs.BasinFaults.{area_finding, net_finding, roll_finding, areas_fault, basin_fault};
 ghost use Rattle.basin_file.specs.BasinFaults.{document_fault, file_fault, IsRefusalOf, IsFileRefusal, Spells};
@@ -115,6 +115,7 @@ fn refused(finding: Finding) -> BasinRefused
 /// The basin that a document spells, or the first fault that the document has by itself.
 fn unchecked_basin(alloc: Global, document: &Document) -> Result<Basin, BasinRefused>
     ensures basin { IfOk result (λ basin. basin ≡ basin_of (tree_of document.now)) }
+    ensures plain { IfOk result IsPlain }
     ensures faultless { OnOk result (tree_fault (tree_of document.now) ≡ None) }
     ensures refused { IfErr result (IsRefusalOf (document_fault (Some (tree_of document.now)))) }
 {
@@ -128,6 +129,7 @@ fn unchecked_basin(alloc: Global, document: &Document) -> Result<Basin, BasinRef
 fn tree_basin(alloc: Global, tree: &Table) -> Result<Basin, BasinRefused>
     ensures basin { IfOk result (λ basin. basin ≡ basin_of (table_view tree.now)) }
     ensures sound { IfOk result IsSoundBasin }
+    ensures plain { IfOk result IsPlain }
     ensures faultless { OnOk result (tree_fault (table_view tree.now) ≡ None) }
     ensures refused { IfErr result (IsRefusalOf (document_fault (Some (table_view tree.now)))) }
 {
@@ -160,6 +162,7 @@ fn check_basin(alloc: Global, basin: &Basin) -> Result<(), BasinRefused>
 fn read_tree(alloc: Global, tree: &Table) -> Result<Basin, BasinRefused>
     ensures basin { IfOk result (λ basin. basin ≡ basin_of (table_view tree.now)) }
     ensures valid { IfOk result IsValidBasin }
+    ensures plain { IfOk result IsPlain }
     ensures sound { OnOk result (document_fault (Some (table_view tree.now)) ≡ None) }
     ensures refused { IfErr result (IsRefusalOf (document_fault (Some (table_view tree.now)))) }
 {
@@ -181,6 +184,7 @@ fn read_tree(alloc: Global, tree: &Table) -> Result<Basin, BasinRefused>
 pub fn read_basin(alloc: Global, text: &[u8]) -> Result<Basin, BasinRefused>
     ensures spelled { IfOk result (λ basin. Spells text.now basin) }
     ensures valid { IfOk result IsValidBasin }
+    ensures plain { IfOk result IsPlain }
     ensures sound { OnOk result (file_fault text.now ≡ None) }
     ensures refused { IfErr result (λ e. IsFileRefusal e text.now) }
 {

@@ -10,9 +10,10 @@ ghost use Rattle.water_text.specs.Months.{IsMonth, month_digits};
 ghost use Rattle.water_text.specs.Names.{is_name};
 ghost use Rattle.water_model.specs.Basin.{node_name};
 ghost use Rattle.water_model.specs.Valid.{IsValidBasin, IsValidInflow, IsValidNode, IsValidLink, IsValidReservoir};
-ghost use Rattle.water_model.specs.Valid.{IsValidPoint, IsValidRight, IsValidReturn, IsMonthly};
+ghost use Rattle.water_model.specs.Valid.{IsValidPoint, IsValidRight, IsValidReturn, IsValidWant, IsMonthly};
 ghost use Rattle.water_model.specs.declared.types.Basin.{Basin};
 ghost use Rattle.basin_file.specs.BasinFaults.{Spells, file_fault};
+ghost use Rattle.basin_file.specs.Spelled.{IsPlain};
 ghost use Rattle.basin_file.specs.Upgraded.{with_member, with_option, two_digits, day_text, number, numbers};
 ghost use Rattle.basin_file.specs.Upgraded.{inflow_data, node_row, shut_months, some_items, link_row, point_data};
 ghost use Rattle.basin_file.specs.Upgraded.{reservoir_row, want_data, right_row, return_row, rights_in, listed};
@@ -24,7 +25,7 @@ use std::alloc::{AllocError, Global};
 use toml::ser::Error;
 use toml::{Table, Value};
 use water_model::types::{
-    AreaPoint, Basin, Carry, Inflow, Link, Node, Reservoir, ReturnRow, Right, RightKind,
+    AreaPoint, Basin, Carry, Inflow, Link, Node, Reservoir, ReturnRow, Right, RightKind, Want,
 };
 use water_text::day::Day;
 use water_text::line::Line;
@@ -191,14 +192,13 @@ fn points(alloc: Global, area: &[AreaPoint]) -> Result<Vec<Value>, AllocError>
     Ok(list)
 }
 
-fn want_value(alloc: Global, right: &Right) -> Result<Value, AllocError>
-    requires { IsMonthly (10 ^ 9) right.now.want }
-    ensures { IfOk result (λ value. view value ≡ want_data right.now) }
+fn want_value(alloc: Global, want: &Want) -> Result<Value, AllocError>
+    requires { IsValidWant want.now }
+    ensures { IfOk result (λ value. view value ≡ want_data want.now) }
 {
-    if right.series {
-        Value::string(alloc, "series")
-    } else {
-        numbers(alloc, &right.want)
+    match want {
+        Want::Monthly(amounts) => numbers(alloc, amounts),
+        Want::Series => Value::string(alloc, "series"),
     }
 }
 
@@ -206,9 +206,9 @@ fn want_value(alloc: Global, right: &Right) -> Result<Value, AllocError>
 fn put_right(alloc: Global, row: &mut Table, right: &Right) -> Result<(), AllocError>
     requires name { is_name right.now.name ≡ true }
     requires order { right.now.order ≤ 1000000 }
-    requires want { IsMonthly (10 ^ 9) right.now.want }
+    requires want { IsValidWant right.now.want }
     requires date { is_date right.now.date ≡ true }
-    ensures { OnOk result (table_view row.new ≡ with_member (codes "want") (want_data right.now)
+    ensures { OnOk result (table_view row.new ≡ with_member (codes "want") (want_data right.now.want)
         (with_member (codes "order") (number right.now.order)
         (with_member (codes "name") (string right.now.name)
         (with_member (codes "date") (string (day_text right.now.date)) (table_view row.old))))) }
@@ -216,7 +216,7 @@ fn put_right(alloc: Global, row: &mut Table, right: &Right) -> Result<(), AllocE
     put_date(alloc, row, "date", right.date)?;
     put_name(alloc, row, "name", right.name.bytes())?;
     put_number(alloc, row, "order", u64::from(right.order))?;
-    put(alloc, row, "want", want_value(alloc, right)?)
+    put(alloc, row, "want", want_value(alloc, &right.want)?)
 }
 
 /// Adds the volume of a diversion, if it has one.
@@ -456,7 +456,8 @@ pub fn spelled(alloc: Global, basin: &Basin) -> Result<Table, AllocError>
 ///
 /// It takes memory, for the table and for the text. AllocError comes only where that is lacking.
 pub fn upgraded(alloc: Global, basin: &Basin) -> Result<String, AllocError>
-    requires { IsValidBasin basin.now }
+    requires valid { IsValidBasin basin.now }
+    requires plain { IsPlain basin.now }
     ensures table { IfOk result (λ text. document_of (string_bytes text) ≡ Some (basin_table basin.now)) }
     ensures spells { IfOk result (λ text. Spells (string_bytes text) (record basin.now { format = 2 })) }
     ensures sound { IfOk result (λ text. file_fault (string_bytes text) ≡ None) }

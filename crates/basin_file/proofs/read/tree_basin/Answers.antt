@@ -22,6 +22,7 @@ returns-in-Ok c =
     record {
       basin = basin;
       sound = sound_of c.unchecked_basin-spelled.result (table_view c.args.tree.now) basin faultless;
+      plain = c.unchecked_basin-spelled.ensures.plain;
       faultless = faultless;
       refused = rw c.in-Ok.ensures at c.unchecked_basin-spelled.ensures.refused;
     }

@@ -13,7 +13,7 @@ use Rattle.basin_file.proofs.upgrade.upgraded.Goals as goal
 pub returns-in-Ok : goal.returns-in-Ok
 returns-in-Ok c =
     let read =
-    read_back c.args.basin.now c.requires (string_bytes c.in-Ok.text) (table_view c.in_ok-table.table)
+    read_back c.args.basin.now c.requires.valid (string_bytes c.in-Ok.text) (table_view c.in_ok-table.table)
     c.in_ok-table.ensures (IsUtf8-string_bytes c.in-Ok.text)
     c.in-Ok.ensures.reads_back in
     record {
@@ -22,12 +22,12 @@ returns-in-Ok c =
         tree = basin_table c.args.basin.now;
         document = read;
         basin_is =
-            sym (table_spells c.args.basin.now c.requires);
+            sym (table_spells c.args.basin.now c.requires.valid c.requires.plain);
       };
-      sound = ap (λ (o : Option Members). document_fault o) read ∙ table_is_sound c.args.basin.now c.requires;
+      sound = ap (λ (o : Option Members). document_fault o) read ∙ table_is_sound c.args.basin.now c.requires.valid c.requires.plain;
     }
 
 pub unreachable-requires : goal.unreachable-requires
 unreachable-requires c =
-    no_dates c.args.basin.now c.requires (table_view c.in_ok-table.table) c.in_ok-table.ensures
+    no_dates c.args.basin.now c.requires.valid (table_view c.in_ok-table.table) c.in_ok-table.ensures
     (c.in-Err-DateInvalid.ensures.dates.0 (ap (λ (e : Error). Err e) c.in-Err-DateInvalid.field-0-is))
