@@ -7,9 +7,9 @@ use Rattle.std.specs.Option.{option_map_or}
 use Rattle.finite_sums.specs.Sums.{total_where}
 use Rattle.water_text.specs.Months.{is_same_month}
 use Rattle.water_text.specs.declared.month.Month.{Month}
-use Rattle.water_model.specs.Basin.{is_senior, taking_node, instream_link}
+use Rattle.water_model.specs.Basin.{is_senior, taking_node, instream_link, is_zone_of}
 use Rattle.water_model.specs.Cuts.{cut_capacity, cut_kept, separates}
-use Rattle.water_model.specs.History.{cut_of, opening_after, is_zone_of, calling_right}
+use Rattle.water_model.specs.History.{cut_of, opening_after, calling_right}
 use Rattle.water_model.specs.Hydrology.{in_year, evaporation, returned_at, used_of, want_of}
 use Rattle.water_model.specs.Lookups.{of_entry}
 use Rattle.water_model.specs.Indices.{indices_of, seniors_first, outlets}
