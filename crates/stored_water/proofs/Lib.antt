@@ -12,4 +12,5 @@ pub mod Stores
 pub mod Sited
 pub mod Plain
 pub mod Balanced
+pub mod United
 mod Examples

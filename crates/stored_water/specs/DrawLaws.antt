@@ -1,13 +1,14 @@
 -- Laws over draws.
-use Rattle.std.specs.Prelude.{◌≡◌, ℕ, suc, ◌+◌, ◌-◌, ◌*◌, ◌<◌, ◌≤◌, true, false, not, ◌&&◌, Bool, List, length}
-use Rattle.std.specs.Prelude.{slice_index, slice_get, Some, None}
+use Rattle.std.specs.Prelude.{◌≡◌, ℕ, suc, ◌+◌, ◌-◌, ◌*◌, ◌<◌, ◌≤◌, true, false, not, ◌&&◌, ◌||◌, Bool, List}
+use Rattle.std.specs.Prelude.{length, slice_index, slice_get, Option, Some, None}
 use Rattle.finite_sums.specs.Sums.{total, total_where}
 use Rattle.water_text.specs.declared.month.Month.{Month}
 use Rattle.water_model.specs.Accounts.{Ledger, IsLedger, stock_of, closing_with, drawn_from}
 use Rattle.water_model.specs.Basin.{taking_node, takes_at, instream_link, is_at, is_zone_of}
 use Rattle.water_model.specs.Courses.{IsCourse, HasCourse, IsGreatestDraw, IsGreatestWithin, IsStop, IsGreatestStop}
 use Rattle.water_model.specs.Courses.{IsCapOrStop, after_draw, held_on}
-use Rattle.water_model.specs.Draws.{AreTaken, AreDrawn, AreSited, IsSited, cap_of, taken_with, got_by}
+use Rattle.water_model.specs.Draws.{AreTaken, AreDrawn, AreShownBy, AreSited, IsSited, cap_of, taken_with, got_by}
+use Rattle.water_model.specs.Lookups.{has}
 use Rattle.water_model.specs.Plans.{IsPlan, delivery, carry_of, inflow_to, outflow_from}
 use Rattle.water_model.specs.Stores.{is_owned, sum_in_zone, sum_at_node, drawn_node, drawing_node}
 use Rattle.water_model.specs.Valid.{IsValidBasin, is_diversion}
@@ -65,6 +66,16 @@ DrawAtReservoirIsCap =
     (b : Basin) (month : Month) (held : ℕ → ℕ) (supply taken : List ℕ) (node cap : ℕ) → node < length b.nodes →
     cap ≤ slice_index taken node → HasCourse b (carry_of b month) held supply taken →
     IsGreatestDraw b month held supply taken node node cap cap
+
+-- Stops unite. Where there is a course with the draw, all nodes of two of its stops are a stop; so there is a greatest
+-- one where there is one at all.
+abbrev pub StopsUnite : Type 0
+StopsUnite =
+    (b : Basin) (month : Month) (held : ℕ → ℕ) (supply taken flow out : List ℕ) (from to : ℕ)
+    (set other both : List Bool) → IsCourse b month held supply taken flow out →
+    IsStop b month held supply taken from to set → IsStop b month held supply taken from to other →
+    length both ≡ length b.nodes → ((n : ℕ) → has both n ≡ (has set n || has other n)) →
+    IsStop b month held supply taken from to both
 
 -- The greatest stop is one set.
 abbrev pub GreatestStopIsOne : Type 0
@@ -139,6 +150,14 @@ abbrev pub CoursesAndStopsShowDraws : Type 0
 CoursesAndStopsShowDraws =
     (b : Basin) (month : Month) (held : ℕ → ℕ) (supply : List ℕ) (asked number : ℕ → ℕ) (delivered : List ℕ)
     (l : Ledger) (amounts : List ℕ) → AreShown b month held supply asked number delivered l amounts →
+    AreDrawn b month held supply asked number delivered l amounts
+
+-- What a record shows are the month's draws.
+abbrev pub ShownDrawsAreDrawn : Type 0
+ShownDrawsAreDrawn =
+    (b : Basin) (month : Month) (held : ℕ → ℕ) (supply : List ℕ) (asked number : ℕ → ℕ) (delivered : List ℕ)
+    (l : Ledger) (amounts : List ℕ) (flow out : ℕ → List ℕ) (set : ℕ → Option (List Bool)) →
+    AreShownBy b month held supply asked number delivered l amounts flow out set →
     AreDrawn b month held supply asked number delivered l amounts
 
 -- One outcome. The amounts of a month's draws are determined.
