@@ -14,7 +14,7 @@ use Rattle.injury.specs.Injuries.{injuries, injuries_of, injured_row, compared_r
 use Rattle.injury.proofs.Growing.{common_bounded, injuries_more, injuries_bounded}
 use Rattle.injury.proofs.Put.{injuries-count}
 use Rattle.basin_cli.specs.Compared.{AreCompared, IsTextOfComparison}
-use Rattle.basin_cli.proofs.Written.{whole_run}
+use Rattle.basin_cli.proofs.Monthly.{whole_run}
 
 -- one month more of both runs
 pub compared_more : (b c : Basin) (first second first' second' : RunView) (m n : MonthRecord) (before after : List ℕ)

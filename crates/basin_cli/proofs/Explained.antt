@@ -5,12 +5,8 @@ use Rattle.std.specs.Prelude.{slice_get, slice_index, unwrap_or}
 use Rattle.cut_book.specs.Book.{book_bytes}
 use Rattle.cut_book.proofs.Adding.{lines_make_bound, tight_books_sum_to_delivery}
 use Rattle.cut_cert.specs.Sets.{cut_at}
-use Rattle.call_list.proofs.Months.{last_can_be_found}
-use Rattle.plan_residual.specs.Residual.{HasPlan}
 use Rattle.water_model.specs.History.{HasReaches, Follows, IsPartialHistory, IsShort}
 use Rattle.month_fold.specs.Runs.{RunView}
-use Rattle.result_text.specs.Range.{FitsText}
-use Rattle.result_text.proofs.Whole.{FitsText-follows}
 use Rattle.water_edge.specs.Edge.{Extends, Output}
 use Rattle.water_text.specs.declared.month.Month.{Month}
 use Rattle.water_model.proofs.Histories.{last_follows}
@@ -18,7 +14,7 @@ use Rattle.water_model.proofs.Lists.{get_after}
 use Rattle.water_model.specs.Cuts.{IsReach}
 use Rattle.water_model.specs.Hydrology.{run_month}
 use Rattle.duality.specs.Laws.{HaveSameOutcome}
-use Rattle.water_model.specs.Valid.{IsSeriesOf, IsValidBasin}
+use Rattle.water_model.specs.Valid.{IsValidBasin}
 use Rattle.water_model.specs.declared.types.Basin.{Basin}
 use Rattle.water_model.specs.declared.types.Series.{Series}
 use Rattle.water_model.specs.declared.types.MonthRecord.{MonthRecord}
@@ -50,23 +46,6 @@ last_record b series run index same fits done last = record {
 
     follows : Follows b series last.before run.last
     follows = last_follows b series last.before run.last partial
-
--- which has the reaches, and lines that can be written
-pub record_reaches : (b : Basin) (series : Series) (month : Month) (m : MonthRecord) → IsRecordOf b series month m →
-    HasReaches b m
-record_reaches b series month m is = is.reaches (length is.before) m (get_after is.before [] m)
-
-pub record_fits : (b : Basin) (series : Series) (month : Month) (m : MonthRecord) → IsValidBasin b →
-    IsRecordOf b series month m → FitsText b m
-record_fits b series month m valid is =
-    FitsText-follows b series is.before m valid (last_follows b series is.before m is.partial)
-    (omega (arith, is.partial.within, length-append is.before (m ∷ [])))
-
--- and a plan
-pub record_plan : (b : Basin) (series : Series) (month : Month) (m : MonthRecord) → IsValidBasin b →
-    IsSeriesOf b series → IsRecordOf b series month m → HasPlan b m
-record_plan b series month m valid fits is =
-    (last_can_be_found b series is.before m valid fits is.partial is.reaches).plan
 
 -- The account of a short right.
 

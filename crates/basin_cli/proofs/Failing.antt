@@ -16,7 +16,6 @@ use Rattle.basin_cli.specs.declared.ending.Ending.{Ending}
 use Rattle.basin_cli.specs.declared.ending.Ending.TheVariants as ending
 use Rattle.basin_cli.specs.declared.ending.File.{File}
 use Rattle.basin_cli.specs.declared.ending.File.TheVariants as file
-use Rattle.basin_cli.specs.declared.ending.SecondFinding.TheVariants as of_second
 use Rattle.basin_cli.specs.Actions.{EndsAsking, EndsChecking}
 use Rattle.basin_cli.specs.Bytes.{KnownFiles}
 use Rattle.basin_cli.specs.Command.{Files, check}

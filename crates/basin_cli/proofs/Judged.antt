@@ -1,5 +1,5 @@
 -- What the verdict on a result's bytes says of them.
-use Rattle.std.proofs.Common.{◌≡◌, ℕ, subst, sym, List, Option, Some, None}
+use Rattle.std.proofs.Common.{◌≡◌, ℕ, subst, sym, List, Option}
 use Rattle.std.proofs.lemmas.Option.{IfSome_then}
 use Rattle.std.specs.Prelude.{Result, Ok, Err, IsOk, IfSome}
 use Rattle.water_edge.specs.Edge.{Output}

@@ -1,5 +1,4 @@
-pub mod Written
-pub mod Listed
+pub mod Monthly
 pub mod Missing
 pub mod Failing
 pub mod OneSeries

@@ -1,6 +1,5 @@
 -- After the files of a run, a list of calls, a report and an ensemble.
-use Rattle.std.proofs.Common.{◌≡◌, Some, arith, rules}
-use Rattle.std.proofs.lemmas.Grind.{common_steps}
+use Rattle.std.proofs.Common.{◌≡◌, Some, rules}
 use Rattle.std.proofs.lemmas.Option.{IfSome_then}
 use Rattle.std.specs.Prelude.{IfSome}
 use Rattle.index_seq.specs.Traces.{HasWholeYears}

@@ -24,14 +24,15 @@ use Rattle.basin_cli.specs.declared.status.Status.{Status}
 use Rattle.basin_cli.specs.Answer.{IsAnswerTo}
 use Rattle.basin_cli.specs.Ending.{status_of}
 use Rattle.basin_cli.specs.Explained.{EndsExplaining, Explains, HasMonth, HasRight, IsAbout, IsRecordOf}
-use Rattle.basin_cli.specs.Listed.{LeavesList}
+use Rattle.basin_cli.specs.Monthly.{LeavesMonths, call_text, run_text}
 use Rattle.basin_cli.specs.Out.{Leaves, MayWrite}
-use Rattle.basin_cli.specs.Written.{LeavesRun}
 
 -- out was left with a text of a run, or with as much of it as was written
 abbrev pub LeavesText : RunText → Basin → Series → Status → Output → Output → WorkDone → WorkDone → Type 0
-LeavesText text.Result b series status old new before after = LeavesRun b series status old new before after
-LeavesText text.Calls b series status old new before after = LeavesList b series status old new before after
+LeavesText text.Result b series status old new before after =
+    LeavesMonths run_text b series status old new before after
+LeavesText text.Calls b series status old new before after =
+    LeavesMonths call_text b series status old new before after
 LeavesText text.Report b series status old new before after =
     (records : List MonthRecord) × IsRun b series records × Leaves status (report_text b series records) old new
 

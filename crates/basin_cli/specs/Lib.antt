@@ -13,8 +13,7 @@ pub mod Outcome
 pub mod Serving
 pub mod Code
 pub mod Drafts
-pub mod Written
-pub mod Listed
+pub mod Monthly
 pub mod Series
 pub mod Pairs
 pub mod Actions

@@ -36,8 +36,7 @@ use Rattle.basin_cli.specs.Headline.{HasGreatestPlans, HasGreatestPlansInParts}
 use Rattle.basin_cli.specs.Bytes.{AreSpelled, IsGoodBasin, IsSeriesRefusedFor, IsTooLong, KnownFiles, OfBasin}
 use Rattle.basin_cli.specs.Bytes.{OfSpelled}
 use Rattle.basin_cli.specs.Out.{Leaves, MayWrite}
-use Rattle.basin_cli.specs.Listed.{LeavesList}
-use Rattle.basin_cli.specs.Written.{LeavesRun}
+use Rattle.basin_cli.specs.Monthly.{LeavesMonths, call_text, run_text}
 use Rattle.basin_cli.specs.Reading.{AreAccepted, AfterBasin, AfterBoth, AfterSeries, CompletesAfter, IsDone}
 use Rattle.basin_cli.specs.Reading.{IsJudged, OfBoth, StopsReading}
 use Rattle.basin_cli.specs.Edited.{HasEditingCause, EditsAfter, EditWrites, EditWork}
@@ -220,13 +219,13 @@ Completes (Some command) status known read write = (read → ⊥) → (write →
 -- what `run` leaves on out: the text of a run of what the bytes spell, or after a fault of out as far as it was written
 abbrev pub WritesRun : Status → List ℕ → List ℕ → Output → Output → WorkDone → WorkDone → Type 0
 WritesRun status bytes series old new before after =
-    OfSpelled bytes series (λ b s. LeavesRun b s status old new before after)
+    OfSpelled bytes series (λ b s. LeavesMonths run_text b s status old new before after)
 
 -- what `calls` leaves on out: the list of calls of a run of what the bytes spell, or after a fault of out as far as it
 -- was written
 abbrev pub WritesCalls : Status → List ℕ → List ℕ → Output → Output → WorkDone → WorkDone → Type 0
 WritesCalls status bytes series old new before after =
-    OfSpelled bytes series (λ b s. LeavesList b s status old new before after)
+    OfSpelled bytes series (λ b s. LeavesMonths call_text b s status old new before after)
 
 -- what `check` and `audit` leave on out: the answer to the result's bytes
 abbrev pub WritesAnswer : Question → Status → List ℕ → List ℕ → List ℕ → Output → Output → Type 0

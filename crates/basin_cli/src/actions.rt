@@ -2,7 +2,6 @@
 ghost use Rattle.std.specs.Prelude.{◌≡◌, ◌+◌, ◌*◌, ◌≤◌, ◌++◌, [], List, codes, length, IfOk};
 ghost use Rattle.std.specs.Fmt.{decimal};
 ghost use Rattle.basin_gen.specs.Generator.{generated};
-ghost use Rattle.call_list.specs.Finders.{IsFinderOf};
 ghost use Rattle.cert_check.specs.KindNames.{kind_name};
 ghost use Rattle.cert_check.specs.Standing.{IsAnswer};
 ghost use Rattle.cert_check.specs.Whole.{text_verdict};
@@ -15,17 +14,15 @@ ghost use Rattle.water_model.specs.declared.types.MonthRecord.{MonthRecord};
 ghost use Rattle.basin_cli.specs.Actions.{LeavesText, LeavesTraces};
 ghost use Rattle.basin_cli.specs.Answer.{answered, ending_of, yes_word, EndsAnswer};
 ghost use Rattle.basin_cli.specs.Ending.{status_of};
-ghost use Rattle.basin_cli.specs.Listed.{LeavesList};
+ghost use Rattle.basin_cli.specs.Monthly.{LeavesMonths, call_text};
 ghost use Rattle.basin_cli.specs.Out.{IsRefusal, Leaves, MayWrite};
 ghost use Rattle.basin_cli.specs.Outcome.{HasTrialCause, IsQuiet, WritesTrial};
-ghost use Rattle.basin_cli.specs.Written.{LeavesRun};
 ghost use Rattle.month_fold.specs.Works.{Solves, SolvesRun};
 
 use crate::checking::Question;
 use crate::ending::Ending;
 use crate::flushing::put_whole;
-use crate::listing::list_run;
-use crate::writing::write_run;
+use crate::writing::{MonthlyWriter, ResultWriter, write_run};
 use basin_gen::make;
 use call_list::CallFinder;
 use cert_check::{Checker, Refuted, check_text};
@@ -47,10 +44,11 @@ pub enum RunText {
     Report,
 }
 
-/// Solves the months of a basin with a series and puts the result, each month's lines as soon as it is solved. Memory
-/// is taken before the first byte is put.
-fn put_result<K: Sink, P: Ledger, M: Ledger>(
+/// Solves the months of a basin with a series and puts a text of them, each month's lines as soon as it is solved. The
+/// memory of the run is taken before the first byte is put.
+fn put_months<W: MonthlyWriter, K: Sink, P: Ledger, M: Ledger>(
     alloc: Global,
+    writer: &mut W,
     basin: &Basin,
     series: &Series,
     out: &mut K,
@@ -58,8 +56,9 @@ fn put_result<K: Sink, P: Ledger, M: Ledger>(
 ) -> Ending
     requires basin { IsValidBasin basin.now }
     requires series { IsSeriesOf basin.now series.now }
+    requires writer { W.is_for basin.now writer.old }
     ensures ends { HasTrialCause result (Rose (K.faults out.old) (K.faults out.new)) }
-    ensures leaves { MayWrite (status_of result) → LeavesRun basin.now series.now (status_of result)
+    ensures leaves { MayWrite (status_of result) → LeavesMonths W.text basin.now series.now (status_of result)
         (K.output out.old) (K.output out.new) work.old work.new }
     ensures out_stays { (MayWrite (status_of result) → ⊥) → out.new ≡ out.old }
     ensures idle { (MayWrite (status_of result) → ⊥) → work.new ≡ work.old }
@@ -70,42 +69,9 @@ fn put_result<K: Sink, P: Ledger, M: Ledger>(
         Ok(run) => run,
         Err(_) => return Ending::OutOfMemory,
     };
-    let written = write_run(out, &mut run, work);
+    let written = write_run(writer, out, &mut run, work);
     drop(run);
     match written {
-        Ok(()) => Ending::Done,
-        Err(_) => Ending::WriteFault,
-    }
-}
-
-/// Solves the months of a basin with a series and puts the list of their calls, each month's lines as soon as it is
-/// solved. The memory of the run is taken before the first byte is put.
-fn put_found_calls<K: Sink, P: Ledger, M: Ledger>(
-    alloc: Global,
-    finder: &mut CallFinder,
-    basin: &Basin,
-    series: &Series,
-    out: &mut K,
-    work: &mut Work<P, M>,
-) -> Ending
-    requires basin { IsValidBasin basin.now }
-    requires series { IsSeriesOf basin.now series.now }
-    requires finder { IsFinderOf basin.now finder.old }
-    ensures ends { HasTrialCause result (Rose (K.faults out.old) (K.faults out.new)) }
-    ensures leaves { MayWrite (status_of result) → LeavesList basin.now series.now (status_of result)
-        (K.output out.old) (K.output out.new) work.old work.new }
-    ensures out_stays { (MayWrite (status_of result) → ⊥) → out.new ≡ out.old }
-    ensures idle { (MayWrite (status_of result) → ⊥) → work.new ≡ work.old }
-    ensures work { SolvesRun basin.now work.old work.new }
-    ensures flushed { IsQuiet (status_of result) → (K.output out.new).flushed ≡ (K.output out.new).taken }
-{
-    let mut run = match Run::open(alloc, basin, series) {
-        Ok(run) => run,
-        Err(_) => return Ending::OutOfMemory,
-    };
-    let listed = list_run(out, finder, &mut run, work);
-    drop(run);
-    match listed {
         Ok(()) => Ending::Done,
         Err(_) => Ending::WriteFault,
     }
@@ -123,7 +89,7 @@ fn put_calls<K: Sink, P: Ledger, M: Ledger>(
     requires basin { IsValidBasin basin.now }
     requires series { IsSeriesOf basin.now series.now }
     ensures ends { HasTrialCause result (Rose (K.faults out.old) (K.faults out.new)) }
-    ensures leaves { MayWrite (status_of result) → LeavesList basin.now series.now (status_of result)
+    ensures leaves { MayWrite (status_of result) → LeavesMonths call_text basin.now series.now (status_of result)
         (K.output out.old) (K.output out.new) work.old work.new }
     ensures out_stays { (MayWrite (status_of result) → ⊥) → out.new ≡ out.old }
     ensures idle { (MayWrite (status_of result) → ⊥) → work.new ≡ work.old }
@@ -134,7 +100,7 @@ fn put_calls<K: Sink, P: Ledger, M: Ledger>(
         Ok(finder) => finder,
         Err(_) => return Ending::OutOfMemory,
     };
-    let ending = put_found_calls(alloc, &mut finder, basin, series, out, work);
+    let ending = put_months(alloc, &mut finder, basin, series, out, work);
     drop(finder);
     ending
 }
@@ -188,7 +154,7 @@ pub fn put_run_text<K: Sink, P: Ledger, M: Ledger>(
     ensures flushed { IsQuiet (status_of result) → (K.output out.new).flushed ≡ (K.output out.new).taken }
 {
     match text {
-        RunText::Result => put_result(alloc, basin, series, out, work),
+        RunText::Result => put_months(alloc, &mut ResultWriter, basin, series, out, work),
         RunText::Calls => put_calls(alloc, basin, series, out, work),
         RunText::Report => put_report(alloc, basin, series, out, work),
     }

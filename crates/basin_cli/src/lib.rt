@@ -14,7 +14,6 @@ mod explaining;
 mod files;
 mod flushing;
 mod found;
-mod listing;
 mod pairs;
 mod status;
 mod top;

@@ -60,24 +60,13 @@ impl<'b> Checker<'b> {
         ensures bounded { IfOk result (λ checker. lines_left checker ≤ 5 * 10 ^ 9) }
         ensures audit { IfOk result (λ checker. checker.progress.audit ≡ audit) }
     {
-        let context = match context_of(alloc, basin, series) {
-            Ok(context) => context,
-            Err(stop) => {
-                drop(audit);
-                return Err(stop);
-            }
-        };
-        match progress_of(alloc, basin, &context.roll, audit) {
-            Ok(progress) => Ok(Checker {
-                context,
-                progress,
-                refused: None,
-            }),
-            Err(stop) => {
-                drop(context);
-                Err(stop)
-            }
-        }
+        let context = context_of(alloc, basin, series)?;
+        let progress = progress_of(alloc, basin, &context.roll, audit)?;
+        Ok(Checker {
+            context,
+            progress,
+            refused: None,
+        })
     }
 
     /// A checker that was given no line. AllocError comes where memory is lacking; no other call takes memory.

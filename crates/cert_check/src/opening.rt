@@ -40,20 +40,6 @@ fn first_comes(alloc: Global, basin: &Basin, lags: &Lags) -> Result<Rows<u64>, A
     Ok(comes)
 }
 
-/// Room for a number for each reservoir, and for two numbers for each node.
-fn room_for_sums(
-    alloc: Global,
-    basin: &Basin,
-) -> Result<(Rows<u64>, Rows<u64>, Rows<u64>), AllocError>
-    ensures { IfOk result (λ sums. (length sums.0 ≡ length basin.now.reservoirs) ×
-        (length sums.1 ≡ length basin.now.nodes) × (length sums.2 ≡ length basin.now.nodes)) }
-{
-    let closes = zeros(alloc, basin.reservoirs.len())?;
-    let into = zeros(alloc, basin.nodes.len())?;
-    let out_of = zeros(alloc, basin.nodes.len())?;
-    Ok((closes, into, out_of))
-}
-
 /// What no month leaves: returns that are under way, what is stored, what comes back to each node, and what was used.
 fn left_of_none(
     alloc: Global,
@@ -70,15 +56,12 @@ fn left_of_none(
 }
 
 /// A check state of no line.
-pub fn blank_state(alloc: Global, basin: &Basin) -> Result<Box<CheckState>, AllocError>
+fn blank_state(alloc: Global, basin: &Basin) -> Result<Box<CheckState>, AllocError>
     requires { IsValidBasin basin.now }
     ensures { IfOk result (λ state. (series : Series) →
         Keeps basin.now series state.value (nothing_read basin.now)) }
 {
-    let sums = room_for_sums(alloc, basin)?;
-    let month = blank_month(alloc, basin)?;
     let (lags, opens, comes, used) = left_of_none(alloc, basin)?;
-    let (closes, into, out_of) = sums;
     Ok(Box::new(
         alloc,
         CheckState {
@@ -87,17 +70,17 @@ pub fn blank_state(alloc: Global, basin: &Basin) -> Result<Box<CheckState>, Allo
             opens,
             comes,
             used,
-            month: Box::into_inner(month),
+            month: Box::into_inner(blank_month(alloc, basin)?),
             calling: None,
             has_supply: false,
-            closes,
+            closes: zeros(alloc, basin.reservoirs.len())?,
             has_closes: false,
             callers: [None; MAX_NODES],
             has_callers: false,
             passed: 0,
             answered: 0,
-            into,
-            out_of,
+            into: zeros(alloc, basin.nodes.len())?,
+            out_of: zeros(alloc, basin.nodes.len())?,
         },
     )?)
 }
@@ -151,26 +134,6 @@ pub fn context_of<'b>(
     })
 }
 
-/// A check state of no line, and a reader that was given no line. AllocError comes where memory is
-/// lacking.
-fn parts_of<'b>(
-    alloc: Global,
-    basin: &'b Basin,
-    roll: &Roll,
-) -> Result<(Box<CheckState>, ResultReader<'b>), AllocError>
-    requires basin { IsValidBasin basin.now }
-    requires roll { IsRollOf basin.now.rights roll.now }
-    ensures state { IfOk result (λ parts. (series : Series) →
-        Keeps basin.now series parts.0.value (nothing_read basin.now)) }
-    ensures basin { IfOk result (λ parts. parts.1.basin ≡ basin.now) }
-    ensures none { IfOk result (λ parts. ReaderStandsFor parts.1 []) }
-    ensures bounded { IfOk result (λ parts. parts.1.left ≤ 5 * 10 ^ 9) }
-{
-    let state = blank_state(alloc, basin)?;
-    let reader = ResultReader::open(alloc, basin, roll)?;
-    Ok((state, reader))
-}
-
 /// The progress of no line, with this audit of no line if one is asked for. AllocError comes where memory is lacking.
 pub fn progress_of<'b>(
     alloc: Global,
@@ -185,18 +148,12 @@ pub fn progress_of<'b>(
     ensures bounded { IfOk result (λ progress. progress.reader.left ≤ 5 * 10 ^ 9) }
     ensures audit { IfOk result (λ progress. progress.audit ≡ audit) }
 {
-    match parts_of(alloc, basin, roll) {
-        Ok((state, reader)) => Ok(CheckProgress {
-            reader,
-            state,
-            read: 0,
-            last_other: 0,
-            ended: false,
-            audit,
-        }),
-        Err(stop) => {
-            drop(audit);
-            Err(stop)
-        }
-    }
+    Ok(CheckProgress {
+        reader: ResultReader::open(alloc, basin, roll)?,
+        state: blank_state(alloc, basin)?,
+        read: 0,
+        last_other: 0,
+        ended: false,
+        audit,
+    })
 }

@@ -1,6 +1,6 @@
 -- The ends of the arcs of a month's network, laid one after another.
 use Rattle.std.proofs.Common.{◌≡◌, ◌≢◌, ℕ, ◌+◌, ◌<◌, ◌≤◌, Bool, true, false, refl, sym, ◌∙◌, ap, subst, arith, List, [], ◌∷◌}
-use Rattle.std.proofs.Common.{◌++◌, length, inl, inr, get_or, zero, suc}
+use Rattle.std.proofs.Common.{ap₂, ◌++◌, length, inl, inr, get_or, zero, suc}
 use Rattle.std.proofs.lemmas.Bool.{cases_lt}
 use Rattle.std.proofs.lemmas.Bool.Decides.{eqb_tells}
 use Rattle.std.proofs.lemmas.Grind.{common_steps}
@@ -41,6 +41,14 @@ get_before : (xs : List Ends) (y : Ends) (k : ℕ) → k < length xs → slice_g
 get_before [] y k l = absurd (omega arith)
 get_before (x ∷ xs) y zero l = refl
 get_before (x ∷ xs) y (suc k) l = get_before xs y k (omega arith)
+
+-- the ends of an arc, by one and the other
+pub ends_are : (b : Basin) (draws : List DrawNodes) (a : ℕ) (x : Ends) → x.from ≡ (ends_at b draws a).from →
+    x.to ≡ (ends_at b draws a).to → x ≡ ends_at b draws a
+ends_are b draws a x from to = ap₂ ends from to
+  where
+    ends : ℕ → ℕ → Ends
+    ends from to = record { from = from; to = to }
 
 -- one more arc
 pub laid_more : (b : Basin) (draws : List DrawNodes) (count : ℕ) (es new : List Ends) (x : Ends) →

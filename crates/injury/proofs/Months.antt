@@ -8,11 +8,11 @@ use Rattle.water_model.specs.Lookups.{of_entry}
 use Rattle.water_model.specs.Basin.{instream_link, link_of_kind, is_senior, HasStrictPriority}
 use Rattle.duality.specs.Alike.{IsUpTo, HasSameSeniors, IsCertified}
 use Rattle.water_model.specs.Hydrology.{run_month, in_year, inflow_at, inflow_of_kind}
-use Rattle.water_model.specs.Hydrology.{delivered_in, delivered_before, returned_by, returned_at, table_at, number_of}
+use Rattle.water_model.specs.Hydrology.{delivered_in, delivered_before, returned_by, returned_at, table_at, number_in, number_of}
 use Rattle.water_model.specs.Hydrology.{cap_by_link, target_of, water_year, used_in_year, used_by_volume, used_of}
 use Rattle.water_model.specs.Hydrology.{want_by_volume, want_of}
 use Rattle.water_model.specs.History.{IsPartialHistory, Follows, opening_after}
-use Rattle.water_model.specs.Valid.{is_gauged, is_gauged_kind, is_in_series}
+use Rattle.water_model.specs.Valid.{is_gauged, is_gauged_kind, is_in_series, is_series}
 use Rattle.water_model.specs.declared.types.Basin.{Basin}
 use Rattle.water_model.specs.declared.types.Inflow.{Inflow}
 use Rattle.water_model.specs.declared.types.Inflow.TheVariants.{Monthly, Gauged}
@@ -21,6 +21,8 @@ use Rattle.water_model.specs.declared.types.MonthRecord.{MonthRecord}
 use Rattle.water_model.specs.declared.types.Node.{Node}
 use Rattle.water_model.specs.declared.types.ReturnRow.{ReturnRow}
 use Rattle.water_model.specs.declared.types.Right.{Right}
+use Rattle.water_model.specs.declared.types.Want.{Want}
+use Rattle.water_model.specs.declared.types.Want.TheVariants as wanting
 use Rattle.duality.proofs.Alike.{IsSame, of_same, same_there, juniors_change_nothing, record_is_certified}
 use Rattle.duality.proofs.Balance.{opening_after_more}
 use Rattle.water_model.proofs.Valid.{entry_at}
@@ -56,28 +58,26 @@ module _ (b : Basin) (rights : List Right) (r u : ℕ) (same : IsSame b (with_ri
     (series other : Series) (i : ℕ)
     (wants : is_in_series b r ≡ true →
     table_at series.wanted series.want i r ≡ table_at other.wanted other.want i u) where
-  number_same : of_entry b.rights r (λ y. number_of b series r i y) 0
-      ≡ of_entry rights u (λ y. number_of (with_rights b rights) other u i y) 0
+  number_same : number_in b series i r ≡ number_in (with_rights b rights) other i u
   number_same =
       of_get (slice_get b.rights r) refl
-      ∙ sym (of_same b (with_rights b rights) (λ y. number_of (with_rights b rights) other u i y) 0 r u same)
+      ∙ sym (of_same b (with_rights b rights) (λ y. number_of (with_rights b rights) other u i y.want) 0 r u same)
     where
-      by_series : (t : Bool) (z : ℕ) → (t ≡ true → is_in_series b r ≡ true) →
-          (if t then table_at series.wanted series.want i r else z)
-          ≡ (if t then table_at other.wanted other.want i u else z)
-      by_series true z h = wants (h refl)
-      by_series false z h = refl
+      by_want : (want : Want) → (is_series want ≡ true → is_in_series b r ≡ true) →
+          number_of b series r i want ≡ number_of (with_rights b rights) other u i want
+      by_want wanting.Series h = wants (h refl)
+      by_want (wanting.Monthly amounts) h = refl
 
       of_get : (o : Option Right) → slice_get b.rights r ≡ o →
-          unwrap_or (option_map (λ y. number_of b series r i y) o) 0
-          ≡ unwrap_or (option_map (λ y. number_of (with_rights b rights) other u i y) o) 0
+          unwrap_or (option_map (λ y. number_of b series r i y.want) o) 0
+          ≡ unwrap_or (option_map (λ y. number_of (with_rights b rights) other u i y.want) o) 0
       of_get None e = refl
-      of_get (Some y) e = by_series y.series (slice_index y.want (in_year b i))
-          (λ h. ap (λ o. unwrap_or (option_map (λ y. y.series) o) false) e ∙ h)
+      of_get (Some y) e = by_want y.want
+          (λ h. ap (λ o. unwrap_or (option_map (λ y. is_series y.want) o) false) e ∙ h)
 
   target_same : target_of b series r i ≡ target_of (with_rights b rights) other u i
   target_same =
-      by_link (instream_link b r) (of_entry b.rights r (λ y. number_of b series r i y) 0)
+      by_link (instream_link b r) (number_in b series i r)
       ∙ ap₂ (λ o z. cap_by_link (with_rights b rights) (run_month b i) o z)
       (sym (of_same b (with_rights b rights) (λ y. link_of_kind y.kind) None r u same)) number_same
     where

@@ -11,7 +11,7 @@ use Rattle.water_model.specs.Basin.{instream_link}
 use Rattle.water_model.specs.Plans.{IsGreatest, carry_of, delivery}
 use Rattle.water_model.specs.History.{IsPartialHistory, IsNextMonth, Follows, opening_after}
 use Rattle.water_model.specs.Hydrology.{inflow_at, returned_at, stored_at, want_by_volume, volume_of, target_of}
-use Rattle.water_model.specs.Hydrology.{cap_by_link, run_month, number_of}
+use Rattle.water_model.specs.Hydrology.{cap_by_link, run_month, number_in}
 use Rattle.water_model.specs.Lookups.{of_entry}
 use Rattle.water_model.specs.Valid.{IsValidBasin, IsSeriesOf}
 use Rattle.water_text.specs.declared.month.Month.{Month}
@@ -49,7 +49,7 @@ want_carried b series before m r e after l is =
       arith,
       after.want r l,
       by_volume (volume_of b r) (target_of b series r m.index) (slice_index m.used r),
-      by_link (of_entry b.rights r (λ x. number_of b series r m.index x) 0),
+      by_link (number_in b series m.index r),
     ))
   where
     by_volume : (o : Option ℕ) (target used : ℕ) → want_by_volume o target used ≤ target

@@ -79,13 +79,7 @@ fn opened<'b, 's, T: Kept>(
     let mut run = Run::open(alloc, basin, series)?;
     // A report reads no flow.
     run.leave_flows();
-    match T::open(alloc, basin) {
-        Ok(kept) => Ok((kept, run)),
-        Err(stop) => {
-            drop(run);
-            Err(stop)
-        }
-    }
+    Ok((T::open(alloc, basin)?, run))
 }
 
 /// What is kept of all months of a basin with a series, and the run that solved them. AllocError comes where memory is

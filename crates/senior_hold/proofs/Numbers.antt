@@ -97,6 +97,15 @@ list_is n k f xs size enough each =
     same_number_lists xs (list_of n f) (size ∙ sym (list_len n f)) (λ i l. each i (omega arith)
     ∙ sym (list_get n f i (omega arith)))
 
+-- one number more is written
+pub one_more_is : (xs : List ℕ) (n x : ℕ) (f : ℕ → ℕ) → n < length xs → x ≡ f n →
+    ((r : ℕ) → r < n → slice_index xs r ≡ f r) → (r : ℕ) → r < n + 1 → slice_index (slice_set xs n x) r ≡ f r
+one_more_is xs n x f inside is each r below = elim (cases_lt r n) [
+  | inl before ↦ get_or-set_other xs n r x 0 (omega (arith, before)) ∙ each r before
+  | inr from ↦ (let same : r ≡ n = omega arith in
+      ap (λ k. slice_index (slice_set xs n x) k) same ∙ get_or-set_same xs n x 0 inside ∙ is ∙ sym (ap f same))
+]
+
 pub counted_more : (b : Basin) (r count more : ℕ) → more ≡ count + 1 → count ≡ count_where r (λ r. takes b r) →
     takes b r ≡ true → more ≡ count_where (r + 1) (λ r. takes b r)
 counted_more b r count more is now h = let t : (if takes b r then 1 else 0) ≡ 0 + 1 = ap (λ t. if t then 1 else 0) h in

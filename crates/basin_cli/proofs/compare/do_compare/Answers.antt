@@ -1,5 +1,4 @@
-use Rattle.std.proofs.Common.{arith, refl, rules, Some}
-use Rattle.std.proofs.lemmas.Grind.{common_steps}
+use Rattle.std.proofs.Common.{refl, rules}
 use Rattle.basin_cli.specs.Command.{compare, named}
 use Rattle.basin_cli.specs.Failed.{files_to}
 use Rattle.basin_cli.proofs.Failing.{stops_at_none}

@@ -4,22 +4,22 @@ use Rattle.injury.specs.Common.{HaveDeliveries}
 use Rattle.injury.specs.declared.pair.Pair.{Pair}
 use Rattle.injury.proofs.Growing.{common_deliver}
 use Rattle.basin_cli.proofs.Compared.{compared_more, done_more, bounded_injuries}
-use Rattle.basin_cli.proofs.Written.{last_fits}
+use Rattle.basin_cli.proofs.Monthly.{last_month}
 use Rattle.basin_cli.proofs.comparing.compare_month.Goals as goal
 
 pub draft_injuries-requires-clause-month : goal.draft_injuries-requires-clause-month
 draft_injuries-requires-clause-month g c =
     let all = c.requires.compared in
     (subst (FitsText c.args.basin.now) (sym c.month.ensures)
-    (last_fits _ c.step.new.self all.records _ (c.step.ensures.basin ∙ all.first_basin)
-    (c.step.ensures.month all.records all.first_stands))).month
+    (last_month _ c.step.new.self all.records _ (c.step.ensures.basin ∙ all.first_basin)
+    (c.step.ensures.month all.records all.first_stands)).fits).month
 
 pub draft_injuries-requires-clause-fits : goal.draft_injuries-requires-clause-fits
 draft_injuries-requires-clause-fits g c =
     let all = c.requires.compared in
     (subst (FitsText c.args.basin.now) (sym c.month.ensures)
-    (last_fits _ c.step.new.self all.records _ (c.step.ensures.basin ∙ all.first_basin)
-    (c.step.ensures.month all.records all.first_stands))).fits.delivered
+    (last_month _ c.step.new.self all.records _ (c.step.ensures.basin ∙ all.first_basin)
+    (c.step.ensures.month all.records all.first_stands)).fits).fits.delivered
 
 pub draft_injuries-requires-clause-records : goal.draft_injuries-requires-clause-records
 draft_injuries-requires-clause-records g c =
@@ -27,11 +27,11 @@ draft_injuries-requires-clause-records g c =
     subst (λ (pairs : List Pair). HaveDeliveries pairs c.month.result.now c.month-2.result.now) (sym c.requires.pairing)
     (common_deliver c.args.basin.now c.args.other.now c.month.result.now c.month-2.result.now
     ((subst (FitsText c.args.basin.now) (sym c.month.ensures)
-    (last_fits _ c.step.new.self all.records _ (c.step.ensures.basin ∙ all.first_basin)
-    (c.step.ensures.month all.records all.first_stands))).fits)
+    (last_month _ c.step.new.self all.records _ (c.step.ensures.basin ∙ all.first_basin)
+    (c.step.ensures.month all.records all.first_stands)).fits).fits)
     ((subst (FitsText c.args.other.now) (sym c.month-2.ensures)
-    (last_fits _ c.step-2.new.self all.others _ (c.step-2.ensures.basin ∙ all.second_basin)
-    (c.step-2.ensures.month all.others all.second_stands))).fits))
+    (last_month _ c.step-2.new.self all.others _ (c.step-2.ensures.basin ∙ all.second_basin)
+    (c.step-2.ensures.month all.others all.second_stands)).fits).fits))
 
 pub overflow_add-result : goal.overflow_add-result
 overflow_add-result g c =

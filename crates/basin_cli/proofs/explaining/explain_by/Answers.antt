@@ -1,22 +1,21 @@
 use Rattle.std.proofs.Common.{◌≡◌, ◌∙◌}
-use Rattle.basin_cli.proofs.Explained.{last_record, record_fits, record_plan, record_reaches}
+use Rattle.basin_cli.proofs.Explained.{last_record}
+use Rattle.basin_cli.proofs.Monthly.{last_month}
 use Rattle.basin_cli.proofs.explaining.explain_by.Goals as goal
 
 pub answer-ending-requires : goal.answer-ending-requires
 answer-ending-requires g c =
     let solved = c.solve_up_to.ensures in
     let same : c.solve_up_to.new.run.basin ≡ c.args.basin.now = solved.basin ∙ c.in-Ok.ensures.basin in
-    let is = last_record _ _ c.solve_up_to.new.run c.args.index same (solved.series ∙ c.in-Ok.ensures.series)
-    solved.done
-    solved.last in
+    let can = last_month _ c.solve_up_to.new.run _ _ same solved.last.stands in
     rw (c.basin.ensures.value, same, c.month.ensures)
     (record {
       finds = c.requires.finder;
       valid = c.requires.basin;
       ranks = rw same at c.roll.ensures;
-      fits = record_fits _ _ _ _ c.requires.basin is;
-      plan = record_plan _ _ _ _ c.requires.basin c.requires.series is;
-      reaches = record_reaches _ _ _ _ is;
+      fits = can.fits;
+      plan = can.plan;
+      reaches = can.reaches;
       within = c.requires.right;
     })
 

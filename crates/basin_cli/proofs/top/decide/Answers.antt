@@ -1,5 +1,4 @@
-use Rattle.std.proofs.Common.{[], arith, rules}
-use Rattle.std.proofs.lemmas.Grind.{common_steps}
+use Rattle.std.proofs.Common.{[], rules}
 use Rattle.basin_cli.proofs.Failing.{solving_stops}
 use Rattle.basin_cli.proofs.top.decide.Goals as goal
 

@@ -1,4 +1,4 @@
-use Rattle.std.proofs.Common.{arith, rules, refl, subst, inl, ◌≡◌, ℕ, List, Option, Some}
+use Rattle.std.proofs.Common.{arith, rules, refl, subst, inl, ◌≡◌, ℕ, List, Option}
 use Rattle.std.proofs.lemmas.Grind.{common_steps}
 use Rattle.std.specs.Prelude.{IfSome}
 use Rattle.basin_cli.specs.Command.{edit, named}

@@ -1,5 +1,4 @@
-use Rattle.std.proofs.Common.{arith, refl, rules}
-use Rattle.std.proofs.lemmas.Grind.{common_steps}
+use Rattle.std.proofs.Common.{refl, rules}
 use Rattle.std.specs.Prelude.{string_bytes}
 use Rattle.basin_cli.specs.Command.{upgrade}
 use Rattle.basin_cli.specs.Failed.{files_to}

@@ -1,5 +1,5 @@
 use Rattle.std.proofs.Common.{◌≡◌, ◌≤◌}
-use Rattle.basin_cli.specs.Written.{IsWritten}
+use Rattle.basin_cli.specs.Monthly.{IsBegunText}
 use Rattle.basin_cli.proofs.writing.write_months.Given as goal
 use Rattle.month_fold.specs.Works.{Solves}
 
@@ -7,7 +7,8 @@ abbrev pub invariant-loop-month : goal.invariant-loop-month
 invariant-loop-month g l = record {
   series : l.run.series ≡ l.fn.run.series;
   done : l.run.done ≡ l._month;
-  written : IsWritten l.fn.run.basin l.run g.start (g.K.Sink.output l.out);
+  writer : g.W.MonthlyWriter.is_for l.fn.run.basin l.writer;
+  begun : IsBegunText g.W.MonthlyWriter.text l.fn.run.basin l.run g.start (g.K.Sink.output l.out);
   later : g.K.Sink.faults l.fn.out ≤ g.K.Sink.faults l.out;
   work : Solves l._month l.fn.run.basin l.fn.work l.work;
 }

@@ -1,4 +1,5 @@
-use Rattle.std.proofs.Common.{sym, refl, subst}
+use Rattle.std.proofs.Common.{◌∙◌, ap, length, sym, refl, subst}
+use Rattle.std.proofs.lemmas.List.{length-replicate}
 use Rattle.result_reader.specs.ReadSoFar.{nothing_read}
 use Rattle.cert_check.specs.Keeping.{Keeps}
 use Rattle.cert_check.specs.declared.state.CheckState.{CheckState}
@@ -9,7 +10,7 @@ pub returns : goal.returns
 returns c = λ series. subst (λ (a : CheckState). Keeps c.args.basin.now series a (nothing_read c.args.basin.now))
     (sym c.in_ok-new.ensures.ok) (record {
       left = c.in_ok-lags.ensures;
-      month = rw (c.into_inner.ensures, c.in_ok-month.ensures.blank) (blank_is c.requires.run.first refl);
+      month = rw (c.into_inner.ensures, c.in_ok-blank_month.ensures.blank) (blank_is c.requires.run.first refl);
       calling = nobody c.args.basin.now _;
       supply = λ e. clash e;
       closes = λ e. clash e;
@@ -17,8 +18,8 @@ returns c = λ series. subst (λ (a : CheckState). Keeps c.args.basin.now series
       passed = none_settled c.args.basin.now _;
       answered = none_answered c.args.basin.now _ refl;
       room = record {
-        closes = c.in_ok-sums.ensures.0;
-        into = c.in_ok-sums.ensures.1;
-        out_of = c.in_ok-sums.ensures.2;
+        closes = ap length c.in_ok-zeros.ensures ∙ (length-replicate c.len.result 0 ∙ c.len.ensures);
+        into = ap length c.in_ok-zeros-2.ensures ∙ (length-replicate c.len-2.result 0 ∙ c.len-2.ensures);
+        out_of = ap length c.in_ok-zeros-3.ensures ∙ (length-replicate c.len-3.result 0 ∙ c.len-3.ensures);
       };
     })
