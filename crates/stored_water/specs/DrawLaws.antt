@@ -17,7 +17,7 @@ use Rattle.water_model.specs.declared.types.Draw.{Draw}
 use Rattle.water_model.specs.declared.types.Plan.{Plan}
 use Rattle.duality.specs.Laws.{AreDeliveries}
 use Rattle.duality.specs.Parts.{times}
-use Rattle.stored_water.specs.AccountLaws.{AreOfZones, IsDrawnWithin}
+use Rattle.stored_water.specs.AccountLaws.{AreOfZones, AreSameLedgers, IsDrawnWithin}
 
 -- A stop lets no course draw more.
 abbrev pub StopsLetNoMoreBeDrawn : Type 0
@@ -167,6 +167,16 @@ DrawsHaveOneOutcome =
     (l : Ledger) (amounts others : List ℕ) → AreSited b →
     AreDrawn b month held supply asked number delivered l amounts →
     AreDrawn b month held supply asked number delivered l others → amounts ≡ others
+
+-- So are they and the ledger together, by what accounts open with and the first step delivers.
+abbrev pub MonthsHaveOneOutcome : Type 0
+MonthsHaveOneOutcome =
+    (b : Basin) (month : Month) (held : ℕ → ℕ) (supply opening evaporated : List ℕ) (asked number : ℕ → ℕ)
+    (delivered amounts others : List ℕ) (l m : Ledger) → AreSited b →
+    IsLedger b opening evaporated number delivered amounts l →
+    IsLedger b opening evaporated number delivered others m → l.opening ≡ m.opening →
+    AreDrawn b month held supply asked number delivered l amounts →
+    AreDrawn b month held supply asked number delivered m others → (amounts ≡ others) × AreSameLedgers l m
 
 -- the whole supply of a month is that of the first step with what the accounts at each node carry
 abbrev pub AddsCarried : Basin → Ledger → List ℕ → List ℕ → Type 0

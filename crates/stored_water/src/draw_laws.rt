@@ -6,7 +6,7 @@ ghost use Rattle.stored_water.specs.DrawLaws.{DrawsStayWithinCarried, DrawsStayW
 ghost use Rattle.stored_water.specs.DrawLaws.{GreatestDrawIsOne, GreatestStopIsOne, MonthsWithDrawsAreBalanced};
 ghost use Rattle.stored_water.specs.DrawLaws.{NoFractionMoreIsDrawn, ShownDrawsAreDrawn, StopsLetNoMoreBeDrawn};
 ghost use Rattle.stored_water.specs.DrawLaws.{StopsMakeDrawsGreatest, StopsUnite, ValidBasinsAreSited};
-ghost use Rattle.stored_water.specs.DrawLaws.{WholeDrawsAreGreatest};
+ghost use Rattle.stored_water.specs.DrawLaws.{MonthsHaveOneOutcome, WholeDrawsAreGreatest};
 
 /// A stop lets no course draw more.
 pub fn stops_let_no_more_be_drawn()
@@ -86,6 +86,11 @@ pub fn shown_draws_are_drawn()
 /// The amounts of a month's draws are determined.
 pub fn draws_have_one_outcome()
     ensures { DrawsHaveOneOutcome }
+{}
+
+/// So are they and the ledger together.
+pub fn months_have_one_outcome()
+    ensures { MonthsHaveOneOutcome }
 {}
 
 /// The first step's plan is a course before any draw.
