@@ -13,4 +13,6 @@ pub mod Sited
 pub mod Plain
 pub mod Balanced
 pub mod United
+pub mod TightCuts
+pub mod Reaches
 mod Examples

@@ -24,7 +24,7 @@ pub record IsTightAround (b : Basin) (carry held : ℕ → ℕ) (flow out : List
 module _ (b : Basin) (carry held : ℕ → ℕ) (supply taken flow out : List ℕ)
     (course : IsCourseWithin b carry held supply taken flow out)
   where
-    stop_is_tight : (from to : ℕ) (set : List Bool) → IsStopWithin b carry held supply taken from to set →
+    pub stop_is_tight : (from to : ℕ) (set : List Bool) → IsStopWithin b carry held supply taken from to set →
         IsTightAround b carry held flow out set
     stop_is_tight from to set stop = record {
       entering = terms_equal_where (length b.links) (λ e. enters b set e) (slice_index flow) carry
@@ -58,7 +58,7 @@ module _ (b : Basin) (carry held : ℕ → ℕ) (supply taken flow out : List �
             let h = holds in
             (omega arith, omega arith, omega arith)
 
-    tight_is_stop : (from to : ℕ) (set : List Bool) → length set ≡ length b.nodes → has set to ≡ true →
+    pub tight_is_stop : (from to : ℕ) (set : List Bool) → length set ≡ length b.nodes → has set to ≡ true →
         has set from ≡ false → IsTightAround b carry held flow out set →
         IsStopWithin b carry held supply taken from to set
     tight_is_stop from to set len drawing storing tight = record {
@@ -75,7 +75,7 @@ module _ (b : Basin) (carry held : ℕ → ℕ) (supply taken flow out : List �
     }
 
 -- a link that crosses the edge of both sets crosses that of one of them
-crosses_one : (h i t u : Bool) → ((h || i) && not (t || u)) ≡ true → ((h && not t) ≡ true) ⊎ ((i && not u) ≡ true)
+pub crosses_one : (h i t u : Bool) → ((h || i) && not (t || u)) ≡ true → ((h && not t) ≡ true) ⊎ ((i && not u) ≡ true)
 crosses_one true i false false e = inl refl
 crosses_one true i true u e = cc
 crosses_one true i false true e = cc

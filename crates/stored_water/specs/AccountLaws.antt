@@ -120,8 +120,8 @@ pub record AreSameLedgers (l m : Ledger) : Type 0 where
   pub drawn : l.drawn ≡ m.drawn
   pub closing : l.closing ≡ m.closing
 
--- What accounts carry is determined by what opens and evaporates. It doesn't hang on the first step, which deals out the
--- rest, nor on draws.
+-- What accounts carry is determined by what opens and evaporates. It doesn't hang on the first step, which deals out
+-- the rest, nor on draws.
 abbrev pub CarriedIsOne : Type 0
 CarriedIsOne =
     (b : Basin) (opening evaporated : List ℕ) (number : ℕ → ℕ) (delivered amounts others draws : List ℕ)

@@ -7,6 +7,7 @@ use Rattle.water_model.specs.Accounts.{Ledger, IsLedger, stock_of, closing_with,
 use Rattle.water_model.specs.Basin.{taking_node, takes_at, instream_link, is_at, is_zone_of}
 use Rattle.water_model.specs.Courses.{IsCourse, HasCourse, IsGreatestDraw, IsGreatestWithin, IsStop, IsGreatestStop}
 use Rattle.water_model.specs.Courses.{IsCapOrStop, after_draw, held_on}
+use Rattle.water_model.specs.Cuts.{IsTight}
 use Rattle.water_model.specs.Draws.{AreTaken, AreDrawn, AreShownBy, AreSited, IsSited, cap_of, taken_with, got_by}
 use Rattle.water_model.specs.Lookups.{has}
 use Rattle.water_model.specs.Plans.{IsPlan, delivery, carry_of, inflow_to, outflow_from}
@@ -273,3 +274,18 @@ MonthsWithDrawsAreBalanced =
     ≡ total_where (length b.rights) (λ r. is_diversion b r) (λ r. got_by b delivered amounts r)
     + total (length b.reservoirs) (λ v. closing_with b delivered l.closing v)
     + total (length b.nodes) (λ n. slice_index out n)
+
+-- Draws come from within reaches. Where each diversion that draws in the month has a tight cut in the first step, as it
+-- has where it is short there, and each draw is taken at its diversion's node, each draw above 0 is from a reservoir
+-- within the cut of a diversion that drew by then. So no water from outside these cuts is needed for draws.
+abbrev pub DrawsComeFromCuts : Type 0
+DrawsComeFromCuts =
+    (b : Basin) (month : Month) (l : Ledger) (natural supply want delivered amounts : List ℕ) (p : Plan)
+    (asked number : ℕ → ℕ) (cut : ℕ → List Bool) → AreSited b → AreAtDiversions b →
+    IsPlan b month natural want p → AreDeliveries b want p delivered → AddsCarried b l natural supply →
+    AddUpFills b delivered l → AreDrawn b month (held_on b delivered) supply asked number delivered l amounts →
+    ((j : ℕ) (d : Draw) → slice_get b.draws j ≡ Some d → 0 < slice_index amounts j →
+    IsTight b month natural delivered d.diversion (cut d.diversion)) →
+    (j from : ℕ) → j < length b.draws → 0 < slice_index amounts j → drawn_node b j ≡ Some from →
+    (i : ℕ) × (d : Draw) × (slice_get b.draws i ≡ Some d) × (i ≤ j) × (0 < slice_index amounts i)
+    × (has (cut d.diversion) from ≡ true)

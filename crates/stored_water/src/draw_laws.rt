@@ -6,7 +6,7 @@ ghost use Rattle.stored_water.specs.DrawLaws.{DrawsStayWithinCarried, DrawsStayW
 ghost use Rattle.stored_water.specs.DrawLaws.{GreatestDrawIsOne, GreatestStopIsOne, MonthsWithDrawsAreBalanced};
 ghost use Rattle.stored_water.specs.DrawLaws.{NoFractionMoreIsDrawn, ShownDrawsAreDrawn, StopsLetNoMoreBeDrawn};
 ghost use Rattle.stored_water.specs.DrawLaws.{StopsMakeDrawsGreatest, StopsUnite, ValidBasinsAreSited};
-ghost use Rattle.stored_water.specs.DrawLaws.{MonthsHaveOneOutcome, WholeDrawsAreGreatest};
+ghost use Rattle.stored_water.specs.DrawLaws.{DrawsComeFromCuts, MonthsHaveOneOutcome, WholeDrawsAreGreatest};
 
 /// A stop lets no course draw more.
 pub fn stops_let_no_more_be_drawn()
@@ -116,6 +116,11 @@ pub fn valid_basins_are_sited()
 /// No water is made or lost in a month with draws.
 pub fn months_with_draws_are_balanced()
     ensures { MonthsWithDrawsAreBalanced }
+{}
+
+/// Draws come from within the cuts of those who draw.
+pub fn draws_come_from_cuts()
+    ensures { DrawsComeFromCuts }
 {}
 
 /// A reservoir closes with what its zones take after all draws.
