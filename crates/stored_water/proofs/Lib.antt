@@ -15,4 +15,5 @@ pub mod Balanced
 pub mod United
 pub mod TightCuts
 pub mod Reaches
+pub mod Steps
 mod Examples
