@@ -32,7 +32,8 @@ plans_fill_within_want b series month i number natural want used delivered l p z
         zone_in_basin b zone at.0 (sym (ap (reservoir_of_right b) found.3) ∙ at.1)
 
 pub supplies_add_carried : SuppliesAddCarried
-supplies_add_carried b opening evaporated number delivered amounts natural supply l is zones within held whole rest n m =
+supplies_add_carried b opening evaporated number delivered amounts natural supply l is zones within held whole rest n
+    m =
     omega (
       arith,
       carried_is_stored b opening evaporated number delivered amounts l n is zones within held,

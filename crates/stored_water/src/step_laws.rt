@@ -1,5 +1,5 @@
-//! Laws that lead from a month's plan and draws to what the other laws ask. Each is the contract of a function that does
-//! nothing.
+//! Laws that lead from a month's plan and draws to what the other laws ask. Each is the contract of a function that
+//! does nothing.
 ghost use Rattle.stored_water.specs.StepLaws.{DrawnAreCapped, PlansFillWithinWant, SuppliesAddCarried};
 
 /// A plan fills no zone beyond its want.
