@@ -1,12 +1,16 @@
 -- Courses, stops and draws of the network as those of a basin's draws.
 use Rattle.std.proofs.Common.{◌≡◌, ℕ, ◌+◌, ◌-◌, ◌<◌, ◌≤◌, Bool, true, false, refl, sym, ◌∙◌, ap, arith, List, length}
-use Rattle.std.proofs.Common.{subst}
+use Rattle.std.proofs.Common.{subst, inl, inr}
 use Rattle.std.proofs.lemmas.Bool.{eq-eqb}
 use Rattle.std.proofs.lemmas.List.{get_or-set_other, get_or-set_same}
 use Rattle.std.specs.Prelude.{◌==◌, if◌then◌else◌, slice_index, slice_set, Some, None, unwrap_or, option_map}
 use Rattle.finite_sums.specs.Sums.{total, total_where}
 use Rattle.finite_sums.proofs.Terms.{same_where}
 use Rattle.finite_sums.proofs.Totals.{term_le_total_where, total_append, total_change, total_same, total_zero}
+use Rattle.draw_course.specs.Stops.{IsFullOrStopped}
+use Rattle.water_model.proofs.SetEntries.{set_of_with}
+use Rattle.water_model.specs.CutSets.{CutSets, set_of}
+use Rattle.draw_course.specs.Alike.{AnswersShowDraws}
 use Rattle.draw_course.specs.Alike.{CoursesAreAlike, DrawsAreAlike, GreatestAreDrawn, IsTakenAfter}
 use Rattle.draw_course.specs.Alike.{MonthsAreAlike, StopsAreAlike, TakenAreAlike}
 use Rattle.draw_course.specs.Courses.{HasCourse, IsCourse, drawn_at, left_at}
@@ -185,6 +189,35 @@ draws_are_alike m taken k cap amount t turn = (
 
     alike : (x : ℕ) → x ≤ cap → IsTakenAfter (with_draw m k x) (after x)
     alike x fits = taken_are_alike m taken k cap x t turn fits
+
+pub answers_show_draws : AnswersShowDraws
+answers_show_draws m taken k cap amount flow out before after t turn within can outcome links nodes course = record {
+  within = within;
+  course = (courses_are_alike (with_draw m k amount) drawn flow out alike links nodes).0 course;
+  full = λ is_cap. full outcome is_cap;
+  stopped = λ below. stopped outcome below;
+}
+  where
+    drawn : List ℕ
+    drawn = courses.after_draw taken (reservoir_of m.draws k) (diversion_of m.draws k) amount
+
+    alike : IsTakenAfter (with_draw m k amount) drawn
+    alike = taken_are_alike m taken k cap amount t turn within
+
+    full : IsFullOrStopped (with_draw m k amount) k cap amount before after → amount ≡ cap → set_of after k ≡ None
+    full (inl met) is_cap = ap (λ (s : CutSets). set_of s k) met.1 ∙ can.free
+    full (inr short) is_cap = absurd (omega (arith, short.0))
+
+    stopped : IsFullOrStopped (with_draw m k amount) k cap amount before after → amount < cap →
+        (stop : List Bool) × (set_of after k ≡ Some stop)
+        × courses.IsStop m.basin m.month (slice_index m.held) m.supply drawn (reservoir_of m.draws k)
+        (diversion_of m.draws k) stop
+    stopped (inl met) below = absurd (omega (arith, met.0))
+    stopped (inr short) below = (
+      short.1.0,
+      ap (λ (s : CutSets). set_of s k) short.1.1.0 ∙ set_of_with before k (Some short.1.0) can.draw,
+      (stops_are_alike (with_draw m k amount) drawn k short.1.0 alike).0 short.1.1.1,
+    )
 
 -- ---- the basin's own draws
 

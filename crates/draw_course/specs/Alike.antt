@@ -3,10 +3,11 @@
 use Rattle.std.specs.Prelude.{◌≡◌, ◌↔◌, ℕ, ◌+◌, ◌-◌, ◌<◌, ◌≤◌, Bool, List, length, slice_index, Some}
 use Rattle.draw_course.specs.Courses.{IsCourse, IsGreatestDraw, drawn_at, left_at}
 use Rattle.draw_course.specs.Draws.{MonthDraws, diversion_of, reservoir_of, with_draw}
-use Rattle.draw_course.specs.Stops.{IsStop}
+use Rattle.draw_course.specs.Stops.{CanHaveStop, IsFullOrStopped, IsStop}
 use Rattle.draw_course.specs.declared.draws.DrawNodes.{DrawNodes}
 use Rattle.water_model.specs.Accounts.{Ledger, drawn_from, stock_of}
 use Rattle.water_model.specs.Courses as courses
+use Rattle.water_model.specs.CutSets.{CutSets, set_of}
 use Rattle.water_model.specs.Draws.{AreDrawn, AreSited, AreTaken, IsSited, cap_of}
 use Rattle.water_model.specs.Stores.{drawing_node, drawn_node}
 use Rattle.water_model.specs.declared.types.Basin.{Basin}
@@ -59,6 +60,17 @@ DrawsAreAlike =
     IsGreatestDraw m k cap amount
     ↔ courses.IsGreatestDraw m.basin m.month (slice_index m.held) m.supply taken (reservoir_of m.draws k)
     (diversion_of m.draws k) cap amount
+
+-- What the network answers shows the draw: a course that is written after it, and its set.
+abbrev pub AnswersShowDraws : Type 0
+AnswersShowDraws =
+    (m : MonthDraws) (taken : List ℕ) (k cap amount : ℕ) (flow out : List ℕ) (before after : CutSets) →
+    IsTakenAfter m taken → IsTurnOf m taken k cap → amount ≤ cap →
+    CanHaveStop (length m.basin.nodes) before k → IsFullOrStopped (with_draw m k amount) k cap amount before after →
+    length flow ≡ length m.basin.links → length out ≡ length m.basin.nodes →
+    IsCourse (with_draw m k amount) (slice_index flow) (slice_index out) →
+    courses.IsShownBy m.basin m.month (slice_index m.held) m.supply taken (reservoir_of m.draws k)
+    (diversion_of m.draws k) cap amount flow out (set_of after k)
 
 -- a month of the basin's own draws, of which the first `count` have these amounts, and no other has been drawn
 pub record IsMonthOf (delivered : List ℕ) (l : Ledger) (count : ℕ) (amounts : List ℕ) (m : MonthDraws) : Type 0 where

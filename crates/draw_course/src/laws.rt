@@ -1,6 +1,6 @@
 //! Laws over the definitions. Each is the contract of a function that does nothing.
 ghost use Rattle.draw_course.specs.Alike.{CoursesAreAlike, StopsAreAlike, TakenAreAlike, DrawsAreAlike};
-ghost use Rattle.draw_course.specs.Alike.{MonthsAreAlike, GreatestAreDrawn};
+ghost use Rattle.draw_course.specs.Alike.{AnswersShowDraws, MonthsAreAlike, GreatestAreDrawn};
 ghost use Rattle.draw_course.specs.Laws.{PlansBegin};
 
 /// A plan of the water that is nobody's is a course before any draw.
@@ -26,6 +26,11 @@ pub fn taken_are_alike()
 /// A draw that is the greatest in the network is the greatest of the basin's.
 pub fn draws_are_alike()
     ensures { DrawsAreAlike }
+{}
+
+/// What the network answers shows the draw.
+pub fn answers_show_draws()
+    ensures { AnswersShowDraws }
 {}
 
 /// What is taken with the first draws is the same.

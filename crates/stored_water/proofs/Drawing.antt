@@ -1,7 +1,7 @@
 -- The draws of a month, one after another.
 use Rattle.std.proofs.Common.{◌≡◌, ℕ, zero, suc, ◌+◌, ◌-◌, ◌<◌, ◌≤◌, Bool, true, false, refl, sym, ◌∙◌, ap, ap₂, arith}
 use Rattle.std.proofs.Common.{List, [], ◌∷◌, length, inl, inr, subst, min}
-use Rattle.std.proofs.lemmas.Bool.{cases_eq, eq-eqb, ne_eqb}
+use Rattle.std.proofs.lemmas.Bool.{cases_eq, cases_lt, eq-eqb, ne_eqb}
 use Rattle.std.proofs.lemmas.Bool.Decides.{nat_tests}
 use Rattle.std.proofs.lemmas.Grind.{same_number_lists}
 use Rattle.std.specs.Prelude.{◌==◌, ◌≢◌, ◌&&◌, not, if◌then◌else◌, slice_index, slice_get, Option, Some, None}
@@ -18,7 +18,7 @@ use Rattle.water_model.specs.Courses.{IsGreatestDraw}
 use Rattle.water_model.specs.Draws.{IsSited, cap_of, taken_with}
 use Rattle.stored_water.specs.DrawLaws.{DrawsMoveWater, DrawsStayWithinCarried, DrawsStayWithinNumber}
 use Rattle.stored_water.specs.DrawLaws.{DrawsHaveOneOutcome, DrawsLeaveFills, AreCapped, DrawsAddUp}
-use Rattle.stored_water.specs.DrawLaws.{CoursesAndStopsShowDraws}
+use Rattle.stored_water.specs.DrawLaws.{CoursesAndStopsShowDraws, ShownDrawsAreDrawn}
 use Rattle.stored_water.proofs.CourseBalance.{after_draw_at, length_after}
 use Rattle.stored_water.proofs.Stopping.{greatest_draw_is_one, stops_make_draws_greatest}
 
@@ -256,6 +256,19 @@ courses_and_stops_show_draws b month held supply asked number delivered l amount
       stops_make_draws_greatest b month held supply taken shows.0.flow shows.0.out from to
       (cap_of b asked number delivered l amounts j) (slice_index amounts j) (are.within j h) shows.0.is_course
       shows.1;
+}
+
+pub shown_draws_are_drawn : ShownDrawsAreDrawn
+shown_draws_are_drawn b month held supply asked number delivered l amounts flow out set are = record {
+  one_each = are.one_each;
+  each = λ j h from to is_from is_to taken takes.
+      let shows = are.each j h from to is_from is_to taken takes in
+      stops_make_draws_greatest b month held supply taken (flow j) (out j) from to
+      (cap_of b asked number delivered l amounts j) (slice_index amounts j) shows.within shows.course
+      (elim (cases_lt (slice_index amounts j) (cap_of b asked number delivered l amounts j)) [
+        | inl below ↦ (let stop = shows.stopped below in inr (stop.0, stop.2))
+        | inr above ↦ (let w = shows.within in inl (omega arith))
+      ]);
 }
 
 -- ---- one outcome

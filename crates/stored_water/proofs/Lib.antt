@@ -12,4 +12,8 @@ pub mod Stores
 pub mod Sited
 pub mod Plain
 pub mod Balanced
+pub mod United
+pub mod TightCuts
+pub mod Reaches
+pub mod Steps
 mod Examples

@@ -1,7 +1,7 @@
 -- Sums over the rights at a node, of what stands by account or by draw.
 use Rattle.std.proofs.Common.{◌≡◌, ℕ, zero, suc, ◌<◌, Bool, true, false, refl, sym, ap, ◌∙◌, arith, List, [], ◌∷◌}
 use Rattle.std.proofs.Common.{length, inl, inr}
-use Rattle.std.proofs.lemmas.Bool.{and_parts, cases_Bool, eqb-true, or_cases}
+use Rattle.std.proofs.lemmas.Bool.{and_parts, cases_Bool, eq-eqb, eqb-true, or_cases}
 use Rattle.std.proofs.lemmas.Bool.Decides.{nat_tests}
 use Rattle.std.proofs.lemmas.Option.{slice_get_within}
 use Rattle.std.specs.List.{list_any}
@@ -171,8 +171,13 @@ node_via b r v = of_get (slice_get b.rights r)
 reservoir_below : (b : Basin) (v n : ℕ) → is_at (node_of_reservoir b v) n ≡ true → v < length b.reservoirs
 reservoir_below b v n h = entry_below b.reservoirs v (λ x. Some x.node) None (λ o. is_at o n) refl h
 
+-- a right in a reservoir is one of the basin's
+pub zone_in_basin : (b : Basin) (r v : ℕ) → reservoir_of_right b r ≡ Some v → r < length b.rights
+zone_in_basin b r v h =
+    zone_below b r v (zone_test b r v ∙ (ap (λ o. is_at o v) h ∙ eq-eqb v v refl))
+
 -- an owned zone has an account
-owner_in : (accounts : List Account) (r : ℕ) → list_any (λ a. a.zone == r) accounts ≡ true →
+pub owner_in : (accounts : List Account) (r : ℕ) → list_any (λ a. a.zone == r) accounts ≡ true →
     (k : ℕ) × (a : Account) × (slice_get accounts k ≡ Some a) × (a.zone ≡ r)
 owner_in [] r h = cc
 owner_in (a ∷ accounts) r h = elim (or_cases (a.zone == r) (list_any (λ x. x.zone == r) accounts) h) [

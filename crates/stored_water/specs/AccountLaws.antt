@@ -120,6 +120,16 @@ pub record AreSameLedgers (l m : Ledger) : Type 0 where
   pub drawn : l.drawn ≡ m.drawn
   pub closing : l.closing ≡ m.closing
 
+-- What accounts carry is determined by what opens and evaporates. It doesn't hang on the first step, which deals out
+-- the rest, nor on draws.
+abbrev pub CarriedIsOne : Type 0
+CarriedIsOne =
+    (b : Basin) (opening evaporated : List ℕ) (number : ℕ → ℕ) (delivered amounts others draws : List ℕ)
+    (l m : Ledger) →
+    IsLedger b opening evaporated number delivered amounts l →
+    IsLedger b opening evaporated number others draws m → l.opening ≡ m.opening →
+    (l.lost ≡ m.lost) × (l.spilled ≡ m.spilled) × (l.carried ≡ m.carried)
+
 -- One ledger. What accounts open with, reservoirs open with and lose, rights are delivered and draws amount to
 -- determines a month's ledger.
 abbrev pub LedgerIsOne : Type 0

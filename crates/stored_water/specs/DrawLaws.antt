@@ -1,13 +1,15 @@
 -- Laws over draws.
-use Rattle.std.specs.Prelude.{◌≡◌, ℕ, suc, ◌+◌, ◌-◌, ◌*◌, ◌<◌, ◌≤◌, true, false, not, ◌&&◌, Bool, List, length}
-use Rattle.std.specs.Prelude.{slice_index, slice_get, Some, None}
+use Rattle.std.specs.Prelude.{◌≡◌, ℕ, suc, ◌+◌, ◌-◌, ◌*◌, ◌<◌, ◌≤◌, true, false, not, ◌&&◌, ◌||◌, Bool, List}
+use Rattle.std.specs.Prelude.{length, slice_index, slice_get, Option, Some, None}
 use Rattle.finite_sums.specs.Sums.{total, total_where}
 use Rattle.water_text.specs.declared.month.Month.{Month}
 use Rattle.water_model.specs.Accounts.{Ledger, IsLedger, stock_of, closing_with, drawn_from}
 use Rattle.water_model.specs.Basin.{taking_node, takes_at, instream_link, is_at, is_zone_of}
 use Rattle.water_model.specs.Courses.{IsCourse, HasCourse, IsGreatestDraw, IsGreatestWithin, IsStop, IsGreatestStop}
 use Rattle.water_model.specs.Courses.{IsCapOrStop, after_draw, held_on}
-use Rattle.water_model.specs.Draws.{AreTaken, AreDrawn, AreSited, IsSited, cap_of, taken_with, got_by}
+use Rattle.water_model.specs.Cuts.{IsTight}
+use Rattle.water_model.specs.Draws.{AreTaken, AreDrawn, AreShownBy, AreSited, IsSited, cap_of, taken_with, got_by}
+use Rattle.water_model.specs.Lookups.{has}
 use Rattle.water_model.specs.Plans.{IsPlan, delivery, carry_of, inflow_to, outflow_from}
 use Rattle.water_model.specs.Stores.{is_owned, sum_in_zone, sum_at_node, drawn_node, drawing_node}
 use Rattle.water_model.specs.Valid.{IsValidBasin, is_diversion}
@@ -16,7 +18,7 @@ use Rattle.water_model.specs.declared.types.Draw.{Draw}
 use Rattle.water_model.specs.declared.types.Plan.{Plan}
 use Rattle.duality.specs.Laws.{AreDeliveries}
 use Rattle.duality.specs.Parts.{times}
-use Rattle.stored_water.specs.AccountLaws.{AreOfZones, IsDrawnWithin}
+use Rattle.stored_water.specs.AccountLaws.{AreOfZones, AreSameLedgers, IsDrawnWithin}
 
 -- A stop lets no course draw more.
 abbrev pub StopsLetNoMoreBeDrawn : Type 0
@@ -65,6 +67,16 @@ DrawAtReservoirIsCap =
     (b : Basin) (month : Month) (held : ℕ → ℕ) (supply taken : List ℕ) (node cap : ℕ) → node < length b.nodes →
     cap ≤ slice_index taken node → HasCourse b (carry_of b month) held supply taken →
     IsGreatestDraw b month held supply taken node node cap cap
+
+-- Stops unite. Where there is a course with the draw, all nodes of two of its stops are a stop; so there is a greatest
+-- one where there is one at all.
+abbrev pub StopsUnite : Type 0
+StopsUnite =
+    (b : Basin) (month : Month) (held : ℕ → ℕ) (supply taken flow out : List ℕ) (from to : ℕ)
+    (set other both : List Bool) → IsCourse b month held supply taken flow out →
+    IsStop b month held supply taken from to set → IsStop b month held supply taken from to other →
+    length both ≡ length b.nodes → ((n : ℕ) → has both n ≡ (has set n || has other n)) →
+    IsStop b month held supply taken from to both
 
 -- The greatest stop is one set.
 abbrev pub GreatestStopIsOne : Type 0
@@ -141,6 +153,14 @@ CoursesAndStopsShowDraws =
     (l : Ledger) (amounts : List ℕ) → AreShown b month held supply asked number delivered l amounts →
     AreDrawn b month held supply asked number delivered l amounts
 
+-- What a record shows are the month's draws.
+abbrev pub ShownDrawsAreDrawn : Type 0
+ShownDrawsAreDrawn =
+    (b : Basin) (month : Month) (held : ℕ → ℕ) (supply : List ℕ) (asked number : ℕ → ℕ) (delivered : List ℕ)
+    (l : Ledger) (amounts : List ℕ) (flow out : ℕ → List ℕ) (set : ℕ → Option (List Bool)) →
+    AreShownBy b month held supply asked number delivered l amounts flow out set →
+    AreDrawn b month held supply asked number delivered l amounts
+
 -- One outcome. The amounts of a month's draws are determined.
 abbrev pub DrawsHaveOneOutcome : Type 0
 DrawsHaveOneOutcome =
@@ -148,6 +168,16 @@ DrawsHaveOneOutcome =
     (l : Ledger) (amounts others : List ℕ) → AreSited b →
     AreDrawn b month held supply asked number delivered l amounts →
     AreDrawn b month held supply asked number delivered l others → amounts ≡ others
+
+-- So are they and the ledger together, by what accounts open with and the first step delivers.
+abbrev pub MonthsHaveOneOutcome : Type 0
+MonthsHaveOneOutcome =
+    (b : Basin) (month : Month) (held : ℕ → ℕ) (supply opening evaporated : List ℕ) (asked number : ℕ → ℕ)
+    (delivered amounts others : List ℕ) (l m : Ledger) → AreSited b →
+    IsLedger b opening evaporated number delivered amounts l →
+    IsLedger b opening evaporated number delivered others m → l.opening ≡ m.opening →
+    AreDrawn b month held supply asked number delivered l amounts →
+    AreDrawn b month held supply asked number delivered m others → (amounts ≡ others) × AreSameLedgers l m
 
 -- the whole supply of a month is that of the first step with what the accounts at each node carry
 abbrev pub AddsCarried : Basin → Ledger → List ℕ → List ℕ → Type 0
@@ -244,3 +274,18 @@ MonthsWithDrawsAreBalanced =
     ≡ total_where (length b.rights) (λ r. is_diversion b r) (λ r. got_by b delivered amounts r)
     + total (length b.reservoirs) (λ v. closing_with b delivered l.closing v)
     + total (length b.nodes) (λ n. slice_index out n)
+
+-- Draws come from within reaches. Where each diversion that draws in the month has a tight cut in the first step, as it
+-- has where it is short there, and each draw is taken at its diversion's node, each draw above 0 is from a reservoir
+-- within the cut of a diversion that drew by then. So no water from outside these cuts is needed for draws.
+abbrev pub DrawsComeFromCuts : Type 0
+DrawsComeFromCuts =
+    (b : Basin) (month : Month) (l : Ledger) (natural supply want delivered amounts : List ℕ) (p : Plan)
+    (asked number : ℕ → ℕ) (cut : ℕ → List Bool) → AreSited b → AreAtDiversions b →
+    IsPlan b month natural want p → AreDeliveries b want p delivered → AddsCarried b l natural supply →
+    AddUpFills b delivered l → AreDrawn b month (held_on b delivered) supply asked number delivered l amounts →
+    ((j : ℕ) (d : Draw) → slice_get b.draws j ≡ Some d → 0 < slice_index amounts j →
+    IsTight b month natural delivered d.diversion (cut d.diversion)) →
+    (j from : ℕ) → j < length b.draws → 0 < slice_index amounts j → drawn_node b j ≡ Some from →
+    (i : ℕ) × (d : Draw) × (slice_get b.draws i ≡ Some d) × (i ≤ j) × (0 < slice_index amounts i)
+    × (has (cut d.diversion) from ≡ true)

@@ -2,7 +2,7 @@
 ghost use Rattle.stored_water.specs.AccountLaws.{BooksBalance, FillsAddUp, AccountsStayWithinSpace};
 ghost use Rattle.stored_water.specs.AccountLaws.{ZonesStayWithinNumber, AccountsStayWithinReservoir};
 ghost use Rattle.stored_water.specs.AccountLaws.{BooksBalanceOverMonths, LedgerIsOne, CarriedIsStored};
-ghost use Rattle.stored_water.specs.AccountLaws.{NothingFillsOutOfSeason, FillsStayWithinVolume};
+ghost use Rattle.stored_water.specs.AccountLaws.{CarriedIsOne, NothingFillsOutOfSeason, FillsStayWithinVolume};
 
 /// What an account opens with and is filled with is what it loses, spills, is drawn on for and holds at the end.
 pub fn books_balance()
@@ -42,6 +42,11 @@ pub fn accounts_stay_within_reservoir()
 /// The same over months in a row.
 pub fn books_balance_over_months()
     ensures { BooksBalanceOverMonths }
+{}
+
+/// What accounts carry doesn't hang on the first step.
+pub fn carried_is_one()
+    ensures { CarriedIsOne }
 {}
 
 /// A month's ledger is determined.

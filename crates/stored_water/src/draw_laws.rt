@@ -1,10 +1,12 @@
 //! Laws over draws. Each is the contract of a function that does nothing.
-ghost use Rattle.stored_water.specs.DrawLaws.{StopsLetNoMoreBeDrawn, StopsMakeDrawsGreatest, NoFractionMoreIsDrawn};
-ghost use Rattle.stored_water.specs.DrawLaws.{WholeDrawsAreGreatest, GreatestDrawIsOne, DrawAtReservoirIsCap};
-ghost use Rattle.stored_water.specs.DrawLaws.{DrawsMoveWater, DrawsStayWithinCarried, DrawsStayWithinNumber};
-ghost use Rattle.stored_water.specs.DrawLaws.{DrawsHaveOneOutcome, FirstStepIsCourse, DrawsChangeNoTakes, ClosingIsTakes};
-ghost use Rattle.stored_water.specs.DrawLaws.{DrawsAddUp, CoursesAndStopsShowDraws, DrawsLeaveFills, GreatestStopIsOne};
-ghost use Rattle.stored_water.specs.DrawLaws.{CoursesWithDrawsArePlans, MonthsWithDrawsAreBalanced, ValidBasinsAreSited};
+ghost use Rattle.stored_water.specs.DrawLaws.{ClosingIsTakes, CoursesAndStopsShowDraws, CoursesWithDrawsArePlans};
+ghost use Rattle.stored_water.specs.DrawLaws.{DrawAtReservoirIsCap, DrawsAddUp, DrawsChangeNoTakes};
+ghost use Rattle.stored_water.specs.DrawLaws.{DrawsHaveOneOutcome, DrawsLeaveFills, DrawsMoveWater};
+ghost use Rattle.stored_water.specs.DrawLaws.{DrawsStayWithinCarried, DrawsStayWithinNumber, FirstStepIsCourse};
+ghost use Rattle.stored_water.specs.DrawLaws.{GreatestDrawIsOne, GreatestStopIsOne, MonthsWithDrawsAreBalanced};
+ghost use Rattle.stored_water.specs.DrawLaws.{NoFractionMoreIsDrawn, ShownDrawsAreDrawn, StopsLetNoMoreBeDrawn};
+ghost use Rattle.stored_water.specs.DrawLaws.{StopsMakeDrawsGreatest, StopsUnite, ValidBasinsAreSited};
+ghost use Rattle.stored_water.specs.DrawLaws.{DrawsComeFromCuts, MonthsHaveOneOutcome, WholeDrawsAreGreatest};
 
 /// A stop lets no course draw more.
 pub fn stops_let_no_more_be_drawn()
@@ -34,6 +36,11 @@ pub fn greatest_draw_is_one()
 /// A draw that is taken at the reservoir's own node is its cap.
 pub fn draw_at_reservoir_is_cap()
     ensures { DrawAtReservoirIsCap }
+{}
+
+/// All nodes of two stops of a draw are a stop.
+pub fn stops_unite()
+    ensures { StopsUnite }
 {}
 
 /// The greatest stop is one set.
@@ -71,9 +78,19 @@ pub fn courses_and_stops_show_draws()
     ensures { CoursesAndStopsShowDraws }
 {}
 
+/// What a record shows are the month's draws.
+pub fn shown_draws_are_drawn()
+    ensures { ShownDrawsAreDrawn }
+{}
+
 /// The amounts of a month's draws are determined.
 pub fn draws_have_one_outcome()
     ensures { DrawsHaveOneOutcome }
+{}
+
+/// So are they and the ledger together.
+pub fn months_have_one_outcome()
+    ensures { MonthsHaveOneOutcome }
 {}
 
 /// The first step's plan is a course before any draw.
@@ -99,6 +116,11 @@ pub fn valid_basins_are_sited()
 /// No water is made or lost in a month with draws.
 pub fn months_with_draws_are_balanced()
     ensures { MonthsWithDrawsAreBalanced }
+{}
+
+/// Draws come from within the cuts of those who draw.
+pub fn draws_come_from_cuts()
+    ensures { DrawsComeFromCuts }
 {}
 
 /// A reservoir closes with what its zones take after all draws.

@@ -7,3 +7,4 @@ pub mod draw_laws;
 pub mod plain_laws;
 pub mod share_laws;
 pub mod shares;
+pub mod step_laws;

@@ -4,8 +4,8 @@ ghost use Rattle.finite_sums.specs.Sums.{total};
 ghost use Rattle.water_model.specs.Shares.{part, share};
 
 /// The part of an amount for one of several weights, where `before` is the sum of the weights before it and `all` that
-/// of all. It is what falls to the weights up to this one, rounded down, less what falls to those before it, and 0 where
-/// all weights are 0.
+/// of all. It is what falls to the weights up to this one, rounded down, less what falls to those before it, and 0
+/// where all weights are 0.
 pub fn share_next(amount: u64, before: u64, weight: u64, all: u64) -> u64
     requires { before + weight ≤ all }
     ensures { result ≡ part amount before weight all }
